@@ -1,0 +1,25 @@
+-- The order of keys.
+use Rattle.std.specs.Prelude.{ℕ, refl}
+use Rattle.std.specs.Ordering.{nat_cmp, ordering_then}
+use Rattle.std.specs.Coded.{Coded, code_by, coded×, coded_ℕ}
+use Rattle.std.specs.declared.cmp.Ordering.{Ordering}
+use Rattle.ospf_types.specs.declared.key.Key.{Key}
+use Rattle.ospf_types.specs.declared.key.Scope.{Scope}
+use Rattle.ospf_types.specs.declared.key.Scope.TheVariants.{Area, As}
+
+-- by LS type, then Link State ID, then Advertising Router
+abbrev pub key_cmp : Key → Key → Ordering
+key_cmp a b = ordering_then (nat_cmp a.kind b.kind) (ordering_then (nat_cmp a.id b.id) (nat_cmp a.router b.router))
+
+-- as three numbers
+abbrev pub key_code : Coded Key
+key_code =
+    code_by (ℕ × (ℕ × ℕ)) (coded× coded_ℕ (coded× coded_ℕ coded_ℕ)) (λ k. (k.kind, (k.id, k.router))) (λ p. record { kind = p.0; id = p.1.0; router = p.1.1 }) (λ _. refl)
+
+-- areas first, in the order of their IDs
+abbrev pub scope_rank : Scope → ℕ × ℕ
+scope_rank (Area id) = (0, id)
+scope_rank As = (1, 0)
+
+abbrev pub scope_cmp : Scope → Scope → Ordering
+scope_cmp a b = ordering_then (nat_cmp (scope_rank a).0 (scope_rank b).0) (nat_cmp (scope_rank a).1 (scope_rank b).1)

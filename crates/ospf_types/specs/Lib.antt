@@ -1,0 +1,17 @@
+pub mod Network
+pub mod Masks
+pub mod Address
+pub mod Keys
+pub mod Hops
+pub mod Best
+pub mod Lsa
+pub mod Inputs
+pub mod Links
+pub mod Distances
+pub mod Intra
+pub mod Ranges
+pub mod Inter
+pub mod Boundary
+pub mod External
+pub mod Routes
+pub mod Summaries

@@ -1,0 +1,79 @@
+-- The vertices and links of one area (RFC 2328, 16.1).
+use Rattle.std.specs.List.Sorted.{IsStrictlyIncreasing}
+use Rattle.std.specs.Prelude.{◌↔◌, ℕ, ◌≡◌, ◌≢◌, ◌<◌, ◌≤◌, List, Contains}
+use Rattle.ospf_types.specs.declared.config.Interface.{Interface}
+use Rattle.ospf_types.specs.declared.entry.Vertex.{Vertex}
+use Rattle.ospf_types.specs.declared.entry.Vertex.TheVariants.{Router, Network}
+use Rattle.ospf_types.specs.declared.lsa.LinkKind.TheVariants.{PointToPoint, Transit}
+use Rattle.ospf_types.specs.Lsa.{Lsa, RouterLink, RouterLinks, NetworkLinks}
+use Rattle.ospf_types.specs.Inputs.{Inputs, Area, HasLsa, IsUp}
+
+-- the router has a usable router-LSA with these flags and links
+pub record IsRouter (a : Area) (router : ℕ) (flags : ℕ) (links : List RouterLink) : Type 0 where
+  pub lsa : (l : Lsa) × HasLsa a l × (l.header.router ≡ router) × (l.body ≡ RouterLinks flags links)
+
+-- a usable network-LSA with this Link State ID
+pub record IsNetworkLsa (a : Area) (id advertiser mask : ℕ) (routers : List ℕ) : Type 0 where
+  pub lsa : (l : Lsa) × HasLsa a l × (l.header.id ≡ id) × (l.header.router ≡ advertiser) × (l.body ≡ NetworkLinks mask routers)
+
+-- The network is a vertex. Of several network-LSAs with its ID, that of the greatest Advertising Router stands for it.
+pub record IsNetwork (a : Area) (id mask : ℕ) (routers : List ℕ) : Type 0 where
+  pub chosen : (advertiser : ℕ) × IsNetworkLsa a id advertiser mask routers
+      × ((other m : ℕ) (rs : List ℕ) → IsNetworkLsa a id other m rs → other ≤ advertiser)
+
+abbrev pub IsVertex : Area → Vertex → Type 0
+IsVertex a (Router r) = (flags : ℕ) × (links : List RouterLink) × IsRouter a r flags links
+IsVertex a (Network n) = (mask : ℕ) × (routers : List ℕ) × IsNetwork a n mask routers
+
+-- what a link tells of the next hop: the root's interface; the addresses of a router on a network; nothing
+pub data Label : Type 0 where
+  Over : (interface : ℕ) → Label
+  At : (addresses : List ℕ) → Label
+  Plain : Label
+
+-- the router has a point-to-point link to that router, whatever its metric
+abbrev pub NamesRouter : Area → ℕ → ℕ → Type 0
+NamesRouter a from to = (flags : ℕ) × (links : List RouterLink) × (l : RouterLink)
+    × IsRouter a from flags links × Contains links l × (l.kind ≡ PointToPoint) × (l.id ≡ to)
+
+-- the router has a link to that transit network, whatever its metric
+abbrev pub NamesNetwork : Area → ℕ → ℕ → Type 0
+NamesNetwork a from to = (flags : ℕ) × (links : List RouterLink) × (l : RouterLink)
+    × IsRouter a from flags links × Contains links l × (l.kind ≡ Transit) × (l.id ≡ to)
+
+-- the network lists that router
+abbrev pub ListsRouter : Area → ℕ → ℕ → Type 0
+ListsRouter a network router = (mask : ℕ) × (routers : List ℕ) × IsNetwork a network mask routers × Contains routers router
+
+-- The label of a link of a router with this Link Data. A link of the root counts only over an interface that is up and has that address.
+abbrev pub IsLabel : Inputs → Area → ℕ → ℕ → Label → Type 0
+IsLabel s a from detail (Over id) = (from ≡ s.router) × ((i : Interface) × IsUp s a id i × (i.address ≡ detail))
+IsLabel s a from detail Plain = from ≢ s.router
+IsLabel s a from detail (At addresses) = ⊥
+
+-- the router has this address on the network: the Link Data of a link to it, whatever its metric
+abbrev pub HasAddressOn : ℕ → List RouterLink → ℕ → Type 0
+HasAddressOn network links address = (l : RouterLink) × Contains links l × (l.kind ≡ Transit) × (l.id ≡ network) × (l.detail ≡ address)
+
+-- the router's addresses on the network, ascending and each once, so that there is one list of them
+pub record AreAddressesOn (network : ℕ) (links : List RouterLink) (addresses : List ℕ) : Type 0 where
+  pub ascending : IsStrictlyIncreasing addresses
+  pub same : (address : ℕ) → Contains addresses address ↔ HasAddressOn network links address
+
+-- A link from one vertex to another at a cost. The other end links back; a metric of 0 gives no link.
+abbrev pub IsLink : Inputs → Area → Vertex → Vertex → ℕ → Label → Type 0
+IsLink s a (Router from) (Router to) cost label =
+    (flags : ℕ) × (links : List RouterLink) × (l : RouterLink)
+    × IsRouter a from flags links × Contains links l × (l.kind ≡ PointToPoint) × (l.id ≡ to)
+    × (l.metric ≡ cost) × (0 < cost) × IsLabel s a from l.detail label
+    × NamesRouter a to from
+IsLink s a (Router from) (Network to) cost label =
+    (flags : ℕ) × (links : List RouterLink) × (l : RouterLink)
+    × IsRouter a from flags links × Contains links l × (l.kind ≡ Transit) × (l.id ≡ to)
+    × (l.metric ≡ cost) × (0 < cost) × IsLabel s a from l.detail label
+    × ListsRouter a to from
+IsLink s a (Network from) (Router to) cost label =
+    (flags : ℕ) × (links : List RouterLink) × (addresses : List ℕ)
+    × ListsRouter a from to × (cost ≡ 0) × IsRouter a to flags links × AreAddressesOn from links addresses × (label ≡ At addresses)
+    × NamesNetwork a to from
+IsLink s a (Network from) (Network to) cost label = ⊥

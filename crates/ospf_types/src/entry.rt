@@ -1,0 +1,73 @@
+ghost use Rattle.std.specs.Prelude.{◌≡◌};
+ghost use Rattle.std.specs.List.Sorted.{IsStrictlySortedBy};
+ghost use Rattle.ospf_types.specs.Hops.{path_cmp};
+
+use crate::hop::Path;
+use std::marker::Model;
+
+/// A vertex of an area's graph (RFC 2328, 16.1).
+#[derive(Clone, Copy, Debug, PartialEq, Eq, Hash, PartialOrd, Ord)]
+pub enum Vertex {
+    /// By its Router ID.
+    Router(u32),
+    /// A transit network, by its Designated Router's address.
+    Network(u32),
+}
+
+/// How a destination was learned, the most preferred first (RFC 2328, 11).
+#[derive(Clone, Copy, Debug, PartialEq, Eq, Hash, PartialOrd, Ord)]
+pub enum PathType {
+    Intra,
+    Inter,
+    External1,
+    External2,
+}
+
+/// Paths in their order, each once.
+#[derive(Debug, Drop)]
+pub struct Paths {
+    items: Vec<Path>,
+}
+
+impl Model for Paths {
+    ghost use Rattle.std.specs.Prelude.{List};
+    ghost use Rattle.std.specs.List.Sorted.{IsStrictlySortedBy};
+    ghost use Rattle.ospf_types.specs.declared.hop.Path.{Path};
+    ghost use Rattle.ospf_types.specs.Hops.{path_cmp};
+
+    ghost Value = { List Path };
+
+    ghost view = { λ p. p.items.items };
+
+    ghost invariant = { λ p. IsStrictlySortedBy path_cmp p.items.items };
+}
+
+impl Paths {
+    /// The paths of a list that is in their order and has each once.
+    pub fn new(items: Vec<Path>) -> Paths
+        requires { IsStrictlySortedBy path_cmp items.items }
+        ensures { result ≡ items.items }
+    {
+        Paths { items }
+    }
+
+    pub fn as_slice(&self) -> &[Path]
+        ensures value { result.now ≡ self.now }
+        ensures in_order { IsStrictlySortedBy path_cmp self.now }
+    {
+        self.items.as_slice()
+    }
+}
+
+/// The route to a destination (RFC 2328, 11). Costs are metrics.
+#[derive(Debug, Drop)]
+pub struct Entry {
+    pub kind: PathType,
+    /// The Area ID of the area that its paths share; none for an external route.
+    pub area: Option<u32>,
+    /// The cost; the distance alone for a type 2 external route.
+    pub cost: u32,
+    /// The metric of a type 2 external route, and 0 elsewhere.
+    pub cost2: u32,
+    pub paths: Paths,
+}

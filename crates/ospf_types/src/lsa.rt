@@ -1,0 +1,47 @@
+/// The header of a link-state advertisement (RFC 2328, A.4.1).
+#[derive(Clone, Copy, Debug, PartialEq, Eq, Hash)]
+pub struct Header {
+    /// LS age, in seconds, at most 3600.
+    pub age: u16,
+    pub options: u8,
+    /// LS type.
+    pub kind: u8,
+    /// Link State ID.
+    pub id: u32,
+    /// Advertising Router.
+    pub router: u32,
+    /// LS sequence number: the 32 bits of a signed number.
+    pub seq: u32,
+    /// LS checksum.
+    pub sum: u16,
+    /// Length in bytes, the header counted.
+    pub length: u16,
+}
+
+/// What a link of a router-LSA leads to (RFC 2328, A.4.2).
+#[derive(Clone, Copy, Debug, PartialEq, Eq, Hash)]
+pub enum LinkKind {
+    PointToPoint,
+    Transit,
+    Stub,
+    Virtual,
+}
+
+/// A link of a router-LSA (RFC 2328, A.4.2), without its TOS entries, which are carried and unused.
+#[derive(Clone, Copy, Debug, PartialEq, Eq, Hash)]
+pub struct Link {
+    /// Link ID: the neighbour's Router ID, the Designated Router's address, or a network number.
+    pub id: u32,
+    /// Link Data: the router's own interface address, or a stub network's mask.
+    pub detail: u32,
+    pub kind: LinkKind,
+    pub metric: u16,
+}
+
+/// Which of two instances of an LSA is newer (RFC 2328, 13.1).
+#[derive(Clone, Copy, Debug, PartialEq, Eq, Hash)]
+pub enum Newer {
+    First,
+    Second,
+    Same,
+}
