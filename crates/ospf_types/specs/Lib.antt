@@ -5,6 +5,7 @@ pub mod Keys
 pub mod Hops
 pub mod Best
 pub mod Lsa
+pub mod Instances
 pub mod Inputs
 pub mod Links
 pub mod Distances

@@ -1,3 +1,6 @@
+/// The age at which an LSA is no longer used, in seconds (RFC 2328, appendix B).
+pub const MAX_AGE: u16 = 3600;
+
 /// The header of a link-state advertisement (RFC 2328, A.4.1).
 #[derive(Clone, Copy, Debug, PartialEq, Eq, Hash)]
 pub struct Header {

@@ -1,0 +1,63 @@
+-- The state that events change (RFC 2328, 13.2 and 14), and what is calculated from.
+use Rattle.std.specs.Prelude.{ℕ, ◌≡◌, ◌==◌, List, [], map, position, slice_index_or, slice_set, Option, Some, None, option_map, option_and_then}
+use Rattle.std.specs.Ordering.{nat_cmp}
+use Rattle.std.specs.FinMap.{FinMap, entries, values, get, empty}
+use Rattle.ospf_types.specs.declared.config.Config.{Config}
+use Rattle.ospf_types.specs.declared.config.AreaConfig.{AreaConfig}
+use Rattle.ospf_types.specs.declared.config.Interface.{Interface}
+use Rattle.ospf_types.specs.declared.key.Key.{Key}
+use Rattle.ospf_types.specs.declared.key.Scope.{Scope}
+use Rattle.ospf_types.specs.declared.key.Scope.TheVariants as scope
+use Rattle.ospf_types.specs.Lsa.{Lsa, Body}
+use Rattle.ospf_types.specs.Inputs.{Inputs, Area}
+use Rattle.event_core.specs.declared.event.Event.{Event}
+use Rattle.event_core.specs.declared.limits.Limits.{Limits}
+use Rattle.event_core.specs.Databases.{Database, contents_of}
+
+pub record State : Type 0 where
+  pub config : Config
+  pub limits : Limits
+  pub databases : List Database  -- that of each configured area, in the order of the areas
+  pub externals : Database
+  pub interfaces : FinMap nat_cmp Interface
+  pub journal : List Event  -- the events that were taken
+
+-- which of the configured areas has this Area ID
+abbrev pub place_of : List AreaConfig → ℕ → Option ℕ
+place_of areas id = position (λ a. a.id == id) areas
+
+-- the database of a scope, where there is one
+abbrev pub database_of : State → Scope → Option Database
+database_of s (scope.Area id) = option_map (λ k. slice_index_or s.databases k empty) (place_of s.config.areas id)
+database_of s scope.As = Some s.externals
+
+abbrev pub at_place : State → Option ℕ → Database → State
+at_place s None d = s
+at_place s (Some k) d = record s { databases = slice_set s.databases k d }
+
+-- the state with another database for the scope
+abbrev pub with_database : State → Scope → Database → State
+with_database s (scope.Area id) d = at_place s (place_of s.config.areas id) d
+with_database s scope.As d = record s { externals = d }
+
+abbrev pub lsas_of : Option Database → List Lsa
+lsas_of None = []
+lsas_of (Some d) = values d
+
+-- what the routing table and the summaries are calculated from
+abbrev pub inputs_of : State → Inputs
+inputs_of s = record {
+  router = s.config.router;
+  areas = map (λ a. record { id = a.id; stub = a.stub; ranges = a.ranges; lsas = lsas_of (database_of s (scope.Area a.id)) }) s.config.areas;
+  externals = values s.externals;
+  interfaces = entries s.interfaces;
+}
+
+-- Options and body of the LSA under the key, where it is there and usable
+abbrev pub usable_at : State → Scope → Key → Option (ℕ × Body)
+usable_at s at key = option_and_then contents_of (option_and_then (λ d. get d key) (database_of s at))
+
+-- the same usable LSAs (key, Options, body), and the same interfaces
+pub record LooksAlike (s t : State) : Type 0 where
+  pub usable : (at : Scope) (key : Key) → usable_at s at key ≡ usable_at t at key
+  pub interfaces : s.interfaces ≡ t.interfaces

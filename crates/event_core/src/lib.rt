@@ -1,0 +1,13 @@
+//! The event core of an OSPF area border router (RFC 2328): the link-state databases, the
+//! interfaces and the journal of events, with the routing table that they give.
+#![tactic(auto)]
+
+mod database;
+mod event;
+mod limits;
+mod order;
+mod refusal;
+
+pub use event::{Event, Reply, Standing};
+pub use limits::Limits;
+pub use refusal::{ConfigFault, Refusal};
