@@ -69,23 +69,25 @@ not_tied key k o e h = ap is_eq (reversed key_total k key o e) ∙ h
 pub get_gap : (rows : List Lsa) (key : Key) (place : ℕ) → AreRows rows → IsGap rows key place → get (map_of rows) key ≡ None
 get_gap rows key place h g =
     find_is rows h key ∙ find_missing key_cmp (map keyed rows) key (λ j d lt.
-        let in' : j < length rows = omega (arith, lt, length-map rows keyed) in
-        let e : Lsa = d.1 in
-        let row : get_or (map keyed rows) j d ≡ keyed (get_or rows j e) = get_or-map keyed rows j e d in' in
-        ap (λ (f : Key × Lsa). eq_by_cmp key_cmp key f.0) row
-        ∙ elim (cases_lt j place) [
-          | inl below ↦ not_tied key (key_of (get_or rows j e)) Less (g.before j e below) refl
-          | inr above ↦ not_tied key (key_of (get_or rows j e)) Greater (g.after j e above in') refl
-        ])
+    let in' : j < length rows = omega (arith, lt, length-map rows keyed) in
+    let e : Lsa = d.1 in
+    let row : get_or (map keyed rows) j d ≡ keyed (get_or rows j e) = get_or-map keyed rows j e d in' in
+    ap (λ (f : Key × Lsa). eq_by_cmp key_cmp key f.0) row
+    ∙ elim (cases_lt j place) [
+      | inl below ↦ not_tied key (key_of (get_or rows j e)) Less (g.before j e below) refl
+      | inr above ↦ not_tied key (key_of (get_or rows j e)) Greater (g.after j e above in') refl
+    ])
 
 -- rows that spell the list that an insert leaves are the database after it
 after_put : (rows new : List Lsa) (l : Lsa) → AreRows rows → AllByRecursion IsLegal new → put key_cmp (key_of l) l (map keyed rows) ≡ map keyed new
     → AreRows new × (map_of new ≡ insert (map_of rows) (key_of l) l)
 after_put rows new l h legal e =
     let sorted : T (is_sorted key_cmp (map keyed new)) = subst (λ (es : List (Key × Lsa)). T (is_sorted key_cmp es)) e (is_sorted-put key_cmp key_total (key_of l) l (map keyed rows) (in_order rows h)) in
-    let kept : AreRows new = record { ascending = is_passed _ sorted; legal = legal } in
-    (kept, same_entries_map (map_of new) (insert (map_of rows) (key_of l) l)
-        (entries-map_of new kept ∙ sym e ∙ ap (put key_cmp (key_of l) l) (sym (entries-map_of rows h)) ∙ sym (entries-insert key_total (map_of rows) (key_of l) l)))
+    let kept : AreRows new = record { ascending = is_passed _ sorted; legal = legal } in (
+      kept,
+      same_entries_map (map_of new) (insert (map_of rows) (key_of l) l)
+          (entries-map_of new kept ∙ sym e ∙ ap (put key_cmp (key_of l) l) (sym (entries-map_of rows h)) ∙ sym (entries-insert key_total (map_of rows) (key_of l) l)),
+    )
 
 pub replaced : (rows : List Lsa) (place : ℕ) (l : Lsa) → AreRows rows → IsPlace rows (key_of l) place → IsLegal l
     → AreRows (set rows place l) × (map_of (set rows place l) ≡ insert (map_of rows) (key_of l) l)
@@ -94,8 +96,8 @@ replaced rows place l h p fits =
     let here : (get_or (map keyed rows) place (keyed l)).0 ≡ key_of l = ap (λ (e : Key × Lsa). e.0) row ∙ p.here l in
     let tie : key_cmp (key_of l) (get_or (map keyed rows) place (keyed l)).0 ≡ Equal = rw here (tied_itself key_total (key_of l)) in
     let put_is : put key_cmp (key_of l) l (map keyed rows) ≡ map keyed (set rows place l) =
-        put_at_old key_cmp key_total (map keyed rows) place (key_of l) l (keyed l) (in_order rows h) (omega (arith, p.within, length-map rows keyed)) tie
-        ∙ ap (λ (k : Key). set (map keyed rows) place (k, l)) here ∙ sym (map-set keyed rows place l) in
+    put_at_old key_cmp key_total (map keyed rows) place (key_of l) l (keyed l) (in_order rows h) (omega (arith, p.within, length-map rows keyed)) tie
+    ∙ ap (λ (k : Key). set (map keyed rows) place (k, l)) here ∙ sym (map-set keyed rows place l) in
     after_put rows (set rows place l) l h (recursion_from_All IsLegal (set rows place l) (All-set IsLegal rows place l fits (All-from_recursion IsLegal rows h.legal))) put_is
 
 pub inserted : (rows : List Lsa) (place : ℕ) (l : Lsa) → AreRows rows → IsGap rows (key_of l) place → IsLegal l
@@ -103,15 +105,15 @@ pub inserted : (rows : List Lsa) (place : ℕ) (l : Lsa) → AreRows rows → Is
 inserted rows place l h g fits =
     let at : (j : ℕ) (d : Key × Lsa) → j < length rows → get_or (map keyed rows) j d ≡ keyed (get_or rows j d.1) = λ j d lt. get_or-map keyed rows j d.1 d lt in
     let put_is : put key_cmp (key_of l) l (map keyed rows) ≡ map keyed (insert_at rows place l) =
-        put_at_new key_cmp (map keyed rows) place (key_of l) l (omega (arith, g.within, length-map rows keyed))
-            (λ j d lt. rw (at j d (omega (arith, g.within, lt))) (reversed key_total (key_of (get_or rows j d.1)) (key_of l) Less (g.before j d.1 lt)))
-            (λ d lt. let in' : place < length rows = omega (arith, lt, length-map rows keyed) in rw (at place d in') (reversed key_total (key_of (get_or rows place d.1)) (key_of l) Greater (g.after place d.1 (omega arith) in')))
-        ∙ ap (λ (es : List (Key × Lsa)). es ++ keyed l ∷ drop place (map keyed rows)) (take-map keyed place rows)
-        ∙ ap (λ (es : List (Key × Lsa)). map keyed (take place rows) ++ keyed l ∷ es) (drop-map keyed place rows)
-        ∙ sym (map-append keyed (take place rows) (l ∷ drop place rows)) in
+    put_at_new key_cmp (map keyed rows) place (key_of l) l (omega (arith, g.within, length-map rows keyed))
+    (λ j d lt. rw (at j d (omega (arith, g.within, lt))) (reversed key_total (key_of (get_or rows j d.1)) (key_of l) Less (g.before j d.1 lt)))
+    (λ d lt. let in' : place < length rows = omega (arith, lt, length-map rows keyed) in rw (at place d in') (reversed key_total (key_of (get_or rows place d.1)) (key_of l) Greater (g.after place d.1 (omega arith) in')))
+    ∙ ap (λ (es : List (Key × Lsa)). es ++ keyed l ∷ drop place (map keyed rows)) (take-map keyed place rows)
+    ∙ ap (λ (es : List (Key × Lsa)). map keyed (take place rows) ++ keyed l ∷ es) (drop-map keyed place rows)
+    ∙ sym (map-append keyed (take place rows) (l ∷ drop place rows)) in
     let all = All-from_recursion IsLegal rows h.legal in
     after_put rows (insert_at rows place l) l h
-        (recursion_from_All IsLegal (insert_at rows place l) (All-append IsLegal (take place rows) (l ∷ drop place rows) (All-take IsLegal place rows all) (All-cons IsLegal l (drop place rows) fits (All-drop IsLegal place rows all)))) put_is
+    (recursion_from_All IsLegal (insert_at rows place l) (All-append IsLegal (take place rows) (l ∷ drop place rows) (All-take IsLegal place rows all) (All-cons IsLegal l (drop place rows) fits (All-drop IsLegal place rows all)))) put_is
 
 found_kept : (rows : List Lsa) (k : Key) (l : Lsa) → AllByRecursion IsLegal rows → find key_cmp k (map keyed rows) ≡ Some l → (k ≡ key_of l) × IsLegal l
 found_kept [] k l legal e = absurd cc

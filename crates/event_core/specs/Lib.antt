@@ -1,3 +1,5 @@
 pub mod Databases
 pub mod States
 pub mod Steps
+pub mod Held
+pub mod Refusals

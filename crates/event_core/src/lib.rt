@@ -7,6 +7,7 @@ mod event;
 mod limits;
 mod order;
 mod refusal;
+mod state;
 
 pub use event::{Event, Reply, Standing};
 pub use limits::Limits;

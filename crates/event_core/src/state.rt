@@ -1,0 +1,233 @@
+ghost use Rattle.std.specs.Prelude.{◌≡◌, ◌↔◌, false, None, Some, IfErr, IfOk, OnOk, OnErr, length, map as list_map};
+ghost use Rattle.std.specs.List.{list_any};
+ghost use Rattle.std.specs.FinMap as map;
+ghost use Rattle.std.specs.Option.{option_copied};
+ghost use Rattle.ospf_types.specs.Lsa.{key_of};
+ghost use Rattle.event_core.specs.Databases.{contents_of};
+ghost use Rattle.event_core.specs.States.{State as StateValue, LooksAlike, place_of, database_of};
+ghost use Rattle.event_core.specs.Steps.{refusal_of, step, opening, is_stub_only, has_address, limit_of};
+ghost use Rattle.event_core.specs.Refusals.{IsRefusalOf};
+
+use crate::database::Database;
+use crate::event::Event;
+use crate::limits::Limits;
+use crate::order::{contents_differ, newer};
+use crate::refusal::Refusal;
+use lsa_codec::Checked;
+use ospf_types::config::{AreaConfig, Config, Interface};
+use ospf_types::key::Scope;
+use ospf_types::lsa::{LinkKind, MAX_AGE, Newer};
+use ospf_types::memory::Memory;
+use std::alloc::Global;
+use std::collections::BTreeMap;
+use std::marker::Model;
+
+/// The link-state databases, the interfaces, and the journal of the events that made them.
+#[derive(Debug, Drop)]
+pub(crate) struct State {
+    config: Config,
+    limits: Limits,
+    databases: Vec<Database>,
+    externals: Database,
+    interfaces: BTreeMap<u8, Interface>,
+    journal: Vec<Event>,
+}
+
+impl Model for State {
+    ghost use Rattle.event_core.specs.States.{State as StateValue};
+
+    ghost Value = { StateValue };
+
+    ghost use Rattle.std.specs.FinMap as map;
+    ghost use Rattle.std.specs.Ordering.{nat_cmp};
+    ghost use Rattle.std.specs.Coded.{Coded, codes, coded_ℕ};
+    ghost use Rattle.ospf_types.specs.Keys.{key_code};
+    ghost use Rattle.ospf_types.specs.declared.config.Interface.{Interface};
+    ghost use Rattle.event_core.specs.Databases.{Database as DatabaseValue};
+
+    ghost coded = { let database : Coded DatabaseValue = map.code key_code (Prim.hlevel codes) in
+        let interfaces : Coded (map.FinMap nat_cmp Interface) = map.code coded_ℕ (Prim.hlevel codes) in
+        Prim.hlevel (codes, database, interfaces) };
+
+    ghost use Rattle.event_core.specs.Held.{IsHeld};
+
+    ghost view = { λ s. record {
+      config = s.config;
+      limits = s.limits;
+      databases = s.databases.items;
+      externals = s.externals;
+      interfaces = map.from_entries s.interfaces.entries;
+      journal = s.journal.items;
+    } };
+
+    ghost invariant = { λ s. IsHeld s.config s.databases.items s.externals };
+}
+
+impl State {
+    /// No interfaces, empty databases and an empty journal.
+    pub(crate) fn new(alloc: Global, config: Config, limits: Limits) -> Result<State, Memory>
+        ensures { IfOk result (λ state. state ≡ opening config limits) }
+    {
+        let databases = empty_databases(alloc, config.areas.as_slice())?;
+        Ok(State {
+            config,
+            limits,
+            databases,
+            externals: Database::new(alloc),
+            interfaces: BTreeMap::new(alloc),
+            journal: Vec::new(alloc),
+        })
+    }
+
+    pub(crate) fn config(&self) -> &Config
+        ensures { result.now ≡ self.now.config }
+    {
+        &self.config
+    }
+
+    pub(crate) fn journal(&self) -> &[Event]
+        ensures { result.now ≡ self.now.journal }
+    {
+        self.journal.as_slice()
+    }
+
+    /// The database of a scope; none for an area that is not configured.
+    pub(crate) fn database(&self, scope: Scope) -> Option<&Database>
+        ensures { option_copied result ≡ database_of self.now scope }
+    {
+        match scope {
+            Scope::Area(id) => {
+                let place = place_of(self.config.areas.as_slice(), id)?;
+                let databases = self.databases.as_slice();
+                Some(&databases[place])
+            }
+            Scope::As => Some(&self.externals),
+        }
+    }
+
+    /// The first refusal that holds for the event, memory aside.
+    pub(crate) fn refusal(&self, event: &Event) -> Option<Refusal>
+        ensures { result ≡ refusal_of self.now event.now }
+    {
+        match event {
+            Event::Install { scope, lsa } => self.install_refusal(*scope, lsa),
+            Event::Interface {
+                id,
+                area,
+                address,
+                up,
+                ..
+            } => self.interface_refusal(*id, *area, *address, *up),
+            Event::Second => self.journal_refusal(),
+        }
+    }
+
+    fn install_refusal(&self, scope: Scope, lsa: &Checked) -> Option<Refusal>
+        ensures { result ≡ refusal_of self.now (Event.Install scope lsa.now) }
+    {
+        let Some(database) = self.database(scope) else {
+            return Some(Refusal::NoArea);
+        };
+        let key = lsa.key();
+        if (scope == Scope::As) != (key.kind == AS_EXTERNAL) {
+            return Some(Refusal::Scope);
+        }
+        if !is_stub_only(lsa) {
+            return Some(Refusal::NotYet);
+        }
+        match database.get(key) {
+            Some(held) => match newer(&held.header(), &lsa.header()) {
+                Newer::First => Some(Refusal::Older),
+                Newer::Same => Some(Refusal::Same),
+                Newer::Second => self.journal_refusal(),
+            },
+            None if self.limit(scope) <= database.len() => Some(Refusal::Full),
+            None => self.journal_refusal(),
+        }
+    }
+
+    fn interface_refusal(&self, id: u8, area: u32, address: u32, up: bool) -> Option<Refusal>
+        ensures { (peer : _) → result ≡ refusal_of self.now (Event.Interface id area address peer up) }
+    {
+        if place_of(self.config.areas.as_slice(), area).is_none() {
+            return Some(Refusal::NoArea);
+        }
+        if let Some(refusal) = self.journal_refusal() {
+            return Some(refusal);
+        }
+        if up && is_address_taken(&self.interfaces, id, address) {
+            return Some(Refusal::AddressTaken);
+        }
+        None
+    }
+
+    fn journal_refusal(&self) -> Option<Refusal>
+        ensures { result ≡ refusal_of self.now Event.Second }
+    {
+        if self.limits.events <= self.journal.len() as u64 {
+            Some(Refusal::JournalFull)
+        } else {
+            None
+        }
+    }
+
+    // How many LSAs the database of the scope may hold.
+    fn limit(&self, scope: Scope) -> usize
+        ensures { result ≡ limit_of self.now.limits scope }
+    {
+        match scope {
+            Scope::Area(_) => self.limits.area_lsas as usize,
+            Scope::As => self.limits.externals as usize,
+        }
+    }
+}
+
+// The LS type of AS-external-LSAs (RFC 2328, A.4.5).
+const AS_EXTERNAL: u8 = 5;
+
+// Which of the areas has the Area ID.
+fn place_of(areas: &[AreaConfig], id: u32) -> Option<usize>
+    ensures { result ≡ place_of areas.now id }
+{
+    areas.iter().position(|area| area.id == id)
+}
+
+// An empty database for each area.
+fn empty_databases(alloc: Global, areas: &[AreaConfig]) -> Result<Vec<Database>, Memory>
+    ensures { IfOk result (λ v. v.items ≡ list_map (λ _. map.empty) areas.now) }
+{
+    let mut databases = Vec::new(alloc);
+    for _area in areas {
+        databases.push(Database::new(alloc))?;
+    }
+    Ok(databases)
+}
+
+// Whether it is a router-LSA of which no link leads to a vertex.
+fn is_stub_only(lsa: &Checked) -> bool
+    ensures { result ≡ is_stub_only lsa.now.body }
+{
+    if lsa.key().kind != ROUTER {
+        return false;
+    }
+    for n in 0..lsa.link_count() {
+        if let Some(link) = lsa.link(n)
+            && matches!(link.kind, LinkKind::PointToPoint | LinkKind::Transit)
+        {
+            return false;
+        }
+    }
+    true
+}
+
+// The LS type of router-LSAs (RFC 2328, A.4.2).
+const ROUTER: u8 = 1;
+
+// Whether an interface that is up and has another id has the address.
+fn is_address_taken(interfaces: &BTreeMap<u8, Interface>, id: u8, address: u32) -> bool
+    ensures { result ≡ list_any (has_address id address) interfaces.now.entries }
+{
+    interfaces.iter().any(|(other, interface)| *other != id
+        && interface.up
+        && interface.address == address)
+}
