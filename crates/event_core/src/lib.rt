@@ -1,0 +1,4 @@
+//! The core of the router: its state, the calculation of routes, and the routing table.
+#![tactic(auto)]
+
+pub mod table;
