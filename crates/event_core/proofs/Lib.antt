@@ -1,2 +1,4 @@
+pub mod InOrder
+pub mod Choosing
 pub mod Maps
 pub mod Matches
