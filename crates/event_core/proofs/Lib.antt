@@ -1,2 +1,6 @@
 pub mod Rows
 pub mod DatabaseRows
+pub mod InOrder
+pub mod Choosing
+pub mod Maps
+pub mod Matches

@@ -3,3 +3,5 @@ pub mod States
 pub mod Steps
 pub mod Held
 pub mod Refusals
+pub mod Choices
+pub mod Tables

@@ -2,12 +2,14 @@
 //! interfaces and the journal of events, with the routing table that they give.
 #![tactic(auto)]
 
+mod choice;
 mod database;
 mod event;
 mod limits;
 mod order;
 mod refusal;
 mod state;
+pub mod table;
 
 pub use event::{Event, Reply, Standing};
 pub use limits::Limits;
