@@ -17,8 +17,9 @@ use Rattle.ospf_types.specs.Keys.{key_cmp}
 use Rattle.ospf_types.specs.Lsa.{Lsa, MaxAge, key_of}
 use Rattle.ospf_types.proofs.Orders.{key_total, key_exact}
 use Rattle.lsa_codec.specs.Spelling.{IsLegal}
+use Rattle.lsa_codec.specs.Readers.{with_age}
 use Rattle.lsa_codec.proofs.Ages.{IsLegal-with_age}
-use Rattle.event_core.specs.Databases.{Database, with_age, aged, keyed, all_aged, map_of, AreRows, IsPlace, IsGap, IsKept}
+use Rattle.event_core.specs.Databases.{Database, aged, keyed, all_aged, map_of, AreRows, IsPlace, IsGap, IsKept}
 use Rattle.event_core.proofs.Rows.{reversed, put_at_new, put_at_old, find_at, find_missing, rises}
 
 passes : (b : Bool) → b ≡ true → T b

@@ -4,3 +4,5 @@ pub mod InOrder
 pub mod Choosing
 pub mod Maps
 pub mod Matches
+pub mod StubOnly
+pub mod HeldStates

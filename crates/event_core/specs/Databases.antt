@@ -7,13 +7,10 @@ use Rattle.ospf_types.specs.declared.key.Key.{Key}
 use Rattle.ospf_types.specs.Keys.{key_cmp}
 use Rattle.ospf_types.specs.Lsa.{Lsa, Body, MaxAge, key_of}
 use Rattle.lsa_codec.specs.Spelling.{IsLegal}
+use Rattle.lsa_codec.specs.Readers.{with_age}
 
 abbrev pub Database : Type 0
 Database = FinMap key_cmp Lsa
-
--- the LSA with another age
-abbrev pub with_age : Lsa → ℕ → Lsa
-with_age l age = record l { header = record l.header { age = age } }
 
 -- a second later: no age passes MaxAge
 abbrev pub aged : Lsa → Lsa

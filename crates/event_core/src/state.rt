@@ -1,11 +1,13 @@
 ghost use Rattle.std.specs.Prelude.{◌≡◌, ◌↔◌, false, None, Some, IfErr, IfOk, OnOk, OnErr, length, map as list_map};
 ghost use Rattle.std.specs.List.{list_any};
+ghost use Rattle.std.specs.Ordering.{nat_cmp};
+ghost use Rattle.std.specs.BTreeMap.{IsOrdered};
 ghost use Rattle.std.specs.FinMap as map;
 ghost use Rattle.std.specs.Option.{option_copied};
 ghost use Rattle.ospf_types.specs.Lsa.{key_of};
 ghost use Rattle.event_core.specs.Databases.{contents_of};
 ghost use Rattle.event_core.specs.States.{State as StateValue, LooksAlike, place_of, database_of};
-ghost use Rattle.event_core.specs.Steps.{refusal_of, step, opening, is_stub_only, has_address, limit_of};
+ghost use Rattle.event_core.specs.Steps.{refusal_of, step, opening, is_stub_only, is_edge_kind, has_address, limit_of};
 ghost use Rattle.event_core.specs.Refusals.{IsRefusalOf};
 
 use crate::database::Database;
@@ -40,6 +42,7 @@ impl Model for State {
 
     ghost use Rattle.std.specs.FinMap as map;
     ghost use Rattle.std.specs.Ordering.{nat_cmp};
+ghost use Rattle.std.specs.BTreeMap.{IsOrdered};
     ghost use Rattle.std.specs.Coded.{Coded, codes, coded_ℕ};
     ghost use Rattle.ospf_types.specs.Keys.{key_code};
     ghost use Rattle.ospf_types.specs.declared.config.Interface.{Interface};
@@ -115,9 +118,17 @@ impl State {
                 id,
                 area,
                 address,
+                peer,
                 up,
-                ..
-            } => self.interface_refusal(*id, *area, *address, *up),
+            } => self.interface_refusal(
+                *id,
+                Interface {
+                    area: *area,
+                    address: *address,
+                    peer: *peer,
+                    up: *up,
+                },
+            ),
             Event::Second => self.journal_refusal(),
         }
     }
@@ -146,19 +157,25 @@ impl State {
         }
     }
 
-    fn interface_refusal(&self, id: u8, area: u32, address: u32, up: bool) -> Option<Refusal>
-        ensures { (peer : _) → result ≡ refusal_of self.now (Event.Interface id area address peer up) }
+    fn interface_refusal(&self, id: u8, interface: Interface) -> Option<Refusal>
+        ensures { result ≡ refusal_of self.now (Event.Interface id interface.area interface.address interface.peer interface.up) }
     {
-        if place_of(self.config.areas.as_slice(), area).is_none() {
+        if place_of(self.config.areas.as_slice(), interface.area).is_none() {
             return Some(Refusal::NoArea);
         }
         if let Some(refusal) = self.journal_refusal() {
             return Some(refusal);
         }
-        if up && is_address_taken(&self.interfaces, id, address) {
+        if interface.up && self.is_taken(id, interface.address) {
             return Some(Refusal::AddressTaken);
         }
         None
+    }
+
+    fn is_taken(&self, id: u8, address: u32) -> bool
+        ensures { result ≡ list_any (has_address id address) (map.entries self.now.interfaces) }
+    {
+        is_address_taken(&self.interfaces, id, address)
     }
 
     fn journal_refusal(&self) -> Option<Refusal>
@@ -197,7 +214,7 @@ fn empty_databases(alloc: Global, areas: &[AreaConfig]) -> Result<Vec<Database>,
     ensures { IfOk result (λ v. v.items ≡ list_map (λ _. map.empty) areas.now) }
 {
     let mut databases = Vec::new(alloc);
-    for _area in areas {
+    for area in areas {
         databases.push(Database::new(alloc))?;
     }
     Ok(databases)
@@ -212,7 +229,7 @@ fn is_stub_only(lsa: &Checked) -> bool
     }
     for n in 0..lsa.link_count() {
         if let Some(link) = lsa.link(n)
-            && matches!(link.kind, LinkKind::PointToPoint | LinkKind::Transit)
+            && is_edge(link.kind)
         {
             return false;
         }
@@ -220,14 +237,22 @@ fn is_stub_only(lsa: &Checked) -> bool
     true
 }
 
+// Whether a link of this kind leads to a vertex.
+fn is_edge(kind: LinkKind) -> bool
+    ensures { result ≡ is_edge_kind kind }
+{
+    matches!(kind, LinkKind::PointToPoint | LinkKind::Transit)
+}
+
 // The LS type of router-LSAs (RFC 2328, A.4.2).
 const ROUTER: u8 = 1;
 
 // Whether an interface that is up and has another id has the address.
 fn is_address_taken(interfaces: &BTreeMap<u8, Interface>, id: u8, address: u32) -> bool
-    ensures { result ≡ list_any (has_address id address) interfaces.now.entries }
+    ensures value { result ≡ list_any (has_address id address) interfaces.now.entries }
+    ensures in_order { IsOrdered nat_cmp interfaces.now }
 {
-    interfaces.iter().any(|(other, interface)| *other != id
-        && interface.up
-        && interface.address == address)
+    interfaces
+        .iter()
+        .any(|(other, interface)| *other != id && interface.up && interface.address == address)
 }

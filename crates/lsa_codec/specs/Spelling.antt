@@ -1,23 +1,18 @@
-use Rattle.std.specs.Prelude.{ℕ, ◌≡◌, ◌≤◌, List, [], ◌∷◌, length, Option, Some, None, option_map, slice_get}
-use Rattle.ospf_types.specs.declared.lsa.Link.{Link}
+use Rattle.std.specs.Prelude.{ℕ, ◌≡◌, ◌≤◌, List, [], ◌∷◌, length}
+use Rattle.ospf_types.specs.declared.lsa.Header.{Header}
 use Rattle.ospf_types.specs.Lsa.{Lsa, Body, RouterLink, RouterLinks, NetworkLinks, NetworkSummary, BoundarySummary, AsExternal, kind_of}
 
-abbrev pub links_of : Body → List RouterLink
-links_of (RouterLinks flags links) = links
-links_of (NetworkLinks mask routers) = []
-links_of (NetworkSummary mask metric tos) = []
-links_of (BoundarySummary metric tos) = []
-links_of (AsExternal mask first more) = []
-abbrev pub flags_of : Body → ℕ
-flags_of b = 0
-abbrev pub link_count_of : Body → ℕ
-link_count_of b = length (links_of b)
-abbrev pub plain_link : RouterLink → Link
-plain_link l = record { id = l.id; detail = l.detail; kind = l.kind; metric = l.metric }
-abbrev pub link_at : Body → ℕ → Option Link
-link_at b n = option_map plain_link (slice_get (links_of b) n)
+pub record IsLegalRouter (h : Header) (byte : ℕ) (list : List RouterLink) : Type 0 where
+  pub own : h.id ≡ h.router
+
+abbrev pub IsLegalBody : Header → Body → Type 0
+IsLegalBody h (RouterLinks flags links) = IsLegalRouter h flags links
+IsLegalBody h (NetworkLinks mask routers) = Unit {0}
+IsLegalBody h (NetworkSummary mask metric tos) = Unit {0}
+IsLegalBody h (BoundarySummary metric tos) = Unit {0}
+IsLegalBody h (AsExternal mask first more) = Unit {0}
 
 pub record IsLegal (l : Lsa) : Type 0 where
-  pub kind : l.header.kind ≡ kind_of l.body
   pub age : l.header.age ≤ 3600
-  pub router : l.header.kind ≡ 1 → l.header.id ≡ l.header.router
+  pub kind : l.header.kind ≡ kind_of l.body
+  pub body : IsLegalBody l.header l.body

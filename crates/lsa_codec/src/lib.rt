@@ -2,7 +2,9 @@
 #![tactic(auto)]
 ghost use Rattle.std.specs.Prelude.{◌≡◌, ◌≤◌, ◌↔◌, IsTrue, IfOk};
 ghost use Rattle.ospf_types.specs.Lsa.{key_of};
-ghost use Rattle.lsa_codec.specs.Spelling.{IsLegal, flags_of, links_of, link_at, link_count_of};
+ghost use Rattle.lsa_codec.specs.Spelling.{IsLegal};
+ghost use Rattle.lsa_codec.specs.Readers.{links_of, link_at, with_age};
+ghost use Rattle.std.specs.Prelude.{length};
 use ospf_types::lsa::{Header, Link};
 use ospf_types::key::Key;
 use ospf_types::memory::Memory;
@@ -28,14 +30,14 @@ impl Checked {
         ensures legal { IsLegal self.now }
     { Key { kind: self.head.kind, id: self.head.id, router: self.head.router } }
     pub fn link_count(&self) -> usize
-        ensures { result ≡ link_count_of self.now.body }
+        ensures { result ≡ length (links_of self.now.body) }
     { let _h = self.head; 0 }
     pub fn link(&self, n: usize) -> Option<Link>
         ensures { result ≡ link_at self.now.body n }
     { let _h = self.head; None }
     pub fn set_age(&mut self, age: u16)
         requires { age ≤ 3600 }
-        ensures { self.new ≡ record self.old { header = record self.old.header { age = age } } }
+        ensures { self.new ≡ with_age self.old age }
     { self.head.age = age; }
     pub fn same_contents(&self, other: &Checked) -> bool
         ensures { IsTrue result ↔ ((self.now.header.options ≡ other.now.header.options) × (self.now.body ≡ other.now.body)) }
