@@ -1,5 +1,5 @@
 -- A database kept as LSAs in the order of their keys.
-use Rattle.std.proofs.Common.{◌≡◌, ℕ, ◌+◌, ◌<◌, ◌≤◌, Bool, true, false, cond, T, List, [], ◌∷◌, ◌++◌, length, map, get_or, set, take, drop, Option, Some, None, Ordering, refl, sym, ap, subst, ◌∙◌, add-zero, count_by, arith, inl, inr}
+use Rattle.std.proofs.Common.{◌≡◌, ℕ, ◌+◌, ◌<◌, ◌≤◌, Bool, true, false, cond, T, List, [], ◌∷◌, ◌++◌, length, map, get_or, set, take, drop, Option, Some, None, Ordering, refl, sym, ap, subst, ◌∙◌, arith, inl, inr}
 use Rattle.std.specs.Prelude.{◌&&◌, insert as insert_at, min, Result, Ok, Err, IfOk, IfErr}
 use Rattle.std.specs.List.Sorted.{IsSearchInRange, IsBinarySearchResult, IsNonDecreasingBy}
 use Rattle.std.specs.declared.cmp.Ordering.TheVariants.{Less, Equal, Greater}
@@ -9,8 +9,7 @@ use Rattle.std.specs.List.{AllByRecursion}
 use Rattle.std.specs.FinMap.{FinMap, entries, values, get, len, insert, empty, find, put, is_sorted, from_sorted, same_entries_map, empty_of_len, entries-from_sorted, entries-insert, get-entries, len-entries}
 use Rattle.std.specs.FinMap.Entries.{below_all, is_sorted-put}
 use Rattle.std.proofs.lemmas.Bool.{cases_lt}
-use Rattle.std.proofs.lemmas.List.Sums.{count_by_more_yes, count_by_more_no}
-use Rattle.std.proofs.lemmas.List.{take_more_set, map_more, drop-set-lt, drop-drop, get_or-drop, map-set, get_or-map, take-map, drop-map, map-append, length-map}
+use Rattle.std.proofs.lemmas.List.{map-set, get_or-map, take-map, drop-map, map-append, length-map}
 use Rattle.std.proofs.lemmas.List.Elements.{All-from_recursion, recursion_from_All, All-set, All-append, All-cons, All-take, All-drop}
 use Rattle.ospf_types.specs.declared.key.Key.{Key}
 use Rattle.ospf_types.specs.Keys.{key_cmp}
@@ -133,7 +132,7 @@ kept_rows rows h = record {
 
 -- ---- a second
 
-legal_aged : (l : Lsa) → IsLegal l → IsLegal (aged l)
+pub legal_aged : (l : Lsa) → IsLegal l → IsLegal (aged l)
 legal_aged l h = IsLegal-with_age l (min (l.header.age + 1) MaxAge) h (omega arith)
 
 all_legal_aged : (rows : List Lsa) → AllByRecursion IsLegal rows → AllByRecursion IsLegal (map aged rows)
@@ -193,26 +192,3 @@ search_missing rows key (Ok i) h in' found = tt
 search_missing rows key (Err i) h in' found =
     let parts = found (rising rows key h) in
     record { within = in'; before = λ k d lt. parts.0 k d (omega arith) lt; after = λ k d le lt. parts.1 k d le lt }
-
--- ---- a loop that ages each row
-
-pub one_aged : (rows first : List Lsa) (i : ℕ) (row : Lsa) → i < length rows → length rows ≡ length first → row ≡ get_or rows i row → take i rows ≡ map aged (take i first) → drop i rows ≡ drop i first
-    → (take (i + 1) (set rows i (aged row)) ≡ map aged (take (i + 1) first)) × (drop (i + 1) (set rows i (aged row)) ≡ drop (i + 1) first)
-one_aged rows first i row lt same here so_far left =
-    let there : get_or first i row ≡ row = ap (λ (k : ℕ). get_or first k row) (sym (add-zero i)) ∙ sym (get_or-drop i first 0 row) ∙ ap (λ (ls : List Lsa). get_or ls 0 row) (sym left) ∙ get_or-drop i rows 0 row ∙ ap (λ (k : ℕ). get_or rows k row) (add-zero i) ∙ sym here in (
-      take_more_set rows i (aged row) lt ∙ ap (λ (ls : List Lsa). ls ++ aged row ∷ []) so_far ∙ ap (λ (l : Lsa). map aged (take i first) ++ aged l ∷ []) (sym there) ∙ sym (map_more aged first i row (omega arith)),
-      drop-set-lt (i + 1) rows i (aged row) (omega arith) ∙ sym (drop-drop 1 i rows) ∙ ap (drop 1) left ∙ drop-drop 1 i first,
-    )
-
-count_more : (p : Lsa → Bool) (rows : List Lsa) (i : ℕ) (d : Lsa) → i < length rows → count_by p (take (i + 1) rows) ≡ count_by p (take i rows) + cond (p (get_or rows i d)) 1 0
-count_more p rows i d lt =
-    elim (p (get_or rows i d)) as (λ b. p (get_or rows i d) ≡ b → count_by p (take (i + 1) rows) ≡ count_by p (take i rows) + cond b 1 0) [
-      | true ↦ λ e. count_by_more_yes p rows i d lt e
-      | false ↦ λ e. count_by_more_no p rows i d lt e ∙ sym (add-zero (count_by p (take i rows)))
-    ] refl
-
-pub one_counted : (rows first : List Lsa) (i : ℕ) (row : Lsa) (p : Lsa → Bool) → i < length rows → length rows ≡ length first → row ≡ get_or rows i row → drop i rows ≡ drop i first
-    → count_by p (take (i + 1) first) ≡ count_by p (take i first) + cond (p row) 1 0
-one_counted rows first i row p lt same here left =
-    let there : get_or first i row ≡ row = ap (λ (k : ℕ). get_or first k row) (sym (add-zero i)) ∙ sym (get_or-drop i first 0 row) ∙ ap (λ (ls : List Lsa). get_or ls 0 row) (sym left) ∙ get_or-drop i rows 0 row ∙ ap (λ (k : ℕ). get_or rows k row) (add-zero i) ∙ sym here in
-    count_more p first i row (omega arith) ∙ ap (λ (l : Lsa). count_by p (take i first) + cond (p l) 1 0) there

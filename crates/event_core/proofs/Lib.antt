@@ -6,3 +6,8 @@ pub mod Maps
 pub mod Matches
 pub mod StubOnly
 pub mod HeldStates
+pub mod Seconds
+pub mod Looks
+pub mod InPlace
+pub mod Changes
+pub mod ContentsOf

@@ -1,8 +1,8 @@
 -- A link-state database as a finite map from key to LSA, each at its present age (RFC 2328, 12 and 14).
-use Rattle.std.specs.Prelude.{ℕ, ◌+◌, ◌≡◌, ◌<◌, ◌≤◌, ◌==◌, Bool, IsTrue, List, length, slice_index_or, Option, Some, None, map, min, nat_lt, if◌then◌else◌}
+use Rattle.std.specs.Prelude.{ℕ, ◌+◌, ◌≡◌, ◌<◌, ◌≤◌, ◌==◌, Bool, IsTrue, List, length, slice_index_or, Option, Some, None, map, min, nat_lt, count_by, option_and_then, if◌then◌else◌}
 use Rattle.std.specs.declared.cmp.Ordering.TheVariants.{Less, Greater}
 use Rattle.std.specs.List.{AllByRecursion}
-use Rattle.std.specs.FinMap.{FinMap, from_sorted, entries, get, is_sorted}
+use Rattle.std.specs.FinMap.{FinMap, from_sorted, entries, values, get, is_sorted}
 use Rattle.ospf_types.specs.declared.key.Key.{Key}
 use Rattle.ospf_types.specs.Keys.{key_cmp}
 use Rattle.ospf_types.specs.Lsa.{Lsa, Body, MaxAge, key_of}
@@ -56,3 +56,11 @@ pub record IsGap (rows : List Lsa) (key : Key) (place : ℕ) : Type 0 where
 -- an LSA that a second brings to MaxAge
 abbrev pub comes_to_max_age : Lsa → Bool
 comes_to_max_age l = l.header.age + 1 == MaxAge
+
+-- no LSA comes to MaxAge within a second
+abbrev pub NoneComes : Database → Type 0
+NoneComes d = count_by comes_to_max_age (values d) ≡ 0
+
+-- what is used of the LSA is what is used of the instance that the database has
+abbrev pub IsUsedAlike : Database → Lsa → Type 0
+IsUsedAlike d l = option_and_then contents_of (get d (key_of l)) ≡ contents_of l

@@ -5,14 +5,16 @@ use Rattle.ospf_types.specs.declared.config.Config.{Config}
 use Rattle.ospf_types.specs.declared.key.Key.{Key}
 use Rattle.ospf_types.specs.Lsa.{Lsa}
 use Rattle.event_core.specs.Databases.{Database, IsKept}
+use Rattle.event_core.specs.States.{AreApart}
 use Rattle.event_core.specs.Steps.{is_stub_only}
 
 -- each LSA is a router-LSA of which no link leads to a vertex
 abbrev pub AreStubOnly : Database → Type 0
 AreStubOnly d = (k : Key) (l : Lsa) → get d k ≡ Some l → is_stub_only l.body ≡ true
 
--- one database for each area; each LSA under its own key, in the grammar, and one that a calculation stands for
+-- no two areas have one Area ID, and there is one database for each; each LSA under its own key, in the grammar, and one that a calculation stands for
 pub record IsHeld (config : Config) (databases : List Database) (externals : Database) : Type 0 where
+  pub apart : AreApart config.areas
   pub places : length databases ≡ length config.areas
   pub kept : All IsKept databases
   pub stubs : All AreStubOnly databases

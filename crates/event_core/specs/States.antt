@@ -1,7 +1,8 @@
 -- The state that events change (RFC 2328, 13.2 and 14), and what is calculated from.
-use Rattle.std.specs.Prelude.{ℕ, ◌≡◌, ◌==◌, List, [], map, position, slice_index_or, slice_set, Option, Some, None, option_map, option_and_then}
+use Rattle.std.specs.Prelude.{ℕ, ◌≡◌, ◌≢◌, ◌<◌, ◌==◌, length, List, [], map, position, slice_index_or, slice_set, Option, Some, None, option_map, option_and_then}
 use Rattle.std.specs.Ordering.{nat_cmp}
-use Rattle.std.specs.FinMap.{FinMap, entries, values, get, empty}
+use Rattle.std.specs.BTreeMap.{BTreeMap}
+use Rattle.std.specs.FinMap.{FinMap, from_entries, entries, values, get, empty}
 use Rattle.ospf_types.specs.declared.config.Config.{Config}
 use Rattle.ospf_types.specs.declared.config.AreaConfig.{AreaConfig}
 use Rattle.ospf_types.specs.declared.config.Interface.{Interface}
@@ -21,6 +22,14 @@ pub record State : Type 0 where
   pub externals : Database
   pub interfaces : FinMap nat_cmp Interface
   pub journal : List Event  -- the events that were taken
+
+-- the interfaces of a tree, as a finite map
+abbrev pub interfaces_of : BTreeMap ℕ Interface → FinMap nat_cmp Interface
+interfaces_of m = from_entries m.entries
+
+-- no two areas have one Area ID
+abbrev pub AreApart : List AreaConfig → Type 0
+AreApart areas = (i j : ℕ) (d : AreaConfig) → i < j → j < length areas → (slice_index_or areas i d).id ≢ (slice_index_or areas j d).id
 
 -- which of the configured areas has this Area ID
 abbrev pub place_of : List AreaConfig → ℕ → Option ℕ

@@ -140,17 +140,24 @@ refusal_of s e = first_of (
     ∷ (is_address_taken s e, refusal.AddressTaken)
     ∷ [])
 
+-- an event of a kind that may be taken: in its scope, and with a calculation
+pub record IsSuited (e : Event) : Type 0 where
+  pub placed : is_misplaced e ≡ false
+  pub known : is_not_yet e ≡ false
+
 -- ---- what an event does
 
 abbrev pub with_lsa : State → Scope → Lsa → Option Database → State
 with_lsa s at lsa None = s
 with_lsa s at lsa (Some d) = with_database s at (insert d (key_of lsa) lsa)
 
+abbrev pub with_interface : State → ℕ → Interface → State
+with_interface s id i = record s { interfaces = insert s.interfaces id i }
+
 -- the databases and interfaces after the event
 abbrev pub changed_by : State → Event → State
 changed_by s (event.Install at lsa) = with_lsa s at lsa (database_of s at)
-changed_by s (event.Interface id area address peer up) =
-    record s { interfaces = insert s.interfaces id (record { area = area; address = address; peer = peer; up = up }) }
+changed_by s (event.Interface id area address peer up) = with_interface s id (record { area = area; address = address; peer = peer; up = up })
 changed_by s event.Second = record s { databases = map all_aged s.databases; externals = all_aged s.externals }
 
 -- the state after an event that is taken

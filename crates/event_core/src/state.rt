@@ -1,13 +1,14 @@
-ghost use Rattle.std.specs.Prelude.{◌≡◌, ◌↔◌, false, None, Some, IfErr, IfOk, OnOk, OnErr, length, map as list_map};
+ghost use Rattle.std.specs.Prelude.{◌≡◌, ◌<◌, ◌↔◌, true, false, None, Some, IfErr, IfOk, OnOk, OnErr, All, length, slice_index_or, slice_set, option_and_then, map as list_map};
 ghost use Rattle.std.specs.List.{list_any};
 ghost use Rattle.std.specs.Ordering.{nat_cmp};
 ghost use Rattle.std.specs.BTreeMap.{IsOrdered};
 ghost use Rattle.std.specs.FinMap as map;
 ghost use Rattle.std.specs.Option.{option_copied};
 ghost use Rattle.ospf_types.specs.Lsa.{key_of};
-ghost use Rattle.event_core.specs.Databases.{contents_of};
-ghost use Rattle.event_core.specs.States.{State as StateValue, LooksAlike, place_of, database_of};
-ghost use Rattle.event_core.specs.Steps.{refusal_of, step, opening, is_stub_only, is_edge_kind, has_address, limit_of};
+ghost use Rattle.lsa_codec.specs.Spelling.{IsLegal};
+ghost use Rattle.event_core.specs.Databases.{contents_of, all_aged, IsUsedAlike, NoneComes};
+ghost use Rattle.event_core.specs.States.{AreApart, LooksAlike, place_of, database_of, interfaces_of};
+ghost use Rattle.event_core.specs.Steps.{IsSuited, changed_by, with_interface, refusal_of, step, opening, is_stub_only, is_edge_kind, has_address, limit_of};
 ghost use Rattle.event_core.specs.Refusals.{IsRefusalOf};
 
 use crate::database::Database;
@@ -42,7 +43,7 @@ impl Model for State {
 
     ghost use Rattle.std.specs.FinMap as map;
     ghost use Rattle.std.specs.Ordering.{nat_cmp};
-ghost use Rattle.std.specs.BTreeMap.{IsOrdered};
+    ghost use Rattle.std.specs.BTreeMap.{IsOrdered};
     ghost use Rattle.std.specs.Coded.{Coded, codes, coded_ℕ};
     ghost use Rattle.ospf_types.specs.Keys.{key_code};
     ghost use Rattle.ospf_types.specs.declared.config.Interface.{Interface};
@@ -52,6 +53,7 @@ ghost use Rattle.std.specs.BTreeMap.{IsOrdered};
         let interfaces : Coded (map.FinMap nat_cmp Interface) = map.code coded_ℕ (Prim.hlevel codes) in
         Prim.hlevel (codes, database, interfaces) };
 
+    ghost use Rattle.event_core.specs.States.{interfaces_of};
     ghost use Rattle.event_core.specs.Held.{IsHeld};
 
     ghost view = { λ s. record {
@@ -59,7 +61,7 @@ ghost use Rattle.std.specs.BTreeMap.{IsOrdered};
       limits = s.limits;
       databases = s.databases.items;
       externals = s.externals;
-      interfaces = map.from_entries s.interfaces.entries;
+      interfaces = interfaces_of s.interfaces;
       journal = s.journal.items;
     } };
 
@@ -69,6 +71,7 @@ ghost use Rattle.std.specs.BTreeMap.{IsOrdered};
 impl State {
     /// No interfaces, empty databases and an empty journal.
     pub(crate) fn new(alloc: Global, config: Config, limits: Limits) -> Result<State, Memory>
+        requires { AreApart config.areas }
         ensures { IfOk result (λ state. state ≡ opening config limits) }
     {
         let databases = empty_databases(alloc, config.areas.as_slice())?;
@@ -199,6 +202,107 @@ impl State {
     }
 }
 
+impl State {
+    /// Takes the event, or refuses it and leaves everything as it was. The answer is whether the
+    /// usable LSAs (key, Options, body) or the interfaces differ from before.
+    pub(crate) fn step(&mut self, event: Event) -> Result<bool, Refusal>
+        ensures refused { IfErr result (IsRefusalOf self.old event) }
+        ensures unchanged { OnErr result (self.new ≡ self.old) }
+        ensures accepted { OnOk result (refusal_of self.old event ≡ None) }
+        ensures taken { OnOk result (self.new ≡ step self.old event) }
+        ensures changed { IfOk result (λ changed. (changed ≡ false) ↔ LooksAlike self.old self.new) }
+    {
+        if let Some(refusal) = self.refusal(&event) {
+            return Err(refusal);
+        }
+        match self.take(event) {
+            Ok(changed) => Ok(changed),
+            Err(Memory) => Err(Refusal::Memory),
+        }
+    }
+
+    // The event joins the journal, and is carried out.
+    fn take(&mut self, event: Event) -> Result<bool, Memory>
+        requires { IsSuited event }
+        ensures unchanged { OnErr result (self.new ≡ self.old) }
+        ensures taken { OnOk result (self.new ≡ step self.old event) }
+        ensures changed { IfOk result (λ changed. (changed ≡ false) ↔ LooksAlike self.old (changed_by self.old event)) }
+    {
+        let entry = event.copy(*self.journal.allocator())?;
+        self.journal.push(entry)?;
+        match self.carry_out(event) {
+            Ok(changed) => Ok(changed),
+            Err(Memory) => {
+                self.journal.pop();
+                Err(Memory)
+            }
+        }
+    }
+
+    // What the event does to the databases and the interfaces.
+    fn carry_out(&mut self, event: Event) -> Result<bool, Memory>
+        requires { IsSuited event }
+        ensures unchanged { OnErr result (self.new ≡ self.old) }
+        ensures done { OnOk result (self.new ≡ changed_by self.old event) }
+        ensures changed { IfOk result (λ changed. (changed ≡ false) ↔ LooksAlike self.old (changed_by self.old event)) }
+    {
+        match event {
+            Event::Install {
+                scope: Scope::Area(area),
+                lsa,
+            } => self.install(area, lsa),
+            Event::Install {
+                scope: Scope::As,
+                lsa: _,
+            } => unreachable!(),
+            Event::Interface {
+                id,
+                area,
+                address,
+                peer,
+                up,
+            } => self.set_interface(
+                id,
+                Interface {
+                    area,
+                    address,
+                    peer,
+                    up,
+                },
+            ),
+            Event::Second => Ok(self.second()),
+        }
+    }
+
+    fn install(&mut self, area: u32, lsa: Checked) -> Result<bool, Memory>
+        requires { is_stub_only lsa.body ≡ true }
+        ensures unchanged { OnErr result (self.new ≡ self.old) }
+        ensures done { OnOk result (self.new ≡ changed_by self.old (Event.Install (Scope.Area area) lsa)) }
+        ensures changed { IfOk result (λ changed. (changed ≡ false) ↔ LooksAlike self.old (changed_by self.old (Event.Install (Scope.Area area) lsa))) }
+    {
+        let Some(place) = place_of(self.config.areas.as_slice(), area) else {
+            return Ok(false);
+        };
+        install_at(self.databases.as_mut_slice(), place, lsa)
+    }
+
+    fn set_interface(&mut self, id: u8, interface: Interface) -> Result<bool, Memory>
+        ensures unchanged { OnErr result (self.new ≡ self.old) }
+        ensures done { OnOk result (self.new ≡ with_interface self.old id interface) }
+        ensures changed { IfOk result (λ changed. (changed ≡ false) ↔ LooksAlike self.old (with_interface self.old id interface)) }
+    {
+        put_interface(&mut self.interfaces, id, interface)
+    }
+
+    fn second(&mut self) -> bool
+        ensures done { self.new ≡ changed_by self.old Event.Second }
+        ensures changed { (result ≡ false) ↔ LooksAlike self.old (changed_by self.old Event.Second) }
+    {
+        let in_areas = age_all(self.databases.as_mut_slice());
+        in_areas | (self.externals.second() > 0)
+    }
+}
+
 // The LS type of AS-external-LSAs (RFC 2328, A.4.5).
 const AS_EXTERNAL: u8 = 5;
 
@@ -252,7 +356,60 @@ fn is_address_taken(interfaces: &BTreeMap<u8, Interface>, id: u8, address: u32) 
     ensures value { result ≡ list_any (has_address id address) interfaces.now.entries }
     ensures in_order { IsOrdered nat_cmp interfaces.now }
 {
-    interfaces
-        .iter()
-        .any(|(other, interface)| *other != id && interface.up && interface.address == address)
+    interfaces.iter().any(|(other, interface)| *other != id
+        && interface.up
+        && interface.address == address)
+}
+
+// Installs the LSA in the database at the place. The answer is whether what is used of it differs.
+fn install_at(databases: &mut [Database], place: usize, lsa: Checked) -> Result<bool, Memory>
+    requires { place < length databases.old }
+    ensures unchanged { OnErr result (databases.new ≡ databases.old) }
+    ensures done { OnOk result (databases.new ≡ slice_set databases.old place (map.insert (slice_index_or databases.old place map.empty) (key_of lsa) lsa)) }
+    ensures changed { IfOk result (λ changed. (changed ≡ false) ↔ IsUsedAlike (slice_index_or databases.old place map.empty) lsa) }
+    ensures legal { IsLegal lsa }
+{
+    let database = &mut databases[place];
+    let changed = is_used_otherwise(database.get(lsa.key()), &lsa);
+    database.install(lsa)?;
+    Ok(changed)
+}
+
+// Whether what is used of the LSA, Options and body, differs from what is used of the instance held.
+fn is_used_otherwise(held: Option<&Checked>, lsa: &Checked) -> bool
+    ensures { (result ≡ false) ↔ (option_and_then contents_of (option_copied held.entry) ≡ contents_of lsa.now) }
+{
+    let usable = lsa.header().age < MAX_AGE;
+    match held {
+        None => usable,
+        Some(held) => (usable || held.header().age < MAX_AGE) && contents_differ(held, lsa),
+    }
+}
+
+// Puts the interface in place of what the id held. The answer is whether it differs.
+fn put_interface(
+    interfaces: &mut BTreeMap<u8, Interface>,
+    id: u8,
+    interface: Interface,
+) -> Result<bool, Memory>
+    ensures unchanged { OnErr result (interfaces.new.entries ≡ interfaces.old.entries) }
+    ensures done { OnOk result (interfaces_of interfaces.new ≡ map.insert (interfaces_of interfaces.old) id interface) }
+    ensures changed { IfOk result (λ changed. (changed ≡ false) ↔ (map.get (interfaces_of interfaces.old) id ≡ Some interface)) }
+{
+    match interfaces.insert(id, interface)? {
+        None => Ok(true),
+        Some(before) => Ok(before != interface),
+    }
+}
+
+// A second passes in each database. The answer is whether an LSA came to MaxAge.
+fn age_all(databases: &mut [Database]) -> bool
+    ensures done { databases.new ≡ list_map all_aged databases.old }
+    ensures changed { (result ≡ false) ↔ All NoneComes databases.old }
+{
+    let mut changed = false;
+    for database in databases.iter_mut() {
+        changed |= database.second() > 0;
+    }
+    changed
 }

@@ -13,4 +13,4 @@ legal_body h age (BoundarySummary metric tos) l = tt
 legal_body h age (AsExternal mask first more) l = tt
 
 pub IsLegal-with_age : (l : Lsa) (age : ℕ) → IsLegal l → age ≤ 3600 → IsLegal (with_age l age)
-IsLegal-with_age l age h le = record { age = le; kind = h.kind; body = legal_body l.header age l.body h.body }
+IsLegal-with_age l age h le = record { age = le; kind = h.kind; body = legal_body l.header age l.body h.body; length = h.length }

@@ -1,7 +1,7 @@
 use Rattle.std.proofs.Common.{◌≡◌, ◌<◌, length, sym, ◌∙◌, ap, arith}
 use Rattle.std.proofs.lemmas.Bool.Decides.{nat_tests}
 use Rattle.event_core.specs.Databases.{aged, comes_to_max_age}
-use Rattle.event_core.proofs.DatabaseRows.{one_aged, one_counted}
+use Rattle.event_core.proofs.InPlace.{one_mapped, one_counted}
 use Rattle.event_core.proofs.database.age_rows.Goals as goal
 use Rattle.event_core.proofs.database.age_rows.Goals.{then-age_row, else-age_row}
 
@@ -12,8 +12,8 @@ loop-row-preserved c =
     let i = c.loop-row.row-index in
     let row = c.row-item.result in
     let lt : i < length rows = omega arith in
-    let step = one_aged rows first i row lt c.loop-row.auto.rows c.row-item.is c.loop-row.invariant.so_far c.loop-row.invariant.rest in
-    let counted = one_counted rows first i row comes_to_max_age lt c.loop-row.auto.rows c.row-item.is c.loop-row.invariant.rest in
+    let step = one_mapped aged rows first i row lt c.loop-row.auto.rows c.row-item.is c.loop-row.invariant.so_far c.loop-row.invariant.rest in
+    let counted = one_counted comes_to_max_age rows first i row lt c.loop-row.auto.rows c.row-item.is c.loop-row.invariant.rest in
     let is : c.age_row.new.row ≡ aged row = c.age_row.ensures.aged ∙ ap aged (sym c.row-item.is) in
     let came : c.age_row.result ≡ comes_to_max_age row = c.age_row.ensures.came ∙ ap comes_to_max_age (sym c.row-item.is) in
     record {

@@ -5,4 +5,4 @@ use Rattle.event_core.proofs.state.State.new.Goals as goal
 
 pub invariant_of-result : goal.invariant_of-result
 invariant_of-result c =
-    held_new c.args.config c.in_ok-databases.databases.items c.new.result (c.in_ok-databases.ensures ∙ ap (map (λ _. empty)) c.as_slice.ensures) c.new.ensures
+    held_new c.args.config c.in_ok-databases.databases.items c.new.result c.requires (c.in_ok-databases.ensures ∙ ap (map (λ _. empty)) c.as_slice.ensures) c.new.ensures
