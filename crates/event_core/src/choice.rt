@@ -28,6 +28,12 @@ impl ExactOrd for Prefix {
     ghost exact = { network_exact };
 }
 
+impl ExactOrd for Path {
+    ghost use Rattle.ospf_types.proofs.Paths.{path_order_exact};
+
+    ghost exact = { path_order_exact };
+}
+
 impl ExactOrd for u32 {
     ghost use Rattle.std.proofs.lemmas.Map.Lookups.{exact_unsigned};
 
@@ -50,6 +56,12 @@ impl Model for AreaCost {
     ghost view = { λ k. (k.cost, k.area.0) };
 
     ghost inverse = { λ k. record { cost = k.0; area = record { 0 = k.1 } } };
+}
+
+impl ExactOrd for AreaCost {
+    ghost use Rattle.ospf_types.proofs.Orders.{area_cost_exact};
+
+    ghost exact = { area_cost_exact };
 }
 
 impl AreaCost {
