@@ -38,11 +38,14 @@ module _ {K X : Type 0} (R : K → K → Ordering) (S : X → X → Ordering) (o
   -- the same offers have the same choice
   same_offers : (old new : K → X → Type 0) → ((k : K) (x : X) → old k x → new k x) → ((k : K) (x : X) → new k x → old k x) → (c : Option (Chosen K X)) → IsChosen R S old c → IsChosen R S new c
   same_offers old new there back None h = λ k x offer. h k x (back k x offer)
-  same_offers old new there back (Some c) h = (record {
+  same_offers old new there back (Some c) h = (
+    record {
       stands = (h.0.stands.0, there _ _ h.0.stands.1);
       least = λ k x offer. h.0.least k x (back k x offer);
       union = λ x. (λ c. there _ x ((h.0.union x).0 c), λ offer. (h.0.union x).1 (back _ x offer));
-    }, h.1)
+    },
+    h.1,
+  )
 
   never_below_itself : (k : K) → R k k ≢ Less
   never_below_itself k e = let t = tied_itself o k in cc
@@ -63,14 +66,17 @@ module _ {K X : Type 0} (R : K → K → Ordering) (S : X → X → Ordering) (o
     -- the new offer alone, where each other is at a greater key
     alone : ((k : K) (x : X) → old k x → R key k ≡ Less) → IsChosen R S new (Some (record { key = key; items = item ∷ [] }))
     unfolding IsStrictlySortedBy
-    alone greater = (record {
+    alone greater = (
+      record {
         stands = (item, adds.added);
         least = λ k x offer. ⊎_elim (λ (h : old k x). not_below key k (greater k x h)) (λ (h : (k ≡ key) × (x ≡ item)). subst (λ j. R j key ≢ Less) (sym h.0) (never_below_itself key)) (adds.only k x offer);
         union = λ x. (
           λ c. subst (new key) (sym (only_item item x c)) adds.added,
-          λ offer. ⊎_elim (λ (h : old key x). absurd (never_below_itself key (greater key x h))) (λ (h : (key ≡ key) × (x ≡ item)). (0, omega arith, sym h.1)) (adds.only key x offer)
+          λ offer. ⊎_elim (λ (h : old key x). absurd (never_below_itself key (greater key x h))) (λ (h : (key ≡ key) × (x ≡ item)). (0, omega arith, sym h.1)) (adds.only key x offer),
         );
-      }, (tt, tt))
+      },
+      (tt, tt),
+    )
 
     -- one more offer at the key
     joined : (items more : List X) → HasAlso items item more → IsBest R old key items → IsBest R new key more
@@ -79,7 +85,7 @@ module _ {K X : Type 0} (R : K → K → Ordering) (S : X → X → Ordering) (o
       least = λ k x offer. ⊎_elim (λ (h : old k x). best.least k x h) (λ (h : (k ≡ key) × (x ≡ item)). subst (λ j. R j key ≢ Less) (sym h.0) (never_below_itself key)) (adds.only k x offer);
       union = λ x. (
         λ c. ⊎_elim (λ (h : Contains items x). adds.kept key x ((best.union x).0 h)) (λ (e : x ≡ item). subst (new key) (sym e) adds.added) ((also x).0 c),
-        λ offer. (also x).1 (⊎_elim (λ (h : old key x). inl ((best.union x).1 h)) (λ (h : (key ≡ key) × (x ≡ item)). inr h.1) (adds.only key x offer))
+        λ offer. (also x).1 (⊎_elim (λ (h : old key x). inl ((best.union x).1 h)) (λ (h : (key ≡ key) × (x ≡ item)). inr h.1) (adds.only key x offer)),
       );
     }
 
@@ -90,7 +96,7 @@ module _ {K X : Type 0} (R : K → K → Ordering) (S : X → X → Ordering) (o
       least = λ k x offer. ⊎_elim (λ (h : old k x). best.least k x h) (λ (h : (k ≡ key) × (x ≡ item)). subst (λ j. R j c.key ≢ Less) (sym h.0) (λ e. let both = is in cc)) (adds.only k x offer);
       union = λ x. (
         λ h. adds.kept c.key x ((best.union x).0 h),
-        λ offer. ⊎_elim (λ (h : old c.key x). (best.union x).1 h) (λ (h : (c.key ≡ key) × (x ≡ item)). let t : R key c.key ≡ Equal = subst (λ j. R key j ≡ Equal) (sym h.0) (tied_itself o key) in absurd cc) (adds.only c.key x offer)
+        λ offer. ⊎_elim (λ (h : old c.key x). (best.union x).1 h) (λ (h : (c.key ≡ key) × (x ≡ item)). let t : R key c.key ≡ Equal = subst (λ j. R key j ≡ Equal) (sym h.0) (tied_itself o key) in absurd cc) (adds.only c.key x offer),
       );
     }
 

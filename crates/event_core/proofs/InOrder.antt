@@ -17,10 +17,9 @@ only_item item x h = ⊎_elim (λ (c : Contains [] x). absurd (omega (arith, c.1
 -- an inserted item joins the others
 pub has_also_inserted : {X : Type 0} (xs : List X) (i : ℕ) (item : X) → HasAlso xs item (insert xs i item)
 has_also_inserted xs i item x =
-    let moved = IsPermutation-insert xs i item in
-    (
+    let moved = IsPermutation-insert xs i item in (
       λ h. ⊎_elim (λ (c : Contains (item ∷ []) x). inr (only_item item x c)) (λ (c : Contains xs x). inl c) (Contains-append_cases (item ∷ []) xs x (Contains-permutation _ _ x (IsPermutation-sym _ _ moved) h)),
-      λ h. Contains-permutation _ _ x moved (⊎_elim (λ (c : Contains xs x). Contains-append_right (item ∷ []) xs x c) (λ (e : x ≡ item). Contains-append_left (item ∷ []) xs x (0, omega arith, sym e)) h)
+      λ h. Contains-permutation _ _ x moved (⊎_elim (λ (c : Contains xs x). Contains-append_right (item ∷ []) xs x c) (λ (e : x ≡ item). Contains-append_left (item ∷ []) xs x (0, omega arith, sym e)) h),
     )
 
 all_insert : {X : Type 0} (P : X → Type 0) (xs : List X) (i : ℕ) (item : X) → AllByRecursion P xs → P item → AllByRecursion P (insert xs i item)
@@ -49,9 +48,9 @@ module _ {X : Type 0} {R : X → X → Ordering} (o : IsTotalOrder R) where
       (recursion_from_All (λ x. R item x ≡ Less) xs (All-from_all_within (λ x. R item x ≡ Less) xs (λ k d low high. before _ _ (place.1 k d low high))), sorted)
   sorted_insert [] (suc i) item sorted place = (tt, tt)
   sorted_insert (x ∷ xs) (suc i) item sorted place = (
-      all_insert (λ y. R x y ≡ Less) xs i item sorted.0 (place.0 0 x (omega arith) (omega arith)),
-      sorted_insert xs i item sorted.1 (λ k d low high. place.0 (suc k) d (omega arith) (omega arith), λ k d low high. place.1 (suc k) d (omega arith) (omega arith))
-    )
+    all_insert (λ y. R x y ≡ Less) xs i item sorted.0 (place.0 0 x (omega arith) (omega arith)),
+    sorted_insert xs i item sorted.1 (λ k d low high. place.0 (suc k) d (omega arith) (omega arith), λ k d low high. place.1 (suc k) d (omega arith) (omega arith)),
+  )
 
   -- a list of one item is in order
   pub sorted_one : (item : X) → IsStrictlySortedBy R (item ∷ [])

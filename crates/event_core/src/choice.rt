@@ -11,8 +11,7 @@ use ospf_types::memory::Memory;
 use ospf_types::prefix::Prefix;
 use std::alloc::Global;
 use std::cmp::{Ordering, Reverse};
-use std::collections::BTreeMap;
-use std::collections::btree_map;
+use std::collections::{BTreeMap, btree_map};
 use std::marker::Model;
 
 /// An order in which only equal values tie.
@@ -106,6 +105,20 @@ impl<K, X> Model for Choice<K, X> {
 }
 
 impl<K, X> Choice<K, X> {
+    /// The least key.
+    pub(crate) fn key(&self) -> &K
+        ensures { result.now ≡ self.now.key }
+    {
+        &self.key
+    }
+
+    /// What was offered at the key.
+    pub(crate) fn items(&self) -> &[X]
+        ensures { result.now ≡ self.now.items }
+    {
+        self.items.as_slice()
+    }
+
     /// The key, and what was offered at it.
     pub(crate) fn into_parts(self) -> (K, Vec<X>)
         ensures key { result.0 ≡ self.key }
@@ -224,5 +237,70 @@ impl<D: ExactOrd + Drop, K: ExactOrd + Drop, X: ExactOrd + Drop> Choices<D, K, X
     {
         let Choices { alloc: _, chosen } = self;
         chosen.into_iter()
+    }
+}
+
+#[cfg(test)]
+mod tests {
+    use super::*;
+    use ospf_types::hop::NextHop;
+    use std::process::Abort;
+    use std::test::Fail;
+
+    fn prefix(rt: &impl Abort, address: u32, length: u8) -> Prefix {
+        Prefix::new(address, length).expect(rt, "at most 32")
+    }
+
+    fn direct(interface: u8) -> Path {
+        Path {
+            hop: NextHop::Direct(interface),
+            advertiser: None,
+        }
+    }
+
+    #[test]
+    fn the_least_cost_keeps_all_its_paths_in_order(rt: HostRuntime) -> Result<(), Fail> {
+        let to = prefix(&rt, 0xc000_0200, 24);
+        let mut choices = Choices::new(rt.alloc());
+        for (cost, interface) in [(20, 1), (10, 7), (10, 2), (10, 7), (30, 3)] {
+            choices.offer(to, AreaCost::new(cost, 0), direct(interface))?;
+        }
+        let choice = choices.get(&to).ok_or("no choice")?;
+        assert_eq!(rt; *choice.key(), AreaCost::new(10, 0));
+        assert_eq!(rt; choice.items(), [direct(2), direct(7)].as_slice());
+        Ok(())
+    }
+
+    #[test]
+    fn at_one_cost_the_greater_area_is_chosen(rt: HostRuntime) -> Result<(), Fail> {
+        let to = prefix(&rt, 0xc000_0200, 24);
+        let mut choices = Choices::new(rt.alloc());
+        for (area, interface) in [(1, 1), (3, 3), (2, 2)] {
+            choices.offer(to, AreaCost::new(10, area), direct(interface))?;
+        }
+        let choice = choices.get(&to).ok_or("no choice")?;
+        assert_eq!(rt; choice.key().cost(), 10);
+        assert_eq!(rt; choice.key().area(), 3);
+        assert_eq!(rt; choice.items(), [direct(3)].as_slice());
+        Ok(())
+    }
+
+    #[test]
+    fn destinations_come_in_ascending_order(rt: HostRuntime) -> Result<(), Fail> {
+        let mut choices = Choices::new(rt.alloc());
+        for (to, cost, item) in [(7u32, 5u32, 70u32), (3, 9, 30), (7, 5, 71), (3, 8, 31)] {
+            choices.offer(to, cost, item)?;
+        }
+        let mut entries = choices.into_entries();
+        let (to, first) = entries.next().ok_or("no first")?;
+        let (cost, items) = first.into_parts();
+        assert_eq!(rt; (to, cost), (3, 8));
+        assert_eq!(rt; items.as_slice(), [31].as_slice());
+        let (to, second) = entries.next().ok_or("no second")?;
+        let (cost, items) = second.into_parts();
+        assert_eq!(rt; (to, cost), (7, 5));
+        assert_eq!(rt; items.as_slice(), [70, 71].as_slice());
+        assert!(rt; entries.next().is_none());
+        Ok(())
     }
 }

@@ -10,8 +10,7 @@ returns-in_ok-insert-in-Less-clause-in_order g c = λ _.
 
 pub returns-in_ok-add_in_order-in-Equal-clause-tied :
     goal.returns-in_ok-add_in_order-in-Equal-clause-tied
-returns-in_ok-add_in_order-in-Equal-clause-tied g c = λ _.
-    (
-      ap (λ (b : Chosen g.row.K.Denot g.row.X.Denot). b.key) c.self.view_is,
-      subst (λ (b : Chosen g.row.K.Denot g.row.X.Denot). HasAlso b.items c.args.item c.add_in_order.new.items.items) c.self.view_is c.in_ok-add_in_order-in-Equal.ensures.added
-    )
+returns-in_ok-add_in_order-in-Equal-clause-tied g c = λ _. (
+  ap (λ (b : Chosen g.row.K.Denot g.row.X.Denot). b.key) c.self.view_is,
+  subst (λ (b : Chosen g.row.K.Denot g.row.X.Denot). HasAlso b.items c.args.item c.add_in_order.new.items.items) c.self.view_is c.in_ok-add_in_order-in-Equal.ensures.added,
+)

@@ -13,10 +13,10 @@ returns-in_err-offer-in-Some-clause-err g c =
     let test = is_at (g.D.Ord.cmp c.args.destination) in
     let lent = c.get_mut.follows.holds c.offer.new.self in
     let unchanged =
-        lent.0
-        ∙ ap (λ (w : Chosen g.row.K.Denot g.row.X.Denot). set_value test es w) c.in_err-offer-in-Some.ensures.err
-        ∙ set_value_same test es c.in-Some.choice.now (sym c.in-Some.ensures.value)
-        ∙ c.self.view_is
+    lent.0
+    ∙ ap (λ (w : Chosen g.row.K.Denot g.row.X.Denot). set_value test es w) c.in_err-offer-in-Some.ensures.err
+    ∙ set_value_same test es c.in-Some.choice.now (sym c.in-Some.ensures.value)
+    ∙ c.self.view_is
     in
     MatchResult-from_err c.from_residual.result (λ _. Unit {0}) (λ _. (c.get_mut.follows.lender c.offer.new.self).entries ≡ c.args.self.now) c.from_residual.ensures.0 (λ _. unchanged)
 
