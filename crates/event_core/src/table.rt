@@ -1,6 +1,6 @@
 //! The routing table (RFC 2328, 11): for each network at most one item, found by the network or by
 //! the longest match of an address.
-ghost use Rattle.std.specs.Prelude.{◌≡◌, ◌≤◌, OnOk, OnErr, IfSome, IfNone, option_copied};
+ghost use Rattle.std.specs.Prelude.{◌≡◌, ◌≤◌, OnOk, OnErr, IfOk, IfSome, IfNone, option_copied};
 ghost use Rattle.std.specs.FinMap as map;
 ghost use Rattle.std.specs.List.Sorted.{IsStrictlySortedBy};
 ghost use Rattle.std.specs.Map.{keys_of};
@@ -196,7 +196,9 @@ mod tests {
         }
     }
 
-    fn networks(alloc: Global, table: &Table) -> Result<Vec<Prefix>, Memory> {
+    fn networks(alloc: Global, table: &Table) -> Result<Vec<Prefix>, Memory>
+        ensures { IfOk result (λ networks. networks.items ≡ keys_of (map.entries table.now.items)) }
+    {
         let mut networks = Vec::new(alloc);
         for (network, _) in table.items() {
             networks.push(network)?;
