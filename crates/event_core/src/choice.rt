@@ -4,6 +4,10 @@ ghost use Rattle.std.specs.Prelude.{◌≡◌, ◌++◌, ◌∷◌, [], List, On
 ghost use Rattle.std.specs.List.Sorted.{IsStrictlySortedBy};
 ghost use Rattle.std.specs.Map.{keys_of, lookup};
 ghost use Rattle.std.specs.BTreeMap.{is_at};
+ghost use Rattle.ospf_types.specs.Network.{Network, network_cmp};
+ghost use Rattle.ospf_types.specs.Intra.{AreaCost as CostInArea, area_cost_cmp};
+ghost use Rattle.ospf_types.specs.declared.hop.Path.{Path as PathValue};
+ghost use Rattle.ospf_types.specs.Hops.{path_cmp};
 ghost use Rattle.event_core.specs.Choices.{HasAlso, ChoosesFrom};
 
 use ospf_types::hop::Path;
@@ -40,7 +44,7 @@ impl ExactOrd for u32 {
 }
 
 /// The key of an intra-area route: the lesser cost first, and at one cost the greater area
-/// (RFC 2328, 16.4.1).
+/// (RFC 2328, 16.4).
 #[derive(Clone, Copy, Debug, PartialEq, Eq, PartialOrd, Ord)]
 pub(crate) struct AreaCost {
     cost: u32,
@@ -258,12 +262,25 @@ mod tests {
         }
     }
 
+    // One more path to a network, in the orders of the definitions.
+    fn offer_path(
+        choices: &mut Choices<Prefix, AreaCost, Path>,
+        to: Prefix,
+        key: AreaCost,
+        path: Path,
+    ) -> Result<(), Memory>
+        ensures { OnOk result ((offers : List (Network × CostInArea × PathValue)) → ChoosesFrom network_cmp area_cost_cmp path_cmp offers choices.old
+            → ChoosesFrom network_cmp area_cost_cmp path_cmp (offers ++ (to, key, path) ∷ []) choices.new) }
+    {
+        choices.offer(to, key, path)
+    }
+
     #[test]
     fn the_least_cost_keeps_all_its_paths_in_order(rt: HostRuntime) -> Result<(), Fail> {
         let to = prefix(&rt, 0xc000_0200, 24);
         let mut choices = Choices::new(rt.alloc());
         for (cost, interface) in [(20, 1), (10, 7), (10, 2), (10, 7), (30, 3)] {
-            choices.offer(to, AreaCost::new(cost, 0), direct(interface))?;
+            offer_path(&mut choices, to, AreaCost::new(cost, 0), direct(interface))?;
         }
         let choice = choices.get(&to).ok_or("no choice")?;
         assert_eq!(rt; *choice.key(), AreaCost::new(10, 0));
@@ -276,7 +293,7 @@ mod tests {
         let to = prefix(&rt, 0xc000_0200, 24);
         let mut choices = Choices::new(rt.alloc());
         for (area, interface) in [(1, 1), (3, 3), (2, 2)] {
-            choices.offer(to, AreaCost::new(10, area), direct(interface))?;
+            offer_path(&mut choices, to, AreaCost::new(10, area), direct(interface))?;
         }
         let choice = choices.get(&to).ok_or("no choice")?;
         assert_eq!(rt; choice.key().cost(), 10);
