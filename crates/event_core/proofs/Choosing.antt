@@ -1,16 +1,17 @@
 -- One more offer, and what is chosen then.
-use Rattle.std.proofs.Common.{◌≡◌, ◌≢◌, Bool, true, false, cond, List, [], ◌∷◌, ◌++◌, Option, Some, None, Ordering, refl, sym, ap, subst, ◌∙◌, inl, inr, ⊎_elim, ◌⊎◌, arith}
+use Rattle.std.proofs.Common.{◌≡◌, ◌≢◌, true, false, cond, List, [], ◌∷◌, ◌++◌, get_or, Option, Some, None, Ordering, refl, sym, ap, subst, ◌∙◌, inl, inr, ⊎_elim, ◌⊎◌, arith}
 use Rattle.std.specs.declared.cmp.Ordering.TheVariants.{Less, Equal, Greater}
-use Rattle.std.specs.Ordering.{ordering_reverse, is_eq, eq_by_cmp}
-use Rattle.std.specs.Cmp.{IsTotalOrder}
+use Rattle.std.specs.Ordering.{ordering_reverse, is_eq}
+use Rattle.std.specs.Cmp.{IsTotalOrder, eq_by_cmp_equiv}
 use Rattle.std.specs.FinMap.{IsAntisymmetric}
-use Rattle.std.specs.List.{Contains}
+use Rattle.std.specs.List.{All, Contains}
 use Rattle.std.specs.List.Sorted.{IsStrictlySortedBy}
-use Rattle.std.specs.Map.{lookup}
+use Rattle.std.specs.Map.{keys_of, lookup}
 use Rattle.std.specs.BTreeMap.{is_at}
 use Rattle.std.proofs.lemmas.Cmp.{tied_itself}
-use Rattle.std.proofs.lemmas.List.Elements.{Contains-append_left, Contains-push, Contains-push_cases}
-use Rattle.std.proofs.lemmas.Map.Views.{tells_apart}
+use Rattle.std.proofs.lemmas.List.Elements.{Contains-append_left, Contains-push, Contains-push_cases, Contains-get_or}
+use Rattle.std.proofs.lemmas.Map.Views.{tells_apart, lookup-from_Contains}
+use Rattle.std.proofs.lemmas.Map.Keys.{IsDistinct-from_sorted}
 use Rattle.ospf_types.specs.Best.{IsBest, NoOffer}
 use Rattle.event_core.specs.Choices.{Chosen, HasAlso, IsOffered, IsChosen, ChoosesFrom}
 use Rattle.event_core.proofs.InOrder.{only_item}
@@ -136,3 +137,11 @@ module _ {K X : Type 0} (R : K → K → Ordering) (S : X → X → Ordering) (o
     chooses_more b stood lesser tied greater in_order offers old =
         let was : IsChosen R S (IsOffered offers d) (Some b) = rw stood at (old d) in
         placed offers (more (IsOffered offers d) (IsOffered (offers ++ (d, key, item) ∷ []) d) key item (offered_adds offers d key item) b c lesser tied greater in_order was) old
+
+  module _ {D : Type 0} {Q : D → D → Ordering} (q_total : IsTotalOrder Q) (offers : List (D × K × X)) (es : List (D × Chosen K X)) (sorted : IsStrictlySortedBy Q (keys_of es)) (chooses : ChoosesFrom Q R S offers es) where
+    -- what stands among the choices is the best of the offers to its destination
+    pub chosen_at : (d : D) (c : Chosen K X) → Contains es (d, c) → IsChosen R S (IsOffered offers d) (Some c)
+    chosen_at d c stands = rw (lookup-from_Contains (eq_by_cmp_equiv q_total) d c es (IsDistinct-from_sorted Q (keys_of es) sorted) stands) at (chooses d)
+
+    pub all_chosen : All (λ e. IsChosen R S (IsOffered offers e.0) (Some e.1)) es
+    all_chosen k e below = chosen_at (get_or es k e).0 (get_or es k e).1 (Contains-get_or es k e below)

@@ -4,6 +4,10 @@ ghost use Rattle.std.specs.Prelude.{◌≡◌, ◌++◌, ◌∷◌, [], List, On
 ghost use Rattle.std.specs.List.Sorted.{IsStrictlySortedBy};
 ghost use Rattle.std.specs.Map.{keys_of, lookup};
 ghost use Rattle.std.specs.BTreeMap.{is_at};
+ghost use Rattle.ospf_types.specs.Network.{Network, network_cmp};
+ghost use Rattle.ospf_types.specs.Intra.{AreaCost as CostInArea, area_cost_cmp};
+ghost use Rattle.ospf_types.specs.declared.hop.Path.{Path as PathValue};
+ghost use Rattle.ospf_types.specs.Hops.{path_cmp};
 ghost use Rattle.event_core.specs.Choices.{HasAlso, ChoosesFrom};
 
 use ospf_types::hop::Path;
@@ -27,6 +31,12 @@ impl ExactOrd for Prefix {
     ghost exact = { network_exact };
 }
 
+impl ExactOrd for Path {
+    ghost use Rattle.ospf_types.proofs.Paths.{path_order_exact};
+
+    ghost exact = { path_order_exact };
+}
+
 impl ExactOrd for u32 {
     ghost use Rattle.std.proofs.lemmas.Map.Lookups.{exact_unsigned};
 
@@ -34,7 +44,7 @@ impl ExactOrd for u32 {
 }
 
 /// The key of an intra-area route: the lesser cost first, and at one cost the greater area
-/// (RFC 2328, 16.4.1).
+/// (RFC 2328, 16.4).
 #[derive(Clone, Copy, Debug, PartialEq, Eq, PartialOrd, Ord)]
 pub(crate) struct AreaCost {
     cost: u32,
@@ -49,6 +59,12 @@ impl Model for AreaCost {
     ghost view = { λ k. (k.cost, k.area.0) };
 
     ghost inverse = { λ k. record { cost = k.0; area = record { 0 = k.1 } } };
+}
+
+impl ExactOrd for AreaCost {
+    ghost use Rattle.ospf_types.proofs.Orders.{area_cost_exact};
+
+    ghost exact = { area_cost_exact };
 }
 
 impl AreaCost {
@@ -93,6 +109,20 @@ impl<K, X> Model for Choice<K, X> {
 }
 
 impl<K, X> Choice<K, X> {
+    /// The least key.
+    pub(crate) fn key(&self) -> &K
+        ensures { result.now ≡ self.now.key }
+    {
+        &self.key
+    }
+
+    /// What was offered at the key.
+    pub(crate) fn items(&self) -> &[X]
+        ensures { result.now ≡ self.now.items }
+    {
+        self.items.as_slice()
+    }
+
     /// The key, and what was offered at it.
     pub(crate) fn into_parts(self) -> (K, Vec<X>)
         ensures key { result.0 ≡ self.key }
@@ -211,5 +241,83 @@ impl<D: ExactOrd + Drop, K: ExactOrd + Drop, X: ExactOrd + Drop> Choices<D, K, X
     {
         let Choices { alloc: _, chosen } = self;
         chosen.into_iter()
+    }
+}
+
+#[cfg(test)]
+mod tests {
+    use super::*;
+    use ospf_types::hop::NextHop;
+    use std::process::Abort;
+    use std::test::Fail;
+
+    fn prefix(rt: &impl Abort, address: u32, length: u8) -> Prefix {
+        Prefix::new(address, length).expect(rt, "at most 32")
+    }
+
+    fn direct(interface: u8) -> Path {
+        Path {
+            hop: NextHop::Direct(interface),
+            advertiser: None,
+        }
+    }
+
+    // One more path to a network, in the orders of the definitions.
+    fn offer_path(
+        choices: &mut Choices<Prefix, AreaCost, Path>,
+        to: Prefix,
+        key: AreaCost,
+        path: Path,
+    ) -> Result<(), Memory>
+        ensures { OnOk result ((offers : List (Network × CostInArea × PathValue)) → ChoosesFrom network_cmp area_cost_cmp path_cmp offers choices.old
+            → ChoosesFrom network_cmp area_cost_cmp path_cmp (offers ++ (to, key, path) ∷ []) choices.new) }
+    {
+        choices.offer(to, key, path)
+    }
+
+    #[test]
+    fn the_least_cost_keeps_all_its_paths_in_order(rt: HostRuntime) -> Result<(), Fail> {
+        let to = prefix(&rt, 0xc000_0200, 24);
+        let mut choices = Choices::new(rt.alloc());
+        for (cost, interface) in [(20, 1), (10, 7), (10, 2), (10, 7), (30, 3)] {
+            offer_path(&mut choices, to, AreaCost::new(cost, 0), direct(interface))?;
+        }
+        let choice = choices.get(&to).ok_or("no choice")?;
+        assert_eq!(rt; *choice.key(), AreaCost::new(10, 0));
+        assert_eq!(rt; choice.items(), [direct(2), direct(7)].as_slice());
+        Ok(())
+    }
+
+    #[test]
+    fn at_one_cost_the_greater_area_is_chosen(rt: HostRuntime) -> Result<(), Fail> {
+        let to = prefix(&rt, 0xc000_0200, 24);
+        let mut choices = Choices::new(rt.alloc());
+        for (area, interface) in [(1, 1), (3, 3), (2, 2)] {
+            offer_path(&mut choices, to, AreaCost::new(10, area), direct(interface))?;
+        }
+        let choice = choices.get(&to).ok_or("no choice")?;
+        assert_eq!(rt; choice.key().cost(), 10);
+        assert_eq!(rt; choice.key().area(), 3);
+        assert_eq!(rt; choice.items(), [direct(3)].as_slice());
+        Ok(())
+    }
+
+    #[test]
+    fn destinations_come_in_ascending_order(rt: HostRuntime) -> Result<(), Fail> {
+        let mut choices = Choices::new(rt.alloc());
+        for (to, cost, item) in [(7u32, 5u32, 70u32), (3, 9, 30), (7, 5, 71), (3, 8, 31)] {
+            choices.offer(to, cost, item)?;
+        }
+        let mut entries = choices.into_entries();
+        let (to, first) = entries.next().ok_or("no first")?;
+        let (cost, items) = first.into_parts();
+        assert_eq!(rt; (to, cost), (3, 8));
+        assert_eq!(rt; items.as_slice(), [31].as_slice());
+        let (to, second) = entries.next().ok_or("no second")?;
+        let (cost, items) = second.into_parts();
+        assert_eq!(rt; (to, cost), (7, 5));
+        assert_eq!(rt; items.as_slice(), [70, 71].as_slice());
+        assert!(rt; entries.next().is_none());
+        Ok(())
     }
 }

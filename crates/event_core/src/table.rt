@@ -1,6 +1,6 @@
 //! The routing table (RFC 2328, 11): for each network at most one item, found by the network or by
 //! the longest match of an address.
-ghost use Rattle.std.specs.Prelude.{◌≡◌, ◌≤◌, OnOk, OnErr, IfSome, IfNone, option_copied};
+ghost use Rattle.std.specs.Prelude.{◌≡◌, ◌≤◌, OnOk, OnErr, IfOk, IfSome, IfNone, option_copied};
 ghost use Rattle.std.specs.FinMap as map;
 ghost use Rattle.std.specs.List.Sorted.{IsStrictlySortedBy};
 ghost use Rattle.std.specs.Map.{keys_of};
@@ -163,5 +163,97 @@ impl Table {
             Item::Route(entry) => Some(Match::Route(prefix, entry)),
             Item::Discard => Some(Match::Discard(prefix)),
         }
+    }
+}
+
+#[cfg(test)]
+mod tests {
+    use super::*;
+    use ospf_types::entry::{PathType, Paths};
+    use std::process::Abort;
+    use std::test::Fail;
+
+    fn prefix(rt: &impl Abort, address: u32, length: u8) -> Prefix {
+        Prefix::new(address, length).expect(rt, "at most 32")
+    }
+
+    fn route(alloc: Global, cost: u32) -> Item {
+        Item::Route(Entry {
+            kind: PathType::Intra,
+            area: Some(0),
+            cost,
+            cost2: 0,
+            paths: Paths::new(Vec::new(alloc)),
+        })
+    }
+
+    // The matched network, and the cost of a route.
+    fn told(found: Match<'_>) -> Option<(Prefix, Option<u32>)> {
+        match found {
+            Match::Route(prefix, entry) => Some((prefix, Some(entry.cost))),
+            Match::Discard(prefix) => Some((prefix, None)),
+            Match::None => None,
+        }
+    }
+
+    fn networks(alloc: Global, table: &Table) -> Result<Vec<Prefix>, Memory>
+        ensures { IfOk result (λ networks. networks.items ≡ keys_of (map.entries table.now.items)) }
+    {
+        let mut networks = Vec::new(alloc);
+        for (network, _) in table.items() {
+            networks.push(network)?;
+        }
+        Ok(networks)
+    }
+
+    #[test]
+    fn the_longest_match_decides(rt: HostRuntime) -> Result<(), Fail> {
+        let whole = prefix(&rt, 0, 0);
+        let net = prefix(&rt, 0xc000_0200, 24);
+        let half = prefix(&rt, 0xc000_0280, 25);
+        let host = prefix(&rt, 0xc000_02c8, 32);
+        let mut table = Table::new(rt.alloc(), 4);
+        table.set(host, route(rt.alloc(), 32))?;
+        table.set(net, route(rt.alloc(), 24))?;
+        table.set(whole, route(rt.alloc(), 1))?;
+        table.set(half, Item::Discard)?;
+        assert_eq!(rt; told(table.lookup(0xc000_02c8)), Some((host, Some(32))));
+        assert_eq!(rt; told(table.lookup(0xc000_02c9)), Some((half, None)));
+        assert_eq!(rt; told(table.lookup(0xc000_0201)), Some((net, Some(24))));
+        assert_eq!(rt; told(table.lookup(0xffff_ffff)), Some((whole, Some(1))));
+        assert_eq!(rt; table.serial(), 4);
+        Ok(())
+    }
+
+    #[test]
+    fn a_route_under_a_discard_is_used(rt: HostRuntime) -> Result<(), Fail> {
+        let range = prefix(&rt, 0x0a01_0000, 16);
+        let net = prefix(&rt, 0x0a01_0200, 24);
+        let mut table = Table::new(rt.alloc(), 2);
+        assert_eq!(rt; told(table.lookup(0x0a01_0203)), None);
+        table.set(range, Item::Discard)?;
+        table.set(net, route(rt.alloc(), 7))?;
+        assert_eq!(rt; told(table.lookup(0x0a01_0203)), Some((net, Some(7))));
+        assert_eq!(rt; told(table.lookup(0x0a01_0303)), Some((range, None)));
+        assert_eq!(rt; told(table.lookup(0x0a02_0203)), None);
+        Ok(())
+    }
+
+    #[test]
+    fn items_ascend_and_are_found_by_their_network(rt: HostRuntime) -> Result<(), Fail> {
+        let short = prefix(&rt, 0x0a00_0000, 8);
+        let long = prefix(&rt, 0x0a00_0000, 16);
+        let last = prefix(&rt, 0x0b00_0000, 8);
+        let mut table = Table::new(rt.alloc(), 0);
+        for network in [last, long, short] {
+            table.set(network, Item::Discard)?;
+        }
+        table.set(long, route(rt.alloc(), 3))?;
+        let networks = networks(rt.alloc(), &table)?;
+        assert_eq!(rt; networks.as_slice(), [short, long, last].as_slice());
+        assert!(rt; matches!(table.get(short), Some(Item::Discard)));
+        assert!(rt; matches!(table.get(long), Some(Item::Route(_))));
+        assert!(rt; table.get(prefix(&rt, 0x0a00_0000, 9)).is_none());
+        Ok(())
     }
 }

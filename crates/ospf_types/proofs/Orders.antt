@@ -1,12 +1,17 @@
--- The orders of networks, keys, next hops and paths are total, and only equal values tie.
-use Rattle.std.proofs.Common.{ℕ, ap}
+-- The orders of networks, keys, costs in areas, next hops and paths are total, and only equal values tie.
+use Rattle.std.proofs.Common.{◌≡◌, ℕ, Option, Some, None, sym, ap, arith}
 use Rattle.std.specs.Ordering.{nat_cmp, ordering_then}
 use Rattle.std.specs.Cmp.{IsTotalOrder, nat_cmp_total}
 use Rattle.std.proofs.lemmas.Cmp.{on_total, then_total}
 use Rattle.std.proofs.lemmas.Map.Lookups.{CmpEqualImpliesEq, exact_pairs, exact_unsigned}
+use Rattle.ospf_types.specs.declared.hop.NextHop.{NextHop}
+use Rattle.ospf_types.specs.declared.hop.NextHop.TheVariants.{Direct, Peer, Router}
+use Rattle.ospf_types.specs.declared.hop.Path.{Path}
 use Rattle.ospf_types.specs.declared.key.Key.{Key}
 use Rattle.ospf_types.specs.Network.{Network, network_cmp}
 use Rattle.ospf_types.specs.Keys.{key_cmp}
+use Rattle.ospf_types.specs.Intra.{area_cost_cmp}
+use Rattle.ospf_types.specs.Hops.{hop_rank, hop_cmp, advertiser_rank, advertiser_cmp, path_cmp}
 
 pub network_total : IsTotalOrder network_cmp
 network_total = then_total (on_total (λ p. p.address) nat_cmp_total) (on_total (λ p. p.length) nat_cmp_total)
@@ -21,3 +26,47 @@ pub key_exact : CmpEqualImpliesEq key_cmp
 key_exact a b h =
     ap (λ (p : ℕ × (ℕ × ℕ)). let k : Key = record { kind = p.0; id = p.1.0; router = p.1.1 } in k)
     (exact_pairs nat_cmp (λ (x y : ℕ × ℕ). ordering_then (nat_cmp x.0 y.0) (nat_cmp x.1 y.1)) exact_unsigned (exact_pairs nat_cmp nat_cmp exact_unsigned exact_unsigned) (a.kind, (a.id, a.router)) (b.kind, (b.id, b.router)) h)
+
+pub area_cost_exact : CmpEqualImpliesEq area_cost_cmp
+area_cost_exact a b h = exact_pairs nat_cmp (λ x y. nat_cmp y x) exact_unsigned (λ x y h. sym (exact_unsigned y x h)) a b h
+
+hop_total : IsTotalOrder hop_cmp
+hop_total = then_total (on_total (λ h. (hop_rank h).0) nat_cmp_total) (then_total (on_total (λ h. (hop_rank h).1) nat_cmp_total) (on_total (λ h. (hop_rank h).2) nat_cmp_total))
+
+advertiser_total : IsTotalOrder advertiser_cmp
+advertiser_total = then_total (on_total (λ a. (advertiser_rank a).0) nat_cmp_total) (on_total (λ a. (advertiser_rank a).1) nat_cmp_total)
+
+pub path_total : IsTotalOrder path_cmp
+path_total = then_total (on_total (λ p. p.hop) hop_total) (on_total (λ p. p.advertiser) advertiser_total)
+
+-- next hops of one rank are one
+same_hop : (x y : NextHop) → (hop_rank x).0 ≡ (hop_rank y).0 → (hop_rank x).1 ≡ (hop_rank y).1 → (hop_rank x).2 ≡ (hop_rank y).2 → x ≡ y
+same_hop (Direct a) (Direct b) kind id address = ap Direct id
+same_hop (Direct a) (Peer b) kind id address = absurd (omega arith)
+same_hop (Direct a) (Router b d) kind id address = absurd (omega arith)
+same_hop (Peer a) (Direct b) kind id address = absurd (omega arith)
+same_hop (Peer a) (Peer b) kind id address = ap Peer id
+same_hop (Peer a) (Router b d) kind id address = absurd (omega arith)
+same_hop (Router a c) (Direct b) kind id address = absurd (omega arith)
+same_hop (Router a c) (Peer b) kind id address = absurd (omega arith)
+same_hop (Router a c) (Router b d) kind id address = λ i. Router (id i) (address i)
+
+same_advertiser : (x y : Option ℕ) → (advertiser_rank x).0 ≡ (advertiser_rank y).0 → (advertiser_rank x).1 ≡ (advertiser_rank y).1 → x ≡ y
+same_advertiser None None there router = λ _. None
+same_advertiser None (Some y) there router = absurd (omega arith)
+same_advertiser (Some x) None there router = absurd (omega arith)
+same_advertiser (Some x) (Some y) there router = ap Some router
+
+hop_exact : CmpEqualImpliesEq hop_cmp
+hop_exact x y h =
+    let e = exact_pairs nat_cmp (λ (x y : ℕ × ℕ). ordering_then (nat_cmp x.0 y.0) (nat_cmp x.1 y.1)) exact_unsigned (exact_pairs nat_cmp nat_cmp exact_unsigned exact_unsigned) ((hop_rank x).0, ((hop_rank x).1, (hop_rank x).2)) ((hop_rank y).0, ((hop_rank y).1, (hop_rank y).2)) h in
+    same_hop x y (ap (λ (p : ℕ × (ℕ × ℕ)). p.0) e) (ap (λ (p : ℕ × (ℕ × ℕ)). p.1.0) e) (ap (λ (p : ℕ × (ℕ × ℕ)). p.1.1) e)
+
+advertiser_exact : CmpEqualImpliesEq advertiser_cmp
+advertiser_exact x y h =
+    let e = exact_pairs nat_cmp nat_cmp exact_unsigned exact_unsigned (advertiser_rank x) (advertiser_rank y) h in
+    same_advertiser x y (ap (λ (p : ℕ × ℕ). p.0) e) (ap (λ (p : ℕ × ℕ). p.1) e)
+
+pub path_exact : CmpEqualImpliesEq path_cmp
+path_exact x y h =
+    ap (λ (p : NextHop × Option ℕ). let r : Path = record { hop = p.0; advertiser = p.1 } in r) (exact_pairs hop_cmp advertiser_cmp hop_exact advertiser_exact (x.hop, x.advertiser) (y.hop, y.advertiser) h)
