@@ -1,7 +1,10 @@
 -- What a change to one field of a state, which memory may refuse, leaves of the state.
-use Rattle.std.proofs.Common.{◌≡◌, ℕ, ◌<◌, Bool, true, false, List, length, get_or, set, Option, Some, None, sym, ap, subst}
-use Rattle.std.specs.Prelude.{Result, Ok, Err, IfOk, OnOk, OnErr, option_map, ◌↔◌}
+use Rattle.std.proofs.Common.{◌≡◌, ℕ, ◌<◌, Bool, true, false, List, length, get_or, set, Option, [], Some, None, sym, ap, ◌∙◌, subst}
+use Rattle.std.specs.Prelude.{Result, Ok, Err, IfOk, OnOk, OnErr, option_map, ◌↔◌, ◌==◌}
 use Rattle.std.specs.FinMap.{get, insert, empty}
+use Rattle.std.proofs.lemmas.List.{length-set}
+use Rattle.std.proofs.lemmas.List.Quantifiers.{position-Some}
+use Rattle.ospf_types.specs.declared.config.AreaConfig.{AreaConfig}
 use Rattle.ospf_types.specs.declared.config.Config.{Config}
 use Rattle.ospf_types.specs.declared.config.Interface.{Interface}
 use Rattle.ospf_types.specs.declared.key.Scope.TheVariants as scope
@@ -42,3 +45,12 @@ module _ (s : State) where
       → IfOk r (λ changed. (changed ≡ false) ↔ LooksAlike s (with_interface s id i))
   interface_looks (Ok changed) id i alike = (λ e. (looks_interface s id i).0 (alike.0 e), λ looks. alike.1 ((looks_interface s id i).1 looks))
   interface_looks (Err e) id i alike = tt
+
+-- an install leaves as many databases as there were
+pub installed_length : (r : Result Bool Memory) (databases new : List Database) (k : ℕ) (l : Lsa) → OnErr r (new ≡ databases) → OnOk r (new ≡ set databases k (insert (get_or databases k empty) (key_of l) l)) → length new ≡ length databases
+installed_length (Ok changed) databases new k l kept done = ap length done ∙ length-set databases k (insert (get_or databases k empty) (key_of l) l)
+installed_length (Err e) databases new k l kept done = ap length kept
+
+-- the place of an area is among them
+pub place_within : (areas : List AreaConfig) (id k : ℕ) → place_of areas id ≡ Some k → k < length areas
+place_within areas id k e = (position-Some (λ (a : AreaConfig). a.id == id) areas k (record { id = 0; stub = None; ranges = [] }) e).0

@@ -5,3 +5,4 @@ pub mod Held
 pub mod Refusals
 pub mod Choices
 pub mod Tables
+pub mod Right

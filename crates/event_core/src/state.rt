@@ -9,6 +9,7 @@ ghost use Rattle.lsa_codec.specs.Spelling.{IsLegal};
 ghost use Rattle.event_core.specs.Databases.{contents_of, all_aged, IsUsedAlike, NoneComes};
 ghost use Rattle.event_core.specs.States.{AreApart, LooksAlike, place_of, database_of, interfaces_of};
 ghost use Rattle.event_core.specs.Steps.{IsSuited, changed_by, with_interface, refusal_of, step, opening, is_stub_only, is_edge_kind, has_address, limit_of};
+ghost use Rattle.event_core.specs.Held.{IsHeld};
 ghost use Rattle.event_core.specs.Refusals.{IsRefusalOf};
 
 use crate::database::Database;
@@ -22,7 +23,7 @@ use ospf_types::key::Scope;
 use ospf_types::lsa::{LinkKind, MAX_AGE, Newer};
 use ospf_types::memory::Memory;
 use std::alloc::Global;
-use std::collections::BTreeMap;
+use std::collections::{BTreeMap, btree_map};
 use std::marker::Model;
 
 /// The link-state databases, the interfaces, and the journal of the events that made them.
@@ -86,9 +87,17 @@ impl State {
     }
 
     pub(crate) fn config(&self) -> &Config
-        ensures { result.now ≡ self.now.config }
+        ensures value { result.now ≡ self.now.config }
+        ensures held { IsHeld self.now.config self.now.databases self.now.externals }
     {
         &self.config
+    }
+
+    /// The interfaces with their ids, ascending by these.
+    pub(crate) fn interfaces(&self) -> btree_map::Iter<'_, u8, Interface>
+        ensures { result ≡ map.entries self.now.interfaces }
+    {
+        self.interfaces.iter()
     }
 
     pub(crate) fn journal(&self) -> &[Event]
@@ -382,7 +391,10 @@ fn is_used_otherwise(held: Option<&Checked>, lsa: &Checked) -> bool
     let usable = lsa.header().age < MAX_AGE;
     match held {
         None => usable,
-        Some(held) => (usable || held.header().age < MAX_AGE) && contents_differ(held, lsa),
+        Some(held) => {
+            let was_usable = held.header().age < MAX_AGE;
+            (was_usable | usable) && contents_differ(held, lsa)
+        }
     }
 }
 
