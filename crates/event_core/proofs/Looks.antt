@@ -18,10 +18,11 @@ use Rattle.ospf_types.specs.declared.key.Scope.TheVariants as scope
 use Rattle.ospf_types.specs.Keys.{key_cmp}
 use Rattle.ospf_types.specs.Lsa.{Lsa, Body, key_of}
 use Rattle.ospf_types.proofs.Orders.{key_total, key_exact}
+use Rattle.event_core.specs.declared.event.Event.{Event}
 use Rattle.event_core.specs.declared.event.Event.TheVariants as event
 use Rattle.event_core.specs.Databases.{Database, all_aged, contents_of, NoneComes, IsUsedAlike}
-use Rattle.event_core.specs.States.{State, LooksAlike, AreApart, place_of, at_place, usable_at}
-use Rattle.event_core.specs.Steps.{changed_by}
+use Rattle.event_core.specs.States.{State, LooksAlike, AreApart, place_of, at_place, database_of, usable_at}
+use Rattle.event_core.specs.Steps.{changed_by, with_lsa}
 use Rattle.event_core.specs.Held.{IsHeld}
 use Rattle.event_core.proofs.Seconds.{none_same, same_none, all_aged_empty}
 
@@ -146,3 +147,46 @@ looks_interface s id i = (
     λ looks. ap (λ (m : FinMap nat_cmp Interface). get m id) looks.interfaces ∙ get-insert nat_cmp_total s.interfaces id i id
         ∙ ap (λ o. cond (is_eq o) (Some i) (get s.interfaces id)) (tied_itself nat_cmp_total id),
   )
+
+-- ---- the journal
+
+usable_journal : (s : State) (journal : List Event) (at : Scope) (key : Key) → usable_at (record s { journal = journal }) at key ≡ usable_at s at key
+usable_journal s journal (scope.Area id) key = refl
+usable_journal s journal scope.As key = refl
+
+at_place_journal : (s : State) (journal : List Event) (o : Option ℕ) (d : Database) → at_place (record s { journal = journal }) o d ≡ record (at_place s o d) { journal = journal }
+at_place_journal s journal None d = refl
+at_place_journal s journal (Some k) d = refl
+
+installed_journal : (s : State) (journal : List Event) (id : ℕ) (l : Lsa) (o : Option Database)
+    → with_lsa (record s { journal = journal }) (scope.Area id) l o ≡ record (with_lsa s (scope.Area id) l o) { journal = journal }
+installed_journal s journal id l None = refl
+installed_journal s journal id l (Some d) = at_place_journal s journal (place_of s.config.areas id) (insert d (key_of l) l)
+
+-- what an event does to the databases and interfaces does not depend on the journal
+pub changed_journal : (s : State) (journal : List Event) (e : Event) → changed_by (record s { journal = journal }) e ≡ record (changed_by s e) { journal = journal }
+changed_journal s journal (event.Install (scope.Area id) l) = installed_journal s journal id l (database_of s (scope.Area id))
+changed_journal s journal (event.Install scope.As l) = refl
+changed_journal s journal (event.Interface id area address peer up) = refl
+changed_journal s journal event.Second = refl
+
+module _ (s : State) (journal : List Event) (e : Event) where
+  -- nor does what it looks like afterwards
+  pub looks_journal : LooksAlike (record s { journal = journal }) (changed_by (record s { journal = journal }) e) → LooksAlike s (changed_by s e)
+  looks_journal looks = record {
+    usable = λ at key. sym (usable_journal s journal at key) ∙ looks.usable at key ∙ ap (λ (t : State). usable_at t at key) (changed_journal s journal e) ∙ usable_journal (changed_by s e) journal at key;
+    interfaces = looks.interfaces ∙ ap (λ (t : State). t.interfaces) (changed_journal s journal e);
+  }
+
+  pub looks_with_journal : LooksAlike s (changed_by s e) → LooksAlike (record s { journal = journal }) (changed_by (record s { journal = journal }) e)
+  looks_with_journal looks = record {
+    usable = λ at key. usable_journal s journal at key ∙ looks.usable at key ∙ sym (ap (λ (t : State). usable_at t at key) (changed_journal s journal e) ∙ usable_journal (changed_by s e) journal at key);
+    interfaces = looks.interfaces ∙ sym (ap (λ (t : State). t.interfaces) (changed_journal s journal e));
+  }
+
+  -- nor what it looks like with the event in the journal
+  pub looks_step : LooksAlike s (changed_by s e) ↔ LooksAlike s (record (changed_by s e) { journal = journal })
+  looks_step = (
+      λ looks. record { usable = λ at key. looks.usable at key ∙ sym (usable_journal (changed_by s e) journal at key); interfaces = looks.interfaces },
+      λ looks. record { usable = λ at key. looks.usable at key ∙ usable_journal (changed_by s e) journal at key; interfaces = looks.interfaces },
+    )
