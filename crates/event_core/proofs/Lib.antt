@@ -11,3 +11,5 @@ pub mod Looks
 pub mod InPlace
 pub mod Changes
 pub mod ContentsOf
+pub mod Configs
+pub mod Runs

@@ -6,3 +6,6 @@ pub mod Refusals
 pub mod Choices
 pub mod Tables
 pub mod Right
+pub mod Configs
+pub mod Cores
+pub mod Kept

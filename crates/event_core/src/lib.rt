@@ -3,14 +3,18 @@
 #![tactic(auto)]
 
 mod choice;
+mod config_fault;
+mod core_state;
 mod database;
 mod event;
 mod limits;
 mod order;
 mod refusal;
+mod routes;
 mod state;
 pub mod table;
 
+pub use core_state::Core;
 pub use event::{Event, Reply, Standing};
 pub use limits::Limits;
 pub use refusal::{ConfigFault, Refusal};

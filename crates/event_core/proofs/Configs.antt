@@ -1,0 +1,66 @@
+-- What a configuration without a fault is.
+use Rattle.std.proofs.Common.{◌≡◌, ◌≢◌, ℕ, zero, suc, ◌<◌, ◌≤◌, Bool, true, false, cond, List, [], ◌∷◌, length, get_or, Option, Some, None, All, refl, sym, ap, ◌∙◌, arith, inl, inr}
+use Rattle.std.specs.Prelude.{◌==◌, ◌||◌, nat_lt}
+use Rattle.std.specs.List.{list_any}
+use Rattle.std.proofs.lemmas.Bool.Decides.{nat_tests, eqb_tells}
+use Rattle.std.proofs.lemmas.List.{nil_from_length}
+use Rattle.ospf_types.specs.declared.config.Config.{Config}
+use Rattle.ospf_types.specs.declared.config.AreaConfig.{AreaConfig}
+use Rattle.event_core.specs.declared.refusal.ConfigFault.TheVariants as fault
+use Rattle.event_core.specs.Steps.{first_of}
+use Rattle.event_core.specs.States.{AreApart}
+use Rattle.event_core.specs.Configs.{fault_of, has_alike, has_wrong_areas, has_overlap, is_stub_backbone, is_costly, HasNoRanges}
+
+-- where no line of the table holds, its first and its last do not
+none_of_six : (a b c d f g : Bool) → first_of ((a, fault.Areas) ∷ (b, fault.RangesOverlap) ∷ (c, fault.BackboneStub) ∷ (d, fault.Cost) ∷ (f, fault.RangeCount) ∷ (g, fault.NotYet) ∷ []) ≡ None → (a ≡ false) × (g ≡ false)
+none_of_six true b c d f g e = absurd cc
+none_of_six false true c d f g e = absurd cc
+none_of_six false false true d f g e = absurd cc
+none_of_six false false false true f g e = absurd cc
+none_of_six false false false false true g e = absurd cc
+none_of_six false false false false false true e = absurd cc
+none_of_six false false false false false false e = (refl, refl)
+
+tests_false : (config : Config) → fault_of config ≡ None → (has_wrong_areas config.areas ≡ false) × (list_any (λ a. nat_lt 0 (length a.ranges)) config.areas ≡ false)
+tests_false config e =
+    none_of_six (has_wrong_areas config.areas) (list_any (λ a. has_overlap a.ranges) config.areas) (list_any is_stub_backbone config.areas)
+    (list_any (λ a. is_costly a.stub) config.areas) (list_any (λ a. nat_lt 32 (length a.ranges)) config.areas) (list_any (λ a. nat_lt 0 (length a.ranges)) config.areas) e
+
+left_false : (a b : Bool) → (a || b) ≡ false → (a ≡ false) × (b ≡ false)
+left_false true b e = absurd cc
+left_false false b e = (refl, e)
+
+-- no item passes a test that none of the list does
+none_passes : {X : Type 0} (p : X → Bool) (xs : List X) (k : ℕ) (d : X) → list_any p xs ≡ false → k < length xs → p (get_or xs k d) ≡ false
+none_passes p [] k d e lt = absurd (omega arith)
+none_passes p (x ∷ xs) zero d e lt = (left_false (p x) (list_any p xs) e).0
+none_passes p (x ∷ xs) (suc k) d e lt = none_passes p xs k d (left_false (p x) (list_any p xs) e).1 (omega arith)
+
+differs : (x y : ℕ) → (x == y) ≡ false → x ≢ y
+differs x y e same = elim (eqb_tells x y) [ inl t ↦ absurd (cc t.0) | inr t ↦ absurd (t.1 same) ]
+
+apart_from_alike : (areas : List AreaConfig) → has_alike areas ≡ false → AreApart areas
+apart_from_alike [] e i j d lt in' = absurd (omega arith)
+apart_from_alike (a ∷ areas) e zero zero d lt in' = absurd (omega arith)
+apart_from_alike (a ∷ areas) e zero (suc j) d lt in' =
+    let h = left_false (list_any (λ (b : AreaConfig). b.id == a.id) areas) (has_alike areas) e in
+    λ same. differs (get_or areas j d).id a.id (none_passes (λ (b : AreaConfig). b.id == a.id) areas j d h.0 (omega arith)) (sym same)
+apart_from_alike (a ∷ areas) e (suc i) zero d lt in' = absurd (omega arith)
+apart_from_alike (a ∷ areas) e (suc i) (suc j) d lt in' =
+    let h = left_false (list_any (λ (b : AreaConfig). b.id == a.id) areas) (has_alike areas) e in
+    apart_from_alike areas h.1 i j d (omega arith) (omega arith)
+
+-- no two areas have one Area ID
+pub sound_apart : (config : Config) → fault_of config ≡ None → AreApart config.areas
+sound_apart config e =
+    let h = left_false (length config.areas == 0) (nat_lt 16 (length config.areas) || has_alike config.areas) (tests_false config e).0 in
+    apart_from_alike config.areas (left_false (nat_lt 16 (length config.areas)) (has_alike config.areas) h.1).1
+
+none_short : (n : ℕ) → nat_lt 0 n ≡ false → n ≡ 0
+none_short n e = grind (arith, nat_tests)
+
+-- no area has a range
+pub sound_ranges : (config : Config) → fault_of config ≡ None → HasNoRanges config
+sound_ranges config e k area lt =
+    let short = none_passes (λ (x : AreaConfig). nat_lt 0 (length x.ranges)) config.areas k area (tests_false config e).1 lt in
+    nil_from_length (get_or config.areas k area).ranges (none_short (length (get_or config.areas k area).ranges) short)

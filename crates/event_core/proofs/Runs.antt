@@ -1,0 +1,90 @@
+-- Runs of events, and one event more.
+use Rattle.std.proofs.Common.{◌≡◌, ℕ, ◌+◌, ◌≤◌, List, [], ◌∷◌, ◌++◌, length, take, Option, Some, None, refl, sym, ap, subst, ◌∙◌, arith}
+use Rattle.std.specs.Prelude.{false, ◌↔◌}
+use Rattle.std.proofs.lemmas.List.{length-append, take-append-le}
+use Rattle.ospf_types.specs.declared.config.Config.{Config}
+use Rattle.ospf_types.specs.declared.key.Scope.{Scope}
+use Rattle.ospf_types.specs.declared.key.Scope.TheVariants as scope
+use Rattle.ospf_types.specs.Lsa.{Lsa, key_of}
+use Rattle.std.specs.FinMap.{insert}
+use Rattle.event_core.specs.declared.event.Event.{Event}
+use Rattle.event_core.specs.declared.event.Event.TheVariants as event
+use Rattle.event_core.specs.declared.limits.Limits.{Limits}
+use Rattle.event_core.specs.Databases.{Database}
+use Rattle.event_core.specs.States.{State, LooksAlike, place_of, at_place, database_of}
+use Rattle.event_core.specs.Steps.{step, changed_by, with_lsa, refusal_of, run_from, run_of, AreTaken}
+use Rattle.event_core.specs.Tables.{TableValue}
+use Rattle.event_core.specs.Right.{IsRight}
+use Rattle.event_core.specs.declared.event.Reply.{Reply}
+use Rattle.event_core.specs.declared.event.Standing.{Standing}
+use Rattle.event_core.specs.declared.event.Standing.TheVariants.{Current, Behind}
+use Rattle.event_core.specs.Cores.{CoreValue, IsCore, Takes, Stands, state_of}
+use Rattle.event_core.specs.Kept.{core_of, IsKept}
+
+-- what no event changes
+pub record SameSetting (s t : State) : Type 0 where
+  pub config : s.config ≡ t.config
+  pub limits : s.limits ≡ t.limits
+
+placed : (s : State) (o : Option ℕ) (d : Database) → SameSetting (at_place s o d) s
+placed s None d = record { config = refl; limits = refl }
+placed s (Some k) d = record { config = refl; limits = refl }
+
+installed : (s : State) (at : Scope) (l : Lsa) (o : Option Database) → SameSetting (with_lsa s at l o) s
+installed s at l None = record { config = refl; limits = refl }
+installed s (scope.Area id) l (Some d) = placed s (place_of s.config.areas id) (insert d (key_of l) l)
+installed s scope.As l (Some d) = record { config = refl; limits = refl }
+
+pub step_setting : (s : State) (e : Event) → SameSetting (step s e) s
+step_setting s (event.Install at l) = let h = installed s at l (database_of s at) in record { config = h.config; limits = h.limits }
+step_setting s (event.Interface id area address peer up) = record { config = refl; limits = refl }
+step_setting s event.Second = record { config = refl; limits = refl }
+
+pub run_push : (s : State) (events : List Event) (e : Event) → run_from s (events ++ e ∷ []) ≡ step (run_from s events) e
+run_push s [] e = refl
+run_push s (f ∷ events) e = run_push (step s f) events e
+
+pub taken_push : (s : State) (events : List Event) (e : Event) → AreTaken s events → refusal_of (run_from s events) e ≡ None → AreTaken s (events ++ e ∷ [])
+taken_push s [] e taken accepted = (accepted, tt)
+taken_push s (f ∷ events) e taken accepted = (taken.0, taken_push (step s f) events e taken.1 accepted)
+
+-- a run of the journal that is one event longer
+step_runs : (s : State) (e : Event) → s ≡ run_of s.config s.limits s.journal → step s e ≡ run_of s.config s.limits (s.journal ++ e ∷ [])
+step_runs s e run = ap (λ (t : State). step t e) run ∙ sym (run_push _ s.journal e)
+
+pub kept_step : (s : State) (t : TableValue) (built : ℕ) (e : Event) → IsKept s t built → refusal_of s e ≡ None → IsKept (step s e) t built
+kept_step s t built e kept accepted =
+    let setting = step_setting s e in
+    let runs : (config : Config) (limits : Limits) → config ≡ s.config → limits ≡ s.limits → step s e ≡ run_of config limits (s.journal ++ e ∷ []) = λ config limits p q. step_runs s e kept.run ∙ sym (λ i. run_of (p i) (q i) (s.journal ++ e ∷ [])) in
+    let core : IsCore (record { config = s.config; limits = s.limits; journal = s.journal ++ e ∷ []; built = built; table = t }) = record {
+      sound = kept.core.sound;
+      legal = taken_push _ s.journal e kept.core.legal (ap (λ (u : State). refusal_of u e) (sym kept.run) ∙ accepted);
+      within = omega (arith, kept.core.within, length-append s.journal (e ∷ []));
+      right = subst (λ (events : List Event). IsRight (run_of s.config s.limits events) t) (sym (take-append-le built s.journal (e ∷ []) kept.core.within)) kept.core.right;
+    } in
+    record {
+      run = runs (step s e).config (step s e).limits setting.config setting.limits;
+      core = subst (λ (c : CoreValue). IsCore c) (λ i. record { config = sym setting.config i; limits = sym setting.limits i; journal = s.journal ++ e ∷ []; built = built; table = t }) core;
+    }
+
+stands_same : (s u : State) (t : TableValue) (built : ℕ) (standing : Standing) (new : CoreValue) → Stands (core_of u t built) standing new → Stands (core_of s t built) standing new
+stands_same s u t built Current new h = h
+stands_same s u t built Behind new h = h
+
+-- a step of the state, and then a table that stands, take the event
+pub takes : (s u : State) (t : TableValue) (built : ℕ) (e : Event) (reply : Reply) (new : CoreValue) → IsKept s t built → u ≡ step s e → refusal_of s e ≡ None
+    → (reply.changed ≡ false) ↔ LooksAlike s u → new.journal ≡ u.journal → new.config ≡ u.config → new.limits ≡ u.limits → Stands (core_of u t built) reply.state new → reply.serial ≡ length new.journal
+    → Takes (core_of s t built) e reply new
+takes s u t built e reply new kept is accepted changed journal config limits stands serial =
+    let run_new : state_of new ≡ u = (λ i. run_of (config i) (limits i) (journal i)) ∙ sym (subst (λ (v : State). v ≡ run_of v.config v.limits v.journal) (sym is) (kept_step s t built e kept accepted).run) in
+    let looks : LooksAlike s u → LooksAlike (state_of (core_of s t built)) (state_of new) = λ l. subst (λ (v : State). LooksAlike v (state_of new)) kept.run (subst (λ (v : State). LooksAlike s v) (sym run_new) l) in
+    let back : LooksAlike (state_of (core_of s t built)) (state_of new) → LooksAlike s u = λ l. subst (λ (v : State). LooksAlike s v) run_new (subst (λ (v : State). LooksAlike v (state_of new)) (sym kept.run) l) in
+    record {
+      accepted = ap (λ (v : State). refusal_of v e) (sym kept.run) ∙ accepted;
+      joins = journal ∙ ap (λ (v : State). v.journal) is;
+      config = config ∙ ap (λ (v : State). v.config) is ∙ (step_setting s e).config;
+      limits = limits ∙ ap (λ (v : State). v.limits) is ∙ (step_setting s e).limits;
+      serial = serial;
+      changed = (λ p. looks (changed.0 p), λ l. changed.1 (back l));
+      stands = stands_same s u t built reply.state new stands;
+    }

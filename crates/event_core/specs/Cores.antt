@@ -1,0 +1,86 @@
+-- The core as its callers see it: the configuration, the events that were taken, and a table that is right for the first of them.
+use Rattle.std.specs.Prelude.{ℕ, ◌≡◌, ◌≤◌, ◌↔◌, ◌⊎◌, false, List, [], ◌∷◌, ◌++◌, take, length, Some, None, Result, Ok, Err}
+use Rattle.ospf_types.specs.declared.config.Config.{Config}
+use Rattle.event_core.specs.declared.event.Event.{Event}
+use Rattle.event_core.specs.declared.event.Reply.{Reply}
+use Rattle.event_core.specs.declared.event.Standing.{Standing}
+use Rattle.event_core.specs.declared.event.Standing.TheVariants.{Current, Behind}
+use Rattle.event_core.specs.declared.refusal.Refusal.{Refusal}
+use Rattle.event_core.specs.declared.refusal.ConfigFault.{ConfigFault}
+use Rattle.event_core.specs.declared.refusal.ConfigFault.TheVariants.{Memory}
+use Rattle.event_core.specs.declared.limits.Limits.{Limits}
+use Rattle.event_core.specs.Configs.{fault_of}
+use Rattle.event_core.specs.States.{State, LooksAlike}
+use Rattle.event_core.specs.Steps.{run_of, refusal_of, IsLegalList}
+use Rattle.event_core.specs.Refusals.{IsRefusalOf}
+use Rattle.event_core.specs.Tables.{TableValue}
+use Rattle.event_core.specs.Right.{IsRight}
+
+pub record CoreValue : Type 0 where
+  pub config : Config
+  pub limits : Limits
+  pub journal : List Event  -- the events that were taken
+  pub built : ℕ  -- the table is that of so many of them
+  pub table : TableValue
+
+-- the databases and interfaces now
+abbrev pub state_of : CoreValue → State
+state_of c = run_of c.config c.limits c.journal
+
+-- those that the table is of
+abbrev pub built_state : CoreValue → State
+built_state c = run_of c.config c.limits (take c.built c.journal)
+
+-- what holds of every core: its configuration has no fault, each event of the journal is taken in its turn, and the table is right for the first `built`
+pub record IsCore (c : CoreValue) : Type 0 where
+  pub sound : fault_of c.config ≡ None
+  pub legal : IsLegalList c.config c.limits c.journal
+  pub within : c.built ≤ length c.journal
+  pub right : IsRight (built_state c) c.table
+
+-- the table is that of the whole journal, or the one of before
+abbrev pub Stands : CoreValue → Standing → CoreValue → Type 0
+Stands old Current new = (new.built ≡ length new.journal) × IsRight (state_of new) new.table
+Stands old Behind new = (new.built ≡ old.built) × (new.table ≡ old.table)
+
+-- the event is taken, with this reply
+pub record Takes (old : CoreValue) (e : Event) (r : Reply) (new : CoreValue) : Type 0 where
+  pub accepted : refusal_of (state_of old) e ≡ None
+  pub joins : new.journal ≡ old.journal ++ e ∷ []
+  pub config : new.config ≡ old.config
+  pub limits : new.limits ≡ old.limits
+  pub serial : r.serial ≡ length new.journal
+  pub changed : (r.changed ≡ false) ↔ LooksAlike (state_of old) (state_of new)
+  pub stands : Stands old r.state new
+
+-- a refusal leaves everything as it was
+pub record Refuses (old : CoreValue) (e : Event) (r : Refusal) (new : CoreValue) : Type 0 where
+  pub first : IsRefusalOf (state_of old) e r
+  pub unchanged : new ≡ old
+
+abbrev pub Applies : CoreValue → Event → Result Reply Refusal → CoreValue → Type 0
+Applies old e (Ok reply) new = Takes old e reply new
+Applies old e (Err refusal) new = Refuses old e refusal new
+
+-- the answers to events, one after the other
+abbrev pub Runs : CoreValue → List Event → List (Result Reply Refusal) → CoreValue → Type 0
+Runs old [] [] new = new ≡ old
+Runs old (e ∷ es) (r ∷ rs) new = (mid : CoreValue) × Applies old e r mid × Runs mid es rs new
+Runs old [] (r ∷ rs) new = ⊥
+Runs old (e ∷ es) [] new = ⊥
+
+-- the first fault that the configuration has, or Memory where it has none
+abbrev pub IsFaultOf : Config → ConfigFault → Type 0
+IsFaultOf config f = (fault_of config ≡ Some f) ⊎ ((f ≡ Memory) × (fault_of config ≡ None))
+
+-- how much a core holds
+abbrev pub standard_limits : Limits
+standard_limits = record { area_lsas = 16384; externals = 65536; events = 1000000 }
+
+-- no events were taken, and the table is that of the opening state
+pub record IsOpening (given : Config) (most : Limits) (c : CoreValue) : Type 0 where
+  pub sound : fault_of given ≡ None
+  pub config : c.config ≡ given
+  pub limits : c.limits ≡ most
+  pub journal : c.journal ≡ []
+  pub built : c.built ≡ 0

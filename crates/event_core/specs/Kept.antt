@@ -1,0 +1,14 @@
+-- What a core keeps of its parts.
+use Rattle.std.specs.Prelude.{ℕ, ◌≡◌}
+use Rattle.event_core.specs.States.{State}
+use Rattle.event_core.specs.Steps.{run_of}
+use Rattle.event_core.specs.Tables.{TableValue}
+use Rattle.event_core.specs.Cores.{CoreValue, IsCore}
+
+abbrev pub core_of : State → TableValue → ℕ → CoreValue
+core_of s t built = record { config = s.config; limits = s.limits; journal = s.journal; built = built; table = t }
+
+-- databases and interfaces are those of the run of the journal
+pub record IsKept (s : State) (t : TableValue) (built : ℕ) : Type 0 where
+  pub run : s ≡ run_of s.config s.limits s.journal
+  pub core : IsCore (core_of s t built)

@@ -1,0 +1,133 @@
+ghost use Rattle.std.specs.Prelude.{◌≡◌, ◌==◌, length, nat_lt};
+ghost use Rattle.std.specs.List.{list_any};
+ghost use Rattle.event_core.specs.Configs.{fault_of, has_alike, has_wrong_areas, has_overlap, is_overlap, is_cover, is_stub_backbone, is_costly};
+
+use crate::refusal::ConfigFault;
+use ospf_types::config::{AreaConfig, Config, Range, Stub};
+use ospf_types::prefix::Prefix;
+
+// A router has at most so many areas, and an area so many ranges.
+const MOST_AREAS: usize = 16;
+
+const MOST_RANGES: usize = 32;
+
+// The metric of an unreachable destination (RFC 2328, appendix B).
+const LS_INFINITY: u32 = 0xff_ffff;
+
+const BACKBONE: u32 = 0;
+
+/// The first fault that the configuration has.
+pub(crate) fn fault_in(config: &Config) -> Option<ConfigFault>
+    ensures { result ≡ fault_of config.now }
+{
+    let areas = config.areas.as_slice();
+    if has_wrong_areas(areas) {
+        Some(ConfigFault::Areas)
+    } else if any_overlap(areas) {
+        Some(ConfigFault::RangesOverlap)
+    } else if any_stub_backbone(areas) {
+        Some(ConfigFault::BackboneStub)
+    } else if any_costly(areas) {
+        Some(ConfigFault::Cost)
+    } else if any_longer(areas, MOST_RANGES) {
+        Some(ConfigFault::RangeCount)
+    } else if any_longer(areas, 0) {
+        Some(ConfigFault::NotYet)
+    } else {
+        None
+    }
+}
+
+fn has_wrong_areas(areas: &[AreaConfig]) -> bool
+    ensures { result ≡ has_wrong_areas areas.now }
+{
+    areas.is_empty() || areas.len() > MOST_AREAS || has_alike(areas)
+}
+
+// Whether two areas have one Area ID.
+fn has_alike(areas: &[AreaConfig]) -> bool
+    ensures { result ≡ has_alike areas.now }
+{
+    for i in 0..areas.len() {
+        if any_with_id(&areas[i + 1..], areas[i].id) {
+            return true;
+        }
+    }
+    false
+}
+
+fn any_with_id(areas: &[AreaConfig], id: u32) -> bool
+    ensures { result ≡ list_any (λ a. a.id == id) areas.now }
+{
+    areas.iter().any(|area| area.id == id)
+}
+
+// Whether two ranges of one area overlap.
+fn any_overlap(areas: &[AreaConfig]) -> bool
+    ensures { result ≡ list_any (λ a. has_overlap a.ranges) areas.now }
+{
+    areas.iter().any(|area| has_overlap(area.ranges.as_slice()))
+}
+
+fn has_overlap(ranges: &[Range]) -> bool
+    ensures { result ≡ has_overlap ranges.now }
+{
+    for i in 0..ranges.len() {
+        if overlaps_any(ranges[i], &ranges[i + 1..]) {
+            return true;
+        }
+    }
+    false
+}
+
+fn overlaps_any(range: Range, ranges: &[Range]) -> bool
+    ensures { result ≡ list_any (is_overlap range) ranges.now }
+{
+    ranges.iter().any(|other| is_overlap(range, *other))
+}
+
+fn is_overlap(a: Range, b: Range) -> bool
+    ensures { result ≡ is_overlap a b }
+{
+    is_cover(a.prefix, b.prefix) || is_cover(b.prefix, a.prefix)
+}
+
+fn is_cover(outer: Prefix, inner: Prefix) -> bool
+    ensures { result ≡ is_cover outer inner }
+{
+    outer.covers(inner)
+}
+
+fn any_stub_backbone(areas: &[AreaConfig]) -> bool
+    ensures { result ≡ list_any is_stub_backbone areas.now }
+{
+    areas.iter().any(is_stub_backbone)
+}
+
+fn is_stub_backbone(area: &AreaConfig) -> bool
+    ensures { result ≡ is_stub_backbone area.now }
+{
+    area.id == BACKBONE && area.stub.is_some()
+}
+
+fn any_costly(areas: &[AreaConfig]) -> bool
+    ensures { result ≡ list_any (λ a. is_costly a.stub) areas.now }
+{
+    areas.iter().any(|area| is_costly(area.stub))
+}
+
+fn is_costly(stub: Option<Stub>) -> bool
+    ensures { result ≡ is_costly stub }
+{
+    match stub {
+        None => false,
+        Some(stub) => stub.cost >= LS_INFINITY,
+    }
+}
+
+// Whether an area has more ranges than that.
+fn any_longer(areas: &[AreaConfig], most: usize) -> bool
+    ensures { result ≡ list_any (λ a. nat_lt most (length a.ranges)) areas.now }
+{
+    areas.iter().any(|area| area.ranges.as_slice().len() > most)
+}

@@ -1,0 +1,157 @@
+ghost use Rattle.std.specs.Prelude.{◌≡◌, None, IfErr, IfOk};
+ghost use Rattle.event_core.specs.Configs.{fault_of};
+ghost use Rattle.event_core.specs.Cores.{IsCore, IsOpening, IsFaultOf, Applies, Stands, Runs, standard_limits};
+
+use crate::config_fault::fault_in;
+use crate::event::{Event, Reply, Standing};
+use crate::limits::Limits;
+use crate::refusal::{ConfigFault, Refusal};
+use crate::routes::build;
+use crate::state::State;
+use crate::table::Table;
+use ospf_types::config::Config;
+use ospf_types::memory::Memory;
+use std::alloc::Global;
+use std::hash::RandomState;
+use std::marker::Model;
+
+/// The databases and interfaces of an area border router, the journal of the events that made them,
+/// and the routing table that they give (RFC 2328, 16).
+#[derive(Drop)]
+pub struct Core {
+    alloc: Global,
+    hashing: RandomState,
+    state: State,
+    table: Table,
+    built: u64,
+}
+
+impl Model for Core {
+    ghost use Rattle.std.specs.Coded.{Coded, codes};
+    ghost use Rattle.event_core.specs.Tables.{TableValue, table_code};
+    ghost use Rattle.event_core.specs.Cores.{CoreValue};
+
+    ghost Value = { CoreValue };
+
+    ghost coded = { let table : Coded TableValue = table_code in Prim.hlevel (codes, table) };
+
+    ghost use Rattle.event_core.specs.Kept.{core_of, IsKept};
+
+    ghost view = { λ c. core_of c.state c.table c.built };
+
+    ghost invariant = { λ c. IsKept c.state c.table c.built };
+}
+
+impl Core {
+    /// A core with no interfaces, empty databases and an empty journal.
+    pub fn open(alloc: Global, config: Config, hashing: RandomState) -> Result<Core, ConfigFault>
+        ensures fault { IfErr result (IsFaultOf config) }
+        ensures opens { IfOk result (IsOpening config standard_limits) }
+        ensures kept { IfOk result IsCore }
+    {
+        Core::open_within(alloc, config, Limits::STANDARD, hashing)
+    }
+
+    /// The same with limits of one's own.
+    pub(crate) fn open_within(
+        alloc: Global,
+        config: Config,
+        limits: Limits,
+        hashing: RandomState,
+    ) -> Result<Core, ConfigFault>
+        ensures fault { IfErr result (IsFaultOf config) }
+        ensures opens { IfOk result (IsOpening config limits) }
+        ensures kept { IfOk result IsCore }
+    {
+        if let Some(fault) = fault_in(&config) {
+            return Err(fault);
+        }
+        match Core::open_sound(alloc, config, limits, hashing) {
+            Ok(core) => Ok(core),
+            Err(Memory) => Err(ConfigFault::Memory),
+        }
+    }
+
+    fn open_sound(
+        alloc: Global,
+        config: Config,
+        limits: Limits,
+        hashing: RandomState,
+    ) -> Result<Core, Memory>
+        requires { fault_of config ≡ None }
+        ensures opens { IfOk result (IsOpening config limits) }
+        ensures kept { IfOk result IsCore }
+    {
+        let state = State::new(alloc, config, limits)?;
+        let table = build(alloc, &state)?;
+        Ok(Core {
+            alloc,
+            hashing,
+            state,
+            table,
+            built: 0,
+        })
+    }
+
+    /// Takes the event, and brings the table up to the state then; or refuses it, and leaves
+    /// everything as it was.
+    pub fn apply(&mut self, event: Event) -> Result<Reply, Refusal>
+        ensures { Applies self.old event result self.new }
+    {
+        let changed = self.state.step(event)?;
+        let serial = self.state.journal().len() as u64;
+        let state = self.catch_up();
+        Ok(Reply {
+            serial,
+            changed,
+            state,
+        })
+    }
+
+    /// Builds the table anew, where it is behind; databases and journal stay as they are.
+    pub fn catch_up(&mut self) -> Standing
+        ensures journal { self.new.journal ≡ self.old.journal }
+        ensures config { self.new.config ≡ self.old.config }
+        ensures limits { self.new.limits ≡ self.old.limits }
+        ensures stands { Stands self.old result self.new }
+    {
+        match build(self.alloc, &self.state) {
+            Ok(table) => {
+                self.built = table.serial();
+                self.table = table;
+                Standing::Current
+            }
+            Err(Memory) => Standing::Behind,
+        }
+    }
+
+    pub fn table(&self) -> &Table
+        ensures value { result.now ≡ self.now.table }
+        ensures kept { IsCore self.now }
+    {
+        &self.table
+    }
+
+    /// The events that were taken, in their order.
+    pub fn journal(&self) -> &[Event]
+        ensures value { result.now ≡ self.now.journal }
+        ensures kept { IsCore self.now }
+    {
+        self.state.journal()
+    }
+
+    /// The table is that of so many events of the journal.
+    pub fn built(&self) -> u64
+        ensures value { result ≡ self.now.built }
+        ensures kept { IsCore self.now }
+    {
+        self.built
+    }
+
+    pub fn config(&self) -> &Config
+        ensures value { result.now ≡ self.now.config }
+        ensures kept { IsCore self.now }
+    {
+        self.state.config()
+    }
+}
