@@ -1,4 +1,4 @@
-ghost use Rattle.std.specs.Prelude.{◌≡◌, None, IfErr, IfOk};
+ghost use Rattle.std.specs.Prelude.{◌≡◌, None, IfErr, IfOk, OnErr};
 ghost use Rattle.event_core.specs.Configs.{fault_of};
 ghost use Rattle.event_core.specs.Cores.{IsCore, IsOpening, IsFaultOf, Applies, Stands, Runs, standard_limits};
 
@@ -123,6 +123,22 @@ impl Core {
             }
             Err(Memory) => Standing::Behind,
         }
+    }
+
+    /// Applies the events one after the other. Room for all answers is made first: where it is
+    /// refused, no event is applied.
+    pub fn run(&mut self, events: Vec<Event>) -> Result<Vec<Result<Reply, Refusal>>, Memory>
+        ensures runs { IfOk result (λ replies. Runs self.old events.items replies.items self.new) }
+        ensures err { OnErr result (self.new ≡ self.old) }
+    {
+        let mut replies = Vec::with_capacity(self.alloc, events.len())?;
+        for event in events {
+            match replies.push(self.apply(event)) {
+                Ok(()) => {}
+                Err(_) => unreachable!(),
+            }
+        }
+        Ok(replies)
     }
 
     pub fn table(&self) -> &Table
