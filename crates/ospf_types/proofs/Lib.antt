@@ -1,2 +1,3 @@
 pub mod Masking
 pub mod Orders
+pub mod Addresses
