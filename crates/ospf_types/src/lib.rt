@@ -11,4 +11,6 @@ pub mod key;
 pub mod lsa;
 pub mod memory;
 pub mod prefix;
+#[cfg(test)]
+mod tests;
 mod text;
