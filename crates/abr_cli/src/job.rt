@@ -1,8 +1,9 @@
 //! What the command line asks for.
-ghost use Rattle.std.specs.Prelude.{◌≡◌, ◌∷◌, [], ◌⊎◌, ℕ, List, IfOk, IfErr, MatchResult, false, true, codes, map};
-ghost use Rattle.clap.specs.Words.{app_of, fields_of, fault_of, rule_of, subcommand_of, HasKind, IsAmong, kind_of};
-ghost use Rattle.clap.specs.declared.error.kind.ErrorKind.TheVariants as kind;
-ghost use Rattle.abr_cli.specs.Command.{one_command, program, required_word, IsJob};
+ghost use Rattle.std.specs.Prelude.{◌≡◌, ◌≢◌, ◌⊎◌, IfOk, IfErr, IfSome, IsNone, MatchResult, false, map};
+ghost use Rattle.clap.specs.Words.{Text, app_of, rows_of, found_of, rule_of, subcommand_of, subcommand_rows_of, kind_of};
+ghost use Rattle.clap.specs.declared.builder.command.Command.TheViews.{out-Command};
+ghost use Rattle.abr_cli.specs.declared.command.Job.{Job};
+ghost use Rattle.abr_cli.specs.Command.{one_command, program, required_word, OneTexts, texts_of, HasWords, IsJob, IsMistake, one_line, ArePlain, IsOne};
 
 use crate::command::{Job, OneWords, Usage};
 use clap::error::ErrorKind;
@@ -12,33 +13,53 @@ use std::alloc::{AllocError, Global};
 /// The job that the words name, the first of them the program's name.
 pub fn job<'a>(alloc: Global, words: &'a [&'a str]) -> Result<Job<'a>, Usage>
     ensures job { IfOk result (IsJob (subcommand_of program (map (λ w. w.now) words.entry.now))) }
+    ensures mistake { IfErr result (IsMistake (map (λ w. w.now) words.entry.now)) }
+    ensures one { (name : Text) (t : OneTexts) → map (λ w. w.now) words.entry.now ≡ one_line name t
+        → ArePlain t → MatchResult result (IsOne t) (λ u. u ≡ Usage.Memory) }
+{
+    let command = program_command(alloc)?;
+    match command.try_get_matches_from(words) {
+        Ok(matches) => match job_in(&matches) {
+            Some(job) => Ok(job),
+            None => Err(Usage::Told(missing_word(alloc)?)),
+        },
+        Err(error) => Err(usage_of(error)),
+    }
+}
+
+fn usage_of(error: Error) -> Usage
+    ensures { (result ≡ Usage.Memory × kind_of error ≡ ErrorKind.OutOfMemory)
+        ⊎ (result ≡ Usage.Told error × kind_of error ≢ ErrorKind.OutOfMemory) }
+{
+    match error.kind() {
+        ErrorKind::OutOfMemory => Usage::Memory,
+        _ => Usage::Told(error),
+    }
+}
+
+// A required word always has a value, but no clause of the matches says so of a subcommand's words.
+fn missing_word(alloc: Global) -> Result<Error, AllocError>
+    ensures { IfOk result (λ e. kind_of e ≡ ErrorKind.MissingRequiredArgument) }
 {
     let mut command = program_command(alloc)?;
-    match command.try_get_matches_from_mut(words) {
-        Ok(matches) => job_of(&mut command, &matches),
-        Err(error) => Err(told(error)),
-    }
+    command.error(ErrorKind::MissingRequiredArgument, "a word is missing")
 }
 
-fn told(error: Error) -> Usage {
-    if error.kind() == ErrorKind::OutOfMemory {
-        Usage::Memory
-    } else {
-        Usage::Told(error)
+fn job_in<'a>(matches: &ArgMatches<'a>) -> Option<Job<'a>>
+    ensures some { IfSome result (IsJob (subcommand_rows_of matches.now)) }
+    ensures none { IsNone result → (j : Job) → ¬ IsJob (subcommand_rows_of matches.now) j }
+{
+    let (name, one) = matches.subcommand()?;
+    if name != "one" {
+        return None;
     }
+    Some(Job::One(one_words(one)?))
 }
 
-fn job_of<'a>(command: &mut Command<'a>, matches: &ArgMatches<'a>) -> Result<Job<'a>, Usage> {
-    if let Some(("one", one)) = matches.subcommand()
-        && let Some(words) = one_words(one)
-    {
-        return Ok(Job::One(words));
-    }
-    let error = command.error(ErrorKind::MissingRequiredArgument, "a word is missing")?;
-    Err(Usage::Told(error))
-}
-
-fn one_words<'a>(matches: &ArgMatches<'a>) -> Option<OneWords<'a>> {
+fn one_words<'a>(matches: &ArgMatches<'a>) -> Option<OneWords<'a>>
+    ensures some { IfSome result (λ w. HasWords (rows_of (found_of matches.now)) (texts_of w)) }
+    ensures none { IsNone result → (t : OneTexts) → ¬ HasWords (rows_of (found_of matches.now)) t }
+{
     Some(OneWords {
         router: matches.get_str("ROUTER")?,
         area: matches.get_str("AREA")?,
@@ -48,7 +69,7 @@ fn one_words<'a>(matches: &ArgMatches<'a>) -> Option<OneWords<'a>> {
     })
 }
 
-fn program_command(alloc: Global) -> Result<Command<'static>, AllocError>
+fn program_command<'a>(alloc: Global) -> Result<Command<'a>, AllocError>
     ensures { IfOk result (λ c. app_of c ≡ program) }
 {
     Command::new(alloc, "abr")
@@ -58,9 +79,9 @@ fn program_command(alloc: Global) -> Result<Command<'static>, AllocError>
         .subcommand(one(alloc)?)
 }
 
-fn one(alloc: Global) -> Result<Command<'static>, AllocError>
+fn one<'a>(alloc: Global) -> Result<Command<'a>, AllocError>
     ensures app { IfOk result (λ c. app_of c ≡ one_command) }
-    ensures local { IfOk result (λ c. (fields_of c).has_globals ≡ false) }
+    ensures local { IfOk result (λ c. (out-Command c).has_globals ≡ false) }
 {
     Command::new(alloc, "one")
         .about("Looks an address up in the table that one router-LSA gives")
@@ -72,7 +93,7 @@ fn one(alloc: Global) -> Result<Command<'static>, AllocError>
 }
 
 // A word that has to be there.
-fn word(alloc: Global, id: &'static str, help: &'static str) -> Arg<'static>
+fn word<'a>(alloc: Global, id: &'a str, help: &'a str) -> Arg<'a>
     ensures rule { rule_of result ≡ required_word id.entry.now }
     ensures local { result.global ≡ false }
 {
