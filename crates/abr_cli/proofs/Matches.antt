@@ -1,5 +1,5 @@
 -- What the getters of matches say, in rows.
-use Rattle.std.proofs.Common.{ℕ, ◌≡◌, ◌∙◌, sym, ap, refl, List, Option, Some, None, option_map}
+use Rattle.std.proofs.Common.{ℕ, ◌≡◌, ◌∙◌, sym, ap, subst, refl, List, Option, Some, None, option_map}
 use Rattle.std.specs.Prelude.{Box}
 use Rattle.std.specs.Box.{box_value}
 use Rattle.std.specs.Borrow.{Bor}
@@ -8,6 +8,7 @@ use Rattle.clap.specs.declared.parser.matches.Found.{Found}
 use Rattle.clap.specs.declared.parser.matches.SubCommand.{SubCommand}
 use Rattle.clap.specs.declared.parser.matches.ArgMatches.TheViews.{out-SubCommand}
 use Rattle.clap.proofs.WalkLemmas.{first_value-rows}
+use Rattle.abr_cli.specs.Command.{OneTexts, HasOne, HasWords}
 
 pub word_given : (f : Found) (id : Text) (r : Option (Bor Text)) (v : Bor Text) → option_map (λ s. s.now) r ≡ first_value f id → r ≡ Some v
     → first_of id (rows_of f) ≡ Some v.now
@@ -32,3 +33,11 @@ met_is (Some p) name rows e f = let a : name ≡ p.0 = cc in let b : rows ≡ p.
 pub not_met : (s : Option (Text × List Row)) → None ≡ option_map (λ p. p.1) s → s ≡ None
 not_met None e = refl
 not_met (Some p) e = cc
+
+-- a command that was met without some of its words is no job
+pub no_one : (s : Option (Text × List Row)) (rows : List Row) → Some rows ≡ option_map (λ p. p.1) s → ((t : OneTexts) → HasWords rows t → ⊥)
+    → (t : OneTexts) → HasOne s t → ⊥
+no_one s rows e none t h =
+    let same : Some rows ≡ Some h.0 = e ∙ ap (option_map (λ (p : Text × List Row). p.1)) h.1 in
+    let rows_same : h.0 ≡ rows = cc in
+    none t (subst (λ (x : List Row). HasWords x t) rows_same h.2)

@@ -48,14 +48,18 @@ HasWords rows t = (first_of (codes "ROUTER") rows ≡ Some t.router)
     × (first_of (codes "HEX") rows ≡ Some t.lsa)
     × (first_of (codes "LOOKUP") rows ≡ Some t.lookup)
 
+-- `one` was met, and these words were given for it
+abbrev pub HasOne : Option (Text × List Row) → OneTexts → Type 0
+HasOne met t = (rows : List Row) × (met ≡ Some (codes "one", rows)) × HasWords rows t
+
 -- the job is the command that was met, with the words that were given for it
 abbrev pub IsJob : Option (Text × List Row) → Job → Type 0
-IsJob met (One w) = (rows : List Row) × (met ≡ Some (codes "one", rows)) × HasWords rows (texts_of w)
+IsJob met (One w) = HasOne met (texts_of w)
 
 -- A mistake is one that the command line has. Where no mistake is found and there is no job, a word is missing.
 abbrev pub IsMistake : List Text → Usage → Type 0
 IsMistake words (Told e) = IsAmong (kind_of e) (fault_of program words)
-    ⊎ ((kind_of e ≡ MissingRequiredArgument) × ((j : Job) → ¬ IsJob (subcommand_of program words) j))
+    ⊎ ((kind_of e ≡ MissingRequiredArgument) × ((t : OneTexts) → ¬ HasOne (subcommand_of program words) t))
 IsMistake words Memory = Unit {0}
 
 -- the command line `abr one` with these words, whatever the program is called

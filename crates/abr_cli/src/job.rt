@@ -2,8 +2,7 @@
 ghost use Rattle.std.specs.Prelude.{◌≡◌, ◌≢◌, ◌⊎◌, IfOk, IfErr, IfSome, IsNone, MatchResult, false, map};
 ghost use Rattle.clap.specs.Words.{Text, app_of, rows_of, found_of, rule_of, subcommand_of, subcommand_rows_of, kind_of};
 ghost use Rattle.clap.specs.declared.builder.command.Command.TheViews.{out-Command};
-ghost use Rattle.abr_cli.specs.declared.command.Job.{Job};
-ghost use Rattle.abr_cli.specs.Command.{one_command, program, required_word, OneTexts, texts_of, HasWords, IsJob, IsMistake, one_line, ArePlain, IsOne};
+ghost use Rattle.abr_cli.specs.Command.{one_command, program, required_word, OneTexts, texts_of, HasWords, HasOne, IsJob, IsMistake, one_line, ArePlain, IsOne};
 
 use crate::command::{Job, OneWords, Usage};
 use clap::error::ErrorKind;
@@ -47,7 +46,7 @@ fn missing_word(alloc: Global) -> Result<Error, AllocError>
 
 fn job_in<'a>(matches: &ArgMatches<'a>) -> Option<Job<'a>>
     ensures some { IfSome result (IsJob (subcommand_rows_of matches.now)) }
-    ensures none { IsNone result → (j : Job) → ¬ IsJob (subcommand_rows_of matches.now) j }
+    ensures none { IsNone result → (t : OneTexts) → ¬ HasOne (subcommand_rows_of matches.now) t }
 {
     let (name, one) = matches.subcommand()?;
     if name != "one" {
