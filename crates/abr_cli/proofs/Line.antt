@@ -1,7 +1,7 @@
 -- What the parse makes of `abr one` and five words that do not begin with a hyphen.
 use Rattle.std.proofs.Common.{ℕ, ◌≡◌, ◌∙◌, ◌==◌, ◌&&◌, sym, ap, ap₂, subst, refl, is_some, Bool, true, false, List, [], ◌∷◌, Option, Some, None, codes}
 use Rattle.clap.specs.Lexer.{short_of, strip_byte}
-use Rattle.clap.specs.Walk.{Held, Names, Row, Rule, Text, Walk, arg_by_index, finished, idle, nothing_held, rows_after, stop_after, to_positional, value, walk, walk_from, walked}
+use Rattle.clap.specs.Walk.{Held, Row, Rule, Text, Walk, arg_by_index, finished, idle, nothing_held, rows_after, stop_after, to_positional, value, walk, walk_from, walked}
 use Rattle.clap.specs.Simple.{App, HasMatchesOf, Shape, app_of, argument_words, built, built_leaf, entered, inherited, is_simple, names_of, subcommand_of, subcommand_rows_of}
 use Rattle.clap.specs.Takes.{entered_passes, level_passes, step_passes, takes, turn_passes, walk_passes}
 use Rattle.clap.specs.declared.builder.command.Command.{Command}

@@ -1,5 +1,5 @@
 -- What the words of a command mean.
-use Rattle.std.specs.Prelude.{ℕ, ◌≡◌, ◌≢◌, ◌^◌, ◌<◌, ◌⊎◌, List, IsOk, IsErr}
+use Rattle.std.specs.Prelude.{ℕ, ◌≡◌, ◌^◌, ◌<◌, List, IsOk}
 use Rattle.hex.specs.Hex.{decode_of}
 use Rattle.ospf_types.specs.Text.{address_text}
 

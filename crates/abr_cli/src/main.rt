@@ -3,6 +3,8 @@
 
 mod command;
 mod job;
+#[cfg(test)]
+mod tests;
 mod words;
 
 use command::{Job, Usage};
@@ -12,29 +14,33 @@ use words::WordFault;
 
 fn main(rt: HostRuntime) -> io::Result<ExitCode> {
     let given: Vec<String> = std::env::args(&rt)?.collect(rt.alloc())?;
-    let mut texts = Vec::new(rt.alloc());
+    let mut words = Vec::new(rt.alloc());
     for word in given.as_slice() {
-        texts.push(word.as_str())?;
+        words.push(word.as_str())?;
     }
-    match job::job(rt.alloc(), texts.as_slice()) {
+    let status = match job::job(rt.alloc(), words.as_slice()) {
         Ok(Job::One(words)) => match words::read_one(rt.alloc(), &words) {
-            Ok(_) => Ok(ExitCode::SUCCESS),
-            Err(WordFault::Memory) => {
-                eprintln!(rt; "abr: 30 Memory")?;
-                Ok(ExitCode::from(1))
-            }
-            Err(fault) => {
-                eprintln!(rt; "abr: {fault}")?;
-                Ok(ExitCode::from(2))
-            }
+            Ok(_) => 0,
+            Err(fault) => refuse(&rt, fault)?,
         },
-        Err(Usage::Told(error)) => {
-            error.print(&rt)?;
-            Ok(ExitCode::from(if error.use_stderr() { 2 } else { 0 }))
+        Err(usage) => tell(&rt, &usage)?,
+    };
+    Ok(ExitCode::from(status))
+}
+
+// Says what is wrong with the words or asks no more than help. The answer is the status.
+fn tell(rt: &(impl Print + Eprint), usage: &Usage) -> io::Result<u8> {
+    match usage {
+        Usage::Told(error) => {
+            error.print(rt)?;
+            Ok(if error.use_stderr() { 2 } else { 0 })
         }
-        Err(Usage::Memory) => {
-            eprintln!(rt; "abr: 30 Memory")?;
-            Ok(ExitCode::from(1))
-        }
+        Usage::Memory => refuse(rt, WordFault::Memory),
     }
+}
+
+// Says why a word cannot be read. The answer is the status.
+fn refuse(rt: &impl Eprint, fault: WordFault) -> io::Result<u8> {
+    eprintln!(rt; "abr: {fault}")?;
+    Ok(if fault == WordFault::Memory { 1 } else { 2 })
 }

@@ -1,4 +1,4 @@
-use Rattle.std.proofs.Common.{◌≡◌, ◌∙◌, refl, sym, ap, map, subst, inl, inr}
+use Rattle.std.proofs.Common.{◌∙◌, refl, sym, ap, map, subst, inl, inr}
 use Rattle.clap.specs.Words.{subcommand_of}
 use Rattle.abr_cli.specs.Command.{HasOne, program}
 use Rattle.abr_cli.proofs.Line.{job_is_one, one_has, rows_as_given, takes_as_given}

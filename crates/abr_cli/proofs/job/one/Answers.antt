@@ -1,9 +1,8 @@
 use Rattle.std.proofs.Common.{◌≡◌, ◌∙◌, ap, codes, false}
 use Rattle.std.proofs.lemmas.Result.{IfOk-weaker}
-use Rattle.clap.specs.Words.{App, app_of, new_app, with_rule}
+use Rattle.clap.specs.Words.{app_of, new_app}
 use Rattle.clap.specs.Simple.{app_of_fields}
 use Rattle.clap.specs.declared.builder.command.Command.TheViews.{out-Command}
-use Rattle.abr_cli.specs.Command.{required_word}
 use Rattle.abr_cli.proofs.Building.{added_app, added_local}
 use Rattle.abr_cli.proofs.job.one.Goals as goal
 
