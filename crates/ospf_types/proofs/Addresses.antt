@@ -1,5 +1,5 @@
 -- Dotted texts and the numbers that they write.
-use Rattle.std.proofs.Common.{ℕ, ◌≡◌, ◌+◌, ◌^◌, ◌<◌, List, [], ◌∷◌, length, get_or, refl, sym, ◌∙◌, ap, zero, suc, Bool, true, false, Result, Ok, Err, Option, Some, None, rules, arith}
+use Rattle.std.proofs.Common.{ℕ, ◌≡◌, ◌^◌, ◌<◌, List, [], ◌∷◌, get_or, refl, sym, ◌∙◌, ap, zero, suc, false, Result, Ok, Err, Some, arith}
 use Rattle.std.proofs.lemmas.Nat.{be_bytes_4}
 use Rattle.std.specs.Int.{w32, to_be_bytes, from_be_bytes}
 use Rattle.std.specs.Result.{is_ok, result_ok}
