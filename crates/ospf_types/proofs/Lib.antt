@@ -1,3 +1,4 @@
 pub mod Masking
 pub mod Orders
 pub mod Paths
+pub mod Addresses

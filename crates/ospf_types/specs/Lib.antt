@@ -3,6 +3,7 @@ pub mod Masks
 pub mod Address
 pub mod Keys
 pub mod Hops
+pub mod Text
 pub mod Best
 pub mod Lsa
 pub mod Instances

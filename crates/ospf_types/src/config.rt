@@ -1,4 +1,4 @@
-ghost use Rattle.std.specs.Prelude.{◌≡◌, [], ◌∷◌, ◌++◌, OnOk, OnErr, IfOk};
+ghost use Rattle.std.specs.Prelude.{◌≡◌, ◌↔◌, [], ◌∷◌, ◌++◌, length, IsTrue, OnOk, OnErr, IfOk};
 
 use crate::memory::Memory;
 use crate::prefix::Prefix;
@@ -71,6 +71,18 @@ impl Ranges {
         self.items.as_slice()
     }
 
+    pub fn len(&self) -> usize
+        ensures { result ≡ length self.now }
+    {
+        self.items.len()
+    }
+
+    pub fn is_empty(&self) -> bool
+        ensures { IsTrue result ↔ (self.now ≡ []) }
+    {
+        self.items.is_empty()
+    }
+
     /// An equal value.
     pub fn copy(&self, alloc: Global) -> Result<Ranges, Memory>
         ensures { IfOk result (λ ranges. ranges ≡ self.now) }
@@ -140,6 +152,18 @@ impl Areas {
         ensures { result.now ≡ self.now }
     {
         self.items.as_slice()
+    }
+
+    pub fn len(&self) -> usize
+        ensures { result ≡ length self.now }
+    {
+        self.items.len()
+    }
+
+    pub fn is_empty(&self) -> bool
+        ensures { IsTrue result ↔ (self.now ≡ []) }
+    {
+        self.items.is_empty()
     }
 
     /// An equal value.

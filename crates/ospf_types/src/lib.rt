@@ -3,6 +3,7 @@
 //! calculated from them.
 #![tactic(auto)]
 
+pub mod address;
 pub mod config;
 pub mod entry;
 pub mod hop;
@@ -10,3 +11,6 @@ pub mod key;
 pub mod lsa;
 pub mod memory;
 pub mod prefix;
+#[cfg(test)]
+mod tests;
+mod text;

@@ -1,0 +1,82 @@
+-- The command line: `abr one ROUTER AREA ADDRESS HEX LOOKUP`.
+use Rattle.std.specs.Prelude.{◌≡◌, ◌⊎◌, true, List, [], ◌∷◌, Option, Some, None, codes}
+use Rattle.clap.specs.Words.{App, Row, Rule, Text, IsAmong, fault_of, first_of, kind_of, new_app, new_rule, subcommand_of, with_rule, with_subcommand}
+use Rattle.clap.specs.Lexer.{strip_byte}
+use Rattle.clap.specs.declared.error.kind.ErrorKind.TheVariants.{MissingRequiredArgument}
+use Rattle.abr_cli.specs.declared.command.OneWords.{OneWords}
+use Rattle.abr_cli.specs.declared.command.Job.{Job}
+use Rattle.abr_cli.specs.declared.command.Job.TheVariants.{One}
+use Rattle.abr_cli.specs.declared.command.Usage.{Usage}
+use Rattle.abr_cli.specs.declared.command.Usage.TheVariants.{Told, Memory}
+
+-- a word that has to be there
+abbrev pub required_word : Text → Rule
+required_word id = record (new_rule id) { required = true }
+
+abbrev pub one_command : App
+one_command =
+    with_rule (with_rule (with_rule (with_rule (with_rule (new_app (codes "one")) (required_word (codes "ROUTER"))) (required_word (codes "AREA"))) (required_word (codes "ADDRESS"))) (required_word (codes "HEX"))) (required_word (codes "LOOKUP"))
+
+-- what follows the program's name is one of its commands
+abbrev pub program : App
+program =
+    let p = new_app (codes "abr") in
+    with_subcommand (record p { top = record p.top { subcommand_required = true; arg_required_else_help = true } }) one_command.top
+
+-- the texts of the words of `abr one`
+pub record OneTexts : Type 0 where
+  pub router : Text
+  pub area : Text
+  pub address : Text
+  pub lsa : Text
+  pub lookup : Text
+
+abbrev pub texts_of : OneWords → OneTexts
+texts_of w = record {
+  router = w.router.now;
+  area = w.area.now;
+  address = w.address.now;
+  lsa = w.lsa.now;
+  lookup = w.lookup.now;
+}
+
+-- each word was given
+abbrev pub HasWords : List Row → OneTexts → Type 0
+HasWords rows t = (first_of (codes "ROUTER") rows ≡ Some t.router)
+    × (first_of (codes "AREA") rows ≡ Some t.area)
+    × (first_of (codes "ADDRESS") rows ≡ Some t.address)
+    × (first_of (codes "HEX") rows ≡ Some t.lsa)
+    × (first_of (codes "LOOKUP") rows ≡ Some t.lookup)
+
+-- `one` was met, and these words were given for it
+abbrev pub HasOne : Option (Text × List Row) → OneTexts → Type 0
+HasOne met t = (rows : List Row) × (met ≡ Some (codes "one", rows)) × HasWords rows t
+
+-- the job is the command that was met, with the words that were given for it
+abbrev pub IsJob : Option (Text × List Row) → Job → Type 0
+IsJob met (One w) = HasOne met (texts_of w)
+
+-- A mistake is one that the command line has. Where no mistake is found and there is no job, a word is missing.
+abbrev pub IsMistake : List Text → Usage → Type 0
+IsMistake words (Told e) = IsAmong (kind_of e) (fault_of program words)
+    ⊎ ((kind_of e ≡ MissingRequiredArgument) × ((t : OneTexts) → ¬ HasOne (subcommand_of program words) t))
+IsMistake words Memory = Unit {0}
+
+-- the command line `abr one` with these words, whatever the program is called
+abbrev pub one_line : Text → OneTexts → List Text
+one_line name t = name ∷ codes "one" ∷ t.router ∷ t.area ∷ t.address ∷ t.lsa ∷ t.lookup ∷ []
+
+-- the word does not begin with a hyphen
+abbrev pub IsPlainWord : Text → Type 0
+IsPlainWord word = strip_byte 45 word ≡ None
+
+pub record ArePlain (t : OneTexts) : Type 0 where
+  pub router : IsPlainWord t.router
+  pub area : IsPlainWord t.area
+  pub address : IsPlainWord t.address
+  pub lsa : IsPlainWord t.lsa
+  pub lookup : IsPlainWord t.lookup
+
+-- the job is `one` with these words
+abbrev pub IsOne : OneTexts → Job → Type 0
+IsOne t (One w) = texts_of w ≡ t

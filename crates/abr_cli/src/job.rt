@@ -1,0 +1,100 @@
+//! What the command line asks for.
+ghost use Rattle.std.specs.Prelude.{◌≡◌, ◌≢◌, ◌⊎◌, IfOk, IfErr, IfSome, IsNone, MatchResult, false, map};
+ghost use Rattle.clap.specs.Words.{Text, app_of, rows_of, found_of, rule_of, subcommand_of, subcommand_rows_of, kind_of};
+ghost use Rattle.clap.specs.declared.builder.command.Command.TheViews.{out-Command};
+ghost use Rattle.abr_cli.specs.Command.{one_command, program, required_word, OneTexts, texts_of, HasWords, HasOne, IsJob, IsMistake, one_line, ArePlain, IsOne};
+
+use crate::command::{Job, OneWords, Usage};
+use clap::error::ErrorKind;
+use clap::{Arg, ArgMatches, Command, Error};
+use std::alloc::{AllocError, Global};
+
+/// The job that the words name, the first of them the program's name.
+pub fn job<'a>(alloc: Global, words: &'a [&'a str]) -> Result<Job<'a>, Usage>
+    ensures job { IfOk result (IsJob (subcommand_of program (map (λ w. w.now) words.entry.now))) }
+    ensures mistake { IfErr result (IsMistake (map (λ w. w.now) words.entry.now)) }
+    ensures one { (name : Text) (t : OneTexts) → map (λ w. w.now) words.entry.now ≡ one_line name t
+        → ArePlain t → MatchResult result (IsOne t) (λ u. u ≡ Usage.Memory) }
+{
+    let command = program_command(alloc)?;
+    match command.try_get_matches_from(words) {
+        Ok(matches) => match job_in(&matches) {
+            Some(job) => Ok(job),
+            None => Err(Usage::Told(missing_word(alloc)?)),
+        },
+        Err(error) => Err(usage_of(error)),
+    }
+}
+
+fn usage_of(error: Error) -> Usage
+    ensures { (result ≡ Usage.Memory × kind_of error ≡ ErrorKind.OutOfMemory)
+        ⊎ (result ≡ Usage.Told error × kind_of error ≢ ErrorKind.OutOfMemory) }
+{
+    match error.kind() {
+        ErrorKind::OutOfMemory => Usage::Memory,
+        _ => Usage::Told(error),
+    }
+}
+
+// A required word always has a value, but no clause of the matches says so of a subcommand's words.
+fn missing_word(alloc: Global) -> Result<Error, AllocError>
+    ensures { IfOk result (λ e. kind_of e ≡ ErrorKind.MissingRequiredArgument) }
+{
+    let mut command = program_command(alloc)?;
+    command.error(ErrorKind::MissingRequiredArgument, "a word is missing")
+}
+
+fn job_in<'a>(matches: &ArgMatches<'a>) -> Option<Job<'a>>
+    ensures some { IfSome result (IsJob (subcommand_rows_of matches.now)) }
+    ensures none { IsNone result → (t : OneTexts) → ¬ HasOne (subcommand_rows_of matches.now) t }
+{
+    let (name, one) = matches.subcommand()?;
+    if name != "one" {
+        return None;
+    }
+    Some(Job::One(one_words(one)?))
+}
+
+fn one_words<'a>(matches: &ArgMatches<'a>) -> Option<OneWords<'a>>
+    ensures some { IfSome result (λ w. HasWords (rows_of (found_of matches.now)) (texts_of w)) }
+    ensures none { IsNone result → (t : OneTexts) → ¬ HasWords (rows_of (found_of matches.now)) t }
+{
+    Some(OneWords {
+        router: matches.get_str("ROUTER")?,
+        area: matches.get_str("AREA")?,
+        address: matches.get_str("ADDRESS")?,
+        lsa: matches.get_str("HEX")?,
+        lookup: matches.get_str("LOOKUP")?,
+    })
+}
+
+fn program_command<'a>(alloc: Global) -> Result<Command<'a>, AllocError>
+    ensures { IfOk result (λ c. app_of c ≡ program) }
+{
+    Command::new(alloc, "abr")
+        .about("An OSPF area border router's databases and routing table (RFC 2328)")
+        .subcommand_required(true)
+        .arg_required_else_help(true)
+        .subcommand(one(alloc)?)
+}
+
+fn one<'a>(alloc: Global) -> Result<Command<'a>, AllocError>
+    ensures app { IfOk result (λ c. app_of c ≡ one_command) }
+    ensures local { IfOk result (λ c. (out-Command c).has_globals ≡ false) }
+{
+    Command::new(alloc, "one")
+        .about("Looks an address up in the table that one router-LSA gives")
+        .arg(word(alloc, "ROUTER", "The Router ID"))?
+        .arg(word(alloc, "AREA", "The Area ID"))?
+        .arg(word(alloc, "ADDRESS", "The address of interface 1, which is up"))?
+        .arg(word(alloc, "HEX", "The LSA, in hexadecimal"))?
+        .arg(word(alloc, "LOOKUP", "The address to look up"))
+}
+
+// A word that has to be there.
+fn word<'a>(alloc: Global, id: &'a str, help: &'a str) -> Arg<'a>
+    ensures rule { rule_of result ≡ required_word id.entry.now }
+    ensures local { result.global ≡ false }
+{
+    Arg::new(alloc, id).required(true).help(help)
+}

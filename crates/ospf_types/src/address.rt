@@ -1,0 +1,29 @@
+ghost use Rattle.std.specs.Prelude.{◌≡◌, ◌≢◌, ◌^◌, ◌<◌, ℕ, Some, IfSome, IsNone};
+ghost use Rattle.ospf_types.specs.Text.{address_text};
+
+use std::fmt;
+use std::net::Ipv4Addr;
+
+/// An address, a Router ID or an Area ID, in host order. It prints in dotted form.
+#[derive(Clone, Copy, Debug, PartialEq, Eq, Hash, PartialOrd, Ord)]
+pub struct Address(pub u32);
+
+impl Address {
+    /// The address that the text writes: four decimal numbers up to 255 without leading zeros, with
+    /// dots between them. `None` for any other text.
+    pub fn parse(text: &str) -> Option<Address>
+        ensures spelled { IfSome result (λ a. text.now ≡ address_text a.0) }
+        ensures refused { IsNone result → (address : ℕ) → address < 2 ^ 32 → text.now ≢ address_text address }
+    {
+        let address: Ipv4Addr = text.parse().ok()?;
+        Some(Address(address.to_bits()))
+    }
+}
+
+impl fmt::Display for Address {
+    ghost output = { λ a. Some (address_text a.0) };
+
+    fn fmt<W: fmt::Write>(&self, f: &mut fmt::Formatter<W>) -> fmt::Result {
+        Ipv4Addr::from_bits(self.0).fmt(f)
+    }
+}

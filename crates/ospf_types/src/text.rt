@@ -1,0 +1,108 @@
+//! The printed forms.
+ghost use Rattle.std.specs.Prelude.{Some};
+ghost use Rattle.ospf_types.specs.Text.{prefix_text, kind_text, hop_text, path_text, paths_text, entry_text, area_text};
+
+use crate::address::Address;
+use crate::entry::{Entry, PathType, Paths};
+use crate::hop::{NextHop, Path};
+use crate::prefix::Prefix;
+use std::fmt;
+
+/// The network number and how many bits count, as `192.0.2.0/24`.
+impl fmt::Display for Prefix {
+    ghost output = { λ p. Some (prefix_text p) };
+
+    fn fmt<W: fmt::Write>(&self, f: &mut fmt::Formatter<W>) -> fmt::Result {
+        let (address, length) = (Address(self.address()), self.length());
+        write!(f, "{address}/{length}")
+    }
+}
+
+/// `intra`, `inter`, `ext1` or `ext2`.
+impl fmt::Display for PathType {
+    ghost output = { λ kind. Some (kind_text kind) };
+
+    fn fmt<W: fmt::Write>(&self, f: &mut fmt::Formatter<W>) -> fmt::Result {
+        f.write_str(match self {
+            PathType::Intra => "intra",
+            PathType::Inter => "inter",
+            PathType::External1 => "ext1",
+            PathType::External2 => "ext2",
+        })
+    }
+}
+
+/// The way and the interface, as `direct:1`; with the address of a router on a network, as
+/// `router:1:192.0.2.2`.
+impl fmt::Display for NextHop {
+    ghost output = { λ hop. Some (hop_text hop) };
+
+    fn fmt<W: fmt::Write>(&self, f: &mut fmt::Formatter<W>) -> fmt::Result {
+        match *self {
+            NextHop::Direct(id) => write!(f, "direct:{id}"),
+            NextHop::Peer(id) => write!(f, "peer:{id}"),
+            NextHop::Router(id, address) => write!(f, "router:{id}:{}", Address(address)),
+        }
+    }
+}
+
+/// The next hop, and where there is an advertiser its Router ID behind an `@`.
+impl fmt::Display for Path {
+    ghost output = { λ path. Some (path_text path) };
+
+    fn fmt<W: fmt::Write>(&self, f: &mut fmt::Formatter<W>) -> fmt::Result {
+        let hop = self.hop;
+        write!(f, "{hop}")?;
+        if let Some(router) = self.advertiser {
+            write!(f, "@{}", Address(router))?;
+        }
+        Ok(())
+    }
+}
+
+/// The paths with commas between them.
+impl fmt::Display for Paths {
+    ghost output = { λ paths. Some (paths_text paths) };
+
+    fn fmt<W: fmt::Write>(&self, f: &mut fmt::Formatter<W>) -> fmt::Result {
+        if let [first, rest @ ..] = self.as_slice() {
+            write!(f, "{first}")?;
+            for path in rest {
+                write!(f, ",{path}")?;
+            }
+        }
+        Ok(())
+    }
+}
+
+/// Kind, area, both costs and paths with spaces between them, as `inter 0.0.0.0 20 0 peer:1@10.0.0.2`.
+/// An external route has a dash for its area.
+impl fmt::Display for Entry {
+    ghost output = { λ entry. Some (entry_text entry) };
+
+    fn fmt<W: fmt::Write>(&self, f: &mut fmt::Formatter<W>) -> fmt::Result {
+        let (kind, area, cost, cost2, paths) = (
+            self.kind,
+            AreaField(self.area),
+            self.cost,
+            self.cost2,
+            &self.paths,
+        );
+        write!(f, "{kind} {area} {cost} {cost2} {paths}")
+    }
+}
+
+// What an entry shows of its area.
+#[derive(Clone, Copy)]
+struct AreaField(Option<u32>);
+
+impl fmt::Display for AreaField {
+    ghost output = { λ area. Some (area_text area.0) };
+
+    fn fmt<W: fmt::Write>(&self, f: &mut fmt::Formatter<W>) -> fmt::Result {
+        match self.0 {
+            Some(area) => Address(area).fmt(f),
+            None => f.write_str("-"),
+        }
+    }
+}
