@@ -1,6 +1,6 @@
 //! The links of a router-LSA (RFC 2328, A.4.2), by a walk over their bytes.
 
-ghost use Rattle.std.specs.Prelude.{◌≡◌, ◌≤◌, ◌+◌, ◌*◌, ◌==◌, ◌||◌, not, nat_lt, length};
+ghost use Rattle.std.specs.Prelude.{◌≡◌, ◌≤◌, true, ◌+◌, ◌*◌, ◌==◌, ◌||◌, not, nat_lt, length};
 ghost use Rattle.std.specs.List.{list_any};
 ghost use Rattle.lsa_codec.specs.Faults.{walk, raw_entries, raw_link, is_whole as is_whole_test, link_size as size_of_link, has_reserved_entry, has_wrong_mask, is_unknown, is_incomplete, is_mask as is_mask_test};
 ghost use Rattle.lsa_codec.specs.Decoding.{kind_of_number, link_of as decoded_link};
@@ -17,6 +17,13 @@ pub(crate) struct Findings {
     pub(crate) link_type: bool,
     pub(crate) shape: bool,
 }
+
+pub(crate) const NO_FINDING: Findings = Findings {
+    reserved: false,
+    mask: false,
+    link_type: false,
+    shape: false,
+};
 
 /// The number of bytes of the link in front, its TOS entries counted.
 fn link_size(bytes: &[u8]) -> usize
@@ -67,25 +74,37 @@ pub(crate) fn links_findings(count: u16, bytes: &[u8]) -> Findings
     ensures link_type { result.link_type ≡ list_any is_unknown (walk count bytes.now).met }
     ensures shape { result.shape ≡ is_incomplete count (walk count bytes.now) }
 {
-    let mut found = Findings {
-        reserved: false,
-        mask: false,
-        link_type: false,
-        shape: false,
-    };
+    let mut found = NO_FINDING;
     let mut rest = bytes;
     for _ in 0..count {
         if !is_whole(rest) {
-            found.shape = true;
-            return found;
+            return Findings {
+                shape: true,
+                ..found
+            };
         }
-        found.reserved = found.reserved || has_reserved(rest[9], &rest[12..]);
-        found.mask = found.mask || is_wrong_mask(rest);
-        found.link_type = found.link_type || is_unknown_type(rest[8]);
+        found = with_link(found, rest);
         rest = &rest[link_size(rest)..];
     }
-    found.shape = !rest.is_empty();
-    found
+    Findings {
+        shape: !rest.is_empty(),
+        ..found
+    }
+}
+
+/// What was found before, and what is wrong with the link in front.
+fn with_link(found: Findings, bytes: &[u8]) -> Findings
+    requires { is_whole_test bytes.now ≡ true }
+    ensures reserved { result.reserved ≡ (found.reserved || has_reserved_entry (raw_link bytes.now)) }
+    ensures mask { result.mask ≡ (found.mask || has_wrong_mask (raw_link bytes.now)) }
+    ensures link_type { result.link_type ≡ (found.link_type || is_unknown (raw_link bytes.now)) }
+{
+    Findings {
+        reserved: found.reserved || has_reserved(bytes[9], &bytes[12..]),
+        mask: found.mask || is_wrong_mask(bytes),
+        link_type: found.link_type || is_unknown_type(bytes[8]),
+        shape: found.shape,
+    }
 }
 
 /// Whether the link in front is a stub link whose Link Data is no mask.

@@ -7,7 +7,7 @@ ghost use Rattle.lsa_codec.specs.Faults.{fault_of, body_fault_of, has_reserved, 
 use crate::checked::Checked;
 use crate::checksum::is_sound;
 use crate::fault::WireFault;
-use crate::links::{Findings, links_findings};
+use crate::links::{Findings, NO_FINDING, links_findings};
 use byteorder::{BigEndian, ByteOrder};
 use std::alloc::Global;
 
@@ -29,10 +29,8 @@ fn router_findings(body: &[u8]) -> Findings
 {
     if body.len() < 4 {
         return Findings {
-            reserved: false,
-            mask: false,
-            link_type: false,
             shape: true,
+            ..NO_FINDING
         };
     }
     let links = links_findings(BigEndian::read_u16(&body[2..]), &body[4..]);
