@@ -1,2 +1,6 @@
 pub mod Checksums
 pub mod Walks
+pub mod Words
+pub mod Headers
+pub mod Tables
+pub mod HeaderTests

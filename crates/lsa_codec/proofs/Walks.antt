@@ -1,5 +1,6 @@
 -- A walk over links or TOS entries, one at a time, as a loop does it.
 use Rattle.std.proofs.Common.{◌≡◌, ℕ, zero, suc, ◌+◌, ◌*◌, ◌-◌, ◌<◌, ◌≤◌, Bool, true, false, ◌||◌, not, eqb, ltb, cond, List, [], ◌∷◌, length, drop, refl, sym, ap, ◌∙◌, arith}
+use Rattle.std.proofs.lemmas.Bool.{eq-eqb, ne_eqb}
 use Rattle.std.specs.Prelude.{slice_index}
 use Rattle.std.specs.List.{list_any}
 use Rattle.byteorder.specs.Endian.{big_number}
@@ -100,3 +101,15 @@ left_ends w rest total e so_far = ap (λ (v : Walk). v.left) (sym e) ∙ so_far
 pub met_ends : (w : Walk) (rest : List ℕ) (i total : ℕ) → w ≡ record { met = []; left = rest } → i + length w.met ≡ total → i ≡ total
 met_ends w rest i total e so_far =
     omega (arith, so_far, ap (λ (v : Walk). length v.met) e)
+
+-- fewer were met than are counted
+pub cut_short : (i n : ℕ) (w : Walk) → i < n → i ≡ length w.met → true ≡ is_incomplete n w
+cut_short i n w lt e =
+    let fewer : eqb (length w.met) n ≡ false = ne_eqb _ _ (λ same. absurd (omega (arith, same))) in
+    sym (or_true (not (eqb (length w.met) n)) (not (eqb (length w.left) 0)) (ap not fewer))
+
+-- as many were met as are counted: it is a matter of what is left
+pub counted : (i n : ℕ) (w : Walk) (rest : List ℕ) → n ≤ i → i ≤ n → i ≡ length w.met → rest ≡ w.left → not (eqb (length rest) 0) ≡ is_incomplete n w
+counted i n w rest le ge e left =
+    let all : eqb (length w.met) n ≡ true = eq-eqb _ _ (omega arith) in
+    ap (λ (r : List ℕ). not (eqb (length r) 0)) left ∙ sym (or_skip (not (eqb (length w.met) n)) (not (eqb (length w.left) 0)) (ap not all))

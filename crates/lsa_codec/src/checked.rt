@@ -3,6 +3,7 @@ ghost use Rattle.ospf_types.specs.Lsa.{key_of};
 ghost use Rattle.lsa_codec.specs.Spelling.{IsLegal, body_bytes};
 ghost use Rattle.lsa_codec.specs.Readers.{flags_of, links_of, link_at, with_age};
 
+use crate::header::header_in;
 use crate::links::{after_links, front_link};
 use byteorder::{BigEndian, ByteOrder};
 use ospf_types::key::Key;
@@ -36,26 +37,18 @@ impl Checked {
         ensures value { result ≡ self.now.header }
         ensures legal { IsLegal self.now }
     {
-        Header {
-            age: BigEndian::read_u16(&self.bytes),
-            options: self.bytes[2],
-            kind: self.bytes[3],
-            id: BigEndian::read_u32(&self.bytes[4..]),
-            router: BigEndian::read_u32(&self.bytes[8..]),
-            seq: BigEndian::read_u32(&self.bytes[12..]),
-            sum: BigEndian::read_u16(&self.bytes[16..]),
-            length: BigEndian::read_u16(&self.bytes[18..]),
-        }
+        header_in(&self.bytes)
     }
 
     /// LS type, Link State ID and Advertising Router (RFC 2328, 12.1).
     pub fn key(&self) -> Key
         ensures { result ≡ key_of self.now }
     {
+        let header = self.header();
         Key {
-            kind: self.bytes[3],
-            id: BigEndian::read_u32(&self.bytes[4..]),
-            router: BigEndian::read_u32(&self.bytes[8..]),
+            kind: header.kind,
+            id: header.id,
+            router: header.router,
         }
     }
 

@@ -5,6 +5,7 @@
 mod checked;
 mod checksum;
 mod fault;
+mod header;
 mod links;
 mod reading;
 mod writing;

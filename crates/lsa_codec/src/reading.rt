@@ -7,6 +7,7 @@ ghost use Rattle.lsa_codec.specs.Faults.{fault_of, body_fault_of, has_reserved, 
 use crate::checked::Checked;
 use crate::checksum::is_sound;
 use crate::fault::WireFault;
+use crate::header::{HEADER, header_in, is_wrong_length};
 use crate::links::{Findings, NO_FINDING, links_findings};
 use byteorder::{BigEndian, ByteOrder};
 use std::alloc::Global;
@@ -45,39 +46,44 @@ fn body_fault(bytes: &[u8]) -> Option<WireFault>
     requires { 20 ≤ length bytes.now }
     ensures { result ≡ body_fault_of bytes.now }
 {
-    let found = router_findings(&bytes[20..]);
+    let header = header_in(bytes);
+    let found = router_findings(&bytes[HEADER..]);
     if found.reserved {
         return Some(WireFault::Reserved);
     }
     if found.mask {
         return Some(WireFault::Mask);
     }
-    if BigEndian::read_u32(&bytes[4..]) != BigEndian::read_u32(&bytes[8..]) {
+    if header.id != header.router {
         return Some(WireFault::RouterId);
     }
     if found.link_type {
         return Some(WireFault::LinkType);
     }
-    found.shape.then_some(WireFault::Shape)
+    if found.shape {
+        return Some(WireFault::Shape);
+    }
+    None
 }
 
 /// The first fault of the bytes.
 fn fault(bytes: &[u8]) -> Option<WireFault>
     ensures { result ≡ fault_of bytes.now }
 {
-    if bytes.len() < 20 || usize::from(BigEndian::read_u16(&bytes[18..])) != bytes.len() {
+    if is_wrong_length(bytes) {
         return Some(WireFault::Length);
     }
     if !is_sound(bytes) {
         return Some(WireFault::Checksum);
     }
-    if BigEndian::read_u16(bytes) > MAX_AGE {
+    let header = header_in(bytes);
+    if header.age > MAX_AGE {
         return Some(WireFault::Age);
     }
-    if BigEndian::read_u32(&bytes[12..]) == RESERVED_SEQUENCE {
+    if header.seq == RESERVED_SEQUENCE {
         return Some(WireFault::Sequence);
     }
-    if bytes[3] != ROUTER {
+    if header.kind != ROUTER {
         return Some(WireFault::Kind);
     }
     body_fault(bytes)
