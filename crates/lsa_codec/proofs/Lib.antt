@@ -4,3 +4,6 @@ pub mod Words
 pub mod Headers
 pub mod Tables
 pub mod HeaderTests
+pub mod Masks
+pub mod LinkBytes
+pub mod Bodies

@@ -1,4 +1,5 @@
-use Rattle.lsa_codec.proofs.Headers.{header_takes, header_again}
+use Rattle.lsa_codec.proofs.Bodies.{takes_all}
+use Rattle.lsa_codec.proofs.LinkBytes.{walk_again}
 use Rattle.lsa_codec.proofs.reading.read.Goals as goal
 
 pub returns-clause-found : goal.returns-clause-found
