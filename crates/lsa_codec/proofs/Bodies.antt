@@ -26,7 +26,7 @@ or_right : (a b : Bool) → (a || b) ≡ false → b ≡ false
 or_right true b e = absurd cc
 or_right false b e = e
 
-or_of : (a b : Bool) → a ≡ false → b ≡ false → (a || b) ≡ false
+pub or_of : (a b : Bool) → a ≡ false → b ≡ false → (a || b) ≡ false
 or_of true b e f = absurd cc
 or_of false b e f = f
 
@@ -46,7 +46,7 @@ and_not : (a b : Bool) → a ≡ true → (a && b) ≡ false → b ≡ false
 and_not true b e f = f
 and_not false b e f = absurd cc
 
-and_zero : (a b : Bool) → b ≡ false → (a && b) ≡ false
+pub and_zero : (a b : Bool) → b ≡ false → (a && b) ≡ false
 and_zero true b e = e
 and_zero false b e = refl
 

@@ -7,3 +7,5 @@ pub mod HeaderTests
 pub mod Masks
 pub mod LinkBytes
 pub mod Bodies
+pub mod Again
+pub mod Kept

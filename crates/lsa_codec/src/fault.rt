@@ -1,3 +1,6 @@
+ghost use Rattle.std.specs.Prelude.{◌≡◌};
+
+use std::alloc::AllocError;
 use thiserror::Error;
 
 /// Why bytes are no link-state advertisement: the first of these, in this order, that holds. `Memory`
@@ -37,4 +40,14 @@ pub enum WireFault {
     /// A growth was refused.
     #[error("30 Memory")]
     Memory,
+}
+
+impl From<AllocError> for WireFault {
+    ghost use Rattle.lsa_codec.specs.declared.fault.WireFault.TheVariants.{Memory};
+
+    ghost from_gives = { λ _ e. e ≡ Memory };
+
+    fn from(_e: AllocError) -> WireFault {
+        WireFault::Memory
+    }
 }

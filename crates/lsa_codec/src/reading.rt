@@ -102,9 +102,10 @@ pub fn read(alloc: Global, bytes: &[u8]) -> Result<Checked, WireFault>
     // What is sound and spelled so is read, a router-LSA, unless memory runs out.
     ensures only { (l : Lsa) → IsSound bytes.now → Spells bytes.now l → l.header.kind ≡ 1 → MatchResult result (λ lsa. lsa ≡ l) (λ e. e ≡ WireFault.Memory) }
 {
-    if let Some(fault) = fault(bytes) {
-        return Err(fault);
+    match fault(bytes) {
+        Some(fault) => Err(fault),
+        None => Ok(Checked {
+            bytes: Vec::from_slice(alloc, bytes)?,
+        }),
     }
-    let copied = Vec::from_slice(alloc, bytes).map_err(|_| WireFault::Memory)?;
-    Ok(Checked { bytes: copied })
 }
