@@ -1,13 +1,13 @@
 -- What the readers of a checked advertisement rest on.
-use Rattle.std.proofs.Common.{◌≡◌, ℕ, ◌+◌, ◌*◌, ◌-◌, ◌^◌, ◌<◌, ◌≤◌, Bool, true, false, List, [], ◌∷◌, ◌++◌, length, map, take, drop, Option, Some, None, refl, sym, ap, subst, ◌∙◌, arith}
+use Rattle.std.proofs.Common.{zero, suc, get_or, ◌≡◌, ℕ, ◌+◌, ◌*◌, ◌-◌, ◌^◌, ◌<◌, ◌≤◌, Bool, true, false, List, [], ◌∷◌, ◌++◌, length, map, take, drop, Option, Some, None, refl, sym, ap, subst, ◌∙◌, arith}
 use Rattle.std.specs.Prelude.{slice_index}
 use Rattle.std.specs.List.{flat_map, slice_get, AllByRecursion}
-use Rattle.std.proofs.lemmas.List.{drop_at, length-drop, get_or-drop}
+use Rattle.std.proofs.lemmas.List.{length-drop, drop-drop, get_or-drop, nil_from_length, append-nil, take_all}
 use Rattle.byteorder.specs.Endian.{big_bytes, big_number}
 use Rattle.ospf_types.specs.declared.lsa.Header.{Header}
 use Rattle.ospf_types.specs.declared.lsa.Link.{Link}
 use Rattle.ospf_types.specs.Lsa.{Lsa, Body, RouterLinks, NetworkLinks, NetworkSummary, BoundarySummary, AsExternal, RouterLink, MaxAge}
-use Rattle.lsa_codec.specs.Spelling.{header_bytes, body_bytes, link_bytes, spelling, IsLegal, IsLegalLink, Spells}
+use Rattle.lsa_codec.specs.Spelling.{header_bytes, body_bytes, link_bytes, spelling, IsLegal, IsLegalBody, IsLegalLink, Spells}
 use Rattle.lsa_codec.specs.Checksum.{IsSound}
 use Rattle.lsa_codec.specs.Faults.{raw_link, Walk, walk, links_walk}
 use Rattle.lsa_codec.specs.Decoding.{header_of, link_of, router_body_of, lsa_of}
@@ -58,4 +58,72 @@ links_in h flags links bytes e legal = record {
 pub kept_router : (bytes : List ℕ) (l : Lsa) → lsa_of bytes ≡ l → IsKept bytes → Links bytes (links_of l.body)
 unfolding lsa_of spelling
 kept_router bytes l e kept =
-    subst (λ (x : Lsa). Links bytes (links_of x.body)) e (links_in (header_of bytes) (slice_index bytes 20) (map link_of (links_walk (drop 20 bytes)).met) bytes (kept.spells.text ∙ same_text bytes) kept.spells.legal)
+    subst (λ (x : Lsa). Links bytes (links_of x.body)) e (links_in (header_of bytes) (slice_index (drop 20 bytes) 0) (map link_of (links_walk (drop 20 bytes)).met) bytes kept.spells.text kept.spells.legal)
+
+pub kept_kind : (bytes : List ℕ) → IsKept bytes → (lsa_of bytes).header.kind ≡ 1
+unfolding lsa_of
+kept_kind bytes kept = kept.spells.legal.kind
+
+-- ---- another age
+
+aged_body : (h : Header) (age : ℕ) (b : Body) → IsLegalBody h b → IsLegalBody (record h { age = age }) b
+aged_body h age (RouterLinks flags links) x = record { own = x.own; flags = x.flags; count = x.count; links = x.links }
+aged_body h age (NetworkLinks mask routers) x = x
+aged_body h age (NetworkSummary mask metric tos) x = x
+aged_body h age (BoundarySummary metric tos) x = x
+aged_body h age (AsExternal mask first more) x = x
+
+aged_legal : (l : Lsa) (age : ℕ) → age ≤ 3600 → IsLegal l → IsLegal (with_age l age)
+aged_legal l age le x = record {
+  age = le;
+  options = x.options;
+  kind = x.kind;
+  id = x.id;
+  router = x.router;
+  seq = x.seq;
+  sequence = x.sequence;
+  sum = x.sum;
+  length = x.length;
+  fits = x.fits;
+  body = aged_body l.header age l.body x.body;
+}
+
+aged_text : (l : Lsa) (age : ℕ) (bytes : List ℕ) → bytes ≡ spelling l → big_bytes 2 age ++ drop 2 bytes ≡ spelling (with_age l age)
+unfolding spelling
+aged_text l age bytes e = ap (λ (b : List ℕ). big_bytes 2 age ++ drop 2 b) e
+
+aged_sound : (bytes : List ℕ) (age : ℕ) → IsSound bytes → IsSound (big_bytes 2 age ++ drop 2 bytes)
+aged_sound bytes age x = record {
+  plain = x.plain;
+  weighted = x.weighted;
+  present = λ e. x.present (ap (λ (b : List ℕ). big_number 2 b) (sym (drop-drop 14 2 bytes)) ∙ e);
+}
+
+aged_spells : (bytes : List ℕ) (age : ℕ) → age ≤ 3600 → IsKept bytes → Spells (big_bytes 2 age ++ drop 2 bytes) (with_age (lsa_of bytes) age)
+aged_spells bytes age le kept = record {
+  text = aged_text (lsa_of bytes) age bytes kept.spells.text;
+  legal = aged_legal (lsa_of bytes) age le kept.spells.legal;
+}
+
+pub aged_same : (bytes : List ℕ) (age : ℕ) → age ≤ 3600 → IsKept bytes → lsa_of (big_bytes 2 age ++ drop 2 bytes) ≡ with_age (lsa_of bytes) age
+aged_same bytes age le kept =
+    spelled_same (big_bytes 2 age ++ drop 2 bytes) (with_age (lsa_of bytes) age) (aged_spells bytes age le kept) (kept_kind bytes kept)
+
+pub aged_kept : (bytes : List ℕ) (age : ℕ) → age ≤ 3600 → IsKept bytes → IsKept (big_bytes 2 age ++ drop 2 bytes)
+aged_kept bytes age le kept = record {
+  long = omega (arith, kept.long, length-drop 2 bytes);
+  sound = aged_sound bytes age kept.sound;
+  spells = subst (λ (l : Lsa). Spells (big_bytes 2 age ++ drop 2 bytes) l) (sym (aged_same bytes age le kept)) (aged_spells bytes age le kept);
+}
+
+-- ---- what the code reads and writes
+
+pub any_default : (xs : List ℕ) (i a b : ℕ) → i < length xs → get_or xs i a ≡ get_or xs i b
+any_default [] i a b lt = absurd (omega arith)
+any_default (x ∷ xs) zero a b lt = refl
+any_default (x ∷ xs) (suc i) a b lt = any_default xs i a b (omega arith)
+
+pub slice_written : (len : ℕ) (buf items : List ℕ) → len ≡ length items → length buf ≡ length items → take len (buf ++ drop (length buf) items) ≡ buf
+slice_written len buf items el eb =
+    let none : drop (length buf) items ≡ [] = nil_from_length _ (omega (arith, length-drop (length buf) items)) in
+    ap (λ (r : List ℕ). take len (buf ++ r)) none ∙ ap (take len) (append-nil buf) ∙ take_all len buf (omega arith)

@@ -9,3 +9,4 @@ pub mod LinkBytes
 pub mod Bodies
 pub mod Again
 pub mod Kept
+pub mod Places

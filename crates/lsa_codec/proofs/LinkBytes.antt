@@ -66,7 +66,7 @@ whole_again l rest =
 pub after_again : (l : RouterLink) (rest : List ℕ) → drop (link_size (link_bytes l ++ rest)) (link_bytes l ++ rest) ≡ rest
 after_again l rest = drop_at (link_bytes l) rest (12 + 4 * length l.tos) (length-link l)
 
-whole_step : (n : ℕ) (bytes : List ℕ) → is_whole bytes ≡ true → walk (suc n) bytes ≡ after_link (raw_link bytes) (walk n (drop (link_size bytes) bytes))
+pub whole_step : (n : ℕ) (bytes : List ℕ) → is_whole bytes ≡ true → walk (suc n) bytes ≡ after_link (raw_link bytes) (walk n (drop (link_size bytes) bytes))
 unfolding walk
 whole_step n bytes e = rw e refl
 
