@@ -63,3 +63,17 @@ pub past_last : (links : List RouterLink) (n : ℕ) → length links ≤ n → N
 past_last [] n le = refl
 past_last (l ∷ links) zero le = absurd (omega arith)
 past_last (l ∷ links) (suc n) le = past_last links n (omega arith)
+
+moved : (front bytes : List ℕ) (links : List RouterLink) (n : ℕ) → front ≡ bytes → StartsWith bytes links n → StartsWith front links n
+moved front bytes links n e at = record { link = at.link; rest = at.rest; text = e ∙ at.text; legal = at.legal; place = at.place }
+
+pub from_fixed : (front all : List ℕ) (links : List RouterLink) (n count : ℕ) → all ≡ flat_map link_bytes links → AllByRecursion IsLegalLink links → count ≡ length links → length all ≡ 12 * count → n < count → front ≡ drop (12 * n) all
+    → StartsWith front links n
+from_fixed front all links n count text legal same size lt e =
+    let whole : length (flat_map link_bytes links) ≡ 12 * length links = omega (arith, ap length text) in
+    moved front _ links n (e ∙ ap (drop (12 * n)) text) (fixed_starts n links legal whole (omega arith))
+
+pub from_walk : (front all : List ℕ) (links : List RouterLink) (n count : ℕ) → all ≡ flat_map link_bytes links → AllByRecursion IsLegalLink links → count ≡ length links → n < count → front ≡ (walk n all).left
+    → StartsWith front links n
+from_walk front all links n count text legal same lt e =
+    moved front _ links n (e ∙ ap (λ (b : List ℕ). (walk n b).left) text) (walk_starts n links legal (omega arith))

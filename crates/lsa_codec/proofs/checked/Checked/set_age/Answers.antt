@@ -13,7 +13,7 @@ invariant_of-self c =
     let items = c.self.inside.bytes.items in
     let new : c.write_u16.new.buf ≡ big_bytes 2 c.args.age ++ drop 2 items = c.write_u16.ensures ∙ ap (λ (b : List ℕ). big_bytes 2 c.args.age ++ drop 2 b) c.deref_mut.ensures.value in
     let same : length c.write_u16.new.buf ≡ length items = omega (arith, ap length new, length-drop 2 items, c.self.invariant.long) in
-    let whole = slice_written c.self.inside.bytes.len c.write_u16.new.buf items ? same ∙ new in
+    let whole = slice_written c.self.inside.bytes.len c.write_u16.new.buf items (omega arith) same ∙ new in
     subst IsKept (sym whole) (aged_kept items c.args.age c.requires c.self.invariant)
 
 pub returns : goal.returns
