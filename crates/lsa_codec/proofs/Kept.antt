@@ -127,3 +127,28 @@ pub slice_written : (len : ℕ) (buf items : List ℕ) → len ≡ length items 
 slice_written len buf items el eb =
     let none : drop (length buf) items ≡ [] = nil_from_length _ (omega (arith, length-drop (length buf) items)) in
     ap (λ (r : List ℕ). take len (buf ++ r)) none ∙ ap (take len) (append-nil buf) ∙ take_all len buf (omega arith)
+
+-- ---- equal contents
+
+head_is : (bytes : List ℕ) (l : Lsa) → bytes ≡ spelling l → take 2 (drop 2 bytes) ≡ l.header.options ∷ l.header.kind ∷ []
+unfolding spelling
+head_is bytes l e = ap (λ (b : List ℕ). take 2 (drop 2 b)) e
+
+front_same : (a b c d : ℕ) → a ∷ b ∷ [] ≡ c ∷ d ∷ [] → a ≡ c
+front_same a b c d e = cc
+
+pub same_options : (a b : List ℕ) (l m : Lsa) → a ≡ spelling l → b ≡ spelling m → take 2 (drop 2 a) ≡ take 2 (drop 2 b) → l.header.options ≡ m.header.options
+same_options a b l m ea eb e =
+    front_same l.header.options l.header.kind m.header.options m.header.kind (sym (head_is a l ea) ∙ e ∙ head_is b m eb)
+
+pub same_body : (a b : List ℕ) (l m : Lsa) → lsa_of a ≡ l → lsa_of b ≡ m → drop 20 a ≡ drop 20 b → l.body ≡ m.body
+unfolding lsa_of
+same_body a b l m ea eb e =
+    sym (ap (λ (x : Lsa). x.body) ea) ∙ ap router_body_of e ∙ ap (λ (x : Lsa). x.body) eb
+
+pub same_front : (a b : List ℕ) (l m : Lsa) → a ≡ spelling l → b ≡ spelling m → l.header.kind ≡ m.header.kind → l.header.options ≡ m.header.options → take 2 (drop 2 a) ≡ take 2 (drop 2 b)
+same_front a b l m ea eb kind options =
+    head_is a l ea ∙ ap (λ (k : ℕ). l.header.options ∷ k ∷ []) kind ∙ ap (λ (o : ℕ). o ∷ m.header.kind ∷ []) options ∙ sym (head_is b m eb)
+
+pub kind_of_kept : (bytes : List ℕ) (l : Lsa) → lsa_of bytes ≡ l → IsKept bytes → l.header.kind ≡ 1
+kind_of_kept bytes l e kept = ap (λ (x : Lsa). x.header.kind) (sym e) ∙ kept_kind bytes kept

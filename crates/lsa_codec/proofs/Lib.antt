@@ -10,3 +10,4 @@ pub mod Bodies
 pub mod Again
 pub mod Kept
 pub mod Places
+pub mod Contents

@@ -178,8 +178,8 @@ entries_take (suc n) bytes fits room none =
     let place : drop (4 * n) (drop 4 bytes) ≡ drop (4 * suc n) bytes = drop-drop (4 * n) 4 bytes ∙ ap (λ (k : ℕ). drop k bytes) (omega arith) in
     record {
       text = ap (λ (r : List ℕ). slice_index bytes 0 ∷ 0 ∷ (big_bytes 2 (big_number 2 (drop 2 bytes)) ++ (flat_map link_tos_bytes (map tos_of (raw_entries n (drop 4 bytes))) ++ r))) (sym place)
-      ∙ ap (λ (r : List ℕ). slice_index bytes 0 ∷ 0 ∷ (big_bytes 2 (big_number 2 (drop 2 bytes)) ++ r)) more.text
-      ∙ entry_text bytes (omega arith) fits reserved;
+          ∙ ap (λ (r : List ℕ). slice_index bytes 0 ∷ 0 ∷ (big_bytes 2 (big_number 2 (drop 2 bytes)) ++ r)) more.text
+          ∙ entry_text bytes (omega arith) fits reserved;
       legal = (record { tos = fits 0; metric = metric }, more.legal);
       count = omega (arith, more.count);
     }
@@ -270,13 +270,13 @@ walk_takes (suc n) bytes fits met no_reserved no_mask no_unknown =
     elim (bool_cases (is_whole bytes)) [
       | inr stuck ↦ absurd (omega (arith, met, ap (λ (w : Walk). length w.met) (stuck_step n bytes stuck)))
       | inl whole ↦
-        let step = whole_step n bytes whole in
-        let after : List ℕ = drop (link_size bytes) bytes in
-        let fewer : length (walk n after).met ≡ n = omega (arith, met, ap (λ (w : Walk). length w.met) step) in
-        let r : (has_reserved_entry (raw_link bytes) || list_any has_reserved_entry (walk n after).met) ≡ false = ap (λ (w : Walk). list_any has_reserved_entry w.met) (sym step) ∙ no_reserved in
-        let m : (has_wrong_mask (raw_link bytes) || list_any has_wrong_mask (walk n after).met) ≡ false = ap (λ (w : Walk). list_any has_wrong_mask w.met) (sym step) ∙ no_mask in
-        let u : (is_unknown (raw_link bytes) || list_any is_unknown (walk n after).met) ≡ false = ap (λ (w : Walk). list_any is_unknown w.met) (sym step) ∙ no_unknown in
-        let link = link_takes bytes fits whole (or_left _ _ r) (or_left _ _ m) (or_left _ _ u) in
-        let more = walk_takes n after (IsBytes-drop (link_size bytes) bytes fits) fewer (or_right _ _ r) (or_right _ _ m) (or_right _ _ u) in
-        walk_takes_link n bytes more link whole
+          let step = whole_step n bytes whole in
+          let after : List ℕ = drop (link_size bytes) bytes in
+          let fewer : length (walk n after).met ≡ n = omega (arith, met, ap (λ (w : Walk). length w.met) step) in
+          let r : (has_reserved_entry (raw_link bytes) || list_any has_reserved_entry (walk n after).met) ≡ false = ap (λ (w : Walk). list_any has_reserved_entry w.met) (sym step) ∙ no_reserved in
+          let m : (has_wrong_mask (raw_link bytes) || list_any has_wrong_mask (walk n after).met) ≡ false = ap (λ (w : Walk). list_any has_wrong_mask w.met) (sym step) ∙ no_mask in
+          let u : (is_unknown (raw_link bytes) || list_any is_unknown (walk n after).met) ≡ false = ap (λ (w : Walk). list_any is_unknown w.met) (sym step) ∙ no_unknown in
+          let link = link_takes bytes fits whole (or_left _ _ r) (or_left _ _ m) (or_left _ _ u) in
+          let more = walk_takes n after (IsBytes-drop (link_size bytes) bytes fits) fewer (or_right _ _ r) (or_right _ _ m) (or_right _ _ u) in
+          walk_takes_link n bytes more link whole
     ]
