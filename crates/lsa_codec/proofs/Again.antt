@@ -1,15 +1,13 @@
 -- What is sound and spelled so is read, and is what it was.
-use Rattle.std.proofs.Common.{◌≡◌, ◌≢◌, ℕ, ◌+◌, ◌^◌, ◌<◌, ◌≤◌, Bool, true, false, ◌||◌, ◌&&◌, not, eqb, ltb, List, [], ◌∷◌, ◌++◌, length, map, drop, None, refl, sym, ap, subst, ◌∙◌, arith}
-use Rattle.std.specs.Prelude.{slice_index}
+use Rattle.std.proofs.Common.{◌≡◌, ℕ, ◌+◌, ◌^◌, ◌<◌, not, eqb, List, [], ◌++◌, length, map, None, refl, sym, ap, subst, ◌∙◌, arith}
 use Rattle.std.specs.List.{list_any, flat_map, AllByRecursion}
 use Rattle.std.proofs.lemmas.Bool.{eq-eqb, ne_eqb, le-ltb}
 use Rattle.std.proofs.lemmas.List.{append-nil, length-map}
-use Rattle.byteorder.specs.Endian.{big_bytes, big_number}
 use Rattle.ospf_types.specs.declared.lsa.Header.{Header}
-use Rattle.ospf_types.specs.Lsa.{Lsa, Body, RouterLinks, NetworkLinks, NetworkSummary, BoundarySummary, AsExternal, RouterLink, MaxAge}
+use Rattle.ospf_types.specs.Lsa.{Lsa, Body, RouterLinks, NetworkLinks, NetworkSummary, BoundarySummary, AsExternal, RouterLink}
 use Rattle.lsa_codec.specs.Spelling.{header_bytes, body_bytes, link_bytes, spelling, IsLegal, IsLegalLink, Spells}
 use Rattle.lsa_codec.specs.Checksum.{IsSound}
-use Rattle.lsa_codec.specs.Faults.{age_field, kind_field, id_field, router_field, sequence_field, length_field, is_wrong_length, is_cut, count_field, Walk, walk, links_walk, is_incomplete, has_reserved_entry, has_wrong_mask, is_unknown, has_reserved, has_mask_fault, has_unknown_link, is_misshapen, fault_of}
+use Rattle.lsa_codec.specs.Faults.{count_field, Walk, walk, links_walk, has_reserved_entry, has_wrong_mask, is_unknown, fault_of}
 use Rattle.lsa_codec.specs.Decoding.{header_of, link_of, router_body_of, lsa_of}
 use Rattle.lsa_codec.proofs.Words.{number_again}
 use Rattle.lsa_codec.proofs.Headers.{header_again, IsWideHeader}

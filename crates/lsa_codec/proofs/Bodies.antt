@@ -1,22 +1,22 @@
 -- Whole advertisements: what is read without a fault is sound and spelled so, and what is sound and
 -- spelled so is read.
-use Rattle.std.proofs.Common.{◌≡◌, ◌≢◌, ℕ, suc, ◌+◌, ◌*◌, ◌-◌, ◌%◌, ◌^◌, ◌<◌, ◌≤◌, Bool, true, false, ◌||◌, ◌&&◌, not, eqb, ltb, List, [], ◌∷◌, ◌++◌, length, map, take, drop, sum, Some, None, refl, sym, ap, subst, ◌∙◌, append_assoc, arith}
+use Rattle.std.proofs.Common.{◌≡◌, ℕ, ◌+◌, ◌%◌, ◌^◌, ◌<◌, ◌≤◌, Bool, true, false, ◌||◌, ◌&&◌, not, eqb, ltb, List, [], ◌∷◌, ◌++◌, length, map, drop, sum, None, refl, sym, ap, ◌∙◌, arith}
 use Rattle.std.specs.Prelude.{slice_index}
 use Rattle.std.specs.List.{list_any, flat_map, AllByRecursion}
-use Rattle.std.proofs.lemmas.Bool.{eq-eqb, ne_eqb, eqb-true, eqb-false, le-ltb, ltb-false}
-use Rattle.std.proofs.lemmas.List.{length-append, length-drop, append-nil, nil_from_length, length-map}
-use Rattle.byteorder.specs.Endian.{big_bytes, big_number}
+use Rattle.std.proofs.lemmas.Bool.{eq-eqb, ne_eqb, eqb-true, eqb-false, ltb-false}
+use Rattle.std.proofs.lemmas.List.{length-drop, append-nil, nil_from_length, length-map}
+use Rattle.byteorder.specs.Endian.{big_bytes}
 use Rattle.ospf_types.specs.declared.lsa.Header.{Header}
-use Rattle.ospf_types.specs.Lsa.{Lsa, Body, RouterLinks, NetworkLinks, NetworkSummary, BoundarySummary, AsExternal, RouterLink, kind_of}
-use Rattle.lsa_codec.specs.Spelling.{header_bytes, body_bytes, link_bytes, spelling, IsLegal, IsLegalRouter, IsLegalBody, IsLegalLink, Spells}
+use Rattle.ospf_types.specs.Lsa.{RouterLink}
+use Rattle.lsa_codec.specs.Spelling.{header_bytes, body_bytes, link_bytes, spelling, IsLegalLink}
 use Rattle.lsa_codec.specs.Checksum.{IsSound, is_sound, sum_field, covered, weighted_sum}
-use Rattle.lsa_codec.specs.Faults.{age_field, options_field, kind_field, id_field, router_field, sequence_field, length_field, body_field, is_wrong_length, is_cut, count_field, Walk, walk, links_walk, is_incomplete, has_reserved_entry, has_wrong_mask, is_unknown, has_reserved, has_mask_fault, has_unknown_link, is_misshapen, fault_of}
+use Rattle.lsa_codec.specs.Faults.{length_field, is_cut, count_field, Walk, links_walk, is_incomplete, has_reserved_entry, has_wrong_mask, is_unknown, has_reserved, has_mask_fault, has_unknown_link, is_misshapen, fault_of}
 use Rattle.lsa_codec.specs.Decoding.{header_of, link_of, router_body_of, lsa_of}
 use Rattle.lsa_codec.specs.Kept.{IsKept}
-use Rattle.lsa_codec.proofs.Words.{IsBytes, IsBytes-drop, number_again, number_below, back_2, back_4, word_2, word_4, byte_1}
-use Rattle.lsa_codec.proofs.Headers.{header_takes, header_again, IsWideHeader}
-use Rattle.lsa_codec.proofs.LinkBytes.{raw_link_of, walk_again, links_of_again, none_reserved, none_wrong_mask, none_unknown, walk_takes}
-use Rattle.lsa_codec.proofs.Tables.{HasNone, none_holds, no_fault}
+use Rattle.lsa_codec.proofs.Words.{IsBytes, IsBytes-drop, number_below, word_2, byte_1}
+use Rattle.lsa_codec.proofs.Headers.{header_takes}
+use Rattle.lsa_codec.proofs.LinkBytes.{walk_takes}
+use Rattle.lsa_codec.proofs.Tables.{none_holds}
 
 or_left : (a b : Bool) → (a || b) ≡ false → a ≡ false
 or_left true b e = absurd cc

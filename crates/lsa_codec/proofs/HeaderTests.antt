@@ -1,5 +1,5 @@
 -- What a comparison of header fields says of the tests.
-use Rattle.std.proofs.Common.{◌≡◌, ◌≢◌, ℕ, ◌<◌, ◌≤◌, Bool, true, false, not, eqb, ltb, List, sym, ap, ◌∙◌}
+use Rattle.std.proofs.Common.{◌≡◌, ℕ, ◌<◌, ◌≤◌, true, false, not, eqb, ltb, List, sym, ap, ◌∙◌}
 use Rattle.std.proofs.lemmas.Bool.{eq-eqb, ne_eqb, le-ltb, lt-ltb}
 use Rattle.ospf_types.specs.declared.lsa.Header.{Header}
 use Rattle.lsa_codec.specs.Faults.{age_field, sequence_field, kind_field, id_field, router_field}

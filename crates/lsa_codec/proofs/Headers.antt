@@ -1,11 +1,10 @@
 -- A header that is read is the header that was written, and what was written is read again.
-use Rattle.std.proofs.Common.{◌≡◌, ℕ, ◌+◌, ◌^◌, ◌<◌, ◌≤◌, List, [], ◌∷◌, ◌++◌, length, drop, refl, sym, ap, ◌∙◌, arith}
+use Rattle.std.proofs.Common.{◌≡◌, ℕ, ◌^◌, ◌<◌, ◌≤◌, List, [], ◌∷◌, ◌++◌, length, drop, refl, ap, ◌∙◌, arith}
 use Rattle.byteorder.specs.Endian.{big_bytes}
 use Rattle.ospf_types.specs.declared.lsa.Header.{Header}
-use Rattle.ospf_types.specs.Lsa.{Lsa}
-use Rattle.lsa_codec.specs.Spelling.{header_bytes, IsLegal}
+use Rattle.lsa_codec.specs.Spelling.{header_bytes}
 use Rattle.lsa_codec.specs.Checksum.{sum_field}
-use Rattle.lsa_codec.specs.Faults.{age_field, options_field, kind_field, id_field, router_field, sequence_field, length_field}
+use Rattle.lsa_codec.specs.Faults.{age_field, options_field, kind_field, id_field, router_field, sequence_field}
 use Rattle.lsa_codec.specs.Decoding.{header_of}
 use Rattle.lsa_codec.proofs.Words.{IsBytes, number_again, back_2, word_2, word_4, byte_1}
 

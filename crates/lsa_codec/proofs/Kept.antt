@@ -1,21 +1,19 @@
 -- What the readers of a checked advertisement rest on.
-use Rattle.std.proofs.Common.{zero, suc, get_or, ◌≡◌, ℕ, ◌+◌, ◌*◌, ◌-◌, ◌^◌, ◌<◌, ◌≤◌, Bool, true, false, List, [], ◌∷◌, ◌++◌, length, map, take, drop, Option, Some, None, refl, sym, ap, subst, ◌∙◌, arith}
+use Rattle.std.proofs.Common.{zero, suc, get_or, ◌≡◌, ℕ, ◌<◌, ◌≤◌, List, [], ◌∷◌, ◌++◌, length, map, take, drop, Some, refl, sym, ap, subst, ◌∙◌, arith}
 use Rattle.std.specs.Prelude.{slice_index}
-use Rattle.std.specs.List.{flat_map, slice_get, AllByRecursion}
+use Rattle.std.specs.List.{flat_map, AllByRecursion}
 use Rattle.std.proofs.lemmas.List.{length-drop, drop-drop, get_or-drop, nil_from_length, append-nil, take_all}
 use Rattle.byteorder.specs.Endian.{big_bytes, big_number}
 use Rattle.ospf_types.specs.declared.lsa.Header.{Header}
-use Rattle.ospf_types.specs.declared.lsa.Link.{Link}
-use Rattle.ospf_types.specs.Lsa.{Lsa, Body, RouterLinks, NetworkLinks, NetworkSummary, BoundarySummary, AsExternal, RouterLink, MaxAge}
+use Rattle.ospf_types.specs.Lsa.{Lsa, Body, RouterLinks, NetworkLinks, NetworkSummary, BoundarySummary, AsExternal, RouterLink}
 use Rattle.lsa_codec.specs.Spelling.{header_bytes, body_bytes, link_bytes, spelling, IsLegal, IsLegalBody, IsLegalLink, Spells}
 use Rattle.lsa_codec.specs.Checksum.{IsSound}
-use Rattle.lsa_codec.specs.Faults.{raw_link, Walk, walk, links_walk}
+use Rattle.lsa_codec.specs.Faults.{links_walk}
 use Rattle.lsa_codec.specs.Decoding.{header_of, link_of, router_body_of, lsa_of}
-use Rattle.lsa_codec.specs.Readers.{flags_of, links_of, link_at, without_tos, with_age}
+use Rattle.lsa_codec.specs.Readers.{flags_of, links_of, with_age}
 use Rattle.lsa_codec.specs.Kept.{IsKept}
 use Rattle.lsa_codec.proofs.Words.{number_again}
-use Rattle.lsa_codec.proofs.LinkBytes.{raw_link_of, walk_again, link_again, link_of_again, length-link}
-use Rattle.lsa_codec.proofs.Again.{is_read, spelled_same}
+use Rattle.lsa_codec.proofs.Again.{spelled_same}
 
 pub kept_header : (bytes : List ℕ) (l : Lsa) → lsa_of bytes ≡ l → header_of bytes ≡ l.header
 unfolding lsa_of

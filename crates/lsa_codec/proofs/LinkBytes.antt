@@ -1,19 +1,19 @@
 -- Links and their TOS entries: what is read is spelled so, and what is spelled so is read.
-use Rattle.std.proofs.Common.{◌≡◌, ℕ, zero, suc, ◌+◌, ◌*◌, ◌-◌, ◌^◌, ◌<◌, ◌≤◌, Bool, true, false, ◌||◌, ◌&&◌, not, cond, eqb, ltb, leb, List, [], ◌∷◌, ◌++◌, length, map, take, drop, refl, sym, ap, subst, ◌∙◌, append_assoc, inl, inr, arith}
+use Rattle.std.proofs.Common.{◌≡◌, ℕ, zero, suc, ◌+◌, ◌*◌, ◌^◌, ◌<◌, ◌≤◌, Bool, true, false, ◌||◌, ◌&&◌, not, eqb, ltb, List, [], ◌∷◌, ◌++◌, length, map, drop, refl, sym, ap, subst, ◌∙◌, append_assoc, inl, inr, arith}
 use Rattle.std.specs.Prelude.{◌⊎◌}
 use Rattle.std.specs.Prelude.{slice_index}
 use Rattle.std.specs.List.{list_any, flat_map, AllByRecursion}
-use Rattle.std.proofs.lemmas.Bool.{eq-eqb, ne_eqb, eqb-true, le-leb, leb-true, ltb-false}
+use Rattle.std.proofs.lemmas.Bool.{eqb-true, le-leb, leb-true, ltb-false}
 use Rattle.std.proofs.lemmas.List.{length-append, length-drop, drop-drop, drop_at}
 use Rattle.byteorder.specs.Endian.{big_bytes, big_number}
 use Rattle.ospf_types.specs.declared.lsa.LinkKind.{LinkKind}
 use Rattle.ospf_types.specs.declared.lsa.LinkKind.TheVariants.{PointToPoint, Transit, Stub, Virtual}
 use Rattle.ospf_types.specs.Lsa.{RouterLink, Tos}
-use Rattle.lsa_codec.specs.Spelling.{number_of_kind, link_tos_bytes, link_bytes, IsMask, IsLegalDetail, IsLegalLinkTos, IsLegalLink}
+use Rattle.lsa_codec.specs.Spelling.{number_of_kind, link_tos_bytes, link_bytes, IsLegalDetail, IsLegalLinkTos, IsLegalLink}
 use Rattle.lsa_codec.specs.Faults.{is_mask, RawTos, RawLink, raw_entries, raw_link, link_size, is_whole, Walk, after_link, walk, has_reserved_entry, has_wrong_mask, is_unknown}
 use Rattle.lsa_codec.specs.Decoding.{kind_of_number, tos_of, link_of}
 use Rattle.lsa_codec.proofs.Walks.{is_set}
-use Rattle.lsa_codec.proofs.Words.{IsBytes, IsBytes-drop, number_again, number_below, back_2, back_4, word_2, word_4, byte_1}
+use Rattle.lsa_codec.proofs.Words.{IsBytes, IsBytes-drop, number_again, number_below, back_4, word_2, word_4, byte_1}
 use Rattle.lsa_codec.proofs.Masks.{IsMask-from_test, test-from_IsMask}
 
 -- ---- written, then read

@@ -1,11 +1,11 @@
 -- Where the link at a place stands among the links.
-use Rattle.std.proofs.Common.{◌≡◌, ℕ, zero, suc, ◌+◌, ◌*◌, ◌-◌, ◌<◌, ◌≤◌, true, List, [], ◌∷◌, ◌++◌, length, map, drop, Option, Some, None, refl, sym, ap, ◌∙◌, arith}
+use Rattle.std.proofs.Common.{◌≡◌, ℕ, zero, suc, ◌+◌, ◌*◌, ◌<◌, ◌≤◌, List, [], ◌∷◌, ◌++◌, length, map, drop, Some, None, refl, sym, ap, ◌∙◌, arith}
 use Rattle.std.specs.List.{flat_map, slice_get, AllByRecursion}
-use Rattle.std.proofs.lemmas.List.{length-append, length-map, drop_at, drop-drop}
+use Rattle.std.proofs.lemmas.List.{length-append, drop_at, drop-drop}
 use Rattle.ospf_types.specs.declared.lsa.Link.{Link}
 use Rattle.ospf_types.specs.Lsa.{RouterLink}
 use Rattle.lsa_codec.specs.Spelling.{link_bytes, IsLegalLink}
-use Rattle.lsa_codec.specs.Faults.{RawLink, raw_link, link_size, is_whole, Walk, after_link, walk}
+use Rattle.lsa_codec.specs.Faults.{raw_link, Walk, walk}
 use Rattle.lsa_codec.specs.Decoding.{link_of}
 use Rattle.lsa_codec.specs.Readers.{without_tos}
 use Rattle.lsa_codec.proofs.LinkBytes.{link_again, link_of_again, length-link, whole_again, after_again, whole_step}
@@ -58,11 +58,6 @@ shown bytes links n front at e =
 pub starts_long : (bytes : List ℕ) (links : List RouterLink) (n : ℕ) → StartsWith bytes links n → 12 ≤ length bytes
 starts_long bytes links n at =
     omega (arith, ap length at.text, length-append (link_bytes at.link) at.rest, length-link at.link)
-
-pub past_last : (links : List RouterLink) (n : ℕ) → length links ≤ n → None ≡ slice_get (map without_tos links) n
-past_last [] n le = refl
-past_last (l ∷ links) zero le = absurd (omega arith)
-past_last (l ∷ links) (suc n) le = past_last links n (omega arith)
 
 moved : (front bytes : List ℕ) (links : List RouterLink) (n : ℕ) → front ≡ bytes → StartsWith bytes links n → StartsWith front links n
 moved front bytes links n e at = record { link = at.link; rest = at.rest; text = e ∙ at.text; legal = at.legal; place = at.place }

@@ -1,5 +1,5 @@
 -- The advertisement that bytes stand for.
-use Rattle.std.specs.Prelude.{ℕ, List, map, drop, slice_index, ◌==◌, if◌then◌else◌}
+use Rattle.std.specs.Prelude.{ℕ, List, map, slice_index, ◌==◌, if◌then◌else◌}
 use Rattle.ospf_types.specs.declared.lsa.Header.{Header}
 use Rattle.ospf_types.specs.declared.lsa.LinkKind.{LinkKind}
 use Rattle.ospf_types.specs.declared.lsa.LinkKind.TheVariants.{PointToPoint, Transit, Stub, Virtual}

@@ -1,5 +1,5 @@
 -- Why bytes are refused: the first that holds of a list of tests.
-use Rattle.std.specs.Prelude.{◌≡◌, ℕ, zero, suc, ◌+◌, ◌*◌, ◌-◌, ◌^◌, ◌==◌, Bool, ◌&&◌, ◌||◌, not, cond, nat_lt, nat_le, if◌then◌else◌, List, [], ◌∷◌, length, drop, slice_index, Option, Some, None}
+use Rattle.std.specs.Prelude.{ℕ, zero, suc, ◌+◌, ◌*◌, ◌-◌, ◌^◌, ◌==◌, Bool, ◌&&◌, ◌||◌, not, nat_lt, nat_le, if◌then◌else◌, List, [], ◌∷◌, length, drop, slice_index, Option, Some, None}
 use Rattle.std.specs.List.{list_any}
 use Rattle.byteorder.specs.Endian.{big_number}
 use Rattle.ospf_types.specs.Masks.{mask_length}
@@ -130,14 +130,18 @@ is_misshapen body = is_cut body || is_incomplete (count_field body) (links_walk 
 
 -- ---- the faults in their order
 
-unfoldable pub body_fault_of : List ℕ → Option WireFault
-body_fault_of bytes = first_of (
+-- those past the LS type
+abbrev pub body_tests : List ℕ → List (Bool × WireFault)
+body_tests bytes =
     (has_reserved (body_field bytes), Reserved)
     ∷ (has_mask_fault (body_field bytes), Mask)
     ∷ (not (id_field bytes == router_field bytes), RouterId)
     ∷ (has_unknown_link (body_field bytes), LinkType)
     ∷ (is_misshapen (body_field bytes), Shape)
-    ∷ [])
+    ∷ []
+
+unfoldable pub body_fault_of : List ℕ → Option WireFault
+body_fault_of bytes = first_of (body_tests bytes)
 
 unfoldable pub fault_of : List ℕ → Option WireFault
 fault_of bytes = first_of (
@@ -146,9 +150,4 @@ fault_of bytes = first_of (
     ∷ (nat_lt 3600 (age_field bytes), Age)
     ∷ (sequence_field bytes == 0x8000_0000, Sequence)
     ∷ (not (kind_field bytes == 1), Kind)
-    ∷ (has_reserved (body_field bytes), Reserved)
-    ∷ (has_mask_fault (body_field bytes), Mask)
-    ∷ (not (id_field bytes == router_field bytes), RouterId)
-    ∷ (has_unknown_link (body_field bytes), LinkType)
-    ∷ (is_misshapen (body_field bytes), Shape)
-    ∷ [])
+    ∷ body_tests bytes)

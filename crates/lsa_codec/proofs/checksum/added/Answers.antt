@@ -1,4 +1,4 @@
-use Rattle.std.proofs.Common.{◌≡◌, ◌+◌, sum, take, ◌<◌, arith}
+use Rattle.std.proofs.Common.{◌<◌, arith}
 use Rattle.std.proofs.lemmas.List.Sums.{sum_by_more}
 use Rattle.lsa_codec.proofs.Checksums.{weighted_more}
 use Rattle.lsa_codec.proofs.checksum.added.Goals as goal

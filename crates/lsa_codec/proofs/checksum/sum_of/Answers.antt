@@ -1,5 +1,5 @@
 use Rattle.std.proofs.Common.{◌≡◌, ℕ, ◌+◌, ◌*◌, ◌/◌, ◌%◌, ◌-◌, sum, length, sym, subst, refl, rules, arith}
-use Rattle.lsa_codec.specs.Checksum.{checksum_of, weighted_sum, covered, with_sum, first_check, second_check, check_bytes, IsSound}
+use Rattle.lsa_codec.specs.Checksum.{checksum_of, weighted_sum, covered, with_sum, check_bytes, IsSound}
 use Rattle.lsa_codec.proofs.Checksums.{sound_with, first_is, second_is, value_is}
 use Rattle.lsa_codec.proofs.checksum.sum_of.Goals as goal
 

@@ -1,7 +1,6 @@
-use Rattle.std.proofs.Common.{◌≡◌, ◌++◌, sym, ◌∙◌, ap, subst, take, drop, length, ◌+◌, ◌*◌, ◌%◌, sum, List, ℕ, arith}
+use Rattle.std.proofs.Common.{◌≡◌, ◌++◌, sym, ◌∙◌, length, arith}
 use Rattle.std.proofs.lemmas.List.{take-append-drop}
 use Rattle.std.proofs.lemmas.Bool.{eqb-true}
-use Rattle.lsa_codec.specs.Checksum.{weighted_sum}
 use Rattle.lsa_codec.proofs.Checksums.{plain_step, weighted_step, plain_end, weighted_end}
 use Rattle.lsa_codec.proofs.checksum.summed.Goals as goal
 

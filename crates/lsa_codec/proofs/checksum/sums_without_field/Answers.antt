@@ -1,4 +1,4 @@
-use Rattle.std.proofs.Common.{rules, arith}
+use Rattle.std.proofs.Common.{rules}
 use Rattle.lsa_codec.proofs.Checksums.{plain_joined, weighted_joined, from_place}
 use Rattle.lsa_codec.proofs.checksum.sums_without_field.Goals as goal
 

@@ -1,4 +1,4 @@
-use Rattle.std.proofs.Common.{sym, ◌∙◌, arith}
+use Rattle.std.proofs.Common.{sym, ◌∙◌}
 use Rattle.lsa_codec.proofs.Checksums.{from_place}
 use Rattle.lsa_codec.proofs.Walks.{walk_stuck, walk_done, left_more, left_ends}
 use Rattle.lsa_codec.proofs.links.after_links.Goals as goal

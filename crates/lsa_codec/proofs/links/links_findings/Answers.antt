@@ -1,5 +1,4 @@
-use Rattle.std.proofs.Common.{sym, ◌∙◌, arith}
-use Rattle.std.proofs.lemmas.Bool.{eq-eqb, ne_eqb}
+use Rattle.std.proofs.Common.{sym, ◌∙◌}
 use Rattle.lsa_codec.specs.Faults.{has_reserved_entry, has_wrong_mask, is_unknown}
 use Rattle.lsa_codec.proofs.Checksums.{from_place}
 use Rattle.lsa_codec.proofs.Walks.{walk_stuck, walk_done, any_more, any_ends, met_more, met_ends, left_more, left_ends, cut_short, counted}

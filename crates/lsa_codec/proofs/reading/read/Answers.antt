@@ -1,6 +1,5 @@
-use Rattle.std.proofs.Common.{◌≡◌, None, List, ℕ, sym, ap, subst, ◌∙◌, arith}
+use Rattle.std.proofs.Common.{List, ℕ, sym, ap, subst, ◌∙◌, arith}
 use Rattle.lsa_codec.specs.Spelling.{Spells}
-use Rattle.lsa_codec.specs.Faults.{fault_of}
 use Rattle.lsa_codec.specs.Decoding.{lsa_of}
 use Rattle.lsa_codec.specs.Kept.{IsKept}
 use Rattle.lsa_codec.proofs.Bodies.{takes_all}

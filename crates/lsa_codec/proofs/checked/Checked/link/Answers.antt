@@ -1,11 +1,11 @@
-use Rattle.std.proofs.Common.{◌≡◌, ◌-◌, ◌*◌, ℕ, List, Bor, length, take, drop, sym, ap, ◌∙◌, arith}
+use Rattle.std.proofs.Common.{◌≡◌, ◌-◌, ◌*◌, ℕ, List, Bor, length, take, drop, ap, ◌∙◌}
 use Rattle.std.specs.List.{flat_map}
 use Rattle.ospf_types.specs.Lsa.{RouterLink}
 use Rattle.lsa_codec.specs.Spelling.{link_bytes}
 use Rattle.lsa_codec.specs.Readers.{links_of}
 use Rattle.lsa_codec.proofs.Checksums.{from_place}
 use Rattle.lsa_codec.proofs.Kept.{kept_router}
-use Rattle.lsa_codec.proofs.Places.{StartsWith, from_fixed, from_walk, shown, starts_long, past_last}
+use Rattle.lsa_codec.proofs.Places.{StartsWith, from_fixed, from_walk, shown, starts_long}
 use Rattle.lsa_codec.proofs.checked.Checked.link.Goals as goal
 use Rattle.lsa_codec.proofs.checked.Checked.link.Goals.{then-links-count, else-links-count}
 
