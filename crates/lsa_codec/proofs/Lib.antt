@@ -1,0 +1,13 @@
+pub mod Checksums
+pub mod Walks
+pub mod Words
+pub mod Headers
+pub mod Tables
+pub mod HeaderTests
+pub mod Masks
+pub mod LinkBytes
+pub mod Bodies
+pub mod Again
+pub mod Kept
+pub mod Places
+pub mod Contents

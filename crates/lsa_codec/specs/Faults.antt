@@ -1,0 +1,153 @@
+-- Why bytes are refused: the first that holds of a list of tests.
+use Rattle.std.specs.Prelude.{ℕ, zero, suc, ◌+◌, ◌*◌, ◌-◌, ◌^◌, ◌==◌, Bool, ◌&&◌, ◌||◌, not, nat_lt, nat_le, if◌then◌else◌, List, [], ◌∷◌, length, drop, slice_index, Option, Some, None}
+use Rattle.std.specs.List.{list_any}
+use Rattle.byteorder.specs.Endian.{big_number}
+use Rattle.ospf_types.specs.Masks.{mask_length}
+use Rattle.lsa_codec.specs.Checksum.{is_sound}
+use Rattle.lsa_codec.specs.declared.fault.WireFault.{WireFault}
+use Rattle.lsa_codec.specs.declared.fault.WireFault.TheVariants.{Length, Checksum, Age, Sequence, Kind, Reserved, Mask, RouterId, LinkType, Shape}
+
+abbrev pub first_of : List (Bool × WireFault) → Option WireFault
+first_of [] = None
+first_of (test ∷ tests) = if test.0 then Some test.1 else first_of tests
+
+-- ---- the header (A.4.1)
+
+abbrev pub age_field : List ℕ → ℕ
+age_field bytes = big_number 2 bytes
+
+abbrev pub options_field : List ℕ → ℕ
+options_field bytes = slice_index bytes 2
+
+abbrev pub kind_field : List ℕ → ℕ
+kind_field bytes = slice_index bytes 3
+
+abbrev pub id_field : List ℕ → ℕ
+id_field bytes = big_number 4 (drop 4 bytes)
+
+abbrev pub router_field : List ℕ → ℕ
+router_field bytes = big_number 4 (drop 8 bytes)
+
+abbrev pub sequence_field : List ℕ → ℕ
+sequence_field bytes = big_number 4 (drop 12 bytes)
+
+abbrev pub length_field : List ℕ → ℕ
+length_field bytes = big_number 2 (drop 18 bytes)
+
+abbrev pub body_field : List ℕ → List ℕ
+body_field bytes = drop 20 bytes
+
+abbrev pub is_wrong_length : List ℕ → Bool
+is_wrong_length bytes = nat_lt (length bytes) 20 || not (length_field bytes == length bytes)
+
+-- ones and then zeros: as many ones in front as there are at all
+abbrev pub is_mask : ℕ → Bool
+is_mask mask = mask == 2 ^ 32 - 2 ^ (32 - mask_length mask)
+
+-- ---- the links of a router-LSA (A.4.2), as they stand
+
+pub record RawTos : Type 0 where
+  pub tos : ℕ
+  pub reserved : ℕ
+  pub metric : ℕ
+
+pub record RawLink : Type 0 where
+  pub id : ℕ
+  pub detail : ℕ
+  pub kind : ℕ
+  pub metric : ℕ
+  pub tos : List RawTos
+
+unfoldable pub raw_entries : ℕ → List ℕ → List RawTos
+raw_entries zero bytes = []
+raw_entries (suc n) bytes =
+    record { tos = slice_index bytes 0; reserved = slice_index bytes 1; metric = big_number 2 (drop 2 bytes) } ∷ raw_entries n (drop 4 bytes)
+
+-- 12 bytes, and 4 for each TOS entry
+abbrev pub link_size : List ℕ → ℕ
+link_size bytes = 12 + 4 * slice_index bytes 9
+
+abbrev pub is_whole : List ℕ → Bool
+is_whole bytes = nat_le (link_size bytes) (length bytes)
+
+abbrev pub raw_link : List ℕ → RawLink
+raw_link bytes = record {
+  id = big_number 4 bytes;
+  detail = big_number 4 (drop 4 bytes);
+  kind = slice_index bytes 8;
+  metric = big_number 2 (drop 10 bytes);
+  tos = raw_entries (slice_index bytes 9) (drop 12 bytes);
+}
+
+-- the links met, each of which lies whole in the bytes, and the bytes left after them
+pub record Walk : Type 0 where
+  pub met : List RawLink
+  pub left : List ℕ
+
+abbrev pub after_link : RawLink → Walk → Walk
+after_link link w = record { met = link ∷ w.met; left = w.left }
+
+-- the walk stops when as many links were met as are counted
+unfoldable pub walk : ℕ → List ℕ → Walk
+walk zero bytes = record { met = []; left = bytes }
+walk (suc n) bytes =
+    if is_whole bytes then after_link (raw_link bytes) (walk n (drop (link_size bytes) bytes)) else record { met = []; left = bytes }
+
+abbrev pub has_reserved_entry : RawLink → Bool
+has_reserved_entry link = list_any (λ t. not (t.reserved == 0)) link.tos
+
+abbrev pub has_wrong_mask : RawLink → Bool
+has_wrong_mask link = (link.kind == 3) && not (is_mask link.detail)
+
+abbrev pub is_unknown : RawLink → Bool
+is_unknown link = nat_lt link.kind 1 || nat_lt 4 link.kind
+
+abbrev pub is_incomplete : ℕ → Walk → Bool
+is_incomplete count w = not (length w.met == count) || not (length w.left == 0)
+
+-- ---- the body of a router-LSA (A.4.2): flags, a reserved byte and the number of links, then the links
+
+abbrev pub is_cut : List ℕ → Bool
+is_cut body = nat_lt (length body) 4
+
+abbrev pub count_field : List ℕ → ℕ
+count_field body = big_number 2 (drop 2 body)
+
+abbrev pub links_walk : List ℕ → Walk
+links_walk body = walk (count_field body) (drop 4 body)
+
+abbrev pub has_reserved : List ℕ → Bool
+has_reserved body = not (is_cut body) && (not (slice_index body 1 == 0) || list_any has_reserved_entry (links_walk body).met)
+
+abbrev pub has_mask_fault : List ℕ → Bool
+has_mask_fault body = not (is_cut body) && list_any has_wrong_mask (links_walk body).met
+
+abbrev pub has_unknown_link : List ℕ → Bool
+has_unknown_link body = not (is_cut body) && list_any is_unknown (links_walk body).met
+
+abbrev pub is_misshapen : List ℕ → Bool
+is_misshapen body = is_cut body || is_incomplete (count_field body) (links_walk body)
+
+-- ---- the faults in their order
+
+-- those past the LS type
+abbrev pub body_tests : List ℕ → List (Bool × WireFault)
+body_tests bytes =
+    (has_reserved (body_field bytes), Reserved)
+    ∷ (has_mask_fault (body_field bytes), Mask)
+    ∷ (not (id_field bytes == router_field bytes), RouterId)
+    ∷ (has_unknown_link (body_field bytes), LinkType)
+    ∷ (is_misshapen (body_field bytes), Shape)
+    ∷ []
+
+unfoldable pub body_fault_of : List ℕ → Option WireFault
+body_fault_of bytes = first_of (body_tests bytes)
+
+unfoldable pub fault_of : List ℕ → Option WireFault
+fault_of bytes = first_of (
+    (is_wrong_length bytes, Length)
+    ∷ (not (is_sound bytes), Checksum)
+    ∷ (nat_lt 3600 (age_field bytes), Age)
+    ∷ (sequence_field bytes == 0x8000_0000, Sequence)
+    ∷ (not (kind_field bytes == 1), Kind)
+    ∷ body_tests bytes)

@@ -1,0 +1,6 @@
+pub mod Spelling
+pub mod Checksum
+pub mod Faults
+pub mod Decoding
+pub mod Readers
+pub mod Kept

@@ -1,0 +1,117 @@
+ghost use Rattle.std.specs.Prelude.{◌≡◌, ◌≤◌, ◌↔◌, IsTrue, length, IfOk};
+ghost use Rattle.ospf_types.specs.Lsa.{key_of};
+ghost use Rattle.lsa_codec.specs.Spelling.{IsLegal, body_bytes};
+ghost use Rattle.lsa_codec.specs.Readers.{flags_of, links_of, link_at, with_age};
+
+use crate::header::header_in;
+use crate::links::{after_links, front_link};
+use byteorder::{BigEndian, ByteOrder};
+use ospf_types::key::Key;
+use ospf_types::lsa::{Header, Link};
+use ospf_types::memory::Memory;
+use std::alloc::Global;
+use std::marker::Model;
+
+/// A link-state advertisement whose bytes are sound and in the grammar. It is its bytes, and seen as
+/// the advertisement that they spell.
+#[derive(Debug, Drop)]
+pub struct Checked {
+    pub(crate) bytes: Vec<u8>,
+}
+
+impl Model for Checked {
+    ghost use Rattle.ospf_types.specs.Lsa.{Lsa};
+    ghost use Rattle.lsa_codec.specs.Decoding.{lsa_of};
+    ghost use Rattle.lsa_codec.specs.Kept.{IsKept};
+
+    ghost Value = { Lsa };
+
+    ghost view = { λ c. lsa_of c.bytes.items };
+
+    ghost invariant = { λ c. IsKept c.bytes.items };
+}
+
+impl Checked {
+    /// The header; the age in seconds, numbers in host order.
+    pub fn header(&self) -> Header
+        ensures value { result ≡ self.now.header }
+        ensures legal { IsLegal self.now }
+    {
+        header_in(&self.bytes)
+    }
+
+    /// LS type, Link State ID and Advertising Router (RFC 2328, 12.1).
+    pub fn key(&self) -> Key
+        ensures { result ≡ key_of self.now }
+    {
+        let header = self.header();
+        Key {
+            kind: header.kind,
+            id: header.id,
+            router: header.router,
+        }
+    }
+
+    /// The bytes after the header.
+    pub fn body(&self) -> &[u8]
+        ensures { result.now ≡ body_bytes self.now.body }
+    {
+        &self.bytes[20..]
+    }
+
+    /// The byte with the bits V, E and B of a router-LSA (A.4.2).
+    pub fn flags(&self) -> Option<u8>
+        ensures { result ≡ flags_of self.now.body }
+    {
+        Some(self.bytes[20])
+    }
+
+    /// How many links a router-LSA has.
+    pub fn link_count(&self) -> usize
+        ensures { result ≡ length (links_of self.now.body) }
+    {
+        usize::from(BigEndian::read_u16(&self.bytes[22..]))
+    }
+
+    /// The link at a place, counted from 0, without its TOS entries; `None` past the last. It takes
+    /// constant time where no link has TOS entries, and else a walk over the links before it.
+    pub fn link(&self, n: usize) -> Option<Link>
+        ensures { result ≡ link_at self.now.body n }
+    {
+        let count = self.link_count();
+        if n >= count {
+            return None;
+        }
+        let links = &self.bytes[24..];
+        let front = if links.len() == 12 * count {
+            &links[12 * n..]
+        } else {
+            after_links(n, links)
+        };
+        Some(front_link(front))
+    }
+
+    /// Whether Options and body are equal.
+    pub fn same_contents(&self, other: &Checked) -> bool
+        ensures { IsTrue result ↔ ((self.now.header.options ≡ other.now.header.options) × (self.now.body ≡ other.now.body)) }
+    {
+        self.bytes[2..4] == other.bytes[2..4] && self.bytes[20..] == other.bytes[20..]
+    }
+
+    /// Sets the age, in seconds. The checksum does not cover it.
+    pub fn set_age(&mut self, age: u16)
+        requires { age ≤ 3600 }
+        ensures { self.new ≡ with_age self.old age }
+    {
+        BigEndian::write_u16(&mut self.bytes, age);
+    }
+
+    /// A copy.
+    pub fn copy(&self, alloc: Global) -> Result<Checked, Memory>
+        ensures { IfOk result (λ c. c ≡ self.now) }
+    {
+        Ok(Checked {
+            bytes: Vec::from_slice(alloc, &self.bytes)?,
+        })
+    }
+}

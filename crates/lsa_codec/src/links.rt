@@ -1,0 +1,160 @@
+//! The links of a router-LSA (RFC 2328, A.4.2), by a walk over their bytes.
+
+ghost use Rattle.std.specs.Prelude.{◌≡◌, ◌≤◌, true, ◌+◌, ◌*◌, ◌==◌, ◌||◌, not, nat_lt, length};
+ghost use Rattle.std.specs.List.{list_any};
+ghost use Rattle.lsa_codec.specs.Faults.{walk, raw_entries, raw_link, is_whole as is_whole_test, link_size as size_of_link, has_reserved_entry, has_wrong_mask, is_unknown, is_incomplete, is_mask as is_mask_test};
+ghost use Rattle.lsa_codec.specs.Decoding.{kind_of_number, link_of as decoded_link};
+ghost use Rattle.lsa_codec.specs.Readers.{without_tos};
+
+use byteorder::{BigEndian, ByteOrder};
+use ospf_types::lsa::{Link, LinkKind};
+
+/// What is wrong with a body.
+#[derive(Clone, Copy)]
+pub(crate) struct Findings {
+    pub(crate) reserved: bool,
+    pub(crate) mask: bool,
+    pub(crate) link_type: bool,
+    pub(crate) shape: bool,
+}
+
+pub(crate) const NO_FINDING: Findings = Findings {
+    reserved: false,
+    mask: false,
+    link_type: false,
+    shape: false,
+};
+
+/// The number of bytes of the link in front, its TOS entries counted.
+fn link_size(bytes: &[u8]) -> usize
+    requires { 12 ≤ length bytes.now }
+    ensures { result ≡ size_of_link bytes.now }
+{
+    12 + 4 * usize::from(bytes[9])
+}
+
+/// Whether a link and its TOS entries lie whole in the bytes.
+fn is_whole(bytes: &[u8]) -> bool
+    ensures { result ≡ is_whole_test bytes.now }
+{
+    bytes.len() >= 12 && bytes.len() >= link_size(bytes)
+}
+
+/// Whether one of the TOS entries in front has a reserved byte that is not zero.
+fn has_reserved(count: u8, bytes: &[u8]) -> bool
+    requires { 4 * count ≤ length bytes.now }
+    ensures { result ≡ list_any (λ t. not (t.reserved == 0)) (raw_entries count bytes.now) }
+{
+    let mut rest = bytes;
+    for _ in 0..count {
+        if rest[1] != 0 {
+            return true;
+        }
+        rest = &rest[4..];
+    }
+    false
+}
+
+/// Whether the number is ones and then zeros.
+fn is_mask(mask: u32) -> bool
+    ensures { result ≡ is_mask_test mask }
+{
+    let ones = mask.count_ones();
+    mask == if ones == 0 {
+        0
+    } else {
+        u32::MAX << (32 - ones)
+    }
+}
+
+/// What is wrong with the links, of which there are to be `count` and no bytes after them.
+pub(crate) fn links_findings(count: u16, bytes: &[u8]) -> Findings
+    ensures reserved { result.reserved ≡ list_any has_reserved_entry (walk count bytes.now).met }
+    ensures mask { result.mask ≡ list_any has_wrong_mask (walk count bytes.now).met }
+    ensures link_type { result.link_type ≡ list_any is_unknown (walk count bytes.now).met }
+    ensures shape { result.shape ≡ is_incomplete count (walk count bytes.now) }
+{
+    let mut found = NO_FINDING;
+    let mut rest = bytes;
+    for _ in 0..count {
+        if !is_whole(rest) {
+            return Findings {
+                shape: true,
+                ..found
+            };
+        }
+        found = with_link(found, rest);
+        rest = &rest[link_size(rest)..];
+    }
+    Findings {
+        shape: !rest.is_empty(),
+        ..found
+    }
+}
+
+/// What was found before, and what is wrong with the link in front.
+fn with_link(found: Findings, bytes: &[u8]) -> Findings
+    requires { is_whole_test bytes.now ≡ true }
+    ensures reserved { result.reserved ≡ (found.reserved || has_reserved_entry (raw_link bytes.now)) }
+    ensures mask { result.mask ≡ (found.mask || has_wrong_mask (raw_link bytes.now)) }
+    ensures link_type { result.link_type ≡ (found.link_type || is_unknown (raw_link bytes.now)) }
+{
+    Findings {
+        reserved: found.reserved || has_reserved(bytes[9], &bytes[12..]),
+        mask: found.mask || is_wrong_mask(bytes),
+        link_type: found.link_type || is_unknown_type(bytes[8]),
+        shape: found.shape,
+    }
+}
+
+/// Whether the link in front is a stub link whose Link Data is no mask.
+fn is_wrong_mask(bytes: &[u8]) -> bool
+    requires { 12 ≤ length bytes.now }
+    ensures { result ≡ has_wrong_mask (raw_link bytes.now) }
+{
+    bytes[8] == 3 && !is_mask(BigEndian::read_u32(&bytes[4..]))
+}
+
+fn is_unknown_type(number: u8) -> bool
+    ensures { result ≡ (nat_lt number 1 || nat_lt 4 number) }
+{
+    number < 1 || number > 4
+}
+
+/// The bytes after the first `count` links, or after those that lie whole in the bytes.
+pub(crate) fn after_links(count: usize, bytes: &[u8]) -> &[u8]
+    ensures { result.now ≡ (walk count bytes.now).left }
+{
+    let mut rest = bytes;
+    for _ in 0..count {
+        if !is_whole(rest) {
+            return rest;
+        }
+        rest = &rest[link_size(rest)..];
+    }
+    rest
+}
+
+fn link_kind(number: u8) -> LinkKind
+    ensures { result ≡ kind_of_number number }
+{
+    match number {
+        1 => LinkKind::PointToPoint,
+        2 => LinkKind::Transit,
+        3 => LinkKind::Stub,
+        _ => LinkKind::Virtual,
+    }
+}
+
+/// The link in front, without its TOS entries.
+pub(crate) fn front_link(bytes: &[u8]) -> Link
+    requires { 12 ≤ length bytes.now }
+    ensures { result ≡ without_tos (decoded_link (raw_link bytes.now)) }
+{
+    Link {
+        id: BigEndian::read_u32(bytes),
+        detail: BigEndian::read_u32(&bytes[4..]),
+        kind: link_kind(bytes[8]),
+        metric: BigEndian::read_u16(&bytes[10..]),
+    }
+}
