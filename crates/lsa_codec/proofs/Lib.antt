@@ -11,3 +11,4 @@ pub mod Again
 pub mod Kept
 pub mod Places
 pub mod Contents
+pub mod Ages

@@ -42,7 +42,8 @@ impl Checked {
 
     /// LS type, Link State ID and Advertising Router (RFC 2328, 12.1).
     pub fn key(&self) -> Key
-        ensures { result ≡ key_of self.now }
+        ensures value { result ≡ key_of self.now }
+        ensures legal { IsLegal self.now }
     {
         let header = self.header();
         Key {
