@@ -1,4 +1,4 @@
-use Rattle.std.proofs.Common.{◌≡◌, ◌+◌, ◌++◌, List, length, vec_len, vec_capacity}
+use Rattle.std.proofs.Common.{◌≡◌, ◌≤◌, ◌+◌, ◌++◌, List, length, vec_len, vec_capacity}
 use Rattle.std.specs.Prelude.{Result}
 use Rattle.std.specs.Vec.Iter.{into_iter_items}
 use Rattle.event_core.specs.declared.event.Reply.{Reply}
@@ -10,6 +10,6 @@ use Rattle.event_core.proofs.core_state.Core.run.Given as goal
 abbrev pub invariant-loop-event : goal.invariant-loop-event
 invariant-loop-event l = record {
   rest : (replies : List (Result Reply Refusal)) (new : CoreValue) → Runs l.self (into_iter_items l.event-iterator) replies new → Runs l.fn.self l.fn.events.items (l.replies.items ++ replies) new;
-  room : vec_capacity l.replies ≡ length l.fn.events.items;
+  room : length l.fn.events.items ≤ vec_capacity l.replies;
   few : vec_len l.replies + length (into_iter_items l.event-iterator) ≡ length l.fn.events.items;
 }
