@@ -13,3 +13,4 @@ pub mod Changes
 pub mod ContentsOf
 pub mod Configs
 pub mod Runs
+pub mod Listings

@@ -8,6 +8,7 @@ mod core_state;
 mod database;
 mod event;
 mod limits;
+mod listing;
 mod order;
 mod refusal;
 mod routes;
@@ -18,3 +19,6 @@ pub use core_state::Core;
 pub use event::{Event, Reply, Standing};
 pub use limits::Limits;
 pub use refusal::{ConfigFault, Refusal};
+
+#[cfg(test)]
+mod tests;
