@@ -6,3 +6,5 @@ pub mod Refusals
 pub mod Choices
 pub mod Tables
 pub mod Right
+pub mod Ranges
+pub mod Offers

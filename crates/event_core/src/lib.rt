@@ -5,9 +5,11 @@
 mod choice;
 mod database;
 mod event;
+mod intra;
 mod limits;
 mod order;
 mod refusal;
+mod routes;
 mod state;
 pub mod table;
 
