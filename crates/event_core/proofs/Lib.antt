@@ -11,3 +11,7 @@ pub mod Looks
 pub mod InPlace
 pub mod Changes
 pub mod ContentsOf
+pub mod Taking
+pub mod Areas
+pub mod NoWays
+pub mod OwnStubs

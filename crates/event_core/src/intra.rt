@@ -124,17 +124,31 @@ fn offer_network(
     ensures { OnOk result (Takes (OfferedBySome (entries state.now.interfaces) (InterfaceOffers network key)) choices.old choices.new) }
 {
     for (id, interface) in state.interfaces() {
-        if is_over(key.area(), network, interface) {
-            offer(choices, network, key, direct(*id))?;
-        }
+        offer_over(choices, network, key, *id, *interface)?;
     }
     Ok(())
 }
 
+// Offers the network over the interface, if it is one of the area, is up and lies in it.
+fn offer_over(
+    choices: &mut Choices<Prefix, AreaCost, Path>,
+    network: Prefix,
+    key: AreaCost,
+    id: u8,
+    interface: Interface,
+) -> Result<(), Memory>
+    ensures { OnOk result (Takes (InterfaceOffers network key (id, interface)) choices.old choices.new) }
+{
+    if !is_over(key.area(), network, interface) {
+        return Ok(());
+    }
+    offer(choices, network, key, direct(id))
+}
+
 // Whether the interface is one of the area, is up, and lies in the network, by its address or by
 // its peer's.
-fn is_over(area: u32, network: Prefix, interface: &Interface) -> bool
-    ensures { IsTrue result ↔ IsOver area network interface.now }
+fn is_over(area: u32, network: Prefix, interface: Interface) -> bool
+    ensures { IsTrue result ↔ IsOver area network interface }
 {
     interface.area == area
         && interface.up

@@ -1,3 +1,5 @@
 pub mod Masking
 pub mod Orders
 pub mod Paths
+pub mod NoLinks
+pub mod OneBest
