@@ -15,3 +15,4 @@ pub mod Taking
 pub mod Areas
 pub mod NoWays
 pub mod OwnStubs
+pub mod Filled

@@ -144,9 +144,9 @@ module _ (s : State) (held : IsHeld s.config s.databases s.externals) where
         elim here.1 [
           | inl t ↦ absurd (no_hop_in s held (area_of s a.0) there _ t.1 t.3)
           | inr others ↦ elim others [
-              | inl t ↦ absurd (no_hop_in s held (area_of s a.0) there _ t.3 t.6.1)
-              | inr own ↦ (a.0, a.1, own_to a.0 p key path here.0 own)
-            ]
+            | inl t ↦ absurd (no_hop_in s held (area_of s a.0) there _ t.3 t.6.1)
+            | inr own ↦ (a.0, a.1, own_to a.0 p key path here.0 own)
+          ]
         ]
 
   -- choices that took the offers of each area are those among the intra-area offers

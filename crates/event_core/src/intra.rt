@@ -6,6 +6,7 @@ ghost use Rattle.std.specs.List.Sorted.{IsStrictlySortedBy};
 ghost use Rattle.ospf_types.specs.Lsa.{network_of};
 ghost use Rattle.ospf_types.specs.Intra.{inside_area};
 ghost use Rattle.event_core.specs.Choices.{ChoosesFrom};
+ghost use Rattle.event_core.specs.Held.{IsHeld};
 ghost use Rattle.event_core.specs.Offers.{Takes, ChoosesPaths, OfferedBySome, OnlyOffer, IsOver, InterfaceOffers, LinkOffers, LsaOffers, AreaOffers, AreIntra, own_lsa};
 
 use crate::choice::{AreaCost, Choices};
@@ -24,7 +25,8 @@ pub(crate) fn choices(
     alloc: Global,
     state: &State,
 ) -> Result<Choices<Prefix, AreaCost, Path>, Memory>
-    ensures { IfOk result (AreIntra state.now) }
+    ensures chosen { IfOk result (AreIntra state.now) }
+    ensures held { IsHeld state.now.config state.now.databases state.now.externals }
 {
     let mut choices = Choices::new(alloc);
     let config = state.config();

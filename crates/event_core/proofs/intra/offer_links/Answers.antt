@@ -1,7 +1,8 @@
-use Rattle.std.proofs.Common.{◌≡◌, ◌+◌, ◌<◌, Some, None, length, map, get_or, sym, subst, ◌∙◌, arith}
+use Rattle.std.proofs.Common.{◌≡◌, ◌+◌, ◌≤◌, None, length, map, inl, inr, sym, subst, ◌∙◌, arith}
+use Rattle.std.specs.List.{slice_get}
 use Rattle.std.specs.FinMap.{entries}
 use Rattle.std.proofs.lemmas.List.{length-map}
-use Rattle.std.proofs.lemmas.Option.{get_or_from_slice_get, slice_get_within, slice_get-get_or}
+use Rattle.std.proofs.lemmas.Option.{get_or_from_slice_get, slice_get_within, slice_get_cases}
 use Rattle.lsa_codec.specs.Readers.{links_of, without_tos}
 use Rattle.event_core.specs.Offers.{NetworkChoices, Takes, OfferedBySome, LinkOffers}
 use Rattle.event_core.proofs.Taking.{takes_at, takes_past}
@@ -18,7 +19,12 @@ loop-n-preserved c = λ new rest.
           let x = w.in-Some.link in
           let found = sym c.link.ensures ∙ w.in-Some.is in
           c.loop-n.invariant new (takes_at offers links n x c.loop-n.choices w.offer_link.new.choices new (slice_get_within links n x found) (get_or_from_slice_get links n x x found) w.in_ok-offer_link.ensures (rw w.choices-is at rest))
-      | in_default w ↦ ?
+      | in_default w ↦
+          let missing : slice_get links n ≡ None = sym c.link.ensures ∙ w.in_default.is in
+          elim (slice_get_cases links n).1 [
+            | inl there ↦ absurd (cc (sym missing ∙ there.2))
+            | inr past ↦ absurd (omega (arith, length-map (links_of c.args.lsa.now.body) without_tos, c.link_count-n-end.ensures, c.loop-n-test.true, past.0))
+          ]
     ]
 
 pub returns : goal.returns

@@ -10,8 +10,8 @@ pub returns-then-not-is_over : goal.returns-then-not-is_over
 returns-then-not-is_over c =
     takes_aside c.args.network c.args.key c.args.id c.args.interface c.args.choices.now
     (λ over.
-        let up : c.is_over.result ≡ true = c.is_over.ensures.1 (subst (λ (area : ℕ). IsOver area c.args.network c.args.interface) (sym c.area.ensures) over) in
-        let e : true ≡ false = sym up ∙ c.if-not-is_over.true in cc)
+    let up : c.is_over.result ≡ true = c.is_over.ensures.1 (subst (λ (area : ℕ). IsOver area c.args.network c.args.interface) (sym c.area.ensures) over) in
+    let e : true ≡ false = sym up ∙ c.if-not-is_over.true in cc)
 
 pub returns : goal.returns
 returns c =
