@@ -1,8 +1,8 @@
 -- The LSAs of an area: each stands under its own key, is in the grammar, and has no link to a vertex.
-use Rattle.std.proofs.Common.{◌≡◌, ℕ, ◌<◌, true, List, [], ◌∷◌, length, get_or, Option, Some, None, refl, sym, ap, subst, ◌∙◌, arith}
+use Rattle.std.proofs.Common.{◌≡◌, ℕ, ◌<◌, true, length, get_or, Option, Some, None, refl, sym, ap, subst, ◌∙◌, arith}
 use Rattle.std.specs.Prelude.{option_map, option_and_then}
 use Rattle.std.specs.List.{Contains}
-use Rattle.std.specs.FinMap.{entries, values, get, empty, find, entries_sorted, get-entries}
+use Rattle.std.specs.FinMap.{entries, values, get, empty, entries_sorted, get-entries}
 use Rattle.std.proofs.lemmas.Cmp.{tied_itself}
 use Rattle.std.proofs.lemmas.Map.Made.{Contains-values_of, Contains-from_values_of}
 use Rattle.std.proofs.lemmas.Map.Views.{Contains-from_lookup, tells_apart}

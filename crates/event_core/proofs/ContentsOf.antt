@@ -18,7 +18,7 @@ flags_alike false false f g = refl
 same_contents : (l m : Lsa) → HaveSameContents l m → contents_of l ≡ contents_of m
 same_contents l m h =
     let flag : nat_lt l.header.age MaxAge ≡ nat_lt m.header.age MaxAge =
-    flags_alike (nat_lt l.header.age MaxAge) (nat_lt m.header.age MaxAge) (λ e. (usable_is m).1 (h.usable.0 ((usable_is l).0 e))) (λ e. (usable_is l).1 (h.usable.1 ((usable_is m).0 e))) in
+        flags_alike (nat_lt l.header.age MaxAge) (nat_lt m.header.age MaxAge) (λ e. (usable_is m).1 (h.usable.0 ((usable_is l).0 e))) (λ e. (usable_is l).1 (h.usable.1 ((usable_is m).0 e))) in
     ap (λ (b : Bool). cond b (Some (l.header.options, l.body)) None) flag
     ∙ ap (λ (p : ℕ × Body). cond (nat_lt m.header.age MaxAge) (Some p) None) (λ i. (h.options i, h.body i))
 

@@ -22,10 +22,10 @@ module _ {X : Type 0} (xs first : List X) (i : ℕ) (x : X) (lt : i < length xs)
 pub one_mapped : {X : Type 0} (f : X → X) (xs first : List X) (i : ℕ) (x : X) → i < length xs → length xs ≡ length first → x ≡ get_or xs i x → take i xs ≡ map f (take i first) → drop i xs ≡ drop i first
     → (take (i + 1) (set xs i (f x)) ≡ map f (take (i + 1) first)) × (drop (i + 1) (set xs i (f x)) ≡ drop (i + 1) first)
 one_mapped {X} f xs first i x lt same here so_far left = (
-  take_more_set xs i (f x) lt ∙ ap (λ (ys : List X). ys ++ f x ∷ []) so_far
-      ∙ ap (λ (y : X). map f (take i first) ++ f y ∷ []) (sym (not_reached xs first i x lt same here left)) ∙ sym (map_more f first i x (omega arith)),
-  drop-set-lt (i + 1) xs i (f x) (omega arith) ∙ sym (drop-drop 1 i xs) ∙ ap (drop 1) left ∙ drop-drop 1 i first,
-)
+    take_more_set xs i (f x) lt ∙ ap (λ (ys : List X). ys ++ f x ∷ []) so_far
+    ∙ ap (λ (y : X). map f (take i first) ++ f y ∷ []) (sym (not_reached xs first i x lt same here left)) ∙ sym (map_more f first i x (omega arith)),
+    drop-set-lt (i + 1) xs i (f x) (omega arith) ∙ sym (drop-drop 1 i xs) ∙ ap (drop 1) left ∙ drop-drop 1 i first,
+  )
 
 count_more : {X : Type 0} (p : X → Bool) (xs : List X) (i : ℕ) (d : X) → i < length xs → count_by p (take (i + 1) xs) ≡ count_by p (take i xs) + cond (p (get_or xs i d)) 1 0
 count_more p xs i d lt =
@@ -49,13 +49,13 @@ last {X} P xs i d lt all = subst P (get_or-take (i + 1) xs i d (omega arith)) (a
 pub one_flagged : {X : Type 0} (P : X → Type 0) (xs : List X) (i : ℕ) (x : X) (before now : Bool) → i < length xs → get_or xs i x ≡ x
     → (before ≡ false) ↔ All P (take i xs) → (now ≡ false) ↔ P x → ((before || now) ≡ false) ↔ All P (take (i + 1) xs)
 one_flagged P xs i x true now lt here so_far this = (
-  λ e. absurd cc,
-  λ all. let none : true ≡ false = so_far.1 (fewer P xs i all) in absurd cc,
-)
+    λ e. absurd cc,
+    λ all. let none : true ≡ false = so_far.1 (fewer P xs i all) in absurd cc,
+  )
 one_flagged P xs i x false now lt here so_far this = (
-  λ e. All-more P xs i x lt (so_far.0 refl) (rw here (this.0 e)),
-  λ all. this.1 (rw here at (last P xs i x lt all)),
-)
+    λ e. All-more P xs i x lt (so_far.0 refl) (rw here (this.0 e)),
+    λ all. this.1 (rw here at (last P xs i x lt all)),
+  )
 
 -- a count that is not above 0 is 0
 pub none_counted : (n : ℕ) → (nat_lt 0 n ≡ false) ↔ (n ≡ 0)

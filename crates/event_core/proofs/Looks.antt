@@ -36,7 +36,7 @@ pub place_at : (areas : List AreaConfig) (k : ℕ) (d : AreaConfig) → AreApart
 place_at areas k d apart lt =
     let id = (get_or areas k d).id in
     let at : position_or_len (λ (a : AreaConfig). a.id == id) areas ≡ k =
-    position_or_len_is (λ (a : AreaConfig). a.id == id) areas k d (omega arith) (λ j below. not_same (get_or areas j d).id id (apart j k d below lt)) (λ _. itself id) in
+        position_or_len_is (λ (a : AreaConfig). a.id == id) areas k d (omega arith) (λ j below. not_same (get_or areas j d).id id (apart j k d below lt)) (λ _. itself id) in
     let within : nat_lt k (length areas) ≡ true = grind (arith, nat_tests) in
     rw (at, within) refl
 
@@ -67,20 +67,20 @@ usable_later s none held scope.As key = ap (λ (d : Database). option_and_then c
 
 pub looks_later : (s : State) → IsHeld s.config s.databases s.externals → All NoneComes s.databases ↔ LooksAlike s (changed_by s event.Second)
 looks_later s held = (
-  λ none. record {
-    usable = λ at key. usable_later s none held at key;
-    interfaces = refl;
-  },
-  λ looks. λ k d lt.
-      let within : k < length s.config.areas = omega (arith, lt, held.places) in
-      let area : AreaConfig = get_or s.config.areas k (record { id = 0; stub = None; ranges = [] }) in
-      let place = place_at s.config.areas k (record { id = 0; stub = None; ranges = [] }) held.apart within in
-      let same : get_or s.databases k empty ≡ get_or s.databases k d = get_or_default s.databases k empty d lt in
-      subst NoneComes same (same_none (get_or s.databases k empty) (λ key.
-      let looks_same = looks.usable (scope.Area area.id) key in
-      let here : used_at s.databases k key ≡ used_at (map all_aged s.databases) k key = ap (λ (o : Option ℕ). used_in s.databases o key) (sym place) ∙ looks_same ∙ ap (λ (o : Option ℕ). used_in (map all_aged s.databases) o key) place in
-      ap (λ (e : Database). option_and_then contents_of (get e key)) (sym (get_or-map all_aged s.databases k empty empty lt)) ∙ sym here)),
-)
+    λ none. record {
+      usable = λ at key. usable_later s none held at key;
+      interfaces = refl;
+    },
+    λ looks. λ k d lt.
+        let within : k < length s.config.areas = omega (arith, lt, held.places) in
+        let area : AreaConfig = get_or s.config.areas k (record { id = 0; stub = None; ranges = [] }) in
+        let place = place_at s.config.areas k (record { id = 0; stub = None; ranges = [] }) held.apart within in
+        let same : get_or s.databases k empty ≡ get_or s.databases k d = get_or_default s.databases k empty d lt in
+        subst NoneComes same (same_none (get_or s.databases k empty) (λ key.
+            let looks_same = looks.usable (scope.Area area.id) key in
+            let here : used_at s.databases k key ≡ used_at (map all_aged s.databases) k key = ap (λ (o : Option ℕ). used_in s.databases o key) (sym place) ∙ looks_same ∙ ap (λ (o : Option ℕ). used_in (map all_aged s.databases) o key) place in
+            ap (λ (e : Database). option_and_then contents_of (get e key)) (sym (get_or-map all_aged s.databases k empty empty lt)) ∙ sym here)),
+  )
 
 -- ---- an install
 
@@ -111,17 +111,17 @@ usable_set s k l lt alike scope.As key = refl
 pub looks_install : (s : State) (area k : ℕ) (l : Lsa) → place_of s.config.areas area ≡ Some k → k < length s.databases
     → IsUsedAlike (get_or s.databases k empty) l ↔ LooksAlike s (record s { databases = set s.databases k (insert (get_or s.databases k empty) (key_of l) l) })
 looks_install s area k l place lt = (
-  λ alike. record {
-    usable = λ at key. usable_set s k l lt alike at key;
-    interfaces = refl;
-  },
-  λ looks.
-      let new = set s.databases k (insert (get_or s.databases k empty) (key_of l) l) in
-      let here : used_at s.databases k (key_of l) ≡ used_at new k (key_of l) = ap (λ (o : Option ℕ). used_in s.databases o (key_of l)) (sym place) ∙ looks.usable (scope.Area area) (key_of l) ∙ ap (λ (o : Option ℕ). used_in new o (key_of l)) place in
-      let there : get_or new k empty ≡ insert (get_or s.databases k empty) (key_of l) l = get_or-set_same s.databases k (insert (get_or s.databases k empty) (key_of l) l) empty lt in
-      here ∙ ap (λ (d : Database). option_and_then contents_of (get d (key_of l))) there ∙ ap (option_and_then contents_of) (get-insert key_total (get_or s.databases k empty) (key_of l) l (key_of l))
-      ∙ ap (λ o. option_and_then contents_of (cond (is_eq o) (Some l) (get (get_or s.databases k empty) (key_of l)))) (tied_itself key_total (key_of l)),
-)
+    λ alike. record {
+      usable = λ at key. usable_set s k l lt alike at key;
+      interfaces = refl;
+    },
+    λ looks.
+        let new = set s.databases k (insert (get_or s.databases k empty) (key_of l) l) in
+        let here : used_at s.databases k (key_of l) ≡ used_at new k (key_of l) = ap (λ (o : Option ℕ). used_in s.databases o (key_of l)) (sym place) ∙ looks.usable (scope.Area area) (key_of l) ∙ ap (λ (o : Option ℕ). used_in new o (key_of l)) place in
+        let there : get_or new k empty ≡ insert (get_or s.databases k empty) (key_of l) l = get_or-set_same s.databases k (insert (get_or s.databases k empty) (key_of l) l) empty lt in
+        here ∙ ap (λ (d : Database). option_and_then contents_of (get d (key_of l))) there ∙ ap (option_and_then contents_of) (get-insert key_total (get_or s.databases k empty) (key_of l) l (key_of l))
+        ∙ ap (λ o. option_and_then contents_of (cond (is_eq o) (Some l) (get (get_or s.databases k empty) (key_of l)))) (tied_itself key_total (key_of l)),
+  )
 
 -- ---- an interface
 
@@ -139,10 +139,10 @@ put_again s id i has q =
 
 pub looks_interface : (s : State) (id : ℕ) (i : Interface) → (get s.interfaces id ≡ Some i) ↔ LooksAlike s (record s { interfaces = insert s.interfaces id i })
 looks_interface s id i = (
-  λ has. record {
-    usable = λ at key. usable_interfaces s (insert s.interfaces id i) at key;
-    interfaces = same_map nat_cmp_total nat_cmp-IsAntisymmetric s.interfaces (insert s.interfaces id i) (λ q. put_again s id i has q);
-  },
-  λ looks. ap (λ (m : FinMap nat_cmp Interface). get m id) looks.interfaces ∙ get-insert nat_cmp_total s.interfaces id i id
-      ∙ ap (λ o. cond (is_eq o) (Some i) (get s.interfaces id)) (tied_itself nat_cmp_total id),
-)
+    λ has. record {
+      usable = λ at key. usable_interfaces s (insert s.interfaces id i) at key;
+      interfaces = same_map nat_cmp_total nat_cmp-IsAntisymmetric s.interfaces (insert s.interfaces id i) (λ q. put_again s id i has q);
+    },
+    λ looks. ap (λ (m : FinMap nat_cmp Interface). get m id) looks.interfaces ∙ get-insert nat_cmp_total s.interfaces id i id
+        ∙ ap (λ o. cond (is_eq o) (Some i) (get s.interfaces id)) (tied_itself nat_cmp_total id),
+  )

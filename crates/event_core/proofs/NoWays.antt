@@ -1,8 +1,8 @@
 -- No link leads to a vertex, so no vertex has a next hop: of what an area could offer only the root's stub links are left, and there is no other way to a network.
-use Rattle.std.proofs.Common.{◌≡◌, ℕ, Bool, true, false, not, List, [], map, Some, None, refl, sym, ap, subst, ◌∙◌}
+use Rattle.std.proofs.Common.{◌≡◌, ℕ, true, false, not, List, [], None, sym, ap, subst, ◌∙◌}
 use Rattle.std.specs.List.{Contains, list_all}
 use Rattle.std.specs.FinMap.{get, get-empty}
-use Rattle.std.proofs.lemmas.List.Elements.{All-contains, All-map, All-weaker, All-contains_itself}
+use Rattle.std.proofs.lemmas.List.Elements.{All-contains}
 use Rattle.std.proofs.lemmas.List.Sums.{AllPass-from_list_all}
 use Rattle.ospf_types.specs.declared.config.AreaConfig.{AreaConfig}
 use Rattle.ospf_types.specs.declared.config.Range.{Range}
@@ -10,7 +10,6 @@ use Rattle.ospf_types.specs.declared.entry.Vertex.{Vertex}
 use Rattle.ospf_types.specs.declared.entry.Vertex.TheVariants.{Router, Network}
 use Rattle.ospf_types.specs.declared.hop.NextHop.{NextHop}
 use Rattle.ospf_types.specs.declared.key.Scope.TheVariants as scope
-use Rattle.ospf_types.specs.declared.lsa.LinkKind.TheVariants.{PointToPoint, Transit}
 use Rattle.ospf_types.specs.declared.prefix.Prefix.{Prefix}
 use Rattle.ospf_types.specs.Inputs.{Area}
 use Rattle.ospf_types.specs.Inter.{NoInter}
@@ -20,6 +19,7 @@ use Rattle.ospf_types.specs.Keys.{key_cmp}
 use Rattle.ospf_types.specs.Lsa.{Body, RouterLink, RouterLinks}
 use Rattle.ospf_types.specs.External.{NoExternal}
 use Rattle.ospf_types.specs.Ranges.{IsSummarized}
+use Rattle.ospf_types.proofs.Elements.{no_element, mapped_from}
 use Rattle.ospf_types.proofs.NoLinks.{no_hop}
 use Rattle.event_core.specs.Databases.{Database}
 use Rattle.event_core.specs.Held.{IsHeld}
@@ -28,16 +28,10 @@ use Rattle.event_core.specs.States.{State, database_of, lsas_of, inputs_of}
 use Rattle.event_core.specs.Steps.{is_edge_kind, is_stub_only}
 use Rattle.event_core.proofs.Areas.{is_here, under_key}
 use Rattle.event_core.proofs.StubOnly.{leads_nowhere}
-use Rattle.event_core.proofs.Taking.{no_item}
 
 -- a configured area, with its LSAs
 abbrev pub area_of : State → AreaConfig → Area
 area_of s a = record { id = a.id; stub = a.stub; ranges = a.ranges; lsas = lsas_of (database_of s (scope.Area a.id)) }
-
--- what stands in a mapped list is the image of an element
-pub from_map : {X Y : Type 0} (f : X → Y) (xs : List X) (y : Y) → Contains (map f xs) y → (x : X) × Contains xs x × (f x ≡ y)
-from_map {X} {Y} f xs y h =
-    All-contains (λ z. (x : X) × Contains xs x × (f x ≡ z)) (map f xs) y (All-map (λ z. (x : X) × Contains xs x × (f x ≡ z)) f xs (All-weaker (Contains xs) (λ x. (w : X) × Contains xs w × (f w ≡ f x)) (λ x c. (x, c, refl)) xs (All-contains_itself xs))) h
 
 -- no link of a router-LSA of which none leads to a vertex is of a kind that does
 no_edge : (b : Body) (flags : ℕ) (links : List RouterLink) (l : RouterLink) → is_stub_only b ≡ true → b ≡ RouterLinks flags links → Contains links l → is_edge_kind l.kind ≡ true → ⊥
@@ -62,7 +56,7 @@ module _ (s : State) (held : IsHeld s.config s.databases s.externals) where
 
   -- the areas that routes are calculated from are the configured ones
   pub area_is : (a : Area) → Contains (inputs_of s).areas a → (c : AreaConfig) × Contains s.config.areas c × (area_of s c ≡ a)
-  area_is a h = from_map (area_of s) s.config.areas a h
+  area_is a h = mapped_from (area_of s) s.config.areas a h
 
   -- no vertex of an area has a next hop
   pub no_hop_in : (a : Area) → Contains (inputs_of s).areas a → (to : Vertex) (h : NextHop) → IsHopIn (inputs_of s) a to h → ⊥
@@ -86,4 +80,4 @@ module _ (s : State) (held : IsHeld s.config s.databases s.externals) where
   no_range none p w =
       let c = area_is w.0 w.2.area in
       let ranges : w.0.ranges ≡ [] = ap (λ (a : Area). a.ranges) (sym c.2) ∙ All-contains (λ (a : AreaConfig). a.ranges ≡ []) s.config.areas c.0 none c.1 in
-      no_item w.1 (subst (λ (rs : List Range). Contains rs w.1) ranges w.2.range)
+      no_element w.1 (subst (λ (rs : List Range). Contains rs w.1) ranges w.2.range)

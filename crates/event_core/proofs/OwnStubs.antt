@@ -1,42 +1,34 @@
 -- What is offered to the choices is what the definition of intra-area networks offers.
-use Rattle.std.proofs.Common.{◌≡◌, ℕ, ◌<◌, Bool, true, false, cond, List, [], ◌∷◌, ◌++◌, length, map, get_or, Option, Some, None, refl, sym, ap, subst, ◌∙◌, ⊎_elim, ◌⊎◌, inl, inr, arith}
-use Rattle.std.specs.Prelude.{◌↔◌, nat_lt, option_and_then}
+use Rattle.std.proofs.Common.{◌≡◌, ℕ, ◌<◌, Bool, true, false, cond, List, [], Option, Some, None, refl, sym, ap, subst, ◌∙◌, ◌⊎◌, inl, inr, arith}
+use Rattle.std.specs.Prelude.{nat_lt, option_and_then}
 use Rattle.std.specs.List.{Contains}
 use Rattle.std.specs.Map.{lookup}
 use Rattle.std.specs.BTreeMap.{is_at}
-use Rattle.std.specs.FinMap.{get, entries}
+use Rattle.std.specs.FinMap.{get}
 use Rattle.std.proofs.lemmas.Bool.Decides.{nat_tests}
-use Rattle.std.proofs.lemmas.List.{get_or-map, length-map}
 use Rattle.ospf_types.specs.declared.config.AreaConfig.{AreaConfig}
-use Rattle.ospf_types.specs.declared.config.Interface.{Interface}
-use Rattle.ospf_types.specs.declared.hop.NextHop.TheVariants as hop
 use Rattle.ospf_types.specs.declared.hop.Path.{Path}
 use Rattle.ospf_types.specs.declared.key.Key.{Key}
 use Rattle.ospf_types.specs.declared.key.Scope.TheVariants as scope
-use Rattle.ospf_types.specs.declared.lsa.Header.{Header}
 use Rattle.ospf_types.specs.declared.lsa.Link.{Link}
 use Rattle.ospf_types.specs.declared.lsa.LinkKind.TheVariants.{Stub}
 use Rattle.ospf_types.specs.declared.prefix.Prefix.{Prefix}
 use Rattle.ospf_types.specs.Hops.{path_cmp}
-use Rattle.ospf_types.specs.Inputs.{Area, HasLsa, IsUp}
-use Rattle.ospf_types.specs.Intra.{AreaCost, area_cost_cmp, IntraOffers, TransitOffers, StubOffers, OwnStubOffers, HasStub, LiesIn, inside_area}
+use Rattle.ospf_types.specs.Inputs.{Area}
+use Rattle.ospf_types.specs.Intra.{AreaCost, area_cost_cmp, IntraOffers, TransitOffers, StubOffers, OwnStubOffers, LiesIn}
 use Rattle.ospf_types.specs.Links.{IsRouter}
 use Rattle.ospf_types.specs.Lsa.{Lsa, Body, RouterLink, RouterLinks, NetworkLinks, NetworkSummary, BoundarySummary, AsExternal, MaxAge, kind_of, key_of, network_of}
 use Rattle.ospf_types.specs.Network.{network_cmp}
+use Rattle.ospf_types.proofs.Elements.{mapped_element, mapped_from}
 use Rattle.lsa_codec.specs.Readers.{links_of, without_tos}
 use Rattle.lsa_codec.specs.Spelling.{IsLegal, IsLegalBody}
-use Rattle.event_core.specs.Choices.{IsOffered, IsChosen}
-use Rattle.event_core.specs.Databases.{Database}
+use Rattle.event_core.specs.Choices.{IsOffered}
 use Rattle.event_core.specs.Held.{IsHeld}
-use Rattle.event_core.specs.Offers.{NetworkChoices, ChoosesPaths, Takes, OfferedBySome, OnlyOffer, IsOver, InterfaceOffers, LinkOffers, LsaOffers, AreaOffers, AreIntra, own_key, own_lsa, usable}
-use Rattle.event_core.specs.States.{State, database_of, lsas_of, inputs_of}
-use Rattle.event_core.proofs.Areas.{IsHere, is_here, found_here}
+use Rattle.event_core.specs.Offers.{NetworkChoices, ChoosesPaths, Takes, OfferedBySome, IsOver, AreaOffers, AreIntra, own_key, own_lsa, usable}
+use Rattle.event_core.specs.States.{State, database_of, inputs_of}
+use Rattle.event_core.proofs.Areas.{is_here, found_here}
 use Rattle.event_core.proofs.Choosing.{same_offers}
-use Rattle.event_core.proofs.NoWays.{area_of, area_is, from_map, no_hop_in}
-
--- the image of an element stands in the mapped list
-into_map : {X Y : Type 0} (f : X → Y) (xs : List X) (x : X) → Contains xs x → Contains (map f xs) (f x)
-into_map f xs x h = (h.0, omega (arith, h.1, length-map xs f), get_or-map f xs h.0 x (f x) h.1 ∙ ap f h.2)
+use Rattle.event_core.proofs.NoWays.{area_of, area_is, no_hop_in}
 
 -- ---- the root's router-LSA
 
@@ -70,13 +62,7 @@ own_key_is l router flags links legal by is =
     λ i. record { kind = kind i; id = id i; router = by i }
 
 module _ (s : State) (held : IsHeld s.config s.databases s.externals) where
-  router : ℕ
-  router = s.config.router
-
   module _ (a : AreaConfig) where
-    at_own_key : Option Lsa
-    at_own_key = option_and_then (λ d. get d (own_key s.config.router)) (database_of s (scope.Area a.id))
-
     -- it makes the root a vertex with its links
     own_router : (l : Lsa) → own_lsa s a.id ≡ Some l → (flags : ℕ) × IsRouter (area_of s a) s.config.router flags (links_of l.body)
     own_router l e =
@@ -100,7 +86,7 @@ module _ (s : State) (held : IsHeld s.config s.databases s.externals) where
       own_from w =
           let root = own_router w.0 w.1 in
           let x = w.2.0 in
-          let r = from_map without_tos (links_of w.0.body) x w.2.1 in
+          let r = mapped_from without_tos (links_of w.0.body) x w.2.1 in
           let stub : r.0.kind ≡ Stub = ap (λ (y : Link). y.kind) r.2 ∙ w.2.2.0 in
           let over = w.2.2.1 in
           let only = over.2.1 in
@@ -123,7 +109,7 @@ module _ (s : State) (held : IsHeld s.config s.databases s.externals) where
           let l = stub.3.lsa.0 in
           let r = stub.2 in
           let links : stub.1 ≡ links_of l.body = ap links_of (sym stub.3.lsa.3) in
-          let among = into_map without_tos (links_of l.body) r (subst (λ (rs : List RouterLink). Contains rs r) links stub.4) in
+          let among = mapped_element without_tos (links_of l.body) r (subst (λ (rs : List RouterLink). Contains rs r) links stub.4) in
           let over : IsOver a.id (network_of r.id r.detail) w.1 = record { here = w.3.here; up = w.3.up; inside = subst (λ (q : Prefix). LiesIn w.1 q) (sym stub.6) w.4 } in
           (l, own_is stub.0 stub.1 stub.3, (without_tos r, among, (stub.5, ((w.0, w.1), w.3.held, (over, (sym stub.6, λ i. (sym stub.7 i, sym area i), w.5))))))
 
@@ -133,14 +119,14 @@ module _ (s : State) (held : IsHeld s.config s.databases s.externals) where
     intra_from : OfferedBySome s.config.areas (λ a. AreaOffers s a.id) p key path → IntraOffers (inputs_of s) p key path
     intra_from w =
         let own = own_from w.0 p key path w.2 in
-        (area_of s w.0, into_map (area_of s) s.config.areas w.0 w.1, own.1, inr (inr own.0))
+        (area_of s w.0, mapped_element (area_of s) s.config.areas w.0 w.1, own.1, inr (inr own.0))
 
     intra_to : IntraOffers (inputs_of s) p key path → OfferedBySome s.config.areas (λ a. AreaOffers s a.id) p key path
     intra_to w =
         let a = area_is s held w.0 w.1 in
         let P : Area → Type 0 = λ b. (b.id ≡ key.1) × (TransitOffers (inputs_of s) b p key.0 path ⊎ StubOffers (inputs_of s) b p key.0 path ⊎ OwnStubOffers (inputs_of s) b p key.0 path) in
         let here : P (area_of s a.0) = subst P (sym a.2) (w.2, w.3) in
-        let there : Contains (inputs_of s).areas (area_of s a.0) = into_map (area_of s) s.config.areas a.0 a.1 in
+        let there : Contains (inputs_of s).areas (area_of s a.0) = mapped_element (area_of s) s.config.areas a.0 a.1 in
         elim here.1 [
           | inl t ↦ absurd (no_hop_in s held (area_of s a.0) there _ t.1 t.3)
           | inr others ↦ elim others [

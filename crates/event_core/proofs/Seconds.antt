@@ -90,9 +90,9 @@ none_same d q none =
     ∙ elim (get d q) as (λ o. get d q ≡ o → option_and_then contents_of (option_map aged o) ≡ option_and_then contents_of o) [
       | None ↦ λ e. refl
       | Some l ↦ λ e. elim (comes_to_max_age l) as (λ t. comes_to_max_age l ≡ t → contents_of (aged l) ≡ contents_of l) [
-        | true ↦ λ h. absurd (omega (arith, none, counted_one q (entries d) l (sym (get-entries d q) ∙ e) h))
-        | false ↦ λ h. contents_aged l h
-      ] refl
+          | true ↦ λ h. absurd (omega (arith, none, counted_one q (entries d) l (sym (get-entries d q) ∙ e) h))
+          | false ↦ λ h. contents_aged l h
+        ] refl
     ] refl
 
 count_none : (es : List (Key × Lsa)) → ((i : ℕ) (f : Key × Lsa) → i < length es → comes_to_max_age (get_or es i f).1 ≡ false) → count_by comes_to_max_age (lsas es) ≡ 0
@@ -105,13 +105,13 @@ count_none (e ∷ es) none =
 pub same_none : (d : Database) → ((q : Key) → option_and_then contents_of (get (all_aged d) q) ≡ option_and_then contents_of (get d q)) → NoneComes d
 same_none d same =
     count_none (entries d) (λ i f lt.
-    let e : Key × Lsa = get_or (entries d) i f in
-    let found : get d e.0 ≡ Some e.1 = get-entries d e.0 ∙ find_at key_cmp key_total (entries d) i e.0 f (entries_sorted d) lt (tied_itself key_total e.0) in
-    let stays : contents_of (aged e.1) ≡ contents_of e.1 = sym (ap (option_and_then contents_of) (get-all_aged d e.0 ∙ ap (option_map aged) found)) ∙ same e.0 ∙ ap (option_and_then contents_of) found in
-    elim (comes_to_max_age e.1) as (λ t. comes_to_max_age e.1 ≡ t → t ≡ false) [
-      | true ↦ λ h. absurd (contents_come e.1 h stays)
-      | false ↦ λ h. refl
-    ] refl)
+        let e : Key × Lsa = get_or (entries d) i f in
+        let found : get d e.0 ≡ Some e.1 = get-entries d e.0 ∙ find_at key_cmp key_total (entries d) i e.0 f (entries_sorted d) lt (tied_itself key_total e.0) in
+        let stays : contents_of (aged e.1) ≡ contents_of e.1 = sym (ap (option_and_then contents_of) (get-all_aged d e.0 ∙ ap (option_map aged) found)) ∙ same e.0 ∙ ap (option_and_then contents_of) found in
+        elim (comes_to_max_age e.1) as (λ t. comes_to_max_age e.1 ≡ t → t ≡ false) [
+          | true ↦ λ h. absurd (contents_come e.1 h stays)
+          | false ↦ λ h. refl
+        ] refl)
 
 pub none_empty : NoneComes empty
 none_empty = same_none empty (λ q. ap (λ (d : Database). option_and_then contents_of (get d q)) all_aged_empty)

@@ -17,15 +17,13 @@ use Rattle.ospf_types.specs.declared.prefix.Prefix.{Prefix}
 use Rattle.event_core.specs.Offers.{NetworkOffer, NetworkChoices, ChoosesPaths, Takes, OfferedBySome, OnlyOffer, IsOver, InterfaceOffers, LinkOffers, LsaOffers, AreaOffers, own_lsa}
 use Rattle.event_core.specs.States.{State}
 use Rattle.event_core.proofs.InOrder.{only_item}
-
-pub no_item : {X : Type 0} (x : X) → Contains [] x → ⊥
-no_item x h = omega (arith, h.1)
+use Rattle.ospf_types.proofs.Elements.{no_element, first_element, later_element, first_or_later}
 
 -- where nothing is offered, the choices stay
 pub takes_none : (offers : Prefix → AreaCost → Path → Type 0) → ((p : Prefix) (key : AreaCost) (path : Path) → offers p key path → ⊥) → (c : NetworkChoices) → Takes offers c c
 takes_none offers none c = record {
   list = [];
-  just = λ p key path. (λ h. absurd (no_item (p, key, path) h), λ h. absurd (none p key path h));
+  just = λ p key path. (λ h. absurd (no_element (p, key, path) h), λ h. absurd (none p key path h));
   taken = λ before h. subst (λ all. ChoosesPaths all c) (sym (append-nil before)) h;
 }
 
@@ -53,15 +51,15 @@ takes_same a b same old new takes = record {
 module _ {X : Type 0} (offers : X → Prefix → AreaCost → Path → Type 0) where
   -- no element offers anything
   pub takes_nil : (c : NetworkChoices) → Takes (OfferedBySome [] offers) c c
-  takes_nil c = takes_none (OfferedBySome [] offers) (λ p key path h. no_item h.0 h.1) c
+  takes_nil c = takes_none (OfferedBySome [] offers) (λ p key path h. no_element h.0 h.1) c
 
   -- the offers of the first, and then those of the rest
   pub takes_cons : (x : X) (xs : List X) (old mid new : NetworkChoices) → Takes (offers x) old mid → Takes (OfferedBySome xs offers) mid new → Takes (OfferedBySome (x ∷ xs) offers) old new
   takes_cons x xs old mid new first rest = record {
     list = first.list ++ rest.list;
     just = λ p key path. (
-      λ h. ⊎_elim (λ (c : Contains first.list (p, key, path)). (x, (0, omega arith, λ _. x), (first.just p key path).0 c)) (λ (c : Contains rest.list (p, key, path)). let w = (rest.just p key path).0 c in (w.0, Contains-append_right (x ∷ []) xs w.0 w.1, w.2)) (Contains-append_cases first.list rest.list (p, key, path) h),
-      λ w. ⊎_elim (λ (c : Contains (x ∷ []) w.0). Contains-append_left first.list rest.list (p, key, path) ((first.just p key path).1 (subst (λ y. offers y p key path) (only_item x w.0 c) w.2))) (λ (c : Contains xs w.0). Contains-append_right first.list rest.list (p, key, path) ((rest.just p key path).1 (w.0, c, w.2))) (Contains-append_cases (x ∷ []) xs w.0 w.1),
+      λ h. ⊎_elim (λ (c : Contains first.list (p, key, path)). (x, first_element x xs, (first.just p key path).0 c)) (λ (c : Contains rest.list (p, key, path)). let w = (rest.just p key path).0 c in (w.0, later_element x w.0 xs w.1, w.2)) (Contains-append_cases first.list rest.list (p, key, path) h),
+      λ w. ⊎_elim (λ (e : w.0 ≡ x). Contains-append_left first.list rest.list (p, key, path) ((first.just p key path).1 (subst (λ y. offers y p key path) e w.2))) (λ (c : Contains xs w.0). Contains-append_right first.list rest.list (p, key, path) ((rest.just p key path).1 (w.0, c, w.2))) (first_or_later x w.0 xs w.1),
     );
     taken = λ before h. subst (λ all. ChoosesPaths all new) (append_assoc before first.list rest.list) (rest.taken (before ++ first.list) (first.taken before h));
   }

@@ -29,8 +29,7 @@ pub(crate) fn choices(
     ensures held { IsHeld state.now.config state.now.databases state.now.externals }
 {
     let mut choices = Choices::new(alloc);
-    let config = state.config();
-    let areas = config.areas.as_slice();
+    let areas = state.config().areas.as_slice();
     for area in areas {
         offer_area(&mut choices, state, area.id)?;
     }

@@ -1,5 +1,6 @@
 pub mod Masking
 pub mod Orders
 pub mod Paths
+pub mod Elements
 pub mod NoLinks
 pub mod OneBest

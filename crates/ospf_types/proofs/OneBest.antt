@@ -1,5 +1,5 @@
 -- There is one best of some offers, and one list of its items in order.
-use Rattle.std.proofs.Common.{◌≡◌, ◌≢◌, List, [], ◌∷◌, Ordering, refl, sym, ap, subst, ◌∙◌, ⊎_elim, ◌⊎◌, inl, inr, arith}
+use Rattle.std.proofs.Common.{◌≡◌, ◌≢◌, List, [], ◌∷◌, Ordering, refl, sym, ap, subst, ◌∙◌, ⊎_elim}
 use Rattle.std.specs.Prelude.{◌↔◌}
 use Rattle.std.specs.declared.cmp.Ordering.TheVariants.{Less, Equal, Greater}
 use Rattle.std.specs.Ordering.{ordering_reverse}
@@ -7,21 +7,11 @@ use Rattle.std.specs.Cmp.{IsTotalOrder}
 use Rattle.std.specs.List.{Contains}
 use Rattle.std.specs.List.Sorted.{IsStrictlySortedBy}
 use Rattle.std.proofs.lemmas.Cmp.{tied_itself}
-use Rattle.std.proofs.lemmas.List.Elements.{All-from_recursion, All-contains, Contains-append_right, Contains-append_cases, Contains-push_cases}
+use Rattle.std.proofs.lemmas.List.Elements.{All-from_recursion, All-contains}
 use Rattle.std.proofs.lemmas.Map.Keys.{sorted_head, sorted_tail}
 use Rattle.std.proofs.lemmas.Map.Lookups.{CmpEqualImpliesEq}
 use Rattle.ospf_types.specs.Best.{IsBest}
-
-here : {X : Type 0} (x : X) (xs : List X) → Contains (x ∷ xs) x
-here x xs = (0, omega arith, refl)
-
-no_item : {X : Type 0} (x : X) → Contains [] x → ⊥
-no_item x h = omega (arith, h.1)
-
--- an element is the first, or among the others
-first_or_later : {X : Type 0} (x z : X) (xs : List X) → Contains (x ∷ xs) z → (z ≡ x) ⊎ Contains xs z
-first_or_later x z xs h =
-    ⊎_elim (λ (c : Contains (x ∷ []) z). ⊎_elim (λ (n : Contains [] z). absurd (no_item z n)) (λ (e : x ≡ z). inl (sym e)) (Contains-push_cases [] x z c)) (λ (c : Contains xs z). inr c) (Contains-append_cases (x ∷ []) xs z h)
+use Rattle.ospf_types.proofs.Elements.{no_element, first_element, later_element, first_or_later}
 
 module _ {X : Type 0} {R : X → X → Ordering} (o : IsTotalOrder R) (exact : CmpEqualImpliesEq R) where
   not_below_itself : (x : X) → R x x ≢ Less
@@ -51,13 +41,13 @@ module _ {X : Type 0} {R : X → X → Ordering} (o : IsTotalOrder R) (exact : C
   -- lists in order that have the same elements are one
   pub same_list : (xs ys : List X) → IsStrictlySortedBy R xs → IsStrictlySortedBy R ys → ((z : X) → Contains xs z ↔ Contains ys z) → xs ≡ ys
   same_list [] [] p q same = refl
-  same_list [] (y ∷ ys) p q same = absurd (no_item y ((same y).1 (here y ys)))
-  same_list (x ∷ xs) [] p q same = absurd (no_item x ((same x).0 (here x xs)))
+  same_list [] (y ∷ ys) p q same = absurd (no_element y ((same y).1 (first_element y ys)))
+  same_list (x ∷ xs) [] p q same = absurd (no_element x ((same x).0 (first_element x xs)))
   same_list (x ∷ xs) (y ∷ ys) p q same =
-      let first : x ≡ y = tied x y (none_below y x ys q ((same x).0 (here x xs))) (none_below x y xs p ((same y).1 (here y ys))) in
+      let first : x ≡ y = tied x y (none_below y x ys q ((same x).0 (first_element x xs))) (none_below x y xs p ((same y).1 (first_element y ys))) in
       let rest : xs ≡ ys = same_list xs ys (sorted_tail R x xs p) (sorted_tail R y ys q) (λ z. (
-        λ c. ⊎_elim (λ (e : z ≡ y). absurd (not_below_itself z (subst (λ w. R w z ≡ Less) (first ∙ sym e) (later_above x z xs p c)))) (λ (c : Contains ys z). c) (first_or_later y z ys ((same z).0 (Contains-append_right (x ∷ []) xs z c))),
-        λ c. ⊎_elim (λ (e : z ≡ x). absurd (not_below_itself z (subst (λ w. R w z ≡ Less) (sym first ∙ sym e) (later_above y z ys q c)))) (λ (c : Contains xs z). c) (first_or_later x z xs ((same z).1 (Contains-append_right (y ∷ []) ys z c))),
+        λ c. ⊎_elim (λ (e : z ≡ y). absurd (not_below_itself z (subst (λ w. R w z ≡ Less) (first ∙ sym e) (later_above x z xs p c)))) (λ (c : Contains ys z). c) (first_or_later y z ys ((same z).0 (later_element x z xs c))),
+        λ c. ⊎_elim (λ (e : z ≡ x). absurd (not_below_itself z (subst (λ w. R w z ≡ Less) (sym first ∙ sym e) (later_above y z ys q c)))) (λ (c : Contains xs z). c) (first_or_later x z xs ((same z).1 (later_element y z ys c))),
       )) in
       λ i. first i ∷ rest i
 

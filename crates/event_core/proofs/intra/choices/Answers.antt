@@ -19,9 +19,9 @@ pub returns-clause-chosen : goal.returns-clause-chosen
 returns-clause-chosen c =
     let s = c.args.state.now in
     let offers = λ (area : AreaConfig). AreaOffers s area.id in
-    let areas = c.as_slice-areas.ensures ∙ ap (λ (config : Config). config.areas) c.config-config.ensures.value in
+    let areas = c.as_slice-areas.ensures ∙ ap (λ (config : Config). config.areas) c.config.ensures.value in
     let no_offers : List NetworkOffer = [] in
     let none = subst (λ (S : Path → Path → Ordering). ChoosesFrom network_cmp area_cost_cmp S no_offers c.new-choices.result) path_cmp_is c.new-choices.ensures.chooses in
     let takes = c.loop-area.invariant c.loop-area.choices (takes_past offers c.as_slice-areas.result.now c.loop-area.area-index c.loop-area.choices (omega arith)) in
-    intra_chosen s c.config-config.ensures.held c.new-choices.result c.loop-area.choices none
+    intra_chosen s c.config.ensures.held c.new-choices.result c.loop-area.choices none
     (subst (λ (xs : List AreaConfig). Takes (OfferedBySome xs offers) c.new-choices.result c.loop-area.choices) areas takes)

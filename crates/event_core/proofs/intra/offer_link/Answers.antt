@@ -7,7 +7,6 @@ use Rattle.ospf_types.specs.declared.lsa.LinkKind.{LinkKind}
 use Rattle.ospf_types.specs.declared.lsa.LinkKind.TheVariants.{Stub}
 use Rattle.ospf_types.specs.declared.prefix.Prefix.{Prefix}
 use Rattle.ospf_types.specs.Intra.{AreaCost}
-use Rattle.ospf_types.specs.Lsa.{network_of}
 use Rattle.event_core.specs.Offers.{Takes, OfferedBySome, InterfaceOffers}
 use Rattle.event_core.proofs.Taking.{takes_stub, takes_other}
 use Rattle.event_core.proofs.intra.offer_link.Goals as goal

@@ -1,10 +1,10 @@
-use Rattle.std.proofs.Common.{◌≡◌, ◌+◌, ◌≤◌, None, length, map, inl, inr, sym, subst, ◌∙◌, arith}
+use Rattle.std.proofs.Common.{◌≡◌, ◌≤◌, None, length, map, inl, inr, sym, ◌∙◌, arith}
 use Rattle.std.specs.List.{slice_get}
 use Rattle.std.specs.FinMap.{entries}
 use Rattle.std.proofs.lemmas.List.{length-map}
 use Rattle.std.proofs.lemmas.Option.{get_or_from_slice_get, slice_get_within, slice_get_cases}
 use Rattle.lsa_codec.specs.Readers.{links_of, without_tos}
-use Rattle.event_core.specs.Offers.{NetworkChoices, Takes, OfferedBySome, LinkOffers}
+use Rattle.event_core.specs.Offers.{LinkOffers}
 use Rattle.event_core.proofs.Taking.{takes_at, takes_past}
 use Rattle.event_core.proofs.intra.offer_links.Goals as goal
 use Rattle.event_core.proofs.intra.offer_links.Goals.{in-Some+in_ok-offer_link, in_default}

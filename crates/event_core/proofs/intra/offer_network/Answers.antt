@@ -1,4 +1,4 @@
-use Rattle.std.proofs.Common.{◌≡◌, List, [], ◌∷◌, ℕ, sym, subst}
+use Rattle.std.proofs.Common.{List, ℕ, sym, subst}
 use Rattle.ospf_types.specs.declared.config.Interface.{Interface}
 use Rattle.event_core.specs.Offers.{Takes, OfferedBySome, InterfaceOffers}
 use Rattle.event_core.proofs.Taking.{takes_cons, takes_nil}

@@ -1,7 +1,6 @@
-use Rattle.std.proofs.Common.{◌≡◌, ℕ, true, false, sym, subst, ap, ◌∙◌}
+use Rattle.std.proofs.Common.{◌≡◌, ℕ, true, false, sym, subst, ◌∙◌}
 use Rattle.std.proofs.lemmas.Result.{on_ok_weaker}
 use Rattle.ospf_types.specs.declared.hop.Path.{Path}
-use Rattle.ospf_types.specs.Intra.{inside_area}
 use Rattle.event_core.specs.Offers.{IsOver, Takes, OnlyOffer}
 use Rattle.event_core.proofs.Taking.{takes_over, takes_aside}
 use Rattle.event_core.proofs.intra.offer_over.Goals as goal

@@ -1,9 +1,6 @@
-use Rattle.std.proofs.Common.{◌≡◌, length, All, sym, ap, subst, ◌∙◌}
+use Rattle.std.proofs.Common.{length, All, sym, ap, subst, ◌∙◌}
 use Rattle.std.specs.FinMap.{empty, insert}
-use Rattle.std.specs.List.Sorted.{IsStrictlySortedBy}
 use Rattle.std.proofs.lemmas.List.Elements.{All-head, All-tail}
-use Rattle.ospf_types.specs.Hops.{path_cmp}
-use Rattle.event_core.specs.Offers.{NetworkChoices}
 use Rattle.event_core.specs.Tables.{TableValue}
 use Rattle.event_core.specs.declared.table.Item.{Item}
 use Rattle.event_core.proofs.Filled.{filled, InOrder, choices_in_order, filled_right}
