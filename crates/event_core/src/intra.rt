@@ -97,12 +97,23 @@ fn offer_link(
 ) -> Result<(), Memory>
     ensures { OnOk result (Takes (LinkOffers (entries state.now.interfaces) area link) choices.old choices.new) }
 {
-    if link.kind != LinkKind::Stub {
+    if !is_stub(link.kind) {
         return Ok(());
     }
-    let network = network_of(link);
-    let key = AreaCost::new(u32::from(link.metric), area);
-    offer_network(choices, state, network, key)
+    offer_network(choices, state, network_of(link), cost_of(area, link))
+}
+
+fn is_stub(kind: LinkKind) -> bool
+    ensures { IsTrue result ↔ (kind ≡ LinkKind.Stub) }
+{
+    matches!(kind, LinkKind::Stub)
+}
+
+// What a stub link of the root costs: its metric, in the area.
+fn cost_of(area: u32, link: Link) -> AreaCost
+    ensures { result ≡ (link.metric, area) }
+{
+    AreaCost::new(u32::from(link.metric), area)
 }
 
 // The network that a stub link names.
