@@ -14,3 +14,8 @@ pub mod ContentsOf
 pub mod Configs
 pub mod Runs
 pub mod Listings
+pub mod Taking
+pub mod Areas
+pub mod NoWays
+pub mod OwnStubs
+pub mod Filled

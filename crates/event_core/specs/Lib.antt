@@ -10,3 +10,5 @@ pub mod Configs
 pub mod Cores
 pub mod Kept
 pub mod Listings
+pub mod Ranges
+pub mod Offers

@@ -7,6 +7,7 @@ mod config_fault;
 mod core_state;
 mod database;
 mod event;
+mod intra;
 mod limits;
 mod listing;
 mod order;
