@@ -27,7 +27,7 @@ use Rattle.event_core.specs.declared.table.Item.TheVariants.{Route, Discard}
 use Rattle.event_core.specs.Choices.{Chosen, IsChosen}
 use Rattle.event_core.specs.Held.{IsHeld}
 use Rattle.event_core.specs.Offers.{NetworkChoices, AreIntra}
-use Rattle.event_core.specs.Ranges.{HasNoRanges}
+use Rattle.event_core.specs.Configs.{HasNoRanges}
 use Rattle.event_core.specs.Right.{IsRight}
 use Rattle.event_core.specs.States.{State, inputs_of}
 use Rattle.event_core.specs.Tables.{TableValue}

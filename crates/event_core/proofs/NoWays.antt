@@ -23,7 +23,7 @@ use Rattle.ospf_types.proofs.Elements.{no_element, mapped_from}
 use Rattle.ospf_types.proofs.NoLinks.{no_hop}
 use Rattle.event_core.specs.Databases.{Database}
 use Rattle.event_core.specs.Held.{IsHeld}
-use Rattle.event_core.specs.Ranges.{HasNoRanges}
+use Rattle.event_core.specs.Configs.{HasNoRanges}
 use Rattle.event_core.specs.States.{State, database_of, lsas_of, inputs_of}
 use Rattle.event_core.specs.Steps.{is_edge_kind, is_stub_only}
 use Rattle.event_core.proofs.Areas.{is_here, under_key}

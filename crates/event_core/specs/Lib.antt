@@ -10,5 +10,4 @@ pub mod Configs
 pub mod Cores
 pub mod Kept
 pub mod Listings
-pub mod Ranges
 pub mod Offers

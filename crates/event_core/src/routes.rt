@@ -3,7 +3,7 @@ ghost use Rattle.std.specs.Prelude.{◌≡◌, Some, IfOk};
 ghost use Rattle.std.specs.List.Sorted.{IsStrictlySortedBy};
 ghost use Rattle.ospf_types.specs.Hops.{path_cmp};
 ghost use Rattle.ospf_types.specs.Routes.{entry_of};
-ghost use Rattle.event_core.specs.Ranges.{HasNoRanges};
+ghost use Rattle.event_core.specs.Configs.{HasNoRanges};
 ghost use Rattle.event_core.specs.Right.{IsRight};
 
 use crate::choice::{AreaCost, Choice};
