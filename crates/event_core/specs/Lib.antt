@@ -9,3 +9,4 @@ pub mod Right
 pub mod Configs
 pub mod Cores
 pub mod Kept
+pub mod Texts
