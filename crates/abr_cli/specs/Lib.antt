@@ -1,2 +1,3 @@
 pub mod Command
 pub mod Words
+pub mod One

@@ -1,7 +1,15 @@
 -- What the words of a command mean.
-use Rattle.std.specs.Prelude.{ℕ, ◌≡◌, ◌^◌, ◌<◌, List, IsOk}
+use Rattle.std.specs.Prelude.{ℕ, ◌≡◌, ◌^◌, ◌<◌, ◌⊎◌, List, IsOk, codes}
 use Rattle.hex.specs.Hex.{decode_of}
 use Rattle.ospf_types.specs.Text.{address_text}
+use Rattle.abr_cli.specs.declared.words.WordFault.{WordFault}
+use Rattle.abr_cli.specs.declared.words.WordFault.TheVariants.{NotAnAddress, NotHexadecimal, Memory}
+use Rattle.abr_cli.specs.Command.{OneTexts}
+
+-- the word writes this address
+pub record Writes (word : List ℕ) (address : ℕ) : Type 0 where
+  pub within : address < 2 ^ 32
+  pub spelled : word ≡ address_text address
 
 -- the word writes an address
 abbrev pub IsAddress : List ℕ → Type 0
@@ -10,3 +18,15 @@ IsAddress word = (address : ℕ) × (address < 2 ^ 32) × (word ≡ address_text
 -- the word is an even number of hexadecimal digits, in either case
 abbrev pub IsHexadecimal : List ℕ → Type 0
 IsHexadecimal word = IsOk (decode_of word)
+
+-- the first word that cannot be read has this fault
+abbrev pub IsFirstFault : OneTexts → WordFault → Type 0
+IsFirstFault t NotAnAddress =
+    (¬ IsAddress t.router) ⊎ (¬ IsAddress t.area) ⊎ (¬ IsAddress t.address) ⊎ (IsHexadecimal t.lsa × ¬ IsAddress t.lookup)
+IsFirstFault t NotHexadecimal = IsAddress t.router × IsAddress t.area × IsAddress t.address × ¬ IsHexadecimal t.lsa
+IsFirstFault t Memory = Unit {0}
+
+abbrev pub fault_text : WordFault → List ℕ
+fault_text NotAnAddress = codes "not an address"
+fault_text NotHexadecimal = codes "not hexadecimal"
+fault_text Memory = codes "30 Memory"

@@ -3,11 +3,14 @@
 
 mod command;
 mod job;
+mod one;
+mod one_fault;
 #[cfg(test)]
 mod tests;
 mod words;
 
 use command::{Job, Usage};
+use std::hash::RandomState;
 use std::io;
 use std::process::ExitCode;
 use words::WordFault;
@@ -19,10 +22,13 @@ fn main(rt: HostRuntime) -> io::Result<ExitCode> {
         words.push(word.as_str())?;
     }
     let status = match job::job(rt.alloc(), words.as_slice()) {
-        Ok(Job::One(words)) => match words::read_one(rt.alloc(), &words) {
-            Ok(_) => 0,
-            Err(fault) => refuse(&rt, fault)?,
-        },
+        Ok(Job::One(words)) => one::one(
+            rt.alloc(),
+            RandomState::new(&rt)?,
+            &words,
+            &mut rt.stdout(),
+            &mut rt.stderr(),
+        ),
         Err(usage) => tell(&rt, &usage)?,
     };
     Ok(ExitCode::from(status))
@@ -35,12 +41,9 @@ fn tell(rt: &(impl Print + Eprint), usage: &Usage) -> io::Result<u8> {
             error.print(rt)?;
             Ok(if error.use_stderr() { 2 } else { 0 })
         }
-        Usage::Memory => refuse(rt, WordFault::Memory),
+        Usage::Memory => {
+            eprintln!(rt; "abr: {}", WordFault::Memory)?;
+            Ok(1)
+        }
     }
-}
-
-// Says why a word cannot be read. The answer is the status.
-fn refuse(rt: &impl Eprint, fault: WordFault) -> io::Result<u8> {
-    eprintln!(rt; "abr: {fault}")?;
-    Ok(if fault == WordFault::Memory { 1 } else { 2 })
 }

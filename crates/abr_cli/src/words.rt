@@ -1,14 +1,15 @@
 //! The words of a command, read.
-ghost use Rattle.std.specs.Prelude.{◌≡◌, ◌⊎◌, ◌≢◌, ℕ, Ok, IfOk, IfSome, IsNone, OnErr, IsErrOf};
+ghost use Rattle.std.specs.Prelude.{◌≡◌, ◌≢◌, Ok, Some, IfOk, IfErr, OnErr, IsErrOf};
 ghost use Rattle.hex.specs.Hex.{decode_of};
-ghost use Rattle.ospf_types.specs.Text.{address_text};
-ghost use Rattle.abr_cli.specs.Words.{IsAddress, IsHexadecimal};
+ghost use Rattle.abr_cli.specs.Command.{texts_of};
+ghost use Rattle.abr_cli.specs.Words.{IsAddress, IsHexadecimal, IsFirstFault, Writes, fault_text};
 
 use crate::command::OneWords;
 use hex::FromHexError;
 use ospf_types::address::Address;
 use std::alloc::Global;
-use thiserror::Error;
+use std::error::Error;
+use std::fmt;
 
 /// What `abr one` works on. Addresses are numbers in host order.
 #[derive(Debug, Drop)]
@@ -25,29 +26,35 @@ pub struct OneInput {
 }
 
 /// A word that cannot be read, or a growth that was refused.
-#[derive(Clone, Copy, Debug, PartialEq, Eq, Error)]
+#[derive(Clone, Copy, Debug, PartialEq, Eq)]
 pub enum WordFault {
-    #[error("not an address")]
     NotAnAddress,
-    #[error("not hexadecimal")]
     NotHexadecimal,
-    #[error("30 Memory")]
     Memory,
 }
 
+impl fmt::Display for WordFault {
+    ghost output = { λ fault. Some (fault_text fault) };
+
+    fn fmt<W: fmt::Write>(&self, f: &mut fmt::Formatter<W>) -> fmt::Result {
+        f.write_str(match self {
+            WordFault::NotAnAddress => "not an address",
+            WordFault::NotHexadecimal => "not hexadecimal",
+            WordFault::Memory => "30 Memory",
+        })
+    }
+}
+
+impl Error for WordFault {}
+
 /// Reads the words in their order; the first that cannot be read decides.
 pub fn read_one(alloc: Global, words: &OneWords<'_>) -> Result<OneInput, WordFault>
-    ensures router { IfOk result (λ i. words.now.router.now ≡ address_text i.router) }
-    ensures area { IfOk result (λ i. words.now.area.now ≡ address_text i.area) }
-    ensures address { IfOk result (λ i. words.now.address.now ≡ address_text i.address) }
+    ensures router { IfOk result (λ i. Writes words.now.router.now i.router) }
+    ensures area { IfOk result (λ i. Writes words.now.area.now i.area) }
+    ensures address { IfOk result (λ i. Writes words.now.address.now i.address) }
     ensures lsa { IfOk result (λ i. decode_of words.now.lsa.now ≡ Ok i.lsa.items) }
-    ensures lookup { IfOk result (λ i. words.now.lookup.now ≡ address_text i.lookup) }
-    ensures not_an_address { IsErrOf result WordFault.NotAnAddress
-        → ((¬ IsAddress words.now.router.now) ⊎ (¬ IsAddress words.now.area.now) ⊎ (¬ IsAddress words.now.address.now)
-        ⊎ (IsHexadecimal words.now.lsa.now × ¬ IsAddress words.now.lookup.now)) }
-    ensures not_hexadecimal { IsErrOf result WordFault.NotHexadecimal
-        → IsAddress words.now.router.now × IsAddress words.now.area.now × IsAddress words.now.address.now
-        × ¬ IsHexadecimal words.now.lsa.now }
+    ensures lookup { IfOk result (λ i. Writes words.now.lookup.now i.lookup) }
+    ensures fault { IfErr result (IsFirstFault (texts_of words.now)) }
 {
     Ok(OneInput {
         router: address(words.router)?,
@@ -59,7 +66,7 @@ pub fn read_one(alloc: Global, words: &OneWords<'_>) -> Result<OneInput, WordFau
 }
 
 fn address(word: &str) -> Result<u32, WordFault>
-    ensures ok { IfOk result (λ address. word.now ≡ address_text address) }
+    ensures ok { IfOk result (Writes word.now) }
     ensures fault { OnErr result (¬ IsAddress word.now) }
     ensures err { OnErr result (result ≡ Err WordFault.NotAnAddress) }
 {

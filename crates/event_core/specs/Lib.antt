@@ -11,3 +11,4 @@ pub mod Cores
 pub mod Kept
 pub mod Listings
 pub mod Offers
+pub mod Texts

@@ -15,6 +15,7 @@ mod refusal;
 mod routes;
 mod state;
 pub mod table;
+mod text;
 
 pub use core_state::Core;
 pub use event::{Event, Reply, Standing};
