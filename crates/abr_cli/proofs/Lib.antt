@@ -1,4 +1,4 @@
 pub mod Building
 pub mod Matches
 pub mod Line
-pub mod After
+pub mod Answering

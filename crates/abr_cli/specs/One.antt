@@ -13,11 +13,15 @@ use Rattle.lsa_codec.specs.declared.fault.WireFault.TheVariants as wire
 use Rattle.event_core.specs.declared.event.Event.{Event}
 use Rattle.event_core.specs.declared.event.Event.TheVariants as event
 use Rattle.event_core.specs.declared.table.Match.{Match}
-use Rattle.event_core.specs.Cores.{standard_limits}
+use Rattle.event_core.specs.declared.refusal.Refusal.{Refusal}
+use Rattle.event_core.specs.Cores.{standard_limits, IsFaultOf}
+use Rattle.event_core.specs.Refusals.{IsRefusalOf}
 use Rattle.event_core.specs.Right.{IsRight}
-use Rattle.event_core.specs.Steps.{run_of, IsLegalList}
+use Rattle.event_core.specs.States.{State}
+use Rattle.event_core.specs.Steps.{run_of, refusal_of, IsLegalList}
 use Rattle.event_core.specs.Tables.{TableValue, IsMatch}
 use Rattle.event_core.specs.Texts.{match_text}
+use Rattle.abr_cli.specs.declared.words.OneInput.{OneInput}
 use Rattle.abr_cli.specs.declared.words.WordFault.{WordFault}
 use Rattle.abr_cli.specs.declared.words.WordFault.TheVariants.{NotAnAddress, NotHexadecimal, Memory}
 use Rattle.abr_cli.specs.declared.one_fault.OneFault.{OneFault}
@@ -25,53 +29,92 @@ use Rattle.abr_cli.specs.declared.one_fault.OneFault.TheVariants as fault
 use Rattle.abr_cli.specs.Command.{OneTexts}
 use Rattle.abr_cli.specs.Words.{Writes, IsFirstFault, fault_text}
 
--- a router with one area, which is no stub area and has no ranges
-abbrev pub config_of : ℕ → ℕ → Config
-config_of router area = record { router = router; areas = record { id = area; stub = None; ranges = [] } ∷ [] }
+-- what the words say
+pub record Given : Type 0 where
+  pub router : ℕ
+  pub area : ℕ
+  pub address : ℕ
+  pub lsa : Lsa
+  pub lookup : ℕ
 
--- interface 1 comes up, with no peer, and the LSA is installed in the area
-abbrev pub events_of : ℕ → ℕ → Lsa → List Event
-events_of area address lsa = event.Interface 1 area address 0 true ∷ event.Install (scope.Area area) lsa ∷ []
+-- the word is the bytes of this LSA, which are sound, in hexadecimal
+pub record WritesLsa (word : List ℕ) (lsa : Lsa) : Type 0 where
+  pub bytes : List ℕ
+  pub given : decode_of word ≡ Ok bytes
+  pub sound : IsSound bytes
+  pub spelled : Spells bytes lsa
 
--- each of the events is taken, and the table is right for them
-pub record IsTableAfter (config : Config) (events : List Event) (t : TableValue) : Type 0 where
-  pub legal : IsLegalList config standard_limits events
-  pub right : IsRight (run_of config standard_limits events) t
+-- the words as they were read
+abbrev pub given_by : OneInput → Lsa → Given
+given_by input lsa = record { router = input.router; area = input.area; address = input.address; lsa = lsa; lookup = input.lookup }
+
+pub record Say (words : OneTexts) (g : Given) : Type 0 where
+  pub router : Writes words.router g.router
+  pub area : Writes words.area g.area
+  pub address : Writes words.address g.address
+  pub lsa : WritesLsa words.lsa g.lsa
+  pub lookup : Writes words.lookup g.lookup
+
+-- the router has one area, which is no stub area and has no ranges
+abbrev pub one_area : ℕ → ℕ → Config
+one_area router area = record { router = router; areas = record { id = area; stub = None; ranges = [] } ∷ [] }
+
+abbrev pub config_of : Given → Config
+config_of g = one_area g.router g.area
+
+-- interface 1 comes up, with no peer
+abbrev pub interface_of : Given → Event
+interface_of g = event.Interface 1 g.area g.address 0 true
+
+-- the LSA is installed in the area
+abbrev pub install_of : Given → Event
+install_of g = event.Install (scope.Area g.area) g.lsa
+
+abbrev pub state_after : Given → List Event → State
+state_after g events = run_of (config_of g) standard_limits events
+
+-- each of the two events is taken, and the table is right for them
+pub record IsTableOf (g : Given) (t : TableValue) : Type 0 where
+  pub legal : IsLegalList (config_of g) standard_limits (interface_of g ∷ install_of g ∷ [])
+  pub right : IsRight (state_after g (interface_of g ∷ install_of g ∷ [])) t
 
 abbrev pub lookup_line : List ℕ → TableValue → Match → List ℕ
 lookup_line word t found = codes "lookup " ++ word ++ codes " " ++ decimal t.serial ++ codes " " ++ match_text found ++ codes "\n"
 
--- The words are addresses and a sound LSA, both events are taken, and the line has the match of the last word in a table that is right for them.
+-- The line has the match of the last word in a table that is right for what the words say.
 pub record Answer (words : OneTexts) (line : List ℕ) : Type 0 where
-  pub router : ℕ
-  pub area : ℕ
-  pub address : ℕ
-  pub lookup : ℕ
-  pub bytes : List ℕ
-  pub lsa : Lsa
+  pub given : Given
+  pub say : Say words given
   pub table : TableValue
+  pub right : IsTableOf given table
   pub found : Match
-  pub router_given : Writes words.router router
-  pub area_given : Writes words.area area
-  pub address_given : Writes words.address address
-  pub lookup_given : Writes words.lookup lookup
-  pub bytes_given : decode_of words.lsa ≡ Ok bytes
-  pub sound : IsSound bytes
-  pub spelled : Spells bytes lsa
-  pub after : IsTableAfter (config_of router area) (events_of area address lsa) table
-  pub matched : IsMatch table.items lookup found
+  pub matched : IsMatch table.items given.lookup found
   pub printed : line ≡ lookup_line words.lookup table found
+
+-- the first of the two events that is not taken is refused so
+abbrev pub IsRefused : Given → Refusal → Type 0
+IsRefused g r = IsRefusalOf (state_after g []) (interface_of g) r
+    ⊎ ((refusal_of (state_after g []) (interface_of g) ≡ None) × IsRefusalOf (state_after g (interface_of g ∷ [])) (install_of g) r)
 
 -- the bytes of the word have this fault first, or memory ran out
 abbrev pub HasWireFault : List ℕ → WireFault → Type 0
 HasWireFault word f = (bytes : List ℕ) × (decode_of word ≡ Ok bytes) × ((fault_of bytes ≡ Some f) ⊎ ((f ≡ wire.Memory) × (fault_of bytes ≡ None)))
 
+-- why there is no core with a table of what was given
+abbrev pub IsCoreFault : Given → OneFault → Type 0
+IsCoreFault g (fault.Word f) = ⊥
+IsCoreFault g (fault.Wire f) = ⊥
+IsCoreFault g (fault.Config f) = IsFaultOf (config_of g) f
+IsCoreFault g (fault.Refused r) = IsRefused g r
+IsCoreFault g fault.Memory = Unit {0}
+IsCoreFault g fault.Write = ⊥
+
 -- why there is no line
 abbrev pub IsFault : OneTexts → OneFault → Type 0
 IsFault words (fault.Word f) = IsFirstFault words f
 IsFault words (fault.Wire f) = HasWireFault words.lsa f
-IsFault words (fault.Config f) = Unit {0}
-IsFault words (fault.Refused f) = Unit {0}
+IsFault words (fault.Config f) = (g : Given) × Say words g × IsFaultOf (config_of g) f
+IsFault words (fault.Refused r) = (g : Given) × Say words g × IsRefused g r
 IsFault words fault.Memory = Unit {0}
 IsFault words fault.Write = ⊥
 

@@ -1,7 +1,7 @@
 //! The command `one`.
 ghost use Rattle.std.specs.Prelude.{◌≡◌, ◌≤◌, ◌⊎◌, IfOk, IfErr, OnOk, string_bytes};
 ghost use Rattle.abr_cli.specs.Command.{texts_of};
-ghost use Rattle.abr_cli.specs.One.{Answer, IsFault, IsTableAfter, PrintsAnswer, PrintsWordFault, HasAnswer, PrintsFault, config_of, events_of, status_of};
+ghost use Rattle.abr_cli.specs.One.{Answer, IsFault, IsCoreFault, IsTableOf, PrintsAnswer, PrintsWordFault, HasAnswer, PrintsFault, given_by, one_area, status_of};
 
 use crate::command::OneWords;
 use crate::one_fault::OneFault;
@@ -65,8 +65,8 @@ fn core_after(
     input: &OneInput,
     lsa: Checked,
 ) -> Result<Core, OneFault>
-    ensures { IfOk result (λ core. IsTableAfter (config_of input.now.router input.now.area)
-        (events_of input.now.area input.now.address lsa) core.table) }
+    ensures table { IfOk result (λ core. IsTableOf (given_by input.now lsa) core.table) }
+    ensures fault { IfErr result (IsCoreFault (given_by input.now lsa)) }
 {
     let config = one_area(alloc, input.router, input.area)?;
     let mut core = Core::open(alloc, config, hashing)?;
@@ -88,7 +88,7 @@ fn core_after(
 }
 
 fn one_area(alloc: Global, router: u32, area: u32) -> Result<Config, Memory>
-    ensures { IfOk result (λ config. config ≡ config_of router area) }
+    ensures { IfOk result (λ config. config ≡ one_area router area) }
 {
     let mut areas = Areas::new(alloc);
     areas.push(AreaConfig {

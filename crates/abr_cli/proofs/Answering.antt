@@ -1,0 +1,43 @@
+-- What `abr one` answers, from what its words say.
+use Rattle.std.proofs.Common.{◌≡◌, ◌∙◌, ◌++◌, List, ℕ, Ok, ap, sym, subst, codes, append_assoc}
+use Rattle.std.specs.Prelude.{decimal}
+use Rattle.hex.specs.Hex.{decode_of}
+use Rattle.ospf_types.specs.Lsa.{Lsa}
+use Rattle.ospf_types.specs.Text.{address_text}
+use Rattle.lsa_codec.specs.Checksum.{IsSound}
+use Rattle.lsa_codec.specs.Spelling.{Spells}
+use Rattle.event_core.specs.declared.table.Match.{Match}
+use Rattle.event_core.specs.Tables.{TableValue, IsMatch}
+use Rattle.event_core.specs.Texts.{match_text}
+use Rattle.abr_cli.specs.declared.one_fault.OneFault.{OneFault}
+use Rattle.abr_cli.specs.declared.one_fault.OneFault.TheVariants as fault
+use Rattle.abr_cli.specs.Command.{OneTexts}
+use Rattle.abr_cli.specs.One.{Given, WritesLsa, Say, IsTableOf, Answer, IsCoreFault, IsFault, lookup_line}
+
+pub writes_lsa : (word read bytes : List ℕ) (lsa : Lsa) → decode_of word ≡ Ok read → bytes ≡ read → IsSound bytes → Spells bytes lsa → WritesLsa word lsa
+writes_lsa word read bytes lsa given same sound spelled = record { bytes = bytes; given = given ∙ ap Ok (sym same); sound = sound; spelled = spelled }
+
+pub fault_widens : (words : OneTexts) (g : Given) (f : OneFault) → Say words g → IsCoreFault g f → IsFault words f
+fault_widens words g (fault.Word f) say h = absurd h
+fault_widens words g (fault.Wire f) say h = absurd h
+fault_widens words g (fault.Config f) say h = (g, say, h)
+fault_widens words g (fault.Refused r) say h = (g, say, h)
+fault_widens words g fault.Memory say h = tt
+fault_widens words g fault.Write say h = absurd h
+
+pub answers : (words : OneTexts) (g : Given) (core table : TableValue) (found : Match) (line : List ℕ) → Say words g → IsTableOf g core → table ≡ core → IsMatch table.items g.lookup found
+    → line ≡ lookup_line (address_text g.lookup) table found → Answer words line
+answers words g core table found line say right same matched printed = record {
+  given = g;
+  say = say;
+  table = table;
+  right = subst (λ (t : TableValue). IsTableOf g t) (sym same) right;
+  found = found;
+  matched = matched;
+  printed = printed ∙ ap (λ (w : List ℕ). lookup_line w table found) (sym say.lookup.spelled);
+}
+
+-- the pieces of the format, as they are written one behind the other
+pub line_printed : (line word : List ℕ) (serial : ℕ) (t : TableValue) (found : Match)
+    → line ≡ codes "lookup " ++ (word ++ (codes " " ++ (decimal serial ++ (codes " " ++ (match_text found ++ codes "\n"))))) → serial ≡ t.serial → line ≡ lookup_line word t found
+line_printed line word serial t found written is = written ∙ rw is (simp append_assoc)
