@@ -12,6 +12,7 @@ pub mod InPlace
 pub mod Changes
 pub mod ContentsOf
 pub mod Taking
+pub mod StubOffers
 pub mod Areas
 pub mod NoWays
 pub mod OwnStubs

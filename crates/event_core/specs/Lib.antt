@@ -7,4 +7,5 @@ pub mod Choices
 pub mod Tables
 pub mod Right
 pub mod Ranges
+pub mod Takes
 pub mod Offers
