@@ -15,6 +15,7 @@ pub mod Configs
 pub mod Runs
 pub mod Listings
 pub mod Taking
+pub mod StubOffers
 pub mod Areas
 pub mod NoWays
 pub mod OwnStubs

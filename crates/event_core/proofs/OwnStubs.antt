@@ -22,9 +22,10 @@ use Rattle.ospf_types.specs.Network.{network_cmp}
 use Rattle.ospf_types.proofs.Elements.{mapped_element, mapped_from}
 use Rattle.lsa_codec.specs.Readers.{links_of, without_tos}
 use Rattle.lsa_codec.specs.Spelling.{IsLegal, IsLegalBody}
-use Rattle.event_core.specs.Choices.{IsOffered}
+use Rattle.event_core.specs.Choices.{IsOffered, ChoosesFrom}
 use Rattle.event_core.specs.Held.{IsHeld}
-use Rattle.event_core.specs.Offers.{NetworkChoices, ChoosesPaths, Takes, OfferedBySome, IsOver, AreaOffers, AreIntra, own_key, own_lsa, usable}
+use Rattle.event_core.specs.Offers.{NetworkChoices, TakesPaths, IsOver, AreaOffers, AreIntra, own_key, own_lsa, usable}
+use Rattle.event_core.specs.Takes.{OfferedBySome}
 use Rattle.event_core.specs.States.{State, database_of, inputs_of}
 use Rattle.event_core.proofs.Areas.{is_here, found_here}
 use Rattle.event_core.proofs.Choosing.{same_offers}
@@ -136,7 +137,7 @@ module _ (s : State) (held : IsHeld s.config s.databases s.externals) where
         ]
 
   -- choices that took the offers of each area are those among the intra-area offers
-  pub intra_chosen : (old new : NetworkChoices) → ChoosesPaths [] old → Takes (OfferedBySome s.config.areas (λ a. AreaOffers s a.id)) old new → AreIntra s new
+  pub intra_chosen : (old new : NetworkChoices) → ChoosesFrom network_cmp area_cost_cmp path_cmp [] old → TakesPaths (OfferedBySome s.config.areas (λ a. AreaOffers s a.id)) old new → AreIntra s new
   intra_chosen old new none takes p =
       same_offers area_cost_cmp path_cmp (IsOffered takes.list p) (IntraOffers (inputs_of s) p)
       (λ key path h. intra_from p key path ((takes.just p key path).0 h))

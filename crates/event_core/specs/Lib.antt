@@ -10,5 +10,6 @@ pub mod Configs
 pub mod Cores
 pub mod Kept
 pub mod Listings
+pub mod Takes
 pub mod Offers
 pub mod Texts

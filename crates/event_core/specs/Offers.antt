@@ -1,5 +1,5 @@
 -- What is offered to the choices among paths to networks, part by part (RFC 2328, 16.1).
-use Rattle.std.specs.Prelude.{ℕ, ◌≡◌, ◌↔◌, ◌++◌, IsTrue, List, map, Option, Some, None, Contains, nat_lt, option_and_then, if◌then◌else◌}
+use Rattle.std.specs.Prelude.{ℕ, ◌≡◌, IsTrue, List, map, Option, Some, None, nat_lt, option_and_then, if◌then◌else◌}
 use Rattle.std.specs.Map.{lookup}
 use Rattle.std.specs.BTreeMap.{is_at}
 use Rattle.std.specs.FinMap.{get, entries}
@@ -16,32 +16,17 @@ use Rattle.ospf_types.specs.declared.lsa.Link.{Link}
 use Rattle.ospf_types.specs.declared.lsa.LinkKind.TheVariants.{Stub}
 use Rattle.ospf_types.specs.declared.prefix.Prefix.{Prefix}
 use Rattle.lsa_codec.specs.Readers.{links_of, without_tos}
-use Rattle.event_core.specs.Choices.{Chosen, IsOffered, IsChosen, ChoosesFrom}
+use Rattle.event_core.specs.Choices.{Chosen, IsChosen}
 use Rattle.event_core.specs.States.{State, database_of, inputs_of}
-
-abbrev pub NetworkOffer : Type 0
-NetworkOffer = Prefix × AreaCost × Path
+use Rattle.event_core.specs.Takes.{Takes, OnlyOffer, OfferedBySome}
 
 -- the choices by network, in the order of the networks
 abbrev pub NetworkChoices : Type 0
 NetworkChoices = List (Prefix × Chosen AreaCost Path)
 
-abbrev pub ChoosesPaths : List NetworkOffer → NetworkChoices → Type 0
-ChoosesPaths offers choices = ChoosesFrom network_cmp area_cost_cmp path_cmp offers choices
-
--- from the one to the other just these offers were taken
-pub record Takes (offers : Prefix → AreaCost → Path → Type 0) (old new : NetworkChoices) : Type 0 where
-  pub list : List NetworkOffer
-  pub just : (p : Prefix) (key : AreaCost) (path : Path) → IsOffered list p key path ↔ offers p key path
-  pub taken : (before : List NetworkOffer) → ChoosesPaths before old → ChoosesPaths (before ++ list) new
-
--- what some element of the list offers
-abbrev pub OfferedBySome : {X : Type 0} → List X → (X → Prefix → AreaCost → Path → Type 0) → Prefix → AreaCost → Path → Type 0
-OfferedBySome {X} xs offers p key path = (x : X) × Contains xs x × offers x p key path
-
--- that path to that network, and nothing else
-abbrev pub OnlyOffer : Prefix → AreaCost → Path → Prefix → AreaCost → Path → Type 0
-OnlyOffer network cost way p key path = (p ≡ network) × (key ≡ cost) × (path ≡ way)
+-- just these offers of paths were taken
+abbrev pub TakesPaths : (Prefix → AreaCost → Path → Type 0) → NetworkChoices → NetworkChoices → Type 0
+TakesPaths offers old new = Takes network_cmp area_cost_cmp path_cmp offers old new
 
 -- the interface is one of the area, is up, and lies in the network
 pub record IsOver (area : ℕ) (network : Prefix) (i : Interface) : Type 0 where

@@ -7,7 +7,8 @@ ghost use Rattle.ospf_types.specs.Lsa.{network_of};
 ghost use Rattle.ospf_types.specs.Intra.{inside_area};
 ghost use Rattle.event_core.specs.Choices.{ChoosesFrom};
 ghost use Rattle.event_core.specs.Held.{IsHeld};
-ghost use Rattle.event_core.specs.Offers.{Takes, ChoosesPaths, OfferedBySome, OnlyOffer, IsOver, InterfaceOffers, LinkOffers, LsaOffers, AreaOffers, AreIntra, own_lsa};
+ghost use Rattle.event_core.specs.Offers.{TakesPaths, IsOver, InterfaceOffers, LinkOffers, LsaOffers, AreaOffers, AreIntra, own_lsa};
+ghost use Rattle.event_core.specs.Takes.{OfferedBySome, OnlyOffer};
 
 use crate::choice::{AreaCost, Choices};
 use crate::state::State;
@@ -42,7 +43,7 @@ fn offer_area(
     state: &State,
     area: u32,
 ) -> Result<(), Memory>
-    ensures { OnOk result (Takes (AreaOffers state.now area) choices.old choices.new) }
+    ensures { OnOk result (TakesPaths (AreaOffers state.now area) choices.old choices.new) }
 {
     match own_lsa(state, area) {
         Some(lsa) => offer_links(choices, state, area, lsa),
@@ -78,7 +79,7 @@ fn offer_links(
     area: u32,
     lsa: &Checked,
 ) -> Result<(), Memory>
-    ensures { OnOk result (Takes (LsaOffers (entries state.now.interfaces) area lsa.now) choices.old choices.new) }
+    ensures { OnOk result (TakesPaths (LsaOffers (entries state.now.interfaces) area lsa.now) choices.old choices.new) }
 {
     for n in 0..lsa.link_count() {
         if let Some(link) = lsa.link(n) {
@@ -95,7 +96,7 @@ fn offer_link(
     area: u32,
     link: Link,
 ) -> Result<(), Memory>
-    ensures { OnOk result (Takes (LinkOffers (entries state.now.interfaces) area link) choices.old choices.new) }
+    ensures { OnOk result (TakesPaths (LinkOffers (entries state.now.interfaces) area link) choices.old choices.new) }
 {
     if !is_stub(link.kind) {
         return Ok(());
@@ -133,7 +134,7 @@ fn offer_network(
     network: Prefix,
     key: AreaCost,
 ) -> Result<(), Memory>
-    ensures { OnOk result (Takes (OfferedBySome (entries state.now.interfaces) (InterfaceOffers network key)) choices.old choices.new) }
+    ensures { OnOk result (TakesPaths (OfferedBySome (entries state.now.interfaces) (InterfaceOffers network key)) choices.old choices.new) }
 {
     for (id, interface) in state.interfaces() {
         offer_over(choices, network, key, *id, *interface)?;
@@ -149,7 +150,7 @@ fn offer_over(
     id: u8,
     interface: Interface,
 ) -> Result<(), Memory>
-    ensures { OnOk result (Takes (InterfaceOffers network key (id, interface)) choices.old choices.new) }
+    ensures { OnOk result (TakesPaths (InterfaceOffers network key (id, interface)) choices.old choices.new) }
 {
     if !is_over(key.area(), network, interface) {
         return Ok(());
@@ -185,7 +186,7 @@ fn offer(
     key: AreaCost,
     path: Path,
 ) -> Result<(), Memory>
-    ensures { OnOk result (Takes (OnlyOffer network key path) choices.old choices.new) }
+    ensures { OnOk result (TakesPaths (OnlyOffer network key path) choices.old choices.new) }
 {
     choices.offer(network, key, path)
 }

@@ -43,3 +43,35 @@ fn intra_route(choice: Choice<AreaCost, Path>) -> Item
         paths: Paths::new(paths),
     })
 }
+
+#[cfg(test)]
+mod tests {
+    use super::*;
+    use crate::limits::Limits;
+    use ospf_types::config::{AreaConfig, Areas, Config, Ranges};
+    use std::test::Fail;
+
+    #[test]
+    fn the_opening_state_has_no_routes(rt: HostRuntime) -> Result<(), Fail> {
+        let mut areas = Areas::new(rt.alloc());
+        areas.push(AreaConfig {
+            id: 0,
+            stub: None,
+            ranges: Ranges::new(rt.alloc()),
+        })?;
+        let config = Config {
+            router: 0x0a00_0001,
+            areas,
+        };
+        let limits = Limits {
+            area_lsas: 16,
+            externals: 16,
+            events: 16,
+        };
+        let state = State::new(rt.alloc(), config, limits)?;
+        let table = build(rt.alloc(), &state)?;
+        assert_eq!(rt; table.serial(), 0);
+        assert!(rt; table.items().next().is_none());
+        Ok(())
+    }
+}

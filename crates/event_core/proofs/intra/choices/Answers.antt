@@ -2,11 +2,13 @@ use Rattle.std.proofs.Common.{List, [], Ordering, sym, ap, subst, ◌∙◌, ari
 use Rattle.ospf_types.specs.declared.config.AreaConfig.{AreaConfig}
 use Rattle.ospf_types.specs.declared.config.Config.{Config}
 use Rattle.ospf_types.specs.declared.hop.Path.{Path}
-use Rattle.ospf_types.specs.Intra.{area_cost_cmp}
+use Rattle.ospf_types.specs.declared.prefix.Prefix.{Prefix}
+use Rattle.ospf_types.specs.Intra.{AreaCost, area_cost_cmp}
 use Rattle.ospf_types.specs.Network.{network_cmp}
 use Rattle.ospf_types.proofs.Paths.{path_cmp_is}
 use Rattle.event_core.specs.Choices.{ChoosesFrom}
-use Rattle.event_core.specs.Offers.{NetworkOffer, Takes, OfferedBySome, AreaOffers}
+use Rattle.event_core.specs.Offers.{TakesPaths, AreaOffers}
+use Rattle.event_core.specs.Takes.{OfferedBySome}
 use Rattle.event_core.proofs.OwnStubs.{intra_chosen}
 use Rattle.event_core.proofs.Taking.{takes_at, takes_past}
 use Rattle.event_core.proofs.intra.choices.Goals as goal
@@ -20,8 +22,8 @@ returns-clause-chosen c =
     let s = c.args.state.now in
     let offers = λ (area : AreaConfig). AreaOffers s area.id in
     let areas = c.as_slice-areas.ensures ∙ ap (λ (config : Config). config.areas) c.config.ensures.value in
-    let no_offers : List NetworkOffer = [] in
+    let no_offers : List (Prefix × AreaCost × Path) = [] in
     let none = subst (λ (S : Path → Path → Ordering). ChoosesFrom network_cmp area_cost_cmp S no_offers c.new-choices.result) path_cmp_is c.new-choices.ensures.chooses in
     let takes = c.loop-area.invariant c.loop-area.choices (takes_past offers c.as_slice-areas.result.now c.loop-area.area-index c.loop-area.choices (omega arith)) in
     intra_chosen s c.config.ensures.held c.new-choices.result c.loop-area.choices none
-    (subst (λ (xs : List AreaConfig). Takes (OfferedBySome xs offers) c.new-choices.result c.loop-area.choices) areas takes)
+    (subst (λ (xs : List AreaConfig). TakesPaths (OfferedBySome xs offers) c.new-choices.result c.loop-area.choices) areas takes)

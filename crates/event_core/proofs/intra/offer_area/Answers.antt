@@ -1,6 +1,6 @@
 use Rattle.std.proofs.Common.{sym}
 use Rattle.std.proofs.lemmas.Result.{on_ok_weaker}
-use Rattle.event_core.proofs.Taking.{takes_lsa, takes_no_lsa}
+use Rattle.event_core.proofs.StubOffers.{takes_lsa, takes_no_lsa}
 use Rattle.event_core.proofs.intra.offer_area.Goals as goal
 
 pub returns-in-Some : goal.returns-in-Some
