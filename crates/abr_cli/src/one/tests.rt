@@ -121,6 +121,7 @@ fn prints_why_there_is_no_line(rt: HostRuntime) -> Result<(), Fail> {
 }
 
 // A device that takes nothing.
+#[derive(Drop)]
 struct Full;
 
 impl io::Write for Full {
