@@ -35,9 +35,9 @@ offered_others : {D K X : Type 0} (offers : List (D × K × X)) (d q : D) (key :
 offered_others {D} {K} {X} offers d q key item apart k x h =
     ⊎_elim (λ (c : Contains offers (q, k, x)). c) (λ (e : (d, key, item) ≡ (q, k, x)). absurd (apart (sym (ap (λ (t : D × K × X). t.0) e)))) (Contains-push_cases offers (d, key, item) (q, k, x) h)
 
-module _ {K X : Type 0} (R : K → K → Ordering) (S : X → X → Ordering) (o : IsTotalOrder R) (exact : IsAntisymmetric R) where
+module _ {K X : Type 0} (R : K → K → Ordering) (S : X → X → Ordering) where
   -- the same offers have the same choice
-  same_offers : (old new : K → X → Type 0) → ((k : K) (x : X) → old k x → new k x) → ((k : K) (x : X) → new k x → old k x) → (c : Option (Chosen K X)) → IsChosen R S old c → IsChosen R S new c
+  pub same_offers : (old new : K → X → Type 0) → ((k : K) (x : X) → old k x → new k x) → ((k : K) (x : X) → new k x → old k x) → (c : Option (Chosen K X)) → IsChosen R S old c → IsChosen R S new c
   same_offers old new there back None h = λ k x offer. h k x (back k x offer)
   same_offers old new there back (Some c) h = (
     record {
@@ -48,6 +48,7 @@ module _ {K X : Type 0} (R : K → K → Ordering) (S : X → X → Ordering) (o
     h.1,
   )
 
+module _ {K X : Type 0} (R : K → K → Ordering) (S : X → X → Ordering) (o : IsTotalOrder R) (exact : IsAntisymmetric R) where
   never_below_itself : (k : K) → R k k ≢ Less
   never_below_itself k e = let t = tied_itself o k in cc
 
@@ -123,7 +124,7 @@ module _ {K X : Type 0} (R : K → K → Ordering) (S : X → X → Ordering) (o
               rw e (subst (λ p. IsChosen R S (IsOffered (offers ++ (d, key, item) ∷ []) p) (Some c)) (tells_apart q_exact d q is) here)
           | false ↦ λ is e.
               let apart : q ≢ d = λ same. let t = ap is_eq (tied_itself q_total d) in let u : is_at (Q d) d ≡ false = subst (λ p. is_at (Q d) p ≡ false) same is in cc in
-              rw e (same_offers (IsOffered offers q) (IsOffered (offers ++ (d, key, item) ∷ []) q) (λ k x h. Contains-append_left offers _ (q, k, x) h) (offered_others offers d q key item apart) (lookup (is_at (Q q)) es) (old q))
+              rw e (same_offers R S (IsOffered offers q) (IsOffered (offers ++ (d, key, item) ∷ []) q) (λ k x h. Contains-append_left offers _ (q, k, x) h) (offered_others offers d q key item apart) (lookup (is_at (Q q)) es) (old q))
         ] refl (updates q)
 
     -- a first offer

@@ -13,3 +13,9 @@ pub mod Changes
 pub mod ContentsOf
 pub mod Configs
 pub mod Runs
+pub mod Listings
+pub mod Taking
+pub mod Areas
+pub mod NoWays
+pub mod OwnStubs
+pub mod Filled

@@ -9,4 +9,6 @@ pub mod Right
 pub mod Configs
 pub mod Cores
 pub mod Kept
+pub mod Listings
+pub mod Offers
 pub mod Texts

@@ -1,15 +1,19 @@
 ghost use Rattle.std.specs.Prelude.{◌≡◌, None, IfErr, IfOk, OnErr};
 ghost use Rattle.event_core.specs.Configs.{fault_of};
-ghost use Rattle.event_core.specs.Cores.{IsCore, IsOpening, IsFaultOf, Applies, Stands, Runs, standard_limits};
+ghost use Rattle.event_core.specs.Cores.{IsCore, IsOpening, IsFaultOf, Applies, Stands, Runs, standard_limits, state_of};
+ghost use Rattle.event_core.specs.Listings.{AreLsas};
 
 use crate::config_fault::fault_in;
 use crate::event::{Event, Reply, Standing};
 use crate::limits::Limits;
+use crate::listing::lsas;
 use crate::refusal::{ConfigFault, Refusal};
 use crate::routes::build;
 use crate::state::State;
 use crate::table::Table;
+use lsa_codec::Checked;
 use ospf_types::config::Config;
+use ospf_types::key::Scope;
 use ospf_types::memory::Memory;
 use std::alloc::Global;
 use std::hash::RandomState;
@@ -162,6 +166,14 @@ impl Core {
         ensures kept { IsCore self.now }
     {
         self.built
+    }
+
+    /// Copies of all LSAs at their present age, each with its scope: areas by Area ID, the AS last; in
+    /// each database by LS type, Link State ID and Advertising Router.
+    pub fn lsas(&self) -> Result<Vec<(Scope, Checked)>, Memory>
+        ensures { IfOk result (λ found. AreLsas (state_of self.now) found.items) }
+    {
+        lsas(self.alloc, &self.state)
     }
 
     pub fn config(&self) -> &Config

@@ -7,7 +7,9 @@ mod config_fault;
 mod core_state;
 mod database;
 mod event;
+mod intra;
 mod limits;
+mod listing;
 mod order;
 mod refusal;
 mod routes;
@@ -19,3 +21,6 @@ pub use core_state::Core;
 pub use event::{Event, Reply, Standing};
 pub use limits::Limits;
 pub use refusal::{ConfigFault, Refusal};
+
+#[cfg(test)]
+mod tests;

@@ -2,3 +2,6 @@ pub mod Masking
 pub mod Orders
 pub mod Paths
 pub mod Addresses
+pub mod Elements
+pub mod NoLinks
+pub mod OneBest

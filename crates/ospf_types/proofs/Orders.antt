@@ -2,7 +2,7 @@
 use Rattle.std.proofs.Common.{◌≡◌, ℕ, Option, Some, None, sym, ap, arith}
 use Rattle.std.specs.Ordering.{nat_cmp, ordering_then}
 use Rattle.std.specs.Cmp.{IsTotalOrder, nat_cmp_total}
-use Rattle.std.proofs.lemmas.Cmp.{on_total, then_total}
+use Rattle.std.proofs.lemmas.Cmp.{on_total, then_total, back_total}
 use Rattle.std.proofs.lemmas.Map.Lookups.{CmpEqualImpliesEq, exact_pairs, exact_unsigned}
 use Rattle.ospf_types.specs.declared.hop.NextHop.{NextHop}
 use Rattle.ospf_types.specs.declared.hop.NextHop.TheVariants.{Direct, Peer, Router}
@@ -26,6 +26,9 @@ pub key_exact : CmpEqualImpliesEq key_cmp
 key_exact a b h =
     ap (λ (p : ℕ × (ℕ × ℕ)). let k : Key = record { kind = p.0; id = p.1.0; router = p.1.1 } in k)
     (exact_pairs nat_cmp (λ (x y : ℕ × ℕ). ordering_then (nat_cmp x.0 y.0) (nat_cmp x.1 y.1)) exact_unsigned (exact_pairs nat_cmp nat_cmp exact_unsigned exact_unsigned) (a.kind, (a.id, a.router)) (b.kind, (b.id, b.router)) h)
+
+pub area_cost_total : IsTotalOrder area_cost_cmp
+area_cost_total = then_total (on_total (λ k. k.0) nat_cmp_total) (on_total (λ k. k.1) (back_total nat_cmp_total))
 
 pub area_cost_exact : CmpEqualImpliesEq area_cost_cmp
 area_cost_exact a b h = exact_pairs nat_cmp (λ x y. nat_cmp y x) exact_unsigned (λ x y h. sym (exact_unsigned y x h)) a b h

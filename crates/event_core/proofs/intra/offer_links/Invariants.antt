@@ -1,0 +1,10 @@
+use Rattle.std.proofs.Common.{map, drop}
+use Rattle.std.specs.FinMap.{entries}
+use Rattle.lsa_codec.specs.Readers.{links_of, without_tos}
+use Rattle.event_core.specs.Offers.{NetworkChoices, Takes, OfferedBySome, LinkOffers, LsaOffers}
+use Rattle.event_core.proofs.intra.offer_links.Given as goal
+
+-- who takes the offers of the links that are left has taken them all
+abbrev pub invariant-loop-n : goal.invariant-loop-n
+invariant-loop-n l =
+    (new : NetworkChoices) → Takes (OfferedBySome (drop l.n (map without_tos (links_of l.lsa.body))) (LinkOffers (entries l.state.interfaces) l.area)) l.choices new → Takes (LsaOffers (entries l.state.interfaces) l.area l.lsa) l.fn.choices new

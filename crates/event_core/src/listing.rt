@@ -1,0 +1,66 @@
+//! The LSAs of a state in the order in which they are listed.
+ghost use Rattle.std.specs.Prelude.{◌≡◌, ◌++◌, IfOk, OnOk, map as list_map};
+ghost use Rattle.event_core.specs.Listings.{AreAreaIds, AreLsas, lsas_at};
+
+use crate::state::State;
+use lsa_codec::Checked;
+use ospf_types::config::AreaConfig;
+use ospf_types::key::Scope;
+use ospf_types::memory::Memory;
+use std::alloc::Global;
+use std::collections::BTreeSet;
+
+/// Copies of all LSAs at their present age, each with its scope: areas by Area ID, the AS last; in
+/// each database by LS type, Link State ID and Advertising Router.
+pub(crate) fn lsas(alloc: Global, state: &State) -> Result<Vec<(Scope, Checked)>, Memory>
+    ensures { IfOk result (λ found. AreLsas state.now found.items) }
+{
+    let ids = area_ids(alloc, state.config().areas.as_slice())?;
+    let mut found = Vec::new(alloc);
+    for id in &ids {
+        add_lsas(alloc, &mut found, state, Scope::Area(*id))?;
+    }
+    add_lsas(alloc, &mut found, state, Scope::As)?;
+    Ok(found)
+}
+
+// The configured Area IDs.
+fn area_ids(alloc: Global, areas: &[AreaConfig]) -> Result<BTreeSet<u32>, Memory>
+    ensures { IfOk result (λ ids. AreAreaIds areas.now ids.keys) }
+{
+    let mut ids = BTreeSet::new(alloc);
+    for area in areas {
+        ids.insert(area.id)?;
+    }
+    prove!(ids.len() < usize::MAX);
+    Ok(ids)
+}
+
+// Adds copies of the LSAs of a scope at the end.
+fn add_lsas(
+    alloc: Global,
+    found: &mut Vec<(Scope, Checked)>,
+    state: &State,
+    scope: Scope,
+) -> Result<(), Memory>
+    ensures { OnOk result (found.new.items ≡ found.old.items ++ lsas_at state.now scope) }
+{
+    let Some(database) = state.database(scope) else {
+        return Ok(());
+    };
+    add_rows(alloc, found, database.rows(), scope)
+}
+
+fn add_rows(
+    alloc: Global,
+    found: &mut Vec<(Scope, Checked)>,
+    rows: &[Checked],
+    scope: Scope,
+) -> Result<(), Memory>
+    ensures { OnOk result (found.new.items ≡ found.old.items ++ list_map (λ l. (scope, l)) rows.now) }
+{
+    for lsa in rows {
+        found.push((scope, lsa.copy(alloc)?))?;
+    }
+    Ok(())
+}
