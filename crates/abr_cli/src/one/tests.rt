@@ -29,7 +29,7 @@ struct Told {
     faults: Vec<u8>,
 }
 
-fn told(alloc: Global, hashing: RandomState, words: &OneWords<'_>) -> Told {
+fn run_one(alloc: Global, hashing: RandomState, words: &OneWords<'_>) -> Told {
     let (mut out, mut faults) = (Vec::new(alloc), Vec::new(alloc));
     let status = one(alloc, hashing, words, &mut out, &mut faults);
     Told {
@@ -62,7 +62,7 @@ fn prints_what_the_table_has(rt: HostRuntime) -> Result<(), Fail> {
             "lookup 192.0.2.77 2 none\n",
         ),
     ] {
-        let told = told(rt.alloc(), hashing, &words);
+        let told = run_one(rt.alloc(), hashing, &words);
         assert_eq!(rt; told.out.as_slice(), line.as_bytes());
         assert!(rt; told.faults.is_empty());
         assert_eq!(rt; told.status, 0);
@@ -112,7 +112,7 @@ fn prints_why_there_is_no_line(rt: HostRuntime) -> Result<(), Fail> {
             2,
         ),
     ] {
-        let told = told(rt.alloc(), hashing, &words);
+        let told = run_one(rt.alloc(), hashing, &words);
         assert_eq!(rt; told.faults.as_slice(), line.as_bytes());
         assert!(rt; told.out.is_empty());
         assert_eq!(rt; told.status, status);
@@ -121,6 +121,7 @@ fn prints_why_there_is_no_line(rt: HostRuntime) -> Result<(), Fail> {
 }
 
 // A device that takes nothing.
+#[derive(Drop)]
 struct Full;
 
 impl io::Write for Full {
