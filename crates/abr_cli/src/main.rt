@@ -10,40 +10,44 @@ mod tests;
 mod words;
 
 use command::{Job, Usage};
+use one_fault::OneFault;
 use std::hash::RandomState;
 use std::io;
 use std::process::ExitCode;
-use words::WordFault;
+use std::random::RandomSource;
+use std::rt::Env;
 
 fn main(rt: HostRuntime) -> io::Result<ExitCode> {
-    let given: Vec<String> = std::env::args(&rt)?.collect(rt.alloc())?;
-    let mut words = Vec::new(rt.alloc());
-    for word in given.as_slice() {
-        words.push(word.as_str())?;
-    }
-    let status = match job::job(rt.alloc(), words.as_slice()) {
-        Ok(Job::One(words)) => one::one(
-            rt.alloc(),
-            RandomState::new(&rt)?,
-            &words,
-            &mut rt.stdout(),
-            &mut rt.stderr(),
-        ),
-        Err(usage) => tell(&rt, &usage)?,
+    let status = match run(&rt, &mut rt.stderr()) {
+        Ok(status) => status,
+        Err(error) if error.kind() == io::ErrorKind::OutOfMemory => {
+            one::report(&mut rt.stderr(), OneFault::Memory)
+        }
+        Err(error) => return Err(error),
     };
     Ok(ExitCode::from(status))
 }
 
-// Says what is wrong with the words or asks no more than help. The answer is the status.
-fn tell(rt: &(impl Print + Eprint), usage: &Usage) -> io::Result<u8> {
-    match usage {
-        Usage::Told(error) => {
-            error.print(rt)?;
-            Ok(if error.use_stderr() { 2 } else { 0 })
+// Does what the command line asks for. The answer is the status.
+fn run<R: Env + AllocGlobal + RandomSource + Print + Eprint, F: io::Write>(
+    rt: &R,
+    faults: &mut F,
+) -> io::Result<u8> {
+    let given: Vec<String> = std::env::args(rt)?.collect(rt.alloc())?;
+    let mut words = Vec::new(rt.alloc());
+    for word in given.as_slice() {
+        words.push(word.as_str())?;
+    }
+    let out = &mut io::writer(rt);
+    match job::job(rt.alloc(), words.as_slice()) {
+        Ok(Job::One(words)) => {
+            let hashing = RandomState::new(rt)?;
+            Ok(one::one(rt.alloc(), hashing, &words, out, faults))
         }
-        Usage::Memory => {
-            eprintln!(rt; "abr: {}", WordFault::Memory)?;
-            Ok(1)
-        }
+        Err(Usage::Told(error)) => match error.print(rt) {
+            Ok(()) => Ok(if error.use_stderr() { 2 } else { 0 }),
+            Err(_) => Ok(one::report(faults, OneFault::Write)),
+        },
+        Err(Usage::Memory) => Ok(one::report(faults, OneFault::Memory)),
     }
 }

@@ -99,8 +99,9 @@ fn one_area(alloc: Global, router: u32, area: u32) -> Result<Config, Memory>
     Ok(Config { router, areas })
 }
 
-// Says why there is no line. The answer is the status, and 1 where that cannot be said.
-fn report<F: io::Write>(faults: &mut F, fault: OneFault) -> u8
+/// Says why there is no line, as `abr: FAULT`. The answer is the status, and 1 where that cannot be
+/// said.
+pub fn report<F: io::Write>(faults: &mut F, fault: OneFault) -> u8
     ensures status { (result ≡ 1) ⊎ (result ≡ status_of fault) }
     ensures printed { result ≡ 2 → PrintsFault fault (F.contents faults.old) (F.contents faults.new) }
 {
