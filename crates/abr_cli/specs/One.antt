@@ -29,13 +29,17 @@ use Rattle.abr_cli.specs.declared.one_fault.OneFault.TheVariants as fault
 use Rattle.abr_cli.specs.Command.{OneTexts}
 use Rattle.abr_cli.specs.Words.{Writes, IsFirstFault, fault_text}
 
--- what the words say
+-- what the words of the command say
 pub record Given : Type 0 where
   pub router : ℕ
   pub area : ℕ
   pub address : ℕ
   pub lsa : Lsa
   pub lookup : ℕ
+
+-- what was read
+abbrev pub given_by : OneInput → Lsa → Given
+given_by input lsa = record { router = input.router; area = input.area; address = input.address; lsa = lsa; lookup = input.lookup }
 
 -- the word is the bytes of this LSA, which are sound, in hexadecimal
 pub record WritesLsa (word : List ℕ) (lsa : Lsa) : Type 0 where
@@ -44,10 +48,7 @@ pub record WritesLsa (word : List ℕ) (lsa : Lsa) : Type 0 where
   pub sound : IsSound bytes
   pub spelled : Spells bytes lsa
 
--- the words as they were read
-abbrev pub given_by : OneInput → Lsa → Given
-given_by input lsa = record { router = input.router; area = input.area; address = input.address; lsa = lsa; lookup = input.lookup }
-
+-- the words say this
 pub record Say (words : OneTexts) (g : Given) : Type 0 where
   pub router : Writes words.router g.router
   pub area : Writes words.area g.area
@@ -70,6 +71,7 @@ interface_of g = event.Interface 1 g.area g.address 0 true
 abbrev pub install_of : Given → Event
 install_of g = event.Install (scope.Area g.area) g.lsa
 
+-- the state after such events
 abbrev pub state_after : Given → List Event → State
 state_after g events = run_of (config_of g) standard_limits events
 
@@ -78,6 +80,7 @@ pub record IsTableOf (g : Given) (t : TableValue) : Type 0 where
   pub legal : IsLegalList (config_of g) standard_limits (interface_of g ∷ install_of g ∷ [])
   pub right : IsRight (state_after g (interface_of g ∷ install_of g ∷ [])) t
 
+-- `lookup`, the address as it was given, how many events the table follows, and the match
 abbrev pub lookup_line : List ℕ → TableValue → Match → List ℕ
 lookup_line word t found = codes "lookup " ++ word ++ codes " " ++ decimal t.serial ++ codes " " ++ match_text found ++ codes "\n"
 
@@ -127,6 +130,7 @@ one_fault_text (fault.Refused f) = None
 one_fault_text fault.Memory = None
 one_fault_text fault.Write = Some (codes "cannot write")
 
+-- 2 for a word that cannot be read, and else 1
 abbrev pub status_of : OneFault → ℕ
 status_of (fault.Word NotAnAddress) = 2
 status_of (fault.Word NotHexadecimal) = 2
@@ -154,4 +158,4 @@ PrintsAnswer words old new = (line : List ℕ) × Answer words line × Appends o
 
 -- a writer's known bytes grow by the line of a fault of the words
 abbrev pub PrintsWordFault : OneTexts → Option (List ℕ) → Option (List ℕ) → Type 0
-PrintsWordFault words old new = (f : WordFault) × IsFirstFault words f × Appends old new (fault_line (fault_text f))
+PrintsWordFault words old new = (f : WordFault) × (status_of (fault.Word f) ≡ 2) × IsFirstFault words f × Appends old new (fault_line (fault_text f))
