@@ -9,15 +9,16 @@ use Rattle.lsa_codec.specs.Spelling.{Spells}
 use Rattle.event_core.specs.declared.table.Match.{Match}
 use Rattle.event_core.specs.Tables.{TableValue, IsMatch}
 use Rattle.event_core.specs.Texts.{match_text}
-use Rattle.abr_cli.specs.declared.one_fault.OneFault.{OneFault}
-use Rattle.abr_cli.specs.declared.one_fault.OneFault.TheVariants as fault
+use Rattle.abr_cli.specs.declared.command_fault.CommandFault.{CommandFault}
+use Rattle.abr_cli.specs.declared.command_fault.CommandFault.TheVariants as fault
 use Rattle.abr_cli.specs.Command.{OneTexts}
-use Rattle.abr_cli.specs.One.{Given, WritesLsa, Say, IsTableOf, Answer, IsCoreFault, IsFault, lookup_line}
+use Rattle.abr_cli.specs.Words.{WritesLsa}
+use Rattle.abr_cli.specs.One.{Given, Say, IsTableOf, Answer, IsCoreFault, IsFault, lookup_line}
 
 pub writes_lsa : (word read bytes : List ℕ) (lsa : Lsa) → decode_of word ≡ Ok read → bytes ≡ read → IsSound bytes → Spells bytes lsa → WritesLsa word lsa
 writes_lsa word read bytes lsa given same sound spelled = record { bytes = bytes; given = given ∙ ap Ok (sym same); sound = sound; spelled = spelled }
 
-pub fault_widens : (words : OneTexts) (g : Given) (f : OneFault) → Say words g → IsCoreFault g f → IsFault words f
+pub fault_widens : (words : OneTexts) (g : Given) (f : CommandFault) → Say words g → IsCoreFault g f → IsFault words f
 fault_widens words g (fault.Word f) say h = absurd h
 fault_widens words g (fault.Wire f) say h = absurd h
 fault_widens words g (fault.Config f) say h = (g, say, h)

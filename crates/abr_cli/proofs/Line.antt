@@ -1,15 +1,16 @@
--- What the parse makes of `abr one` and five words that do not begin with a hyphen.
+-- What the parse makes of `abr one` with five words, and of `abr decode` with one, that do not begin with a hyphen.
 use Rattle.std.proofs.Common.{ℕ, ◌≡◌, ◌∙◌, ◌==◌, ◌&&◌, sym, ap, ap₂, subst, refl, is_some, Bool, true, false, List, [], ◌∷◌, Option, Some, None, codes}
 use Rattle.clap.specs.Lexer.{short_of, strip_byte}
+use Rattle.clap.specs.Words.{first_of}
 use Rattle.clap.specs.Walk.{Held, Row, Rule, Text, Walk, arg_by_index, finished, idle, nothing_held, rows_after, stop_after, to_positional, value, walk, walk_from, walked}
 use Rattle.clap.specs.Simple.{App, HasMatchesOf, Shape, app_of, argument_words, built, built_leaf, entered, inherited, is_simple, names_of, subcommand_of, subcommand_rows_of}
 use Rattle.clap.specs.Takes.{entered_passes, level_passes, step_passes, takes, turn_passes, walk_passes}
 use Rattle.clap.specs.declared.builder.command.Command.{Command}
 use Rattle.clap.specs.declared.parser.matches.ArgMatches.{ArgMatches}
 use Rattle.clap.proofs.OnLiterals.{clap_on_literals}
-use Rattle.abr_cli.specs.Command.{ArePlain, HasOne, HasWords, IsJob, IsOne, IsPlainWord, OneTexts, one_command, one_line, program, texts_of}
+use Rattle.abr_cli.specs.Command.{ArePlain, HasOne, HasDecode, HasWords, IsJob, IsOne, IsDecode, IsPlainWord, OneTexts, one_command, decode_command, one_line, decode_line, program, texts_of}
 use Rattle.abr_cli.specs.declared.command.Job.{Job}
-use Rattle.abr_cli.specs.declared.command.Job.TheVariants.{One}
+use Rattle.abr_cli.specs.declared.command.Job.TheVariants.{One, Decode}
 
 -- the walk goes on with the positional at its place
 abbrev on_positional : List Rule → Walk → Text → Walk
@@ -147,6 +148,51 @@ sub_passes t p = both_true _ _ (sub_walks t p) (rw (walk_is t p) refl)
 pub one_takes : (name : Text) (t : OneTexts) → ArePlain t → takes program (one_line name t) ≡ true
 one_takes name t p = takes_from program (one_line name t) _ program_simple (stop_is name t) (sub_passes t p) (top_passes name t)
 
+-- ---- the word of `decode`
+
+abbrev decode_sub : Shape
+decode_sub = built_leaf (inherited program.top decode_command.top)
+
+abbrev decode_walk : Text → Walk
+decode_walk hex = on_positional decode_sub.rules (at_rest nothing_held 1) hex
+
+decode_walk_is : (hex : Text) → IsPlainWord hex → walk decode_sub.rules [] nothing_held (hex ∷ []) ≡ decode_walk hex
+decode_walk_is hex p = plain_step decode_sub.rules nothing_held 1 hex p
+
+abbrev decode_rows : Text → List Row
+decode_rows hex = finished decode_sub.rules (decode_walk hex).held
+
+decode_rows_are : (hex : Text) → IsPlainWord hex → rows_after decode_sub.rules [] (hex ∷ []) ≡ decode_rows hex
+decode_rows_are hex p = ap (λ (w : Walk). finished decode_sub.rules w.held) (decode_walk_is hex p)
+
+decode_stop_is : (name hex : Text)
+    → stop_after (built program).top.rules (names_of (built program)) (argument_words program (decode_line name hex)) ≡ Some (codes "decode", hex ∷ [])
+unfolding clap_on_literals
+decode_stop_is name hex = refl
+
+pub decode_has : (name hex : Text) → IsPlainWord hex → HasDecode (subcommand_of program (decode_line name hex)) hex
+decode_has name hex p = (
+  decode_rows hex,
+  ap (entered (built program)) (decode_stop_is name hex) ∙ ap (λ (r : List Row). Some (codes "decode", r)) (decode_rows_are hex p),
+  refl,
+)
+
+decode_top_passes : (name hex : Text) → level_passes (built program).top (names_of (built program)) nothing_held (argument_words program (decode_line name hex)) true ≡ true
+unfolding clap_on_literals
+decode_top_passes name hex = refl
+
+decode_sub_walks : (hex : Text) → IsPlainWord hex → walk_passes decode_sub [] (walk_from nothing_held) (hex ∷ []) ≡ true
+unfolding walk_passes
+decode_sub_walks hex p =
+    passes_cons decode_sub _ _ hex [] (plain_turn decode_sub nothing_held 1 hex p) (plain_step decode_sub.rules nothing_held 1 hex p) refl
+
+decode_sub_passes : (hex : Text) → IsPlainWord hex → level_passes decode_sub [] nothing_held (hex ∷ []) false ≡ true
+decode_sub_passes hex p = both_true _ _ (decode_sub_walks hex p) (rw (decode_walk_is hex p) refl)
+
+pub decode_takes : (name hex : Text) → IsPlainWord hex → takes program (decode_line name hex) ≡ true
+decode_takes name hex p =
+    takes_from program (decode_line name hex) _ program_simple (decode_stop_is name hex) (decode_sub_passes hex p) (decode_top_passes name hex)
+
 -- ---- the job
 
 texts_same : (a b c d e a2 b2 c2 d2 e2 : Text) → a ≡ a2 → b ≡ b2 → c ≡ c2 → d ≡ d2 → e ≡ e2
@@ -164,14 +210,34 @@ one_unique s t u h k =
     let same : h.0 ≡ k.0 = ap (λ (p : Text × List Row). p.1) pair in
     words_unique k.0 t u (subst (λ (r : List Row). HasWords r t) same h.2) k.2
 
+-- one name was met
+not_both : (s : Option (Text × List Row)) (t : OneTexts) (hex : Text) → HasOne s t → HasDecode s hex → ⊥
+not_both s t hex h k =
+    let both : Some (codes "one", h.0) ≡ Some (codes "decode", k.0) = sym h.1 ∙ k.1 in
+    let pair : (codes "one", h.0) ≡ (codes "decode", k.0) = cc in
+    let name : codes "one" ≡ codes "decode" = ap (λ (p : Text × List Row). p.0) pair in
+    absurd cc
+
+decode_unique : (s : Option (Text × List Row)) (a b : Text) → HasDecode s a → HasDecode s b → a ≡ b
+decode_unique s a b h k =
+    let both : Some (codes "decode", h.0) ≡ Some (codes "decode", k.0) = sym h.1 ∙ k.1 in
+    let pair : (codes "decode", h.0) ≡ (codes "decode", k.0) = cc in
+    let same : h.0 ≡ k.0 = ap (λ (p : Text × List Row). p.1) pair in
+    let word : first_of (codes "HEX") k.0 ≡ Some a = subst (λ (r : List Row). first_of (codes "HEX") r ≡ Some a) same h.2 in
+    cc
+
 pub job_is_one : (s : Option (Text × List Row)) (j : Job) (t : OneTexts) → IsJob s j → HasOne s t → IsOne t j
 job_is_one s (One w) t h k = one_unique s (texts_of w) t h k
+job_is_one s (Decode w) t h k = not_both s t w.now k h
+
+pub job_is_decode : (s : Option (Text × List Row)) (j : Job) (hex : Text) → IsJob s j → HasDecode s hex → IsDecode hex j
+job_is_decode s (One w) hex h k = not_both s (texts_of w) hex h k
+job_is_decode s (Decode w) hex h k = decode_unique s w.now hex h k
 
 -- the matches of the program are those of its words
 pub rows_as_given : (c : Command) (m : ArgMatches) (words : List Text) → app_of c ≡ program → HasMatchesOf (app_of c) words m
     → subcommand_rows_of m ≡ subcommand_of program words
 rows_as_given c m words e h = (h (ap is_simple e ∙ program_simple)).1 ∙ ap (λ (a : App). subcommand_of a words) e
 
-pub takes_as_given : (c : Command) (words : List Text) (name : Text) (t : OneTexts) → app_of c ≡ program → words ≡ one_line name t → ArePlain t
-    → takes (app_of c) words ≡ true
-takes_as_given c words name t e is plain = ap₂ takes e is ∙ one_takes name t plain
+pub takes_as_given : (c : Command) (words line : List Text) → app_of c ≡ program → words ≡ line → takes program line ≡ true → takes (app_of c) words ≡ true
+takes_as_given c words line e is passes = ap₂ takes e is ∙ passes

@@ -1,11 +1,11 @@
--- The command line: `abr one ROUTER AREA ADDRESS HEX LOOKUP`.
+-- The command line: `abr one ROUTER AREA ADDRESS HEX LOOKUP` and `abr decode HEX`.
 use Rattle.std.specs.Prelude.{◌≡◌, ◌⊎◌, true, List, [], ◌∷◌, Option, Some, None, codes}
 use Rattle.clap.specs.Words.{App, Row, Rule, Text, IsAmong, fault_of, first_of, kind_of, new_app, new_rule, subcommand_of, with_rule, with_subcommand}
 use Rattle.clap.specs.Lexer.{strip_byte}
 use Rattle.clap.specs.declared.error.kind.ErrorKind.TheVariants.{MissingRequiredArgument}
 use Rattle.abr_cli.specs.declared.command.OneWords.{OneWords}
 use Rattle.abr_cli.specs.declared.command.Job.{Job}
-use Rattle.abr_cli.specs.declared.command.Job.TheVariants.{One}
+use Rattle.abr_cli.specs.declared.command.Job.TheVariants.{One, Decode}
 use Rattle.abr_cli.specs.declared.command.Usage.{Usage}
 use Rattle.abr_cli.specs.declared.command.Usage.TheVariants.{Told, Memory}
 
@@ -17,11 +17,14 @@ abbrev pub one_command : App
 one_command =
     with_rule (with_rule (with_rule (with_rule (with_rule (new_app (codes "one")) (required_word (codes "ROUTER"))) (required_word (codes "AREA"))) (required_word (codes "ADDRESS"))) (required_word (codes "HEX"))) (required_word (codes "LOOKUP"))
 
+abbrev pub decode_command : App
+decode_command = with_rule (new_app (codes "decode")) (required_word (codes "HEX"))
+
 -- what follows the program's name is one of its commands
 abbrev pub program : App
 program =
     let p = new_app (codes "abr") in
-    with_subcommand (record p { top = record p.top { subcommand_required = true; arg_required_else_help = true } }) one_command.top
+    with_subcommand (with_subcommand (record p { top = record p.top { subcommand_required = true; arg_required_else_help = true } }) one_command.top) decode_command.top
 
 -- the texts of the words of `abr one`
 pub record OneTexts : Type 0 where
@@ -52,14 +55,23 @@ HasWords rows t = (first_of (codes "ROUTER") rows ≡ Some t.router)
 abbrev pub HasOne : Option (Text × List Row) → OneTexts → Type 0
 HasOne met t = (rows : List Row) × (met ≡ Some (codes "one", rows)) × HasWords rows t
 
+-- `decode` was met, and this word was given for it
+abbrev pub HasDecode : Option (Text × List Row) → Text → Type 0
+HasDecode met hex = (rows : List Row) × (met ≡ Some (codes "decode", rows)) × (first_of (codes "HEX") rows ≡ Some hex)
+
+-- a command was met, and its words were given
+abbrev pub HasJob : Option (Text × List Row) → Type 0
+HasJob met = ((t : OneTexts) × HasOne met t) ⊎ ((hex : Text) × HasDecode met hex)
+
 -- the job is the command that was met, with the words that were given for it
 abbrev pub IsJob : Option (Text × List Row) → Job → Type 0
 IsJob met (One w) = HasOne met (texts_of w)
+IsJob met (Decode hex) = HasDecode met hex.now
 
 -- A mistake is one that the command line has. Where no mistake is found and there is no job, a word is missing.
 abbrev pub IsMistake : List Text → Usage → Type 0
 IsMistake words (Told e) = IsAmong (kind_of e) (fault_of program words)
-    ⊎ ((kind_of e ≡ MissingRequiredArgument) × ((t : OneTexts) → ¬ HasOne (subcommand_of program words) t))
+    ⊎ ((kind_of e ≡ MissingRequiredArgument) × (¬ HasJob (subcommand_of program words)))
 IsMistake words Memory = Unit {0}
 
 -- the command line `abr one` with these words, whatever the program is called
@@ -80,3 +92,13 @@ pub record ArePlain (t : OneTexts) : Type 0 where
 -- the job is `one` with these words
 abbrev pub IsOne : OneTexts → Job → Type 0
 IsOne t (One w) = texts_of w ≡ t
+IsOne t (Decode hex) = ⊥
+
+-- the command line `abr decode` with this word, whatever the program is called
+abbrev pub decode_line : Text → Text → List Text
+decode_line name hex = name ∷ codes "decode" ∷ hex ∷ []
+
+-- the job is `decode` with this word
+abbrev pub IsDecode : Text → Job → Type 0
+IsDecode word (One w) = ⊥
+IsDecode word (Decode hex) = hex.now ≡ word

@@ -1,15 +1,9 @@
 -- What `abr one` answers: the longest match of an address (RFC 2328, 11.1) in the table that one LSA gives a router with one area and one interface.
-use Rattle.std.specs.Prelude.{ℕ, ◌≡◌, ◌⊎◌, ◌++◌, List, [], ◌∷◌, Option, Some, None, Ok, IfSome, codes, decimal, true}
+use Rattle.std.specs.Prelude.{ℕ, ◌≡◌, ◌⊎◌, ◌++◌, List, [], ◌∷◌, Option, None, codes, decimal, true}
 use Rattle.std.specs.Io.KnownBytes.{Appends}
-use Rattle.hex.specs.Hex.{decode_of}
 use Rattle.ospf_types.specs.declared.config.Config.{Config}
 use Rattle.ospf_types.specs.declared.key.Scope.TheVariants as scope
 use Rattle.ospf_types.specs.Lsa.{Lsa}
-use Rattle.lsa_codec.specs.Checksum.{IsSound}
-use Rattle.lsa_codec.specs.Spelling.{Spells}
-use Rattle.lsa_codec.specs.Faults.{fault_of}
-use Rattle.lsa_codec.specs.declared.fault.WireFault.{WireFault}
-use Rattle.lsa_codec.specs.declared.fault.WireFault.TheVariants as wire
 use Rattle.event_core.specs.declared.event.Event.{Event}
 use Rattle.event_core.specs.declared.event.Event.TheVariants as event
 use Rattle.event_core.specs.declared.table.Match.{Match}
@@ -23,11 +17,11 @@ use Rattle.event_core.specs.Tables.{TableValue, IsMatch}
 use Rattle.event_core.specs.Texts.{match_text}
 use Rattle.abr_cli.specs.declared.words.OneInput.{OneInput}
 use Rattle.abr_cli.specs.declared.words.WordFault.{WordFault}
-use Rattle.abr_cli.specs.declared.words.WordFault.TheVariants.{NotAnAddress, NotHexadecimal, Memory}
-use Rattle.abr_cli.specs.declared.one_fault.OneFault.{OneFault}
-use Rattle.abr_cli.specs.declared.one_fault.OneFault.TheVariants as fault
+use Rattle.abr_cli.specs.declared.command_fault.CommandFault.{CommandFault}
+use Rattle.abr_cli.specs.declared.command_fault.CommandFault.TheVariants as fault
 use Rattle.abr_cli.specs.Command.{OneTexts}
-use Rattle.abr_cli.specs.Words.{Writes, IsFirstFault, fault_text}
+use Rattle.abr_cli.specs.Words.{Writes, WritesLsa, HasWireFault, IsFirstFault, fault_text}
+use Rattle.abr_cli.specs.Faults.{status_of, fault_line}
 
 -- what the words of the command say
 pub record Given : Type 0 where
@@ -40,13 +34,6 @@ pub record Given : Type 0 where
 -- what was read
 abbrev pub given_by : OneInput → Lsa → Given
 given_by input lsa = record { router = input.router; area = input.area; address = input.address; lsa = lsa; lookup = input.lookup }
-
--- the word is the bytes of this LSA, which are sound, in hexadecimal
-pub record WritesLsa (word : List ℕ) (lsa : Lsa) : Type 0 where
-  pub bytes : List ℕ
-  pub given : decode_of word ≡ Ok bytes
-  pub sound : IsSound bytes
-  pub spelled : Spells bytes lsa
 
 -- the words say this
 pub record Say (words : OneTexts) (g : Given) : Type 0 where
@@ -99,12 +86,8 @@ abbrev pub IsRefused : Given → Refusal → Type 0
 IsRefused g r = IsRefusalOf (state_after g []) (interface_of g) r
     ⊎ ((refusal_of (state_after g []) (interface_of g) ≡ None) × IsRefusalOf (state_after g (interface_of g ∷ [])) (install_of g) r)
 
--- the bytes of the word have this fault first, or memory ran out
-abbrev pub HasWireFault : List ℕ → WireFault → Type 0
-HasWireFault word f = (bytes : List ℕ) × (decode_of word ≡ Ok bytes) × ((fault_of bytes ≡ Some f) ⊎ ((f ≡ wire.Memory) × (fault_of bytes ≡ None)))
-
 -- why there is no core with a table of what was given
-abbrev pub IsCoreFault : Given → OneFault → Type 0
+abbrev pub IsCoreFault : Given → CommandFault → Type 0
 IsCoreFault g (fault.Word f) = ⊥
 IsCoreFault g (fault.Wire f) = ⊥
 IsCoreFault g (fault.Config f) = IsFaultOf (config_of g) f
@@ -113,40 +96,13 @@ IsCoreFault g fault.Memory = Unit {0}
 IsCoreFault g fault.Write = ⊥
 
 -- why there is no line
-abbrev pub IsFault : OneTexts → OneFault → Type 0
+abbrev pub IsFault : OneTexts → CommandFault → Type 0
 IsFault words (fault.Word f) = IsFirstFault words f
 IsFault words (fault.Wire f) = HasWireFault words.lsa f
 IsFault words (fault.Config f) = (g : Given) × Say words g × IsFaultOf (config_of g) f
 IsFault words (fault.Refused r) = (g : Given) × Say words g × IsRefused g r
 IsFault words fault.Memory = Unit {0}
 IsFault words fault.Write = ⊥
-
--- what is printed of a fault, as far as it is stated
-abbrev pub one_fault_text : OneFault → Option (List ℕ)
-one_fault_text (fault.Word f) = Some (fault_text f)
-one_fault_text (fault.Wire f) = None
-one_fault_text (fault.Config f) = None
-one_fault_text (fault.Refused f) = None
-one_fault_text fault.Memory = None
-one_fault_text fault.Write = Some (codes "cannot write")
-
--- 2 for a word that cannot be read, and else 1
-abbrev pub status_of : OneFault → ℕ
-status_of (fault.Word NotAnAddress) = 2
-status_of (fault.Word NotHexadecimal) = 2
-status_of (fault.Word Memory) = 1
-status_of (fault.Wire f) = 1
-status_of (fault.Config f) = 1
-status_of (fault.Refused f) = 1
-status_of fault.Memory = 1
-status_of fault.Write = 1
-
-abbrev pub fault_line : List ℕ → List ℕ
-fault_line text = codes "abr: " ++ text ++ codes "\n"
-
--- where the fault's text is stated, a writer's known bytes grow by its line
-abbrev pub PrintsFault : OneFault → Option (List ℕ) → Option (List ℕ) → Type 0
-PrintsFault f old new = IfSome (one_fault_text f) (λ text. Appends old new (fault_line text))
 
 -- the words have an answer
 abbrev pub HasAnswer : OneTexts → Type 0

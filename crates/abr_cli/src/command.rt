@@ -19,6 +19,8 @@ pub struct OneWords<'a> {
 #[derive(Clone, Copy, Debug, PartialEq, Eq)]
 pub enum Job<'a> {
     One(OneWords<'a>),
+    /// `abr decode`, with its word.
+    Decode(&'a str),
 }
 
 /// Why there is no job.

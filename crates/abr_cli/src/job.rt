@@ -2,7 +2,7 @@
 ghost use Rattle.std.specs.Prelude.{◌≡◌, ◌≢◌, ◌⊎◌, IfOk, IfErr, IfSome, IsNone, MatchResult, false, map};
 ghost use Rattle.clap.specs.Words.{Text, app_of, rows_of, found_of, rule_of, subcommand_of, subcommand_rows_of, kind_of};
 ghost use Rattle.clap.specs.declared.builder.command.Command.TheViews.{out-Command};
-ghost use Rattle.abr_cli.specs.Command.{one_command, program, required_word, OneTexts, texts_of, HasWords, HasOne, IsJob, IsMistake, one_line, ArePlain, IsOne};
+ghost use Rattle.abr_cli.specs.Command.{one_command, decode_command, program, required_word, OneTexts, texts_of, HasWords, HasJob, IsJob, IsMistake, one_line, ArePlain, IsOne, decode_line, IsPlainWord, IsDecode};
 
 use crate::command::{Job, OneWords, Usage};
 use clap::error::ErrorKind;
@@ -15,6 +15,8 @@ pub fn job<'a>(alloc: Global, words: &'a [&'a str]) -> Result<Job<'a>, Usage>
     ensures mistake { IfErr result (IsMistake (map (λ w. w.now) words.entry.now)) }
     ensures one { (name : Text) (t : OneTexts) → map (λ w. w.now) words.entry.now ≡ one_line name t
         → ArePlain t → MatchResult result (IsOne t) (λ u. u ≡ Usage.Memory) }
+    ensures decode { (name hex : Text) → map (λ w. w.now) words.entry.now ≡ decode_line name hex
+        → IsPlainWord hex → MatchResult result (IsDecode hex) (λ u. u ≡ Usage.Memory) }
 {
     let command = program_command(alloc)?;
     match command.try_get_matches_from(words) {
@@ -46,13 +48,16 @@ fn missing_word(alloc: Global) -> Result<Error, AllocError>
 
 fn job_in<'a>(matches: &ArgMatches<'a>) -> Option<Job<'a>>
     ensures some { IfSome result (IsJob (subcommand_rows_of matches.now)) }
-    ensures none { IsNone result → (t : OneTexts) → ¬ HasOne (subcommand_rows_of matches.now) t }
+    ensures none { IsNone result → ¬ HasJob (subcommand_rows_of matches.now) }
 {
-    let (name, one) = matches.subcommand()?;
-    if name != "one" {
-        return None;
+    let (name, words) = matches.subcommand()?;
+    if name == "one" {
+        Some(Job::One(one_words(words)?))
+    } else if name == "decode" {
+        Some(Job::Decode(words.get_str("HEX")?))
+    } else {
+        None
     }
-    Some(Job::One(one_words(one)?))
 }
 
 fn one_words<'a>(matches: &ArgMatches<'a>) -> Option<OneWords<'a>>
@@ -75,7 +80,8 @@ fn program_command<'a>(alloc: Global) -> Result<Command<'a>, AllocError>
         .about("An OSPF area border router's databases and routing table (RFC 2328)")
         .subcommand_required(true)
         .arg_required_else_help(true)
-        .subcommand(one(alloc)?)
+        .subcommand(one(alloc)?)?
+        .subcommand(decode(alloc)?)
 }
 
 fn one<'a>(alloc: Global) -> Result<Command<'a>, AllocError>
@@ -89,6 +95,15 @@ fn one<'a>(alloc: Global) -> Result<Command<'a>, AllocError>
         .arg(word(alloc, "ADDRESS", "The address of interface 1, which is up"))?
         .arg(word(alloc, "HEX", "The LSA, in hexadecimal"))?
         .arg(word(alloc, "LOOKUP", "The address to look up"))
+}
+
+fn decode<'a>(alloc: Global) -> Result<Command<'a>, AllocError>
+    ensures app { IfOk result (λ c. app_of c ≡ decode_command) }
+    ensures local { IfOk result (λ c. (out-Command c).has_globals ≡ false) }
+{
+    Command::new(alloc, "decode")
+        .about("Prints the fields of an LSA")
+        .arg(word(alloc, "HEX", "The LSA, in hexadecimal"))
 }
 
 // A word that has to be there.

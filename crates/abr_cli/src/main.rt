@@ -2,15 +2,16 @@
 #![tactic(auto)]
 
 mod command;
+mod command_fault;
+mod decode;
 mod job;
 mod one;
-mod one_fault;
 #[cfg(test)]
 mod tests;
 mod words;
 
 use command::{Job, Usage};
-use one_fault::OneFault;
+use command_fault::{CommandFault, report};
 use std::hash::RandomState;
 use std::io;
 use std::process::ExitCode;
@@ -21,7 +22,7 @@ fn main(rt: HostRuntime) -> io::Result<ExitCode> {
     let status = match run(&rt, &mut rt.stderr()) {
         Ok(status) => status,
         Err(error) if error.kind() == io::ErrorKind::OutOfMemory => {
-            one::report(&mut rt.stderr(), OneFault::Memory)
+            report(&mut rt.stderr(), CommandFault::Memory)
         }
         Err(error) => return Err(error),
     };
@@ -44,10 +45,11 @@ fn run<R: Env + AllocGlobal + RandomSource + Print + Eprint, F: io::Write>(
             let hashing = RandomState::new(rt)?;
             Ok(one::one(rt.alloc(), hashing, &words, out, faults))
         }
+        Ok(Job::Decode(word)) => Ok(decode::decode(rt.alloc(), word, out, faults)),
         Err(Usage::Told(error)) => match error.print(rt) {
             Ok(()) => Ok(if error.use_stderr() { 2 } else { 0 }),
-            Err(_) => Ok(one::report(faults, OneFault::Write)),
+            Err(_) => Ok(report(faults, CommandFault::Write)),
         },
-        Err(Usage::Memory) => Ok(one::report(faults, OneFault::Memory)),
+        Err(Usage::Memory) => Ok(report(faults, CommandFault::Memory)),
     }
 }

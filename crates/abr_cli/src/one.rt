@@ -1,10 +1,10 @@
 //! The command `one`.
-ghost use Rattle.std.specs.Prelude.{◌≡◌, ◌≤◌, ◌⊎◌, IfOk, IfErr, OnOk, string_bytes};
+ghost use Rattle.std.specs.Prelude.{◌≡◌, ◌≤◌, ◌⊎◌, IfOk, IfErr, string_bytes};
 ghost use Rattle.abr_cli.specs.Command.{texts_of};
-ghost use Rattle.abr_cli.specs.One.{Answer, IsFault, IsCoreFault, IsTableOf, PrintsAnswer, PrintsWordFault, HasAnswer, PrintsFault, given_by, one_area, status_of};
+ghost use Rattle.abr_cli.specs.One.{Answer, IsFault, IsCoreFault, IsTableOf, PrintsAnswer, PrintsWordFault, HasAnswer, given_by, one_area};
 
 use crate::command::OneWords;
-use crate::one_fault::OneFault;
+use crate::command_fault::{CommandFault, report};
 use crate::words::{OneInput, read_one};
 use event_core::{Core, Event, Standing};
 use lsa_codec::Checked;
@@ -39,14 +39,14 @@ pub fn one<W: io::Write, F: io::Write>(
     match answer(alloc, hashing, words) {
         Ok(line) => match out.write_all(line.as_bytes()) {
             Ok(()) => 0,
-            Err(_) => report(faults, OneFault::Write),
+            Err(_) => report(faults, CommandFault::Write),
         },
         Err(fault) => report(faults, fault),
     }
 }
 
 // The line, with its line feed.
-fn answer(alloc: Global, hashing: RandomState, words: &OneWords<'_>) -> Result<String, OneFault>
+fn answer(alloc: Global, hashing: RandomState, words: &OneWords<'_>) -> Result<String, CommandFault>
     ensures line { IfOk result (λ line. Answer (texts_of words.now) (string_bytes line)) }
     ensures fault { IfErr result (IsFault (texts_of words.now)) }
 {
@@ -64,7 +64,7 @@ fn core_after(
     hashing: RandomState,
     input: &OneInput,
     lsa: Checked,
-) -> Result<Core, OneFault>
+) -> Result<Core, CommandFault>
     ensures table { IfOk result (λ core. IsTableOf (given_by input.now lsa) core.table) }
     ensures fault { IfErr result (IsCoreFault (given_by input.now lsa)) }
 {
@@ -83,7 +83,7 @@ fn core_after(
     })?;
     match reply.state {
         Standing::Current => Ok(core),
-        Standing::Behind => Err(OneFault::Memory),
+        Standing::Behind => Err(CommandFault::Memory),
     }
 }
 
@@ -97,16 +97,4 @@ fn one_area(alloc: Global, router: u32, area: u32) -> Result<Config, Memory>
         ranges: Ranges::new(alloc),
     })?;
     Ok(Config { router, areas })
-}
-
-/// Says why there is no line, as `abr: FAULT`. The answer is the status, and 1 where that cannot be
-/// said.
-pub fn report<F: io::Write>(faults: &mut F, fault: OneFault) -> u8
-    ensures status { (result ≡ 1) ⊎ (result ≡ status_of fault) }
-    ensures printed { result ≡ 2 → PrintsFault fault (F.contents faults.old) (F.contents faults.new) }
-{
-    match writeln!(faults, "abr: {fault}") {
-        Ok(()) => fault.status(),
-        Err(_) => 1,
-    }
 }

@@ -23,7 +23,11 @@ fn reads_a_command(rt: HostRuntime) -> Result<(), Fail> {
             assert_eq!(rt; one.lsa, "0a");
             assert_eq!(rt; one.lookup, "192.0.2.77");
         }
-        Err(_) => assert!(rt; false, "a job"),
+        Ok(Job::Decode(_)) | Err(_) => assert!(rt; false, "one"),
+    }
+    match job(rt.alloc(), &["abr", "decode", "0a"]) {
+        Ok(Job::Decode(word)) => assert_eq!(rt; word, "0a"),
+        Ok(Job::One(_)) | Err(_) => assert!(rt; false, "decode"),
     }
     Ok(())
 }
@@ -55,6 +59,15 @@ fn tells_mistakes_from_help(rt: HostRuntime) {
     );
     assert_eq!(rt;
         is_mistake(rt.alloc(), &["abr", "one", "a", "b", "c", "d", "e", "f"]),
+        Some(true)
+    );
+    assert_eq!(rt;
+        is_mistake(rt.alloc(), &["abr", "decode", "--help"]),
+        Some(false)
+    );
+    assert_eq!(rt; is_mistake(rt.alloc(), &["abr", "decode"]), Some(true));
+    assert_eq!(rt;
+        is_mistake(rt.alloc(), &["abr", "decode", "0a", "0b"]),
         Some(true)
     );
 }

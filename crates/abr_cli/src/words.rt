@@ -76,7 +76,8 @@ fn address(word: &str) -> Result<u32, WordFault>
     }
 }
 
-fn bytes(alloc: Global, word: &str) -> Result<Vec<u8>, WordFault>
+/// The bytes of a word in hexadecimal, in either case.
+pub fn bytes(alloc: Global, word: &str) -> Result<Vec<u8>, WordFault>
     ensures ok { IfOk result (λ bytes. decode_of word.now ≡ Ok bytes.items) }
     ensures fault { IsErrOf result WordFault.NotHexadecimal → ¬ IsHexadecimal word.now }
     ensures err { result ≢ Err WordFault.NotAnAddress }
