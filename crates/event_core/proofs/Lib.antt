@@ -10,7 +10,6 @@ pub mod Seconds
 pub mod Looks
 pub mod InPlace
 pub mod Changes
-pub mod ContentsOf
 pub mod Configs
 pub mod Runs
 pub mod Listings

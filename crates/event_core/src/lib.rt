@@ -10,7 +10,6 @@ mod event;
 mod intra;
 mod limits;
 mod listing;
-mod order;
 mod refusal;
 mod routes;
 mod state;

@@ -15,12 +15,12 @@ ghost use Rattle.event_core.specs.Refusals.{IsRefusalOf};
 use crate::database::Database;
 use crate::event::Event;
 use crate::limits::Limits;
-use crate::order::{contents_differ, newer};
 use crate::refusal::Refusal;
 use lsa_codec::Checked;
+use lsa_order::{Newer, contents_differ, newer};
 use ospf_types::config::{AreaConfig, Config, Interface};
 use ospf_types::key::Scope;
-use ospf_types::lsa::{LinkKind, MAX_AGE, Newer};
+use ospf_types::lsa::{LinkKind, MAX_AGE};
 use ospf_types::memory::Memory;
 use std::alloc::Global;
 use std::collections::{BTreeMap, btree_map};
@@ -388,12 +388,14 @@ fn install_at(databases: &mut [Database], place: usize, lsa: Checked) -> Result<
 fn is_used_otherwise(held: Option<&Checked>, lsa: &Checked) -> bool
     ensures { (result ≡ false) ↔ (option_and_then contents_of (option_copied held.entry) ≡ contents_of lsa.now) }
 {
-    let usable = lsa.header().age < MAX_AGE;
+    let age = lsa.header().age;
+    let usable = age < MAX_AGE;
     match held {
         None => usable,
         Some(held) => {
-            let was_usable = held.header().age < MAX_AGE;
-            (was_usable | usable) && contents_differ(held, lsa)
+            let held_age = held.header().age;
+            let was_usable = held_age < MAX_AGE;
+            (was_usable | usable) && contents_differ(held, held_age, lsa, age)
         }
     }
 }

@@ -1,10 +1,10 @@
 -- The two sums, part by part and modulo 255, and the bytes that make them 0.
-use Rattle.std.proofs.Common.{Some, ltb, ◌≡◌, ℕ, ◌+◌, ◌*◌, ◌-◌, ◌/◌, ◌%◌, ◌<◌, ◌≤◌, false, List, [], ◌∷◌, ◌++◌, length, sum, take, drop, get_or, refl, sym, ap, ◌∙◌, arith}
+use Rattle.std.proofs.Common.{Some, ltb, ◌≡◌, ◌≢◌, ℕ, ◌+◌, ◌*◌, ◌-◌, ◌/◌, ◌%◌, ◌<◌, ◌≤◌, false, List, [], ◌∷◌, ◌++◌, length, sum, take, drop, get_or, refl, sym, ap, ◌∙◌, arith}
 use Rattle.std.proofs.lemmas.List.{length-append, length-drop, length-take, drop_more, drop-append-le, take_all, drop_at, nil_from_length}
 use Rattle.std.proofs.lemmas.Bool.{le-ltb}
 use Rattle.std.proofs.lemmas.List.Sums.{sum_by-append, sum_by-cons}
 use Rattle.byteorder.specs.Endian.{big_number}
-use Rattle.lsa_codec.specs.Checksum.{weighted_sum, covered, with_sum, residue, first_check, second_check, check_bytes, sum_field, checksum_of, IsSound}
+use Rattle.lsa_codec.specs.Checksum.{weighted_sum, covered, with_sum, residue, first_check, second_check, check_bytes, sum_field, checksum_of, IsSound, IsOnlySum, IsSumUpToZeros}
 
 pub sum-append : (xs ys : List ℕ) → sum (xs ++ ys) ≡ sum xs + sum ys
 sum-append xs ys = sum_by-append (λ x. x) xs ys
@@ -180,6 +180,75 @@ sound_with bytes count plain weighted long ec ep ew =
       present = λ e. absurd (omega (arith, e, field_of bytes x y long));
     } in
     rw (high, low) sound
+
+-- ---- no other bytes do
+
+residue_itself : (x : ℕ) → 0 < x → x < 256 → residue x ≡ x
+residue_itself x low high = omega arith
+
+residue_modulo : (x : ℕ) → residue x % 255 ≡ x % 255
+residue_modulo x = omega arith
+
+first_residue : (m p w x y j : ℕ) → p + x + y ≡ 255 * j → (w + (m + 2) * x + (m + 1) * y) % 255 ≡ 0 → x % 255 ≡ ((m + 1) * p + 254 * w) % 255
+first_residue m p w x y j e turned =
+    let times : (m + 1) * (p + x + y) ≡ (m + 1) * (255 * j) = ap (λ (n : ℕ). (m + 1) * n) e in
+    omega (arith, times)
+
+second_residue : (p x y : ℕ) → (p + x + y) % 255 ≡ 0 → y % 255 ≡ (254 * (p + residue x)) % 255
+second_residue p x y whole = omega (arith, residue_modulo x)
+
+-- bytes that make the bytes sound are the checksum's, a zero taken for 255
+sums_alike : (bytes : List ℕ) (count plain weighted x y : ℕ) → 20 ≤ length bytes → count ≡ length bytes - 2 → plain ≡ sum (covered (with_sum bytes 0 0)) → weighted ≡ weighted_sum (covered (with_sum bytes 0 0))
+    → IsSound (with_sum bytes x y) → 256 * residue x + residue y ≡ check_bytes count plain weighted
+sums_alike bytes count plain weighted x y long ec ep ew sound =
+    let m : ℕ = length (drop 18 bytes) in
+    let places : m + 1 ≡ count - 15 = omega (arith, length-drop 18 bytes) in
+    let whole : (plain + x + y) % 255 ≡ 0 = ap (λ (n : ℕ). (n + x + y) % 255) ep ∙ ap (λ (n : ℕ). n % 255) (sym (sum_of_parts bytes x y long)) ∙ sound.plain in
+    let turned : (weighted + (m + 2) * x + (m + 1) * y) % 255 ≡ 0 = ap (λ (n : ℕ). (n + (m + 2) * x + (m + 1) * y) % 255) ew ∙ ap (λ (n : ℕ). n % 255) (sym (weighted_of_parts bytes x y long)) ∙ sound.weighted in
+    let j : ℕ = (plain + x + y) / 255 in
+    let total : plain + x + y ≡ 255 * j = omega (arith, whole) in
+    let first : residue x ≡ first_check count plain weighted = residue_same _ _ (first_residue m plain weighted x y j total turned) ∙ ap (λ (k : ℕ). residue (k * plain + 254 * weighted)) places in
+    let second : residue y ≡ second_check plain (first_check count plain weighted) = residue_same _ _ (second_residue plain x y whole) ∙ ap (λ (n : ℕ). second_check plain n) first in
+    ap (λ (n : ℕ). 256 * n + residue y) first ∙ ap (λ (n : ℕ). 256 * first_check count plain weighted + n) second
+
+pub only_with : (bytes : List ℕ) (count plain weighted : ℕ) → 20 ≤ length bytes → count ≡ length bytes - 2 → plain ≡ sum (covered (with_sum bytes 0 0)) → weighted ≡ weighted_sum (covered (with_sum bytes 0 0))
+    → IsOnlySum bytes (check_bytes count plain weighted)
+only_with bytes count plain weighted long ec ep ew x y x_low x_high y_low y_high sound =
+    ap (λ (n : ℕ). 256 * n + y) (sym (residue_itself x x_low x_high)) ∙ ap (λ (n : ℕ). 256 * residue x + n) (sym (residue_itself y y_low y_high))
+    ∙ sums_alike bytes count plain weighted x y long ec ep ew sound
+
+times_alike : (k x z : ℕ) → x % 255 ≡ z % 255 → (k * x) % 255 ≡ (k * z) % 255
+times_alike k x z e = sym (times_reduced k x) ∙ ap (λ (n : ℕ). ((k % 255) * n) % 255) e ∙ times_reduced k z
+
+weighted_alike : (w m x y first second : ℕ) → x % 255 ≡ first % 255 → y % 255 ≡ second % 255 → (w + (m + 2) * first + (m + 1) * second) % 255 ≡ 0 → (w + (m + 2) * x + (m + 1) * y) % 255 ≡ 0
+weighted_alike w m x y first second ex ey turned = omega (arith, turned, times_alike (m + 2) x first ex, times_alike (m + 1) y second ey)
+
+two_bytes : (a b first second : ℕ) → b < 256 → second < 256 → 256 * a + b ≡ 256 * first + second → (a ≡ first) × (b ≡ second)
+two_bytes a b first second low low' e = (omega arith, omega arith)
+
+pub zeros_with : (bytes : List ℕ) (count plain weighted : ℕ) → 20 ≤ length bytes → count ≡ length bytes - 2 → plain ≡ sum (covered (with_sum bytes 0 0)) → weighted ≡ weighted_sum (covered (with_sum bytes 0 0))
+    → IsSumUpToZeros bytes (check_bytes count plain weighted)
+zeros_with bytes count plain weighted long ec ep ew x y x_high y_high =
+    let first : ℕ = first_check count plain weighted in
+    let second : ℕ = second_check plain first in
+    let m : ℕ = length (drop 18 bytes) in
+    let places : count - 15 ≡ m + 1 = omega (arith, length-drop 18 bytes) in
+    let j : ℕ = (plain + first + second) / 255 in
+    let whole : plain + first + second ≡ 255 * j = omega (arith, plain_zero plain first) in
+    let first-is : first ≡ residue ((m + 1) * plain + 254 * weighted) = ap (λ (k : ℕ). residue (k * plain + 254 * weighted)) places in
+    let turned : (weighted + (m + 2) * first + (m + 1) * second) % 255 ≡ 0 = weighted_zero m plain weighted first second j whole first-is in
+    let sound : (256 * residue x + residue y ≡ check_bytes count plain weighted) × (256 * x + y ≢ 0) → IsSound (with_sum bytes x y) =
+    λ fits. let both : (residue x ≡ first) × (residue y ≡ second) = two_bytes (residue x) (residue y) first second (residue_bound y) (residue_bound (254 * (plain + first))) fits.0 in
+    let ex : x % 255 ≡ first % 255 = sym (residue_modulo x) ∙ ap (λ (n : ℕ). n % 255) both.0 in
+    let ey : y % 255 ≡ second % 255 = sym (residue_modulo y) ∙ ap (λ (n : ℕ). n % 255) both.1 in
+    let plainly : (plain + x + y) % 255 ≡ 0 = omega (arith, whole, ex, ey) in
+    let weightily : (weighted + (m + 2) * x + (m + 1) * y) % 255 ≡ 0 = weighted_alike weighted m x y first second ex ey turned in
+    record {
+      plain = ap (λ (n : ℕ). n % 255) (sum_of_parts bytes x y long) ∙ (rw (← ep) plainly);
+      weighted = ap (λ (n : ℕ). n % 255) (weighted_of_parts bytes x y long) ∙ (rw (← ew) weightily);
+      present = λ e. fits.1 (sym (field_of bytes x y long) ∙ e);
+    } in
+    (λ is. (sums_alike bytes count plain weighted x y long ec ep ew is, λ e. is.present (field_of bytes x y long ∙ e)), sound)
 
 -- what the code makes of the reduced sums
 pub first_is : (n p w plain weighted first : ℕ) → p ≡ plain % 255 → w ≡ weighted % 255 → first ≡ residue ((n - 17) % 255 * p + 254 * w) → first ≡ first_check (n - 2) plain weighted

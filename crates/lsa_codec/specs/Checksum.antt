@@ -1,5 +1,5 @@
 -- The Fletcher checksum (RFC 2328, 12.1.7). It covers all bytes but the first two, the LS age.
-use Rattle.std.specs.Prelude.{◌≡◌, ◌≢◌, ℕ, suc, ◌+◌, ◌*◌, ◌-◌, ◌%◌, ◌==◌, Bool, ◌&&◌, not, nat_lt, if◌then◌else◌, List, [], ◌∷◌, ◌++◌, length, take, drop, sum, Option, Some, None}
+use Rattle.std.specs.Prelude.{◌≡◌, ◌≢◌, ◌↔◌, ℕ, suc, ◌<◌, ◌+◌, ◌*◌, ◌-◌, ◌%◌, ◌==◌, Bool, ◌&&◌, not, nat_lt, if◌then◌else◌, List, [], ◌∷◌, ◌++◌, length, take, drop, sum, Option, Some, None}
 use Rattle.byteorder.specs.Endian.{big_number}
 
 -- each byte times its place from the end, the last byte once
@@ -27,9 +27,17 @@ is_sound bytes = (sum (covered bytes) % 255 == 0) && (weighted_sum (covered byte
 abbrev pub with_sum : List ℕ → ℕ → ℕ → List ℕ
 with_sum bytes x y = take 16 bytes ++ x ∷ y ∷ drop 18 bytes
 
+-- No other two bytes that are not zero make the bytes sound in the place of the checksum.
+abbrev pub IsOnlySum : List ℕ → ℕ → Type 0
+IsOnlySum bytes sum = (x y : ℕ) → 0 < x → x < 256 → 0 < y → y < 256 → IsSound (with_sum bytes x y) → 256 * x + y ≡ sum
+
 -- the one number from 1 to 255 that is n modulo 255
 abbrev pub residue : ℕ → ℕ
 residue n = (n + 254) % 255 + 1
+
+-- Two bytes make the bytes sound in the place of the checksum exactly where they are its own, a zero taken for 255, and one of them is not zero.
+abbrev pub IsSumUpToZeros : List ℕ → ℕ → Type 0
+IsSumUpToZeros bytes sum = (x y : ℕ) → x < 256 → y < 256 → IsSound (with_sum bytes x y) ↔ ((256 * residue x + residue y ≡ sum) × (256 * x + y ≢ 0))
 
 -- The two check bytes for sums plain and weighted over count bytes, where 254 stands for -1: the first
 -- is (count - 15) * plain - weighted, and the second - plain - first.

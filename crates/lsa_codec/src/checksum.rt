@@ -1,7 +1,7 @@
 //! The Fletcher checksum (RFC 2328, 12.1.7), in one pass. The sums are reduced once a chunk.
 
 ghost use Rattle.std.specs.Prelude.{◌≡◌, ◌≤◌, ◌<◌, ◌+◌, ◌*◌, ◌/◌, ◌%◌, ◌^◌, length, sum, IfSome};
-ghost use Rattle.lsa_codec.specs.Checksum.{weighted_sum, is_sound as is_sound_test, checksum_of, with_sum, IsSound, covered, residue as the_residue};
+ghost use Rattle.lsa_codec.specs.Checksum.{weighted_sum, is_sound as is_sound_test, checksum_of, with_sum, IsSound, IsOnlySum, IsSumUpToZeros, covered, residue as the_residue};
 
 use byteorder::{BigEndian, ByteOrder};
 
@@ -99,6 +99,12 @@ pub fn sum_of(bytes: &[u8]) -> Option<u16>
     ensures value { result ≡ checksum_of bytes.now }
     // The bytes with it in its place are sound.
     ensures sound { IfSome result (λ sum. IsSound (with_sum bytes.now (sum / 256) (sum % 256))) }
+    // Neither of its two bytes is zero,
+    ensures not_zero { IfSome result (λ sum. (0 < sum / 256) × (0 < sum % 256)) }
+    // and no other two such bytes make them sound.
+    ensures only { IfSome result (λ sum. IsOnlySum bytes.now sum) }
+    // With zeros these alone do: a zero in the place of a 255, unless both bytes are then zero.
+    ensures zeros { IfSome result (λ sum. IsSumUpToZeros bytes.now sum) }
 {
     if bytes.len() < 20 {
         return None;

@@ -7,7 +7,7 @@ use Rattle.std.specs.declared.cmp.Ordering.TheVariants.{Less, Equal, Greater}
 use Rattle.ospf_types.specs.declared.lsa.Header.{Header}
 use Rattle.ospf_types.specs.declared.lsa.Newer.{Newer}
 use Rattle.ospf_types.specs.declared.lsa.Newer.TheVariants.{First, Second, Same}
-use Rattle.ospf_types.specs.Lsa.{Lsa, MaxAge, IsUsable}
+use Rattle.ospf_types.specs.Lsa.{Lsa, MaxAge}
 
 -- ages that differ by no more count as the same
 abbrev pub MaxAgeDiff : ℕ
@@ -34,9 +34,15 @@ newer_by Equal = Same
 abbrev pub newer_of : Header → Header → Newer
 newer_of a b = newer_by (instance_cmp a b)
 
+-- the answer that speaks of the same instance where the two are handed in the other way round
+abbrev pub swapped : Newer → Newer
+swapped First = Second
+swapped Second = First
+swapped Same = Same
+
 -- Neither Options, length nor body differ, and both are at MaxAge or neither is. Sequence number and checksum do not count.
 pub record HaveSameContents (l m : Lsa) : Type 0 where
   pub options : l.header.options ≡ m.header.options
   pub length : l.header.length ≡ m.header.length
   pub body : l.body ≡ m.body
-  pub usable : IsUsable l ↔ IsUsable m
+  pub max_age : (l.header.age ≡ MaxAge) ↔ (m.header.age ≡ MaxAge)

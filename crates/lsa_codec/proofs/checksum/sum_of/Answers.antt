@@ -1,6 +1,6 @@
 use Rattle.std.proofs.Common.{◌≡◌, ℕ, ◌+◌, ◌*◌, ◌/◌, ◌%◌, ◌-◌, sum, length, sym, subst, refl, rules, arith}
-use Rattle.lsa_codec.specs.Checksum.{checksum_of, weighted_sum, covered, with_sum, check_bytes, IsSound}
-use Rattle.lsa_codec.proofs.Checksums.{sound_with, first_is, second_is, value_is}
+use Rattle.lsa_codec.specs.Checksum.{checksum_of, weighted_sum, covered, with_sum, check_bytes, IsSound, IsOnlySum, IsSumUpToZeros}
+use Rattle.lsa_codec.proofs.Checksums.{sound_with, only_with, zeros_with, first_is, second_is, value_is}
 use Rattle.lsa_codec.proofs.checksum.sum_of.Goals as goal
 
 pub returns : goal.returns
@@ -14,6 +14,9 @@ returns c =
     record {
       value = value_is bytes _ (omega arith) value;
       sound = subst (λ (v : ℕ). IsSound (with_sum bytes (v / 256) (v % 256))) (sym value) (sound_with bytes (length bytes - 2) plain weighted (omega arith) refl refl refl);
+      not_zero = (omega (arith, c.residue-first.ensures.bounds, c.residue-second.ensures.bounds), omega (arith, c.residue-first.ensures.bounds, c.residue-second.ensures.bounds));
+      only = subst (λ (v : ℕ). IsOnlySum bytes v) (sym value) (only_with bytes (length bytes - 2) plain weighted (omega arith) refl refl refl);
+      zeros = subst (λ (v : ℕ). IsSumUpToZeros bytes v) (sym value) (zeros_with bytes (length bytes - 2) plain weighted (omega arith) refl refl refl);
     }
 
 pub returns-then-bytes-lt20 : goal.returns-then-bytes-lt20

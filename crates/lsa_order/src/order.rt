@@ -1,16 +1,22 @@
-ghost use Rattle.std.specs.Prelude.{◌≡◌, ◌↔◌, false};
-ghost use Rattle.ospf_types.specs.Instances.{newer_of, newer_by, age_cmp, HaveSameContents};
+ghost use Rattle.std.specs.Prelude.{◌≡◌};
+ghost use Rattle.ospf_types.specs.Instances.{newer_of, age_cmp, swapped};
 
-use lsa_codec::Checked;
 use ospf_types::lsa::{Header, MAX_AGE, Newer};
 use std::cmp::Ordering;
 
-// Two ages that differ by no more seconds count as the same (RFC 2328, appendix B).
+/// Ages that differ by no more seconds count as the same (RFC 2328, appendix B).
 const MAX_AGE_DIFF: u16 = 900;
 
-/// Which of two instances of an LSA is newer (RFC 2328, 13.1).
-pub(crate) fn newer(first: &Header, second: &Header) -> Newer
-    ensures { result ≡ newer_of first.now second.now }
+/// Which of two instances of an LSA is newer (RFC 2328, 13.1): the one with the greater signed
+/// sequence number, else with the greater checksum, else the one that alone is at MaxAge, else the
+/// younger where the ages are more than 900 seconds apart. It compares nothing else: that the two are
+/// instances of one LSA is the caller's affair.
+#[tactic(auto, using(crate::proofs::Swapping::other_way))]
+pub fn newer(first: &Header, second: &Header) -> Newer
+    ensures value { result ≡ newer_of first.now second.now }
+    // Asked the other way round the answer is the same instance: what is `First` one way is `Second`
+    // the other, and `Same` is `Same` both ways.
+    ensures other_way { newer_of second.now first.now ≡ swapped result }
 {
     let by_seq = first.seq.cast_signed().cmp(&second.seq.cast_signed());
     let by_sum = first.sum.cmp(&second.sum);
@@ -39,13 +45,4 @@ fn compare_ages(first: u16, second: u16) -> Ordering
     } else {
         Ordering::Equal
     }
-}
-
-/// Whether the contents of two instances of an LSA differ (RFC 2328, 13.2).
-pub(crate) fn contents_differ(first: &Checked, second: &Checked) -> bool
-    ensures { (result ≡ false) ↔ HaveSameContents first.now second.now }
-{
-    let (a, b) = (first.header(), second.header());
-    let same_use = (a.age < MAX_AGE) == (b.age < MAX_AGE);
-    !(same_use && a.length == b.length && first.same_contents(second))
 }
