@@ -6,11 +6,7 @@ use Rattle.lsa_codec.specs.Spelling.{header_bytes}
 use Rattle.lsa_codec.specs.Checksum.{sum_field}
 use Rattle.lsa_codec.specs.Faults.{age_field, options_field, kind_field, id_field, router_field, sequence_field}
 use Rattle.lsa_codec.specs.Decoding.{header_of}
-use Rattle.lsa_codec.proofs.Words.{IsBytes, number_again, back_2, word_2, word_4, byte_1}
-
--- more bytes in front
-then : (front rest middle whole : List ℕ) → rest ≡ middle → front ++ middle ≡ whole → front ++ rest ≡ whole
-then front rest middle whole e f = ap (λ (r : List ℕ). front ++ r) e ∙ f
+use Rattle.lsa_codec.proofs.Words.{IsBytes, then, number_again, back_2, word_2, word_4, byte_1}
 
 pub header_takes : (bytes : List ℕ) → 20 ≤ length bytes → IsBytes bytes → header_bytes (header_of bytes) ++ drop 20 bytes ≡ bytes
 header_takes bytes long fits =

@@ -1,3 +1,4 @@
+pub mod Bools
 pub mod Checksums
 pub mod Walks
 pub mod Words
@@ -5,6 +6,8 @@ pub mod Headers
 pub mod Tables
 pub mod HeaderTests
 pub mod Masks
+pub mod Records
+pub mod RecordBytes
 pub mod LinkBytes
 pub mod Bodies
 pub mod Again

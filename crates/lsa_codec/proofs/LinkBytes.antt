@@ -12,6 +12,7 @@ use Rattle.ospf_types.specs.Lsa.{RouterLink, Tos}
 use Rattle.lsa_codec.specs.Spelling.{number_of_kind, link_tos_bytes, link_bytes, IsLegalDetail, IsLegalLinkTos, IsLegalLink}
 use Rattle.lsa_codec.specs.Faults.{is_mask, RawTos, RawLink, raw_entries, raw_link, link_size, is_whole, Walk, after_link, walk, has_reserved_entry, has_wrong_mask, is_unknown}
 use Rattle.lsa_codec.specs.Decoding.{kind_of_number, tos_of, link_of}
+use Rattle.lsa_codec.proofs.Bools.{or_left, or_right, not_false, bool_cases}
 use Rattle.lsa_codec.proofs.Walks.{is_set}
 use Rattle.lsa_codec.proofs.Words.{IsBytes, IsBytes-drop, number_again, number_below, back_4, word_2, word_4, byte_1}
 use Rattle.lsa_codec.proofs.Masks.{IsMask-from_test, test-from_IsMask}
@@ -148,18 +149,6 @@ pub record EntriesTaken (n : ℕ) (bytes : List ℕ) : Type 0 where
   pub legal : AllByRecursion IsLegalLinkTos (map tos_of (raw_entries n bytes))
   pub count : length (map tos_of (raw_entries n bytes)) ≡ n
 
-or_left : (a b : Bool) → (a || b) ≡ false → a ≡ false
-or_left true b e = absurd cc
-or_left false b e = refl
-
-or_right : (a b : Bool) → (a || b) ≡ false → b ≡ false
-or_right true b e = absurd cc
-or_right false b e = e
-
-not_false : (b : Bool) → not b ≡ false → b ≡ true
-not_false true e = refl
-not_false false e = absurd cc
-
 entry_text : (bytes : List ℕ) → 4 ≤ length bytes → IsBytes bytes → slice_index bytes 1 ≡ 0 → slice_index bytes 0 ∷ 0 ∷ (big_bytes 2 (big_number 2 (drop 2 bytes)) ++ drop 4 bytes) ≡ bytes
 entry_text bytes long fits reserved =
     let t2 = word_2 2 bytes (omega arith) fits in
@@ -257,10 +246,6 @@ walk_takes_link n bytes more link whole =
 stuck_step : (n : ℕ) (bytes : List ℕ) → is_whole bytes ≡ false → walk (suc n) bytes ≡ record { met = []; left = bytes }
 unfolding walk
 stuck_step n bytes e = rw e refl
-
-bool_cases : (b : Bool) → (b ≡ true) ⊎ (b ≡ false)
-bool_cases true = inl refl
-bool_cases false = inr refl
 
 pub walk_takes : (n : ℕ) (bytes : List ℕ) → IsBytes bytes → length (walk n bytes).met ≡ n → list_any has_reserved_entry (walk n bytes).met ≡ false → list_any has_wrong_mask (walk n bytes).met ≡ false → list_any is_unknown (walk n bytes).met ≡ false
     → WalkTaken n bytes

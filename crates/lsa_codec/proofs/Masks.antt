@@ -47,3 +47,8 @@ test-from_IsMask mask h =
 
 pub IsMask-from_test : (mask : ℕ) → mask < 2 ^ 32 → is_mask mask ≡ true → IsMask mask
 IsMask-from_test mask lt e = (mask_length mask, ones-le 32 mask lt, eqb-true _ _ e)
+
+pub IsMask-fits : (mask : ℕ) → IsMask mask → mask < 2 ^ 32
+IsMask-fits mask h =
+    let rest : 1 ≤ 2 ^ (32 - h.0) = one-le-pow (32 - h.0) 2 (omega arith) in
+    omega (arith, h.2)

@@ -1,9 +1,10 @@
 -- Why bytes are refused: the first that holds of a list of tests.
-use Rattle.std.specs.Prelude.{ℕ, zero, suc, ◌+◌, ◌*◌, ◌-◌, ◌^◌, ◌==◌, Bool, ◌&&◌, ◌||◌, not, nat_lt, nat_le, if◌then◌else◌, List, [], ◌∷◌, length, drop, slice_index, Option, Some, None}
+use Rattle.std.specs.Prelude.{ℕ, zero, suc, ◌+◌, ◌*◌, ◌-◌, ◌^◌, ◌/◌, ◌%◌, ◌==◌, Bool, true, false, ◌&&◌, ◌||◌, not, nat_lt, nat_le, if◌then◌else◌, List, [], ◌∷◌, length, drop, slice_index, Option, Some, None}
 use Rattle.std.specs.List.{list_any}
 use Rattle.byteorder.specs.Endian.{big_number}
 use Rattle.ospf_types.specs.Masks.{mask_length}
 use Rattle.lsa_codec.specs.Checksum.{is_sound}
+use Rattle.lsa_codec.specs.declared.findings.Findings.{Findings}
 use Rattle.lsa_codec.specs.declared.fault.WireFault.{WireFault}
 use Rattle.lsa_codec.specs.declared.fault.WireFault.TheVariants.{Length, Checksum, Age, Sequence, Kind, Reserved, Mask, RouterId, LinkType, Shape}
 
@@ -105,10 +106,33 @@ is_unknown link = nat_lt link.kind 1 || nat_lt 4 link.kind
 abbrev pub is_incomplete : ℕ → Walk → Bool
 is_incomplete count w = not (length w.met == count) || not (length w.left == 0)
 
--- ---- the body of a router-LSA (A.4.2): flags, a reserved byte and the number of links, then the links
+-- ---- bodies
+--
+-- Records are met by a walk over a body: a link with its TOS entries, a Router ID, a TOS entry or an
+-- external record is met where it lies whole in what is left of the body, and the walk over links stops
+-- when as many were met as are counted. A body begins with a fixed part, and where that is not whole
+-- nothing of the body is met. What is found of a body: a byte that is to be zero and is not, a mask that
+-- is none, a link of no known type, and a shape other than a fixed part and whole records.
 
-abbrev pub is_cut : List ℕ → Bool
-is_cut body = nat_lt (length body) 4
+-- the fixed part of so many bytes is not whole
+abbrev pub is_cut : ℕ → List ℕ → Bool
+is_cut size body = nat_lt (length body) size
+
+abbrev pub cut_findings : Findings
+cut_findings = record { reserved = false; mask = false; link_type = false; shape = true }
+
+-- of records that all have the size: how many are met
+abbrev pub count_met : ℕ → List ℕ → ℕ
+count_met size bytes = length bytes / size
+
+-- bytes are left over after them
+abbrev pub has_left : ℕ → List ℕ → Bool
+has_left size bytes = not (length bytes % size == 0)
+
+abbrev pub mask_field : List ℕ → ℕ
+mask_field body = big_number 4 body
+
+-- a router-LSA (A.4.2): flags, a reserved byte and the number of links, then the links
 
 abbrev pub count_field : List ℕ → ℕ
 count_field body = big_number 2 (drop 2 body)
@@ -116,28 +140,81 @@ count_field body = big_number 2 (drop 2 body)
 abbrev pub links_walk : List ℕ → Walk
 links_walk body = walk (count_field body) (drop 4 body)
 
-abbrev pub has_reserved : List ℕ → Bool
-has_reserved body = not (is_cut body) && (not (slice_index body 1 == 0) || list_any has_reserved_entry (links_walk body).met)
+abbrev pub router_findings : List ℕ → Findings
+router_findings body =
+    if is_cut 4 body then cut_findings else record {
+      reserved = not (slice_index body 1 == 0) || list_any has_reserved_entry (links_walk body).met;
+      mask = list_any has_wrong_mask (links_walk body).met;
+      link_type = list_any is_unknown (links_walk body).met;
+      shape = is_incomplete (count_field body) (links_walk body);
+    }
 
-abbrev pub has_mask_fault : List ℕ → Bool
-has_mask_fault body = not (is_cut body) && list_any has_wrong_mask (links_walk body).met
+-- a network-LSA (A.4.3): a mask, then Router IDs of 4 bytes
+abbrev pub network_findings : List ℕ → Findings
+network_findings body =
+    if is_cut 4 body then cut_findings else record {
+      reserved = false;
+      mask = not (is_mask (mask_field body));
+      link_type = false;
+      shape = has_left 4 (drop 4 body);
+    }
 
-abbrev pub has_unknown_link : List ℕ → Bool
-has_unknown_link body = not (is_cut body) && list_any is_unknown (links_walk body).met
+-- a summary-LSA for a network (A.4.4): a mask, a reserved byte and a metric, then TOS entries of 4 bytes
+abbrev pub summary_findings : List ℕ → Findings
+summary_findings body =
+    if is_cut 8 body then cut_findings else record {
+      reserved = not (slice_index body 4 == 0);
+      mask = not (is_mask (mask_field body));
+      link_type = false;
+      shape = has_left 4 (drop 8 body);
+    }
 
-abbrev pub is_misshapen : List ℕ → Bool
-is_misshapen body = is_cut body || is_incomplete (count_field body) (links_walk body)
+-- a summary-LSA for an AS boundary router: the same, and the mask is zero
+abbrev pub boundary_findings : List ℕ → Findings
+boundary_findings body =
+    if is_cut 8 body then cut_findings else record {
+      reserved = not (slice_index body 4 == 0);
+      mask = not (mask_field body == 0);
+      link_type = false;
+      shape = has_left 4 (drop 8 body);
+    }
+
+-- an AS-external-LSA (A.4.5): a mask, then one record or more of 12 bytes. The first is that of TOS 0,
+-- so that below bit E it has seven zeros.
+abbrev pub external_findings : List ℕ → Findings
+external_findings body =
+    if is_cut 4 body then cut_findings else record {
+      reserved = nat_le 16 (length body) && not (slice_index body 4 % 128 == 0);
+      mask = not (is_mask (mask_field body));
+      link_type = false;
+      shape = nat_lt (length body) 16 || has_left 12 (drop 4 body);
+    }
+
+-- by LS type, 1 to 5 (A.4.1)
+abbrev pub findings_of : ℕ → List ℕ → Findings
+findings_of kind body =
+    if kind == 1 then router_findings body else (if kind == 2 then network_findings body else (if kind == 3 then summary_findings body else (if kind == 4 then boundary_findings body else external_findings body)))
 
 -- ---- the faults in their order
+
+abbrev pub is_unknown_kind : ℕ → Bool
+is_unknown_kind kind = nat_lt kind 1 || nat_lt 5 kind
+
+-- the Link State ID of a router-LSA is its Advertising Router (12.1.4)
+abbrev pub is_other_router : ℕ → ℕ → ℕ → Bool
+is_other_router kind id router = (kind == 1) && not (id == router)
+
+unfoldable pub found_in : List ℕ → Findings
+found_in bytes = findings_of (kind_field bytes) (body_field bytes)
 
 -- those past the LS type
 abbrev pub body_tests : List ℕ → List (Bool × WireFault)
 body_tests bytes =
-    (has_reserved (body_field bytes), Reserved)
-    ∷ (has_mask_fault (body_field bytes), Mask)
-    ∷ (not (id_field bytes == router_field bytes), RouterId)
-    ∷ (has_unknown_link (body_field bytes), LinkType)
-    ∷ (is_misshapen (body_field bytes), Shape)
+    ((found_in bytes).reserved, Reserved)
+    ∷ ((found_in bytes).mask, Mask)
+    ∷ (is_other_router (kind_field bytes) (id_field bytes) (router_field bytes), RouterId)
+    ∷ ((found_in bytes).link_type, LinkType)
+    ∷ ((found_in bytes).shape, Shape)
     ∷ []
 
 unfoldable pub body_fault_of : List ℕ → Option WireFault
@@ -149,5 +226,5 @@ fault_of bytes = first_of (
     ∷ (not (is_sound bytes), Checksum)
     ∷ (nat_lt 3600 (age_field bytes), Age)
     ∷ (sequence_field bytes == 0x8000_0000, Sequence)
-    ∷ (not (kind_field bytes == 1), Kind)
+    ∷ (is_unknown_kind (kind_field bytes), Kind)
     ∷ body_tests bytes)

@@ -1,14 +1,18 @@
 ghost use Rattle.std.specs.Prelude.{◌≡◌, ◌≤◌, ◌↔◌, IsTrue, length, IfOk};
-ghost use Rattle.ospf_types.specs.Lsa.{key_of};
+ghost use Rattle.ospf_types.specs.Lsa.{key_of, kind_of};
 ghost use Rattle.lsa_codec.specs.Spelling.{IsLegal, body_bytes};
-ghost use Rattle.lsa_codec.specs.Readers.{flags_of, links_of, link_at, with_age};
+ghost use Rattle.lsa_codec.specs.Readers.{flags_of, links_of, link_at, listed_at, prefix_of, metric_of, external_of, with_age};
 
 use crate::header::header_in;
+use crate::kinds::{EXTERNAL, NETWORK, ROUTER, SUMMARY};
 use crate::links::{after_links, front_link};
+use crate::network::{has_network, network};
+use crate::metrics::{first_record, metric_in};
 use byteorder::{BigEndian, ByteOrder};
 use ospf_types::key::Key;
-use ospf_types::lsa::{Header, Link};
+use ospf_types::lsa::{External, Header, Link};
 use ospf_types::memory::Memory;
+use ospf_types::prefix::Prefix;
 use std::alloc::Global;
 use std::marker::Model;
 
@@ -60,17 +64,30 @@ impl Checked {
         &self.bytes[20..]
     }
 
+    // The LS type.
+    fn kind(&self) -> u8
+        ensures { result ≡ kind_of self.now.body }
+    {
+        self.bytes[3]
+    }
+
     /// The byte with the bits V, E and B of a router-LSA (A.4.2).
     pub fn flags(&self) -> Option<u8>
         ensures { result ≡ flags_of self.now.body }
     {
+        if self.kind() != ROUTER {
+            return None;
+        }
         Some(self.bytes[20])
     }
 
-    /// How many links a router-LSA has.
+    /// How many links a router-LSA has; 0 for another LS type.
     pub fn link_count(&self) -> usize
         ensures { result ≡ length (links_of self.now.body) }
     {
+        if self.kind() != ROUTER {
+            return 0;
+        }
         usize::from(BigEndian::read_u16(&self.bytes[22..]))
     }
 
@@ -90,6 +107,51 @@ impl Checked {
             after_links(n, links)
         };
         Some(front_link(front))
+    }
+
+    /// The Router ID at a place of a network-LSA, counted from 0 (A.4.3); `None` past the last.
+    pub fn listed(&self, n: usize) -> Option<u32>
+        ensures { result ≡ listed_at self.now.body n }
+    {
+        if self.kind() != NETWORK {
+            return None;
+        }
+        let routers = &self.bytes[24..];
+        if n >= routers.len() / 4 {
+            return None;
+        }
+        Some(BigEndian::read_u32(&routers[4 * n..]))
+    }
+
+    /// The network that a network-LSA, a summary-LSA for a network or an AS-external-LSA is about: its
+    /// Link State ID under its mask (12.1.4).
+    pub fn prefix(&self) -> Option<Prefix>
+        ensures { result ≡ prefix_of self.now }
+    {
+        if !has_network(self.kind()) {
+            return None;
+        }
+        network(BigEndian::read_u32(&self.bytes[4..]), BigEndian::read_u32(&self.bytes[20..]))
+    }
+
+    /// The metric of a summary-LSA, or of the first record of an AS-external-LSA (A.4.4, A.4.5).
+    pub fn metric(&self) -> Option<u32>
+        ensures { result ≡ metric_of self.now.body }
+    {
+        if self.kind() < SUMMARY {
+            return None;
+        }
+        Some(metric_in(&self.bytes))
+    }
+
+    /// What the first record of an AS-external-LSA says beside its metric (A.4.5).
+    pub fn external(&self) -> Option<External>
+        ensures { result ≡ external_of self.now.body }
+    {
+        if self.kind() != EXTERNAL {
+            return None;
+        }
+        Some(first_record(&self.bytes))
     }
 
     /// Whether Options and body are equal.

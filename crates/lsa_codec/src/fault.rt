@@ -19,22 +19,24 @@ pub enum WireFault {
     /// The sequence number is the reserved 0x80000000 (12.1.6).
     #[error("4 Sequence")]
     Sequence,
-    /// The LS type is none that is read here.
+    /// The LS type is not 1 to 5 (A.4.1).
     #[error("5 Kind")]
     Kind,
-    /// A reserved byte is not zero (A.4.2).
+    /// A byte that is reserved is not zero, or the first record of an AS-external-LSA has a TOS (A.4.2,
+    /// A.4.4, A.4.5).
     #[error("6 Reserved")]
     Reserved,
-    /// A stub link's Link Data is not ones and then zeros (A.4.2).
+    /// The mask, or a stub link's Link Data, is not ones and then zeros, or the mask of a summary-LSA for
+    /// an AS boundary router is not zero (A.4.2 to A.4.5).
     #[error("7 Mask")]
     Mask,
-    /// The Link State ID is not the Advertising Router (12.1.4).
+    /// The Link State ID of a router-LSA is not its Advertising Router (12.1.4).
     #[error("8 RouterId")]
     RouterId,
     /// A link's type is not 1 to 4 (A.4.2).
     #[error("9 LinkType")]
     LinkType,
-    /// The body ends too soon or goes on too long for what it counts.
+    /// The body is cut off, has fewer links than it counts or no external record, or has bytes left over.
     #[error("10 Shape")]
     Shape,
     /// A growth was refused.

@@ -1,20 +1,27 @@
 //! The bytes of OSPFv2 link-state advertisements (RFC 2328, A.4), read and written. What was read is
-//! sound and in the grammar for good: a `Checked` is nothing else. Router-LSAs are read.
+//! sound and in the grammar for good: a `Checked` is nothing else.
 #![tactic(auto)]
 
+mod body_tests;
 mod checked;
 mod checksum;
 mod fault;
+mod findings;
 mod header;
+mod kinds;
 mod links;
+mod mask;
+mod metrics;
+mod network;
 mod reading;
 mod writing;
 
 pub use checked::Checked;
 pub use checksum::sum_of;
 pub use fault::WireFault;
-pub use ospf_types::lsa::{Header, Link, LinkKind};
+pub use ospf_types::lsa::{External, Header, Link, LinkKind};
 pub use ospf_types::memory::Memory;
+pub use ospf_types::prefix::Prefix;
 pub use reading::read;
 pub use writing::write;
 

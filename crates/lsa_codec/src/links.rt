@@ -2,28 +2,14 @@
 
 ghost use Rattle.std.specs.Prelude.{◌≡◌, ◌≤◌, true, ◌+◌, ◌*◌, ◌==◌, ◌||◌, not, nat_lt, length};
 ghost use Rattle.std.specs.List.{list_any};
-ghost use Rattle.lsa_codec.specs.Faults.{walk, raw_entries, raw_link, is_whole as is_whole_test, link_size as size_of_link, has_reserved_entry, has_wrong_mask, is_unknown, is_incomplete, is_mask as is_mask_test};
+ghost use Rattle.lsa_codec.specs.Faults.{walk, raw_entries, raw_link, is_whole as is_whole_test, link_size as size_of_link, has_reserved_entry, has_wrong_mask, is_unknown, is_incomplete};
 ghost use Rattle.lsa_codec.specs.Decoding.{kind_of_number, link_of as decoded_link};
 ghost use Rattle.lsa_codec.specs.Readers.{without_tos};
 
+use crate::findings::{Findings, NO_FINDING};
+use crate::mask::is_mask;
 use byteorder::{BigEndian, ByteOrder};
 use ospf_types::lsa::{Link, LinkKind};
-
-/// What is wrong with a body.
-#[derive(Clone, Copy)]
-pub(crate) struct Findings {
-    pub(crate) reserved: bool,
-    pub(crate) mask: bool,
-    pub(crate) link_type: bool,
-    pub(crate) shape: bool,
-}
-
-pub(crate) const NO_FINDING: Findings = Findings {
-    reserved: false,
-    mask: false,
-    link_type: false,
-    shape: false,
-};
 
 /// The number of bytes of the link in front, its TOS entries counted.
 fn link_size(bytes: &[u8]) -> usize
@@ -53,18 +39,6 @@ fn has_reserved(count: u8, bytes: &[u8]) -> bool
         rest = &rest[4..];
     }
     false
-}
-
-/// Whether the number is ones and then zeros.
-fn is_mask(mask: u32) -> bool
-    ensures { result ≡ is_mask_test mask }
-{
-    let ones = mask.count_ones();
-    mask == if ones == 0 {
-        0
-    } else {
-        u32::MAX << (32 - ones)
-    }
 }
 
 /// What is wrong with the links, of which there are to be `count` and no bytes after them.

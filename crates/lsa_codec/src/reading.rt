@@ -2,14 +2,15 @@ ghost use Rattle.std.specs.Prelude.{◌≡◌, ◌≤◌, length, IfOk, MatchRes
 ghost use Rattle.ospf_types.specs.Lsa.{Lsa};
 ghost use Rattle.lsa_codec.specs.Spelling.{Spells};
 ghost use Rattle.lsa_codec.specs.Checksum.{IsSound};
-ghost use Rattle.lsa_codec.specs.Faults.{fault_of, body_fault_of, has_reserved, has_mask_fault, has_unknown_link, is_misshapen};
+ghost use Rattle.lsa_codec.specs.Faults.{fault_of, body_fault_of, is_unknown_kind as is_unknown_kind_test, is_other_router as is_other_router_test};
 
+use crate::body_tests::body_findings;
 use crate::checked::Checked;
 use crate::checksum::is_sound;
 use crate::fault::WireFault;
 use crate::header::{HEADER, header_in, is_wrong_length};
-use crate::links::{Findings, NO_FINDING, links_findings};
-use byteorder::{BigEndian, ByteOrder};
+use crate::kinds::{EXTERNAL, ROUTER};
+use ospf_types::lsa::Header;
 use std::alloc::Global;
 
 /// MaxAge (RFC 2328, appendix B), in seconds.
@@ -18,27 +19,18 @@ const MAX_AGE: u16 = 3600;
 /// The sequence number that no instance has (12.1.6).
 const RESERVED_SEQUENCE: u32 = 0x8000_0000;
 
-/// The LS type of a router-LSA (A.4.1).
-const ROUTER: u8 = 1;
-
-/// What is wrong with the body of a router-LSA.
-fn router_findings(body: &[u8]) -> Findings
-    ensures reserved { result.reserved ≡ has_reserved body.now }
-    ensures mask { result.mask ≡ has_mask_fault body.now }
-    ensures link_type { result.link_type ≡ has_unknown_link body.now }
-    ensures shape { result.shape ≡ is_misshapen body.now }
+/// Whether the LS type is none of the five (A.4.1).
+fn is_unknown_kind(kind: u8) -> bool
+    ensures { result ≡ is_unknown_kind_test kind }
 {
-    if body.len() < 4 {
-        return Findings {
-            shape: true,
-            ..NO_FINDING
-        };
-    }
-    let links = links_findings(BigEndian::read_u16(&body[2..]), &body[4..]);
-    Findings {
-        reserved: body[1] != 0 || links.reserved,
-        ..links
-    }
+    kind < ROUTER || kind > EXTERNAL
+}
+
+/// Whether a router-LSA's Link State ID is not its Advertising Router (12.1.4).
+fn is_other_router(header: &Header) -> bool
+    ensures { result ≡ is_other_router_test header.now.kind header.now.id header.now.router }
+{
+    header.kind == ROUTER && header.id != header.router
 }
 
 /// The first fault past the LS type.
@@ -47,14 +39,14 @@ fn body_fault(bytes: &[u8]) -> Option<WireFault>
     ensures { result ≡ body_fault_of bytes.now }
 {
     let header = header_in(bytes);
-    let found = router_findings(&bytes[HEADER..]);
+    let found = body_findings(header.kind, &bytes[HEADER..]);
     if found.reserved {
         return Some(WireFault::Reserved);
     }
     if found.mask {
         return Some(WireFault::Mask);
     }
-    if header.id != header.router {
+    if is_other_router(&header) {
         return Some(WireFault::RouterId);
     }
     if found.link_type {
@@ -83,14 +75,13 @@ fn fault(bytes: &[u8]) -> Option<WireFault>
     if header.seq == RESERVED_SEQUENCE {
         return Some(WireFault::Sequence);
     }
-    if header.kind != ROUTER {
+    if is_unknown_kind(header.kind) {
         return Some(WireFault::Kind);
     }
     body_fault(bytes)
 }
 
-/// Reads exactly one advertisement, a router-LSA, and copies its bytes. Every other LS type is the fault
-/// `Kind`.
+/// Reads exactly one advertisement, and copies its bytes.
 pub fn read(alloc: Global, bytes: &[u8]) -> Result<Checked, WireFault>
     // Refused bytes are refused for their first fault.
     ensures fault { (f : WireFault) → fault_of bytes.now ≡ Some f → result ≡ Err f }
@@ -99,8 +90,10 @@ pub fn read(alloc: Global, bytes: &[u8]) -> Result<Checked, WireFault>
     // What is read is sound, and spelled so.
     ensures sound { IfOk result (λ lsa. IsSound bytes.now) }
     ensures found { IfOk result (λ lsa. Spells bytes.now lsa) }
-    // What is sound and spelled so is read, a router-LSA, unless memory runs out.
-    ensures only { (l : Lsa) → IsSound bytes.now → Spells bytes.now l → l.header.kind ≡ 1 → MatchResult result (λ lsa. lsa ≡ l) (λ e. e ≡ WireFault.Memory) }
+    // What is sound and spelled so is read, unless memory runs out.
+    ensures only { (l : Lsa) → IsSound bytes.now → Spells bytes.now l → MatchResult result (λ lsa. lsa ≡ l) (λ e. e ≡ WireFault.Memory) }
+    // No two advertisements share a spelling.
+    ensures unshared { (l m : Lsa) → Spells bytes.now l → Spells bytes.now m → l ≡ m }
 {
     match fault(bytes) {
         Some(fault) => Err(fault),

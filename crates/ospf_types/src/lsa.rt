@@ -41,6 +41,15 @@ pub struct Link {
     pub metric: u16,
 }
 
+/// What the first record of an AS-external-LSA says beside its metric (RFC 2328, A.4.5).
+#[derive(Clone, Copy, Debug, PartialEq, Eq, Hash)]
+pub struct External {
+    /// Bit E: the metric is of type 2.
+    pub is_type_2: bool,
+    /// Forwarding address, 0 for none.
+    pub forwarding: u32,
+}
+
 /// Which of two instances of an LSA is newer (RFC 2328, 13.1).
 #[derive(Clone, Copy, Debug, PartialEq, Eq, Hash)]
 pub enum Newer {

@@ -1,0 +1,16 @@
+use Rattle.std.proofs.Common.{◌≡◌, ℕ, leb, List, Some, length, drop, sym, ap, ◌∙◌, arith}
+use Rattle.std.specs.Prelude.{slice_index}
+use Rattle.byteorder.specs.Endian.{big_number}
+use Rattle.ospf_types.specs.declared.lsa.External.{External}
+use Rattle.lsa_codec.proofs.Kept.{first_of_bytes, kept_external}
+use Rattle.lsa_codec.proofs.checked.Checked.external.Goals as goal
+
+pub first_record-requires : goal.first_record-requires
+first_record-requires c =
+    let first = kept_external c.self.inside.bytes.items c.args.self.now c.self.view_is c.self.invariant (sym c.kind.ensures ∙ c.if-kind-ne-EXTERNAL.false) in
+    omega (arith, first.long, ap length c.deref.ensures.value)
+
+pub returns : goal.returns
+returns c =
+    let first = kept_external c.self.inside.bytes.items c.args.self.now c.self.view_is c.self.invariant (sym c.kind.ensures ∙ c.if-kind-ne-EXTERNAL.false) in
+    ap (λ (x : External). Some x) (c.first_record.ensures ∙ ap first_of_bytes c.deref.ensures.value) ∙ first.external
