@@ -6,6 +6,13 @@ use std::test::Fail;
 // The router-LSA of 10.0.0.1 with one stub link, 192.0.2.0/24 at metric 10.
 const STUB: &str = "000102010a0000010a00000180000001e986002400000001c0000200ffffff000300000a";
 
+// A summary-LSA by 10.0.0.2 for 10.1.0.0/16, at metric 10.
+const SUMMARY: &str = "000102030a0100000a00000280000001da61001cffff00000000000a";
+
+// What is printed of it.
+const SUMMARY_LINES: &str =
+    "age 1 options 02 kind 3 id 10.1.0.0 router 10.0.0.2 seq 80000001 sum da61 length 28\nbody ffff00000000000a\n";
+
 #[derive(Debug, Drop)]
 struct Told {
     status: u8,
@@ -35,10 +42,11 @@ fn prints_the_fields(rt: HostRuntime) {
             "0e1000010a0000010a0000017fffffffb799001800000000",
             "age 3600 options 00 kind 1 id 10.0.0.1 router 10.0.0.1 seq 7fffffff sum b799 length 24\nbody 00000000\n",
         ),
+        (SUMMARY, SUMMARY_LINES),
         // Either case is taken.
         (
-            "000102010A0000010a00000180000001E986002400000001C0000200FFFFFF000300000A",
-            "age 1 options 02 kind 1 id 10.0.0.1 router 10.0.0.1 seq 80000001 sum e986 length 36\nbody 00000001c0000200ffffff000300000a\n",
+            "000102030A0100000a00000280000001DA61001CFFFF00000000000A",
+            SUMMARY_LINES,
         ),
     ] {
         let told = run_decode(rt.alloc(), word);
@@ -52,12 +60,17 @@ fn prints_the_fields(rt: HostRuntime) {
 fn prints_why_there_are_no_lines(rt: HostRuntime) {
     for (word, line, status) in [
         (
-            "000102010a0000010a00000180000001e986002400000001c0000200ffffff000300000b",
+            "000102030a0100000a00000280000001da61001cffff00000000000b",
             "abr: 2 Checksum\n",
             1,
         ),
         (
-            "000102010a0000010a00000180000001e986002400000001c0000200ffffff00030000",
+            "000102030a0100000a00000280000001da61001cffff000000000000",
+            "abr: 2 Checksum\n",
+            1,
+        ),
+        (
+            "000102030a0100000a00000280000001da61001cffff0000000000",
             "abr: 1 Length\n",
             1,
         ),

@@ -14,6 +14,9 @@ const UNSOUND: &str = "000102010a0000010a00000180000001e986002400000001c0000200f
 // The router-LSA of 10.0.0.1 with one point-to-point link, to 10.0.0.2.
 const LINK: &str = "000102010a0000010a00000180000001e6e20024000000010a000002c63364010100000a";
 
+// A summary-LSA of another router.
+const SUMMARY: &str = "000102030a0100000a00000280000001da61001cffff00000000000a";
+
 const GOOD: OneWords<'static> = OneWords {
     router: "10.0.0.1",
     area: "0.0.0.0",
@@ -83,6 +86,14 @@ fn prints_why_there_is_no_line(rt: HostRuntime) -> Result<(), Fail> {
             1,
         ),
         (OneWords { lsa: LINK, ..GOOD }, "abr: 33 NotYet\n", 1),
+        (
+            OneWords {
+                lsa: SUMMARY,
+                ..GOOD
+            },
+            "abr: 33 NotYet\n",
+            1,
+        ),
         (
             OneWords {
                 router: "10.0.0",
