@@ -1,16 +1,16 @@
 -- What is sound and spelled so is read, and is what it was.
-use Rattle.std.proofs.Common.{◌≡◌, ℕ, ◌+◌, ◌*◌, ◌/◌, ◌%◌, ◌^◌, ◌<◌, ◌≤◌, Bool, true, false, cond, not, eqb, ltb, leb, List, [], ◌∷◌, ◌++◌, length, map, drop, None, refl, sym, ap, subst, ◌∙◌, arith}
+use Rattle.std.proofs.Common.{◌≡◌, ℕ, ◌+◌, ◌*◌, ◌%◌, ◌^◌, ◌<◌, Bool, true, false, cond, not, eqb, ltb, List, [], ◌∷◌, ◌++◌, length, map, None, refl, sym, ap, subst, ◌∙◌, arith}
 use Rattle.std.specs.List.{list_any, flat_map, AllByRecursion}
 use Rattle.std.proofs.lemmas.Bool.{eq-eqb, ne_eqb, le-ltb}
 use Rattle.std.proofs.lemmas.List.{append-nil, length-map}
-use Rattle.byteorder.specs.Endian.{big_bytes, big_number}
+use Rattle.byteorder.specs.Endian.{big_bytes}
 use Rattle.ospf_types.specs.declared.lsa.Header.{Header}
 use Rattle.ospf_types.specs.Lsa.{Lsa, Body, RouterLinks, NetworkLinks, NetworkSummary, BoundarySummary, AsExternal, RouterLink, Tos, ExternalRecord, kind_of}
 use Rattle.lsa_codec.specs.declared.findings.Findings.{Findings}
 use Rattle.lsa_codec.specs.Spelling.{header_bytes, body_bytes, link_bytes, summary_tos_bytes, record_bytes, spelling, IsMask, IsLegal, IsLegalBody, IsLegalLink, IsLegalSummaryTos, IsLegalRecord, Spells}
 use Rattle.lsa_codec.specs.Checksum.{IsSound}
-use Rattle.lsa_codec.specs.Faults.{cut_findings, is_mask, mask_field, count_met, count_field, Walk, walk, links_walk, is_incomplete, has_reserved_entry, has_wrong_mask, is_unknown, findings_of, found_in, is_unknown_kind, is_other_router, fault_of}
-use Rattle.lsa_codec.specs.Decoding.{header_of, link_of, records, records_met, router_id_at, summary_tos_at, external_at, metric_field, body_of, lsa_of}
+use Rattle.lsa_codec.specs.Faults.{cut_findings, is_mask, mask_field, count_met, count_field, Walk, walk, links_walk, has_reserved_entry, has_wrong_mask, is_unknown, findings_of, found_in, is_unknown_kind, is_other_router, fault_of}
+use Rattle.lsa_codec.specs.Decoding.{header_of, link_of, records, records_met, router_id_at, summary_tos_at, external_at, body_of, lsa_of}
 use Rattle.lsa_codec.proofs.Bools.{or_of, and_zero}
 use Rattle.lsa_codec.proofs.Words.{number_again}
 use Rattle.lsa_codec.proofs.Headers.{header_again, IsWideHeader}

@@ -1,12 +1,12 @@
 -- Whole advertisements: what is read without a fault is sound and spelled so.
-use Rattle.std.proofs.Common.{◌≡◌, ℕ, zero, suc, ◌+◌, ◌*◌, ◌/◌, ◌%◌, ◌^◌, ◌<◌, ◌≤◌, Bool, true, false, cond, ◌||◌, ◌&&◌, not, eqb, ltb, leb, List, [], ◌∷◌, ◌++◌, length, map, drop, sum, None, refl, sym, ap, ◌∙◌, arith}
+use Rattle.std.proofs.Common.{◌≡◌, ℕ, zero, suc, ◌+◌, ◌*◌, ◌%◌, ◌≤◌, Bool, true, false, cond, ◌||◌, ◌&&◌, not, eqb, ltb, leb, List, [], ◌∷◌, ◌++◌, length, map, drop, sum, None, refl, sym, ap, ◌∙◌, arith}
 use Rattle.std.specs.Prelude.{slice_index}
 use Rattle.std.specs.List.{list_any, flat_map, AllByRecursion}
 use Rattle.std.proofs.lemmas.Bool.{eq-eqb, ne_eqb, eqb-true, eqb-false, ltb-false, le-leb}
 use Rattle.std.proofs.lemmas.List.{length-drop, drop-drop, get_or-drop, append-nil, nil_from_length, length-map}
 use Rattle.byteorder.specs.Endian.{big_bytes}
 use Rattle.ospf_types.specs.declared.lsa.Header.{Header}
-use Rattle.ospf_types.specs.Lsa.{Body, RouterLink, Tos, ExternalRecord, kind_of}
+use Rattle.ospf_types.specs.Lsa.{Body, RouterLink, Tos, kind_of}
 use Rattle.lsa_codec.specs.declared.findings.Findings.{Findings}
 use Rattle.lsa_codec.specs.Spelling.{header_bytes, body_bytes, link_bytes, summary_tos_bytes, record_bytes, spelling, IsLegalBody, IsLegalSummaryTos, IsLegalRecord}
 use Rattle.lsa_codec.specs.Checksum.{IsSound, is_sound, sum_field, covered, weighted_sum}
@@ -17,7 +17,7 @@ use Rattle.lsa_codec.proofs.Bools.{or_left, or_right, and_left, and_right, and_o
 use Rattle.lsa_codec.proofs.Words.{IsBytes, IsBytes-drop, then, number_below, back_4, word_2, word_3, byte_1}
 use Rattle.lsa_codec.proofs.Headers.{header_takes}
 use Rattle.lsa_codec.proofs.Masks.{IsMask-from_test}
-use Rattle.lsa_codec.proofs.Records.{RecordsTaken, records_take}
+use Rattle.lsa_codec.proofs.Records.{records_take}
 use Rattle.lsa_codec.proofs.RecordBytes.{IsRouterId, router_id_takes, summary_tos_takes, external_takes}
 use Rattle.lsa_codec.proofs.LinkBytes.{walk_takes}
 use Rattle.lsa_codec.proofs.Tables.{IsClear, none_holds}

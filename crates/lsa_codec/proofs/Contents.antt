@@ -5,7 +5,7 @@ use Rattle.std.specs.Bool.{Decides}
 use Rattle.std.specs.Cmp.Lexicographic.{pointwise}
 use Rattle.std.proofs.lemmas.Slice.Eq.{slice_eq-Decides}
 use Rattle.std.proofs.lemmas.Bool.Decides.{Decides-eqb}
-use Rattle.ospf_types.specs.Lsa.{Lsa, Body, kind_of}
+use Rattle.ospf_types.specs.Lsa.{Lsa, kind_of}
 use Rattle.lsa_codec.specs.Spelling.{body_bytes}
 use Rattle.lsa_codec.specs.Decoding.{lsa_of}
 use Rattle.lsa_codec.specs.Kept.{IsKept}

@@ -1,5 +1,5 @@
 -- A header that is read is the header that was written, and what was written is read again.
-use Rattle.std.proofs.Common.{◌≡◌, ℕ, ◌^◌, ◌<◌, ◌≤◌, List, [], ◌∷◌, ◌++◌, length, drop, refl, ap, ◌∙◌, arith}
+use Rattle.std.proofs.Common.{◌≡◌, ℕ, ◌^◌, ◌<◌, ◌≤◌, List, [], ◌∷◌, ◌++◌, length, drop, refl, arith}
 use Rattle.byteorder.specs.Endian.{big_bytes}
 use Rattle.ospf_types.specs.declared.lsa.Header.{Header}
 use Rattle.lsa_codec.specs.Spelling.{header_bytes}

@@ -1,5 +1,5 @@
 -- What the readers of a checked advertisement rest on.
-use Rattle.std.proofs.Common.{zero, suc, get_or, ◌≡◌, ℕ, ◌+◌, ◌*◌, ◌/◌, ◌^◌, ◌<◌, ◌≤◌, Bool, true, false, ◌||◌, eqb, leb, List, [], ◌∷◌, ◌++◌, length, take, drop, Some, None, refl, sym, ap, subst, ◌∙◌, arith}
+use Rattle.std.proofs.Common.{zero, suc, get_or, ◌≡◌, ℕ, ◌*◌, ◌/◌, ◌^◌, ◌<◌, ◌≤◌, Bool, true, ◌||◌, eqb, leb, List, [], ◌∷◌, ◌++◌, length, take, drop, Some, None, refl, sym, ap, subst, ◌∙◌, arith}
 use Rattle.std.specs.Prelude.{slice_index}
 use Rattle.std.specs.List.{flat_map, AllByRecursion}
 use Rattle.std.proofs.lemmas.List.{length-drop, drop-drop, nil_from_length, append-nil, take_all}
@@ -188,8 +188,8 @@ first_in h (BoundarySummary metric tos) bytes e legal five = absurd (omega (arit
 first_in h (AsExternal mask first more) bytes e legal five = record {
   long = omega (arith, ap length e);
   external = external_named _ first.is_type_2 _ first.forwarding
-    (ap (λ (b : List ℕ). leb 128 (slice_index b 24)) e ∙ flag_again first.is_type_2 first.tos legal.first.tos)
-    (ap (λ (b : List ℕ). big_number 4 (drop 28 b)) e ∙ number_again 4 first.forwarding (drop 8 (record_bytes first) ++ flat_map record_bytes more) legal.first.forwarding);
+      (ap (λ (b : List ℕ). leb 128 (slice_index b 24)) e ∙ flag_again first.is_type_2 first.tos legal.first.tos)
+      (ap (λ (b : List ℕ). big_number 4 (drop 28 b)) e ∙ number_again 4 first.forwarding (drop 8 (record_bytes first) ++ flat_map record_bytes more) legal.first.forwarding);
 }
 
 pub kept_external : (bytes : List ℕ) (l : Lsa) → lsa_of bytes ≡ l → IsKept bytes → kind_of l.body ≡ 5 → FirstRecord bytes l.body

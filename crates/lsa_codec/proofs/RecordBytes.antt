@@ -1,5 +1,5 @@
 -- Router IDs, TOS entries of summary-LSAs and records of AS-external-LSAs, each read and written.
-use Rattle.std.proofs.Common.{◌≡◌, ℕ, ◌+◌, ◌%◌, ◌^◌, ◌<◌, ◌≤◌, Bool, true, false, cond, leb, List, ◌∷◌, ◌++◌, length, drop, refl, sym, ap, ◌∙◌, arith}
+use Rattle.std.proofs.Common.{◌≡◌, ℕ, ◌+◌, ◌%◌, ◌^◌, ◌<◌, ◌≤◌, Bool, true, false, cond, leb, List, ◌∷◌, ◌++◌, length, drop, refl, ap, ◌∙◌, arith}
 use Rattle.std.specs.Prelude.{slice_index}
 use Rattle.std.proofs.lemmas.Bool.{leb-true, leb-false, le-leb, lt-leb}
 use Rattle.byteorder.specs.Endian.{big_bytes, big_number}
@@ -76,7 +76,7 @@ pub external_again : RecordAgain record_bytes external_at IsLegalRecord 12
 external_again = record {
   long = λ x. omega arith;
   same = λ x rest legal. external_with x _ _ _ _ _ (flag_again x.is_type_2 x.tos legal.tos) (tos_again x.is_type_2 x.tos legal.tos)
-    (number_again 3 x.metric (drop 4 (record_bytes x ++ rest)) legal.metric)
-    (number_again 4 x.forwarding (drop 8 (record_bytes x ++ rest)) legal.forwarding)
-    (number_again 4 x.tag rest legal.tag);
+      (number_again 3 x.metric (drop 4 (record_bytes x ++ rest)) legal.metric)
+      (number_again 4 x.forwarding (drop 8 (record_bytes x ++ rest)) legal.forwarding)
+      (number_again 4 x.tag rest legal.tag);
 }

@@ -6,8 +6,8 @@ ghost use Rattle.lsa_codec.specs.Readers.{flags_of, links_of, link_at, listed_at
 use crate::header::header_in;
 use crate::kinds::{EXTERNAL, NETWORK, ROUTER, SUMMARY};
 use crate::links::{after_links, front_link};
-use crate::network::{has_network, network};
 use crate::metrics::{first_record, metric_in};
+use crate::network::{has_network, network};
 use byteorder::{BigEndian, ByteOrder};
 use ospf_types::key::Key;
 use ospf_types::lsa::{External, Header, Link};
@@ -131,7 +131,10 @@ impl Checked {
         if !has_network(self.kind()) {
             return None;
         }
-        network(BigEndian::read_u32(&self.bytes[4..]), BigEndian::read_u32(&self.bytes[20..]))
+        network(
+            BigEndian::read_u32(&self.bytes[4..]),
+            BigEndian::read_u32(&self.bytes[20..]),
+        )
     }
 
     /// The metric of a summary-LSA, or of the first record of an AS-external-LSA (A.4.4, A.4.5).

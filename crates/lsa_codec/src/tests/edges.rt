@@ -7,7 +7,10 @@ fn masks_of_all_zeros_and_all_ones(rt: HostRuntime) -> Result<(), Fail> {
     let bytes = changed(&rt, &SUMMARY, &[(20, 0), (21, 0)])?;
     assert_eq!(rt; read(rt.alloc(), &bytes)?.prefix(), Prefix::new(0, 0));
     let bytes = changed(&rt, &SUMMARY, &[(22, 255), (23, 255)])?;
-    assert_eq!(rt; read(rt.alloc(), &bytes)?.prefix(), Prefix::new(0x0a01_0000, 32));
+    assert_eq!(rt;
+        read(rt.alloc(), &bytes)?.prefix(),
+        Prefix::new(0x0a01_0000, 32)
+    );
     let bytes = changed(&rt, &STUB, &[(28, 0), (29, 0), (30, 0)])?;
     assert_eq!(rt; read(rt.alloc(), &bytes)?.link_count(), 1);
     let bytes = changed(&rt, &STUB, &[(31, 255)])?;

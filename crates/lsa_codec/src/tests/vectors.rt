@@ -14,7 +14,10 @@ fn written(rt: &HostRuntime, bytes: &[u8]) -> Result<Vec<u8>, Fail> {
 #[test]
 fn each_is_written_back(rt: HostRuntime) -> Result<(), Fail> {
     assert_eq!(rt; written(&rt, &SUMMARY)?.as_slice(), SUMMARY.as_slice());
-    assert_eq!(rt; written(&rt, &POINT_TO_POINT)?.as_slice(), POINT_TO_POINT.as_slice());
+    assert_eq!(rt;
+        written(&rt, &POINT_TO_POINT)?.as_slice(),
+        POINT_TO_POINT.as_slice()
+    );
     assert_eq!(rt; written(&rt, &BORDER)?.as_slice(), BORDER.as_slice());
     assert_eq!(rt; written(&rt, &STUB)?.as_slice(), STUB.as_slice());
     assert_eq!(rt; written(&rt, &NETWORK)?.as_slice(), NETWORK.as_slice());
@@ -50,18 +53,58 @@ const HEADER: Header = Header {
 
 #[test]
 fn headers(rt: HostRuntime) -> Result<(), Fail> {
-    assert_eq!(rt; read(rt.alloc(), &POINT_TO_POINT)?.header(), Header { sum: 0xe6e2, ..HEADER });
-    assert_eq!(rt; read(rt.alloc(), &STUB)?.header(), Header { sum: 0xe986, ..HEADER });
-    let second = Header { router: 0x0a00_0002, ..HEADER };
-    let border = Header { id: 0x0a00_0002, sum: 0xdde8, ..second };
+    assert_eq!(rt;
+        read(rt.alloc(), &POINT_TO_POINT)?.header(),
+        Header {
+            sum: 0xe6e2,
+            ..HEADER
+        }
+    );
+    assert_eq!(rt;
+        read(rt.alloc(), &STUB)?.header(),
+        Header {
+            sum: 0xe986,
+            ..HEADER
+        }
+    );
+    let second = Header {
+        router: 0x0a00_0002,
+        ..HEADER
+    };
+    let border = Header {
+        id: 0x0a00_0002,
+        sum: 0xdde8,
+        ..second
+    };
     assert_eq!(rt; read(rt.alloc(), &BORDER)?.header(), border);
-    let boundary = Header { seq: 0x8000_0002, sum: 0xe1e1, ..border };
+    let boundary = Header {
+        seq: 0x8000_0002,
+        sum: 0xe1e1,
+        ..border
+    };
     assert_eq!(rt; read(rt.alloc(), &BOUNDARY)?.header(), boundary);
-    let network = Header { kind: 2, id: 0xc000_0202, sum: 0x0270, length: 32, ..second };
+    let network = Header {
+        kind: 2,
+        id: 0xc000_0202,
+        sum: 0x0270,
+        length: 32,
+        ..second
+    };
     assert_eq!(rt; read(rt.alloc(), &NETWORK)?.header(), network);
-    let summary = Header { kind: 3, id: 0x0a01_0000, sum: 0xda61, length: 28, ..second };
+    let summary = Header {
+        kind: 3,
+        id: 0x0a01_0000,
+        sum: 0xda61,
+        length: 28,
+        ..second
+    };
     assert_eq!(rt; read(rt.alloc(), &SUMMARY)?.header(), summary);
-    let external = Header { kind: 5, id: 0xcb00_7100, sum: 0x0c69, ..second };
+    let external = Header {
+        kind: 5,
+        id: 0xcb00_7100,
+        sum: 0x0c69,
+        ..second
+    };
     assert_eq!(rt; read(rt.alloc(), &EXTERNAL)?.header(), external);
     Ok(())
 }
@@ -69,7 +112,10 @@ fn headers(rt: HostRuntime) -> Result<(), Fail> {
 #[test]
 fn bodies(rt: HostRuntime) -> Result<(), Fail> {
     assert_eq!(rt; read(rt.alloc(), &SUMMARY)?.body(), &SUMMARY[20..]);
-    assert_eq!(rt; read(rt.alloc(), &POINT_TO_POINT)?.body(), &POINT_TO_POINT[20..]);
+    assert_eq!(rt;
+        read(rt.alloc(), &POINT_TO_POINT)?.body(),
+        &POINT_TO_POINT[20..]
+    );
     assert_eq!(rt; read(rt.alloc(), &BORDER)?.body(), &BORDER[20..]);
     assert_eq!(rt; read(rt.alloc(), &STUB)?.body(), &STUB[20..]);
     assert_eq!(rt; read(rt.alloc(), &NETWORK)?.body(), &NETWORK[20..]);

@@ -1,6 +1,4 @@
-use Rattle.std.proofs.Common.{◌≡◌, ℕ, leb, List, Some, length, drop, sym, ap, ◌∙◌, arith}
-use Rattle.std.specs.Prelude.{slice_index}
-use Rattle.byteorder.specs.Endian.{big_number}
+use Rattle.std.proofs.Common.{Some, length, sym, ap, ◌∙◌, arith}
 use Rattle.ospf_types.specs.declared.lsa.External.{External}
 use Rattle.lsa_codec.proofs.Kept.{first_of_bytes, kept_external}
 use Rattle.lsa_codec.proofs.checked.Checked.external.Goals as goal

@@ -1,4 +1,4 @@
-use Rattle.std.proofs.Common.{◌≡◌, ◌≤◌, ℕ, List, Some, length, drop, ap, ◌∙◌, arith}
+use Rattle.std.proofs.Common.{◌≤◌, ℕ, List, Some, length, drop, ap, ◌∙◌, arith}
 use Rattle.byteorder.specs.Endian.{big_number}
 use Rattle.ospf_types.specs.Lsa.{kind_of}
 use Rattle.lsa_codec.proofs.Kept.{kept_metric}
