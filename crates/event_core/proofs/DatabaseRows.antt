@@ -1,12 +1,12 @@
 -- A database kept as LSAs in the order of their keys.
-use Rattle.std.proofs.Common.{◌≡◌, ℕ, ◌+◌, ◌<◌, ◌≤◌, Bool, true, false, cond, T, List, [], ◌∷◌, ◌++◌, length, map, get_or, set, take, drop, Option, Some, None, Ordering, refl, sym, ap, subst, ◌∙◌, arith, inl, inr}
+use Rattle.std.proofs.Common.{◌≡◌, ℕ, ◌+◌, ◌<◌, ◌≤◌, Bool, true, false, cond, T, List, [], ◌∷◌, ◌++◌, length, map, get_or, set, take, drop, Some, None, Ordering, refl, sym, ap, subst, ◌∙◌, arith, inl, inr}
 use Rattle.std.specs.Prelude.{◌&&◌, insert as insert_at, min, Result, Ok, Err, IfOk, IfErr}
 use Rattle.std.specs.List.Sorted.{IsSearchInRange, IsBinarySearchResult, IsNonDecreasingBy}
 use Rattle.std.specs.declared.cmp.Ordering.TheVariants.{Less, Equal, Greater}
 use Rattle.std.specs.Ordering.{eq_by_cmp, is_eq, is_lt, ordering_reverse, ordering_index}
 use Rattle.std.specs.Cmp.{tied_itself, alike_right}
 use Rattle.std.specs.List.{AllByRecursion}
-use Rattle.std.specs.FinMap.{FinMap, entries, values, get, len, insert, empty, find, put, is_sorted, from_sorted, same_entries_map, empty_of_len, entries-from_sorted, entries-insert, get-entries, len-entries}
+use Rattle.std.specs.FinMap.{entries, values, get, len, insert, empty, find, put, is_sorted, from_sorted, same_entries_map, empty_of_len, entries-from_sorted, entries-insert, get-entries, len-entries}
 use Rattle.std.specs.FinMap.Entries.{below_all, is_sorted-put}
 use Rattle.std.proofs.lemmas.Bool.{cases_lt}
 use Rattle.std.proofs.lemmas.List.{map-set, get_or-map, take-map, drop-map, map-append, length-map}
@@ -16,9 +16,8 @@ use Rattle.ospf_types.specs.Keys.{key_cmp}
 use Rattle.ospf_types.specs.Lsa.{Lsa, MaxAge, key_of}
 use Rattle.ospf_types.proofs.Orders.{key_total, key_exact}
 use Rattle.lsa_codec.specs.Spelling.{IsLegal}
-use Rattle.lsa_codec.specs.Readers.{with_age}
 use Rattle.lsa_codec.proofs.Ages.{IsLegal-with_age}
-use Rattle.event_core.specs.Databases.{Database, aged, keyed, all_aged, map_of, AreRows, IsPlace, IsGap, IsKept}
+use Rattle.event_core.specs.Databases.{aged, keyed, all_aged, map_of, AreRows, IsPlace, IsGap, IsKept}
 use Rattle.event_core.proofs.Rows.{reversed, put_at_new, put_at_old, find_at, find_missing, rises}
 
 passes : (b : Bool) → b ≡ true → T b

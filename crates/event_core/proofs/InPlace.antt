@@ -4,7 +4,7 @@ use Rattle.std.specs.Prelude.{◌||◌, ◌↔◌, nat_lt}
 use Rattle.std.proofs.lemmas.Bool.Decides.{nat_tests}
 use Rattle.std.specs.Global.{Vec}
 use Rattle.std.specs.Vec.{with_items}
-use Rattle.std.proofs.lemmas.List.{take_more, take_more_set, map_more, drop-set-lt, drop-drop, get_or-drop, get_or-take, take-take, with_items_is, length-take}
+use Rattle.std.proofs.lemmas.List.{take_more_set, map_more, drop-set-lt, drop-drop, get_or-drop, get_or-take, take-take, with_items_is, length-take}
 use Rattle.std.proofs.lemmas.List.Elements.{All-more, All-take}
 use Rattle.std.proofs.lemmas.List.Sums.{count_by_more_yes, count_by_more_no}
 

@@ -1,5 +1,5 @@
 -- Runs of events, and one event more.
-use Rattle.std.proofs.Common.{◌≡◌, ℕ, ◌+◌, ◌≤◌, List, [], ◌∷◌, ◌++◌, length, take, Option, Some, None, refl, sym, ap, subst, ◌∙◌, arith}
+use Rattle.std.proofs.Common.{◌≡◌, ℕ, List, [], ◌∷◌, ◌++◌, length, Option, Some, None, refl, sym, ap, subst, ◌∙◌, arith}
 use Rattle.std.specs.Prelude.{false, ◌↔◌}
 use Rattle.std.proofs.lemmas.List.{length-append, take-append-le}
 use Rattle.ospf_types.specs.declared.config.Config.{Config}
@@ -12,7 +12,7 @@ use Rattle.event_core.specs.declared.event.Event.TheVariants as event
 use Rattle.event_core.specs.declared.limits.Limits.{Limits}
 use Rattle.event_core.specs.Databases.{Database}
 use Rattle.event_core.specs.States.{State, LooksAlike, place_of, at_place, database_of}
-use Rattle.event_core.specs.Steps.{step, changed_by, with_lsa, refusal_of, run_from, run_of, AreTaken}
+use Rattle.event_core.specs.Steps.{step, with_lsa, refusal_of, run_from, run_of, AreTaken}
 use Rattle.event_core.specs.Tables.{TableValue}
 use Rattle.event_core.specs.Right.{IsRight}
 use Rattle.event_core.specs.declared.event.Reply.{Reply}

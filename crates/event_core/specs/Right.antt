@@ -1,5 +1,5 @@
 -- When a routing table is right for a state (RFC 2328, 11 and 16).
-use Rattle.std.specs.Prelude.{ℕ, ◌≡◌, ◌↔◌, Some, length}
+use Rattle.std.specs.Prelude.{◌≡◌, ◌↔◌, Some, length}
 use Rattle.std.specs.FinMap.{get}
 use Rattle.ospf_types.specs.declared.prefix.Prefix.{Prefix}
 use Rattle.ospf_types.specs.declared.entry.Entry.{Entry}

@@ -10,7 +10,7 @@ use Rattle.ospf_types.specs.declared.key.Key.{Key}
 use Rattle.ospf_types.specs.declared.key.Scope.{Scope}
 use Rattle.ospf_types.specs.declared.key.Scope.TheVariants as scope
 use Rattle.ospf_types.specs.Lsa.{Lsa, Body}
-use Rattle.ospf_types.specs.Inputs.{Inputs, Area}
+use Rattle.ospf_types.specs.Inputs.{Inputs}
 use Rattle.event_core.specs.declared.event.Event.{Event}
 use Rattle.event_core.specs.declared.limits.Limits.{Limits}
 use Rattle.event_core.specs.Databases.{Database, contents_of}

@@ -1,5 +1,5 @@
 -- One event: the first refusal that holds, or what it does to the state; and runs of events (RFC 2328, 13.2 and 14).
-use Rattle.std.specs.Prelude.{ℕ, ◌==◌, ◌&&◌, ◌||◌, ◌≡◌, not, Bool, true, false, nat_le, List, [], ◌∷◌, ◌++◌, map, length, Option, Some, None, is_none, option_and_then, if◌then◌else◌}
+use Rattle.std.specs.Prelude.{ℕ, ◌==◌, ◌&&◌, ◌≡◌, not, Bool, true, false, nat_le, List, [], ◌∷◌, ◌++◌, map, length, Option, Some, None, is_none, option_and_then, if◌then◌else◌}
 use Rattle.std.specs.List.{list_all, list_any}
 use Rattle.std.specs.FinMap.{entries, get, insert, len, empty}
 use Rattle.ospf_types.specs.declared.config.Config.{Config}
@@ -12,7 +12,7 @@ use Rattle.ospf_types.specs.declared.lsa.LinkKind.TheVariants as kind
 use Rattle.ospf_types.specs.declared.lsa.Newer.{Newer}
 use Rattle.ospf_types.specs.declared.lsa.Newer.TheVariants as newer
 use Rattle.ospf_types.specs.Instances.{newer_of}
-use Rattle.ospf_types.specs.Lsa.{Lsa, Body, RouterLink, RouterLinks, NetworkLinks, NetworkSummary, BoundarySummary, AsExternal, key_of}
+use Rattle.ospf_types.specs.Lsa.{Lsa, Body, RouterLinks, NetworkLinks, NetworkSummary, BoundarySummary, AsExternal, key_of}
 use Rattle.event_core.specs.declared.event.Event.{Event}
 use Rattle.event_core.specs.declared.event.Event.TheVariants as event
 use Rattle.event_core.specs.declared.limits.Limits.{Limits}

@@ -1,4 +1,4 @@
-use Rattle.std.proofs.Common.{◌≡◌, ◌≤◌, ◌++◌, map, take, drop, count_by}
+use Rattle.std.proofs.Common.{◌≡◌, ◌≤◌, map, take, drop, count_by}
 use Rattle.event_core.specs.Databases.{aged, comes_to_max_age}
 use Rattle.event_core.proofs.database.age_rows.Given as goal
 

@@ -1,9 +1,7 @@
-use Rattle.std.proofs.Common.{◌≡◌, Option, Some, None, sym, ◌∙◌, ap, rules}
-use Rattle.std.specs.Ordering.{nat_cmp}
+use Rattle.std.proofs.Common.{◌≡◌, Some, None, sym, ◌∙◌, rules}
 use Rattle.std.specs.Cmp.{nat_cmp_total}
 use Rattle.std.specs.FinMap.{get}
 use Rattle.std.proofs.lemmas.Map.Lookups.{exact_unsigned}
-use Rattle.ospf_types.specs.declared.config.Interface.{Interface}
 use Rattle.event_core.specs.States.{interfaces_of}
 use Rattle.event_core.proofs.Maps.{from_entries-insert, get-lookup}
 use Rattle.event_core.proofs.state.put_interface.Goals as goal

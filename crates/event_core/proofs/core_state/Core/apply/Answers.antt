@@ -1,4 +1,4 @@
-use Rattle.std.proofs.Common.{◌≡◌, length, ap, subst, sym, ◌∙◌}
+use Rattle.std.proofs.Common.{length, ap, subst, sym, ◌∙◌}
 use Rattle.event_core.specs.declared.event.Reply.{Reply}
 use Rattle.event_core.specs.States.{State}
 use Rattle.event_core.specs.Cores.{CoreValue, Takes}

@@ -1,5 +1,4 @@
-use Rattle.std.proofs.Common.{◌≡◌, ap, subst, sym, ◌∙◌, None}
-use Rattle.ospf_types.specs.declared.config.Config.{Config}
+use Rattle.std.proofs.Common.{ap, subst, sym}
 use Rattle.event_core.specs.States.{State}
 use Rattle.event_core.specs.Configs.{HasNoRanges}
 use Rattle.event_core.proofs.Configs.{sound_apart, sound_ranges}

@@ -1,4 +1,4 @@
-use Rattle.event_core.proofs.DatabaseRows.{map_of_nil, empty_rows}
+use Rattle.event_core.proofs.DatabaseRows.{map_of_nil}
 use Rattle.std.proofs.Common.{ap, ◌∙◌}
 use Rattle.event_core.specs.Databases.{map_of}
 use Rattle.event_core.proofs.database.Database.new.Goals as goal
