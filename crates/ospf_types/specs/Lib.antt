@@ -1,3 +1,4 @@
+pub mod FirstOf
 pub mod Network
 pub mod Masks
 pub mod Address

@@ -1,6 +1,24 @@
 /// The age at which an LSA is no longer used, in seconds (RFC 2328, appendix B).
 pub const MAX_AGE: u16 = 3600;
 
+/// The metric of an unreachable destination (RFC 2328, appendix B).
+pub const LS_INFINITY: u32 = 0xff_ffff;
+
+/// The LS type of router-LSAs (RFC 2328, A.4.2).
+pub const ROUTER_LSA: u8 = 1;
+
+/// The LS type of network-LSAs (RFC 2328, A.4.3).
+pub const NETWORK_LSA: u8 = 2;
+
+/// The LS type of summary-LSAs for networks (RFC 2328, A.4.4).
+pub const SUMMARY_LSA: u8 = 3;
+
+/// The LS type of summary-LSAs for AS boundary routers (RFC 2328, A.4.4).
+pub const BOUNDARY_SUMMARY_LSA: u8 = 4;
+
+/// The LS type of AS-external-LSAs (RFC 2328, A.4.5).
+pub const AS_EXTERNAL_LSA: u8 = 5;
+
 /// The header of a link-state advertisement (RFC 2328, A.4.1).
 #[derive(Clone, Copy, Debug, PartialEq, Eq, Hash)]
 pub struct Header {
