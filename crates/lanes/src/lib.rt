@@ -3,6 +3,7 @@
 #![tactic(auto)]
 
 mod ages;
+mod lane;
 mod rows;
 
 pub use ages::second;
