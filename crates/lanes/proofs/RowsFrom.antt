@@ -1,5 +1,5 @@
 -- The rows of a column that pass a test, a piece of the column after another.
-use Rattle.std.proofs.Common.{◌≡◌, ℕ, ◌+◌, ◌<◌, ◌≤◌, Bool, true, false, suc, cond, List, [], ◌∷◌, ◌++◌, length, map, get_or, take, drop, filter, All, refl, sym, ap, ◌∙◌, add-zero, add_assoc, arith, append_assoc, length-append}
+use Rattle.std.proofs.Common.{◌≡◌, ℕ, ◌+◌, ◌<◌, ◌≤◌, Bool, true, false, suc, cond, List, [], ◌∷◌, ◌++◌, length, map, get_or, take, drop, filter, All, refl, sym, ap, ◌∙◌, add-zero, arith, append_assoc, length-append}
 use Rattle.std.proofs.lemmas.List.{take_more, length-take-le, append-nil, take-take, drop-drop, get_or-drop}
 use Rattle.std.proofs.lemmas.List.Elements.{All-cons}
 use Rattle.std.proofs.Math.Seq.{take-append_seam, take-add, take-length}

@@ -1,6 +1,5 @@
 -- One vector of a column.
-use Rattle.std.proofs.Common.{◌≡◌, ℕ, ◌+◌, ◌-◌, ◌%◌, ◌^◌, ◌<◌, ◌≤◌, Bool, true, false, not, suc, cond, ltb, eqb, nat_eq, List, [], ◌∷◌, ◌++◌, length, map, get_or, take, drop, count_by, All, refl, sym, ap, ◌∙◌, arith, w16, replicate}
-use Rattle.std.specs.Prelude.{min}
+use Rattle.std.proofs.Common.{◌≡◌, ℕ, ◌+◌, ◌-◌, ◌%◌, ◌^◌, ◌≤◌, Bool, true, false, not, suc, cond, ltb, eqb, nat_eq, List, [], ◌∷◌, length, map, get_or, take, count_by, All, refl, sym, ap, ◌∙◌, arith, w16, replicate}
 use Rattle.std.specs.Bool.{OnFalse}
 use Rattle.std.proofs.lemmas.Bool.Decides.{nat_tests}
 use Rattle.std.proofs.lemmas.List.{length-map}
@@ -51,9 +50,9 @@ module _ (xs next : List ℕ) (full : length xs ≡ 32) (is : next ≡ map (λ a
   pub lanes_aged : put_chunk 0 xs (sel_l (map (top (hbits w16)) (zip2 (λ a b. cond (ltb a b) (2 ^ bits w16 - 1) 0) next (replicate 32 3600))) next (replicate 32 3600)) ≡ map next_age xs
   lanes_aged =
       let least = ap (λ (ms : List Bool). sel_l ms next (replicate 32 3600)) (tops_compared w16 ltb next (replicate 32 3600) ∙ zip2_splat ltb next 32 3600 full_next)
-            ∙ ap (λ (n : ℕ). sel_l (map (λ x. ltb x 3600) next) next (replicate n 3600)) (sym full_next) ∙ least_of_lanes 3600 next
-            ∙ ap (map (λ x. cond (ltb x 3600) x 3600)) is ∙ map-map (λ x. cond (ltb x 3600) x 3600) (λ age. age + 1) xs
-            ∙ map_same (λ age. cond (ltb (age + 1) 3600) (age + 1) 3600) next_age xs (λ k d lt. least_is (get_or xs k d)) in
+      ∙ ap (λ (n : ℕ). sel_l (map (λ x. ltb x 3600) next) next (replicate n 3600)) (sym full_next) ∙ least_of_lanes 3600 next
+      ∙ ap (map (λ x. cond (ltb x 3600) x 3600)) is ∙ map-map (λ x. cond (ltb x 3600) x 3600) (λ age. age + 1) xs
+      ∙ map_same (λ age. cond (ltb (age + 1) 3600) (age + 1) 3600) next_age xs (λ k d lt. least_is (get_or xs k d)) in
       ap (put_chunk 0 xs) least ∙ put_chunk_whole xs (map next_age xs) (sym (length-map xs next_age))
 
   pub lanes_counted : ones (mask_l (map (top (hbits w16)) (zip2 (λ a b. cond (eqb a b) (2 ^ bits w16 - 1) 0) next (replicate 32 3600))) % 2 ^ 64) ≡ count_by comes_to_max_age xs

@@ -1,4 +1,4 @@
-use Rattle.std.proofs.Common.{◌≡◌, ℕ, ◌+◌, ◌-◌, ◌<◌, ◌≤◌, length, take, ap, sym, ◌∙◌, arith}
+use Rattle.std.proofs.Common.{◌+◌, ◌-◌, length, take, ap, arith}
 use Rattle.std.proofs.lemmas.List.{length-map, length-take, length-take-le}
 use Rattle.std.proofs.lemmas.List.Sums.{count_by-le-length}
 use borrow.Rule.Slice.PartMut.{put_mid}

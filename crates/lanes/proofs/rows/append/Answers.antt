@@ -1,5 +1,4 @@
-use Rattle.std.proofs.Common.{◌≡◌, ◌+◌, ◌-◌, ◌++◌, Bool, true, false, length, List, All, ap, sym, ◌∙◌, arith}
-use Rattle.std.specs.Bool.{OnFalse}
+use Rattle.std.proofs.Common.{◌+◌, ◌-◌, ◌++◌, length, ap, sym, ◌∙◌, arith}
 use Rattle.std.proofs.lemmas.List.{append-nil}
 use Rattle.std.proofs.lemmas.Result.{on_err_weaker, on_ok_weaker}
 use Rattle.lanes.proofs.RowsFrom.{joined, joined_last, rows_from_none, kept_further, on_err_any}
@@ -18,12 +17,12 @@ loop-first-preserved g c =
     record {
       within = omega arith;
       so_far = joined (λ x. g.T.PartialEq.eq x c.args.value) c.args.column.now first (first + 32 - first) (first + 32) c.args.rows.now.items before c.if-is_among.rows.items c.loop-first.invariant.within (omega arith) c.loop-first.invariant.so_far
-        (elim c.if-is_among.branch [
-          | then-is_among+in_ok-append_one_by_one w ↦ rw w.rows-is w.in_ok-append_one_by_one.ensures.found
-          | else-is_among w ↦
-              let none = rw w.if-is_among.false at c.is_among.ensures in
-              rw w.rows-is (sym (append-nil before) ∙ ap (λ rows. before ++ rows) (sym (rows_from_none (λ x. g.T.PartialEq.eq x c.args.value) first _ none)))
-        ]);
+          (elim c.if-is_among.branch [
+            | then-is_among+in_ok-append_one_by_one w ↦ rw w.rows-is w.in_ok-append_one_by_one.ensures.found
+            | else-is_among w ↦
+                let none = rw w.if-is_among.false at c.is_among.ensures in
+                rw w.rows-is (sym (append-nil before) ∙ ap (λ rows. before ++ rows) (sym (rows_from_none (λ x. g.T.PartialEq.eq x c.args.value) first _ none)))
+          ]);
     }
 
 pub returns-clause-found : goal.returns-clause-found
