@@ -1,6 +1,5 @@
 -- The derived orders of keys, scopes and networks are those that the definitions state.
 use Rattle.std.proofs.Common.{◌≡◌, Ordering, refl, sym, subst}
-use Rattle.std.specs.declared.cmp.Ordering.TheVariants.{Less, Equal, Greater}
 use Rattle.std.proofs.lemmas.Map.Lookups.{CmpEqualImpliesEq}
 use Rattle.ospf_types.specs.declared.key.Scope.{Scope}
 use Rattle.ospf_types.specs.declared.key.Scope.TheVariants.{Area, As}
