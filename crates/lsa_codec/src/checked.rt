@@ -8,7 +8,9 @@ use crate::links::{after_links, front_link};
 use crate::metrics::{first_record, metric_in};
 use byteorder::{BigEndian, ByteOrder};
 use ospf_types::key::Key;
-use ospf_types::lsa::{AS_EXTERNAL_LSA, External, Header, Link, NETWORK_LSA, ROUTER_LSA, SUMMARY_LSA};
+use ospf_types::lsa::{
+    AS_EXTERNAL_LSA, External, Header, Link, NETWORK_LSA, ROUTER_LSA, SUMMARY_LSA,
+};
 use ospf_types::memory::Memory;
 use ospf_types::prefix::Prefix;
 use std::alloc::Global;
