@@ -18,7 +18,7 @@ use Rattle.ospf_types.specs.Links.{Label, IsLink, IsVertex}
 use Rattle.ospf_types.specs.Keys.{key_cmp}
 use Rattle.ospf_types.specs.Lsa.{Body, RouterLink, RouterLinks}
 use Rattle.ospf_types.specs.External.{NoExternal}
-use Rattle.ospf_types.specs.Ranges.{IsSummarized}
+use Rattle.ospf_types.specs.Ranges.{IsActivePrefix}
 use Rattle.ospf_types.proofs.Elements.{no_element, mapped_from}
 use Rattle.ospf_types.proofs.NoLinks.{no_hop}
 use Rattle.event_core.specs.Databases.{Database}
@@ -76,7 +76,7 @@ module _ (s : State) (held : IsHeld s.config s.databases s.externals) where
       let e : get s.externals k.0 ≡ None = ap (λ (d : Database). get d k.0) held.none ∙ get-empty key_cmp k.0 in
       absurd (cc (sym e ∙ k.1))
 
-  pub no_range : HasNoRanges s.config → (p : Prefix) → IsSummarized (inputs_of s) p → ⊥
+  pub no_range : HasNoRanges s.config → (p : Prefix) → IsActivePrefix (inputs_of s) p → ⊥
   no_range none p w =
       let c = area_is w.0 w.2.area in
       let ranges : w.0.ranges ≡ [] = ap (λ (a : Area). a.ranges) (sym c.2) ∙ All-contains (λ (a : AreaConfig). a.ranges ≡ []) s.config.areas c.0 none c.1 in

@@ -4,7 +4,8 @@ use Rattle.lsa_codec.specs.declared.findings.Findings.{Findings}
 use Rattle.lsa_codec.specs.declared.fault.WireFault.{WireFault}
 use Rattle.lsa_codec.specs.declared.fault.WireFault.TheVariants.{Length, Checksum, Age, Sequence, Kind, Reserved, Mask, RouterId, LinkType, Shape}
 use Rattle.lsa_codec.specs.Checksum.{is_sound}
-use Rattle.lsa_codec.specs.Faults.{first_of, is_wrong_length, age_field, sequence_field, kind_field, id_field, router_field, is_unknown_kind, is_other_router, found_in, body_fault_of, fault_of}
+use Rattle.ospf_types.specs.FirstOf.{first_of}
+use Rattle.lsa_codec.specs.Faults.{is_wrong_length, age_field, sequence_field, kind_field, id_field, router_field, is_unknown_kind, is_other_router, found_in, body_fault_of, fault_of}
 
 here : (test : Bool) (fault : WireFault) (tests : List (Bool × WireFault)) → test ≡ true → first_of ((test, fault) ∷ tests) ≡ Some fault
 here true fault tests e = refl

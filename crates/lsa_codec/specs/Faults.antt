@@ -1,16 +1,14 @@
 -- Why bytes are refused: the first that holds of a list of tests.
-use Rattle.std.specs.Prelude.{ℕ, zero, suc, ◌+◌, ◌*◌, ◌-◌, ◌^◌, ◌/◌, ◌%◌, ◌==◌, Bool, true, false, ◌&&◌, ◌||◌, not, nat_lt, nat_le, if◌then◌else◌, List, [], ◌∷◌, length, drop, slice_index, Option, Some, None}
+use Rattle.std.specs.Prelude.{ℕ, zero, suc, ◌+◌, ◌*◌, ◌-◌, ◌^◌, ◌/◌, ◌%◌, ◌==◌, Bool, true, false, ◌&&◌, ◌||◌, not, nat_lt, nat_le, if◌then◌else◌, List, [], ◌∷◌, length, drop, slice_index, Option}
 use Rattle.std.specs.List.{list_any}
 use Rattle.byteorder.specs.Endian.{big_number}
+use Rattle.ospf_types.specs.FirstOf.{first_of}
+use Rattle.ospf_types.specs.Lsa.{MaxAge}
 use Rattle.ospf_types.specs.Masks.{mask_length}
 use Rattle.lsa_codec.specs.Checksum.{is_sound}
 use Rattle.lsa_codec.specs.declared.findings.Findings.{Findings}
 use Rattle.lsa_codec.specs.declared.fault.WireFault.{WireFault}
 use Rattle.lsa_codec.specs.declared.fault.WireFault.TheVariants.{Length, Checksum, Age, Sequence, Kind, Reserved, Mask, RouterId, LinkType, Shape}
-
-abbrev pub first_of : List (Bool × WireFault) → Option WireFault
-first_of [] = None
-first_of (test ∷ tests) = if test.0 then Some test.1 else first_of tests
 
 -- ---- the header (A.4.1)
 
@@ -224,7 +222,7 @@ unfoldable pub fault_of : List ℕ → Option WireFault
 fault_of bytes = first_of (
     (is_wrong_length bytes, Length)
     ∷ (not (is_sound bytes), Checksum)
-    ∷ (nat_lt 3600 (age_field bytes), Age)
+    ∷ (nat_lt MaxAge (age_field bytes), Age)
     ∷ (sequence_field bytes == 0x8000_0000, Sequence)
     ∷ (is_unknown_kind (kind_field bytes), Kind)
     ∷ body_tests bytes)

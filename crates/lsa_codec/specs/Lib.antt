@@ -1,6 +1,7 @@
 pub mod Spelling
 pub mod Checksum
 pub mod Faults
+pub mod Text
 pub mod Decoding
 pub mod Readers
 pub mod Kept

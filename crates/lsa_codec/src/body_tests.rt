@@ -4,20 +4,20 @@ ghost use Rattle.std.specs.Prelude.{◌≡◌};
 ghost use Rattle.lsa_codec.specs.Faults.{router_findings as findings_of_router, network_findings as findings_of_network, summary_findings as findings_of_summary, boundary_findings as findings_of_boundary, external_findings as findings_of_external, findings_of};
 
 use crate::findings::{CUT, Findings};
-use crate::kinds::{BOUNDARY, NETWORK, ROUTER, SUMMARY};
 use crate::links::links_findings;
 use crate::mask::is_mask;
 use byteorder::{BigEndian, ByteOrder};
+use ospf_types::lsa::{BOUNDARY_SUMMARY_LSA, NETWORK_LSA, ROUTER_LSA, SUMMARY_LSA};
 
 /// What is wrong with the body, where the LS type is 1 to 5.
 pub(crate) fn body_findings(kind: u8, body: &[u8]) -> Findings
     ensures { result ≡ findings_of kind body.now }
 {
     match kind {
-        ROUTER => router_findings(body),
-        NETWORK => network_findings(body),
-        SUMMARY => summary_findings(body),
-        BOUNDARY => boundary_findings(body),
+        ROUTER_LSA => router_findings(body),
+        NETWORK_LSA => network_findings(body),
+        SUMMARY_LSA => summary_findings(body),
+        BOUNDARY_SUMMARY_LSA => boundary_findings(body),
         _ => external_findings(body),
     }
 }

@@ -1,16 +1,16 @@
-ghost use Rattle.std.specs.Prelude.{◌≡◌, ◌≤◌, ◌↔◌, IsTrue, length, IfOk};
-ghost use Rattle.ospf_types.specs.Lsa.{key_of, kind_of};
+ghost use Rattle.std.specs.Prelude.{◌≡◌, ◌≤◌, ◌↔◌, ◌==◌, ◌||◌, IsTrue, length, IfOk};
+ghost use Rattle.ospf_types.specs.Lsa.{MaxAge, key_of, kind_of};
 ghost use Rattle.lsa_codec.specs.Spelling.{IsLegal, body_bytes};
 ghost use Rattle.lsa_codec.specs.Readers.{flags_of, links_of, link_at, listed_at, prefix_of, metric_of, external_of, with_age};
 
 use crate::header::header_in;
-use crate::kinds::{EXTERNAL, NETWORK, ROUTER, SUMMARY};
 use crate::links::{after_links, front_link};
 use crate::metrics::{first_record, metric_in};
-use crate::network::{has_network, network};
 use byteorder::{BigEndian, ByteOrder};
 use ospf_types::key::Key;
-use ospf_types::lsa::{External, Header, Link};
+use ospf_types::lsa::{
+    AS_EXTERNAL_LSA, External, Header, Link, NETWORK_LSA, ROUTER_LSA, SUMMARY_LSA,
+};
 use ospf_types::memory::Memory;
 use ospf_types::prefix::Prefix;
 use std::alloc::Global;
@@ -75,7 +75,7 @@ impl Checked {
     pub fn flags(&self) -> Option<u8>
         ensures { result ≡ flags_of self.now.body }
     {
-        if self.kind() != ROUTER {
+        if self.kind() != ROUTER_LSA {
             return None;
         }
         Some(self.bytes[20])
@@ -85,7 +85,7 @@ impl Checked {
     pub fn link_count(&self) -> usize
         ensures { result ≡ length (links_of self.now.body) }
     {
-        if self.kind() != ROUTER {
+        if self.kind() != ROUTER_LSA {
             return 0;
         }
         usize::from(BigEndian::read_u16(&self.bytes[22..]))
@@ -113,7 +113,7 @@ impl Checked {
     pub fn listed(&self, n: usize) -> Option<u32>
         ensures { result ≡ listed_at self.now.body n }
     {
-        if self.kind() != NETWORK {
+        if self.kind() != NETWORK_LSA {
             return None;
         }
         let routers = &self.bytes[24..];
@@ -131,17 +131,17 @@ impl Checked {
         if !has_network(self.kind()) {
             return None;
         }
-        network(
+        Some(Prefix::of_mask(
             BigEndian::read_u32(&self.bytes[4..]),
             BigEndian::read_u32(&self.bytes[20..]),
-        )
+        ))
     }
 
     /// The metric of a summary-LSA, or of the first record of an AS-external-LSA (A.4.4, A.4.5).
     pub fn metric(&self) -> Option<u32>
         ensures { result ≡ metric_of self.now.body }
     {
-        if self.kind() < SUMMARY {
+        if self.kind() < SUMMARY_LSA {
             return None;
         }
         Some(metric_in(&self.bytes))
@@ -151,7 +151,7 @@ impl Checked {
     pub fn external(&self) -> Option<External>
         ensures { result ≡ external_of self.now.body }
     {
-        if self.kind() != EXTERNAL {
+        if self.kind() != AS_EXTERNAL_LSA {
             return None;
         }
         Some(first_record(&self.bytes))
@@ -166,7 +166,7 @@ impl Checked {
 
     /// Sets the age, in seconds. The checksum does not cover it.
     pub fn set_age(&mut self, age: u16)
-        requires { age ≤ 3600 }
+        requires { age ≤ MaxAge }
         ensures { self.new ≡ with_age self.old age }
     {
         BigEndian::write_u16(&mut self.bytes, age);
@@ -180,4 +180,11 @@ impl Checked {
             bytes: Vec::from_slice(alloc, &self.bytes)?,
         })
     }
+}
+
+/// Whether LSAs of the LS type are about a network.
+fn has_network(kind: u8) -> bool
+    ensures { result ≡ ((kind == 2) || (kind == 3) || (kind == 5)) }
+{
+    kind == NETWORK_LSA || kind == SUMMARY_LSA || kind == AS_EXTERNAL_LSA
 }

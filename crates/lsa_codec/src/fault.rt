@@ -1,48 +1,62 @@
-ghost use Rattle.std.specs.Prelude.{◌≡◌};
+ghost use Rattle.std.specs.Prelude.{◌≡◌, Some};
+ghost use Rattle.lsa_codec.specs.Text.{wire_fault_text};
 
 use std::alloc::AllocError;
-use thiserror::Error;
+use std::error::Error;
+use std::fmt;
 
 /// Why bytes are no link-state advertisement: the first of these, in this order, that holds. `Memory`
 /// says nothing of the bytes.
-#[derive(Clone, Copy, Debug, PartialEq, Eq, Error)]
+#[derive(Clone, Copy, Debug, PartialEq, Eq)]
 pub enum WireFault {
     /// Fewer than 20 bytes, or the length field is not the number of bytes.
-    #[error("1 Length")]
     Length,
     /// The checksum does not fit the bytes, or is zero (RFC 2328, 12.1.7).
-    #[error("2 Checksum")]
     Checksum,
     /// The LS age is above MaxAge, 3600 seconds (12.1.1).
-    #[error("3 Age")]
     Age,
     /// The sequence number is the reserved 0x80000000 (12.1.6).
-    #[error("4 Sequence")]
     Sequence,
     /// The LS type is not 1 to 5 (A.4.1).
-    #[error("5 Kind")]
     Kind,
     /// A byte that is reserved is not zero, or the first record of an AS-external-LSA has a TOS (A.4.2,
     /// A.4.4, A.4.5).
-    #[error("6 Reserved")]
     Reserved,
     /// The mask, or a stub link's Link Data, is not ones and then zeros, or the mask of a summary-LSA for
     /// an AS boundary router is not zero (A.4.2 to A.4.5).
-    #[error("7 Mask")]
     Mask,
     /// The Link State ID of a router-LSA is not its Advertising Router (12.1.4).
-    #[error("8 RouterId")]
     RouterId,
     /// A link's type is not 1 to 4 (A.4.2).
-    #[error("9 LinkType")]
     LinkType,
     /// The body is cut off, has fewer links than it counts or no external record, or has bytes left over.
-    #[error("10 Shape")]
     Shape,
     /// A growth was refused.
-    #[error("30 Memory")]
     Memory,
 }
+
+/// The number and the name, as `2 Checksum`.
+impl fmt::Display for WireFault {
+    ghost output = { λ fault. Some (wire_fault_text fault) };
+
+    fn fmt<W: fmt::Write>(&self, f: &mut fmt::Formatter<W>) -> fmt::Result {
+        f.write_str(match self {
+            WireFault::Length => "1 Length",
+            WireFault::Checksum => "2 Checksum",
+            WireFault::Age => "3 Age",
+            WireFault::Sequence => "4 Sequence",
+            WireFault::Kind => "5 Kind",
+            WireFault::Reserved => "6 Reserved",
+            WireFault::Mask => "7 Mask",
+            WireFault::RouterId => "8 RouterId",
+            WireFault::LinkType => "9 LinkType",
+            WireFault::Shape => "10 Shape",
+            WireFault::Memory => "30 Memory",
+        })
+    }
+}
+
+impl Error for WireFault {}
 
 impl From<AllocError> for WireFault {
     ghost use Rattle.lsa_codec.specs.declared.fault.WireFault.TheVariants.{Memory};

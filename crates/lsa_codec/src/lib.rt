@@ -8,11 +8,9 @@ mod checksum;
 mod fault;
 mod findings;
 mod header;
-mod kinds;
 mod links;
 mod mask;
 mod metrics;
-mod network;
 mod reading;
 mod writing;
 

@@ -9,12 +9,8 @@ use crate::checked::Checked;
 use crate::checksum::is_sound;
 use crate::fault::WireFault;
 use crate::header::{HEADER, header_in, is_wrong_length};
-use crate::kinds::{EXTERNAL, ROUTER};
-use ospf_types::lsa::Header;
+use ospf_types::lsa::{AS_EXTERNAL_LSA, Header, MAX_AGE, ROUTER_LSA};
 use std::alloc::Global;
-
-/// MaxAge (RFC 2328, appendix B), in seconds.
-const MAX_AGE: u16 = 3600;
 
 /// The sequence number that no instance has (12.1.6).
 const RESERVED_SEQUENCE: u32 = 0x8000_0000;
@@ -23,14 +19,14 @@ const RESERVED_SEQUENCE: u32 = 0x8000_0000;
 fn is_unknown_kind(kind: u8) -> bool
     ensures { result ≡ is_unknown_kind_test kind }
 {
-    kind < ROUTER || kind > EXTERNAL
+    kind < ROUTER_LSA || kind > AS_EXTERNAL_LSA
 }
 
 /// Whether a router-LSA's Link State ID is not its Advertising Router (12.1.4).
 fn is_other_router(header: &Header) -> bool
     ensures { result ≡ is_other_router_test header.now.kind header.now.id header.now.router }
 {
-    header.kind == ROUTER && header.id != header.router
+    header.kind == ROUTER_LSA && header.id != header.router
 }
 
 /// The first fault past the LS type.

@@ -1,4 +1,4 @@
--- The orders of networks, keys, costs in areas, next hops and paths are total, and only equal values tie.
+-- The orders of networks, keys, scopes, costs in areas, next hops and paths are total, and only equal values tie.
 use Rattle.std.proofs.Common.{◌≡◌, ℕ, Option, Some, None, sym, ap, arith}
 use Rattle.std.specs.Ordering.{nat_cmp, ordering_then}
 use Rattle.std.specs.Cmp.{IsTotalOrder, nat_cmp_total}
@@ -8,8 +8,10 @@ use Rattle.ospf_types.specs.declared.hop.NextHop.{NextHop}
 use Rattle.ospf_types.specs.declared.hop.NextHop.TheVariants.{Direct, Peer, Router}
 use Rattle.ospf_types.specs.declared.hop.Path.{Path}
 use Rattle.ospf_types.specs.declared.key.Key.{Key}
+use Rattle.ospf_types.specs.declared.key.Scope.{Scope}
+use Rattle.ospf_types.specs.declared.key.Scope.TheVariants.{Area, As}
 use Rattle.ospf_types.specs.Network.{Network, network_cmp}
-use Rattle.ospf_types.specs.Keys.{key_cmp}
+use Rattle.ospf_types.specs.Keys.{key_cmp, scope_rank, scope_cmp}
 use Rattle.ospf_types.specs.Intra.{area_cost_cmp}
 use Rattle.ospf_types.specs.Hops.{hop_rank, hop_cmp, advertiser_rank, advertiser_cmp, path_cmp}
 
@@ -26,6 +28,21 @@ pub key_exact : CmpEqualImpliesEq key_cmp
 key_exact a b h =
     ap (λ (p : ℕ × (ℕ × ℕ)). let k : Key = record { kind = p.0; id = p.1.0; router = p.1.1 } in k)
     (exact_pairs nat_cmp (λ (x y : ℕ × ℕ). ordering_then (nat_cmp x.0 y.0) (nat_cmp x.1 y.1)) exact_unsigned (exact_pairs nat_cmp nat_cmp exact_unsigned exact_unsigned) (a.kind, (a.id, a.router)) (b.kind, (b.id, b.router)) h)
+
+pub scope_total : IsTotalOrder scope_cmp
+scope_total = then_total (on_total (λ s. (scope_rank s).0) nat_cmp_total) (on_total (λ s. (scope_rank s).1) nat_cmp_total)
+
+-- scopes of one rank are one
+same_scope : (x y : Scope) → (scope_rank x).0 ≡ (scope_rank y).0 → (scope_rank x).1 ≡ (scope_rank y).1 → x ≡ y
+same_scope (Area a) (Area b) kind id = ap Area id
+same_scope (Area a) As kind id = absurd (omega arith)
+same_scope As (Area b) kind id = absurd (omega arith)
+same_scope As As kind id = λ _. As
+
+pub scope_exact : CmpEqualImpliesEq scope_cmp
+scope_exact x y h =
+    let e = exact_pairs nat_cmp nat_cmp exact_unsigned exact_unsigned (scope_rank x) (scope_rank y) h in
+    same_scope x y (ap (λ (p : ℕ × ℕ). p.0) e) (ap (λ (p : ℕ × ℕ). p.1) e)
 
 pub area_cost_total : IsTotalOrder area_cost_cmp
 area_cost_total = then_total (on_total (λ k. k.0) nat_cmp_total) (on_total (λ k. k.1) (back_total nat_cmp_total))

@@ -75,12 +75,12 @@ abbrev pub area_cost_cmp : AreaCost → AreaCost → Ordering
 area_cost_cmp x y = ordering_then (nat_cmp x.0 y.0) (nat_cmp y.1 x.1)
 
 abbrev pub IntraOffers : Inputs → Prefix → AreaCost → Path → Type 0
-IntraOffers s p key path = (a : Area) × Contains s.areas a × (a.id ≡ key.1)
-    × (TransitOffers s a p key.0 path ⊎ StubOffers s a p key.0 path ⊎ OwnStubOffers s a p key.0 path)
+IntraOffers s p preference path = (a : Area) × Contains s.areas a × (a.id ≡ preference.1)
+    × (TransitOffers s a p preference.0 path ⊎ StubOffers s a p preference.0 path ⊎ OwnStubOffers s a p preference.0 path)
 
 -- the entry of an intra-area network
 abbrev pub IsIntra : Inputs → Prefix → AreaCost → List Path → Type 0
-IsIntra s p key paths = IsBest area_cost_cmp (IntraOffers s p) key paths
+IsIntra s p preference paths = IsBest area_cost_cmp (IntraOffers s p) preference paths
 
 abbrev pub NoIntra : Inputs → Prefix → Type 0
 NoIntra s p = NoOffer (IntraOffers s p)

@@ -9,7 +9,7 @@ use Rattle.ospf_types.specs.declared.entry.PathType.TheVariants.{Intra, Inter, E
 use Rattle.ospf_types.specs.Hops.{path_cmp}
 use Rattle.ospf_types.specs.Inputs.{Inputs, Area}
 use Rattle.ospf_types.specs.Intra.{AreaCost, IsIntra, NoIntra}
-use Rattle.ospf_types.specs.Ranges.{IsSummarized, IsExamined}
+use Rattle.ospf_types.specs.Ranges.{IsActivePrefix, IsExamined}
 use Rattle.ospf_types.specs.Inter.{IsInter, NoInter}
 use Rattle.ospf_types.specs.External.{ExternalPreference, IsExternal, NoExternal}
 
@@ -22,9 +22,9 @@ entry_of kind area cost cost2 paths = record { kind = kind; area = area; cost = 
 -- the entry is the network's: intra-area, else inter-area, else external
 abbrev pub IsBestEntry : Inputs → Prefix → Entry → Type 0
 IsBestEntry s p e =
-    ((key : AreaCost) × IsIntra s p key e.paths × (e ≡ entry_of Intra (Some key.1) key.0 0 e.paths))
+    ((preference : AreaCost) × IsIntra s p preference e.paths × (e ≡ entry_of Intra (Some preference.1) preference.0 0 e.paths))
     ⊎ ((cost : ℕ) × (a : Area) × IsInter s p cost e.paths × IsExamined s a × (e ≡ entry_of Inter (Some a.id) cost 0 e.paths))
-    ⊎ ((key : ExternalPreference) × IsExternal s p key e.paths × (e ≡ entry_of (external_type key.kind) None key.cost key.metric e.paths))
+    ⊎ ((preference : ExternalPreference) × IsExternal s p preference e.paths × (e ≡ entry_of (external_type preference.kind) None preference.cost preference.metric e.paths))
 
 -- the network's entry, its paths in order and each once
 pub record IsEntry (s : Inputs) (p : Prefix) (e : Entry) : Type 0 where
@@ -36,4 +36,4 @@ NoEntry s p = NoIntra s p × NoInter s p × NoExternal s p
 
 -- an active range whose prefix has no entry
 abbrev pub IsDiscard : Inputs → Prefix → Type 0
-IsDiscard s p = IsSummarized s p × NoEntry s p
+IsDiscard s p = IsActivePrefix s p × NoEntry s p

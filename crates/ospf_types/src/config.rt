@@ -1,9 +1,9 @@
-ghost use Rattle.std.specs.Prelude.{◌≡◌, ◌↔◌, [], ◌∷◌, ◌++◌, length, IsTrue, OnOk, OnErr, IfOk};
+ghost use Rattle.std.specs.Prelude.{◌≡◌, IfOk};
 
+use crate::listed::Listed;
 use crate::memory::Memory;
 use crate::prefix::Prefix;
 use std::alloc::Global;
-use std::marker::Model;
 
 /// An interface of the root (RFC 2328, 9). It is on a point-to-point link where it has a peer.
 #[derive(Clone, Copy, Debug, PartialEq, Eq, Hash)]
@@ -33,63 +33,14 @@ pub struct Range {
 }
 
 /// The ranges of an area.
-#[derive(Debug, Drop)]
-pub struct Ranges {
-    items: Vec<Range>,
-}
+pub type Ranges = Listed<Range>;
 
-impl Model for Ranges {
-    ghost use Rattle.std.specs.Prelude.{List};
-    ghost use Rattle.ospf_types.specs.declared.config.Range.{Range};
-
-    ghost Value = { List Range };
-
-    ghost view = { λ r. r.items.items };
-}
-
-impl Ranges {
-    pub fn new(alloc: Global) -> Ranges
-        ensures { result ≡ [] }
-    {
-        Ranges {
-            items: Vec::new(alloc),
-        }
-    }
-
-    /// Adds a range at the end.
-    pub fn push(&mut self, range: Range) -> Result<(), Memory>
-        ensures ok { OnOk result (self.new ≡ self.old ++ range ∷ []) }
-        ensures err { OnErr result (self.new ≡ self.old) }
-    {
-        self.items.push(range)?;
-        Ok(())
-    }
-
-    pub fn as_slice(&self) -> &[Range]
-        ensures { result.now ≡ self.now }
-    {
-        self.items.as_slice()
-    }
-
-    pub fn len(&self) -> usize
-        ensures { result ≡ length self.now }
-    {
-        self.items.len()
-    }
-
-    pub fn is_empty(&self) -> bool
-        ensures { IsTrue result ↔ (self.now ≡ []) }
-    {
-        self.items.is_empty()
-    }
-
+impl Listed<Range> {
     /// An equal value.
     pub fn copy(&self, alloc: Global) -> Result<Ranges, Memory>
         ensures { IfOk result (λ ranges. ranges ≡ self.now) }
     {
-        Ok(Ranges {
-            items: Vec::from_slice(alloc, self.items.as_slice())?,
-        })
+        Ranges::from_slice(alloc, self.as_slice())
     }
 }
 
@@ -116,62 +67,15 @@ impl AreaConfig {
 }
 
 /// The areas of a router.
-#[derive(Debug, Drop)]
-pub struct Areas {
-    items: Vec<AreaConfig>,
-}
+pub type Areas = Listed<AreaConfig>;
 
-impl Model for Areas {
-    ghost use Rattle.std.specs.Prelude.{List};
-    ghost use Rattle.ospf_types.specs.declared.config.AreaConfig.{AreaConfig};
-
-    ghost Value = { List AreaConfig };
-
-    ghost view = { λ a. a.items.items };
-}
-
-impl Areas {
-    pub fn new(alloc: Global) -> Areas
-        ensures { result ≡ [] }
-    {
-        Areas {
-            items: Vec::new(alloc),
-        }
-    }
-
-    /// Adds an area at the end.
-    pub fn push(&mut self, area: AreaConfig) -> Result<(), Memory>
-        ensures ok { OnOk result (self.new ≡ self.old ++ area ∷ []) }
-        ensures err { OnErr result (self.new ≡ self.old) }
-    {
-        self.items.push(area)?;
-        Ok(())
-    }
-
-    pub fn as_slice(&self) -> &[AreaConfig]
-        ensures { result.now ≡ self.now }
-    {
-        self.items.as_slice()
-    }
-
-    pub fn len(&self) -> usize
-        ensures { result ≡ length self.now }
-    {
-        self.items.len()
-    }
-
-    pub fn is_empty(&self) -> bool
-        ensures { IsTrue result ↔ (self.now ≡ []) }
-    {
-        self.items.is_empty()
-    }
-
+impl Listed<AreaConfig> {
     /// An equal value.
     pub fn copy(&self, alloc: Global) -> Result<Areas, Memory>
         ensures { IfOk result (λ areas. areas ≡ self.now) }
     {
         let mut areas = Areas::new(alloc);
-        for area in self.items.as_slice() {
+        for area in self.as_slice() {
             areas.push(area.copy(alloc)?)?;
         }
         Ok(areas)

@@ -6,7 +6,7 @@ use crate::hop::Path;
 use std::marker::Model;
 
 /// A vertex of an area's graph (RFC 2328, 16.1).
-#[derive(Clone, Copy, Debug, PartialEq, Eq, Hash, PartialOrd, Ord)]
+#[derive(Clone, Copy, Debug, PartialEq, Eq, Hash)]
 pub enum Vertex {
     /// By its Router ID.
     Router(u32),
@@ -15,7 +15,7 @@ pub enum Vertex {
 }
 
 /// How a destination was learned, the most preferred first (RFC 2328, 11).
-#[derive(Clone, Copy, Debug, PartialEq, Eq, Hash, PartialOrd, Ord)]
+#[derive(Clone, Copy, Debug, PartialEq, Eq, Hash)]
 pub enum PathType {
     Intra,
     Inter,

@@ -1,10 +1,24 @@
+ghost use Rattle.std.specs.Prelude.{Some};
+ghost use Rattle.ospf_types.specs.Text.{memory_text};
+
 use std::alloc::{AllocError, AllocFailed};
-use thiserror::Error;
+use std::error::Error;
+use std::fmt;
 
 /// A growth was refused.
-#[derive(Clone, Copy, Debug, PartialEq, Eq, Error)]
-#[error("30 Memory")]
+#[derive(Clone, Copy, Debug, PartialEq, Eq)]
 pub struct Memory;
+
+/// The number and the name, `30 Memory`.
+impl fmt::Display for Memory {
+    ghost output = { λ _. Some memory_text };
+
+    fn fmt<W: fmt::Write>(&self, f: &mut fmt::Formatter<W>) -> fmt::Result {
+        f.write_str("30 Memory")
+    }
+}
+
+impl Error for Memory {}
 
 impl From<AllocError> for Memory {
     fn from(_e: AllocError) -> Memory {

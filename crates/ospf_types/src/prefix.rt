@@ -1,6 +1,9 @@
 ghost use Rattle.std.specs.Prelude.{◌≡◌, ◌≤◌, ◌↔◌, IsTrue, IsSome, IfSome};
 ghost use Rattle.ospf_types.specs.Masks.{masked};
+ghost use Rattle.ospf_types.specs.Network.{network_cmp};
+ghost use Rattle.ospf_types.specs.Lsa.{network_of};
 
+use std::cmp::Ordering;
 use std::marker::Model;
 
 /// A destination network: an address, and how many of its first bits count. The bits past them are
@@ -42,6 +45,17 @@ impl Prefix {
         })
     }
 
+    /// The prefix that an address and a mask name. Of a mask that has a one behind a zero only the
+    /// number of its ones counts.
+    pub fn of_mask(address: u32, mask: u32) -> Prefix
+        ensures { result ≡ network_of address mask }
+    {
+        match Prefix::new(address, mask.count_ones() as u8) {
+            Some(prefix) => prefix,
+            None => unreachable!(),
+        }
+    }
+
     /// The network number, in host order.
     pub fn address(self) -> u32
         ensures value { result ≡ self.address }
@@ -56,6 +70,13 @@ impl Prefix {
         ensures bound { result ≤ 32 }
     {
         self.length
+    }
+
+    /// The order of networks: by address, and at one address the shorter first.
+    pub fn compare(self, other: Prefix) -> Ordering
+        ensures { result ≡ network_cmp self other }
+    {
+        self.cmp(&other)
     }
 
     /// Whether the address lies in the network.

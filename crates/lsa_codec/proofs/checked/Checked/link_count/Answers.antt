@@ -7,4 +7,4 @@ use Rattle.lsa_codec.proofs.checked.Checked.link_count.Goals as goal
 pub returns : goal.returns
 returns c =
     c.from.ensures ∙ c.read_u16.ensures ∙ ap (λ (b : List ℕ). big_number 2 b) (from_place 22 c.deref.result.now ∙ ap (drop 22) c.deref.ensures.value)
-    ∙ (kept_router c.self.inside.bytes.items c.args.self.now c.self.view_is c.self.invariant (sym c.kind.ensures ∙ c.if-kind-ne-ROUTER.false)).count
+    ∙ (kept_router c.self.inside.bytes.items c.args.self.now c.self.view_is c.self.invariant (sym c.kind.ensures ∙ c.if-kind-ne-ROUTER_LSA.false)).count
