@@ -1,0 +1,19 @@
+use Rattle.std.proofs.Common.{◌≤◌, ap, ◌∙◌, arith}
+use Rattle.std.specs.FinMap as map
+use Rattle.std.proofs.lemmas.Map.Views.{All-keys-insert_entry}
+use Rattle.ospf_types.specs.Network.{network_cmp}
+use Rattle.ospf_types.proofs.Orders.{network_total, network_exact}
+use Rattle.route_table.specs.declared.table.Item.{Item}
+use Rattle.route_table.specs.Tables.{TableValue}
+use Rattle.route_table.proofs.Maps.{from_entries-insert}
+use Rattle.route_table.proofs.table.Table.set.Goals as goal
+
+pub invariant_of-self-2 : goal.invariant_of-self-2
+invariant_of-self-2 c =
+    rw c.in_ok-insert.ensures.entries (All-keys-insert_entry network_cmp c.args.prefix c.args.item (λ p. p.length ≤ 32) c.self.inside.items.entries c.self.invariant (omega arith))
+
+pub returns-clause-ok : goal.returns-clause-ok
+returns-clause-ok c =
+    let set = from_entries-insert network_total network_exact c.self.inside.items.entries c.insert.new.self.entries c.args.prefix c.args.item c.in_ok-insert.ensures.updates.0 in
+    ap (λ (m : map.FinMap network_cmp Item). let t : TableValue = record { items = m; serial = c.self.inside.serial } in t) set
+    ∙ ap (λ (t : TableValue). record t { items = map.insert t.items c.args.prefix c.args.item }) c.self.view_is

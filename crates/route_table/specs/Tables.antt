@@ -1,0 +1,44 @@
+-- The routing table as a value, and its longest match (RFC 2328, 11 and 11.1).
+use Rattle.std.specs.Prelude.{ℕ, ◌≡◌, ◌≤◌, Some, None, IsSome, refl}
+use Rattle.std.specs.FinMap as map
+use Rattle.std.specs.Coded.{Coded, code_by, coded×, coded_ℕ}
+use Rattle.ospf_types.specs.Network.{Network, network_cmp, network_code}
+use Rattle.ospf_types.specs.Masks.{masked}
+use Rattle.ospf_types.specs.Address.{HasAddress}
+use Rattle.route_table.specs.declared.table.Item.{Item}
+use Rattle.route_table.specs.declared.table.Item.TheVariants as item
+use Rattle.route_table.specs.contracts.table.Item as item_contract
+use Rattle.route_table.specs.declared.table.Match.{Match}
+use Rattle.route_table.specs.declared.table.Match.TheVariants as found
+
+-- the item of each network that has one, and how many events the table follows
+pub record TableValue : Type 0 where
+  pub items : map.FinMap network_cmp Item
+  pub serial : ℕ
+
+-- as the pair of its fields
+abbrev pub table_code : Coded TableValue
+table_code =
+    code_by (map.FinMap network_cmp Item × ℕ) (coded× (map.code network_code item_contract.the_row.coded) coded_ℕ) (λ t. (t.items, t.serial)) (λ p. record { items = p.0; serial = p.1 }) (λ _. refl)
+
+-- the network of that length that contains the address
+abbrev pub around : ℕ → ℕ → Network
+around address length = record { address = masked address length; length = length }
+
+-- the network has the item and contains the address, and no longer network of the table contains it
+pub record IsLongest (items : map.FinMap network_cmp Item) (address : ℕ) (p : Network) (i : Item) : Type 0 where
+  pub stands : map.get items p ≡ Some i
+  pub inside : HasAddress p address
+  pub longest : (q : Network) → IsSome (map.get items q) → HasAddress q address → q.length ≤ p.length
+
+-- the longest network that contains the address decides; none does where no network of the table contains it
+abbrev pub IsMatch : map.FinMap network_cmp Item → ℕ → Match → Type 0
+IsMatch items address (found.Route p entry) = IsLongest items address p (item.Route entry.now)
+IsMatch items address (found.Discard p) = IsLongest items address p item.Discard
+IsMatch items address found.None = (q : Network) → HasAddress q address → map.get items q ≡ None
+
+-- the match is the network's item
+abbrev pub StandsAs : map.FinMap network_cmp Item → Network → Match → Type 0
+StandsAs items p (found.Route q entry) = (q ≡ p) × (map.get items p ≡ Some (item.Route entry.now))
+StandsAs items p (found.Discard q) = (q ≡ p) × (map.get items p ≡ Some item.Discard)
+StandsAs items p found.None = ⊥
