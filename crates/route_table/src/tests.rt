@@ -65,12 +65,24 @@ fn the_longest_match_decides(rt: HostRuntime) -> Result<(), Fail> {
             (0xc000_0280, 25, None),
         ],
     )?;
-    assert!(rt; prints(&table, rt.alloc(), &[
-        (0xc000_02c8, "route 192.0.2.200/32 intra 0.0.0.0 32 0 direct:1"),
-        (0xc000_02c9, "discard 192.0.2.128/25"),
-        (0xc000_0201, "route 192.0.2.0/24 intra 0.0.0.0 24 0 direct:1"),
-        (0xffff_ffff, "route 0.0.0.0/0 intra 0.0.0.0 1 0 direct:1"),
-    ])?);
+    assert!(rt;
+        prints(
+            &table,
+            rt.alloc(),
+            &[
+                (
+                    0xc000_02c8,
+                    "route 192.0.2.200/32 intra 0.0.0.0 32 0 direct:1"
+                ),
+                (0xc000_02c9, "discard 192.0.2.128/25"),
+                (
+                    0xc000_0201,
+                    "route 192.0.2.0/24 intra 0.0.0.0 24 0 direct:1"
+                ),
+                (0xffff_ffff, "route 0.0.0.0/0 intra 0.0.0.0 1 0 direct:1"),
+            ]
+        )?
+    );
     Ok(())
 }
 
@@ -78,11 +90,17 @@ fn the_longest_match_decides(rt: HostRuntime) -> Result<(), Fail> {
 fn a_route_under_a_discard_is_used(rt: HostRuntime) -> Result<(), Fail> {
     let rows = [(0x0a01_0000, 16, None), (0x0a01_0200, 24, Some(7))];
     let table = table_of(rt.alloc(), &rows)?;
-    assert!(rt; prints(&table, rt.alloc(), &[
-        (0x0a01_0203, "route 10.1.2.0/24 intra 0.0.0.0 7 0 direct:1"),
-        (0x0a01_0303, "discard 10.1.0.0/16"),
-        (0x0a02_0203, "none"),
-    ])?);
+    assert!(rt;
+        prints(
+            &table,
+            rt.alloc(),
+            &[
+                (0x0a01_0203, "route 10.1.2.0/24 intra 0.0.0.0 7 0 direct:1"),
+                (0x0a01_0303, "discard 10.1.0.0/16"),
+                (0x0a02_0203, "none"),
+            ]
+        )?
+    );
     Ok(())
 }
 
