@@ -6,9 +6,9 @@ use Rattle.ospf_types.specs.Lsa.{Lsa}
 use Rattle.ospf_types.specs.Text.{address_text}
 use Rattle.lsa_codec.specs.Checksum.{IsSound}
 use Rattle.lsa_codec.specs.Spelling.{Spells}
-use Rattle.event_core.specs.declared.table.Match.{Match}
-use Rattle.event_core.specs.Tables.{TableValue, IsMatch}
-use Rattle.event_core.specs.Texts.{match_text}
+use Rattle.route_table.specs.declared.table.Match.{Match}
+use Rattle.route_table.specs.Tables.{TableValue, IsMatch}
+use Rattle.route_table.specs.Texts.{match_text}
 use Rattle.abr_cli.specs.declared.command_fault.CommandFault.{CommandFault}
 use Rattle.abr_cli.specs.declared.command_fault.CommandFault.TheVariants as fault
 use Rattle.abr_cli.specs.Command.{OneTexts}

@@ -17,7 +17,7 @@ use Rattle.event_core.specs.States.{State, database_of, lsas_of, place_of}
 use Rattle.event_core.specs.Steps.{is_stub_only}
 use Rattle.event_core.specs.Held.{IsHeld, AreStubOnly}
 use Rattle.event_core.proofs.Changes.{place_within}
-use Rattle.event_core.proofs.Maps.{find-lookup}
+use Rattle.route_table.proofs.Maps.{find-lookup}
 use Rattle.event_core.proofs.Rows.{find_at}
 
 -- an LSA of a database stands under some key

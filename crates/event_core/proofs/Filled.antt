@@ -22,15 +22,15 @@ use Rattle.ospf_types.specs.Network.{network_cmp}
 use Rattle.ospf_types.specs.Routes.{entry_of, IsEntry, IsDiscard}
 use Rattle.ospf_types.proofs.OneBest.{same_key, same_items}
 use Rattle.ospf_types.proofs.Orders.{network_total, network_exact, area_cost_total, area_cost_exact, path_total, path_exact}
-use Rattle.event_core.specs.declared.table.Item.{Item}
-use Rattle.event_core.specs.declared.table.Item.TheVariants.{Route, Discard}
+use Rattle.route_table.specs.declared.table.Item.{Item}
+use Rattle.route_table.specs.declared.table.Item.TheVariants.{Route, Discard}
 use Rattle.event_core.specs.Choices.{Chosen, IsChosen}
 use Rattle.event_core.specs.Held.{IsHeld}
 use Rattle.event_core.specs.Offers.{NetworkChoices, AreIntra}
 use Rattle.event_core.specs.Configs.{HasNoRanges}
 use Rattle.event_core.specs.Right.{IsRight}
 use Rattle.event_core.specs.States.{State, inputs_of}
-use Rattle.event_core.specs.Tables.{TableValue}
+use Rattle.route_table.specs.Tables.{TableValue}
 use Rattle.event_core.proofs.NoWays.{no_inter, no_external, no_range}
 
 abbrev pub Items : Type 0

@@ -23,7 +23,7 @@ use Rattle.event_core.specs.Held.{IsHeld, AreStubOnly}
 use Rattle.event_core.specs.Steps.{is_stub_only}
 use Rattle.event_core.proofs.DatabaseRows.{legal_aged}
 use Rattle.event_core.proofs.Seconds.{get-all_aged, all_aged_empty}
-use Rattle.event_core.proofs.Maps.{entries-from_entries}
+use Rattle.route_table.proofs.Maps.{entries-from_entries}
 
 kept_empty : IsKept empty
 kept_empty = record {

@@ -13,7 +13,7 @@ use Rattle.event_core.specs.declared.limits.Limits.{Limits}
 use Rattle.event_core.specs.Databases.{Database}
 use Rattle.event_core.specs.States.{State, LooksAlike, place_of, at_place, database_of}
 use Rattle.event_core.specs.Steps.{step, with_lsa, refusal_of, run_from, run_of, AreTaken}
-use Rattle.event_core.specs.Tables.{TableValue}
+use Rattle.route_table.specs.Tables.{TableValue}
 use Rattle.event_core.specs.Right.{IsRight}
 use Rattle.event_core.specs.declared.event.Reply.{Reply}
 use Rattle.event_core.specs.declared.event.Standing.{Standing}

@@ -13,7 +13,7 @@ use Rattle.event_core.specs.Configs.{fault_of}
 use Rattle.event_core.specs.States.{State, LooksAlike}
 use Rattle.event_core.specs.Steps.{run_of, refusal_of, IsLegalList}
 use Rattle.event_core.specs.Refusals.{IsRefusalOf}
-use Rattle.event_core.specs.Tables.{TableValue}
+use Rattle.route_table.specs.Tables.{TableValue}
 use Rattle.event_core.specs.Right.{IsRight}
 
 pub record CoreValue : Type 0 where

@@ -2,7 +2,7 @@
 use Rattle.std.specs.Prelude.{ℕ, ◌≡◌}
 use Rattle.event_core.specs.States.{State}
 use Rattle.event_core.specs.Steps.{run_of}
-use Rattle.event_core.specs.Tables.{TableValue}
+use Rattle.route_table.specs.Tables.{TableValue}
 use Rattle.event_core.specs.Cores.{CoreValue, IsCore}
 
 abbrev pub core_of : State → TableValue → ℕ → CoreValue

@@ -4,7 +4,6 @@ pub mod Steps
 pub mod Held
 pub mod Refusals
 pub mod Choices
-pub mod Tables
 pub mod Right
 pub mod Configs
 pub mod Cores
@@ -12,4 +11,3 @@ pub mod Kept
 pub mod Listings
 pub mod Takes
 pub mod Offers
-pub mod Texts

@@ -4,9 +4,9 @@ use Rattle.std.specs.FinMap.{get}
 use Rattle.ospf_types.specs.declared.prefix.Prefix.{Prefix}
 use Rattle.ospf_types.specs.declared.entry.Entry.{Entry}
 use Rattle.ospf_types.specs.Routes.{IsEntry, IsDiscard}
-use Rattle.event_core.specs.declared.table.Item.TheVariants.{Route, Discard}
+use Rattle.route_table.specs.declared.table.Item.TheVariants.{Route, Discard}
 use Rattle.event_core.specs.States.{State, inputs_of}
-use Rattle.event_core.specs.Tables.{TableValue}
+use Rattle.route_table.specs.Tables.{TableValue}
 
 -- The table has a route exactly where the network has that entry, and a discard exactly where one is due; its serial counts the events.
 pub record IsRight (s : State) (t : TableValue) : Type 0 where

@@ -10,11 +10,11 @@ use crate::listing::lsas;
 use crate::refusal::{ConfigFault, Refusal};
 use crate::routes::build;
 use crate::state::State;
-use crate::table::Table;
 use lsa_codec::Checked;
 use ospf_types::config::Config;
 use ospf_types::key::Scope;
 use ospf_types::memory::Memory;
+use route_table::Table;
 use std::alloc::Global;
 use std::hash::RandomState;
 use std::marker::Model;
@@ -32,7 +32,7 @@ pub struct Core {
 
 impl Model for Core {
     ghost use Rattle.std.specs.Coded.{Coded, codes};
-    ghost use Rattle.event_core.specs.Tables.{TableValue, table_code};
+    ghost use Rattle.route_table.specs.Tables.{TableValue, table_code};
     ghost use Rattle.event_core.specs.Cores.{CoreValue};
 
     ghost Value = { CoreValue };

@@ -13,13 +13,12 @@ mod listing;
 mod refusal;
 mod routes;
 mod state;
-pub mod table;
-mod text;
 
 pub use core_state::Core;
 pub use event::{Event, Reply, Standing};
 pub use limits::Limits;
 pub use refusal::{ConfigFault, Refusal};
+pub use route_table as table;
 
 #[cfg(test)]
 mod tests;

@@ -9,10 +9,10 @@ ghost use Rattle.event_core.specs.Right.{IsRight};
 use crate::choice::{AreaCost, Choice};
 use crate::intra;
 use crate::state::State;
-use crate::table::{Item, Table};
 use ospf_types::entry::{Entry, PathType, Paths};
 use ospf_types::hop::Path;
 use ospf_types::memory::Memory;
+use route_table::{Item, Table};
 use std::alloc::Global;
 
 /// The routing table of the state. Intra-area routes are all that there is: no database has a

@@ -1,10 +1,10 @@
-use crate::table::Match;
 use crate::{ConfigFault, Core, Event, Limits, Refusal, Reply, Standing};
 use lsa_codec::{Checked, WireFault, read, sum_of};
 use ospf_types::config::{AreaConfig, Areas, Config, Range, Ranges, Stub};
 use ospf_types::key::Scope;
 use ospf_types::memory::Memory;
 use ospf_types::prefix::Prefix;
+use route_table::Match;
 use std::alloc::{AllocError, Global};
 use std::hash::RandomState;
 use std::test::Fail;

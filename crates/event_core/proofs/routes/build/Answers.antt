@@ -1,8 +1,8 @@
 use Rattle.std.proofs.Common.{length, All, sym, ap, subst, ◌∙◌}
 use Rattle.std.specs.FinMap.{empty, insert}
 use Rattle.std.proofs.lemmas.List.Elements.{All-head, All-tail}
-use Rattle.event_core.specs.Tables.{TableValue}
-use Rattle.event_core.specs.declared.table.Item.{Item}
+use Rattle.route_table.specs.Tables.{TableValue}
+use Rattle.route_table.specs.declared.table.Item.{Item}
 use Rattle.event_core.proofs.Filled.{filled, InOrder, choices_in_order, filled_right}
 use Rattle.event_core.proofs.routes.build.Goals as goal
 

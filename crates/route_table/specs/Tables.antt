@@ -5,11 +5,11 @@ use Rattle.std.specs.Coded.{Coded, code_by, coded×, coded_ℕ}
 use Rattle.ospf_types.specs.Network.{Network, network_cmp, network_code}
 use Rattle.ospf_types.specs.Masks.{masked}
 use Rattle.ospf_types.specs.Address.{HasAddress}
-use Rattle.event_core.specs.declared.table.Item.{Item}
-use Rattle.event_core.specs.declared.table.Item.TheVariants as item
-use Rattle.event_core.specs.contracts.table.Item as item_contract
-use Rattle.event_core.specs.declared.table.Match.{Match}
-use Rattle.event_core.specs.declared.table.Match.TheVariants as found
+use Rattle.route_table.specs.declared.table.Item.{Item}
+use Rattle.route_table.specs.declared.table.Item.TheVariants as item
+use Rattle.route_table.specs.contracts.table.Item as item_contract
+use Rattle.route_table.specs.declared.table.Match.{Match}
+use Rattle.route_table.specs.declared.table.Match.TheVariants as found
 
 -- the item of each network that has one, and how many events the table follows
 pub record TableValue : Type 0 where

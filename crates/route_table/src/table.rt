@@ -1,11 +1,10 @@
-//! The routing table (RFC 2328, 11): for each network at most one item, found by the network or by
-//! the longest match of an address.
+//! The items of the networks, and how they are found.
 ghost use Rattle.std.specs.Prelude.{◌≡◌, ◌≤◌, OnOk, OnErr, IfOk, IfSome, IfNone, option_copied};
 ghost use Rattle.std.specs.FinMap as map;
 ghost use Rattle.std.specs.List.Sorted.{IsStrictlySortedBy};
 ghost use Rattle.std.specs.Map.{keys_of};
 ghost use Rattle.ospf_types.specs.Network.{network_cmp};
-ghost use Rattle.event_core.specs.Tables.{IsMatch, StandsAs, around};
+ghost use Rattle.route_table.specs.Tables.{IsMatch, StandsAs, around};
 
 use ospf_types::entry::Entry;
 use ospf_types::memory::Memory;
@@ -19,8 +18,8 @@ use std::marker::Model;
 pub enum Item {
     /// The network's route.
     Route(Entry),
-    /// Packets to the network are discarded: an active range that no route stands for
-    /// (RFC 2328, 12.4.3).
+    /// Packets to the network are discarded: an active area address range that no route stands for
+    /// (RFC 2328, 11.1).
     Discard,
 }
 
@@ -36,7 +35,7 @@ impl Model for Table {
     ghost use Rattle.std.specs.List.{All};
     ghost use Rattle.std.specs.BTreeMap.{keys};
     ghost use Rattle.std.specs.Prelude.{◌≤◌};
-    ghost use Rattle.event_core.specs.Tables.{TableValue, table_code};
+    ghost use Rattle.route_table.specs.Tables.{TableValue, table_code};
 
     ghost Value = { TableValue };
 
@@ -67,7 +66,7 @@ pub struct Items<'a> {
 impl<'a> Model for Items<'a> {
     ghost use Rattle.std.specs.Prelude.{List};
     ghost use Rattle.ospf_types.specs.Network.{Network};
-    ghost use Rattle.event_core.specs.declared.table.Item.{Item};
+    ghost use Rattle.route_table.specs.declared.table.Item.{Item};
 
     ghost Value = { List (Network × Item) };
 
@@ -92,8 +91,8 @@ impl<'a> Iterator for Items<'a> {
 }
 
 impl Table {
-    /// The table with no items.
-    pub(crate) fn new(alloc: Global, serial: u64) -> Table
+    /// The table with no items. It takes no memory yet.
+    pub fn new(alloc: Global, serial: u64) -> Table
         ensures { result ≡ record { items = map.empty; serial = serial } }
     {
         Table {
@@ -127,7 +126,8 @@ impl Table {
     }
 
     /// What the table has for packets to an address (host order): the item of the longest network
-    /// that contains it (RFC 2328, 11.1).
+    /// that contains it (RFC 2328, 11.1). It takes no memory, and looks for at most 33 networks,
+    /// however many the table has.
     pub fn lookup(&self, address: u32) -> Match<'_>
         ensures { IsMatch self.now.items address result }
     {
@@ -142,14 +142,21 @@ impl Table {
         Match::None
     }
 
-    /// Sets the network's item.
-    pub(crate) fn set(&mut self, prefix: Prefix, item: Item) -> Result<(), Memory>
+    /// Sets the network's item, in place of the one that it had.
+    pub fn set(&mut self, prefix: Prefix, item: Item) -> Result<(), Memory>
         ensures ok { OnOk result (self.new ≡ record self.old { items = map.insert self.old.items prefix item }) }
         ensures err { OnErr result (self.new ≡ self.old) }
     {
         prove!(prefix.length() <= 32);
         self.items.insert(prefix, item)?;
         Ok(())
+    }
+
+    /// Sets how many events the table follows.
+    pub fn set_serial(&mut self, serial: u64)
+        ensures { self.new ≡ record self.old { serial = serial } }
+    {
+        self.serial = serial;
     }
 
     // The network of that length around the address, with its item, if it has one.
@@ -163,97 +170,5 @@ impl Table {
             Item::Route(entry) => Some(Match::Route(prefix, entry)),
             Item::Discard => Some(Match::Discard(prefix)),
         }
-    }
-}
-
-#[cfg(test)]
-mod tests {
-    use super::*;
-    use ospf_types::entry::{PathType, Paths};
-    use std::process::Abort;
-    use std::test::Fail;
-
-    fn prefix(rt: &impl Abort, address: u32, length: u8) -> Prefix {
-        Prefix::new(address, length).expect(rt, "at most 32")
-    }
-
-    fn route(alloc: Global, cost: u32) -> Item {
-        Item::Route(Entry {
-            kind: PathType::Intra,
-            area: Some(0),
-            cost,
-            cost2: 0,
-            paths: Paths::new(Vec::new(alloc)),
-        })
-    }
-
-    // The matched network, and the cost of a route.
-    fn told(found: Match<'_>) -> Option<(Prefix, Option<u32>)> {
-        match found {
-            Match::Route(prefix, entry) => Some((prefix, Some(entry.cost))),
-            Match::Discard(prefix) => Some((prefix, None)),
-            Match::None => None,
-        }
-    }
-
-    fn networks(alloc: Global, table: &Table) -> Result<Vec<Prefix>, Memory>
-        ensures { IfOk result (λ networks. networks.items ≡ keys_of (map.entries table.now.items)) }
-    {
-        let mut networks = Vec::new(alloc);
-        for (network, _) in table.items() {
-            networks.push(network)?;
-        }
-        Ok(networks)
-    }
-
-    #[test]
-    fn the_longest_match_decides(rt: HostRuntime) -> Result<(), Fail> {
-        let whole = prefix(&rt, 0, 0);
-        let net = prefix(&rt, 0xc000_0200, 24);
-        let half = prefix(&rt, 0xc000_0280, 25);
-        let host = prefix(&rt, 0xc000_02c8, 32);
-        let mut table = Table::new(rt.alloc(), 4);
-        table.set(host, route(rt.alloc(), 32))?;
-        table.set(net, route(rt.alloc(), 24))?;
-        table.set(whole, route(rt.alloc(), 1))?;
-        table.set(half, Item::Discard)?;
-        assert_eq!(rt; told(table.lookup(0xc000_02c8)), Some((host, Some(32))));
-        assert_eq!(rt; told(table.lookup(0xc000_02c9)), Some((half, None)));
-        assert_eq!(rt; told(table.lookup(0xc000_0201)), Some((net, Some(24))));
-        assert_eq!(rt; told(table.lookup(0xffff_ffff)), Some((whole, Some(1))));
-        assert_eq!(rt; table.serial(), 4);
-        Ok(())
-    }
-
-    #[test]
-    fn a_route_under_a_discard_is_used(rt: HostRuntime) -> Result<(), Fail> {
-        let range = prefix(&rt, 0x0a01_0000, 16);
-        let net = prefix(&rt, 0x0a01_0200, 24);
-        let mut table = Table::new(rt.alloc(), 2);
-        assert_eq!(rt; told(table.lookup(0x0a01_0203)), None);
-        table.set(range, Item::Discard)?;
-        table.set(net, route(rt.alloc(), 7))?;
-        assert_eq!(rt; told(table.lookup(0x0a01_0203)), Some((net, Some(7))));
-        assert_eq!(rt; told(table.lookup(0x0a01_0303)), Some((range, None)));
-        assert_eq!(rt; told(table.lookup(0x0a02_0203)), None);
-        Ok(())
-    }
-
-    #[test]
-    fn items_ascend_and_are_found_by_their_network(rt: HostRuntime) -> Result<(), Fail> {
-        let short = prefix(&rt, 0x0a00_0000, 8);
-        let long = prefix(&rt, 0x0a00_0000, 16);
-        let last = prefix(&rt, 0x0b00_0000, 8);
-        let mut table = Table::new(rt.alloc(), 0);
-        for network in [last, long, short] {
-            table.set(network, Item::Discard)?;
-        }
-        table.set(long, route(rt.alloc(), 3))?;
-        let networks = networks(rt.alloc(), &table)?;
-        assert_eq!(rt; networks.as_slice(), [short, long, last].as_slice());
-        assert!(rt; matches!(table.get(short), Some(Item::Discard)));
-        assert!(rt; matches!(table.get(long), Some(Item::Route(_))));
-        assert!(rt; table.get(prefix(&rt, 0x0a00_0000, 9)).is_none());
-        Ok(())
     }
 }

@@ -3,10 +3,10 @@ use Rattle.std.specs.FinMap as map
 use Rattle.std.proofs.lemmas.Map.Views.{All-keys-insert_entry}
 use Rattle.ospf_types.specs.Network.{network_cmp}
 use Rattle.ospf_types.proofs.Orders.{network_total, network_exact}
-use Rattle.event_core.specs.declared.table.Item.{Item}
-use Rattle.event_core.specs.Tables.{TableValue}
-use Rattle.event_core.proofs.Maps.{from_entries-insert}
-use Rattle.event_core.proofs.table.Table.set.Goals as goal
+use Rattle.route_table.specs.declared.table.Item.{Item}
+use Rattle.route_table.specs.Tables.{TableValue}
+use Rattle.route_table.proofs.Maps.{from_entries-insert}
+use Rattle.route_table.proofs.table.Table.set.Goals as goal
 
 pub invariant_of-self-2 : goal.invariant_of-self-2
 invariant_of-self-2 c =

@@ -1,9 +1,9 @@
 use Rattle.std.proofs.Common.{subst}
 use Rattle.ospf_types.proofs.Orders.{network_total}
-use Rattle.event_core.specs.Tables.{TableValue}
-use Rattle.event_core.proofs.Maps.{get-no_entries}
-use Rattle.event_core.proofs.Matches.{NoneFrom, none_past_32}
-use Rattle.event_core.proofs.table.Table.lookup.Goals as goal
+use Rattle.route_table.specs.Tables.{TableValue}
+use Rattle.route_table.proofs.Maps.{get-no_entries}
+use Rattle.route_table.proofs.Matches.{NoneFrom, none_past_32}
+use Rattle.route_table.proofs.table.Table.lookup.Goals as goal
 
 pub returns-then-is_empty : goal.returns-then-is_empty
 returns-then-is_empty c =

@@ -1,8 +1,8 @@
 use Rattle.std.proofs.Common.{sym, ap, ◌∙◌}
 use Rattle.std.specs.FinMap as map
 use Rattle.ospf_types.proofs.Orders.{network_total}
-use Rattle.event_core.proofs.Maps.{get-lookup}
-use Rattle.event_core.proofs.table.Table.get.Goals as goal
+use Rattle.route_table.proofs.Maps.{get-lookup}
+use Rattle.route_table.proofs.table.Table.get.Goals as goal
 
 pub returns : goal.returns
 returns c =

@@ -10,12 +10,12 @@ use Rattle.std.proofs.lemmas.Map.Views.{Contains-keys_from_lookup, tells_apart}
 use Rattle.ospf_types.proofs.Orders.{network_total, network_exact}
 use Rattle.ospf_types.specs.Network.{Network, network_cmp}
 use Rattle.ospf_types.specs.Address.{HasAddress}
-use Rattle.event_core.specs.declared.table.Item.{Item}
-use Rattle.event_core.specs.declared.table.Item.TheVariants as item
-use Rattle.event_core.specs.declared.table.Match.{Match}
-use Rattle.event_core.specs.declared.table.Match.TheVariants as found
-use Rattle.event_core.specs.Tables.{around, IsLongest, IsMatch, StandsAs}
-use Rattle.event_core.proofs.Maps.{get-lookup}
+use Rattle.route_table.specs.declared.table.Item.{Item}
+use Rattle.route_table.specs.declared.table.Item.TheVariants as item
+use Rattle.route_table.specs.declared.table.Match.{Match}
+use Rattle.route_table.specs.declared.table.Match.TheVariants as found
+use Rattle.route_table.specs.Tables.{around, IsLongest, IsMatch, StandsAs}
+use Rattle.route_table.proofs.Maps.{get-lookup}
 
 -- no network of that length or a longer one has the address
 abbrev pub NoneFrom : map.FinMap network_cmp Item → ℕ → ℕ → Type 0
