@@ -6,9 +6,9 @@ use Rattle.std.proofs.lemmas.Bool.Decides.{nat_tests, eqb_tells}
 use Rattle.std.proofs.lemmas.List.{nil_from_length}
 use Rattle.ospf_types.specs.declared.config.Config.{Config}
 use Rattle.ospf_types.specs.declared.config.AreaConfig.{AreaConfig}
-use Rattle.event_core.specs.declared.refusal.ConfigFault.TheVariants as fault
-use Rattle.event_core.specs.Steps.{first_of}
-use Rattle.event_core.specs.States.{AreApart}
+use Rattle.event_core.specs.declared.fault.ConfigFault.TheVariants as fault
+use Rattle.ospf_types.specs.FirstOf.{first_of}
+use Rattle.event_state.specs.States.{AreApart}
 use Rattle.event_core.specs.Configs.{fault_of, has_alike, has_wrong_areas, has_overlap, is_stub_backbone, is_costly, HasNoRanges}
 
 -- where no line of the table holds, its first and its last do not

@@ -25,11 +25,11 @@ use Rattle.ospf_types.proofs.Orders.{network_total, network_exact, area_cost_tot
 use Rattle.route_table.specs.declared.table.Item.{Item}
 use Rattle.route_table.specs.declared.table.Item.TheVariants.{Route, Discard}
 use Rattle.event_core.specs.Choices.{Chosen, IsChosen}
-use Rattle.event_core.specs.Held.{IsHeld}
+use Rattle.event_state.specs.Held.{AreFit}
 use Rattle.event_core.specs.Offers.{NetworkChoices, AreIntra}
 use Rattle.event_core.specs.Configs.{HasNoRanges}
 use Rattle.event_core.specs.Right.{IsRight}
-use Rattle.event_core.specs.States.{State, inputs_of}
+use Rattle.event_state.specs.States.{State, inputs_of}
 use Rattle.route_table.specs.Tables.{TableValue}
 use Rattle.event_core.proofs.NoWays.{no_inter, no_external, no_range}
 
@@ -79,7 +79,7 @@ choices_in_order s es sorted intra k e below =
     let chosen = rw found at (intra x.0) in
     chosen.1
 
-module _ (s : State) (held : IsHeld s.config s.databases s.externals) (none : HasNoRanges s.config) where
+module _ (s : State) (held : AreFit s.config.areas s.databases) (none : HasNoRanges s.config) where
   -- the entry of a network is that of its choice, and there is no other
   routes_at : (p : Prefix) (e : Entry) (o : Option (Chosen AreaCost Path)) → IsChosen area_cost_cmp path_cmp (IntraOffers (inputs_of s) p) o → (route_or None o ≡ Some (Route e)) ↔ IsEntry (inputs_of s) p e
   routes_at p e None nothing = (

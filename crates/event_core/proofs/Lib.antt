@@ -1,13 +1,5 @@
-pub mod Rows
-pub mod DatabaseRows
 pub mod InOrder
 pub mod Choosing
-pub mod StubOnly
-pub mod HeldStates
-pub mod Seconds
-pub mod Looks
-pub mod InPlace
-pub mod Changes
 pub mod Configs
 pub mod Runs
 pub mod Listings

@@ -9,7 +9,8 @@ use Rattle.std.proofs.lemmas.Bool.Decides.{nat_tests}
 use Rattle.std.proofs.lemmas.Map.Lookups.{exact_unsigned}
 use Rattle.std.proofs.lemmas.Map.Views.{btree_set_contains_iff}
 use Rattle.ospf_types.specs.declared.config.AreaConfig.{AreaConfig}
-use Rattle.event_core.specs.States.{place_of}
+use Rattle.ospf_types.specs.declared.key.Scope.TheVariants as scope
+use Rattle.event_state.specs.States.{place_of}
 use Rattle.event_core.specs.Listings.{AreAreaIds}
 
 one_on : (n m : ℕ) → nat_lt (1 + n) (suc m) ≡ nat_lt n m
@@ -31,7 +32,7 @@ is_some_if : {X : Type 0} (b : Bool) (x : X) → is_some (cond b (Some x) None) 
 is_some_if true x = refl
 is_some_if false x = refl
 
-pub has_place : (areas : List AreaConfig) (id : ℕ) → is_some (place_of areas id) ≡ list_any (λ a. a.id == id) areas
+pub has_place : (areas : List AreaConfig) (id : ℕ) → is_some (place_of areas (scope.Area id)) ≡ list_any (λ a. a.id == id) areas
 has_place areas id = is_some_if (nat_lt (position_or_len (λ (a : AreaConfig). a.id == id) areas) (length areas)) (position_or_len (λ (a : AreaConfig). a.id == id) areas) ∙ found_any (λ (a : AreaConfig). a.id == id) areas
 
 pub area_ids : (areas : List AreaConfig) (ids : BTreeSet ℕ) → IsOrdered nat_cmp ids → ((q : ℕ) → contains nat_cmp ids q ≡ list_any (λ a. a.id == q) areas) → AreAreaIds areas ids.keys

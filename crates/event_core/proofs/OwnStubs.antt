@@ -1,6 +1,6 @@
 -- What is offered to the choices is what the definition of intra-area networks offers.
 use Rattle.std.proofs.Common.{◌≡◌, ℕ, ◌<◌, Bool, true, false, cond, List, [], Option, Some, None, refl, sym, ap, subst, ◌∙◌, ◌⊎◌, inl, inr, arith}
-use Rattle.std.specs.Prelude.{nat_lt, option_and_then}
+use Rattle.std.specs.Prelude.{nat_lt, option_map, option_and_then}
 use Rattle.std.specs.List.{Contains}
 use Rattle.std.specs.Map.{lookup}
 use Rattle.std.specs.BTreeMap.{is_at}
@@ -22,30 +22,44 @@ use Rattle.ospf_types.specs.Network.{network_cmp}
 use Rattle.ospf_types.proofs.Elements.{mapped_element, mapped_from}
 use Rattle.lsa_codec.specs.Readers.{links_of, without_tos}
 use Rattle.lsa_codec.specs.Spelling.{IsLegal, IsLegalBody}
+use Rattle.lsdb.specs.Databases.{Database}
+use Rattle.lsdb.specs.Contents.{contents_of, used_at}
 use Rattle.event_core.specs.Choices.{IsOffered, ChoosesFrom}
-use Rattle.event_core.specs.Held.{IsHeld}
-use Rattle.event_core.specs.Offers.{NetworkChoices, TakesPaths, IsOver, AreaOffers, AreIntra, own_key, own_lsa, usable}
+use Rattle.event_state.specs.Held.{AreFit}
+use Rattle.event_core.specs.Offers.{NetworkChoices, TakesPaths, IsOver, AreaOffers, AreIntra, own_key, own_body}
 use Rattle.event_core.specs.Takes.{OfferedBySome}
-use Rattle.event_core.specs.States.{State, database_of, inputs_of}
+use Rattle.event_state.specs.States.{State, database_of, inputs_of}
 use Rattle.event_core.proofs.Areas.{is_here, found_here}
 use Rattle.event_core.proofs.Choosing.{same_offers}
 use Rattle.event_core.proofs.NoWays.{area_of, area_is, no_hop_in}
 
 -- ---- the root's router-LSA
 
-usable_test : (l m : Lsa) (b : Bool) → nat_lt l.header.age MaxAge ≡ b → cond b (Some l) None ≡ Some m → (l ≡ m) × (m.header.age < MaxAge)
-usable_test l m true t e =
-    let same : l ≡ m = cc in
-    let lt : l.header.age < MaxAge = grind (arith, nat_tests) in
-    (same, subst (λ (x : Lsa). x.header.age < MaxAge) same lt)
-usable_test l m false t e = absurd cc
+below : (age : ℕ) → nat_lt age MaxAge ≡ true → age < MaxAge
+below age t = grind (arith, nat_tests)
 
-usable_in : (o : Option Lsa) (l : Lsa) → option_and_then usable o ≡ Some l → (o ≡ Some l) × (l.header.age < MaxAge)
-usable_in None l e = absurd cc
-usable_in (Some m) l e = let w = usable_test m l (nat_lt m.header.age MaxAge) refl e in (ap Some w.0, w.1)
+above : (age : ℕ) → age < MaxAge → nat_lt age MaxAge ≡ true
+above age lt = grind (arith, nat_tests)
 
-usable_is : (l : Lsa) → l.header.age < MaxAge → usable l ≡ Some l
-usable_is l lt = let t : nat_lt l.header.age MaxAge ≡ true = grind (arith, nat_tests) in rw t refl
+abbrev body_of : Option (ℕ × Body) → Option Body
+body_of used = option_map (λ (used : ℕ × Body). used.1) used
+
+-- the LSA of which a body is used
+used_from : (o : Option Lsa) (b : Body) → body_of (option_and_then contents_of o) ≡ Some b → (l : Lsa) × (o ≡ Some l) × (l.header.age < MaxAge) × (l.body ≡ b)
+used_from None b e = absurd cc
+used_from (Some l) b e =
+    elim (nat_lt l.header.age MaxAge) as (λ t. nat_lt l.header.age MaxAge ≡ t → body_of (cond t (Some (l.header.options, l.body)) None) ≡ Some b → (m : Lsa) × (Some l ≡ Some m) × (m.header.age < MaxAge) × (m.body ≡ b)) [
+      | true ↦ λ t is. let same : l.body ≡ b = cc in (l, refl, below l.header.age t, same)
+      | false ↦ λ t is. absurd cc
+    ] refl e
+
+own_from_used : (o : Option Database) (key : Key) (b : Body) → body_of (option_and_then (λ d. used_at d key) o) ≡ Some b → (l : Lsa) × (option_and_then (λ d. get d key) o ≡ Some l) × (l.header.age < MaxAge) × (l.body ≡ b)
+own_from_used None key b e = absurd cc
+own_from_used (Some d) key b e = used_from (get d key) b e
+
+used_of : (o : Option Database) (key : Key) (l : Lsa) → option_and_then (λ d. get d key) o ≡ Some l → l.header.age < MaxAge → body_of (option_and_then (λ d. used_at d key) o) ≡ Some l.body
+used_of None key l e lt = absurd cc
+used_of (Some d) key l e lt = ap (λ (o : Option Lsa). body_of (option_and_then contents_of o)) e ∙ ap (λ t. body_of (cond t (Some (l.header.options, l.body)) None)) (above l.header.age lt)
 
 router_body : (b : Body) → kind_of b ≡ 1 → (flags : ℕ) × (b ≡ RouterLinks flags (links_of b))
 router_body (RouterLinks flags links) e = (flags, refl)
@@ -62,23 +76,24 @@ own_key_is l router flags links legal by is =
     let id : l.header.id ≡ router = own.own ∙ by in
     λ i. record { kind = kind i; id = id i; router = by i }
 
-module _ (s : State) (held : IsHeld s.config s.databases s.externals) where
+module _ (s : State) (held : AreFit s.config.areas s.databases) where
   module _ (a : AreaConfig) where
     -- it makes the root a vertex with its links
-    own_router : (l : Lsa) → own_lsa s a.id ≡ Some l → (flags : ℕ) × IsRouter (area_of s a) s.config.router flags (links_of l.body)
-    own_router l e =
-        let w = usable_in (option_and_then (λ d. get d (own_key s.config.router)) (database_of s (scope.Area a.id))) l e in
-        let h = found_here s held a.id (own_key s.config.router) l w.0 in
-        let kind : kind_of l.body ≡ 1 = sym h.0.legal.kind ∙ ap (λ (k : Key). k.kind) (sym h.1) in
-        let body = router_body l.body kind in
-        (body.0, record { lsa = (l, record { held = h.0.held; usable = w.1 }, ap (λ (k : Key). k.router) (sym h.1), body.1) })
+    own_router : (b : Body) → own_body s a.id ≡ Some b → (flags : ℕ) × IsRouter (area_of s a) s.config.router flags (links_of b)
+    own_router b e =
+        let w = own_from_used (database_of s (scope.Area a.id)) (own_key s.config.router) b e in
+        let l = w.0 in
+        let h = found_here s held (scope.Area a.id) (own_key s.config.router) l w.1 in
+        let kind : kind_of b ≡ 1 = ap kind_of (sym w.3) ∙ sym h.0.legal.kind ∙ ap (λ (k : Key). k.kind) (sym h.1) in
+        let body = router_body b kind in
+        (body.0, record { lsa = (l, record { held = h.0.held; usable = w.2 }, ap (λ (k : Key). k.router) (sym h.1), w.3 ∙ body.1) })
 
-    own_is : (flags : ℕ) (links : List RouterLink) (r : IsRouter (area_of s a) s.config.router flags links) → own_lsa s a.id ≡ Some r.lsa.0
+    own_is : (flags : ℕ) (links : List RouterLink) (r : IsRouter (area_of s a) s.config.router flags links) → own_body s a.id ≡ Some r.lsa.0.body
     own_is flags links r =
         let l = r.lsa.0 in
-        let h = is_here s held a.id l r.lsa.1.held in
+        let h = is_here s held (scope.Area a.id) l r.lsa.1.held in
         let key = own_key_is l s.config.router flags links h.legal r.lsa.2 r.lsa.3 in
-        ap (λ (k : Key). option_and_then usable (option_and_then (λ d. get d k) (database_of s (scope.Area a.id)))) (sym key) ∙ ap (option_and_then usable) h.found ∙ usable_is l r.lsa.1.usable
+        ap (λ (k : Key). body_of (option_and_then (λ d. used_at d k) (database_of s (scope.Area a.id)))) (sym key) ∙ used_of (database_of s (scope.Area a.id)) (key_of l) l h.found r.lsa.1.usable
 
     -- ---- its stub links
 
@@ -87,7 +102,7 @@ module _ (s : State) (held : IsHeld s.config s.databases s.externals) where
       own_from w =
           let root = own_router w.0 w.1 in
           let x = w.2.0 in
-          let r = mapped_from without_tos (links_of w.0.body) x w.2.1 in
+          let r = mapped_from without_tos (links_of w.0) x w.2.1 in
           let stub : r.0.kind ≡ Stub = ap (λ (y : Link). y.kind) r.2 ∙ w.2.2.0 in
           let over = w.2.2.1 in
           let only = over.2.1 in
@@ -96,7 +111,7 @@ module _ (s : State) (held : IsHeld s.config s.databases s.externals) where
             (
               over.0.0,
               over.0.1,
-              (root.0, links_of w.0.body, r.0, root.1, r.1, stub, here, cost),
+              (root.0, links_of w.0, r.0, root.1, r.1, stub, here, cost),
               record { held = over.1; here = over.2.0.here; up = over.2.0.up },
               subst (λ (q : Prefix). LiesIn over.0.1 q) (sym only.0) over.2.0.inside,
               only.2,
@@ -112,7 +127,7 @@ module _ (s : State) (held : IsHeld s.config s.databases s.externals) where
           let links : stub.1 ≡ links_of l.body = ap links_of (sym stub.3.lsa.3) in
           let among = mapped_element without_tos (links_of l.body) r (subst (λ (rs : List RouterLink). Contains rs r) links stub.4) in
           let over : IsOver a.id (network_of r.id r.detail) w.1 = record { here = w.3.here; up = w.3.up; inside = subst (λ (q : Prefix). LiesIn w.1 q) (sym stub.6) w.4 } in
-          (l, own_is stub.0 stub.1 stub.3, (without_tos r, among, (stub.5, ((w.0, w.1), w.3.held, (over, (sym stub.6, λ i. (sym stub.7 i, sym area i), w.5))))))
+          (l.body, own_is stub.0 stub.1 stub.3, (without_tos r, among, (stub.5, ((w.0, w.1), w.3.held, (over, (sym stub.6, λ i. (sym stub.7 i, sym area i), w.5))))))
 
   -- ---- every area
 

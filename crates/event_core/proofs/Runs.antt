@@ -6,19 +6,19 @@ use Rattle.ospf_types.specs.declared.config.Config.{Config}
 use Rattle.ospf_types.specs.declared.key.Scope.{Scope}
 use Rattle.ospf_types.specs.declared.key.Scope.TheVariants as scope
 use Rattle.ospf_types.specs.Lsa.{Lsa, key_of}
-use Rattle.std.specs.FinMap.{insert}
-use Rattle.event_core.specs.declared.event.Event.{Event}
-use Rattle.event_core.specs.declared.event.Event.TheVariants as event
-use Rattle.event_core.specs.declared.limits.Limits.{Limits}
-use Rattle.event_core.specs.Databases.{Database}
-use Rattle.event_core.specs.States.{State, LooksAlike, place_of, at_place, database_of}
-use Rattle.event_core.specs.Steps.{step, with_lsa, refusal_of, run_from, run_of, AreTaken}
+use Rattle.std.specs.FinMap.{insert, remove}
+use Rattle.event_state.specs.declared.event.Event.{Event}
+use Rattle.event_state.specs.declared.event.Event.TheVariants as event
+use Rattle.event_state.specs.declared.limits.Limits.{Limits}
+use Rattle.lsdb.specs.Databases.{Database, aged_out}
+use Rattle.event_state.specs.States.{State, LooksAlike, place_of, changed_at_place}
+use Rattle.event_state.specs.Steps.{step, refusal_of, run_from, run_of, AreTaken}
 use Rattle.route_table.specs.Tables.{TableValue}
 use Rattle.event_core.specs.Right.{IsRight}
-use Rattle.event_core.specs.declared.event.Reply.{Reply}
-use Rattle.event_core.specs.declared.event.Standing.{Standing}
-use Rattle.event_core.specs.declared.event.Standing.TheVariants.{Current, Behind}
-use Rattle.event_core.specs.Cores.{CoreValue, IsCore, Takes, Stands, state_of}
+use Rattle.event_core.specs.declared.reply.Reply.{Reply}
+use Rattle.event_core.specs.declared.reply.Standing.{Standing}
+use Rattle.event_core.specs.declared.reply.Standing.TheVariants.{Current, Behind}
+use Rattle.event_core.specs.Cores.{CoreValue, IsCore, IsTaken, Stands, state_of, built_state}
 use Rattle.event_core.specs.Kept.{core_of, IsKept}
 
 -- what no event changes
@@ -26,17 +26,14 @@ pub record SameSetting (s t : State) : Type 0 where
   pub config : s.config ≡ t.config
   pub limits : s.limits ≡ t.limits
 
-placed : (s : State) (o : Option ℕ) (d : Database) → SameSetting (at_place s o d) s
-placed s None d = record { config = refl; limits = refl }
-placed s (Some k) d = record { config = refl; limits = refl }
-
-installed : (s : State) (at : Scope) (l : Lsa) (o : Option Database) → SameSetting (with_lsa s at l o) s
-installed s at l None = record { config = refl; limits = refl }
-installed s (scope.Area id) l (Some d) = placed s (place_of s.config.areas id) (insert d (key_of l) l)
-installed s scope.As l (Some d) = record { config = refl; limits = refl }
+placed : (s : State) (change : Database → Database) (o : Option ℕ) → SameSetting (changed_at_place s change o) s
+placed s change None = record { config = refl; limits = refl }
+placed s change (Some k) = record { config = refl; limits = refl }
 
 pub step_setting : (s : State) (e : Event) → SameSetting (step s e) s
-step_setting s (event.Install at l) = let h = installed s at l (database_of s at) in record { config = h.config; limits = h.limits }
+step_setting s (event.Install at l) = let h = placed s (λ d. insert d (key_of l) l) (place_of s.config.areas at) in record { config = h.config; limits = h.limits }
+step_setting s (event.Flush at key) = let h = placed s (λ d. aged_out d key) (place_of s.config.areas at) in record { config = h.config; limits = h.limits }
+step_setting s (event.Purge at key) = let h = placed s (λ d. remove d key) (place_of s.config.areas at) in record { config = h.config; limits = h.limits }
 step_setting s (event.Interface id area address peer up) = record { config = refl; limits = refl }
 step_setting s event.Second = record { config = refl; limits = refl }
 
@@ -74,7 +71,7 @@ stands_same s u t built Behind new h = h
 -- a step of the state, and then a table that stands, take the event
 pub takes : (s u : State) (t : TableValue) (built : ℕ) (e : Event) (reply : Reply) (new : CoreValue) → IsKept s t built → u ≡ step s e → refusal_of s e ≡ None
     → (reply.changed ≡ false) ↔ LooksAlike s u → new.journal ≡ u.journal → new.config ≡ u.config → new.limits ≡ u.limits → Stands (core_of u t built) reply.state new → reply.serial ≡ length new.journal
-    → Takes (core_of s t built) e reply new
+    → IsTaken (core_of s t built) e reply new
 takes s u t built e reply new kept is accepted changed journal config limits stands serial =
     let run_new : state_of new ≡ u = (λ i. run_of (config i) (limits i) (journal i)) ∙ sym (subst (λ (v : State). v ≡ run_of v.config v.limits v.journal) (sym is) (kept_step s t built e kept accepted).run) in
     let looks : LooksAlike s u → LooksAlike (state_of (core_of s t built)) (state_of new) = λ l. subst (λ (v : State). LooksAlike v (state_of new)) kept.run (subst (λ (v : State). LooksAlike s v) (sym run_new) l) in

@@ -2,14 +2,14 @@
 use Rattle.std.proofs.Common.{◌≡◌, ◌≢◌, ℕ, List, Some, None, sym, subst, ◌∙◌}
 use Rattle.std.specs.FinMap.{entries}
 use Rattle.ospf_types.specs.Intra.{AreaCost, inside_area}
-use Rattle.ospf_types.specs.Lsa.{Lsa, network_of}
+use Rattle.ospf_types.specs.Lsa.{Body, network_of}
 use Rattle.ospf_types.specs.declared.config.Interface.{Interface}
 use Rattle.ospf_types.specs.declared.hop.NextHop.TheVariants.{Direct}
 use Rattle.ospf_types.specs.declared.lsa.Link.{Link}
 use Rattle.ospf_types.specs.declared.lsa.LinkKind.TheVariants.{Stub}
 use Rattle.ospf_types.specs.declared.prefix.Prefix.{Prefix}
-use Rattle.event_core.specs.Offers.{NetworkChoices, TakesPaths, IsOver, InterfaceOffers, LinkOffers, LsaOffers, AreaOffers, own_lsa}
-use Rattle.event_core.specs.States.{State}
+use Rattle.event_core.specs.Offers.{NetworkChoices, TakesPaths, IsOver, InterfaceOffers, LinkOffers, LsaOffers, AreaOffers, own_body}
+use Rattle.event_state.specs.States.{State}
 use Rattle.event_core.specs.Takes.{OnlyOffer, OfferedBySome}
 use Rattle.event_core.proofs.Taking.{takes_none, takes_same}
 
@@ -27,12 +27,12 @@ takes_stub interfaces area link old new stub takes =
 pub takes_other : (interfaces : List (ℕ × Interface)) (area : ℕ) (link : Link) (c : NetworkChoices) → link.kind ≢ Stub → TakesPaths (LinkOffers interfaces area link) c c
 takes_other interfaces area link c other = takes_none (LinkOffers interfaces area link) (λ p key path h. other h.0) c
 
-pub takes_lsa : (s : State) (area : ℕ) (l : Lsa) (old new : NetworkChoices) → own_lsa s area ≡ Some l → TakesPaths (LsaOffers (entries s.interfaces) area l) old new → TakesPaths (AreaOffers s area) old new
+pub takes_lsa : (s : State) (area : ℕ) (l : Body) (old new : NetworkChoices) → own_body s area ≡ Some l → TakesPaths (LsaOffers (entries s.interfaces) area l) old new → TakesPaths (AreaOffers s area) old new
 takes_lsa s area l old new own takes =
     takes_same (LsaOffers (entries s.interfaces) area l) (AreaOffers s area) (λ p key path. (
       λ h. (l, own, h),
       λ h. subst (λ m. LsaOffers (entries s.interfaces) area m p key path) (let e : Some h.0 ≡ Some l = sym h.1 ∙ own in let same : h.0 ≡ l = cc in same) h.2,
     )) old new takes
 
-pub takes_no_lsa : (s : State) (area : ℕ) (c : NetworkChoices) → own_lsa s area ≡ None → TakesPaths (AreaOffers s area) c c
+pub takes_no_lsa : (s : State) (area : ℕ) (c : NetworkChoices) → own_body s area ≡ None → TakesPaths (AreaOffers s area) c c
 takes_no_lsa s area c none = takes_none (AreaOffers s area) (λ p key path h. let e : Some h.0 ≡ None = sym h.1 ∙ none in absurd cc) c

@@ -8,9 +8,9 @@ use Rattle.ospf_types.specs.declared.config.Range.{Range}
 use Rattle.ospf_types.specs.declared.prefix.Prefix.{Prefix}
 use Rattle.ospf_types.specs.Masks.{masked}
 use Rattle.ospf_types.specs.Inter.{LSInfinity}
-use Rattle.event_core.specs.declared.refusal.ConfigFault.{ConfigFault}
-use Rattle.event_core.specs.declared.refusal.ConfigFault.TheVariants as fault
-use Rattle.event_core.specs.Steps.{first_of}
+use Rattle.event_core.specs.declared.fault.ConfigFault.{ConfigFault}
+use Rattle.event_core.specs.declared.fault.ConfigFault.TheVariants as fault
+use Rattle.ospf_types.specs.FirstOf.{first_of}
 
 -- two areas have one Area ID
 abbrev pub has_alike : List AreaConfig → Bool

@@ -1,18 +1,18 @@
 -- The core as its callers see it: the configuration, the events that were taken, and a table that is right for the first of them.
-use Rattle.std.specs.Prelude.{ℕ, ◌≡◌, ◌≤◌, ◌↔◌, ◌⊎◌, false, List, [], ◌∷◌, ◌++◌, take, length, Some, None, Result, Ok, Err}
+use Rattle.std.specs.Prelude.{ℕ, ◌≡◌, ◌≤◌, ◌<◌, ◌+◌, ◌↔◌, ◌⊎◌, false, List, [], ◌∷◌, ◌++◌, take, length, Some, None, Result, Ok, Err}
 use Rattle.ospf_types.specs.declared.config.Config.{Config}
-use Rattle.event_core.specs.declared.event.Event.{Event}
-use Rattle.event_core.specs.declared.event.Reply.{Reply}
-use Rattle.event_core.specs.declared.event.Standing.{Standing}
-use Rattle.event_core.specs.declared.event.Standing.TheVariants.{Current, Behind}
-use Rattle.event_core.specs.declared.refusal.Refusal.{Refusal}
-use Rattle.event_core.specs.declared.refusal.ConfigFault.{ConfigFault}
-use Rattle.event_core.specs.declared.refusal.ConfigFault.TheVariants.{Memory}
-use Rattle.event_core.specs.declared.limits.Limits.{Limits}
+use Rattle.event_state.specs.declared.event.Event.{Event}
+use Rattle.event_core.specs.declared.reply.Reply.{Reply}
+use Rattle.event_core.specs.declared.reply.Standing.{Standing}
+use Rattle.event_core.specs.declared.reply.Standing.TheVariants.{Current, Behind}
+use Rattle.event_state.specs.declared.refusal.Refusal.{Refusal}
+use Rattle.event_core.specs.declared.fault.ConfigFault.{ConfigFault}
+use Rattle.event_core.specs.declared.fault.ConfigFault.TheVariants.{Memory}
+use Rattle.event_state.specs.declared.limits.Limits.{Limits}
 use Rattle.event_core.specs.Configs.{fault_of}
-use Rattle.event_core.specs.States.{State, LooksAlike}
-use Rattle.event_core.specs.Steps.{run_of, refusal_of, IsLegalList}
-use Rattle.event_core.specs.Refusals.{IsRefusalOf}
+use Rattle.event_state.specs.States.{State, LooksAlike}
+use Rattle.event_state.specs.Steps.{run_of, refusal_of, IsLegalList}
+use Rattle.event_state.specs.Refusals.{IsRefusalOf}
 use Rattle.route_table.specs.Tables.{TableValue}
 use Rattle.event_core.specs.Right.{IsRight}
 
@@ -38,13 +38,17 @@ pub record IsCore (c : CoreValue) : Type 0 where
   pub within : c.built ≤ length c.journal
   pub right : IsRight (built_state c) c.table
 
--- the table is that of the whole journal, or the one of before
+-- the table is that of the whole journal, or the one of before, where events were taken since
 abbrev pub Stands : CoreValue → Standing → CoreValue → Type 0
 Stands old Current new = (new.built ≡ length new.journal) × IsRight (state_of new) new.table
-Stands old Behind new = (new.built ≡ old.built) × (new.table ≡ old.table)
+Stands old Behind new = (new.built ≡ old.built) × (new.table ≡ old.table) × (new.built < length new.journal)
+
+-- where the table lacks the last event alone, that event changed nothing that is calculated from
+abbrev pub IsQuiet : CoreValue → Type 0
+IsQuiet c = c.built + 1 ≡ length c.journal → LooksAlike (built_state c) (state_of c)
 
 -- the event is taken, with this reply
-pub record Takes (old : CoreValue) (e : Event) (r : Reply) (new : CoreValue) : Type 0 where
+pub record IsTaken (old : CoreValue) (e : Event) (r : Reply) (new : CoreValue) : Type 0 where
   pub accepted : refusal_of (state_of old) e ≡ None
   pub joins : new.journal ≡ old.journal ++ e ∷ []
   pub config : new.config ≡ old.config
@@ -54,13 +58,13 @@ pub record Takes (old : CoreValue) (e : Event) (r : Reply) (new : CoreValue) : T
   pub stands : Stands old r.state new
 
 -- a refusal leaves everything as it was
-pub record Refuses (old : CoreValue) (e : Event) (r : Refusal) (new : CoreValue) : Type 0 where
+pub record IsRefused (old : CoreValue) (e : Event) (r : Refusal) (new : CoreValue) : Type 0 where
   pub first : IsRefusalOf (state_of old) e r
   pub unchanged : new ≡ old
 
 abbrev pub Applies : CoreValue → Event → Result Reply Refusal → CoreValue → Type 0
-Applies old e (Ok reply) new = Takes old e reply new
-Applies old e (Err refusal) new = Refuses old e refusal new
+Applies old e (Ok reply) new = IsTaken old e reply new
+Applies old e (Err refusal) new = IsRefused old e refusal new
 
 -- the answers to events, one after the other
 abbrev pub Runs : CoreValue → List Event → List (Result Reply Refusal) → CoreValue → Type 0
@@ -72,10 +76,6 @@ Runs old (e ∷ es) [] new = ⊥
 -- the first fault that the configuration has, or Memory where it has none
 abbrev pub IsFaultOf : Config → ConfigFault → Type 0
 IsFaultOf config f = (fault_of config ≡ Some f) ⊎ ((f ≡ Memory) × (fault_of config ≡ None))
-
--- how much a core holds
-abbrev pub standard_limits : Limits
-standard_limits = record { area_lsas = 16384; externals = 65536; events = 1000000 }
 
 -- no events were taken, and the table is that of the opening state
 pub record IsOpening (given : Config) (most : Limits) (c : CoreValue) : Type 0 where

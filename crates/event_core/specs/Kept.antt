@@ -1,7 +1,7 @@
 -- What a core keeps of its parts.
 use Rattle.std.specs.Prelude.{ℕ, ◌≡◌}
-use Rattle.event_core.specs.States.{State}
-use Rattle.event_core.specs.Steps.{run_of}
+use Rattle.event_state.specs.States.{State}
+use Rattle.event_state.specs.Steps.{run_of}
 use Rattle.route_table.specs.Tables.{TableValue}
 use Rattle.event_core.specs.Cores.{CoreValue, IsCore}
 

@@ -1,8 +1,3 @@
-pub mod Databases
-pub mod States
-pub mod Steps
-pub mod Held
-pub mod Refusals
 pub mod Choices
 pub mod Right
 pub mod Configs
@@ -11,3 +6,4 @@ pub mod Kept
 pub mod Listings
 pub mod Takes
 pub mod Offers
+pub mod Texts

@@ -7,12 +7,12 @@ use Rattle.ospf_types.specs.declared.config.AreaConfig.{AreaConfig}
 use Rattle.ospf_types.specs.declared.key.Scope.{Scope}
 use Rattle.ospf_types.specs.declared.key.Scope.TheVariants as scope
 use Rattle.ospf_types.specs.Lsa.{Lsa}
-use Rattle.event_core.specs.States.{State, place_of, database_of, lsas_of}
+use Rattle.event_state.specs.States.{State, place_of, database_of, lsas_of}
 
 -- the configured Area IDs, ascending
 pub record AreAreaIds (areas : List AreaConfig) (ids : List ℕ) : Type 0 where
   pub ascending : IsStrictlySortedBy nat_cmp ids
-  pub same : (id : ℕ) → Contains ids id ↔ IsSome (place_of areas id)
+  pub same : (id : ℕ) → Contains ids id ↔ IsSome (place_of areas (scope.Area id))
 
 -- the LSAs of a database, each with its scope, in the order of their keys
 abbrev pub lsas_at : State → Scope → List (Scope × Lsa)

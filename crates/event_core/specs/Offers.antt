@@ -1,12 +1,12 @@
 -- What is offered to the choices among paths to networks, part by part (RFC 2328, 16.1).
-use Rattle.std.specs.Prelude.{ℕ, ◌≡◌, IsTrue, List, map, Option, Some, None, nat_lt, option_and_then, if◌then◌else◌}
+use Rattle.std.specs.Prelude.{ℕ, ◌≡◌, IsTrue, List, map, Option, Some, option_map}
 use Rattle.std.specs.Map.{lookup}
 use Rattle.std.specs.BTreeMap.{is_at}
-use Rattle.std.specs.FinMap.{get, entries}
+use Rattle.std.specs.FinMap.{entries}
 use Rattle.ospf_types.specs.Network.{network_cmp}
 use Rattle.ospf_types.specs.Hops.{path_cmp}
 use Rattle.ospf_types.specs.Intra.{AreaCost, area_cost_cmp, IntraOffers, LiesIn, inside_area}
-use Rattle.ospf_types.specs.Lsa.{Lsa, MaxAge, network_of}
+use Rattle.ospf_types.specs.Lsa.{Body, network_of}
 use Rattle.ospf_types.specs.declared.config.Interface.{Interface}
 use Rattle.ospf_types.specs.declared.hop.NextHop.TheVariants.{Direct}
 use Rattle.ospf_types.specs.declared.hop.Path.{Path}
@@ -17,7 +17,7 @@ use Rattle.ospf_types.specs.declared.lsa.LinkKind.TheVariants.{Stub}
 use Rattle.ospf_types.specs.declared.prefix.Prefix.{Prefix}
 use Rattle.lsa_codec.specs.Readers.{links_of, without_tos}
 use Rattle.event_core.specs.Choices.{Chosen, IsChosen}
-use Rattle.event_core.specs.States.{State, database_of, inputs_of}
+use Rattle.event_state.specs.States.{State, usable_at, inputs_of}
 use Rattle.event_core.specs.Takes.{Takes, OnlyOffer, OfferedBySome}
 
 -- the choices by network, in the order of the networks
@@ -46,20 +46,17 @@ LinkOffers interfaces area link p key path = (link.kind ≡ Stub) × OfferedBySo
 abbrev pub own_key : ℕ → Key
 own_key router = record { kind = 1; id = router; router = router }
 
-abbrev pub usable : Lsa → Option Lsa
-usable l = if nat_lt l.header.age MaxAge then Some l else None
-
--- the root's router-LSA in the area, where it is there and usable
-abbrev pub own_lsa : State → ℕ → Option Lsa
-own_lsa s area = option_and_then usable (option_and_then (λ d. get d (own_key s.config.router)) (database_of s (Area area)))
+-- the body of the root's router-LSA in the area, where it is there and usable
+abbrev pub own_body : State → ℕ → Option Body
+own_body s area = option_map (λ (used : ℕ × Body). used.1) (usable_at s (Area area) (own_key s.config.router))
 
 -- the stub links of an LSA of the root
-abbrev pub LsaOffers : List (ℕ × Interface) → ℕ → Lsa → Prefix → AreaCost → Path → Type 0
-LsaOffers interfaces area l = OfferedBySome (map without_tos (links_of l.body)) (LinkOffers interfaces area)
+abbrev pub LsaOffers : List (ℕ × Interface) → ℕ → Body → Prefix → AreaCost → Path → Type 0
+LsaOffers interfaces area b = OfferedBySome (map without_tos (links_of b)) (LinkOffers interfaces area)
 
 -- the stub links of the root in the area
 abbrev pub AreaOffers : State → ℕ → Prefix → AreaCost → Path → Type 0
-AreaOffers s area p key path = (l : Lsa) × (own_lsa s area ≡ Some l) × LsaOffers (entries s.interfaces) area l p key path
+AreaOffers s area p key path = (b : Body) × (own_body s area ≡ Some b) × LsaOffers (entries s.interfaces) area b p key path
 
 -- the choice for each network is that among its intra-area offers
 abbrev pub AreIntra : State → NetworkChoices → Type 0

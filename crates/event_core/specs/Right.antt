@@ -5,7 +5,7 @@ use Rattle.ospf_types.specs.declared.prefix.Prefix.{Prefix}
 use Rattle.ospf_types.specs.declared.entry.Entry.{Entry}
 use Rattle.ospf_types.specs.Routes.{IsEntry, IsDiscard}
 use Rattle.route_table.specs.declared.table.Item.TheVariants.{Route, Discard}
-use Rattle.event_core.specs.States.{State, inputs_of}
+use Rattle.event_state.specs.States.{State, inputs_of}
 use Rattle.route_table.specs.Tables.{TableValue}
 
 -- The table has a route exactly where the network has that entry, and a discard exactly where one is due; its serial counts the events.

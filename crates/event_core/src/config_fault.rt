@@ -2,7 +2,7 @@ ghost use Rattle.std.specs.Prelude.{◌≡◌, ◌==◌, length, nat_lt};
 ghost use Rattle.std.specs.List.{list_any};
 ghost use Rattle.event_core.specs.Configs.{fault_of, has_alike, has_wrong_areas, has_overlap, is_overlap, is_cover, is_stub_backbone, is_costly};
 
-use crate::refusal::ConfigFault;
+use crate::fault::ConfigFault;
 use ospf_types::config::{AreaConfig, Config, Range, Stub};
 use ospf_types::prefix::Prefix;
 

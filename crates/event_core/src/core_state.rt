@@ -1,15 +1,15 @@
-ghost use Rattle.std.specs.Prelude.{◌≡◌, None, IfErr, IfOk, OnErr};
+ghost use Rattle.std.specs.Prelude.{◌≡◌, ◌≤◌, None, IfErr, IfOk, OnErr, length};
 ghost use Rattle.event_core.specs.Configs.{fault_of};
-ghost use Rattle.event_core.specs.Cores.{IsCore, IsOpening, IsFaultOf, Applies, Stands, Runs, standard_limits, state_of};
+ghost use Rattle.event_core.specs.Cores.{IsCore, IsOpening, IsFaultOf, Applies, Stands, Runs, IsQuiet, state_of};
+ghost use Rattle.event_state.specs.Steps.{standard_limits};
 ghost use Rattle.event_core.specs.Listings.{AreLsas};
 
 use crate::config_fault::fault_in;
-use crate::event::{Event, Reply, Standing};
-use crate::limits::Limits;
+use crate::fault::ConfigFault;
 use crate::listing::lsas;
-use crate::refusal::{ConfigFault, Refusal};
+use crate::reply::{Reply, Standing};
 use crate::routes::build;
-use crate::state::State;
+use event_state::{Event, Limits, Refusal, State};
 use lsa_codec::Checked;
 use ospf_types::config::Config;
 use ospf_types::key::Scope;
@@ -24,7 +24,6 @@ use std::marker::Model;
 #[derive(Drop)]
 pub struct Core {
     alloc: Global,
-    hashing: RandomState,
     state: State,
     table: Table,
     built: u64,
@@ -86,11 +85,10 @@ impl Core {
         ensures opens { IfOk result (IsOpening config limits) }
         ensures kept { IfOk result IsCore }
     {
-        let state = State::new(alloc, config, limits)?;
+        let state = State::within(alloc, config, limits, hashing)?;
         let table = build(alloc, &state)?;
         Ok(Core {
             alloc,
-            hashing,
             state,
             table,
             built: 0,
@@ -102,14 +100,31 @@ impl Core {
     pub fn apply(&mut self, event: Event) -> Result<Reply, Refusal>
         ensures { Applies self.old event result self.new }
     {
-        let changed = self.state.step(event)?;
-        let serial = self.state.journal().len() as u64;
-        let state = self.catch_up();
+        let (serial, changed) = self.state.step(event)?;
+        let state = if changed { self.catch_up() } else { self.follow() };
         Ok(Reply {
             serial,
             changed,
             state,
         })
+    }
+
+    // The last event changed nothing that the table is calculated from: where the table is that of
+    // the events before it, only its serial moves.
+    fn follow(&mut self) -> Standing
+        requires { IsQuiet self.old }
+        ensures journal { self.new.journal ≡ self.old.journal }
+        ensures config { self.new.config ≡ self.old.config }
+        ensures limits { self.new.limits ≡ self.old.limits }
+        ensures stands { Stands self.old result self.new }
+    {
+        let serial = self.serial();
+        if serial - self.built == 1 {
+            self.table.set_serial(serial);
+            self.built = serial;
+            return Standing::Current;
+        }
+        self.catch_up()
     }
 
     /// Builds the table anew, where it is behind; databases and journal stay as they are.
@@ -119,6 +134,9 @@ impl Core {
         ensures limits { self.new.limits ≡ self.old.limits }
         ensures stands { Stands self.old result self.new }
     {
+        if self.built == self.serial() {
+            return Standing::Current;
+        }
         match build(self.alloc, &self.state) {
             Ok(table) => {
                 self.built = table.serial();
@@ -127,6 +145,14 @@ impl Core {
             }
             Err(Memory) => Standing::Behind,
         }
+    }
+
+    // How many events were taken.
+    fn serial(&self) -> u64
+        ensures value { result ≡ length self.now.journal }
+        ensures within { self.now.built ≤ result }
+    {
+        self.state.journal().len() as u64
     }
 
     /// Applies the events one after the other. Room for all answers is made first: where it is

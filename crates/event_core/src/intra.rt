@@ -1,22 +1,21 @@
 //! Intra-area networks (RFC 2328, 16.1 and 16.8). No link of a database leads to a vertex, so the
 //! root alone is reached, at distance 0, and its own stub links are all that is offered.
-ghost use Rattle.std.specs.Prelude.{◌≡◌, ◌↔◌, [], IsTrue, IfOk, OnOk, IfSome, IsSome, option_copied};
+ghost use Rattle.std.specs.Prelude.{◌≡◌, ◌↔◌, [], IsTrue, IfOk, OnOk, option_map};
 ghost use Rattle.std.specs.FinMap.{entries};
 ghost use Rattle.std.specs.List.Sorted.{IsStrictlySortedBy};
-ghost use Rattle.ospf_types.specs.Lsa.{network_of};
 ghost use Rattle.ospf_types.specs.Intra.{inside_area};
 ghost use Rattle.event_core.specs.Choices.{ChoosesFrom};
-ghost use Rattle.event_core.specs.Held.{IsHeld};
-ghost use Rattle.event_core.specs.Offers.{TakesPaths, IsOver, InterfaceOffers, LinkOffers, LsaOffers, AreaOffers, AreIntra, own_lsa};
+ghost use Rattle.event_state.specs.Held.{AreFit};
+ghost use Rattle.event_core.specs.Offers.{TakesPaths, IsOver, InterfaceOffers, LinkOffers, LsaOffers, AreaOffers, AreIntra, own_body};
 ghost use Rattle.event_core.specs.Takes.{OfferedBySome, OnlyOffer};
 
 use crate::choice::{AreaCost, Choices};
-use crate::state::State;
+use event_state::State;
 use lsa_codec::Checked;
 use ospf_types::config::Interface;
 use ospf_types::hop::{NextHop, Path};
 use ospf_types::key::{Key, Scope};
-use ospf_types::lsa::{Link, LinkKind, MAX_AGE};
+use ospf_types::lsa::{Link, LinkKind, MAX_AGE, ROUTER_LSA};
 use ospf_types::memory::Memory;
 use ospf_types::prefix::Prefix;
 use std::alloc::Global;
@@ -27,7 +26,7 @@ pub(crate) fn choices(
     state: &State,
 ) -> Result<Choices<Prefix, AreaCost, Path>, Memory>
     ensures chosen { IfOk result (AreIntra state.now) }
-    ensures held { IsHeld state.now.config state.now.databases state.now.externals }
+    ensures fit { AreFit state.now.config.areas state.now.databases }
 {
     let mut choices = Choices::new(alloc);
     let areas = state.config().areas.as_slice();
@@ -51,25 +50,18 @@ fn offer_area(
     }
 }
 
-// The LS type of router-LSAs (RFC 2328, A.4.2).
-const ROUTER: u8 = 1;
-
 // The root's router-LSA in the area, where it is there and usable.
 fn own_lsa(state: &State, area: u32) -> Option<&Checked>
-    ensures { option_copied result ≡ own_lsa state.now area }
+    ensures { option_map (λ lsa. lsa.now.body) result ≡ own_body state.now area }
 {
     let router = state.config().router;
     let key = Key {
-        kind: ROUTER,
+        kind: ROUTER_LSA,
         id: router,
         router,
     };
-    let lsa = state.database(Scope::Area(area))?.get(key)?;
-    if lsa.header().age < MAX_AGE {
-        Some(lsa)
-    } else {
-        None
-    }
+    let (lsa, age) = state.database(Scope::Area(area))?.get(key)?;
+    if age < MAX_AGE { Some(lsa) } else { None }
 }
 
 // Offers the stub links of an LSA of the root.
@@ -79,7 +71,7 @@ fn offer_links(
     area: u32,
     lsa: &Checked,
 ) -> Result<(), Memory>
-    ensures { OnOk result (TakesPaths (LsaOffers (entries state.now.interfaces) area lsa.now) choices.old choices.new) }
+    ensures { OnOk result (TakesPaths (LsaOffers (entries state.now.interfaces) area lsa.now.body) choices.old choices.new) }
 {
     for n in 0..lsa.link_count() {
         if let Some(link) = lsa.link(n) {
@@ -101,7 +93,8 @@ fn offer_link(
     if !is_stub(link.kind) {
         return Ok(());
     }
-    offer_network(choices, state, network_of(link), cost_of(area, link))
+    let network = Prefix::of_mask(link.id, link.detail);
+    offer_network(choices, state, network, cost_of(area, link))
 }
 
 fn is_stub(kind: LinkKind) -> bool
@@ -115,16 +108,6 @@ fn cost_of(area: u32, link: Link) -> AreaCost
     ensures { result ≡ (link.metric, area) }
 {
     AreaCost::new(u32::from(link.metric), area)
-}
-
-// The network that a stub link names.
-fn network_of(link: Link) -> Prefix
-    ensures { result ≡ network_of link.id link.detail }
-{
-    match Prefix::new(link.id, link.detail.count_ones() as u8) {
-        Some(network) => network,
-        None => unreachable!(),
-    }
 }
 
 // Offers the network over each interface of the area that is up and lies in it.

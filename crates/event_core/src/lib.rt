@@ -1,23 +1,20 @@
-//! The event core of an OSPF area border router (RFC 2328): the link-state databases, the
-//! interfaces and the journal of events, with the routing table that they give.
+//! The event core of an OSPF area border router (RFC 2328): events change its databases and its
+//! interfaces, and the routing table follows.
 #![tactic(auto)]
 
 mod choice;
 mod config_fault;
 mod core_state;
-mod database;
-mod event;
+mod fault;
 mod intra;
-mod limits;
 mod listing;
-mod refusal;
+mod reply;
 mod routes;
-mod state;
 
 pub use core_state::Core;
-pub use event::{Event, Reply, Standing};
-pub use limits::Limits;
-pub use refusal::{ConfigFault, Refusal};
+pub use event_state::{Event, Limits, Refusal};
+pub use fault::ConfigFault;
+pub use reply::{Reply, Standing};
 pub use route_table as table;
 
 #[cfg(test)]

@@ -2,7 +2,7 @@
 ghost use Rattle.std.specs.Prelude.{◌≡◌, ◌++◌, IfOk, OnOk, map as list_map};
 ghost use Rattle.event_core.specs.Listings.{AreAreaIds, AreLsas, lsas_at};
 
-use crate::state::State;
+use event_state::State;
 use lsa_codec::Checked;
 use ospf_types::config::AreaConfig;
 use ospf_types::key::Scope;
@@ -18,9 +18,9 @@ pub(crate) fn lsas(alloc: Global, state: &State) -> Result<Vec<(Scope, Checked)>
     let ids = area_ids(alloc, state.config().areas.as_slice())?;
     let mut found = Vec::new(alloc);
     for id in &ids {
-        add_lsas(alloc, &mut found, state, Scope::Area(*id))?;
+        add_lsas(&mut found, state, Scope::Area(*id))?;
     }
-    add_lsas(alloc, &mut found, state, Scope::As)?;
+    add_lsas(&mut found, state, Scope::As)?;
     Ok(found)
 }
 
@@ -38,7 +38,6 @@ fn area_ids(alloc: Global, areas: &[AreaConfig]) -> Result<BTreeSet<u32>, Memory
 
 // Adds copies of the LSAs of a scope at the end.
 fn add_lsas(
-    alloc: Global,
     found: &mut Vec<(Scope, Checked)>,
     state: &State,
     scope: Scope,
@@ -48,19 +47,18 @@ fn add_lsas(
     let Some(database) = state.database(scope) else {
         return Ok(());
     };
-    add_rows(alloc, found, database.rows(), scope)
+    add_rows(found, database.lsas()?, scope)
 }
 
 fn add_rows(
-    alloc: Global,
     found: &mut Vec<(Scope, Checked)>,
-    rows: &[Checked],
+    lsas: Vec<Checked>,
     scope: Scope,
 ) -> Result<(), Memory>
-    ensures { OnOk result (found.new.items ≡ found.old.items ++ list_map (λ l. (scope, l)) rows.now) }
+    ensures { OnOk result (found.new.items ≡ found.old.items ++ list_map (λ l. (scope, l)) lsas.items) }
 {
-    for lsa in rows {
-        found.push((scope, lsa.copy(alloc)?))?;
+    for lsa in lsas {
+        found.push((scope, lsa))?;
     }
     Ok(())
 }

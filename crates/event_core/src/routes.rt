@@ -8,7 +8,7 @@ ghost use Rattle.event_core.specs.Right.{IsRight};
 
 use crate::choice::{AreaCost, Choice};
 use crate::intra;
-use crate::state::State;
+use event_state::State;
 use ospf_types::entry::{Entry, PathType, Paths};
 use ospf_types::hop::Path;
 use ospf_types::memory::Memory;
@@ -42,36 +42,4 @@ fn intra_route(choice: Choice<AreaCost, Path>) -> Item
         cost2: 0,
         paths: Paths::new(paths),
     })
-}
-
-#[cfg(test)]
-mod tests {
-    use super::*;
-    use crate::limits::Limits;
-    use ospf_types::config::{AreaConfig, Areas, Config, Ranges};
-    use std::test::Fail;
-
-    #[test]
-    fn the_opening_state_has_no_routes(rt: HostRuntime) -> Result<(), Fail> {
-        let mut areas = Areas::new(rt.alloc());
-        areas.push(AreaConfig {
-            id: 0,
-            stub: None,
-            ranges: Ranges::new(rt.alloc()),
-        })?;
-        let config = Config {
-            router: 0x0a00_0001,
-            areas,
-        };
-        let limits = Limits {
-            area_lsas: 16,
-            externals: 16,
-            events: 16,
-        };
-        let state = State::new(rt.alloc(), config, limits)?;
-        let table = build(rt.alloc(), &state)?;
-        assert_eq!(rt; table.serial(), 0);
-        assert!(rt; table.items().next().is_none());
-        Ok(())
-    }
 }

@@ -1,5 +1,5 @@
 use Rattle.std.proofs.Common.{ap, subst, sym}
-use Rattle.event_core.specs.States.{State}
+use Rattle.event_state.specs.States.{State}
 use Rattle.event_core.specs.Configs.{HasNoRanges}
 use Rattle.event_core.proofs.Configs.{sound_apart, sound_ranges}
 use Rattle.event_core.proofs.core_state.Core.open_sound.Goals as goal

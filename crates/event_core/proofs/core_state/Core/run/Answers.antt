@@ -2,9 +2,9 @@ use Rattle.std.proofs.Common.{◌≡◌, List, [], ◌∷◌, ◌++◌, length, 
 use Rattle.std.specs.Prelude.{Result}
 use Rattle.std.proofs.lemmas.List.{append-nil, nil_from_length}
 use Rattle.std.specs.Vec.Iter.{into_iter_items}
-use Rattle.event_core.specs.declared.event.Event.{Event}
-use Rattle.event_core.specs.declared.event.Reply.{Reply}
-use Rattle.event_core.specs.declared.refusal.Refusal.{Refusal}
+use Rattle.event_state.specs.declared.event.Event.{Event}
+use Rattle.event_core.specs.declared.reply.Reply.{Reply}
+use Rattle.event_state.specs.declared.refusal.Refusal.{Refusal}
 use Rattle.event_core.specs.Cores.{Runs}
 use Rattle.event_core.proofs.core_state.Core.run.Goals as goal
 

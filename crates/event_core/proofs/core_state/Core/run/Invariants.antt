@@ -1,8 +1,8 @@
 use Rattle.std.proofs.Common.{◌≡◌, ◌≤◌, ◌+◌, ◌++◌, List, length, vec_len, vec_capacity}
 use Rattle.std.specs.Prelude.{Result}
 use Rattle.std.specs.Vec.Iter.{into_iter_items}
-use Rattle.event_core.specs.declared.event.Reply.{Reply}
-use Rattle.event_core.specs.declared.refusal.Refusal.{Refusal}
+use Rattle.event_core.specs.declared.reply.Reply.{Reply}
+use Rattle.event_state.specs.declared.refusal.Refusal.{Refusal}
 use Rattle.event_core.specs.Cores.{CoreValue, Runs}
 use Rattle.event_core.proofs.core_state.Core.run.Given as goal
 

@@ -1,8 +1,0 @@
-use Rattle.std.proofs.Common.{sym, ap, ◌∙◌}
-use Rattle.std.specs.FinMap.{entries}
-use Rattle.event_core.specs.States.{State}
-use Rattle.event_core.proofs.HeldStates.{entries-interfaces}
-use Rattle.event_core.proofs.state.State.interfaces.Goals as goal
-
-pub returns : goal.returns
-returns c = c.iter.ensures.rest ∙ sym (entries-interfaces c.self.inside.interfaces c.iter.ensures.ordered) ∙ ap (λ (s : State). entries s.interfaces) c.self.view_is

@@ -1,0 +1,18 @@
+/// Whether the routing table is that of the state now.
+#[derive(Clone, Copy, Debug, PartialEq, Eq)]
+pub enum Standing {
+    /// The table is that of the state now.
+    Current,
+    /// A growth was refused, and the table is that of an earlier prefix of the journal.
+    Behind,
+}
+
+/// The answer to an event that was taken.
+#[derive(Clone, Copy, Debug, PartialEq, Eq)]
+pub struct Reply {
+    /// How many events have been taken, with this one.
+    pub serial: u64,
+    /// Whether the usable LSAs (key, Options, body) or the interfaces differ from before.
+    pub changed: bool,
+    pub state: Standing,
+}

@@ -1,0 +1,72 @@
+-- What is known of an event that no test refuses.
+use Rattle.std.proofs.Common.{◌≡◌, Bool, true, false, List, [], ◌∷◌, Option, Some, None, refl, sym, ap, ◌∙◌}
+use Rattle.std.specs.Prelude.{not, is_none, option_map, option_and_then, if◌then◌else◌}
+use Rattle.std.specs.FinMap.{get, empty}
+use Rattle.std.proofs.Common.{get_or, drop, ℕ}
+use Rattle.ospf_types.specs.FirstOf.{first_of}
+use Rattle.ospf_types.specs.declared.key.Key.{Key}
+use Rattle.ospf_types.specs.declared.key.Scope.{Scope}
+use Rattle.ospf_types.specs.Lsa.{Lsa, MaxAge, key_of}
+use Rattle.lsdb.specs.Databases.{Database, install_refusal_of, purge_refusal_of, is_older_than, is_same_as, is_full_for}
+use Rattle.lsdb.specs.declared.refusal.InstallRefusal.TheVariants as install
+use Rattle.lsdb.specs.declared.refusal.PurgeRefusal.TheVariants as purge
+use Rattle.event_state.specs.declared.event.Event.{Event}
+use Rattle.event_state.specs.declared.event.Event.TheVariants as event
+use Rattle.event_state.specs.declared.refusal.Refusal.TheVariants as refusal
+use Rattle.event_state.specs.States.{State, place_of}
+use Rattle.event_state.specs.Steps.{IsAccepted, refusal_of, tests_of, lacks_area, is_not_own, is_misplaced, is_not_yet, is_older, is_repeated, has_no_lsa, is_young, is_full, is_full_in, is_stub_only, is_out_of_scope, held_at, limit_of, is_below_max_age}
+
+passed : {X : Type 0} (test : Bool) (x : X) (rest : List (Bool × X)) → first_of ((test, x) ∷ rest) ≡ None → (test ≡ false) × (first_of rest ≡ None)
+passed true x rest e = absurd cc
+passed false x rest e = (refl, e)
+
+pub accepted : (s : State) (e : Event) → refusal_of s e ≡ None → IsAccepted s e
+accepted s e none =
+    let area = passed (lacks_area s e) refusal.NoArea (drop 1 (tests_of s e)) none in
+    let scope = passed (is_misplaced e) refusal.Scope (drop 2 (tests_of s e)) area.1 in
+    let known = passed (is_not_yet e) refusal.NotYet (drop 3 (tests_of s e)) scope.1 in
+    let older = passed (is_older s e) refusal.Older (drop 4 (tests_of s e)) known.1 in
+    let repeated = passed (is_repeated s e) refusal.Same (drop 5 (tests_of s e)) older.1 in
+    let there = passed (has_no_lsa s e) refusal.NoLsa (drop 6 (tests_of s e)) repeated.1 in
+    let own = passed (is_not_own s e) refusal.NotOwn (drop 7 (tests_of s e)) there.1 in
+    let young = passed (is_young s e) refusal.NotMaxAge (drop 8 (tests_of s e)) own.1 in
+    let full = passed (is_full s e) refusal.Full (drop 9 (tests_of s e)) young.1 in
+    record { placed = scope.0; known = known.0; newer = older.0; differs = repeated.0; there = there.0; aged = young.0; room = full.0 }
+
+known_stub : (b : Bool) → not b ≡ false → b ≡ true
+known_stub true e = refl
+known_stub false e = absurd cc
+
+none_of_three : (a b c : Bool) → a ≡ false → b ≡ false → c ≡ false → first_of ((a, install.Older) ∷ (b, install.Same) ∷ (c, install.Full) ∷ []) ≡ None
+none_of_three true b c e f g = absurd cc
+none_of_three false true c e f g = absurd cc
+none_of_three false false true e f g = absurd cc
+none_of_three false false false e f g = refl
+
+old_enough : (o : Option Lsa) → is_none o ≡ false → is_below_max_age o ≡ false → purge_refusal_of o ≡ None
+old_enough None there aged = absurd cc
+old_enough (Some l) there aged = ap (λ (b : Bool). if b then Some purge.NotMaxAge else None) aged
+
+module _ (s : State) (at : Scope) (k : ℕ) (place : place_of s.config.areas at ≡ Some k) where
+  abbrev here : Database
+  here = get_or s.databases k empty
+
+  -- what is held under a key is what the database at the place has
+  held_is : (key : Key) → held_at s at key ≡ get here key
+  held_is key = ap (λ (o : Option ℕ). option_and_then (λ (d : Database). get d key) (option_map (λ j. get_or s.databases j empty) o)) place
+
+  -- an LSA whose install is taken is not refused by its database
+  pub install_fits : (lsa : Lsa) → IsAccepted s (event.Install at lsa) → install_refusal_of here (limit_of s.limits at) lsa ≡ None
+  install_fits lsa a =
+      none_of_three _ _ _
+      (sym (ap (is_older_than lsa) (held_is (key_of lsa))) ∙ a.newer)
+      (sym (ap (is_same_as lsa) (held_is (key_of lsa))) ∙ a.differs)
+      (sym (ap (λ (o : Option ℕ). is_full_in (limit_of s.limits at) lsa (option_map (λ j. get_or s.databases j empty) o)) place) ∙ a.room)
+
+  -- what is purged is at MaxAge
+  pub purge_allowed : (key : Key) → IsAccepted s (event.Purge at key) → purge_refusal_of (get here key) ≡ None
+  purge_allowed key a = old_enough (get here key) (sym (ap is_none (held_is key)) ∙ a.there) (sym (ap is_below_max_age (held_is key)) ∙ a.aged)
+
+-- an LSA whose install is taken is one of its scope, with a calculation
+pub install_placed : (s : State) (at : Scope) (lsa : Lsa) → IsAccepted s (event.Install at lsa) → (is_out_of_scope at lsa.header.kind ≡ false) × (is_stub_only lsa.body ≡ true)
+install_placed s at lsa a = (a.placed, known_stub _ a.known)

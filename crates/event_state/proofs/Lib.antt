@@ -1,0 +1,9 @@
+pub mod Maps
+pub mod InPlace
+pub mod StubOnly
+pub mod Places
+pub mod OneChange
+pub mod HeldStates
+pub mod Looks
+pub mod Accepted
+pub mod Carried

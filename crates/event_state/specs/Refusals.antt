@@ -1,0 +1,20 @@
+-- What a refusal is of.
+use Rattle.std.specs.Prelude.{◌≡◌, ◌⊎◌, Some, None}
+use Rattle.lsdb.specs.declared.refusal.InstallRefusal.{InstallRefusal}
+use Rattle.lsdb.specs.declared.refusal.InstallRefusal.TheVariants as install
+use Rattle.event_state.specs.declared.event.Event.{Event}
+use Rattle.event_state.specs.declared.refusal.Refusal.{Refusal}
+use Rattle.event_state.specs.declared.refusal.Refusal.TheVariants as refusal
+use Rattle.event_state.specs.States.{State}
+use Rattle.event_state.specs.Steps.{refusal_of}
+
+-- the first of the table that holds, or Memory for an event that is taken otherwise
+abbrev pub IsRefusalOf : State → Event → Refusal → Type 0
+IsRefusalOf s e r = (refusal_of s e ≡ Some r) ⊎ ((r ≡ refusal.Memory) × (refusal_of s e ≡ None))
+
+-- a database's refusal of an LSA, as one of the event
+abbrev pub refusal_for : InstallRefusal → Refusal
+refusal_for install.Older = refusal.Older
+refusal_for install.Same = refusal.Same
+refusal_for install.Full = refusal.Full
+refusal_for install.Memory = refusal.Memory

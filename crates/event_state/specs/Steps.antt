@@ -1,0 +1,228 @@
+-- One event: the first refusal that holds, or what it does to the state; and runs of events (RFC 2328, 13.2 and 14).
+use Rattle.std.specs.Prelude.{ℕ, ◌==◌, ◌&&◌, ◌≡◌, not, Bool, true, false, nat_le, nat_lt, List, [], ◌∷◌, ◌++◌, map, length, Option, Some, None, is_none, option_and_then}
+use Rattle.std.specs.List.{list_all, list_any}
+use Rattle.std.specs.FinMap.{entries, get, insert, remove, empty}
+use Rattle.ospf_types.specs.FirstOf.{first_of}
+use Rattle.ospf_types.specs.declared.config.Config.{Config}
+use Rattle.ospf_types.specs.declared.config.AreaConfig.{AreaConfig}
+use Rattle.ospf_types.specs.declared.config.Interface.{Interface}
+use Rattle.ospf_types.specs.declared.key.Key.{Key}
+use Rattle.ospf_types.specs.declared.key.Scope.{Scope}
+use Rattle.ospf_types.specs.declared.key.Scope.TheVariants as scope
+use Rattle.ospf_types.specs.declared.lsa.LinkKind.{LinkKind}
+use Rattle.ospf_types.specs.declared.lsa.LinkKind.TheVariants as kind
+use Rattle.ospf_types.specs.Lsa.{Lsa, Body, RouterLinks, NetworkLinks, NetworkSummary, BoundarySummary, AsExternal, MaxAge, key_of}
+use Rattle.lsdb.specs.Databases.{Database, all_aged, aged_out, is_older_than, is_same_as, is_full_for}
+use Rattle.event_state.specs.declared.event.Event.{Event}
+use Rattle.event_state.specs.declared.event.Event.TheVariants as event
+use Rattle.event_state.specs.declared.limits.Limits.{Limits}
+use Rattle.event_state.specs.declared.refusal.Refusal.{Refusal}
+use Rattle.event_state.specs.declared.refusal.Refusal.TheVariants as refusal
+use Rattle.event_state.specs.States.{State, place_of, database_of, with_change}
+
+-- ---- the tests, a line of the table of refusals each
+
+-- the area of the scope, or of the interface, is not configured
+abbrev pub lacks_area : State → Event → Bool
+lacks_area s (event.Install at lsa) = is_none (place_of s.config.areas at)
+lacks_area s (event.Flush at key) = is_none (place_of s.config.areas at)
+lacks_area s (event.Purge at key) = is_none (place_of s.config.areas at)
+lacks_area s (event.Interface id area address peer up) = is_none (place_of s.config.areas (scope.Area area))
+lacks_area s event.Second = false
+
+-- AS-external-LSAs are those of the AS, and all others are those of an area
+abbrev pub is_out_of_scope : Scope → ℕ → Bool
+is_out_of_scope (scope.Area id) kind = kind == 5
+is_out_of_scope scope.As kind = not (kind == 5)
+
+-- an AS-external-LSA's key for an area, or another one's for the AS
+abbrev pub is_misplaced : Event → Bool
+is_misplaced (event.Install at lsa) = is_out_of_scope at lsa.header.kind
+is_misplaced (event.Flush at key) = is_out_of_scope at key.kind
+is_misplaced (event.Purge at key) = is_out_of_scope at key.kind
+is_misplaced (event.Interface id area address peer up) = false
+is_misplaced event.Second = false
+
+abbrev pub is_edge_kind : LinkKind → Bool
+is_edge_kind kind.PointToPoint = true
+is_edge_kind kind.Transit = true
+is_edge_kind kind.Stub = false
+is_edge_kind kind.Virtual = false
+
+-- a router-LSA of which no link leads to a vertex
+abbrev pub is_stub_only : Body → Bool
+is_stub_only (RouterLinks flags links) = list_all (λ l. not (is_edge_kind l.kind)) links
+is_stub_only (NetworkLinks mask routers) = false
+is_stub_only (NetworkSummary mask metric tos) = false
+is_stub_only (BoundarySummary metric tos) = false
+is_stub_only (AsExternal mask first more) = false
+
+-- no calculation stands yet for this LSA
+abbrev pub is_not_yet : Event → Bool
+is_not_yet (event.Install at lsa) = not (is_stub_only lsa.body)
+is_not_yet (event.Flush at key) = false
+is_not_yet (event.Purge at key) = false
+is_not_yet (event.Interface id area address peer up) = false
+is_not_yet event.Second = false
+
+-- the instance that the database of the scope has under the key
+abbrev pub held_at : State → Scope → Key → Option Lsa
+held_at s at key = option_and_then (λ d. get d key) (database_of s at)
+
+-- the database's instance is newer
+abbrev pub is_older : State → Event → Bool
+is_older s (event.Install at lsa) = is_older_than lsa (held_at s at (key_of lsa))
+is_older s (event.Flush at key) = false
+is_older s (event.Purge at key) = false
+is_older s (event.Interface id area address peer up) = false
+is_older s event.Second = false
+
+-- the database has the same instance
+abbrev pub is_repeated : State → Event → Bool
+is_repeated s (event.Install at lsa) = is_same_as lsa (held_at s at (key_of lsa))
+is_repeated s (event.Flush at key) = false
+is_repeated s (event.Purge at key) = false
+is_repeated s (event.Interface id area address peer up) = false
+is_repeated s event.Second = false
+
+-- the database has no LSA under the key
+abbrev pub has_no_lsa : State → Event → Bool
+has_no_lsa s (event.Install at lsa) = false
+has_no_lsa s (event.Flush at key) = is_none (held_at s at key)
+has_no_lsa s (event.Purge at key) = is_none (held_at s at key)
+has_no_lsa s (event.Interface id area address peer up) = false
+has_no_lsa s event.Second = false
+
+-- the LSA to be aged prematurely is another router's
+abbrev pub is_not_own : State → Event → Bool
+is_not_own s (event.Install at lsa) = false
+is_not_own s (event.Flush at key) = not (key.router == s.config.router)
+is_not_own s (event.Purge at key) = false
+is_not_own s (event.Interface id area address peer up) = false
+is_not_own s event.Second = false
+
+-- an LSA below MaxAge
+abbrev pub is_below_max_age : Option Lsa → Bool
+is_below_max_age None = false
+is_below_max_age (Some l) = nat_lt l.header.age MaxAge
+
+-- the LSA to be purged is not at MaxAge
+abbrev pub is_young : State → Event → Bool
+is_young s (event.Install at lsa) = false
+is_young s (event.Flush at key) = false
+is_young s (event.Purge at key) = is_below_max_age (held_at s at key)
+is_young s (event.Interface id area address peer up) = false
+is_young s event.Second = false
+
+-- how many LSAs the database of a scope may hold
+abbrev pub limit_of : Limits → Scope → ℕ
+limit_of limits (scope.Area id) = limits.area_lsas
+limit_of limits scope.As = limits.externals
+
+-- how much a state holds, unless it is said otherwise
+abbrev pub standard_limits : Limits
+standard_limits = record { area_lsas = 16384; externals = 65536; events = 1000000 }
+
+abbrev pub is_full_in : ℕ → Lsa → Option Database → Bool
+is_full_in limit lsa None = false
+is_full_in limit lsa (Some d) = is_full_for d limit lsa
+
+-- a new key where the database is at its limit
+abbrev pub is_full : State → Event → Bool
+is_full s (event.Install at lsa) = is_full_in (limit_of s.limits at) lsa (database_of s at)
+is_full s (event.Flush at key) = false
+is_full s (event.Purge at key) = false
+is_full s (event.Interface id area address peer up) = false
+is_full s event.Second = false
+
+-- as many events were taken as the journal may hold
+abbrev pub is_journal_full : State → Bool
+is_journal_full s = nat_le s.limits.events (length s.journal)
+
+-- the interface is up and has this address, and its id is another one
+abbrev pub has_address : ℕ → ℕ → ℕ × Interface → Bool
+has_address id address e = not (e.0 == id) && (e.1.up && (e.1.address == address))
+
+-- the interface is up, and another one that is up has its address
+abbrev pub is_address_taken : State → Event → Bool
+is_address_taken s (event.Install at lsa) = false
+is_address_taken s (event.Flush at key) = false
+is_address_taken s (event.Purge at key) = false
+is_address_taken s (event.Interface id area address peer up) = up && list_any (has_address id address) (entries s.interfaces)
+is_address_taken s event.Second = false
+
+-- the table of refusals, in its order
+abbrev pub tests_of : State → Event → List (Bool × Refusal)
+tests_of s e =
+    (lacks_area s e, refusal.NoArea)
+    ∷ (is_misplaced e, refusal.Scope)
+    ∷ (is_not_yet e, refusal.NotYet)
+    ∷ (is_older s e, refusal.Older)
+    ∷ (is_repeated s e, refusal.Same)
+    ∷ (has_no_lsa s e, refusal.NoLsa)
+    ∷ (is_not_own s e, refusal.NotOwn)
+    ∷ (is_young s e, refusal.NotMaxAge)
+    ∷ (is_full s e, refusal.Full)
+    ∷ (is_journal_full s, refusal.JournalFull)
+    ∷ (is_address_taken s e, refusal.AddressTaken)
+    ∷ []
+
+-- the first refusal of the table that holds; none where the event is taken
+abbrev pub refusal_of : State → Event → Option Refusal
+refusal_of s e = first_of (tests_of s e)
+
+-- what is known of an event that is taken, whatever the journal
+pub record IsAccepted (s : State) (e : Event) : Type 0 where
+  pub placed : is_misplaced e ≡ false
+  pub known : is_not_yet e ≡ false
+  pub newer : is_older s e ≡ false
+  pub differs : is_repeated s e ≡ false
+  pub there : has_no_lsa s e ≡ false
+  pub aged : is_young s e ≡ false
+  pub room : is_full s e ≡ false
+
+-- ---- what an event does
+
+abbrev pub with_interface : State → ℕ → Interface → State
+with_interface s id i = record s { interfaces = insert s.interfaces id i }
+
+-- the databases and interfaces after the event
+abbrev pub changed_by : State → Event → State
+changed_by s (event.Install at lsa) = with_change s at (λ d. insert d (key_of lsa) lsa)
+changed_by s (event.Flush at key) = with_change s at (λ d. aged_out d key)
+changed_by s (event.Purge at key) = with_change s at (λ d. remove d key)
+changed_by s (event.Interface id area address peer up) = with_interface s id (record { area = area; address = address; peer = peer; up = up })
+changed_by s event.Second = record s { databases = map all_aged s.databases }
+
+-- the state after an event that is taken
+abbrev pub step : State → Event → State
+step s e = record (changed_by s e) { journal = s.journal ++ e ∷ [] }
+
+-- ---- runs
+
+-- no interfaces, empty databases, no event
+abbrev pub opening : Config → Limits → State
+opening config limits = record {
+  config = config;
+  limits = limits;
+  databases = map (λ (a : AreaConfig). empty) config.areas ++ empty ∷ [];
+  interfaces = empty;
+  journal = [];
+}
+
+-- the state after these events
+abbrev pub run_from : State → List Event → State
+run_from s [] = s
+run_from s (e ∷ es) = run_from (step s e) es
+
+abbrev pub run_of : Config → Limits → List Event → State
+run_of config limits events = run_from (opening config limits) events
+
+-- each of these events is taken in its turn
+abbrev pub AreTaken : State → List Event → Type 0
+AreTaken s [] = Unit {0}
+AreTaken s (e ∷ es) = (refusal_of s e ≡ None) × AreTaken (step s e) es
+
+-- a list of events of which each is taken in its turn, from the opening state
+abbrev pub IsLegalList : Config → Limits → List Event → Type 0
+IsLegalList config limits events = AreTaken (opening config limits) events

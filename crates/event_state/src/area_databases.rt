@@ -1,0 +1,69 @@
+//! The databases of the areas, and of the AS behind them: a change to the one at a place.
+ghost use Rattle.std.specs.Prelude.{◌≡◌, ◌↔◌, ◌<◌, None, false, OnOk, OnErr, IfOk, All, length, slice_index_or, slice_set, map as list_map};
+ghost use Rattle.std.specs.FinMap as map;
+ghost use Rattle.ospf_types.specs.Lsa.{key_of};
+ghost use Rattle.lsa_codec.specs.Spelling.{IsLegal};
+ghost use Rattle.lsdb.specs.Databases.{all_aged, aged_out, install_refusal_of, purge_refusal_of};
+ghost use Rattle.lsdb.specs.Contents.{used_at, IsUsedAlike, NoneComes};
+ghost use Rattle.event_state.specs.Changes.{IsChange, no_database, aged_value};
+
+use lsa_codec::Checked;
+use lsdb::{Database, NoLsa, PurgeRefusal};
+use ospf_types::key::Key;
+use ospf_types::memory::Memory;
+
+// Puts the LSA into the database at the place. The answer is whether what is used of it differs.
+pub(crate) fn put_at(
+    databases: &mut [Database],
+    place: usize,
+    lsa: Checked,
+) -> Result<bool, Memory>
+    requires within { place < length databases.old }
+    requires fits { let d = slice_index_or databases.old place no_database in install_refusal_of d.lsas d.limit lsa ≡ None }
+    ensures unchanged { OnErr result (databases.new ≡ databases.old) }
+    ensures done { OnOk result (IsChange databases.old databases.new place (λ d. map.insert d (key_of lsa) lsa)) }
+    ensures changed { IfOk result (λ changed. (changed ≡ false) ↔ IsUsedAlike (slice_index_or databases.old place no_database).lsas lsa) }
+    ensures legal { IsLegal lsa }
+{
+    let database = &mut databases[place];
+    database.put(lsa)
+}
+
+// Brings the LSA under the key in the database at the place to MaxAge. The answer is whether it was
+// used before.
+pub(crate) fn age_out_at(databases: &mut [Database], place: usize, key: Key) -> bool
+    requires { place < length databases.old }
+    ensures done { IsChange databases.old databases.new place (λ d. aged_out d key) }
+    ensures changed { (result ≡ false) ↔ (used_at (slice_index_or databases.old place no_database).lsas key ≡ None) }
+{
+    let database = &mut databases[place];
+    match database.age_out(key) {
+        Ok(changed) => changed,
+        Err(NoLsa) => false,
+    }
+}
+
+// Takes the LSA under the key, which is at MaxAge, out of the database at the place.
+pub(crate) fn purge_at(databases: &mut [Database], place: usize, key: Key)
+    requires within { place < length databases.old }
+    requires allowed { purge_refusal_of (map.get (slice_index_or databases.old place no_database).lsas key) ≡ None }
+    ensures { IsChange databases.old databases.new place (λ d. map.remove d key) }
+{
+    let database = &mut databases[place];
+    match database.purge(key) {
+        Ok(()) => {}
+        Err(PurgeRefusal::NoLsa | PurgeRefusal::NotMaxAge) => unreachable!(),
+    }
+}
+
+// A second passes in each database. The answer is whether an LSA came to MaxAge.
+pub(crate) fn age_all(databases: &mut [Database]) -> bool
+    ensures done { databases.new ≡ list_map aged_value databases.old }
+    ensures changed { (result ≡ false) ↔ All (λ d. NoneComes d.lsas) databases.old }
+{
+    let mut changed = false;
+    for database in databases.iter_mut() {
+        changed |= database.second() > 0;
+    }
+    changed
+}

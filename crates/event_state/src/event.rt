@@ -1,0 +1,72 @@
+ghost use Rattle.std.specs.Prelude.{◌≡◌, IfOk};
+
+use lsa_codec::Checked;
+use ospf_types::key::{Key, Scope};
+use ospf_types::memory::Memory;
+use std::alloc::Global;
+
+/// What happens to the router's databases and interfaces.
+#[derive(Debug, Drop)]
+pub enum Event {
+    /// An LSA is installed in the database of its scope (RFC 2328, 13.2).
+    Install {
+        scope: Scope,
+        lsa: Checked,
+    },
+    /// An LSA of the router's own is aged prematurely: it comes to MaxAge at once (RFC 2328, 14.1).
+    Flush {
+        scope: Scope,
+        key: Key,
+    },
+    /// An LSA at MaxAge leaves its database, as no neighbour needs it any more (RFC 2328, 14).
+    Purge {
+        scope: Scope,
+        key: Key,
+    },
+    /// An interface takes the place of what the id held. A peer of 0 means none.
+    Interface {
+        id: u8,
+        area: u32,
+        address: u32,
+        peer: u32,
+        up: bool,
+    },
+    /// A second passes, and each age below MaxAge rises by one (RFC 2328, 14).
+    Second,
+}
+
+impl Event {
+    /// An equal value.
+    pub fn copy(&self, alloc: Global) -> Result<Event, Memory>
+        ensures { IfOk result (λ event. event ≡ self.now) }
+    {
+        match self {
+            Event::Install { scope, lsa } => Ok(Event::Install {
+                scope: *scope,
+                lsa: lsa.copy(alloc)?,
+            }),
+            Event::Flush { scope, key } => Ok(Event::Flush {
+                scope: *scope,
+                key: *key,
+            }),
+            Event::Purge { scope, key } => Ok(Event::Purge {
+                scope: *scope,
+                key: *key,
+            }),
+            Event::Interface {
+                id,
+                area,
+                address,
+                peer,
+                up,
+            } => Ok(Event::Interface {
+                id: *id,
+                area: *area,
+                address: *address,
+                peer: *peer,
+                up: *up,
+            }),
+            Event::Second => Ok(Event::Second),
+        }
+    }
+}

@@ -1,0 +1,42 @@
+//! The interfaces of the root, by their ids.
+ghost use Rattle.std.specs.Prelude.{◌≡◌, ◌↔◌, Some, false, OnOk, OnErr, IfOk};
+ghost use Rattle.std.specs.List.{list_any};
+ghost use Rattle.std.specs.Ordering.{nat_cmp};
+ghost use Rattle.std.specs.BTreeMap.{IsOrdered};
+ghost use Rattle.std.specs.FinMap as map;
+ghost use Rattle.event_state.specs.States.{interfaces_of};
+ghost use Rattle.event_state.specs.Steps.{has_address};
+
+use ospf_types::config::Interface;
+use ospf_types::memory::Memory;
+use std::collections::BTreeMap;
+
+// Whether an interface that is up and has another id has the address.
+pub(crate) fn is_address_taken(
+    interfaces: &BTreeMap<u8, Interface>,
+    id: u8,
+    address: u32,
+) -> bool
+    ensures value { result ≡ list_any (has_address id address) interfaces.now.entries }
+    ensures in_order { IsOrdered nat_cmp interfaces.now }
+{
+    interfaces.iter().any(|(other, interface)| *other != id
+        && interface.up
+        && interface.address == address)
+}
+
+// Puts the interface in place of what the id held. The answer is whether it differs.
+pub(crate) fn put_interface(
+    interfaces: &mut BTreeMap<u8, Interface>,
+    id: u8,
+    interface: Interface,
+) -> Result<bool, Memory>
+    ensures unchanged { OnErr result (interfaces.new.entries ≡ interfaces.old.entries) }
+    ensures done { OnOk result (interfaces_of interfaces.new ≡ map.insert (interfaces_of interfaces.old) id interface) }
+    ensures changed { IfOk result (λ changed. (changed ≡ false) ↔ (map.get (interfaces_of interfaces.old) id ≡ Some interface)) }
+{
+    match interfaces.insert(id, interface)? {
+        None => Ok(true),
+        Some(before) => Ok(before != interface),
+    }
+}

@@ -1,0 +1,75 @@
+ghost use Rattle.std.specs.Prelude.{◌≡◌, Some};
+ghost use Rattle.event_state.specs.Texts.{refusal_text};
+ghost use Rattle.event_state.specs.Refusals.{refusal_for};
+
+use lsdb::InstallRefusal;
+use std::error::Error;
+use std::fmt;
+
+/// Why an event was not taken: the first of these, in this order, that holds. It left everything as it
+/// was.
+#[derive(Clone, Copy, Debug, PartialEq, Eq)]
+pub enum Refusal {
+    /// The area of the scope or of the interface is not configured.
+    NoArea,
+    /// An AS-external-LSA's key for an area, or another one's for the AS.
+    Scope,
+    /// No calculation stands yet for this LSA.
+    NotYet,
+    /// The database's instance is newer (RFC 2328, 13.1).
+    Older,
+    /// The database has the same instance.
+    Same,
+    /// The database has no LSA under the key.
+    NoLsa,
+    /// The LSA to be aged prematurely is not the router's own (RFC 2328, 14.1).
+    NotOwn,
+    /// The LSA to be purged is not at MaxAge (RFC 2328, 14).
+    NotMaxAge,
+    /// A new key where the database is at its limit.
+    Full,
+    /// As many events were taken as the journal may hold.
+    JournalFull,
+    /// The interface is up, and another one that is up has its address.
+    AddressTaken,
+    /// A growth was refused.
+    Memory,
+}
+
+impl Refusal {
+    // What a database's refusal of an LSA is as one of the event.
+    pub(crate) fn of_install(refusal: InstallRefusal) -> Refusal
+        ensures { result ≡ refusal_for refusal }
+    {
+        match refusal {
+            InstallRefusal::Older => Refusal::Older,
+            InstallRefusal::Same => Refusal::Same,
+            InstallRefusal::Full => Refusal::Full,
+            InstallRefusal::Memory => Refusal::Memory,
+        }
+    }
+}
+
+/// The number and the name, as `23 Same`.
+impl fmt::Display for Refusal {
+    ghost output = { λ refusal. Some (refusal_text refusal) };
+
+    fn fmt<W: fmt::Write>(&self, f: &mut fmt::Formatter<W>) -> fmt::Result {
+        f.write_str(match self {
+            Refusal::NoArea => "20 NoArea",
+            Refusal::Scope => "21 Scope",
+            Refusal::NotYet => "33 NotYet",
+            Refusal::Older => "22 Older",
+            Refusal::Same => "23 Same",
+            Refusal::NoLsa => "24 NoLsa",
+            Refusal::NotOwn => "25 NotOwn",
+            Refusal::NotMaxAge => "26 NotMaxAge",
+            Refusal::Full => "27 Full",
+            Refusal::JournalFull => "28 JournalFull",
+            Refusal::AddressTaken => "29 AddressTaken",
+            Refusal::Memory => "30 Memory",
+        })
+    }
+}
+
+impl Error for Refusal {}

@@ -1,0 +1,426 @@
+ghost use Rattle.std.specs.Prelude.{◌≡◌, ◌↔◌, ◌<◌, ◌+◌, false, None, Some, IfErr, IfOk, IfSome, OnOk, OnErr, length, option_map, map as list_map};
+ghost use Rattle.std.specs.List.{list_any};
+ghost use Rattle.std.specs.FinMap as map;
+ghost use Rattle.event_state.specs.States.{AreApart, LooksAlike, place_of, database_of};
+ghost use Rattle.event_state.specs.Changes.{empty_values};
+ghost use Rattle.event_state.specs.Steps.{changed_by, with_interface, refusal_of, IsAccepted, step, opening, is_stub_only, is_edge_kind, is_out_of_scope, has_address, limit_of, standard_limits};
+ghost use Rattle.event_state.specs.Held.{AreFit};
+ghost use Rattle.event_state.specs.Refusals.{IsRefusalOf};
+
+use crate::area_databases::{age_all, age_out_at, purge_at, put_at};
+use crate::event::Event;
+use crate::interfaces::{is_address_taken, put_interface};
+use crate::limits::Limits;
+use crate::refusal::Refusal;
+use lsa_codec::Checked;
+use lsdb::Database;
+use ospf_types::config::{AreaConfig, Config, Interface};
+use ospf_types::key::{Key, Scope};
+use ospf_types::lsa::{AS_EXTERNAL_LSA, LinkKind, MAX_AGE, ROUTER_LSA};
+use ospf_types::memory::Memory;
+use std::alloc::Global;
+use std::collections::{BTreeMap, btree_map};
+use std::hash::RandomState;
+use std::marker::Model;
+
+/// The link-state databases, the interfaces, and the journal of the events that made them.
+#[derive(Drop)]
+pub struct State {
+    config: Config,
+    limits: Limits,
+    databases: Vec<Database>,
+    interfaces: BTreeMap<u8, Interface>,
+    journal: Vec<Event>,
+}
+
+impl Model for State {
+    ghost use Rattle.event_state.specs.States.{State as StateValue};
+
+    ghost Value = { StateValue };
+
+    ghost use Rattle.std.specs.FinMap as map;
+    ghost use Rattle.std.specs.Ordering.{nat_cmp};
+    ghost use Rattle.std.specs.Coded.{Coded, codes, coded_ℕ};
+    ghost use Rattle.ospf_types.specs.Keys.{key_code};
+    ghost use Rattle.ospf_types.specs.declared.config.Interface.{Interface};
+    ghost use Rattle.lsdb.specs.Databases.{Database as Lsas};
+
+    ghost coded = { let database : Coded Lsas = map.code key_code (Prim.hlevel codes) in
+        let interfaces : Coded (map.FinMap nat_cmp Interface) = map.code coded_ℕ (Prim.hlevel codes) in
+        Prim.hlevel (codes, database, interfaces) };
+
+    ghost use Rattle.event_state.specs.States.{interfaces_of};
+    ghost use Rattle.event_state.specs.Changes.{lsas_in};
+    ghost use Rattle.event_state.specs.Held.{IsHeld};
+
+    ghost view = { λ s. record {
+      config = s.config;
+      limits = s.limits;
+      databases = lsas_in s.databases.items;
+      interfaces = interfaces_of s.interfaces;
+      journal = s.journal.items;
+    } };
+
+    ghost invariant = { λ s. IsHeld s.config s.limits s.databases.items };
+}
+
+impl State {
+    /// No interfaces, empty databases and an empty journal, with the standard limits.
+    pub fn new(alloc: Global, config: Config, hashing: RandomState) -> Result<State, Memory>
+        requires { AreApart config.areas }
+        ensures { IfOk result (λ state. state ≡ opening config standard_limits) }
+    {
+        State::within(alloc, config, Limits::STANDARD, hashing)
+    }
+
+    /// The same with limits of one's own.
+    pub fn within(
+        alloc: Global,
+        config: Config,
+        limits: Limits,
+        hashing: RandomState,
+    ) -> Result<State, Memory>
+        requires { AreApart config.areas }
+        ensures { IfOk result (λ state. state ≡ opening config limits) }
+    {
+        let databases = empty_databases(alloc, config.areas.as_slice(), limits, hashing)?;
+        Ok(State {
+            config,
+            limits,
+            databases,
+            interfaces: BTreeMap::new(alloc),
+            journal: Vec::new(alloc),
+        })
+    }
+
+    pub fn config(&self) -> &Config
+        ensures value { result.now ≡ self.now.config }
+        ensures fit { AreFit self.now.config.areas self.now.databases }
+    {
+        &self.config
+    }
+
+    /// The interfaces with their ids, ascending by these.
+    pub fn interfaces(&self) -> btree_map::Iter<'_, u8, Interface>
+        ensures { result ≡ map.entries self.now.interfaces }
+    {
+        self.interfaces.iter()
+    }
+
+    /// The events that were taken, in their order.
+    pub fn journal(&self) -> &[Event]
+        ensures { result.now ≡ self.now.journal }
+    {
+        self.journal.as_slice()
+    }
+
+    /// The database of a scope; none for an area that is not configured.
+    pub fn database(&self, scope: Scope) -> Option<&Database>
+        ensures value { option_map (λ d. d.now.lsas) result ≡ database_of self.now scope }
+        ensures limit { IfSome result (λ d. d.now.limit ≡ limit_of self.now.limits scope) }
+    {
+        let place = place_of(self.config.areas.as_slice(), scope)?;
+        let databases = self.databases.as_slice();
+        Some(&databases[place])
+    }
+}
+
+impl State {
+    /// The first refusal that holds for the event, memory aside.
+    pub fn refusal(&self, event: &Event) -> Option<Refusal>
+        ensures { result ≡ refusal_of self.now event.now }
+    {
+        match event {
+            Event::Install { scope, lsa } => self.install_refusal(*scope, lsa),
+            Event::Flush { scope, key } => self.flush_refusal(*scope, *key),
+            Event::Purge { scope, key } => self.purge_refusal(*scope, *key),
+            Event::Interface {
+                id,
+                area,
+                address,
+                peer,
+                up,
+            } => self.interface_refusal(
+                *id,
+                Interface {
+                    area: *area,
+                    address: *address,
+                    peer: *peer,
+                    up: *up,
+                },
+            ),
+            Event::Second => self.journal_refusal(),
+        }
+    }
+
+    fn install_refusal(&self, scope: Scope, lsa: &Checked) -> Option<Refusal>
+        ensures { result ≡ refusal_of self.now (Event.Install scope lsa.now) }
+    {
+        let Some(database) = self.database(scope) else {
+            return Some(Refusal::NoArea);
+        };
+        if is_out_of_scope(scope, lsa.key().kind) {
+            return Some(Refusal::Scope);
+        }
+        if !is_stub_only(lsa) {
+            return Some(Refusal::NotYet);
+        }
+        match database.install_refusal(lsa) {
+            Some(refusal) => Some(Refusal::of_install(refusal)),
+            None => self.journal_refusal(),
+        }
+    }
+
+    fn flush_refusal(&self, scope: Scope, key: Key) -> Option<Refusal>
+        ensures { result ≡ refusal_of self.now (Event.Flush scope key) }
+    {
+        let Some(database) = self.database(scope) else {
+            return Some(Refusal::NoArea);
+        };
+        if is_out_of_scope(scope, key.kind) {
+            return Some(Refusal::Scope);
+        }
+        if database.get(key).is_none() {
+            return Some(Refusal::NoLsa);
+        }
+        if key.router != self.config.router {
+            return Some(Refusal::NotOwn);
+        }
+        self.journal_refusal()
+    }
+
+    fn purge_refusal(&self, scope: Scope, key: Key) -> Option<Refusal>
+        ensures { result ≡ refusal_of self.now (Event.Purge scope key) }
+    {
+        let Some(database) = self.database(scope) else {
+            return Some(Refusal::NoArea);
+        };
+        if is_out_of_scope(scope, key.kind) {
+            return Some(Refusal::Scope);
+        }
+        match database.get(key) {
+            None => Some(Refusal::NoLsa),
+            Some((_, age)) if age < MAX_AGE => Some(Refusal::NotMaxAge),
+            Some(_) => self.journal_refusal(),
+        }
+    }
+
+    fn interface_refusal(&self, id: u8, interface: Interface) -> Option<Refusal>
+        ensures { result ≡ refusal_of self.now (Event.Interface id interface.area interface.address interface.peer interface.up) }
+    {
+        let areas = self.config.areas.as_slice();
+        if place_of(areas, Scope::Area(interface.area)).is_none() {
+            return Some(Refusal::NoArea);
+        }
+        if let Some(refusal) = self.journal_refusal() {
+            return Some(refusal);
+        }
+        if interface.up && self.is_taken(id, interface.address) {
+            return Some(Refusal::AddressTaken);
+        }
+        None
+    }
+
+    fn is_taken(&self, id: u8, address: u32) -> bool
+        ensures { result ≡ list_any (has_address id address) (map.entries self.now.interfaces) }
+    {
+        is_address_taken(&self.interfaces, id, address)
+    }
+
+    fn journal_refusal(&self) -> Option<Refusal>
+        ensures { result ≡ refusal_of self.now Event.Second }
+    {
+        if self.limits.events <= self.journal.len() as u64 {
+            Some(Refusal::JournalFull)
+        } else {
+            None
+        }
+    }
+}
+
+impl State {
+    /// Takes the event, or refuses it and leaves everything as it was. The answer is how many events
+    /// were taken, with this one, and whether the usable LSAs (key, Options, body) or the interfaces
+    /// differ from before.
+    pub fn step(&mut self, event: Event) -> Result<(u64, bool), Refusal>
+        ensures refused { IfErr result (IsRefusalOf self.old event) }
+        ensures unchanged { OnErr result (self.new ≡ self.old) }
+        ensures accepted { OnOk result (refusal_of self.old event ≡ None) }
+        ensures taken { OnOk result (self.new ≡ step self.old event) }
+        ensures serial { IfOk result (λ answer. answer.0 ≡ length self.new.journal) }
+        ensures changed { IfOk result (λ answer. (answer.1 ≡ false) ↔ LooksAlike self.old self.new) }
+    {
+        if let Some(refusal) = self.refusal(&event) {
+            return Err(refusal);
+        }
+        match self.take(event) {
+            Ok(changed) => Ok((self.journal.len() as u64, changed)),
+            Err(Memory) => Err(Refusal::Memory),
+        }
+    }
+
+    // The event joins the journal, and is carried out.
+    fn take(&mut self, event: Event) -> Result<bool, Memory>
+        requires { IsAccepted self.old event }
+        ensures unchanged { OnErr result (self.new ≡ self.old) }
+        ensures taken { OnOk result (self.new ≡ step self.old event) }
+        ensures changed { IfOk result (λ changed. (changed ≡ false) ↔ LooksAlike self.old (changed_by self.old event)) }
+    {
+        let entry = event.copy(*self.journal.allocator())?;
+        self.journal.push(entry)?;
+        match self.carry_out(event) {
+            Ok(changed) => Ok(changed),
+            Err(Memory) => {
+                self.journal.pop();
+                Err(Memory)
+            }
+        }
+    }
+
+    // What the event does to the databases and the interfaces.
+    fn carry_out(&mut self, event: Event) -> Result<bool, Memory>
+        requires { IsAccepted self.old event }
+        ensures unchanged { OnErr result (self.new ≡ self.old) }
+        ensures done { OnOk result (self.new ≡ changed_by self.old event) }
+        ensures changed { IfOk result (λ changed. (changed ≡ false) ↔ LooksAlike self.old (changed_by self.old event)) }
+    {
+        match event {
+            Event::Install { scope, lsa } => self.install(scope, lsa),
+            Event::Flush { scope, key } => Ok(self.flush(scope, key)),
+            Event::Purge { scope, key } => Ok(self.purge(scope, key)),
+            Event::Interface {
+                id,
+                area,
+                address,
+                peer,
+                up,
+            } => self.set_interface(
+                id,
+                Interface {
+                    area,
+                    address,
+                    peer,
+                    up,
+                },
+            ),
+            Event::Second => Ok(self.second()),
+        }
+    }
+
+    fn install(&mut self, scope: Scope, lsa: Checked) -> Result<bool, Memory>
+        requires { IsAccepted self.old (Event.Install scope lsa) }
+        ensures unchanged { OnErr result (self.new ≡ self.old) }
+        ensures done { OnOk result (self.new ≡ changed_by self.old (Event.Install scope lsa)) }
+        ensures changed { IfOk result (λ changed. (changed ≡ false) ↔ LooksAlike self.old (changed_by self.old (Event.Install scope lsa))) }
+    {
+        match place_of(self.config.areas.as_slice(), scope) {
+            Some(place) => put_at(self.databases.as_mut_slice(), place, lsa),
+            None => Ok(false),
+        }
+    }
+
+    // Whether the LSA was used before.
+    fn flush(&mut self, scope: Scope, key: Key) -> bool
+        ensures done { self.new ≡ changed_by self.old (Event.Flush scope key) }
+        ensures changed { (result ≡ false) ↔ LooksAlike self.old (changed_by self.old (Event.Flush scope key)) }
+    {
+        match place_of(self.config.areas.as_slice(), scope) {
+            Some(place) => age_out_at(self.databases.as_mut_slice(), place, key),
+            None => false,
+        }
+    }
+
+    // The LSA was not used before: the answer is no.
+    fn purge(&mut self, scope: Scope, key: Key) -> bool
+        requires { IsAccepted self.old (Event.Purge scope key) }
+        ensures done { self.new ≡ changed_by self.old (Event.Purge scope key) }
+        ensures changed { (result ≡ false) ↔ LooksAlike self.old (changed_by self.old (Event.Purge scope key)) }
+    {
+        if let Some(place) = place_of(self.config.areas.as_slice(), scope) {
+            purge_at(self.databases.as_mut_slice(), place, key);
+        }
+        false
+    }
+
+    fn set_interface(&mut self, id: u8, interface: Interface) -> Result<bool, Memory>
+        ensures unchanged { OnErr result (self.new ≡ self.old) }
+        ensures done { OnOk result (self.new ≡ with_interface self.old id interface) }
+        ensures changed { IfOk result (λ changed. (changed ≡ false) ↔ LooksAlike self.old (with_interface self.old id interface)) }
+    {
+        put_interface(&mut self.interfaces, id, interface)
+    }
+
+    fn second(&mut self) -> bool
+        ensures done { self.new ≡ changed_by self.old Event.Second }
+        ensures changed { (result ≡ false) ↔ LooksAlike self.old (changed_by self.old Event.Second) }
+    {
+        age_all(self.databases.as_mut_slice())
+    }
+}
+
+// Where the database of the scope stands: that of the AS behind those of the areas.
+fn place_of(areas: &[AreaConfig], scope: Scope) -> Option<usize>
+    ensures { result ≡ place_of areas.now scope }
+{
+    match scope {
+        Scope::Area(id) => place_of_area(areas, id),
+        Scope::As => Some(areas.len()),
+    }
+}
+
+fn place_of_area(areas: &[AreaConfig], id: u32) -> Option<usize>
+    ensures { result ≡ place_of areas.now (Scope.Area id) }
+{
+    areas.iter().position(|area| area.id == id)
+}
+
+// An empty database for each area, and one for the AS.
+fn empty_databases(
+    alloc: Global,
+    areas: &[AreaConfig],
+    limits: Limits,
+    hashing: RandomState,
+) -> Result<Vec<Database>, Memory>
+    ensures { IfOk result (λ v. v.items ≡ empty_values areas.now limits) }
+{
+    let mut databases = Vec::new(alloc);
+    for _ in areas {
+        databases.push(Database::new(alloc, limits.area_lsas, hashing))?;
+    }
+    databases.push(Database::new(alloc, limits.externals, hashing))?;
+    Ok(databases)
+}
+
+// Whether a key of this LS type belongs to another scope.
+fn is_out_of_scope(scope: Scope, kind: u8) -> bool
+    ensures { result ≡ is_out_of_scope scope kind }
+{
+    match scope {
+        Scope::Area(_) => kind == AS_EXTERNAL_LSA,
+        Scope::As => kind != AS_EXTERNAL_LSA,
+    }
+}
+
+// Whether it is a router-LSA of which no link leads to a vertex.
+fn is_stub_only(lsa: &Checked) -> bool
+    ensures { result ≡ is_stub_only lsa.now.body }
+{
+    if lsa.key().kind != ROUTER_LSA {
+        return false;
+    }
+    for n in 0..lsa.link_count() {
+        if let Some(link) = lsa.link(n)
+            && is_edge(link.kind)
+        {
+            return false;
+        }
+    }
+    true
+}
+
+// Whether a link of this kind leads to a vertex.
+fn is_edge(kind: LinkKind) -> bool
+    ensures { result ≡ is_edge_kind kind }
+{
+    matches!(kind, LinkKind::PointToPoint | LinkKind::Transit)
+}
