@@ -1,9 +1,10 @@
 -- The rows of a column that pass a test, a piece of the column after another.
-use Rattle.std.proofs.Common.{◌≡◌, ℕ, ◌+◌, ◌<◌, ◌≤◌, Bool, true, false, suc, cond, List, [], ◌∷◌, ◌++◌, length, map, get_or, take, drop, filter, All, refl, sym, ap, ◌∙◌, add-zero, arith, append_assoc, length-append}
+use Rattle.std.proofs.Common.{◌≡◌, ℕ, ◌+◌, ◌<◌, ◌≤◌, Bool, true, false, cond, List, [], ◌∷◌, ◌++◌, length, map, get_or, take, drop, filter, All, refl, sym, ap, ◌∙◌, add-zero, arith, append_assoc, length-append}
 use Rattle.std.proofs.lemmas.List.{take_more, length-take-le, append-nil, take-take, drop-drop, get_or-drop}
 use Rattle.std.proofs.lemmas.List.Elements.{All-cons}
 use Rattle.std.proofs.Math.Seq.{take-append_seam, take-add, take-length}
-use Rattle.std.specs.Prelude.{Result, Ok, Err, OnErr}
+use Rattle.std.specs.Prelude.{◌||◌, Result, Ok, Err, OnErr}
+use Rattle.std.specs.List.{list_any}
 use Rattle.lanes.specs.Rows.{rows_from, places}
 
 -- the rows of two pieces
@@ -57,10 +58,13 @@ on_err_any (Ok x) p = tt
 on_err_any (Err e) p = p
 
 -- no row passes
-pub rows_from_none : {X : Type 0} (p : X → Bool) (k : ℕ) (xs : List X) → All (λ x. p x ≡ false) xs → rows_from p k xs ≡ []
-rows_from_none p k [] all = refl
-rows_from_none p k (x ∷ xs) all =
-    ap (λ b. cond b (k ∷ rows_from p (k + 1) xs) (rows_from p (k + 1) xs)) (all 0 x (omega arith)) ∙ rows_from_none p (k + 1) xs (λ i d lt. all (suc i) d (omega arith))
+pub rows_from_none : {X : Type 0} (p : X → Bool) (k : ℕ) (xs : List X) → list_any p xs ≡ false → rows_from p k xs ≡ []
+rows_from_none p k [] none = refl
+rows_from_none p k (x ∷ xs) none =
+    elim (p x) as (λ b. (b || list_any p xs) ≡ false → cond b (k ∷ rows_from p (k + 1) xs) (rows_from p (k + 1) xs) ≡ []) [
+      | true ↦ λ e. absurd cc
+      | false ↦ λ e. rows_from_none p (k + 1) xs e
+    ] none
 
 -- what was there before more was appended is still there
 pub kept_further : (old before now more : List ℕ) (n m : ℕ) → n ≡ length old → m ≡ length before → before ≡ old ++ more → take m now ≡ before → take n now ≡ old

@@ -1,22 +1,34 @@
 -- One vector of a column.
-use Rattle.std.proofs.Common.{◌≡◌, ℕ, ◌+◌, ◌-◌, ◌%◌, ◌^◌, ◌≤◌, Bool, true, false, not, suc, cond, ltb, eqb, nat_eq, List, [], ◌∷◌, length, map, get_or, take, count_by, All, refl, sym, ap, ◌∙◌, arith, w16, replicate}
-use Rattle.std.specs.Bool.{OnFalse}
+use Rattle.std.proofs.Common.{◌≡◌, ℕ, ◌+◌, ◌-◌, ◌*◌, ◌%◌, ◌^◌, ◌≤◌, Bool, true, false, not, suc, cond, ltb, eqb, nat_eq, List, [], ◌∷◌, length, map, get_or, take, count_by, All, refl, sym, ap, ◌∙◌, arith, w16, replicate}
+use Rattle.std.specs.Prelude.{◌||◌}
+use Rattle.std.specs.List.{list_any}
 use Rattle.std.proofs.lemmas.Bool.Decides.{nat_tests}
 use Rattle.std.proofs.lemmas.List.{length-map}
 use Rattle.std.proofs.Math.Seq.{take-length}
-use Rattle.std.proofs.lemmas.Simd.{map-map, zip2_splat, none_from_empty_mask, put_chunk_whole, tops_compared, bitmask_splat, ones-mask_l}
+use Rattle.std.proofs.lemmas.Simd.{map-map, zip2_splat, put_chunk_whole, tops_compared, bitmask_splat, ones-mask_l}
 use lib.Count.{ones}
 use lib.Lanes.{zip2, mask_l, sel_l, put_chunk, top}
 use mir.Val.{bits, hbits}
 use Rattle.lanes.specs.Ages.{MaxAge, next_age, comes_to_max_age}
 
--- an empty mask says that no lane passes
-pub none_by_mask : (p : ℕ → Bool) (mask : ℕ) (xs : List ℕ) → length xs ≡ 32 → mask ≡ mask_l (map p (take 32 xs)) → OnFalse (not (nat_eq mask 0)) (All (λ x. p x ≡ false) xs)
-none_by_mask p mask xs full is =
-    elim (nat_eq mask 0) as (λ b. nat_eq mask 0 ≡ b → OnFalse (not b) (All (λ x. p x ≡ false) xs)) [
-      | true ↦ λ e k d lt. none_from_empty_mask p xs 0 32 d (omega arith) (sym is ∙ grind (arith, nat_tests)) k (omega arith) (omega arith)
-      | false ↦ λ e. tt
-    ] refl
+twice_zero : (m : ℕ) → nat_eq (2 * m) 0 ≡ nat_eq m 0
+twice_zero m = grind (arith, nat_tests)
+
+some_bit : (m : ℕ) → not (nat_eq (1 + 2 * m) 0) ≡ true
+some_bit m = grind (arith, nat_tests)
+
+-- a mask has a bit where some lane passes
+any_of_mask : (p : ℕ → Bool) (xs : List ℕ) → not (nat_eq (mask_l (map p xs)) 0) ≡ list_any p xs
+any_of_mask p [] = refl
+any_of_mask p (x ∷ xs) =
+    elim (p x) as (λ b. not (nat_eq (cond b 1 0 + 2 * mask_l (map p xs)) 0) ≡ (b || list_any p xs)) [
+      | true ↦ some_bit (mask_l (map p xs))
+      | false ↦ ap not (ap (λ (n : ℕ). nat_eq n 0) (omega arith) ∙ twice_zero (mask_l (map p xs))) ∙ any_of_mask p xs
+    ]
+
+pub any_by_mask : (p : ℕ → Bool) (mask : ℕ) (xs : List ℕ) → length xs ≡ 32 → mask ≡ mask_l (map p (take 32 xs)) → not (nat_eq mask 0) ≡ list_any p xs
+any_by_mask p mask xs full is =
+    ap (λ (m : ℕ). not (nat_eq m 0)) is ∙ any_of_mask p (take 32 xs) ∙ ap (list_any p) (ap (λ (n : ℕ). take n xs) (sym full) ∙ take-length xs)
 
 -- two functions that agree on the elements
 pub map_same : {X Y : Type 0} (f g : X → Y) (xs : List X) → All (λ x. f x ≡ g x) xs → map f xs ≡ map g xs

@@ -2,11 +2,10 @@
 ghost use Rattle.std.specs.Prelude.{◌≡◌, ℕ, ◌≤◌, All, length, map, count_by};
 ghost use Rattle.lanes.specs.Ages.{MaxAge, next_age, comes_to_max_age};
 
+use crate::lane::LANES;
 use std::simd::prelude::*;
 
 const MAX_AGE: u16 = 3600;
-
-const LANES: usize = 32;
 
 /// A second passes (RFC 2328, 14): each age below MaxAge, 3600 seconds, rises by one. The answer is
 /// how many came to MaxAge by this.

@@ -1,6 +1,6 @@
 //! Numbers that a vector has lanes of.
-ghost use Rattle.std.specs.Prelude.{◌≡◌, ℕ, length, All, false};
-ghost use Rattle.std.specs.Bool.{OnFalse};
+ghost use Rattle.std.specs.Prelude.{◌≡◌, ℕ, length};
+ghost use Rattle.std.specs.List.{list_any};
 
 use std::simd::prelude::*;
 
@@ -10,7 +10,7 @@ pub(crate) trait Lane: PartialEq + Copy {
     // Whether the value is among those of one vector.
     fn is_among(lanes: &[Self], value: Self) -> bool
         requires { length lanes.now ≡ 32 }
-        ensures { OnFalse result (All (λ x. Self.eq x value ≡ false) lanes.now) };
+        ensures { result ≡ list_any (λ x. Self.eq x value) lanes.now };
 }
 
 impl Lane for u16 {

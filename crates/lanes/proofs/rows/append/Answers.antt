@@ -20,7 +20,7 @@ loop-first-preserved g c =
           (elim c.if-is_among.branch [
             | then-is_among+in_ok-append_one_by_one w ↦ rw w.rows-is w.in_ok-append_one_by_one.ensures.found
             | else-is_among w ↦
-                let none = rw w.if-is_among.false at c.is_among.ensures in
+                let none = sym c.is_among.ensures ∙ w.if-is_among.false in
                 rw w.rows-is (sym (append-nil before) ∙ ap (λ rows. before ++ rows) (sym (rows_from_none (λ x. g.T.PartialEq.eq x c.args.value) first _ none)))
           ]);
     }
