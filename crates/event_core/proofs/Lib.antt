@@ -1,11 +1,12 @@
 pub mod InOrder
 pub mod Choosing
 pub mod Configs
-pub mod Runs
 pub mod Listings
 pub mod Taking
 pub mod StubOffers
 pub mod Areas
 pub mod NoWays
 pub mod OwnStubs
+pub mod Alike
+pub mod Runs
 pub mod Filled

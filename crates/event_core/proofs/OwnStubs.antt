@@ -132,12 +132,12 @@ module _ (s : State) (held : AreFit s.config.areas s.databases) where
   -- ---- every area
 
   module _ (p : Prefix) (key : AreaCost) (path : Path) where
-    intra_from : OfferedBySome s.config.areas (λ a. AreaOffers s a.id) p key path → IntraOffers (inputs_of s) p key path
+    pub intra_from : OfferedBySome s.config.areas (λ a. AreaOffers s a.id) p key path → IntraOffers (inputs_of s) p key path
     intra_from w =
         let own = own_from w.0 p key path w.2 in
         (area_of s w.0, mapped_element (area_of s) s.config.areas w.0 w.1, own.1, inr (inr own.0))
 
-    intra_to : IntraOffers (inputs_of s) p key path → OfferedBySome s.config.areas (λ a. AreaOffers s a.id) p key path
+    pub intra_to : IntraOffers (inputs_of s) p key path → OfferedBySome s.config.areas (λ a. AreaOffers s a.id) p key path
     intra_to w =
         let a = area_is s held w.0 w.1 in
         let P : Area → Type 0 = λ b. (b.id ≡ key.1) × (TransitOffers (inputs_of s) b p key.0 path ⊎ StubOffers (inputs_of s) b p key.0 path ⊎ OwnStubOffers (inputs_of s) b p key.0 path) in

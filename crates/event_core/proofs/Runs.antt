@@ -1,7 +1,7 @@
 -- Runs of events, and one event more.
-use Rattle.std.proofs.Common.{◌≡◌, ℕ, List, [], ◌∷◌, ◌++◌, length, Option, Some, None, refl, sym, ap, subst, ◌∙◌, arith}
+use Rattle.std.proofs.Common.{◌≡◌, ℕ, ◌+◌, take, List, [], ◌∷◌, ◌++◌, length, Option, Some, None, refl, sym, ap, subst, ◌∙◌, arith}
 use Rattle.std.specs.Prelude.{false, ◌↔◌}
-use Rattle.std.proofs.lemmas.List.{length-append, take-append-le}
+use Rattle.std.proofs.lemmas.List.{length-append, take-append-le, take_all}
 use Rattle.ospf_types.specs.declared.config.Config.{Config}
 use Rattle.ospf_types.specs.declared.key.Scope.{Scope}
 use Rattle.ospf_types.specs.declared.key.Scope.TheVariants as scope
@@ -12,14 +12,18 @@ use Rattle.event_state.specs.declared.event.Event.TheVariants as event
 use Rattle.event_state.specs.declared.limits.Limits.{Limits}
 use Rattle.lsdb.specs.Databases.{Database, aged_out}
 use Rattle.event_state.specs.States.{State, LooksAlike, place_of, changed_at_place}
-use Rattle.event_state.specs.Steps.{step, refusal_of, run_from, run_of, AreTaken}
+use Rattle.event_state.specs.Steps.{opening, step, refusal_of, run_from, run_of, AreTaken}
 use Rattle.route_table.specs.Tables.{TableValue}
 use Rattle.event_core.specs.Right.{IsRight}
 use Rattle.event_core.specs.declared.reply.Reply.{Reply}
 use Rattle.event_core.specs.declared.reply.Standing.{Standing}
 use Rattle.event_core.specs.declared.reply.Standing.TheVariants.{Current, Behind}
-use Rattle.event_core.specs.Cores.{CoreValue, IsCore, IsTaken, Stands, state_of, built_state}
+use Rattle.event_core.specs.Cores.{CoreValue, IsCore, IsTaken, Stands, IsQuiet, state_of, built_state}
 use Rattle.event_core.specs.Kept.{core_of, IsKept}
+use Rattle.event_core.specs.Configs.{HasNoRanges}
+use Rattle.event_state.specs.Held.{AreFit}
+use Rattle.event_core.proofs.Alike.{right_alike}
+use Rattle.event_core.proofs.Configs.{sound_ranges}
 
 -- what no event changes
 pub record SameSetting (s t : State) : Type 0 where
@@ -45,6 +49,14 @@ pub taken_push : (s : State) (events : List Event) (e : Event) → AreTaken s ev
 taken_push s [] e taken accepted = (accepted, tt)
 taken_push s (f ∷ events) e taken accepted = (taken.0, taken_push (step s f) events e taken.1 accepted)
 
+-- no run changes it either
+pub run_setting : (s : State) (events : List Event) → SameSetting (run_from s events) s
+run_setting s [] = record { config = refl; limits = refl }
+run_setting s (e ∷ events) =
+    let rest = run_setting (step s e) events in
+    let one = step_setting s e in
+    record { config = rest.config ∙ one.config; limits = rest.limits ∙ one.limits }
+
 -- a run of the journal that is one event longer
 step_runs : (s : State) (e : Event) → s ≡ run_of s.config s.limits s.journal → step s e ≡ run_of s.config s.limits (s.journal ++ e ∷ [])
 step_runs s e run = ap (λ (t : State). step t e) run ∙ sym (run_push _ s.journal e)
@@ -62,11 +74,45 @@ kept_step s t built e kept accepted =
     record {
       run = runs (step s e).config (step s e).limits setting.config setting.limits;
       core = subst (λ (c : CoreValue). IsCore c) (λ i. record { config = sym setting.config i; limits = sym setting.limits i; journal = s.journal ++ e ∷ []; built = built; table = t }) core;
+      fit =
+          let fit = subst (λ (events : List Event). AreFit s.config.areas (run_of s.config s.limits events).databases) (sym (take-append-le built s.journal (e ∷ []) kept.core.within)) kept.fit in
+          let P : Config → Limits → Type 0 = λ config limits. AreFit config.areas (run_of config limits (take built (s.journal ++ e ∷ []))).databases in
+          subst (λ (limits : Limits). P (step s e).config limits) (sym setting.limits) (subst (λ (config : Config). P config s.limits) (sym setting.config) fit);
     }
 
 stands_same : (s u : State) (t : TableValue) (built : ℕ) (standing : Standing) (new : CoreValue) → Stands (core_of u t built) standing new → Stands (core_of s t built) standing new
 stands_same s u t built Current new h = h
 stands_same s u t built Behind new h = h
+
+-- a table that is current
+pub current_right : (c : CoreValue) → IsCore c → c.built ≡ length c.journal → IsRight (state_of c) c.table
+current_right c core all = subst (λ (events : List Event). IsRight (run_of c.config c.limits events) c.table) (take_all c.built c.journal (omega arith)) core.right
+
+-- a core with a table that is right for its state
+pub kept_current : (s : State) (t u : TableValue) (built now : ℕ) → IsKept s t built → AreFit s.config.areas s.databases → now ≡ length s.journal → IsRight s u → IsKept s u now
+kept_current s t u built now kept fit all right =
+    let whole : take now s.journal ≡ s.journal = take_all now s.journal (omega arith) in
+    let is : s ≡ run_of s.config s.limits (take now s.journal) = kept.run ∙ ap (run_of s.config s.limits) (sym whole) in
+    record {
+      run = kept.run;
+      core = record { sound = kept.core.sound; legal = kept.core.legal; within = omega arith; right = subst (λ (v : State). IsRight v u) is right };
+      fit = subst (λ (v : State). AreFit s.config.areas v.databases) is fit;
+    }
+
+-- where an event changed nothing that is calculated from, the table is right but for its serial
+pub follows : (s : State) (t : TableValue) (built : ℕ) → IsKept s t built → AreFit s.config.areas s.databases → built + 1 ≡ length s.journal → IsQuiet (core_of s t built) → IsRight s (record t { serial = length s.journal })
+follows s t built kept fit one quiet =
+    let before = built_state (core_of s t built) in
+    let setting = run_setting (opening s.config s.limits) (take built s.journal) in
+    let ranges = sound_ranges s.config kept.core.sound in
+    right_alike before s t (record {
+      looks = subst (λ (v : State). LooksAlike before v) (sym kept.run) (quiet one);
+      config = setting.config;
+      fit = subst (λ (c : Config). AreFit c.areas before.databases) (sym setting.config) kept.fit;
+      other_fit = fit;
+      ranges = subst HasNoRanges (sym setting.config) ranges;
+      other_ranges = ranges;
+    }) kept.core.right
 
 -- a step of the state, and then a table that stands, take the event
 pub takes : (s u : State) (t : TableValue) (built : ℕ) (e : Event) (reply : Reply) (new : CoreValue) → IsKept s t built → u ≡ step s e → refusal_of s e ≡ None

@@ -1,4 +1,4 @@
-ghost use Rattle.std.specs.Prelude.{◌≡◌, ◌≤◌, None, IfErr, IfOk, OnErr, length};
+ghost use Rattle.std.specs.Prelude.{◌≡◌, None, IfErr, IfOk, OnErr};
 ghost use Rattle.event_core.specs.Configs.{fault_of};
 ghost use Rattle.event_core.specs.Cores.{IsCore, IsOpening, IsFaultOf, Applies, Stands, Runs, IsQuiet, state_of};
 ghost use Rattle.event_state.specs.Steps.{standard_limits};
@@ -118,7 +118,7 @@ impl Core {
         ensures limits { self.new.limits ≡ self.old.limits }
         ensures stands { Stands self.old result self.new }
     {
-        let serial = self.serial();
+        let serial = self.state.journal().len() as u64;
         if serial - self.built == 1 {
             self.table.set_serial(serial);
             self.built = serial;
@@ -134,7 +134,7 @@ impl Core {
         ensures limits { self.new.limits ≡ self.old.limits }
         ensures stands { Stands self.old result self.new }
     {
-        if self.built == self.serial() {
+        if self.built == self.state.journal().len() as u64 {
             return Standing::Current;
         }
         match build(self.alloc, &self.state) {
@@ -145,14 +145,6 @@ impl Core {
             }
             Err(Memory) => Standing::Behind,
         }
-    }
-
-    // How many events were taken.
-    fn serial(&self) -> u64
-        ensures value { result ≡ length self.now.journal }
-        ensures within { self.now.built ≤ result }
-    {
-        self.state.journal().len() as u64
     }
 
     /// Applies the events one after the other. Room for all answers is made first: where it is

@@ -4,6 +4,7 @@ ghost use Rattle.std.specs.List.Sorted.{IsStrictlySortedBy};
 ghost use Rattle.ospf_types.specs.Hops.{path_cmp};
 ghost use Rattle.ospf_types.specs.Routes.{entry_of};
 ghost use Rattle.event_core.specs.Configs.{HasNoRanges};
+ghost use Rattle.event_state.specs.Held.{AreFit};
 ghost use Rattle.event_core.specs.Right.{IsRight};
 
 use crate::choice::{AreaCost, Choice};
@@ -19,7 +20,8 @@ use std::alloc::Global;
 /// summary or an external route.
 pub(crate) fn build(alloc: Global, state: &State) -> Result<Table, Memory>
     requires { HasNoRanges state.now.config }
-    ensures { IfOk result (IsRight state.now) }
+    ensures right { IfOk result (IsRight state.now) }
+    ensures fit { AreFit state.now.config.areas state.now.databases }
 {
     let choices = intra::choices(alloc, state)?;
     let mut table = Table::new(alloc, state.journal().len() as u64);

@@ -109,7 +109,8 @@ impl State {
 
     /// The events that were taken, in their order.
     pub fn journal(&self) -> &[Event]
-        ensures { result.now ≡ self.now.journal }
+        ensures value { result.now ≡ self.now.journal }
+        ensures fit { AreFit self.now.config.areas self.now.databases }
     {
         self.journal.as_slice()
     }

@@ -13,7 +13,7 @@ loop-network-init c =
     let in_order : All InOrder es = rw is (choices_in_order c.args.state.now c.in_ok-choices.choices c.into_entries-network-items.ensures.in_order c.in_ok-choices.ensures.chosen) in
     record {
       all = ap (λ (t : TableValue). filled t.items es) c.new-table.ensures;
-      serial = ap (λ (t : TableValue). t.serial) c.new-table.ensures ∙ ap length c.journal.ensures;
+      serial = ap (λ (t : TableValue). t.serial) c.new-table.ensures ∙ ap length c.journal.ensures.value;
       in_order = in_order;
     }
 
@@ -35,8 +35,8 @@ loop-network-preserved c =
       in_order = All-tail InOrder (c.in-Some.network, c.in-Some.choice) c.next.new.self (subst (All InOrder) turn c.loop-network.invariant.in_order);
     }
 
-pub returns : goal.returns
-returns c =
+pub returns-clause-right : goal.returns-clause-right
+returns-clause-right c =
     let is = c.into_iter-network-iterator.ensures.into_iter_gives ∙ c.into_entries-network-items.ensures.all in
     let all = ap (filled c.loop-network.table.items) (sym c.in-None.ensures.steps.0) ∙ c.loop-network.invariant.all ∙ ap (filled empty) is in
-    filled_right c.args.state.now c.choices.ensures.held c.requires c.in_ok-choices.choices c.loop-network.table c.into_entries-network-items.ensures.in_order c.in_ok-choices.ensures.chosen all c.loop-network.invariant.serial
+    filled_right c.args.state.now c.choices.ensures.fit c.requires c.in_ok-choices.choices c.loop-network.table c.into_entries-network-items.ensures.in_order c.in_ok-choices.ensures.chosen all c.loop-network.invariant.serial
