@@ -1,0 +1,3 @@
+pub mod KeyTests
+pub mod Entries
+pub mod Rows
