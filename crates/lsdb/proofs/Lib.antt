@@ -1,3 +1,4 @@
 pub mod KeyTests
 pub mod Entries
 pub mod Rows
+pub mod Stored

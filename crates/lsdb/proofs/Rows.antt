@@ -2,7 +2,7 @@
 use Rattle.std.proofs.Common.{◌≡◌, ℕ, zero, suc, ◌+◌, ◌-◌, ◌<◌, List, [], ◌∷◌, ◌++◌, length, map, get_or, set, take, Option, Some, None, refl, sym, ap, ◌∙◌, arith}
 use Rattle.std.specs.Prelude.{slice_get, swap_remove}
 use Rattle.std.specs.Map.{keys_of, values_of}
-use Rattle.std.proofs.lemmas.List.{take-map, map-set, get_or-map, length-map}
+use Rattle.std.proofs.lemmas.List.{take-map, map-set, get_or-map, length-map, length-set, length-take-le}
 use Rattle.indexmap.specs.IndexMap.{set_value_at}
 use Rattle.ospf_types.specs.declared.key.Key.{Key}
 use Rattle.ospf_types.specs.Lsa.{Lsa}
@@ -75,7 +75,7 @@ present-set (f ∷ es) [] (suc i) e age = refl
 present-set (f ∷ es) (b ∷ ages) zero e age = refl
 present-set (f ∷ es) (b ∷ ages) (suc i) e age = ap (λ (fs : List Entry). (f.0, with_age f.1 b) ∷ fs) (present-set es ages i e age)
 
-get_or-present : (es : List Entry) (ages : List ℕ) (i : ℕ) (d e : Entry) (age : ℕ) → length ages ≡ length es → i < length es → get_or (present es ages) i d ≡ ((get_or es i e).0, with_age (get_or es i e).1 (get_or ages i age))
+pub get_or-present : (es : List Entry) (ages : List ℕ) (i : ℕ) (d e : Entry) (age : ℕ) → length ages ≡ length es → i < length es → get_or (present es ages) i d ≡ ((get_or es i e).0, with_age (get_or es i e).1 (get_or ages i age))
 get_or-present [] ages i d e age same lt = absurd (omega arith)
 get_or-present (f ∷ es) [] i d e age same lt = absurd (omega arith)
 get_or-present (f ∷ es) (b ∷ ages) zero d e age same lt = refl
@@ -99,3 +99,9 @@ swap_remove-map {X} {Y} f xs i d e lt =
     ∙ ap (take n) (map-set f xs i (get_or xs n d))
     ∙ ap (λ (y : Y). take n (set (map f xs) i y)) (sym (get_or-map f xs n d e (omega arith)))
     ∙ ap (λ m. take (m - 1) (set (map f xs) i (get_or (map f xs) (m - 1) e))) (sym (length-map xs f))
+
+pub length-swap_remove : {X : Type 0} (xs : List X) (i : ℕ) (d : X) → i < length xs → length (swap_remove xs i d) + 1 ≡ length xs
+length-swap_remove xs i d lt =
+    let n = length xs - 1 in
+    let all = set xs i (get_or xs n d) in
+    omega (arith, lt, length-take-le n all (omega (arith, length-set xs i (get_or xs n d))))

@@ -1,4 +1,4 @@
-ghost use Rattle.std.specs.Prelude.{◌≡◌, ◌↔◌, ◌<◌, ◌≤◌, ◌++◌, [], ◌∷◌, false, None, Some, IsSome, OnOk, OnErr, IfOk, IfErr, nat_le, count_by, length, option_map, position, slice_get, slice_index_or, swap_remove, vec_len, vec_capacity, map as list_map};
+ghost use Rattle.std.specs.Prelude.{◌≡◌, ◌↔◌, ◌<◌, ◌≤◌, ◌++◌, [], ◌∷◌, false, None, Some, IsSome, OnOk, OnErr, IfOk, IfErr, nat_le, count_by, length, option_map, is_some, position, slice_get, vec_len, vec_capacity, map as list_map};
 ghost use Rattle.std.specs.FinMap as map;
 ghost use Rattle.std.specs.Option.{option_copied};
 ghost use Rattle.std.specs.Ordering.{eq_by_cmp};
@@ -168,7 +168,10 @@ impl Database {
             None => Err(PurgeRefusal::NoLsa),
             Some(row) if self.ages[row] < MAX_AGE => Err(PurgeRefusal::NotMaxAge),
             Some(row) => {
-                self.remove_row(row);
+                self.rows.swap_remove_index(row);
+                self.ages.swap_remove(row);
+                self.kinds.swap_remove(row);
+                self.routers.swap_remove(row);
                 Ok(())
             }
         }
@@ -240,7 +243,8 @@ impl Database {
 impl Database {
     // The row of the key.
     fn row_of(&self, key: Key) -> Option<usize>
-        ensures { result ≡ position (is_key key) self.now.order }
+        ensures row { result ≡ position (is_key key) self.now.order }
+        ensures found { is_some result ≡ is_some (map.get self.now.lsas key) }
     {
         self.rows.get_index_of(&key)
     }
@@ -276,7 +280,7 @@ impl Database {
 
     // Puts the LSA in a row of its own, the last. Each column has room before any changes.
     fn append(&mut self, lsa: Checked) -> Result<(), Memory>
-        requires absent { map.get self.old.lsas (key_of lsa) ≡ None }
+        requires absent { position (is_key (key_of lsa)) self.old.order ≡ None }
         requires room { map.len self.old.lsas < self.old.limit }
         ensures unchanged { OnErr result (self.new ≡ self.old) }
         ensures installed { OnOk result (self.new.lsas ≡ map.insert self.old.lsas (key_of lsa) lsa) }
@@ -293,19 +297,6 @@ impl Database {
         push_in_room(&mut self.kinds, key.kind);
         push_in_room(&mut self.routers, key.router);
         Ok(())
-    }
-
-    // Takes the row out, and puts the last in its place.
-    fn remove_row(&mut self, row: usize)
-        requires { row < length self.old.order }
-        ensures removed { (d : Key) → self.new.lsas ≡ map.remove self.old.lsas (slice_index_or self.old.order row d) }
-        ensures order { (d : Key) → self.new.order ≡ swap_remove self.old.order row d }
-        ensures limit { self.new.limit ≡ self.old.limit }
-    {
-        self.rows.swap_remove_index(row);
-        self.ages.swap_remove(row);
-        self.kinds.swap_remove(row);
-        self.routers.swap_remove(row);
     }
 
     // A copy of the LSA under the key, at its present age.
