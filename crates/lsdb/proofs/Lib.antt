@@ -2,3 +2,4 @@ pub mod KeyTests
 pub mod Entries
 pub mod Rows
 pub mod Stored
+pub mod Refusing

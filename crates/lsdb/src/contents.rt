@@ -1,4 +1,5 @@
-ghost use Rattle.std.specs.Prelude.{◌≡◌, ◌↔◌, ℕ, Bor, false, option_map, option_and_then};
+ghost use Rattle.std.specs.Prelude.{◌≡◌, ◌↔◌, ℕ, false, option_map, option_and_then};
+ghost use Rattle.std.specs.Borrow.{Bor};
 ghost use Rattle.ospf_types.specs.Lsa.{Lsa};
 ghost use Rattle.lsa_codec.specs.Readers.{with_age};
 ghost use Rattle.lsdb.specs.Contents.{contents_of};
