@@ -3,3 +3,5 @@ pub mod Entries
 pub mod Rows
 pub mod Stored
 pub mod Refusing
+pub mod Sorting
+pub mod Finding

@@ -1,5 +1,6 @@
 ghost use Rattle.std.specs.Prelude.{◌≡◌, ◌↔◌, ◌<◌, ◌≤◌, ◌++◌, [], ◌∷◌, false, None, Some, IsSome, OnOk, OnErr, IfOk, IfErr, nat_le, count_by, length, option_map, is_some, position, slice_get, vec_len, vec_capacity, map as list_map};
 ghost use Rattle.std.specs.FinMap as map;
+ghost use Rattle.std.specs.List.{filter_map};
 ghost use Rattle.std.specs.Option.{option_copied};
 ghost use Rattle.std.specs.Ordering.{eq_by_cmp};
 ghost use Rattle.indexmap.specs.IndexMap.{swap_remove_by};
@@ -236,7 +237,7 @@ impl Database {
     {
         let mut keys = Vec::from_slice(*self.ages.allocator(), self.rows.keys().as_slice())?;
         keys.sort_unstable();
-        Ok(Vec::new(*self.ages.allocator()))
+        self.copies(&keys)
     }
 }
 
@@ -297,6 +298,19 @@ impl Database {
         push_in_room(&mut self.kinds, key.kind);
         push_in_room(&mut self.routers, key.router);
         Ok(())
+    }
+
+    // Copies of the LSAs under those keys that have one, at their present age.
+    fn copies(&self, keys: &[Key]) -> Result<Vec<Checked>, Memory>
+        ensures { IfOk result (λ lsas. lsas.items ≡ filter_map (map.get self.now.lsas) keys.now) }
+    {
+        let mut lsas = Vec::with_capacity(*self.ages.allocator(), keys.len())?;
+        for key in keys {
+            if let Some(lsa) = self.copy_of(*key)? {
+                lsas.push(lsa)?;
+            }
+        }
+        Ok(lsas)
     }
 
     // A copy of the LSA under the key, at its present age.
