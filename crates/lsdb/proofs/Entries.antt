@@ -1,17 +1,24 @@
 -- Lists of keys with values, and the finite maps that they make.
-use Rattle.std.proofs.Common.{◌≡◌, ℕ, zero, suc, ◌+◌, Bool, true, false, cond, List, [], ◌∷◌, ◌++◌, length, Option, Some, None, Ordering, refl, sym, ap, subst, ◌∙◌, arith}
+use Rattle.std.proofs.Common.{◌≡◌, ℕ, zero, suc, ◌+◌, Bool, true, false, cond, List, [], ◌∷◌, ◌++◌, length, map, count_by, Option, Some, None, Ordering, refl, sym, ap, subst, ◌∙◌, arith}
 use Rattle.std.specs.Prelude.{position, is_some, slice_get, swap_remove, if◌then◌else◌}
-use Rattle.std.specs.Ordering.{eq_by_cmp}
+use Rattle.std.specs.Ordering.{eq_by_cmp, is_eq}
+use Rattle.std.specs.declared.cmp.Ordering.TheVariants.{Less, Equal, Greater}
+use Rattle.std.specs.FinMap.Entries.{by_order}
+use Rattle.std.proofs.lemmas.List.Sums.{sum_by-cons}
 use Rattle.std.specs.Cmp.{IsTotalOrder, eq_by_cmp_equiv}
 use Rattle.std.specs.List.{AllByRecursion, IsDistinct}
 use Rattle.std.specs.Map.{keys_of, values_of, lookup}
-use Rattle.std.specs.FinMap.{FinMap, find, get, insert, remove, len, contains_key, from_entries, get-from_entries, get-insert, get-remove, len-insert, len-empty, same_map}
+use Rattle.std.specs.FinMap.{FinMap, find, put, values, entries, entries-insert, get-entries, len-entries, get, insert, remove, len, contains_key, from_entries, get-from_entries, get-insert, get-remove, len-insert, len-empty, same_map}
 use Rattle.std.proofs.lemmas.Map.Lookups.{CmpEqualImpliesEq}
 use Rattle.std.proofs.lemmas.Map.Views.{tells_apart}
 use Rattle.std.proofs.lemmas.Map.Keys.{IsDistinct-head, IsDistinct-tail}
 use Rattle.indexmap.specs.IndexMap.{insert_entry}
 use Rattle.indexmap.proofs.MapLemmas.{Found-position, Missing-position}
 use Rattle.indexmap.proofs.RemoveLemmas.{swap_out}
+
+no_entries : {X : Type 0} (xs : List X) → length xs ≡ 0 → xs ≡ []
+no_entries [] e = refl
+no_entries (x ∷ xs) e = absurd (omega arith)
 
 module _ {K X : Type 0} (R : K → K → Ordering) where
   pub find-lookup : (q : K) (es : List (K × X)) → find R q es ≡ lookup (eq_by_cmp R q) es
@@ -84,3 +91,32 @@ module _ {K X : Type 0} {R : K → K → Ordering} (o : IsTotalOrder R) (exact :
         out.unique,
         removed es (swap_remove es i e) k (λ q. find-lookup R q (swap_remove es i e) ∙ out.updated.0 q ∙ ap (λ b. cond b None (lookup (eq_by_cmp R q) es)) (laws.symm k q) ∙ ap (cond (eq_by_cmp R q k) None) (sym (find-lookup R q es))),
       )
+
+  -- each key of some finds, among those whose keys are apart, its own entry's value
+  skip_first : {Y : Type 0} (g : Option X → Y) (e : K × X) (es : List (K × X)) (ks : List K) → AllByRecursion (λ y. eq_by_cmp R e.0 y ≡ false) ks → map (λ k. g (find R k (e ∷ es))) ks ≡ map (λ k. g (find R k es)) ks
+  skip_first g e es [] apart = refl
+  skip_first g e es (k ∷ ks) apart =
+      (λ i. g (cond (((eq_by_cmp_equiv o).symm k e.0 ∙ apart.0) i) (Some e.1) (find R k es)) ∷ skip_first g e es ks apart.1 i)
+
+  pub found_values : {Y : Type 0} (g : Option X → Y) (es : List (K × X)) → IsDistinct (eq_by_cmp R) (keys_of es) → map (λ k. g (find R k es)) (keys_of es) ≡ map (λ e. g (Some e.1)) es
+  found_values g [] unique = refl
+  found_values {Y} g (e ∷ es) unique =
+      (λ i. g (cond ((eq_by_cmp_equiv o).refl e.0 i) (Some e.1) (find R e.0 es)) ∷ skip_first g e es (keys_of es) (IsDistinct-head (eq_by_cmp R) e.0 (keys_of es) unique) i)
+      ∙ ap (λ (ys : List Y). g (Some e.1) ∷ ys) (found_values g es (IsDistinct-tail (eq_by_cmp R) e.0 (keys_of es) unique))
+
+  -- a count of the values
+  count_put : (p : X → Bool) (k : K) (v : X) (es : List (K × X)) → find R k es ≡ None → count_by p (values_of (put R k v es)) ≡ cond (p v) 1 0 + count_by p (values_of es)
+  count_put p k v [] none = sum_by-cons (λ x. cond (p x) 1 0) v []
+  count_put p k v (e ∷ es) none =
+      elim (R k e.0) as (λ r. cond (is_eq r) (Some e.1) (find R k es) ≡ None → count_by p (values_of (by_order r ((k, v) ∷ e ∷ es) ((e.0, v) ∷ es) (e ∷ put R k v es))) ≡ cond (p v) 1 0 + count_by p (e.1 ∷ values_of es)) [
+        | Less ↦ λ is. sum_by-cons (λ x. cond (p x) 1 0) v (e.1 ∷ values_of es)
+        | Equal ↦ λ is. absurd cc
+        | Greater ↦ λ is. omega (arith, sum_by-cons (λ x. cond (p x) 1 0) e.1 (values_of (put R k v es)), sum_by-cons (λ x. cond (p x) 1 0) e.1 (values_of es), count_put p k v es is)
+      ] none
+
+  pub count_values : (p : X → Bool) (es : List (K × X)) → IsDistinct (eq_by_cmp R) (keys_of es) → count_by p (values (from_entries {R = R} es)) ≡ count_by p (values_of es)
+  count_values p [] unique = ap (λ (fs : List (K × X)). count_by p (values_of fs)) (no_entries (entries (from_entries {X = X} {R = R} [])) (sym (len-entries (from_entries {X = X} {R = R} [])) ∙ len-empty R X))
+  count_values p (e ∷ es) unique =
+      let absent : find R e.0 (entries (from_entries {R = R} es)) ≡ None = sym (get-entries (from_entries {R = R} es) e.0) ∙ get_is es e.0 ∙ find_none R e.0 es (IsDistinct-head (eq_by_cmp R) e.0 (keys_of es) unique) in
+      ap (λ (fs : List (K × X)). count_by p (values_of fs)) (entries-insert o (from_entries es) e.0 e.1) ∙ count_put p e.0 e.1 (entries (from_entries {R = R} es)) absent
+      ∙ ap (λ n. cond (p e.1) 1 0 + n) (count_values p es (IsDistinct-tail (eq_by_cmp R) e.0 (keys_of es) unique)) ∙ sym (sum_by-cons (λ x. cond (p x) 1 0) e.1 (values_of es))

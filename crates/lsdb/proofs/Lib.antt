@@ -5,3 +5,5 @@ pub mod Stored
 pub mod Refusing
 pub mod Sorting
 pub mod Finding
+pub mod Seconds
+pub mod Looking

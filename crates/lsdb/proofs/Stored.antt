@@ -70,7 +70,7 @@ set_rows rows i k l at =
     ap map_of (sym (insert_entry-first is_key k l rows i (Found-position (is_key k) rows i at).first))
     ∙ inserted key_total key_exact rows (insert_entry is_key rows k l) k l (find-insert_entry key_total key_exact k l rows)
 
-get_or-default : (xs : List ℕ) (i d e : ℕ) → i < length xs → get_or xs i d ≡ get_or xs i e
+pub get_or-default : (xs : List ℕ) (i d e : ℕ) → i < length xs → get_or xs i d ≡ get_or xs i e
 get_or-default [] i d e lt = absurd (omega arith)
 get_or-default (x ∷ xs) zero d e lt = refl
 get_or-default (x ∷ xs) (suc i) d e lt = get_or-default xs i d e (omega arith)
@@ -81,7 +81,7 @@ entry_at (e ∷ es) zero lt = (e, refl)
 entry_at (e ∷ es) (suc i) lt = entry_at es i (omega arith)
 
 module _ {es : List Entry} {ages kinds routers : List ℕ} {limit : ℕ} (c : AreColumns es ages kinds routers limit) where
-  unique_present : IsDistinct is_key (keys_of (present es ages))
+  pub unique_present : IsDistinct is_key (keys_of (present es ages))
   unique_present = subst (IsDistinct is_key) (sym (keys_present es ages c.a_row_each)) c.unique
 
   place_present : (q : Key) (r : Option ℕ) → position (is_key q) (keys_of es) ≡ r → position (is_key q) (keys_of (present es ages)) ≡ r

@@ -1,4 +1,4 @@
-ghost use Rattle.std.specs.Prelude.{◌≡◌, ◌↔◌, ◌<◌, ◌≤◌, ◌++◌, [], ◌∷◌, false, None, Some, IsSome, OnOk, OnErr, IfOk, IfErr, nat_le, count_by, length, option_map, is_some, position, slice_get, vec_len, vec_capacity, map as list_map};
+ghost use Rattle.std.specs.Prelude.{◌≡◌, ◌+◌, ◌↔◌, ◌<◌, ◌≤◌, ◌++◌, [], ◌∷◌, false, None, Some, IsSome, OnOk, OnErr, IfOk, IfErr, nat_le, count_by, length, option_map, is_some, position, slice_get, vec_len, vec_capacity, map as list_map};
 ghost use Rattle.std.specs.FinMap as map;
 ghost use Rattle.std.specs.List.{filter_map};
 ghost use Rattle.std.specs.Option.{option_copied};
@@ -186,7 +186,7 @@ impl Database {
         ensures limit { self.new.limit ≡ self.old.limit }
         ensures came { result ≡ count_by comes_to_max_age (map.values self.old.lsas) }
     {
-        0
+        lanes::second(&mut self.ages)
     }
 
     /// Adds the keys of the LSAs of an Advertising Router at the end.
@@ -194,9 +194,9 @@ impl Database {
         ensures found { OnOk result (keys.new.items ≡ keys.old.items ++ keys_by router self.now) }
         ensures unchanged { OnErr result (keys.new.items ≡ keys.old.items) }
     {
-        let rows: Vec<u32> = Vec::new(*self.routers.allocator());
-        keys.reserve(rows.len())?;
-        Ok(())
+        let mut rows = Vec::new(*self.routers.allocator());
+        lanes::rows_of(&self.routers, router, &mut rows)?;
+        self.add_keys(&rows, keys)
     }
 
     /// Adds the keys of the LSAs of an age, in seconds, at the end.
@@ -204,9 +204,9 @@ impl Database {
         ensures found { OnOk result (keys.new.items ≡ keys.old.items ++ keys_aged age self.now) }
         ensures unchanged { OnErr result (keys.new.items ≡ keys.old.items) }
     {
-        let rows: Vec<u32> = Vec::new(*self.ages.allocator());
-        keys.reserve(rows.len())?;
-        Ok(())
+        let mut rows = Vec::new(*self.ages.allocator());
+        lanes::rows_at(&self.ages, age, &mut rows)?;
+        self.add_keys(&rows, keys)
     }
 
     /// The ages in seconds, one a row.
@@ -300,6 +300,20 @@ impl Database {
         Ok(())
     }
 
+    // Adds the keys of the rows at the end. There is room for all before the first is added.
+    fn add_keys(&self, rows: &[u32], keys: &mut Vec<Key>) -> Result<(), Memory>
+        ensures found { OnOk result (keys.new.items ≡ keys.old.items ++ filter_map (slice_get self.now.order) rows.now) }
+        ensures unchanged { OnErr result (keys.new.items ≡ keys.old.items) }
+    {
+        keys.reserve(rows.len())?;
+        for row in rows {
+            if let Some(key) = self.key_at(*row as usize) {
+                push_in_room(keys, *key);
+            }
+        }
+        Ok(())
+    }
+
     // Copies of the LSAs under those keys that have one, at their present age.
     fn copies(&self, keys: &[Key]) -> Result<Vec<Checked>, Memory>
         ensures { IfOk result (λ lsas. lsas.items ≡ filter_map (map.get self.now.lsas) keys.now) }
@@ -331,7 +345,9 @@ impl Database {
 // Appends the value to a column with room for it.
 fn push_in_room<T: Drop>(column: &mut Vec<T>, value: T)
     requires { vec_len column.old < vec_capacity column.old }
-    ensures { column.new.items ≡ column.old.items ++ value ∷ [] }
+    ensures items { column.new.items ≡ column.old.items ++ value ∷ [] }
+    ensures len { vec_len column.new ≡ vec_len column.old + 1 }
+    ensures capacity { vec_capacity column.old ≤ vec_capacity column.new }
 {
     let _ = column.push(value);
 }

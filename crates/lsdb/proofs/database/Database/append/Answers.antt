@@ -16,7 +16,7 @@ invariant_of-self-2 c =
     grown_columns c.self.invariant l c.key-key.ensures.legal absent c.insert.new.self.entries c.reserve.new.self.items c.push_in_room.new.column.items c.reserve-2.new.self.items c.push_in_room-2.new.column.items
     c.reserve-3.new.self.items c.push_in_room-3.new.column.items c.key-key.result c.header-age.result.age
     c.key-key.ensures.value (ap (λ h. h.age) c.header-age.ensures.value) c.in_ok-insert.ensures.entries
-    c.reserve.ensures.items c.push_in_room.ensures c.reserve-2.ensures.items c.push_in_room-2.ensures c.reserve-3.ensures.items c.push_in_room-3.ensures room c.insert.ensures.unique
+    c.reserve.ensures.items c.push_in_room.ensures.items c.reserve-2.ensures.items c.push_in_room-2.ensures.items c.reserve-3.ensures.items c.push_in_room-3.ensures.items room c.insert.ensures.unique
 
 pub returns-clause-installed : goal.returns-clause-installed
 returns-clause-installed c =
@@ -25,7 +25,7 @@ returns-clause-installed c =
     map_grown c.self.invariant l c.key-key.ensures.legal absent c.insert.new.self.entries c.reserve.new.self.items c.push_in_room.new.column.items c.reserve-2.new.self.items c.push_in_room-2.new.column.items
     c.reserve-3.new.self.items c.push_in_room-3.new.column.items c.key-key.result c.header-age.result.age
     c.key-key.ensures.value (ap (λ h. h.age) c.header-age.ensures.value) c.in_ok-insert.ensures.entries
-    c.reserve.ensures.items c.push_in_room.ensures c.reserve-2.ensures.items c.push_in_room-2.ensures c.reserve-3.ensures.items c.push_in_room-3.ensures
+    c.reserve.ensures.items c.push_in_room.ensures.items c.reserve-2.ensures.items c.push_in_room-2.ensures.items c.reserve-3.ensures.items c.push_in_room-3.ensures.items
     ∙ ap (λ (d : DatabaseValue). insert d.lsas (key_of l) l) c.self.view_is
 
 pub returns-clause-order : goal.returns-clause-order
@@ -35,5 +35,5 @@ returns-clause-order c =
     keys_grown c.self.invariant l c.key-key.ensures.legal absent c.insert.new.self.entries c.reserve.new.self.items c.push_in_room.new.column.items c.reserve-2.new.self.items c.push_in_room-2.new.column.items
     c.reserve-3.new.self.items c.push_in_room-3.new.column.items c.key-key.result c.header-age.result.age
     c.key-key.ensures.value (ap (λ h. h.age) c.header-age.ensures.value) c.in_ok-insert.ensures.entries
-    c.reserve.ensures.items c.push_in_room.ensures c.reserve-2.ensures.items c.push_in_room-2.ensures c.reserve-3.ensures.items c.push_in_room-3.ensures
+    c.reserve.ensures.items c.push_in_room.ensures.items c.reserve-2.ensures.items c.push_in_room-2.ensures.items c.reserve-3.ensures.items c.push_in_room-3.ensures.items
     ∙ ap (λ (d : DatabaseValue). d.order ++ key_of l ∷ []) c.self.view_is

@@ -1,0 +1,5 @@
+use Rattle.lsdb.proofs.Looking.{keys_found}
+use Rattle.lsdb.proofs.database.Database.at_age.Goals as goal
+
+pub returns-clause-found : goal.returns-clause-found
+returns-clause-found c = ?
