@@ -73,6 +73,7 @@ module _ {es : List Entry} {ages kinds routers : List ℕ} {limit : ℕ} (c : Ar
     kinds_are = c.kinds_are;
     routers_are = c.routers_are;
     within = c.within;
+    few = c.few;
   }
 
   pub map_later : map_of (present es (map lane.next_age ages)) ≡ all_aged (map_of (present es ages))

@@ -146,6 +146,7 @@ module _ {es : List Entry} {ages kinds routers : List ℕ} {limit : ℕ} (c : Ar
       kinds_are = c.kinds_are ∙ ap (map (λ (k : Key). k.kind)) (sym (keys_set es i l));
       routers_are = c.routers_are ∙ ap (map (λ (k : Key). k.router)) (sym (keys_set es i l));
       within = subst (λ n. n ≤ limit) (sym (length_set es i l)) c.within;
+      few = c.few;
     }
 
     pub map_replaced : map_of (present (set_value_at es i l) (set ages i l.header.age)) ≡ insert (map_of (present es ages)) (key_of l) l
@@ -171,6 +172,7 @@ module _ {es : List Entry} {ages kinds routers : List ℕ} {limit : ℕ} (c : Ar
           kinds_are = c.kinds_are;
           routers_are = c.routers_are;
           within = c.within;
+          few = c.few;
         }
 
     pub map_aged_at : map_of (present es (set ages i age)) ≡ insert (map_of (present es ages)) q (with_age l age)
@@ -188,6 +190,7 @@ module _ {es : List Entry} {ages kinds routers : List ℕ} {limit : ℕ} (c : Ar
       kinds_are = ap (λ (ks : List ℕ). ks ++ l.header.kind ∷ []) c.kinds_are ∙ sym (map-append (λ (k : Key). k.kind) (keys_of es) (key_of l ∷ [])) ∙ ap (map (λ (k : Key). k.kind)) (sym (map-append (λ (e : Entry). e.0) es ((key_of l, l) ∷ [])));
       routers_are = ap (λ (ks : List ℕ). ks ++ l.header.router ∷ []) c.routers_are ∙ sym (map-append (λ (k : Key). k.router) (keys_of es) (key_of l ∷ [])) ∙ ap (map (λ (k : Key). k.router)) (sym (map-append (λ (e : Entry). e.0) es ((key_of l, l) ∷ [])));
       within = omega (arith, room, length-append es ((key_of l, l) ∷ []));
+      few = c.few;
     }
 
     pub map_appended : get (map_of (present es ages)) (key_of l) ≡ None → map_of (present (es ++ (key_of l, l) ∷ []) (ages ++ l.header.age ∷ [])) ≡ insert (map_of (present es ages)) (key_of l) l
@@ -229,6 +232,7 @@ module _ {es : List Entry} {ages kinds routers : List ℕ} {limit : ℕ} (c : Ar
           kinds_are = ap (λ (ks : List ℕ). swap_remove ks i kind) c.kinds_are ∙ sym (swap_remove-map (λ (k : Key). k.kind) (keys_of es) i q kind keys_lt) ∙ ap (map (λ (k : Key). k.kind)) (sym keys_removed);
           routers_are = ap (λ (ks : List ℕ). swap_remove ks i router) c.routers_are ∙ sym (swap_remove-map (λ (k : Key). k.router) (keys_of es) i q router keys_lt) ∙ ap (map (λ (k : Key). k.router)) (sym keys_removed);
           within = omega (arith, c.within, length-swap_remove es i (k, l) lt);
+          few = c.few;
         }
 
 -- ---- what the calls make of the columns

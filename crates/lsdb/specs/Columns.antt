@@ -1,5 +1,5 @@
 -- The columns that a database is kept in: entries of key and LSA, and beside each its present age, its LS type and its Advertising Router.
-use Rattle.std.specs.Prelude.{ℕ, ◌≡◌, ◌≤◌, Bool, List, [], ◌∷◌, length, map}
+use Rattle.std.specs.Prelude.{ℕ, ◌≡◌, ◌<◌, ◌≤◌, ◌^◌, Bool, List, [], ◌∷◌, length, map}
 use Rattle.std.specs.FinMap.{from_entries}
 use Rattle.std.specs.List.{AllByRecursion, IsDistinct}
 use Rattle.std.specs.Map.{keys_of}
@@ -33,6 +33,7 @@ pub record AreColumns (entries : List (Key × Lsa)) (ages kinds routers : List �
   pub kinds_are : kinds ≡ map (λ key. key.kind) (keys_of entries)
   pub routers_are : routers ≡ map (λ key. key.router) (keys_of entries)
   pub within : length entries ≤ limit
+  pub few : limit < 2 ^ 32
 
 -- the database of the columns
 abbrev pub database_of : List (Key × Lsa) → List ℕ → ℕ → DatabaseValue
