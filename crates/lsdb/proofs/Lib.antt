@@ -7,3 +7,4 @@ pub mod Sorting
 pub mod Finding
 pub mod Seconds
 pub mod Looking
+pub mod Ordered

@@ -9,7 +9,7 @@ ghost use Rattle.ospf_types.specs.Lsa.{key_of};
 ghost use Rattle.lsa_codec.specs.Readers.{with_age};
 ghost use Rattle.lsdb.specs.Databases.{install_refusal_of, IsInstallRefusal, purge_refusal_of, all_aged, aged_out, comes_to_max_age, order_with, ages_of, keys_by, keys_aged};
 ghost use Rattle.lsdb.specs.Columns.{is_key};
-ghost use Rattle.lsdb.specs.Contents.{used_at, IsUsedAlike, IsSound};
+ghost use Rattle.lsdb.specs.Contents.{used_at, IsUsedAlike, IsSound, IsOrder};
 
 use crate::contents::is_used_otherwise;
 use crate::refusal::{InstallRefusal, NoLsa, PurgeRefusal};
@@ -70,6 +70,7 @@ impl Database {
         ensures value { result ≡ map.len self.now.lsas }
         ensures sound { IsSound self.now.lsas }
         ensures within { map.len self.now.lsas ≤ self.now.limit }
+        ensures ordered { IsOrder self.now }
     {
         self.rows.len()
     }

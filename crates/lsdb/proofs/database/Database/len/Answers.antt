@@ -1,7 +1,8 @@
 use Rattle.std.proofs.Common.{ap, subst, sym, ◌∙◌, ◌≤◌, arith}
 use Rattle.std.specs.FinMap.{len}
-use Rattle.lsdb.specs.Contents.{IsSound}
+use Rattle.lsdb.specs.Contents.{IsSound, IsOrder}
 use Rattle.lsdb.specs.Databases.{DatabaseValue}
+use Rattle.lsdb.proofs.Ordered.{is_order}
 use Rattle.lsdb.proofs.Stored.{len_columns, sound_columns}
 use Rattle.lsdb.proofs.database.Database.len.Goals as goal
 
@@ -13,3 +14,6 @@ returns-clause-sound c = subst (λ (d : DatabaseValue). IsSound d.lsas) c.self.v
 
 pub returns-clause-within : goal.returns-clause-within
 returns-clause-within c = subst (λ (d : DatabaseValue). len d.lsas ≤ d.limit) c.self.view_is (subst (λ n. n ≤ c.self.inside.limit) (sym (len_columns c.self.invariant)) c.self.invariant.within)
+
+pub returns-clause-ordered : goal.returns-clause-ordered
+returns-clause-ordered c = subst IsOrder c.self.view_is (is_order c.self.invariant)
