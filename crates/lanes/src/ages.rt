@@ -1,6 +1,9 @@
 //! The ages of LSAs in seconds.
-ghost use Rattle.std.specs.Prelude.{◌≡◌, ℕ, ◌≤◌, All, map, count_by};
+ghost use Rattle.std.specs.Prelude.{◌≡◌, ℕ, ◌≤◌, All, length, map, count_by};
 ghost use Rattle.lanes.specs.Ages.{MaxAge, next_age, comes_to_max_age};
+
+use crate::lane::LANES;
+use std::simd::prelude::*;
 
 const MAX_AGE: u16 = 3600;
 
@@ -11,7 +14,26 @@ pub fn second(ages: &mut [u16]) -> usize
     ensures aged { ages.new ≡ map next_age ages.old }
     ensures came { result ≡ count_by comes_to_max_age ages.old }
 {
-    second_one_by_one(ages)
+    let mut came = 0;
+    let mut first = 0;
+    while LANES <= ages.len() - first {
+        came += second_of_lanes(&mut ages[first..first + LANES]);
+        first += LANES;
+    }
+    came + second_one_by_one(&mut ages[first..])
+}
+
+// The same of one vector of ages.
+fn second_of_lanes(ages: &mut [u16]) -> usize
+    requires full { length ages.old ≡ LANES }
+    requires small { All (λ age. age ≤ MaxAge) ages.old }
+    ensures aged { ages.new ≡ map next_age ages.old }
+    ensures came { result ≡ count_by comes_to_max_age ages.old }
+{
+    let max_age = u16x32::splat(MAX_AGE);
+    let next = u16x32::from_slice(ages) + u16x32::splat(1);
+    next.simd_min(max_age).copy_to_slice(ages);
+    next.simd_eq(max_age).to_bitmask().count_ones() as usize
 }
 
 // The same, an age at a time.

@@ -3,7 +3,11 @@
 #![tactic(auto)]
 
 mod ages;
+mod lane;
 mod rows;
 
 pub use ages::second;
 pub use rows::{rows_at, rows_of};
+
+#[cfg(test)]
+mod tests;

@@ -2,6 +2,7 @@
 ghost use Rattle.std.specs.Prelude.{◌≡◌, ℕ, ◌+◌, ◌≤◌, ◌^◌, ◌++◌, ◌==◌, length, take, vec_len, OnOk, OnErr};
 ghost use Rattle.lanes.specs.Rows.{rows_from, places};
 
+use crate::lane::{LANES, Lane};
 use std::alloc::AllocError;
 
 /// Appends the rows that have this age, ascending. On an error there was no memory for them, and
@@ -25,7 +26,7 @@ pub fn rows_of(routers: &[u32], router: u32, rows: &mut Vec<u32>) -> Result<(), 
 }
 
 // Appends the rows that have the value, or none of them.
-fn append_all_or_none<T: PartialEq + Copy>(
+fn append_all_or_none<T: Lane>(
     column: &[T],
     value: T,
     rows: &mut Vec<u32>,
@@ -35,15 +36,33 @@ fn append_all_or_none<T: PartialEq + Copy>(
     ensures unchanged { OnErr result (rows.new.items ≡ rows.old.items) }
 {
     let before = rows.len();
-    let found = append(column, 0, value, rows);
+    let found = append(column, value, rows);
     if found.is_err() {
         rows.truncate(before);
     }
     found
 }
 
-// Appends the rows that have the value, numbered from `first` on.
-fn append<T: PartialEq + Copy>(
+// Appends the rows that have the value, as far as there is memory. It passes over a vector of rows
+// that have other values.
+fn append<T: Lane>(column: &[T], value: T, rows: &mut Vec<u32>) -> Result<(), AllocError>
+    requires { length column.now ≤ 2 ^ 32 }
+    ensures found { OnOk result (rows.new.items ≡ rows.old.items ++ places (λ x. T.eq x value) column.now) }
+    ensures kept { OnErr result (take (vec_len rows.old) rows.new.items ≡ rows.old.items) }
+{
+    let mut first = 0;
+    while LANES <= column.len() - first {
+        let chunk = &column[first..first + LANES];
+        if T::is_among(chunk, value) {
+            append_one_by_one(chunk, first, value, rows)?;
+        }
+        first += LANES;
+    }
+    append_one_by_one(&column[first..], first, value, rows)
+}
+
+// The same, a row at a time, numbered from `first` on.
+fn append_one_by_one<T: PartialEq + Copy>(
     column: &[T],
     first: usize,
     value: T,
