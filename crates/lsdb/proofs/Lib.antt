@@ -1,0 +1,10 @@
+pub mod KeyTests
+pub mod Entries
+pub mod Rows
+pub mod Stored
+pub mod Refusing
+pub mod Sorting
+pub mod Finding
+pub mod Seconds
+pub mod Looking
+pub mod Ordered

@@ -1,0 +1,7 @@
+use Rattle.std.proofs.Common.{◌≡◌, sym, ap, ◌∙◌}
+use Rattle.lsdb.specs.Databases.{DatabaseValue, ages_of}
+use Rattle.lsdb.proofs.Seconds.{ages_are}
+use Rattle.lsdb.proofs.database.Database.ages.Goals as goal
+
+pub returns : goal.returns
+returns c = c.deref.ensures.value ∙ ages_are c.self.invariant ∙ ap ages_of c.self.view_is

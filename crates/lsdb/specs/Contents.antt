@@ -1,0 +1,34 @@
+-- What is used of a database's LSAs (RFC 2328, 13.2), and what holds of every database.
+use Rattle.std.specs.Prelude.{ℕ, ◌≡◌, ◌≢◌, ◌↔◌, Option, Some, None, IsSome, Contains, nat_lt, count_by, option_and_then, if◌then◌else◌}
+use Rattle.std.specs.List.{AllPairs}
+use Rattle.std.specs.FinMap.{get, values}
+use Rattle.ospf_types.specs.declared.key.Key.{Key}
+use Rattle.ospf_types.specs.Lsa.{Lsa, Body, MaxAge, key_of}
+use Rattle.lsa_codec.specs.Spelling.{IsLegal}
+use Rattle.lsdb.specs.Databases.{Database, DatabaseValue, comes_to_max_age}
+
+-- Options and body, where the LSA is used in calculations
+abbrev pub contents_of : Lsa → Option (ℕ × Body)
+contents_of l = if nat_lt l.header.age MaxAge then Some (l.header.options, l.body) else None
+
+-- Options and body of the LSA under the key, where it is there and used in calculations
+abbrev pub used_at : Database → Key → Option (ℕ × Body)
+used_at d key = option_and_then contents_of (get d key)
+
+-- what is used of the LSA is what is used of the instance that the database has
+abbrev pub IsUsedAlike : Database → Lsa → Type 0
+IsUsedAlike d l = used_at d (key_of l) ≡ contents_of l
+
+-- no LSA comes to MaxAge within a second
+abbrev pub NoneComes : Database → Type 0
+NoneComes d = count_by comes_to_max_age (values d) ≡ 0
+
+-- each LSA stands under its own key and is in the grammar
+pub record IsSound (d : Database) : Type 0 where
+  pub under_own_key : (k : Key) (l : Lsa) → get d k ≡ Some l → k ≡ key_of l
+  pub legal : (k : Key) (l : Lsa) → get d k ≡ Some l → IsLegal l
+
+-- each key of the map stands in the order, once, and no other key does
+pub record IsOrder (d : DatabaseValue) : Type 0 where
+  pub there : (k : Key) → Contains d.order k ↔ IsSome (get d.lsas k)
+  pub once : AllPairs (λ j k. j ≢ k) d.order

@@ -1,0 +1,354 @@
+ghost use Rattle.std.specs.Prelude.{◌≡◌, ◌+◌, ◌↔◌, ◌<◌, ◌≤◌, ◌++◌, [], ◌∷◌, false, None, Some, IsSome, OnOk, OnErr, IfOk, IfErr, nat_le, count_by, length, option_map, is_some, position, slice_get, vec_len, vec_capacity, map as list_map};
+ghost use Rattle.std.specs.FinMap as map;
+ghost use Rattle.std.specs.List.{filter_map};
+ghost use Rattle.std.specs.Option.{option_copied};
+ghost use Rattle.std.specs.Ordering.{eq_by_cmp};
+ghost use Rattle.indexmap.specs.IndexMap.{swap_remove_by};
+ghost use Rattle.ospf_types.specs.Keys.{key_cmp};
+ghost use Rattle.ospf_types.specs.Lsa.{key_of};
+ghost use Rattle.lsa_codec.specs.Readers.{with_age};
+ghost use Rattle.lsdb.specs.Databases.{install_refusal_of, IsInstallRefusal, purge_refusal_of, all_aged, aged_out, comes_to_max_age, order_with, ages_of, keys_by, keys_aged};
+ghost use Rattle.lsdb.specs.Columns.{is_key};
+ghost use Rattle.lsdb.specs.Contents.{used_at, IsUsedAlike, IsSound, IsOrder};
+
+use crate::contents::is_used_otherwise;
+use crate::refusal::{InstallRefusal, NoLsa, PurgeRefusal};
+use indexmap::IndexMap;
+use lsa_codec::Checked;
+use lsa_order::{Header, Newer, newer};
+use ospf_types::key::Key;
+use ospf_types::lsa::MAX_AGE;
+use ospf_types::memory::Memory;
+use std::alloc::Global;
+use std::hash::RandomState;
+use std::marker::Model;
+
+/// A link-state database (RFC 2328, 12): LSAs by key, each at its present age. A key's row stays
+/// until it is purged, or the last row takes the place of one that is.
+#[derive(Drop)]
+pub struct Database {
+    rows: IndexMap<Key, Checked, RandomState>,
+    ages: Vec<u16>,
+    kinds: Vec<u8>,
+    routers: Vec<u32>,
+    limit: u32,
+}
+
+impl Model for Database {
+    ghost use Rattle.std.specs.FinMap as map;
+    ghost use Rattle.std.specs.Coded.{Coded, codes};
+    ghost use Rattle.ospf_types.specs.Keys.{key_code};
+    ghost use Rattle.lsdb.specs.Databases.{DatabaseValue, Database as LsaMap};
+
+    ghost Value = { DatabaseValue };
+
+    ghost coded = { let lsas : Coded LsaMap = map.code key_code (Prim.hlevel codes) in Prim.hlevel (codes, lsas) };
+
+    ghost use Rattle.lsdb.specs.Columns.{database_of, AreColumns};
+
+    ghost view = { λ d. database_of d.rows.entries d.ages.items d.limit };
+
+    ghost invariant = { λ d. AreColumns d.rows.entries d.ages.items d.kinds.items d.routers.items d.limit };
+}
+
+impl Database {
+    /// No LSAs, and room for so many.
+    pub fn new(alloc: Global, limit: u32, hashing: RandomState) -> Database
+        ensures { result ≡ record { lsas = map.empty; order = []; limit = limit } }
+    {
+        Database {
+            rows: IndexMap::with_hasher(alloc, hashing),
+            ages: Vec::new(alloc),
+            kinds: Vec::new(alloc),
+            routers: Vec::new(alloc),
+            limit,
+        }
+    }
+
+    /// How many LSAs are held.
+    pub fn len(&self) -> usize
+        ensures value { result ≡ map.len self.now.lsas }
+        ensures sound { IsSound self.now.lsas }
+        ensures within { map.len self.now.lsas ≤ self.now.limit }
+        ensures ordered { IsOrder self.now }
+    {
+        self.rows.len()
+    }
+
+    /// The LSA under the key, with its present age in seconds. The age in its header is that of the
+    /// time when it was put there.
+    pub fn get(&self, key: Key) -> Option<(&Checked, u16)>
+        ensures { option_map (λ found. with_age found.0.now found.1) result ≡ map.get self.now.lsas key }
+    {
+        let (row, _, lsa) = self.rows.get_full(&key)?;
+        Some((lsa, self.ages[row]))
+    }
+
+    /// Why the LSA would not be installed, memory aside.
+    pub fn install_refusal(&self, lsa: &Checked) -> Option<InstallRefusal>
+        ensures { result ≡ install_refusal_of self.now.lsas self.now.limit lsa.now }
+    {
+        match self.held(lsa.key()) {
+            Some(held) => match newer(&held, &lsa.header()) {
+                Newer::First => Some(InstallRefusal::Older),
+                Newer::Same => Some(InstallRefusal::Same),
+                Newer::Second => None,
+            },
+            None if self.is_full() => Some(InstallRefusal::Full),
+            None => None,
+        }
+    }
+
+    /// Installs the LSA in place of what is held under its key (RFC 2328, 13.2), unless that is not
+    /// older or there is no room. The answer is whether what is used of it differs from before.
+    pub fn install(&mut self, lsa: Checked) -> Result<bool, InstallRefusal>
+        ensures refused { IfErr result (IsInstallRefusal self.old.lsas self.old.limit lsa) }
+        ensures unchanged { OnErr result (self.new ≡ self.old) }
+        ensures accepted { OnOk result (install_refusal_of self.old.lsas self.old.limit lsa ≡ None) }
+        ensures installed { OnOk result (self.new.lsas ≡ map.insert self.old.lsas (key_of lsa) lsa) }
+        ensures order { OnOk result (self.new.order ≡ order_with self.old (key_of lsa)) }
+        ensures limit { OnOk result (self.new.limit ≡ self.old.limit) }
+        ensures changed { IfOk result (λ changed. (changed ≡ false) ↔ IsUsedAlike self.old.lsas lsa) }
+    {
+        if let Some(refusal) = self.install_refusal(&lsa) {
+            return Err(refusal);
+        }
+        match self.put(lsa) {
+            Ok(changed) => Ok(changed),
+            Err(_) => Err(InstallRefusal::Memory),
+        }
+    }
+
+    /// The same where it is known that the LSA is not refused.
+    pub fn put(&mut self, lsa: Checked) -> Result<bool, Memory>
+        requires { install_refusal_of self.old.lsas self.old.limit lsa ≡ None }
+        ensures unchanged { OnErr result (self.new ≡ self.old) }
+        ensures installed { OnOk result (self.new.lsas ≡ map.insert self.old.lsas (key_of lsa) lsa) }
+        ensures order { OnOk result (self.new.order ≡ order_with self.old (key_of lsa)) }
+        ensures limit { OnOk result (self.new.limit ≡ self.old.limit) }
+        ensures changed { IfOk result (λ changed. (changed ≡ false) ↔ IsUsedAlike self.old.lsas lsa) }
+    {
+        let key = lsa.key();
+        let changed = is_used_otherwise(self.get(key), &lsa);
+        match self.row_of(key) {
+            Some(row) => self.replace(row, lsa),
+            None => self.append(lsa)?,
+        }
+        Ok(changed)
+    }
+
+    /// Sets the age of the LSA under the key to MaxAge (RFC 2328, 14.1). The answer is whether it was
+    /// used before.
+    pub fn age_out(&mut self, key: Key) -> Result<bool, NoLsa>
+        ensures absent { OnErr result (map.get self.old.lsas key ≡ None) }
+        ensures there { OnOk result (IsSome (map.get self.old.lsas key)) }
+        ensures aged { self.new.lsas ≡ aged_out self.old.lsas key }
+        ensures order { self.new.order ≡ self.old.order }
+        ensures limit { self.new.limit ≡ self.old.limit }
+        ensures changed { IfOk result (λ changed. (changed ≡ false) ↔ (used_at self.old.lsas key ≡ None)) }
+    {
+        match self.row_of(key) {
+            Some(row) => {
+                let was_used = self.ages[row] < MAX_AGE;
+                self.ages[row] = MAX_AGE;
+                Ok(was_used)
+            }
+            None => Err(NoLsa),
+        }
+    }
+
+    /// Takes the LSA under the key out, which is at MaxAge (RFC 2328, 14). The last row takes its place.
+    pub fn purge(&mut self, key: Key) -> Result<(), PurgeRefusal>
+        ensures refused { IfErr result (λ refusal. purge_refusal_of (map.get self.old.lsas key) ≡ Some refusal) }
+        ensures unchanged { OnErr result (self.new ≡ self.old) }
+        ensures accepted { OnOk result (purge_refusal_of (map.get self.old.lsas key) ≡ None) }
+        ensures purged { OnOk result (self.new.lsas ≡ map.remove self.old.lsas key) }
+        ensures order { OnOk result (self.new.order ≡ swap_remove_by (eq_by_cmp key_cmp key) self.old.order) }
+        ensures limit { self.new.limit ≡ self.old.limit }
+    {
+        match self.row_of(key) {
+            None => Err(PurgeRefusal::NoLsa),
+            Some(row) if self.ages[row] < MAX_AGE => Err(PurgeRefusal::NotMaxAge),
+            Some(row) => {
+                self.rows.swap_remove_index(row);
+                self.ages.swap_remove(row);
+                self.kinds.swap_remove(row);
+                self.routers.swap_remove(row);
+                Ok(())
+            }
+        }
+    }
+
+    /// A second passes: each age below MaxAge rises by one (RFC 2328, 14). The answer is how many LSAs
+    /// came to MaxAge.
+    pub fn second(&mut self) -> usize
+        ensures aged { self.new.lsas ≡ all_aged self.old.lsas }
+        ensures order { self.new.order ≡ self.old.order }
+        ensures limit { self.new.limit ≡ self.old.limit }
+        ensures came { result ≡ count_by comes_to_max_age (map.values self.old.lsas) }
+    {
+        lanes::second(&mut self.ages)
+    }
+
+    /// Adds the keys of the LSAs of an Advertising Router at the end.
+    pub fn by_router(&self, router: u32, keys: &mut Vec<Key>) -> Result<(), Memory>
+        ensures found { OnOk result (keys.new.items ≡ keys.old.items ++ keys_by router self.now) }
+        ensures unchanged { OnErr result (keys.new.items ≡ keys.old.items) }
+    {
+        let mut rows = Vec::new(*self.routers.allocator());
+        lanes::rows_of(&self.routers, router, &mut rows)?;
+        self.add_keys(&rows, keys)
+    }
+
+    /// Adds the keys of the LSAs of an age, in seconds, at the end.
+    pub fn at_age(&self, age: u16, keys: &mut Vec<Key>) -> Result<(), Memory>
+        ensures found { OnOk result (keys.new.items ≡ keys.old.items ++ keys_aged age self.now) }
+        ensures unchanged { OnErr result (keys.new.items ≡ keys.old.items) }
+    {
+        let mut rows = Vec::new(*self.ages.allocator());
+        lanes::rows_at(&self.ages, age, &mut rows)?;
+        self.add_keys(&rows, keys)
+    }
+
+    /// The ages in seconds, one a row.
+    pub fn ages(&self) -> &[u16]
+        ensures { result.now ≡ ages_of self.now }
+    {
+        &self.ages
+    }
+
+    /// The LS types, one a row.
+    pub fn kinds(&self) -> &[u8]
+        ensures { result.now ≡ list_map (λ key. key.kind) self.now.order }
+    {
+        &self.kinds
+    }
+
+    /// The key of a row.
+    pub fn key_at(&self, row: usize) -> Option<&Key>
+        ensures { option_copied result ≡ slice_get self.now.order row }
+    {
+        let (key, _) = self.rows.get_index(row)?;
+        Some(key)
+    }
+
+    /// Copies of the LSAs at their present age, in the order of their keys.
+    pub fn lsas(&self) -> Result<Vec<Checked>, Memory>
+        ensures { IfOk result (λ lsas. lsas.items ≡ map.values self.now.lsas) }
+    {
+        let mut keys = Vec::from_slice(*self.ages.allocator(), self.rows.keys().as_slice())?;
+        keys.sort_unstable();
+        self.copies(&keys)
+    }
+}
+
+impl Database {
+    // The row of the key.
+    fn row_of(&self, key: Key) -> Option<usize>
+        ensures row { result ≡ position (is_key key) self.now.order }
+        ensures found { is_some result ≡ is_some (map.get self.now.lsas key) }
+    {
+        self.rows.get_index_of(&key)
+    }
+
+    // The header of the LSA under the key, with its present age.
+    fn held(&self, key: Key) -> Option<Header>
+        ensures { result ≡ option_map (λ l. l.header) (map.get self.now.lsas key) }
+    {
+        let (lsa, age) = self.get(key)?;
+        Some(Header {
+            age,
+            ..lsa.header()
+        })
+    }
+
+    // Whether as many LSAs are held as may be.
+    fn is_full(&self) -> bool
+        ensures { result ≡ nat_le self.now.limit (map.len self.now.lsas) }
+    {
+        self.limit as usize <= self.len()
+    }
+
+    // Puts the LSA in the place of the one in the row of its key.
+    fn replace(&mut self, row: usize, lsa: Checked)
+        requires { position (is_key (key_of lsa)) self.old.order ≡ Some row }
+        ensures installed { self.new.lsas ≡ map.insert self.old.lsas (key_of lsa) lsa }
+        ensures order { self.new.order ≡ self.old.order }
+        ensures limit { self.new.limit ≡ self.old.limit }
+    {
+        self.ages[row] = lsa.header().age;
+        self.rows[row] = lsa;
+    }
+
+    // Puts the LSA in a row of its own, the last. Each column has room before any changes.
+    fn append(&mut self, lsa: Checked) -> Result<(), Memory>
+        requires absent { position (is_key (key_of lsa)) self.old.order ≡ None }
+        requires room { map.len self.old.lsas < self.old.limit }
+        ensures unchanged { OnErr result (self.new ≡ self.old) }
+        ensures installed { OnOk result (self.new.lsas ≡ map.insert self.old.lsas (key_of lsa) lsa) }
+        ensures order { OnOk result (self.new.order ≡ self.old.order ++ key_of lsa ∷ []) }
+        ensures limit { self.new.limit ≡ self.old.limit }
+    {
+        let key = lsa.key();
+        let age = lsa.header().age;
+        self.ages.reserve(1)?;
+        self.kinds.reserve(1)?;
+        self.routers.reserve(1)?;
+        self.rows.insert(key, lsa)?;
+        push_in_room(&mut self.ages, age);
+        push_in_room(&mut self.kinds, key.kind);
+        push_in_room(&mut self.routers, key.router);
+        Ok(())
+    }
+
+    // Adds the keys of the rows at the end. There is room for all before the first is added.
+    fn add_keys(&self, rows: &[u32], keys: &mut Vec<Key>) -> Result<(), Memory>
+        ensures found { OnOk result (keys.new.items ≡ keys.old.items ++ filter_map (slice_get self.now.order) rows.now) }
+        ensures unchanged { OnErr result (keys.new.items ≡ keys.old.items) }
+    {
+        keys.reserve(rows.len())?;
+        for row in rows {
+            if let Some(key) = self.key_at(*row as usize) {
+                push_in_room(keys, *key);
+            }
+        }
+        Ok(())
+    }
+
+    // Copies of the LSAs under those keys that have one, at their present age.
+    fn copies(&self, keys: &[Key]) -> Result<Vec<Checked>, Memory>
+        ensures { IfOk result (λ lsas. lsas.items ≡ filter_map (map.get self.now.lsas) keys.now) }
+    {
+        let mut lsas = Vec::with_capacity(*self.ages.allocator(), keys.len())?;
+        for key in keys {
+            if let Some(lsa) = self.copy_of(*key)? {
+                lsas.push(lsa)?;
+            }
+        }
+        Ok(lsas)
+    }
+
+    // A copy of the LSA under the key, at its present age.
+    fn copy_of(&self, key: Key) -> Result<Option<Checked>, Memory>
+        ensures { IfOk result (λ copy. copy ≡ map.get self.now.lsas key) }
+    {
+        match self.rows.get_full(&key) {
+            Some((row, _, lsa)) => {
+                let mut copy = lsa.copy(*self.ages.allocator())?;
+                copy.set_age(self.ages[row]);
+                Ok(Some(copy))
+            }
+            None => Ok(None),
+        }
+    }
+}
+
+// Appends the value to a column with room for it.
+fn push_in_room<T: Drop>(column: &mut Vec<T>, value: T)
+    requires { vec_len column.old < vec_capacity column.old }
+    ensures items { column.new.items ≡ column.old.items ++ value ∷ [] }
+    ensures len { vec_len column.new ≡ vec_len column.old + 1 }
+    ensures capacity { vec_capacity column.old ≤ vec_capacity column.new }
+{
+    let _ = column.push(value);
+}
