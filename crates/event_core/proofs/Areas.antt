@@ -13,7 +13,7 @@ use Rattle.ospf_types.specs.Lsa.{Lsa, key_of}
 use Rattle.ospf_types.proofs.Orders.{key_total, key_exact}
 use Rattle.lsa_codec.specs.Spelling.{IsLegal}
 use Rattle.lsdb.specs.Databases.{Database}
-use Rattle.lsdb.proofs.Rows.{find_at}
+use Rattle.event_state.proofs.Sorted.{find_at}
 use Rattle.event_state.specs.States.{State, database_of, lsas_of, place_of}
 use Rattle.event_state.specs.Steps.{is_stub_only, is_out_of_scope}
 use Rattle.event_state.specs.Held.{AreFit, IsFit}

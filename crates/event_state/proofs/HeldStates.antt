@@ -23,7 +23,7 @@ use Rattle.lsa_codec.specs.Readers.{with_age}
 use Rattle.lsdb.specs.Databases.{Database, DatabaseValue, aged, all_aged, aged_out, changed_at}
 use Rattle.lsdb.specs.Contents.{IsSound}
 use Rattle.lsa_codec.proofs.Ages.{IsLegal-with_age}
-use Rattle.lsdb.proofs.Seconds.{get-all_aged, all_aged_empty}
+use Rattle.event_state.proofs.Aging.{get-all_aged, all_aged_empty}
 use Rattle.event_state.specs.declared.limits.Limits.{Limits}
 use Rattle.event_state.specs.Changes.{IsChange, lsas_in, limits_in, empty_values, aged_value}
 use Rattle.event_state.specs.States.{AreApart, place_of}

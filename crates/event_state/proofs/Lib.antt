@@ -1,4 +1,6 @@
 pub mod Maps
+pub mod Sorted
+pub mod Aging
 pub mod InPlace
 pub mod StubOnly
 pub mod Places

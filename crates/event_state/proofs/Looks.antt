@@ -19,7 +19,7 @@ use Rattle.ospf_types.proofs.Orders.{key_total, key_exact}
 use Rattle.lsa_codec.specs.Readers.{with_age}
 use Rattle.lsdb.specs.Databases.{Database, DatabaseValue, all_aged, aged_out, changed_at, purge_refusal_of}
 use Rattle.lsdb.specs.Contents.{contents_of, used_at, NoneComes, IsUsedAlike}
-use Rattle.lsdb.proofs.Seconds.{none_same, same_none}
+use Rattle.event_state.proofs.Aging.{none_same, same_none}
 use Rattle.event_state.specs.declared.event.Event.{Event}
 use Rattle.event_state.specs.declared.event.Event.TheVariants as event
 use Rattle.event_state.specs.Changes.{lsas_in}

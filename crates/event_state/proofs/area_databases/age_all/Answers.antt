@@ -7,9 +7,6 @@ use Rattle.event_state.specs.Changes.{aged_value}
 use Rattle.event_state.proofs.InPlace.{one_mapped, one_flagged, not_reached, none_counted}
 use Rattle.event_state.proofs.area_databases.age_all.Goals as goal
 
-pub second-requires : goal.second-requires
-second-requires c = ?
-
 pub loop-database-preserved : goal.loop-database-preserved
 loop-database-preserved c =
     let xs = c.loop-database.databases in

@@ -3,9 +3,6 @@ use Rattle.lsdb.specs.Databases.{aged_out}
 use Rattle.event_state.proofs.OneChange.{change_at, here_at}
 use Rattle.event_state.proofs.area_databases.age_out_at.Goals as goal
 
-pub age_out-requires : goal.age_out-requires
-age_out-requires c = ?
-
 pub returns-in-Ok-clause-done : goal.returns-in-Ok-clause-done
 returns-in-Ok-clause-done c =
     let here = here_at c.args.databases.now c.args.place c.index-databases-place.result c.requires in

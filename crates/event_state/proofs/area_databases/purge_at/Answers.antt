@@ -3,9 +3,6 @@ use Rattle.std.specs.FinMap.{remove}
 use Rattle.event_state.proofs.OneChange.{change_at, here_at}
 use Rattle.event_state.proofs.area_databases.purge_at.Goals as goal
 
-pub purge-requires : goal.purge-requires
-purge-requires c = ?
-
 pub returns : goal.returns
 returns c =
     let here = here_at c.args.databases.now c.args.place c.index-databases-place.result c.requires.within in

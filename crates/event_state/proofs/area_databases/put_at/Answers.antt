@@ -4,9 +4,6 @@ use Rattle.ospf_types.specs.Lsa.{key_of}
 use Rattle.event_state.proofs.OneChange.{change_at, here_at, both_ok}
 use Rattle.event_state.proofs.area_databases.put_at.Goals as goal
 
-pub put-requires-clause-later : goal.put-requires-clause-later
-put-requires-clause-later c = ?
-
 pub returns-clause-done : goal.returns-clause-done
 returns-clause-done c =
     let here = here_at c.args.databases.now c.args.place c.index-databases-place.result c.requires.within in
