@@ -51,7 +51,7 @@ offers_alike : (s t : State) (h : AreAlike s t) (p : Prefix) (key : AreaCost) (p
 offers_alike s t h p key path w =
     let mine = intra_to s h.fit p key path w in
     let areas : s.config.areas ≡ t.config.areas = ap (λ (c : Config). c.areas) h.config in
-    let there = subst (λ (as : List AreaConfig). OfferedBySome as (λ (a : AreaConfig). AreaOffers s a.id) p key path) areas mine in
+    let there = subst (λ (configured : List AreaConfig). OfferedBySome configured (λ (a : AreaConfig). AreaOffers s a.id) p key path) areas mine in
     let own = there.2 in
     let offers = subst (λ (is : List (ℕ × Interface)). LsaOffers is there.0.id own.0 p key path) (ap entries h.looks.interfaces) own.2 in
     intra_from t h.other_fit p key path (there.0, there.1, (own.0, sym (body_alike s t h there.0.id) ∙ own.1, offers))

@@ -131,3 +131,17 @@ takes s u t built e reply new kept is accepted changed journal config limits sta
       changed = (λ p. looks (changed.0 p), λ l. changed.1 (back l));
       stands = stands_same s u t built reply.state new stands;
     }
+
+-- after an event that leaves a state looking as before, a core that lacks that event alone is quiet
+quiet_step : (s : State) (t : TableValue) (built : ℕ) (e : Event) → IsKept s t built → refusal_of s e ≡ None → LooksAlike s (step s e) → IsQuiet (core_of (step s e) t built)
+quiet_step s t built e kept accepted looks one =
+    let setting = step_setting s e in
+    let all : built ≡ length s.journal = omega (arith, one, length-append s.journal (e ∷ [])) in
+    let front : take built (s.journal ++ e ∷ []) ≡ s.journal = take-append-le built s.journal (e ∷ []) kept.core.within ∙ take_all built s.journal (omega arith) in
+    let before : s ≡ built_state (core_of (step s e) t built) = kept.run ∙ (λ i. run_of (sym setting.config i) (sym setting.limits i) (sym front i)) in
+    let now : step s e ≡ state_of (core_of (step s e) t built) = (kept_step s t built e kept accepted).run in
+    subst (λ (v : State). LooksAlike v (state_of (core_of (step s e) t built))) before (subst (λ (v : State). LooksAlike s v) now looks)
+
+pub quiet_after : (s u : State) (t : TableValue) (built : ℕ) (e : Event) → IsKept s t built → u ≡ step s e → refusal_of s e ≡ None → LooksAlike s u → IsQuiet (core_of u t built)
+quiet_after s u t built e kept is accepted looks =
+    subst (λ (v : State). IsQuiet (core_of v t built)) (sym is) (quiet_step s t built e kept accepted (subst (λ (v : State). LooksAlike s v) is looks))

@@ -1,4 +1,4 @@
-ghost use Rattle.std.specs.Prelude.{◌≡◌, None, IfErr, IfOk, OnErr};
+ghost use Rattle.std.specs.Prelude.{◌≡◌, None, false, IfErr, IfOk, OnErr};
 ghost use Rattle.event_core.specs.Configs.{fault_of};
 ghost use Rattle.event_core.specs.Cores.{IsCore, IsOpening, IsFaultOf, Applies, Stands, Runs, IsQuiet, state_of};
 ghost use Rattle.event_state.specs.Steps.{standard_limits};
@@ -101,12 +101,27 @@ impl Core {
         ensures { Applies self.old event result self.new }
     {
         let (serial, changed) = self.state.step(event)?;
-        let state = if changed { self.catch_up() } else { self.follow() };
+        let state = self.settle(changed);
         Ok(Reply {
             serial,
             changed,
             state,
         })
+    }
+
+    // Brings the table up to the last event.
+    fn settle(&mut self, changed: bool) -> Standing
+        requires { changed ≡ false → IsQuiet self.old }
+        ensures journal { self.new.journal ≡ self.old.journal }
+        ensures config { self.new.config ≡ self.old.config }
+        ensures limits { self.new.limits ≡ self.old.limits }
+        ensures stands { Stands self.old result self.new }
+    {
+        if changed {
+            self.catch_up()
+        } else {
+            self.follow()
+        }
     }
 
     // The last event changed nothing that the table is calculated from: where the table is that of

@@ -25,5 +25,5 @@ returns-clause-chosen c =
     let no_offers : List (Prefix × AreaCost × Path) = [] in
     let none = subst (λ (S : Path → Path → Ordering). ChoosesFrom network_cmp area_cost_cmp S no_offers c.new-choices.result) path_cmp_is c.new-choices.ensures.chooses in
     let takes = c.loop-area.invariant c.loop-area.choices (takes_past offers c.as_slice-areas.result.now c.loop-area.area-index c.loop-area.choices (omega arith)) in
-    intra_chosen s c.config.ensures.held c.new-choices.result c.loop-area.choices none
+    intra_chosen s c.config.ensures.fit c.new-choices.result c.loop-area.choices none
     (subst (λ (xs : List AreaConfig). TakesPaths (OfferedBySome xs offers) c.new-choices.result c.loop-area.choices) areas takes)

@@ -19,6 +19,6 @@ returns c =
     let stub = c.is_stub.ensures.0 c.if-not-is_stub.false in
     on_ok_weaker c.offer_network.result
     (λ takes. takes_stub interfaces c.args.area link c.args.choices.now c.offer_network.new.choices stub
-    (subst (λ (p : Prefix). TakesPaths (OfferedBySome interfaces (InterfaceOffers p (link.metric, c.args.area))) c.args.choices.now c.offer_network.new.choices) c.network_of.ensures
-    (subst (λ (k : AreaCost). TakesPaths (OfferedBySome interfaces (InterfaceOffers c.network_of.result k)) c.args.choices.now c.offer_network.new.choices) c.cost_of.ensures takes)))
+    (subst (λ (p : Prefix). TakesPaths (OfferedBySome interfaces (InterfaceOffers p (link.metric, c.args.area))) c.args.choices.now c.offer_network.new.choices) c.of_mask-network.ensures
+    (subst (λ (k : AreaCost). TakesPaths (OfferedBySome interfaces (InterfaceOffers c.of_mask-network.result k)) c.args.choices.now c.offer_network.new.choices) c.cost_of.ensures takes)))
     c.offer_network.ensures

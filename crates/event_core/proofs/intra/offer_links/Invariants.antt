@@ -8,4 +8,4 @@ use Rattle.event_core.proofs.intra.offer_links.Given as goal
 -- who takes the offers of the links that are left has taken them all
 abbrev pub invariant-loop-n : goal.invariant-loop-n
 invariant-loop-n l =
-    (new : NetworkChoices) → TakesPaths (OfferedBySome (drop l.n (map without_tos (links_of l.lsa.body))) (LinkOffers (entries l.state.interfaces) l.area)) l.choices new → TakesPaths (LsaOffers (entries l.state.interfaces) l.area l.lsa) l.fn.choices new
+    (new : NetworkChoices) → TakesPaths (OfferedBySome (drop l.n (map without_tos (links_of l.lsa.body))) (LinkOffers (entries l.state.interfaces) l.area)) l.choices new → TakesPaths (LsaOffers (entries l.state.interfaces) l.area l.lsa.body) l.fn.choices new
