@@ -1,7 +1,6 @@
 -- Why a command prints nothing, as it is printed, and the status of the program then.
 use Rattle.std.specs.Prelude.{ℕ, ◌++◌, List, Option, Some, None, IfSome, codes}
 use Rattle.std.specs.Io.KnownBytes.{Appends}
-use Rattle.abr_cli.specs.declared.words.WordFault.{WordFault}
 use Rattle.abr_cli.specs.declared.words.WordFault.TheVariants.{NotAnAddress, NotHexadecimal, Memory}
 use Rattle.abr_cli.specs.declared.command_fault.CommandFault.{CommandFault}
 use Rattle.abr_cli.specs.declared.command_fault.CommandFault.TheVariants as fault

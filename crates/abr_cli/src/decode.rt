@@ -9,9 +9,6 @@ use ospf_types::address::Address;
 use std::alloc::{AllocError, Global};
 use std::io;
 
-#[cfg(test)]
-mod tests;
-
 /// Prints an LSA. The lines `age A options OO kind K id ADDR router ADDR seq SSSSSSSS sum CCCC length L`
 /// and `body HEX` go to `out`, or the line `abr: FAULT` to `faults`. The age is in seconds; Options,
 /// sequence number, checksum and body are in hexadecimal. The answer is the status: 0 with the lines,

@@ -16,9 +16,6 @@ use std::alloc::Global;
 use std::hash::RandomState;
 use std::io;
 
-#[cfg(test)]
-mod tests;
-
 /// Looks an address up in the table that one LSA gives. The line `lookup ADDR SERIAL MATCH` goes to
 /// `out`, or the line `abr: FAULT` to `faults`. The answer is the status: 0 with the line, 2 for a
 /// word that cannot be read, and else 1, also where a writer fails.
