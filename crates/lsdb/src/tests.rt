@@ -99,8 +99,12 @@ fn at_its_limit_it_takes_instances_of_what_it_has(rt: HostRuntime) -> Result<(),
 fn premature_ageing_and_what_is_not_there(rt: HostRuntime) -> Result<(), Fail> {
     let mut database = database(&rt, 2, &[7])?;
     let early = database.purge(key(1)) == Err(PurgeRefusal::NotMaxAge);
-    assert!(rt; early && database.age_out(key(1)) == Ok(true) && database.age_out(key(1)) == Ok(false));
-    assert!(rt; database.age_out(key(2)) == Err(NoLsa) && database.purge(key(2)) == Err(PurgeRefusal::NoLsa));
+    assert!(rt;
+        early && database.age_out(key(1)) == Ok(true) && database.age_out(key(1)) == Ok(false)
+    );
+    assert!(rt;
+        database.age_out(key(2)) == Err(NoLsa) && database.purge(key(2)) == Err(PurgeRefusal::NoLsa)
+    );
     let aged = lsa(rt.alloc(), 2, 3600, FIRST, 10)?;
     assert!(rt; database.install_refusal(&aged).is_none() && database.put(aged) == Ok(false));
     Ok(())
