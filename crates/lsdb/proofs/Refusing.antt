@@ -1,8 +1,7 @@
 -- Why an LSA is not installed, by what is held under its key.
-use Rattle.std.proofs.Common.{◌≡◌, ℕ, ◌<◌, Bool, true, false, [], ◌∷◌, Option, Some, None, refl, sym, ap, ◌∙◌, arith}
-use Rattle.std.specs.Prelude.{◌&&◌, nat_le, is_none, is_some, option_map, if◌then◌else◌}
+use Rattle.std.proofs.Common.{◌≡◌, ℕ, Bool, true, false, [], ◌∷◌, Option, Some, None, refl, ap, ◌∙◌}
+use Rattle.std.specs.Prelude.{◌&&◌, nat_le, is_none, option_map, if◌then◌else◌}
 use Rattle.std.specs.FinMap.{get, len}
-use Rattle.std.proofs.lemmas.Bool.Decides.{nat_tests}
 use Rattle.ospf_types.specs.FirstOf.{first_of}
 use Rattle.ospf_types.specs.declared.lsa.Header.{Header}
 use Rattle.ospf_types.specs.declared.lsa.Newer.{Newer}
@@ -46,14 +45,3 @@ refused_held d limit lsa held header n e h is = by_held lsa (get d (key_of lsa))
 
 pub refused_new : (d : Database) (limit : ℕ) (lsa : Lsa) (full : Bool) → None ≡ option_map (λ l. l.header) (get d (key_of lsa)) → full ≡ nat_le limit (len d) → (if full then Some install.Full else None) ≡ install_refusal_of d limit lsa
 refused_new d limit lsa full e is = ap (λ b. if b then Some install.Full else None) is ∙ by_none lsa (get d (key_of lsa)) (nat_le limit (len d)) e
-
-has_room : (lsa : Lsa) (o : Option Lsa) (full : Bool) → is_some o ≡ false → refusal_at lsa o full ≡ None → full ≡ false
-has_room lsa None true none e = absurd cc
-has_room lsa None false none e = refl
-has_room lsa (Some l) full none e = absurd cc
-
--- a new key that is not refused has room
-pub room_for : (d : Database) (limit : ℕ) (lsa : Lsa) → is_some (get d (key_of lsa)) ≡ false → install_refusal_of d limit lsa ≡ None → len d < limit
-room_for d limit lsa none e =
-    let room : nat_le limit (len d) ≡ false = has_room lsa (get d (key_of lsa)) (nat_le limit (len d)) none e in
-    grind (arith, nat_tests, room)

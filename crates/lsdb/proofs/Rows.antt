@@ -1,7 +1,7 @@
 -- The columns of a database: what a row has, and what a change of the columns makes of the rows.
-use Rattle.std.proofs.Common.{◌≡◌, ℕ, zero, suc, ◌+◌, ◌-◌, ◌<◌, List, [], ◌∷◌, ◌++◌, length, map, get_or, set, take, Option, Some, None, refl, sym, ap, ◌∙◌, arith}
+use Rattle.std.proofs.Common.{◌≡◌, ℕ, zero, suc, ◌+◌, ◌-◌, ◌<◌, List, [], ◌∷◌, ◌++◌, length, map, get_or, set, take, Some, refl, sym, ap, ◌∙◌, arith}
 use Rattle.std.specs.Prelude.{slice_get, swap_remove}
-use Rattle.std.specs.Map.{keys_of, values_of}
+use Rattle.std.specs.Map.{keys_of}
 use Rattle.std.proofs.lemmas.List.{take-map, map-set, get_or-map, length-map, length-set, length-take-le}
 use Rattle.indexmap.specs.IndexMap.{set_value_at}
 use Rattle.ospf_types.specs.declared.key.Key.{Key}

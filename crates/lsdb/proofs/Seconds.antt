@@ -1,6 +1,6 @@
 -- What a second does to the columns of a database.
-use Rattle.std.proofs.Common.{◌≡◌, ℕ, ◌+◌, ◌<◌, ◌≤◌, Bool, true, false, cond, T, List, [], ◌∷◌, length, map, get_or, Option, Some, None, count_by, refl, sym, ap, subst, ◌∙◌, arith}
-use Rattle.std.specs.Prelude.{◌&&◌, ◌==◌, min, option_map, All}
+use Rattle.std.proofs.Common.{◌≡◌, ℕ, ◌+◌, ◌≤◌, Bool, true, false, cond, T, List, [], ◌∷◌, map, Some, count_by, refl, sym, ap, subst, ◌∙◌, arith}
+use Rattle.std.specs.Prelude.{◌&&◌, min, option_map, All}
 use Rattle.std.specs.Ordering.{is_lt}
 use Rattle.std.specs.List.{AllByRecursion}
 use Rattle.std.specs.Map.{keys_of, values_of}
@@ -11,11 +11,11 @@ use Rattle.std.proofs.lemmas.List.Sums.{sum_by-cons}
 use Rattle.lanes.specs.Ages as lane
 use Rattle.ospf_types.specs.declared.key.Key.{Key}
 use Rattle.ospf_types.specs.Keys.{key_cmp}
-use Rattle.ospf_types.specs.Lsa.{Lsa, MaxAge}
+use Rattle.ospf_types.specs.Lsa.{MaxAge}
 use Rattle.ospf_types.proofs.Orders.{key_total, key_exact}
 use Rattle.lsa_codec.proofs.Ages.{IsLegal-with_age}
 use Rattle.lsdb.specs.Columns.{is_key, present, IsOwn, AreColumns}
-use Rattle.lsdb.specs.Databases.{Database, DatabaseValue, aged, all_aged, comes_to_max_age, age_of, ages_of}
+use Rattle.lsdb.specs.Databases.{Database, aged, all_aged, comes_to_max_age, age_of}
 use Rattle.lsdb.proofs.Entries.{get_is, found_values, count_values}
 use Rattle.lsdb.proofs.Rows.{Entry, age_in, keys_present, ages_present}
 use Rattle.lsdb.proofs.Stored.{map_of, unique_present, age_within, get_or-default}

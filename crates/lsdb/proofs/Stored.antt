@@ -4,10 +4,10 @@ use Rattle.std.specs.Prelude.{◌↔◌, slice_get, swap_remove, position, is_so
 use Rattle.std.specs.Option.{option_map_or}
 use Rattle.std.specs.List.{AllByRecursion, IsDistinct}
 use Rattle.std.specs.Map.{keys_of}
-use Rattle.std.specs.FinMap.{FinMap, find, get, insert, remove, len, from_entries, from_entries_push}
+use Rattle.std.specs.FinMap.{find, get, insert, remove, len, from_entries, from_entries_push}
 use Rattle.std.proofs.lemmas.List.{length-map, map-append, length-append, length-set}
 use Rattle.std.specs.Prelude.{All}
-use Rattle.std.proofs.lemmas.List.Elements.{All-from_recursion, recursion_from_All, All-set, All-append, All-cons, All-nil, All-take, All-push}
+use Rattle.std.proofs.lemmas.List.Elements.{All-from_recursion, recursion_from_All, All-set, All-take, All-push}
 use Rattle.std.proofs.lemmas.List.Quantifiers.{position-Some}
 use Rattle.std.proofs.lemmas.Option.{slice_get-get_or, get_or_from_slice_get, slice_get_within, slice_get_read}
 use Rattle.indexmap.specs.IndexMap.{insert_entry, set_value_at, swap_remove_by}

@@ -16,6 +16,7 @@ pub(crate) fn is_used_otherwise(held: Option<(&Checked, u16)>, lsa: &Checked) ->
     match held {
         None => is_used,
         Some((held, held_age)) => {
+            // It is in the grammar, so its length is that of its body.
             prove!(held.header().age <= MAX_AGE);
             let was_used = held_age < MAX_AGE;
             was_used != is_used || was_used && contents_differ(held, held_age, lsa, age)

@@ -187,7 +187,8 @@ impl Database {
         ensures limit { self.new.limit ≡ self.old.limit }
         ensures came { result ≡ count_by comes_to_max_age (map.values self.old.lsas) }
     {
-        lanes::second(&mut self.ages)
+        let ages = self.ages.as_mut_slice();
+        lanes::second(ages)
     }
 
     /// Adds the keys of the LSAs of an Advertising Router at the end.

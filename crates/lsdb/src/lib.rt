@@ -8,3 +8,6 @@ mod refusal;
 
 pub use database::Database;
 pub use refusal::{InstallRefusal, NoLsa, PurgeRefusal};
+
+#[cfg(test)]
+mod tests;

@@ -1,7 +1,7 @@
-use Rattle.std.proofs.Common.{◌≡◌, Option, Some, None, false, sym, ap, subst, ◌∙◌, ℕ}
-use Rattle.std.specs.Prelude.{◌↔◌, position, is_some, nat_lt, IsSome}
+use Rattle.std.proofs.Common.{◌≡◌, None, false, sym, ap, subst, ◌∙◌}
+use Rattle.std.specs.Prelude.{◌↔◌, position, nat_lt}
 use Rattle.std.specs.FinMap.{get}
-use Rattle.ospf_types.specs.Lsa.{Lsa, MaxAge}
+use Rattle.ospf_types.specs.Lsa.{MaxAge}
 use Rattle.lsa_codec.specs.Readers.{with_age}
 use Rattle.lsdb.specs.Columns.{is_key}
 use Rattle.lsdb.specs.Contents.{used_at}

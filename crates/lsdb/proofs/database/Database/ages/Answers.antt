@@ -1,5 +1,5 @@
-use Rattle.std.proofs.Common.{◌≡◌, sym, ap, ◌∙◌}
-use Rattle.lsdb.specs.Databases.{DatabaseValue, ages_of}
+use Rattle.std.proofs.Common.{ap, ◌∙◌}
+use Rattle.lsdb.specs.Databases.{ages_of}
 use Rattle.lsdb.proofs.Seconds.{ages_are}
 use Rattle.lsdb.proofs.database.Database.ages.Goals as goal
 

@@ -1,10 +1,10 @@
-use Rattle.std.proofs.Common.{◌≡◌, ◌<◌, ◌++◌, [], ◌∷◌, length, Option, Some, None, sym, ap, subst, ◌∙◌, ℕ}
+use Rattle.std.proofs.Common.{◌<◌, ◌++◌, [], ◌∷◌, length, sym, ap, subst, ◌∙◌}
 use Rattle.std.specs.Prelude.{position}
 use Rattle.std.specs.FinMap.{insert, len}
-use Rattle.ospf_types.specs.Lsa.{Lsa, key_of}
-use Rattle.lsdb.specs.Columns.{is_key, present, AreColumns}
+use Rattle.ospf_types.specs.Lsa.{key_of}
+use Rattle.lsdb.specs.Columns.{is_key}
 use Rattle.lsdb.specs.Databases.{DatabaseValue}
-use Rattle.lsdb.proofs.Stored.{map_of, len_columns, grown_columns, map_grown, keys_grown}
+use Rattle.lsdb.proofs.Stored.{len_columns, grown_columns, map_grown, keys_grown}
 use Rattle.lsdb.proofs.database.Database.append.Goals as goal
 
 pub invariant_of-self-2 : goal.invariant_of-self-2

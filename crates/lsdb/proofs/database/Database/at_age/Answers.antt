@@ -1,12 +1,9 @@
-use Rattle.std.proofs.Common.{◌≡◌, ◌≤◌, ◌<◌, ◌^◌, ◌==◌, length, map, sym, ap, ◌∙◌, arith}
-use Rattle.std.proofs.lemmas.List.{length-map}
-use Rattle.std.specs.Map.{keys_of}
+use Rattle.std.proofs.Common.{◌≡◌, ◌==◌, length, ap, ◌∙◌, arith}
 use Rattle.std.specs.FinMap.{get}
 use Rattle.lsdb.proofs.Seconds.{ages_are}
 use Rattle.ospf_types.specs.declared.key.Key.{Key}
-use Rattle.lsdb.specs.Databases.{DatabaseValue, age_of, ages_of}
+use Rattle.lsdb.specs.Databases.{age_of, ages_of}
 use Rattle.lsdb.proofs.Looking.{keys_found}
-use Rattle.lsdb.proofs.Rows.{Entry}
 use Rattle.lsdb.proofs.database.Database.at_age.Goals as goal
 
 pub rows_at-requires : goal.rows_at-requires

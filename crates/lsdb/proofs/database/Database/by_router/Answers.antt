@@ -1,8 +1,8 @@
-use Rattle.std.proofs.Common.{◌≡◌, ◌≤◌, ◌<◌, ◌^◌, ◌==◌, length, map, sym, ap, ◌∙◌, arith}
+use Rattle.std.proofs.Common.{◌≡◌, ◌==◌, length, map, ap, ◌∙◌, arith}
 use Rattle.std.proofs.lemmas.List.{length-map}
 use Rattle.std.specs.Map.{keys_of}
 use Rattle.ospf_types.specs.declared.key.Key.{Key}
-use Rattle.lsdb.specs.Databases.{DatabaseValue, age_of, ages_of}
+use Rattle.lsdb.specs.Databases.{DatabaseValue}
 use Rattle.lsdb.proofs.Looking.{keys_found}
 use Rattle.lsdb.proofs.Rows.{Entry}
 use Rattle.lsdb.proofs.database.Database.by_router.Goals as goal

@@ -1,4 +1,4 @@
-use Rattle.std.proofs.Common.{◌≡◌, [], sym, ap, ◌∙◌, arith}
+use Rattle.std.proofs.Common.{[], sym, ap, ◌∙◌, arith}
 use Rattle.std.specs.FinMap.{get}
 use Rattle.ospf_types.specs.declared.key.Key.{Key}
 use Rattle.lsdb.proofs.Finding.{found_more, one_found, none_found}

@@ -1,4 +1,4 @@
-use Rattle.std.proofs.Common.{◌≡◌, ◌++◌, take, drop}
+use Rattle.std.proofs.Common.{◌≡◌, take}
 use Rattle.std.specs.List.{filter_map}
 use Rattle.std.specs.FinMap.{get}
 use Rattle.lsdb.proofs.database.Database.copies.Given as goal

@@ -1,6 +1,5 @@
-use Rattle.std.proofs.Common.{◌<◌, length, Some, sym, ap, ◌∙◌, ◌≤◌, get_or, subst, arith}
+use Rattle.std.proofs.Common.{Some, sym, ap, ◌∙◌}
 use Rattle.std.specs.FinMap.{get}
-use Rattle.std.proofs.lemmas.Option.{slice_get_within}
 use Rattle.ospf_types.specs.Lsa.{Lsa}
 use Rattle.lsa_codec.specs.Readers.{with_age}
 use Rattle.lsdb.specs.Databases.{DatabaseValue}

@@ -1,7 +1,6 @@
-use Rattle.std.proofs.Common.{true, false, Some, None, option_map, sym, ap, ◌∙◌}
+use Rattle.std.proofs.Common.{true, false, option_map, ap, ◌∙◌}
 use Rattle.std.specs.FinMap.{get}
 use Rattle.ospf_types.specs.declared.lsa.Newer.TheVariants as newer
-use Rattle.ospf_types.specs.Lsa.{key_of}
 use Rattle.lsdb.proofs.Refusing.{refused_held, refused_new}
 use Rattle.lsdb.proofs.database.Database.install_refusal.Goals as goal
 

@@ -1,4 +1,4 @@
-use Rattle.std.proofs.Common.{ap, subst, sym, ◌∙◌, ◌≤◌, arith}
+use Rattle.std.proofs.Common.{ap, subst, sym, ◌∙◌, ◌≤◌}
 use Rattle.std.specs.FinMap.{len}
 use Rattle.lsdb.specs.Contents.{IsSound, IsOrder}
 use Rattle.lsdb.specs.Databases.{DatabaseValue}

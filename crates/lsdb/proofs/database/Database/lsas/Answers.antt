@@ -4,7 +4,7 @@ use Rattle.std.specs.List.{filter_map}
 use Rattle.std.specs.List.Sorted.{IsPermutation}
 use Rattle.std.specs.Map.{keys_of}
 use Rattle.ospf_types.specs.declared.key.Key.{Key}
-use Rattle.lsdb.specs.Databases.{Database, DatabaseValue}
+use Rattle.lsdb.specs.Databases.{DatabaseValue}
 use Rattle.lsdb.proofs.Finding.{if_ok}
 use Rattle.lsdb.proofs.Sorting.{found_in_order}
 use Rattle.lsdb.proofs.database.Database.lsas.Goals as goal

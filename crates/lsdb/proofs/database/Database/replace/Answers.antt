@@ -1,8 +1,8 @@
-use Rattle.std.proofs.Common.{◌≡◌, Some, sym, ap, subst, ◌∙◌, set, List, ℕ}
+use Rattle.std.proofs.Common.{sym, ap, subst, ◌∙◌, set, ℕ}
 use Rattle.std.specs.Prelude.{position}
 use Rattle.std.specs.FinMap.{insert}
 use Rattle.indexmap.specs.IndexMap.{set_value_at}
-use Rattle.ospf_types.specs.Lsa.{Lsa, key_of}
+use Rattle.ospf_types.specs.Lsa.{key_of}
 use Rattle.lsdb.specs.Columns.{is_key, present, AreColumns}
 use Rattle.lsdb.specs.Databases.{DatabaseValue}
 use Rattle.lsdb.proofs.Stored.{map_of, replaced, map_replaced, keys_replaced}

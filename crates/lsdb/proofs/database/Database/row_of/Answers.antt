@@ -1,4 +1,4 @@
-use Rattle.std.proofs.Common.{◌≡◌, ◌∙◌, ap, sym, subst}
+use Rattle.std.proofs.Common.{◌≡◌, ◌∙◌, ap, subst}
 use Rattle.std.specs.Prelude.{position, is_some}
 use Rattle.std.specs.FinMap.{get}
 use Rattle.std.specs.Map.{keys_of}
