@@ -4,15 +4,16 @@ use Rattle.std.specs.Io.KnownBytes.{Appends}
 use Rattle.ospf_types.specs.declared.config.Config.{Config}
 use Rattle.ospf_types.specs.declared.key.Scope.TheVariants as scope
 use Rattle.ospf_types.specs.Lsa.{Lsa}
-use Rattle.event_core.specs.declared.event.Event.{Event}
-use Rattle.event_core.specs.declared.event.Event.TheVariants as event
+use Rattle.event_state.specs.declared.event.Event.{Event}
+use Rattle.event_state.specs.declared.event.Event.TheVariants as event
 use Rattle.route_table.specs.declared.table.Match.{Match}
-use Rattle.event_core.specs.declared.refusal.Refusal.{Refusal}
-use Rattle.event_core.specs.Cores.{standard_limits, IsFaultOf}
-use Rattle.event_core.specs.Refusals.{IsRefusalOf}
+use Rattle.event_state.specs.declared.refusal.Refusal.{Refusal}
+use Rattle.event_core.specs.Cores.{IsFaultOf}
+use Rattle.event_state.specs.Steps.{standard_limits}
+use Rattle.event_state.specs.Refusals.{IsRefusalOf}
 use Rattle.event_core.specs.Right.{IsRight}
-use Rattle.event_core.specs.States.{State}
-use Rattle.event_core.specs.Steps.{run_of, refusal_of, IsLegalList}
+use Rattle.event_state.specs.States.{State}
+use Rattle.event_state.specs.Steps.{run_of, refusal_of, IsLegalList}
 use Rattle.route_table.specs.Tables.{TableValue, IsMatch}
 use Rattle.route_table.specs.Texts.{match_text}
 use Rattle.abr_cli.specs.declared.words.OneInput.{OneInput}
