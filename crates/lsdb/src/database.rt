@@ -25,7 +25,7 @@ use std::marker::Model;
 
 /// A link-state database (RFC 2328, 12): LSAs by key, each at its present age. A key's row stays
 /// until it is purged, or the last row takes the place of one that is.
-#[derive(Drop)]
+#[derive(Debug, Drop)]
 pub struct Database {
     rows: IndexMap<Key, Checked, RandomState>,
     ages: Vec<u16>,
