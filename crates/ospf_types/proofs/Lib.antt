@@ -6,3 +6,4 @@ pub mod Addresses
 pub mod Elements
 pub mod NoLinks
 pub mod OneBest
+pub mod Maps

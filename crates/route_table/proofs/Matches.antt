@@ -15,7 +15,7 @@ use Rattle.route_table.specs.declared.table.Item.TheVariants as item
 use Rattle.route_table.specs.declared.table.Match.{Match}
 use Rattle.route_table.specs.declared.table.Match.TheVariants as found
 use Rattle.route_table.specs.Tables.{around, IsLongest, IsMatch, StandsAs}
-use Rattle.route_table.proofs.Maps.{get-lookup}
+use Rattle.ospf_types.proofs.Maps.{get-lookup}
 
 -- no network of that length or a longer one has the address
 abbrev pub NoneFrom : map.FinMap network_cmp Item → ℕ → ℕ → Type 0

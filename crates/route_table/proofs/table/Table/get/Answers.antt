@@ -1,7 +1,7 @@
 use Rattle.std.proofs.Common.{sym, ap, ◌∙◌}
 use Rattle.std.specs.FinMap as map
 use Rattle.ospf_types.proofs.Orders.{network_total}
-use Rattle.route_table.proofs.Maps.{get-lookup}
+use Rattle.ospf_types.proofs.Maps.{get-lookup}
 use Rattle.route_table.proofs.table.Table.get.Goals as goal
 
 pub returns : goal.returns

@@ -1,7 +1,7 @@
 use Rattle.std.proofs.Common.{sym, ap, ◌∙◌}
 use Rattle.std.specs.FinMap as map
 use Rattle.ospf_types.proofs.Orders.{network_total}
-use Rattle.route_table.proofs.Maps.{entries-from_entries}
+use Rattle.ospf_types.proofs.Maps.{entries-from_entries}
 use Rattle.route_table.proofs.table.Table.items.Goals as goal
 
 pub returns-clause-all : goal.returns-clause-all

@@ -1,7 +1,7 @@
 use Rattle.std.proofs.Common.{subst}
 use Rattle.ospf_types.proofs.Orders.{network_total}
 use Rattle.route_table.specs.Tables.{TableValue}
-use Rattle.route_table.proofs.Maps.{get-no_entries}
+use Rattle.ospf_types.proofs.Maps.{get-no_entries}
 use Rattle.route_table.proofs.Matches.{NoneFrom, none_past_32}
 use Rattle.route_table.proofs.table.Table.lookup.Goals as goal
 

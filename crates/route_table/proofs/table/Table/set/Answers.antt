@@ -5,7 +5,7 @@ use Rattle.ospf_types.specs.Network.{network_cmp}
 use Rattle.ospf_types.proofs.Orders.{network_total, network_exact}
 use Rattle.route_table.specs.declared.table.Item.{Item}
 use Rattle.route_table.specs.Tables.{TableValue}
-use Rattle.route_table.proofs.Maps.{from_entries-insert}
+use Rattle.ospf_types.proofs.Maps.{from_entries-insert}
 use Rattle.route_table.proofs.table.Table.set.Goals as goal
 
 pub invariant_of-self-2 : goal.invariant_of-self-2
