@@ -52,12 +52,12 @@ abbrev pub config_of : Given → Config
 config_of g = one_area g.router g.area
 
 -- interface 1 comes up, with no peer
-abbrev pub interface_of : Given → Event
-interface_of g = event.Interface 1 g.area g.address 0 true
+abbrev pub interface_event : Given → Event
+interface_event g = event.Interface 1 g.area g.address 0 true
 
 -- the LSA is installed in the area
-abbrev pub install_of : Given → Event
-install_of g = event.Install (scope.Area g.area) g.lsa
+abbrev pub install_event : Given → Event
+install_event g = event.Install (scope.Area g.area) g.lsa
 
 -- the state after such events
 abbrev pub state_after : Given → List Event → State
@@ -65,8 +65,8 @@ state_after g events = run_of (config_of g) standard_limits events
 
 -- each of the two events is taken, and the table is right for them
 pub record IsTableOf (g : Given) (t : TableValue) : Type 0 where
-  pub legal : IsLegalList (config_of g) standard_limits (interface_of g ∷ install_of g ∷ [])
-  pub right : IsRight (state_after g (interface_of g ∷ install_of g ∷ [])) t
+  pub legal : IsLegalList (config_of g) standard_limits (interface_event g ∷ install_event g ∷ [])
+  pub right : IsRight (state_after g (interface_event g ∷ install_event g ∷ [])) t
 
 -- `lookup`, the address as it was given, how many events the table follows, and the match
 abbrev pub lookup_line : List ℕ → TableValue → Match → List ℕ
@@ -84,8 +84,8 @@ pub record Answer (words : OneTexts) (line : List ℕ) : Type 0 where
 
 -- the first of the two events that is not taken is refused so
 abbrev pub IsRefused : Given → Refusal → Type 0
-IsRefused g r = IsRefusalOf (state_after g []) (interface_of g) r
-    ⊎ ((refusal_of (state_after g []) (interface_of g) ≡ None) × IsRefusalOf (state_after g (interface_of g ∷ [])) (install_of g) r)
+IsRefused g r = IsRefusalOf (state_after g []) (interface_event g) r
+    ⊎ ((refusal_of (state_after g []) (interface_event g) ≡ None) × IsRefusalOf (state_after g (interface_event g ∷ [])) (install_event g) r)
 
 -- why there is no core with a table of what was given
 abbrev pub IsCoreFault : Given → CommandFault → Type 0
