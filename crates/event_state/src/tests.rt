@@ -1,5 +1,5 @@
 use super::*;
-use lsa_codec::{Checked, read, sum_of};
+use lsa_codec::{read, sum_of};
 use lsdb::Database;
 use ospf_types::config::{AreaConfig, Areas, Config, Ranges};
 use ospf_types::key::{Key, Scope};
@@ -11,22 +11,23 @@ const ROOT: u32 = 0x0a00_0001;
 
 const OTHER: u32 = 0x0a00_0002;
 
-const FIRST: u32 = 0x8000_0001;
-
 const BACKBONE: Scope = Scope::Area(0);
 
-const STUB_LINK: u8 = 3;
-
-// A router-LSA with one link, to 192.0.2.0/24 at metric 10 (RFC 2328, A.4.2).
-const ROUTER: [u8; 36] = [
-    0, 1, 2, 1, 0, 0, 0, 0, 0, 0, 0, 0, 0x80, 0, 0, 1, 0, 0, 0, 36, 0, 0, 0, 1, 192, 0, 2, 0, 255,
+// Router-LSAs with one link, of type 3 to a stub network and of type 1 to another router, and an
+// AS-external-LSA (RFC 2328, A.4.2 and A.4.5).
+const STUB: [u8; 36] = [
+    0, 0, 2, 1, 0, 0, 0, 0, 0, 0, 0, 0, 0, 0, 0, 0, 0, 0, 0, 36, 0, 0, 0, 1, 192, 0, 2, 0, 255,
     255, 255, 0, 3, 0, 0, 10,
 ];
 
-// An AS-external-LSA of 10.0.0.1 for 192.0.2.0/24 at metric 10 (RFC 2328, A.4.5).
+const LINK: [u8; 36] = [
+    0, 0, 2, 1, 0, 0, 0, 0, 0, 0, 0, 0, 0, 0, 0, 0, 0, 0, 0, 36, 0, 0, 0, 1, 10, 0, 0, 9, 192, 0,
+    2, 1, 1, 0, 0, 10,
+];
+
 const EXTERNAL: [u8; 36] = [
-    0, 1, 2, 5, 192, 0, 2, 0, 10, 0, 0, 1, 0x80, 0, 0, 1, 0, 0, 0, 36, 255, 255, 255, 0, 0, 0, 0,
-    10, 0, 0, 0, 0, 0, 0, 0, 0,
+    0, 0, 2, 5, 0, 0, 0, 0, 0, 0, 0, 0, 0, 0, 0, 0, 0, 0, 0, 36, 255, 255, 255, 255, 0, 0, 0, 10,
+    0, 0, 0, 0, 0, 0, 0, 0,
 ];
 
 fn put(bytes: &mut [u8], place: usize, new: &[u8]) -> Result<(), Fail> {
@@ -36,53 +37,38 @@ fn put(bytes: &mut [u8], place: usize, new: &[u8]) -> Result<(), Fail> {
     Ok(())
 }
 
-// The LSA of these bytes, with the checksum made for it.
-fn checked(alloc: Global, bytes: &mut [u8]) -> Result<Checked, Fail> {
-    let sum = sum_of(bytes).ok_or("20 bytes")?;
-    put(bytes, 16, &sum.to_be_bytes())?;
-    let lsa = read(alloc, bytes)?;
-    Ok(lsa)
-}
-
-// Installs a router-LSA of the router, whose link is of the kind, into the backbone.
-fn install(alloc: Global, router: u32, age: u16, seq: u32, kind: u8) -> Result<Event, Fail> {
-    let mut bytes = Vec::from_slice(alloc, &ROUTER)?;
+// Installs the router's LSA of these bytes, of the age and the instance, into the backbone.
+fn install(alloc: Global, lsa: &[u8], router: u32, age: u16, instance: u8) -> Result<Event, Fail> {
+    let mut bytes = Vec::from_slice(alloc, lsa)?;
     put(&mut bytes, 0, &age.to_be_bytes())?;
     put(&mut bytes, 4, &router.to_be_bytes())?;
     put(&mut bytes, 8, &router.to_be_bytes())?;
-    put(&mut bytes, 12, &seq.to_be_bytes())?;
-    put(&mut bytes, 32, &[kind])?;
-    let lsa = checked(alloc, &mut bytes)?;
-    let scope = BACKBONE;
+    put(&mut bytes, 12, &[0x80, 0, 0, instance])?;
+    let sum = sum_of(&bytes).ok_or("20 bytes")?;
+    put(&mut bytes, 16, &sum.to_be_bytes())?;
+    let (scope, lsa) = (BACKBONE, read(alloc, &bytes)?);
     Ok(Event::Install { scope, lsa })
 }
 
-fn key(router: u32) -> Key {
-    Key {
-        kind: 1,
-        id: router,
-        router,
-    }
+fn key(kind: u8, id: u32) -> Key {
+    let router = id;
+    Key { kind, id, router }
 }
 
-fn flush(router: u32) -> Event {
-    Event::Flush {
-        scope: BACKBONE,
-        key: key(router),
-    }
+fn flush(kind: u8, id: u32) -> Event {
+    let (scope, key) = (BACKBONE, key(kind, id));
+    Event::Flush { scope, key }
 }
 
-fn purge(router: u32) -> Event {
-    Event::Purge {
-        scope: BACKBONE,
-        key: key(router),
-    }
+fn purge(kind: u8, id: u32) -> Event {
+    let (scope, key) = (BACKBONE, key(kind, id));
+    Event::Purge { scope, key }
 }
 
-fn up(id: u8, address: u32) -> Event {
+fn up(id: u8, area: u32, address: u32) -> Event {
     Event::Interface {
         id,
-        area: 0,
+        area,
         address,
         peer: 0,
         up: true,
@@ -97,10 +83,8 @@ fn opened(rt: &HostRuntime, limits: Limits) -> Result<State, Fail> {
         stub: None,
         ranges: Ranges::new(rt.alloc()),
     })?;
-    let config = Config {
-        router: ROOT,
-        areas,
-    };
+    let router = ROOT;
+    let config = Config { router, areas };
     Ok(State::within(rt.alloc(), config, limits, RandomState::new(rt)?)?)
 }
 
@@ -119,33 +103,31 @@ fn refuses(state: &mut State, event: Event, refusal: Refusal) -> bool {
 #[test]
 fn flushes_its_own_lsas_once(rt: HostRuntime) -> Result<(), Fail> {
     let mut state = opened(&rt, Limits::STANDARD)?;
-    state.step(install(rt.alloc(), ROOT, 7, FIRST, STUB_LINK)?)?;
-    state.step(install(rt.alloc(), OTHER, 7, FIRST, STUB_LINK)?)?;
-    let refused = refuses(&mut state, flush(OTHER), Refusal::NotOwn)
-        && refuses(&mut state, flush(7), Refusal::NoLsa);
-    assert!(rt;
-        refused
-            && state.step(flush(ROOT)) == Ok((3, true))
-            && state.step(flush(ROOT)) == Ok((4, false))
-    );
+    state.step(install(rt.alloc(), &STUB, ROOT, 7, 1)?)?;
+    state.step(install(rt.alloc(), &STUB, OTHER, 7, 1)?)?;
+    let refused = refuses(&mut state, flush(1, OTHER), Refusal::NotOwn)
+        && refuses(&mut state, flush(1, 7), Refusal::NoLsa);
+    let first = state.step(flush(1, ROOT)) == Ok((3, true));
+    assert!(rt; refused && first && state.step(flush(1, ROOT)) == Ok((4, false)));
     Ok(())
 }
 
 #[test]
 fn ages_an_lsa_out_once_and_then_purges_it(rt: HostRuntime) -> Result<(), Fail> {
     let mut state = opened(&rt, Limits::STANDARD)?;
-    state.step(install(rt.alloc(), OTHER, 3599, FIRST, STUB_LINK)?)?;
-    let early = refuses(&mut state, purge(OTHER), Refusal::NotMaxAge);
-    let aged = state.step(Event::Second) == Ok((2, true))
-        && state.step(Event::Second) == Ok((3, false));
-    let gone = state.step(purge(OTHER)) == Ok((4, false))
-        && refuses(&mut state, purge(OTHER), Refusal::NoLsa);
-    assert!(rt; early && aged && gone);
+    state.step(install(rt.alloc(), &STUB, OTHER, 3599, 1)?)?;
+    let early = refuses(&mut state, purge(1, OTHER), Refusal::NotMaxAge);
+    let aged = state.step(Event::Second) == Ok((2, true));
+    let once = state.step(Event::Second) == Ok((3, false));
+    let gone = state.step(purge(1, OTHER)) == Ok((4, false));
+    assert!(rt;
+        early && aged && once && gone && refuses(&mut state, purge(1, OTHER), Refusal::NoLsa)
+    );
     Ok(())
 }
 
-// A state at the limits of its database and its journal but for one event: the LSAs of the root and
-// of another router, and an interface that is up.
+// A state with room for no further LSA and for one event: LSAs of the root and of another router,
+// and an interface that is up.
 fn nearly_full(rt: &HostRuntime) -> Result<State, Fail> {
     let limits = Limits {
         area_lsas: 2,
@@ -153,30 +135,26 @@ fn nearly_full(rt: &HostRuntime) -> Result<State, Fail> {
         events: 4,
     };
     let mut state = opened(rt, limits)?;
-    state.step(install(rt.alloc(), ROOT, 7, 0x8000_0002, STUB_LINK)?)?;
-    state.step(install(rt.alloc(), OTHER, 7, FIRST, STUB_LINK)?)?;
-    state.step(up(1, 0xc000_0201))?;
+    state.step(install(rt.alloc(), &STUB, ROOT, 7, 2)?)?;
+    state.step(install(rt.alloc(), &STUB, OTHER, 7, 1)?)?;
+    state.step(up(1, 0, 0xc000_0201))?;
     Ok(state)
 }
 
 #[test]
-fn a_refused_install_leaves_all_as_it_was(rt: HostRuntime) -> Result<(), Fail> {
+fn a_refused_lsa_leaves_all_as_it_was(rt: HostRuntime) -> Result<(), Fail> {
     let mut state = nearly_full(&rt)?;
-    let transit = install(rt.alloc(), ROOT, 7, 0x8000_0003, 1)?;
-    let older = install(rt.alloc(), ROOT, 7, FIRST, STUB_LINK)?;
-    let same = install(rt.alloc(), ROOT, 8, 0x8000_0002, STUB_LINK)?;
-    let third = install(rt.alloc(), 7, 7, FIRST, STUB_LINK)?;
-    let mut bytes = Vec::from_slice(rt.alloc(), &EXTERNAL)?;
-    let external = Event::Install {
-        scope: BACKBONE,
-        lsa: checked(rt.alloc(), &mut bytes)?,
-    };
+    let external = install(rt.alloc(), &EXTERNAL, OTHER, 7, 1)?;
+    let link = install(rt.alloc(), &LINK, ROOT, 7, 3)?;
+    let older = install(rt.alloc(), &STUB, ROOT, 7, 1)?;
+    let same = install(rt.alloc(), &STUB, ROOT, 8, 2)?;
+    let third = install(rt.alloc(), &STUB, 7, 7, 1)?;
     assert!(rt;
-        refuses(&mut state, transit, Refusal::NotYet)
+        refuses(&mut state, external, Refusal::Scope)
+            && refuses(&mut state, link, Refusal::NotYet)
             && refuses(&mut state, older, Refusal::Older)
             && refuses(&mut state, same, Refusal::Same)
             && refuses(&mut state, third, Refusal::Full)
-            && refuses(&mut state, external, Refusal::Scope)
     );
     Ok(())
 }
@@ -184,33 +162,13 @@ fn a_refused_install_leaves_all_as_it_was(rt: HostRuntime) -> Result<(), Fail> {
 #[test]
 fn a_refusal_leaves_all_as_it_was(rt: HostRuntime) -> Result<(), Fail> {
     let mut state = nearly_full(&rt)?;
-    let elsewhere = Event::Interface {
-        id: 1,
-        area: 7,
-        address: 0,
-        peer: 0,
-        up: true,
-    };
-    let external = Key {
-        kind: 5,
-        id: 7,
-        router: OTHER,
-    };
-    let scope = BACKBONE;
-    let flush_external = Event::Flush {
-        scope,
-        key: external,
-    };
-    let purge_external = Event::Purge {
-        scope,
-        key: external,
-    };
-    let refused = refuses(&mut state, elsewhere, Refusal::NoArea)
-        && refuses(&mut state, flush_external, Refusal::Scope)
-        && refuses(&mut state, purge_external, Refusal::Scope)
-        && refuses(&mut state, up(2, 0xc000_0201), Refusal::AddressTaken);
+    let refused = refuses(&mut state, up(1, 7, 0), Refusal::NoArea)
+        && refuses(&mut state, flush(5, 7), Refusal::Scope)
+        && refuses(&mut state, purge(5, 7), Refusal::Scope)
+        && refuses(&mut state, up(2, 0, 0xc000_0201), Refusal::AddressTaken);
     let last = state.step(Event::Second) == Ok((4, false));
-    assert!(rt; refused && last && refuses(&mut state, up(2, 0xc000_0201), Refusal::JournalFull));
+    let full = refuses(&mut state, up(2, 0, 0xc000_0201), Refusal::JournalFull);
+    assert!(rt; refused && last && full);
     Ok(())
 }
 
@@ -223,27 +181,23 @@ fn copies(alloc: Global, event: &Event) -> Result<bool, Fail> {
 
 #[test]
 fn copies_are_equal(rt: HostRuntime) -> Result<(), Fail> {
-    let installed = copies(
-        rt.alloc(),
-        &install(rt.alloc(), OTHER, 7, FIRST, STUB_LINK)?,
-    )?;
-    let removed = copies(rt.alloc(), &flush(OTHER))? && copies(rt.alloc(), &purge(OTHER))?;
-    let other = copies(rt.alloc(), &up(2, 0xc000_0201))? && copies(rt.alloc(), &Event::Second)?;
+    let installed = copies(rt.alloc(), &install(rt.alloc(), &STUB, OTHER, 7, 1)?)?;
+    let removed = copies(rt.alloc(), &flush(1, OTHER))? && copies(rt.alloc(), &purge(1, OTHER))?;
+    let other = copies(rt.alloc(), &up(2, 0, 7))? && copies(rt.alloc(), &Event::Second)?;
     assert!(rt; installed && removed && other);
     Ok(())
 }
 
 #[test]
-fn some_hundred_events(rt: HostRuntime) -> Result<(), Fail> {
+fn takes_events_in_turn(rt: HostRuntime) -> Result<(), Fail> {
     let mut state = opened(&rt, Limits::STANDARD)?;
     let mut taken = 0u64;
     let mut in_turn = true;
     for n in 1..51u8 {
-        let lsa = install(rt.alloc(), n as u32, 7, FIRST, STUB_LINK)?;
-        for event in [lsa, up(n, n as u32), Event::Second] {
+        let lsa = install(rt.alloc(), &STUB, n as u32, 7, 1)?;
+        for event in [lsa, up(n, 0, n as u32), Event::Second] {
             taken = taken.wrapping_add(1);
-            let changed = taken % 3 != 0;
-            in_turn &= state.step(event) == Ok((taken, changed));
+            in_turn &= state.step(event) == Ok((taken, taken % 3 != 0));
         }
     }
     assert!(rt; in_turn && sizes(&state) == (150, 50, 50));
