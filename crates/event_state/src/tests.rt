@@ -107,8 +107,8 @@ fn flushes_its_own_lsas_once(rt: HostRuntime) -> Result<(), Fail> {
     state.step(install(rt.alloc(), &STUB, OTHER, 7, 1)?)?;
     let refused = refuses(&mut state, flush(1, OTHER), Refusal::NotOwn)
         && refuses(&mut state, flush(1, 7), Refusal::NoLsa);
-    let first = state.step(flush(1, ROOT)) == Ok((3, true));
-    assert!(rt; refused && first && state.step(flush(1, ROOT)) == Ok((4, false)));
+    let first = state.step(flush(1, ROOT))? == (3, true);
+    assert!(rt; refused && first && state.step(flush(1, ROOT))? == (4, false));
     Ok(())
 }
 
@@ -117,9 +117,9 @@ fn ages_an_lsa_out_once_and_then_purges_it(rt: HostRuntime) -> Result<(), Fail> 
     let mut state = opened(&rt, Limits::STANDARD)?;
     state.step(install(rt.alloc(), &STUB, OTHER, 3599, 1)?)?;
     let early = refuses(&mut state, purge(1, OTHER), Refusal::NotMaxAge);
-    let aged = state.step(Event::Second) == Ok((2, true));
-    let once = state.step(Event::Second) == Ok((3, false));
-    let gone = state.step(purge(1, OTHER)) == Ok((4, false));
+    let aged = state.step(Event::Second)? == (2, true);
+    let once = state.step(Event::Second)? == (3, false);
+    let gone = state.step(purge(1, OTHER))? == (4, false);
     assert!(rt;
         early && aged && once && gone && refuses(&mut state, purge(1, OTHER), Refusal::NoLsa)
     );
@@ -166,7 +166,7 @@ fn a_refusal_leaves_all_as_it_was(rt: HostRuntime) -> Result<(), Fail> {
         && refuses(&mut state, flush(5, 7), Refusal::Scope)
         && refuses(&mut state, purge(5, 7), Refusal::Scope)
         && refuses(&mut state, up(2, 0, 0xc000_0201), Refusal::AddressTaken);
-    let last = state.step(Event::Second) == Ok((4, false));
+    let last = state.step(Event::Second)? == (4, false);
     let full = refuses(&mut state, up(2, 0, 0xc000_0201), Refusal::JournalFull);
     assert!(rt; refused && last && full);
     Ok(())
@@ -197,7 +197,7 @@ fn takes_events_in_turn(rt: HostRuntime) -> Result<(), Fail> {
         let lsa = install(rt.alloc(), &STUB, n as u32, 7, 1)?;
         for event in [lsa, up(n, 0, n as u32), Event::Second] {
             taken = taken.wrapping_add(1);
-            in_turn &= state.step(event) == Ok((taken, taken % 3 != 0));
+            in_turn &= state.step(event)? == (taken, taken % 3 != 0);
         }
     }
     assert!(rt; in_turn && sizes(&state) == (150, 50, 50));
