@@ -27,18 +27,6 @@ one_mapped {X} f xs first i x lt same here so_far left = (
   drop-set-lt (i + 1) xs i (f x) (omega arith) ∙ sym (drop-drop 1 i xs) ∙ ap (drop 1) left ∙ drop-drop 1 i first,
 )
 
-count_more : {X : Type 0} (p : X → Bool) (xs : List X) (i : ℕ) (d : X) → i < length xs → count_by p (take (i + 1) xs) ≡ count_by p (take i xs) + cond (p (get_or xs i d)) 1 0
-count_more p xs i d lt =
-    elim (p (get_or xs i d)) as (λ b. p (get_or xs i d) ≡ b → count_by p (take (i + 1) xs) ≡ count_by p (take i xs) + cond b 1 0) [
-      | true ↦ λ e. count_by_more_yes p xs i d lt e
-      | false ↦ λ e. count_by_more_no p xs i d lt e ∙ sym (add-zero (count_by p (take i xs)))
-    ] refl
-
-pub one_counted : {X : Type 0} (p : X → Bool) (xs first : List X) (i : ℕ) (x : X) → i < length xs → length xs ≡ length first → x ≡ get_or xs i x → drop i xs ≡ drop i first
-    → count_by p (take (i + 1) first) ≡ count_by p (take i first) + cond (p x) 1 0
-one_counted {X} p xs first i x lt same here left =
-    count_more p first i x (omega arith) ∙ ap (λ (y : X). count_by p (take i first) + cond (p y) 1 0) (not_reached xs first i x lt same here left)
-
 fewer : {X : Type 0} (P : X → Type 0) (xs : List X) (i : ℕ) → All P (take (i + 1) xs) → All P (take i xs)
 fewer P xs i all = rw (← take-take i (i + 1) xs (omega arith)) (All-take P i (take (i + 1) xs) all)
 

@@ -10,12 +10,9 @@ use Rattle.std.specs.BTreeMap.{is_at}
 use Rattle.std.specs.FinMap.{find, put, get, insert, entries, from_entries, get-from_entries, get-insert, entries-insert, len-entries, len-empty, same_map}
 use Rattle.std.proofs.lemmas.Map.Lookups.{CmpEqualImpliesEq}
 use Rattle.std.proofs.lemmas.Map.Keys.{sorted_head, sorted_tail}
+use Rattle.lsdb.proofs.Entries.{find-lookup}
 
 module _ {K X : Type 0} (R : K → K → Ordering) where
-  pub find-lookup : (q : K) (es : List (K × X)) → find R q es ≡ lookup (is_at (R q)) es
-  find-lookup q [] = refl
-  find-lookup q (e ∷ es) = ap (cond (eq_by_cmp R q e.0) (Some e.1)) (find-lookup q es)
-
   -- an entry whose key is below those of the others goes to the front
   put_first : (e : K × X) (es : List (K × X)) → AllByRecursion (λ k. R e.0 k ≡ Less) (keys_of es) → put R e.0 e.1 es ≡ e ∷ es
   put_first e [] below = refl

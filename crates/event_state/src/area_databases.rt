@@ -13,11 +13,7 @@ use ospf_types::key::Key;
 use ospf_types::memory::Memory;
 
 // Puts the LSA into the database at the place. The answer is whether what is used of it differs.
-pub(crate) fn put_at(
-    databases: &mut [Database],
-    place: usize,
-    lsa: Checked,
-) -> Result<bool, Memory>
+pub(crate) fn put_at(databases: &mut [Database], place: usize, lsa: Checked) -> Result<bool, Memory>
     requires within { place < length databases.old }
     requires fits { let d = slice_index_or databases.old place no_database in install_refusal_of d.lsas d.limit lsa ≡ None }
     ensures unchanged { OnErr result (databases.new ≡ databases.old) }

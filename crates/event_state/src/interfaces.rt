@@ -12,11 +12,7 @@ use ospf_types::memory::Memory;
 use std::collections::BTreeMap;
 
 // Whether an interface that is up and has another id has the address.
-pub(crate) fn is_address_taken(
-    interfaces: &BTreeMap<u8, Interface>,
-    id: u8,
-    address: u32,
-) -> bool
+pub(crate) fn is_address_taken(interfaces: &BTreeMap<u8, Interface>, id: u8, address: u32) -> bool
     ensures value { result ≡ list_any (has_address id address) interfaces.now.entries }
     ensures in_order { IsOrdered nat_cmp interfaces.now }
 {

@@ -14,3 +14,5 @@ pub use limits::Limits;
 pub use refusal::Refusal;
 pub use state::State;
 
+#[cfg(test)]
+mod tests;
