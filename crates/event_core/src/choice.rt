@@ -247,77 +247,26 @@ impl<D: ExactOrd + Drop, K: ExactOrd + Drop, X: ExactOrd + Drop> Choices<D, K, X
 #[cfg(test)]
 mod tests {
     use super::*;
-    use ospf_types::hop::NextHop;
-    use std::process::Abort;
     use std::test::Fail;
 
-    fn prefix(rt: &impl Abort, address: u32, length: u8) -> Prefix {
-        Prefix::new(address, length).expect(rt, "at most 32")
-    }
-
-    fn direct(interface: u8) -> Path {
-        Path {
-            hop: NextHop::Direct(interface),
-            advertiser: None,
-        }
-    }
-
-    // One more path to a network, in the orders of the definitions.
-    fn offer_path(
-        choices: &mut Choices<Prefix, AreaCost, Path>,
-        to: Prefix,
-        key: AreaCost,
-        path: Path,
-    ) -> Result<(), Memory>
-        ensures { OnOk result ((offers : List (Network × CostInArea × PathValue)) → ChoosesFrom network_cmp area_cost_cmp path_cmp offers choices.old
-            → ChoosesFrom network_cmp area_cost_cmp path_cmp (offers ++ (to, key, path) ∷ []) choices.new) }
-    {
-        choices.offer(to, key, path)
-    }
-
     #[test]
-    fn the_least_cost_keeps_all_its_paths_in_order(rt: HostRuntime) -> Result<(), Fail> {
-        let to = prefix(&rt, 0xc000_0200, 24);
+    fn the_least_key_keeps_all_its_items_in_order(rt: HostRuntime) -> Result<(), Fail> {
         let mut choices = Choices::new(rt.alloc());
-        for (cost, interface) in [(20, 1), (10, 7), (10, 2), (10, 7), (30, 3)] {
-            offer_path(&mut choices, to, AreaCost::new(cost, 0), direct(interface))?;
-        }
-        let choice = choices.get(&to).ok_or("no choice")?;
-        assert_eq!(rt; *choice.key(), AreaCost::new(10, 0));
-        assert_eq!(rt; choice.items(), [direct(2), direct(7)].as_slice());
-        Ok(())
-    }
-
-    #[test]
-    fn at_one_cost_the_greater_area_is_chosen(rt: HostRuntime) -> Result<(), Fail> {
-        let to = prefix(&rt, 0xc000_0200, 24);
-        let mut choices = Choices::new(rt.alloc());
-        for (area, interface) in [(1, 1), (3, 3), (2, 2)] {
-            offer_path(&mut choices, to, AreaCost::new(10, area), direct(interface))?;
-        }
-        let choice = choices.get(&to).ok_or("no choice")?;
-        assert_eq!(rt; choice.key().cost(), 10);
-        assert_eq!(rt; choice.key().area(), 3);
-        assert_eq!(rt; choice.items(), [direct(3)].as_slice());
-        Ok(())
-    }
-
-    #[test]
-    fn destinations_come_in_ascending_order(rt: HostRuntime) -> Result<(), Fail> {
-        let mut choices = Choices::new(rt.alloc());
-        for (to, cost, item) in [(7u32, 5u32, 70u32), (3, 9, 30), (7, 5, 71), (3, 8, 31)] {
+        for (to, cost, item) in [
+            (7u32, 5u32, 71u32),
+            (3, 9, 30),
+            (7, 6, 1),
+            (7, 5, 70),
+            (7, 5, 71),
+            (3, 8, 31),
+        ] {
             choices.offer(to, cost, item)?;
         }
-        let mut entries = choices.into_entries();
-        let (to, first) = entries.next().ok_or("no first")?;
-        let (cost, items) = first.into_parts();
-        assert_eq!(rt; (to, cost), (3, 8));
-        assert_eq!(rt; items.as_slice(), [31].as_slice());
-        let (to, second) = entries.next().ok_or("no second")?;
-        let (cost, items) = second.into_parts();
-        assert_eq!(rt; (to, cost), (7, 5));
-        assert_eq!(rt; items.as_slice(), [70, 71].as_slice());
-        assert!(rt; entries.next().is_none());
+        let seven = choices.get(&7).ok_or("a choice")?;
+        let kept = *seven.key() == 5 && seven.items() == [70, 71].as_slice();
+        let (to, three) = choices.into_entries().next().ok_or("a first")?;
+        let (cost, items) = three.into_parts();
+        assert!(rt; kept && to == 3 && cost == 8 && items.as_slice() == [31].as_slice());
         Ok(())
     }
 }

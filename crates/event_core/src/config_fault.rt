@@ -4,15 +4,13 @@ ghost use Rattle.event_core.specs.Configs.{fault_of, has_alike, has_wrong_areas,
 
 use crate::fault::ConfigFault;
 use ospf_types::config::{AreaConfig, Config, Range, Stub};
+use ospf_types::lsa::LS_INFINITY;
 use ospf_types::prefix::Prefix;
 
 // A router has at most so many areas, and an area so many ranges.
 const MOST_AREAS: usize = 16;
 
 const MOST_RANGES: usize = 32;
-
-// The metric of an unreachable destination (RFC 2328, appendix B).
-const LS_INFINITY: u32 = 0xff_ffff;
 
 const BACKBONE: u32 = 0;
 

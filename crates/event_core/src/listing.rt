@@ -37,11 +37,7 @@ fn area_ids(alloc: Global, areas: &[AreaConfig]) -> Result<BTreeSet<u32>, Memory
 }
 
 // Adds copies of the LSAs of a scope at the end.
-fn add_lsas(
-    found: &mut Vec<(Scope, Checked)>,
-    state: &State,
-    scope: Scope,
-) -> Result<(), Memory>
+fn add_lsas(found: &mut Vec<(Scope, Checked)>, state: &State, scope: Scope) -> Result<(), Memory>
     ensures { OnOk result (found.new.items ≡ found.old.items ++ lsas_at state.now scope) }
 {
     let Some(database) = state.database(scope) else {
