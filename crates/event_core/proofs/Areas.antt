@@ -17,7 +17,7 @@ use Rattle.event_state.proofs.Sorted.{find_at}
 use Rattle.event_state.specs.States.{State, database_of, lsas_of, place_of}
 use Rattle.event_state.specs.Steps.{is_stub_only, is_out_of_scope}
 use Rattle.event_state.specs.Held.{AreFit, IsFit}
-use Rattle.event_state.proofs.Maps.{find-lookup}
+use Rattle.ospf_types.proofs.Maps.{find-lookup}
 
 -- an LSA of a database stands under some key
 pub under_key : (d : Database) (l : Lsa) → Contains (values d) l → (k : Key) × (get d k ≡ Some l)

@@ -19,7 +19,7 @@ use Rattle.event_core.specs.declared.reply.Reply.{Reply}
 use Rattle.event_core.specs.declared.reply.Standing.{Standing}
 use Rattle.event_core.specs.declared.reply.Standing.TheVariants.{Current, Behind}
 use Rattle.event_core.specs.Cores.{CoreValue, IsCore, IsTaken, Stands, IsQuiet, state_of, built_state}
-use Rattle.event_core.specs.Kept.{core_of, IsKept}
+use Rattle.event_core.specs.Kept.{core_of, IsCoherent}
 use Rattle.event_core.specs.Configs.{HasNoRanges}
 use Rattle.event_state.specs.Held.{AreFit}
 use Rattle.event_core.proofs.Alike.{right_alike}
@@ -61,7 +61,7 @@ run_setting s (e ∷ events) =
 step_runs : (s : State) (e : Event) → s ≡ run_of s.config s.limits s.journal → step s e ≡ run_of s.config s.limits (s.journal ++ e ∷ [])
 step_runs s e run = ap (λ (t : State). step t e) run ∙ sym (run_push _ s.journal e)
 
-pub kept_step : (s : State) (t : TableValue) (built : ℕ) (e : Event) → IsKept s t built → refusal_of s e ≡ None → IsKept (step s e) t built
+pub kept_step : (s : State) (t : TableValue) (built : ℕ) (e : Event) → IsCoherent s t built → refusal_of s e ≡ None → IsCoherent (step s e) t built
 kept_step s t built e kept accepted =
     let setting = step_setting s e in
     let runs : (config : Config) (limits : Limits) → config ≡ s.config → limits ≡ s.limits → step s e ≡ run_of config limits (s.journal ++ e ∷ []) = λ config limits p q. step_runs s e kept.run ∙ sym (λ i. run_of (p i) (q i) (s.journal ++ e ∷ [])) in
@@ -89,7 +89,7 @@ pub current_right : (c : CoreValue) → IsCore c → c.built ≡ length c.journa
 current_right c core all = subst (λ (events : List Event). IsRight (run_of c.config c.limits events) c.table) (take_all c.built c.journal (omega arith)) core.right
 
 -- a core with a table that is right for its state
-pub kept_current : (s : State) (t u : TableValue) (built now : ℕ) → IsKept s t built → AreFit s.config.areas s.databases → now ≡ length s.journal → IsRight s u → IsKept s u now
+pub kept_current : (s : State) (t u : TableValue) (built now : ℕ) → IsCoherent s t built → AreFit s.config.areas s.databases → now ≡ length s.journal → IsRight s u → IsCoherent s u now
 kept_current s t u built now kept fit all right =
     let whole : take now s.journal ≡ s.journal = take_all now s.journal (omega arith) in
     let is : s ≡ run_of s.config s.limits (take now s.journal) = kept.run ∙ ap (run_of s.config s.limits) (sym whole) in
@@ -100,7 +100,7 @@ kept_current s t u built now kept fit all right =
     }
 
 -- where an event changed nothing that is calculated from, the table is right but for its serial
-pub follows : (s : State) (t : TableValue) (built : ℕ) → IsKept s t built → AreFit s.config.areas s.databases → built + 1 ≡ length s.journal → IsQuiet (core_of s t built) → IsRight s (record t { serial = length s.journal })
+pub follows : (s : State) (t : TableValue) (built : ℕ) → IsCoherent s t built → AreFit s.config.areas s.databases → built + 1 ≡ length s.journal → IsQuiet (core_of s t built) → IsRight s (record t { serial = length s.journal })
 follows s t built kept fit one quiet =
     let before = built_state (core_of s t built) in
     let setting = run_setting (opening s.config s.limits) (take built s.journal) in
@@ -115,7 +115,7 @@ follows s t built kept fit one quiet =
     }) kept.core.right
 
 -- a step of the state, and then a table that stands, take the event
-pub takes : (s u : State) (t : TableValue) (built : ℕ) (e : Event) (reply : Reply) (new : CoreValue) → IsKept s t built → u ≡ step s e → refusal_of s e ≡ None
+pub takes : (s u : State) (t : TableValue) (built : ℕ) (e : Event) (reply : Reply) (new : CoreValue) → IsCoherent s t built → u ≡ step s e → refusal_of s e ≡ None
     → (reply.changed ≡ false) ↔ LooksAlike s u → new.journal ≡ u.journal → new.config ≡ u.config → new.limits ≡ u.limits → Stands (core_of u t built) reply.state new → reply.serial ≡ length new.journal
     → IsTaken (core_of s t built) e reply new
 takes s u t built e reply new kept is accepted changed journal config limits stands serial =
@@ -133,7 +133,7 @@ takes s u t built e reply new kept is accepted changed journal config limits sta
     }
 
 -- after an event that leaves a state looking as before, a core that lacks that event alone is quiet
-quiet_step : (s : State) (t : TableValue) (built : ℕ) (e : Event) → IsKept s t built → refusal_of s e ≡ None → LooksAlike s (step s e) → IsQuiet (core_of (step s e) t built)
+quiet_step : (s : State) (t : TableValue) (built : ℕ) (e : Event) → IsCoherent s t built → refusal_of s e ≡ None → LooksAlike s (step s e) → IsQuiet (core_of (step s e) t built)
 quiet_step s t built e kept accepted looks one =
     let setting = step_setting s e in
     let all : built ≡ length s.journal = omega (arith, one, length-append s.journal (e ∷ [])) in
@@ -142,6 +142,6 @@ quiet_step s t built e kept accepted looks one =
     let now : step s e ≡ state_of (core_of (step s e) t built) = (kept_step s t built e kept accepted).run in
     subst (λ (v : State). LooksAlike v (state_of (core_of (step s e) t built))) before (subst (λ (v : State). LooksAlike s v) now looks)
 
-pub quiet_after : (s u : State) (t : TableValue) (built : ℕ) (e : Event) → IsKept s t built → u ≡ step s e → refusal_of s e ≡ None → LooksAlike s u → IsQuiet (core_of u t built)
+pub quiet_after : (s u : State) (t : TableValue) (built : ℕ) (e : Event) → IsCoherent s t built → u ≡ step s e → refusal_of s e ≡ None → LooksAlike s u → IsQuiet (core_of u t built)
 quiet_after s u t built e kept is accepted looks =
     subst (λ (v : State). IsQuiet (core_of v t built)) (sym is) (quiet_step s t built e kept accepted (subst (λ (v : State). LooksAlike s v) is looks))

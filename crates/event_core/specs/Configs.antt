@@ -43,8 +43,8 @@ is_costly None = false
 is_costly (Some stub) = nat_le LSInfinity stub.cost
 
 -- the table of faults, in its order; none where the configuration has none
-abbrev pub fault_of : Config → Option ConfigFault
-fault_of c = first_of (
+abbrev pub config_fault_of : Config → Option ConfigFault
+config_fault_of c = first_of (
     (has_wrong_areas c.areas, fault.Areas)
     ∷ (list_any (λ a. has_overlap a.ranges) c.areas, fault.RangesOverlap)
     ∷ (list_any is_stub_backbone c.areas, fault.BackboneStub)

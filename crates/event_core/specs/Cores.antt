@@ -9,7 +9,7 @@ use Rattle.event_state.specs.declared.refusal.Refusal.{Refusal}
 use Rattle.event_core.specs.declared.fault.ConfigFault.{ConfigFault}
 use Rattle.event_core.specs.declared.fault.ConfigFault.TheVariants.{Memory}
 use Rattle.event_state.specs.declared.limits.Limits.{Limits}
-use Rattle.event_core.specs.Configs.{fault_of}
+use Rattle.event_core.specs.Configs.{config_fault_of}
 use Rattle.event_state.specs.States.{State, LooksAlike}
 use Rattle.event_state.specs.Steps.{run_of, refusal_of, IsLegalList}
 use Rattle.event_state.specs.Refusals.{IsRefusalOf}
@@ -33,7 +33,7 @@ built_state c = run_of c.config c.limits (take c.built c.journal)
 
 -- what holds of every core: its configuration has no fault, each event of the journal is taken in its turn, and the table is right for the first `built`
 pub record IsCore (c : CoreValue) : Type 0 where
-  pub sound : fault_of c.config ≡ None
+  pub sound : config_fault_of c.config ≡ None
   pub legal : IsLegalList c.config c.limits c.journal
   pub within : c.built ≤ length c.journal
   pub right : IsRight (built_state c) c.table
@@ -75,11 +75,11 @@ Runs old (e ∷ es) [] new = ⊥
 
 -- the first fault that the configuration has, or Memory where it has none
 abbrev pub IsFaultOf : Config → ConfigFault → Type 0
-IsFaultOf config f = (fault_of config ≡ Some f) ⊎ ((f ≡ Memory) × (fault_of config ≡ None))
+IsFaultOf config f = (config_fault_of config ≡ Some f) ⊎ ((f ≡ Memory) × (config_fault_of config ≡ None))
 
 -- no events were taken, and the table is that of the opening state
 pub record IsOpening (given : Config) (most : Limits) (c : CoreValue) : Type 0 where
-  pub sound : fault_of given ≡ None
+  pub sound : config_fault_of given ≡ None
   pub config : c.config ≡ given
   pub limits : c.limits ≡ most
   pub journal : c.journal ≡ []

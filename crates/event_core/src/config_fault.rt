@@ -1,6 +1,6 @@
 ghost use Rattle.std.specs.Prelude.{◌≡◌, ◌==◌, length, nat_lt};
 ghost use Rattle.std.specs.List.{list_any};
-ghost use Rattle.event_core.specs.Configs.{fault_of, has_alike, has_wrong_areas, has_overlap, is_overlap, is_cover, is_stub_backbone, is_costly};
+ghost use Rattle.event_core.specs.Configs.{config_fault_of, has_alike, has_wrong_areas, has_overlap, is_overlap, is_cover, is_stub_backbone, is_costly};
 
 use crate::fault::ConfigFault;
 use ospf_types::config::{AreaConfig, Config, Range, Stub};
@@ -16,7 +16,7 @@ const BACKBONE: u32 = 0;
 
 /// The first fault that the configuration has.
 pub(crate) fn fault_in(config: &Config) -> Option<ConfigFault>
-    ensures { result ≡ fault_of config.now }
+    ensures { result ≡ config_fault_of config.now }
 {
     let areas = config.areas.as_slice();
     if has_wrong_areas(areas) {

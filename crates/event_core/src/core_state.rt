@@ -1,5 +1,5 @@
 ghost use Rattle.std.specs.Prelude.{◌≡◌, None, false, IfErr, IfOk, OnErr};
-ghost use Rattle.event_core.specs.Configs.{fault_of};
+ghost use Rattle.event_core.specs.Configs.{config_fault_of};
 ghost use Rattle.event_core.specs.Cores.{IsCore, IsOpening, IsFaultOf, Applies, Stands, Runs, IsQuiet, state_of};
 ghost use Rattle.event_state.specs.Steps.{standard_limits};
 ghost use Rattle.event_core.specs.Listings.{AreLsas};
@@ -38,11 +38,11 @@ impl Model for Core {
 
     ghost coded = { let table : Coded TableValue = table_code in Prim.hlevel (codes, table) };
 
-    ghost use Rattle.event_core.specs.Kept.{core_of, IsKept};
+    ghost use Rattle.event_core.specs.Kept.{core_of, IsCoherent};
 
     ghost view = { λ c. core_of c.state c.table c.built };
 
-    ghost invariant = { λ c. IsKept c.state c.table c.built };
+    ghost invariant = { λ c. IsCoherent c.state c.table c.built };
 }
 
 impl Core {
@@ -81,7 +81,7 @@ impl Core {
         limits: Limits,
         hashing: RandomState,
     ) -> Result<Core, Memory>
-        requires { fault_of config ≡ None }
+        requires { config_fault_of config ≡ None }
         ensures opens { IfOk result (IsOpening config limits) }
         ensures kept { IfOk result IsCore }
     {

@@ -29,7 +29,7 @@ use Rattle.event_state.specs.Changes.{IsChange, lsas_in, limits_in, empty_values
 use Rattle.event_state.specs.States.{AreApart, place_of}
 use Rattle.event_state.specs.Held.{IsHeld, IsFit, AreFit, AreLimited}
 use Rattle.event_state.specs.Steps.{is_stub_only, is_out_of_scope, limit_of}
-use Rattle.event_state.proofs.Maps.{entries-from_entries}
+use Rattle.ospf_types.proofs.Maps.{entries-from_entries}
 use Rattle.event_state.proofs.Places.{place_within, places_apart, area_at}
 use Rattle.event_state.proofs.OneChange.{mapped_at, changed_length}
 

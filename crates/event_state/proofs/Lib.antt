@@ -1,4 +1,3 @@
-pub mod Maps
 pub mod Sorted
 pub mod Aging
 pub mod InPlace

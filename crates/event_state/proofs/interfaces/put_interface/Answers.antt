@@ -3,7 +3,7 @@ use Rattle.std.specs.Cmp.{nat_cmp_total}
 use Rattle.std.specs.FinMap.{get}
 use Rattle.std.proofs.lemmas.Map.Lookups.{exact_unsigned}
 use Rattle.event_state.specs.States.{interfaces_of}
-use Rattle.event_state.proofs.Maps.{from_entries-insert, get-lookup}
+use Rattle.ospf_types.proofs.Maps.{from_entries-insert, get-lookup}
 use Rattle.event_state.proofs.interfaces.put_interface.Goals as goal
 
 pub returns-in-None-clause-done : goal.returns-in-None-clause-done

@@ -2,14 +2,14 @@ use Rattle.std.proofs.Common.{length, ap, subst, sym, ◌∙◌}
 use Rattle.event_core.specs.declared.reply.Reply.{Reply}
 use Rattle.event_state.specs.States.{State}
 use Rattle.event_core.specs.Cores.{CoreValue, IsTaken}
-use Rattle.event_core.specs.Kept.{IsKept}
+use Rattle.event_core.specs.Kept.{IsCoherent}
 use Rattle.event_core.proofs.Runs.{kept_step, takes, quiet_after}
 use Rattle.event_core.proofs.core_state.Core.apply.Goals as goal
 
 pub invariant_of-self-2 : goal.invariant_of-self-2
 invariant_of-self-2 c =
     let i = c.self.inside in
-    subst (λ (s : State). IsKept s i.table i.built) (sym c.in_ok-serial.ensures.taken) (kept_step i.state i.table i.built c.args.event c.self.invariant c.in_ok-serial.ensures.accepted)
+    subst (λ (s : State). IsCoherent s i.table i.built) (sym c.in_ok-serial.ensures.taken) (kept_step i.state i.table i.built c.args.event c.self.invariant c.in_ok-serial.ensures.accepted)
 
 pub settle-state-requires : goal.settle-state-requires
 settle-state-requires c = λ unchanged.
