@@ -7,7 +7,7 @@ use Rattle.std.specs.List.{AllByRecursion}
 use Rattle.std.specs.List.Sorted.{IsStrictlySortedBy}
 use Rattle.std.specs.Map.{keys_of, lookup}
 use Rattle.std.specs.BTreeMap.{is_at}
-use Rattle.std.specs.FinMap.{find, put, get, insert, entries, from_entries, get-from_entries, get-insert, entries-insert, len-entries, len-empty, same_map}
+use Rattle.std.specs.FinMap.{put, get, insert, entries, from_entries, get-from_entries, get-insert, entries-insert, len-entries, len-empty, same_map}
 use Rattle.std.proofs.lemmas.Map.Lookups.{CmpEqualImpliesEq}
 use Rattle.std.proofs.lemmas.Map.Keys.{sorted_head, sorted_tail}
 use Rattle.lsdb.proofs.Entries.{find-lookup}
