@@ -6,8 +6,8 @@ use Rattle.std.proofs.Common.{get_or, drop, ℕ}
 use Rattle.ospf_types.specs.FirstOf.{first_of}
 use Rattle.ospf_types.specs.declared.key.Key.{Key}
 use Rattle.ospf_types.specs.declared.key.Scope.{Scope}
-use Rattle.ospf_types.specs.Lsa.{Lsa, MaxAge, key_of}
-use Rattle.lsdb.specs.Databases.{Database, install_refusal_of, purge_refusal_of, is_older_than, is_same_as, is_full_for}
+use Rattle.ospf_types.specs.Lsa.{Lsa, key_of}
+use Rattle.lsdb.specs.Databases.{Database, install_refusal_of, purge_refusal_of, is_older_than, is_same_as}
 use Rattle.lsdb.specs.declared.refusal.InstallRefusal.TheVariants as install
 use Rattle.lsdb.specs.declared.refusal.PurgeRefusal.TheVariants as purge
 use Rattle.event_state.specs.declared.event.Event.{Event}

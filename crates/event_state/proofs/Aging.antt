@@ -12,7 +12,7 @@ use Rattle.ospf_types.specs.Keys.{key_cmp}
 use Rattle.ospf_types.specs.Lsa.{Lsa, Body, MaxAge}
 use Rattle.ospf_types.proofs.Orders.{key_total, key_exact}
 use Rattle.lsdb.specs.Databases.{Database, aged, all_aged, comes_to_max_age}
-use Rattle.lsdb.specs.Contents.{contents_of, NoneComes, used_at}
+use Rattle.lsdb.specs.Contents.{contents_of, NoneComes}
 use Rattle.event_state.proofs.Sorted.{find_at}
 
 abbrev later : Key × Lsa → Key × Lsa

@@ -1,15 +1,14 @@
 -- What a change to one database leaves of a state.
-use Rattle.std.proofs.Common.{◌≡◌, ℕ, ◌<◌, Bool, false, List, length, get_or, set, Some, None, refl, sym, ap, subst, ◌∙◌, arith}
+use Rattle.std.proofs.Common.{◌≡◌, ℕ, ◌<◌, Bool, false, List, length, get_or, set, Some, None, sym, ap, subst, ◌∙◌, arith}
 use Rattle.std.specs.Prelude.{Result, Ok, Err, IfOk, OnOk, OnErr, ◌↔◌}
 use Rattle.std.specs.FinMap.{empty, get, insert}
 use Rattle.std.specs.Global.{Vec}
 use Rattle.std.specs.Vec.{with_items}
-use Rattle.std.proofs.lemmas.List.{length-map, get_or_default}
+use Rattle.std.proofs.lemmas.List.{get_or_default}
 use Rattle.ospf_types.specs.declared.config.Config.{Config}
 use Rattle.ospf_types.specs.declared.key.Scope.{Scope}
 use Rattle.ospf_types.specs.declared.memory.Memory.{Memory}
 use Rattle.ospf_types.specs.Lsa.{Lsa, key_of}
-use Rattle.lsa_codec.specs.Spelling.{IsLegal}
 use Rattle.lsdb.specs.Databases.{Database, DatabaseValue, install_refusal_of, purge_refusal_of}
 use Rattle.lsdb.specs.Contents.{IsUsedAlike}
 use Rattle.ospf_types.specs.declared.key.Key.{Key}
@@ -22,7 +21,7 @@ use Rattle.event_state.specs.Held.{IsHeld, IsFit}
 use Rattle.event_state.proofs.InPlace.{items_of_slice}
 use Rattle.event_state.proofs.Places.{place_within}
 use Rattle.event_state.proofs.OneChange.{lsas_at, limit_at, changed_length}
-use Rattle.event_state.proofs.HeldStates.{held_change, fit_insert}
+use Rattle.event_state.proofs.HeldStates.{held_change}
 use Rattle.event_state.proofs.Looks.{looks_change, install_alike}
 
 -- what a database says of an LSA, by the lists of the LSAs and of the limits

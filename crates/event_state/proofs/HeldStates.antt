@@ -7,8 +7,8 @@ use Rattle.std.specs.Cmp.{nat_cmp_total}
 use Rattle.std.proofs.Common.{BTreeMap}
 use Rattle.std.specs.BTreeMap.{IsOrdered}
 use Rattle.std.specs.FinMap.{empty, get, insert, remove, get-empty, get-insert, get-remove, entries, from_entries}
-use Rattle.std.proofs.lemmas.Bool.{cases_eq, cases_lt}
-use Rattle.std.proofs.lemmas.List.{length-map, length-set, length-append, get_or-set_same, get_or-set_other, get_or_past}
+use Rattle.std.proofs.lemmas.Bool.{cases_eq}
+use Rattle.std.proofs.lemmas.List.{length-map, length-set, length-append, get_or-set_same, get_or-set_other}
 use Rattle.ospf_types.specs.declared.config.AreaConfig.{AreaConfig}
 use Rattle.ospf_types.specs.declared.config.Config.{Config}
 use Rattle.ospf_types.specs.declared.config.Interface.{Interface}
@@ -21,17 +21,16 @@ use Rattle.ospf_types.proofs.Orders.{key_total, key_exact}
 use Rattle.lsa_codec.specs.Spelling.{IsLegal}
 use Rattle.lsa_codec.specs.Readers.{with_age}
 use Rattle.lsdb.specs.Databases.{Database, DatabaseValue, aged, all_aged, aged_out, changed_at}
-use Rattle.lsdb.specs.Contents.{IsSound}
 use Rattle.lsa_codec.proofs.Ages.{IsLegal-with_age}
 use Rattle.event_state.proofs.Aging.{get-all_aged, all_aged_empty}
 use Rattle.event_state.specs.declared.limits.Limits.{Limits}
-use Rattle.event_state.specs.Changes.{IsChange, lsas_in, limits_in, empty_values, aged_value}
+use Rattle.event_state.specs.Changes.{lsas_in, limits_in, empty_values, aged_value}
 use Rattle.event_state.specs.States.{AreApart, place_of}
 use Rattle.event_state.specs.Held.{IsHeld, IsFit, AreFit, AreLimited}
-use Rattle.event_state.specs.Steps.{is_stub_only, is_out_of_scope, limit_of}
+use Rattle.event_state.specs.Steps.{is_stub_only, is_out_of_scope}
 use Rattle.ospf_types.proofs.Maps.{entries-from_entries}
 use Rattle.event_state.proofs.Places.{place_within, places_apart, area_at}
-use Rattle.event_state.proofs.OneChange.{mapped_at, changed_length}
+use Rattle.event_state.proofs.OneChange.{mapped_at}
 
 -- the interfaces of a state, as the tree has them
 pub entries-interfaces : (m : BTreeMap ℕ Interface) → IsOrdered nat_cmp m → entries (from_entries {R = nat_cmp} m.entries) ≡ m.entries

@@ -1,12 +1,11 @@
 -- When the usable LSAs and the interfaces of a state are those of the state before.
-use Rattle.std.proofs.Common.{◌≡◌, ◌≢◌, ℕ, ◌+◌, ◌<◌, Bool, true, false, cond, List, [], ◌∷◌, length, map, get_or, set, Option, Some, None, All, refl, sym, ap, subst, ◌∙◌, arith, inl, inr}
+use Rattle.std.proofs.Common.{◌≡◌, ℕ, ◌<◌, Bool, true, false, cond, List, length, map, get_or, set, Option, Some, None, All, refl, sym, ap, subst, ◌∙◌, arith, inl, inr}
 use Rattle.std.specs.Prelude.{Result, Ok, Err, IfOk, nat_lt, option_and_then, option_map, ◌↔◌}
-use Rattle.std.specs.Ordering.{nat_cmp, is_eq, eq_by_cmp}
+use Rattle.std.specs.Ordering.{nat_cmp, is_eq}
 use Rattle.std.specs.Cmp.{nat_cmp_total, tied_itself}
 use Rattle.std.specs.declared.cmp.Ordering.TheVariants.{Less, Equal, Greater}
 use Rattle.std.specs.FinMap.{FinMap, get, insert, remove, empty, get-insert, get-remove, same_map, nat_cmp-IsAntisymmetric}
 use Rattle.std.proofs.lemmas.Bool.{cases_eq}
-use Rattle.std.proofs.lemmas.Bool.Decides.{nat_tests}
 use Rattle.std.proofs.lemmas.List.{get_or-map, get_or-set_same, get_or-set_other, get_or_default, length-map}
 use Rattle.std.proofs.lemmas.List.Elements.{All-map}
 use Rattle.ospf_types.specs.declared.config.Interface.{Interface}
@@ -23,7 +22,7 @@ use Rattle.event_state.proofs.Aging.{none_same, same_none}
 use Rattle.event_state.specs.declared.event.Event.{Event}
 use Rattle.event_state.specs.declared.event.Event.TheVariants as event
 use Rattle.event_state.specs.Changes.{lsas_in}
-use Rattle.event_state.specs.States.{State, LooksAlike, AreApart, place_of, changed_at_place, with_change, usable_at}
+use Rattle.event_state.specs.States.{State, LooksAlike, place_of, changed_at_place, with_change}
 use Rattle.event_state.specs.Steps.{changed_by, with_interface}
 use Rattle.event_state.specs.Held.{AreFit}
 use Rattle.event_state.proofs.Places.{place_within, scope_at}

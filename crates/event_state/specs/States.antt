@@ -1,8 +1,8 @@
 -- The state that events change (RFC 2328, 13.2 and 14), and what is calculated from.
-use Rattle.std.specs.Prelude.{ℕ, ◌+◌, ◌≡◌, ◌≢◌, ◌<◌, ◌==◌, length, List, [], map, position, slice_index_or, slice_set, Option, Some, None, option_map, option_and_then}
+use Rattle.std.specs.Prelude.{ℕ, ◌≡◌, ◌≢◌, ◌<◌, ◌==◌, length, List, [], map, position, slice_index_or, slice_set, Option, Some, None, option_map, option_and_then}
 use Rattle.std.specs.Ordering.{nat_cmp}
 use Rattle.std.specs.BTreeMap.{BTreeMap}
-use Rattle.std.specs.FinMap.{FinMap, from_entries, entries, values, get, empty}
+use Rattle.std.specs.FinMap.{FinMap, from_entries, entries, values, empty}
 use Rattle.ospf_types.specs.declared.config.Config.{Config}
 use Rattle.ospf_types.specs.declared.config.AreaConfig.{AreaConfig}
 use Rattle.ospf_types.specs.declared.config.Interface.{Interface}
@@ -12,7 +12,7 @@ use Rattle.ospf_types.specs.declared.key.Scope.TheVariants as scope
 use Rattle.ospf_types.specs.Lsa.{Lsa, Body}
 use Rattle.ospf_types.specs.Inputs.{Inputs}
 use Rattle.lsdb.specs.Databases.{Database}
-use Rattle.lsdb.specs.Contents.{contents_of, used_at}
+use Rattle.lsdb.specs.Contents.{used_at}
 use Rattle.event_state.specs.declared.event.Event.{Event}
 use Rattle.event_state.specs.declared.limits.Limits.{Limits}
 

@@ -1,7 +1,7 @@
 use Rattle.std.proofs.Common.{◌≡◌, ◌<◌, Some, List, length, get_or, sym, ap, ◌∙◌, subst, arith}
 use Rattle.std.proofs.lemmas.List.{length-map}
 use Rattle.ospf_types.specs.declared.config.AreaConfig.{AreaConfig}
-use Rattle.lsdb.specs.Databases.{Database, DatabaseValue}
+use Rattle.lsdb.specs.Databases.{DatabaseValue}
 use Rattle.event_state.specs.States.{State, place_of}
 use Rattle.event_state.specs.Steps.{limit_of}
 use Rattle.event_state.proofs.Carried.{limit_here, place_held}

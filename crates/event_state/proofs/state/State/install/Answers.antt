@@ -1,4 +1,4 @@
-use Rattle.std.proofs.Common.{◌≡◌, ℕ, ◌<◌, false, List, Some, None, get_or, length, subst, sym, refl, ap, ◌∙◌}
+use Rattle.std.proofs.Common.{◌≡◌, ℕ, false, List, Some, None, get_or, subst, sym, refl, ap, ◌∙◌}
 use Rattle.std.specs.Prelude.{IfOk, ◌↔◌}
 use Rattle.std.specs.FinMap.{empty, insert}
 use Rattle.ospf_types.specs.declared.config.AreaConfig.{AreaConfig}
@@ -9,7 +9,7 @@ use Rattle.event_state.specs.contracts.state.State.{the_view}
 use Rattle.event_state.specs.declared.event.Event.TheVariants as event
 use Rattle.event_state.specs.Changes.{no_database, lsas_in}
 use Rattle.event_state.specs.States.{State, LooksAlike, place_of}
-use Rattle.event_state.specs.Steps.{changed_by, IsAccepted, limit_of}
+use Rattle.event_state.specs.Steps.{changed_by, IsAccepted}
 use Rattle.event_state.proofs.Accepted.{install_fits, install_placed}
 use Rattle.event_state.proofs.Carried.{fits_at, place_held, held_after_try, install_looks}
 use Rattle.event_state.proofs.HeldStates.{fit_insert}

@@ -1,4 +1,4 @@
-use Rattle.std.proofs.Common.{◌≡◌, List, sym, ap, ◌∙◌, rules}
+use Rattle.std.proofs.Common.{◌≡◌, List, ap, ◌∙◌, rules}
 use Rattle.std.specs.FinMap.{empty}
 use Rattle.ospf_types.specs.declared.config.AreaConfig.{AreaConfig}
 use Rattle.event_state.specs.Changes.{empty_values, lsas_in}
