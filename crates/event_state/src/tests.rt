@@ -75,8 +75,8 @@ fn up(id: u8, area: u32, address: u32) -> Event {
     }
 }
 
-// The state of a router with a backbone.
-fn opened(rt: &HostRuntime, limits: Limits) -> Result<State, Fail> {
+// The state of a router with a backbone, with the standard limits where none are given.
+fn opened(rt: &HostRuntime, limits: Option<Limits>) -> Result<State, Fail> {
     let mut areas = Areas::new(rt.alloc());
     areas.push(AreaConfig {
         id: 0,
@@ -85,7 +85,11 @@ fn opened(rt: &HostRuntime, limits: Limits) -> Result<State, Fail> {
     })?;
     let router = ROOT;
     let config = Config { router, areas };
-    Ok(State::within(rt.alloc(), config, limits, RandomState::new(rt)?)?)
+    let (alloc, hashing) = (rt.alloc(), RandomState::new(rt)?);
+    Ok(match limits {
+        None => State::new(alloc, config, hashing)?,
+        Some(limits) => State::within(alloc, config, limits, hashing)?,
+    })
 }
 
 // How many events were taken, and how many LSAs and interfaces there are.
@@ -102,7 +106,7 @@ fn refuses(state: &mut State, event: Event, refusal: Refusal) -> bool {
 
 #[test]
 fn flushes_its_own_lsas_once(rt: HostRuntime) -> Result<(), Fail> {
-    let mut state = opened(&rt, Limits::STANDARD)?;
+    let mut state = opened(&rt, None)?;
     state.step(install(rt.alloc(), &STUB, ROOT, 7, 1)?)?;
     state.step(install(rt.alloc(), &STUB, OTHER, 7, 1)?)?;
     let refused = refuses(&mut state, flush(1, OTHER), Refusal::NotOwn)
@@ -114,7 +118,7 @@ fn flushes_its_own_lsas_once(rt: HostRuntime) -> Result<(), Fail> {
 
 #[test]
 fn ages_an_lsa_out_once_and_then_purges_it(rt: HostRuntime) -> Result<(), Fail> {
-    let mut state = opened(&rt, Limits::STANDARD)?;
+    let mut state = opened(&rt, None)?;
     state.step(install(rt.alloc(), &STUB, OTHER, 3599, 1)?)?;
     let early = refuses(&mut state, purge(1, OTHER), Refusal::NotMaxAge);
     let aged = state.step(Event::Second)? == (2, true);
@@ -134,7 +138,7 @@ fn nearly_full(rt: &HostRuntime) -> Result<State, Fail> {
         externals: 1,
         events: 4,
     };
-    let mut state = opened(rt, limits)?;
+    let mut state = opened(rt, Some(limits))?;
     state.step(install(rt.alloc(), &STUB, ROOT, 7, 2)?)?;
     state.step(install(rt.alloc(), &STUB, OTHER, 7, 1)?)?;
     state.step(up(1, 0, 0xc000_0201))?;
@@ -190,7 +194,7 @@ fn copies_are_equal(rt: HostRuntime) -> Result<(), Fail> {
 
 #[test]
 fn takes_events_in_turn(rt: HostRuntime) -> Result<(), Fail> {
-    let mut state = opened(&rt, Limits::STANDARD)?;
+    let mut state = opened(&rt, None)?;
     let mut taken = 0u64;
     let mut in_turn = true;
     for n in 1..51u8 {
