@@ -1,5 +1,5 @@
 -- The LSAs of a scope: each stands under its own key, is in the grammar and in its scope, and has no link to a vertex.
-use Rattle.std.proofs.Common.{◌≡◌, ℕ, ◌<◌, true, false, List, length, get_or, Option, Some, None, refl, sym, ap, subst, ◌∙◌, arith}
+use Rattle.std.proofs.Common.{◌≡◌, ℕ, true, false, get_or, Option, Some, None, refl, sym, ap, subst, ◌∙◌, arith}
 use Rattle.std.specs.Prelude.{option_map, option_and_then}
 use Rattle.std.specs.List.{Contains}
 use Rattle.std.specs.FinMap.{entries, values, get, empty, entries_sorted, get-entries}

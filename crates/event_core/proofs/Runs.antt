@@ -3,9 +3,7 @@ use Rattle.std.proofs.Common.{◌≡◌, ℕ, ◌+◌, take, List, [], ◌∷◌
 use Rattle.std.specs.Prelude.{false, ◌↔◌}
 use Rattle.std.proofs.lemmas.List.{length-append, take-append-le, take_all}
 use Rattle.ospf_types.specs.declared.config.Config.{Config}
-use Rattle.ospf_types.specs.declared.key.Scope.{Scope}
-use Rattle.ospf_types.specs.declared.key.Scope.TheVariants as scope
-use Rattle.ospf_types.specs.Lsa.{Lsa, key_of}
+use Rattle.ospf_types.specs.Lsa.{key_of}
 use Rattle.std.specs.FinMap.{insert, remove}
 use Rattle.event_state.specs.declared.event.Event.{Event}
 use Rattle.event_state.specs.declared.event.Event.TheVariants as event

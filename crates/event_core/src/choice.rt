@@ -4,10 +4,6 @@ ghost use Rattle.std.specs.Prelude.{◌≡◌, ◌++◌, ◌∷◌, [], List, On
 ghost use Rattle.std.specs.List.Sorted.{IsStrictlySortedBy};
 ghost use Rattle.std.specs.Map.{keys_of, lookup};
 ghost use Rattle.std.specs.BTreeMap.{is_at};
-ghost use Rattle.ospf_types.specs.Network.{Network, network_cmp};
-ghost use Rattle.ospf_types.specs.Intra.{AreaCost as CostInArea, area_cost_cmp};
-ghost use Rattle.ospf_types.specs.declared.hop.Path.{Path as PathValue};
-ghost use Rattle.ospf_types.specs.Hops.{path_cmp};
 ghost use Rattle.event_core.specs.Choices.{HasAlso, ChoosesFrom};
 
 use ospf_types::hop::Path;

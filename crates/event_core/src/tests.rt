@@ -72,8 +72,10 @@ fn ranges(alloc: Global, count: u32, length: u8) -> Result<Ranges, Fail> {
 fn config(alloc: Global, ids: &[u32], cost: u32, count: u32, length: u8) -> Result<Config, Fail> {
     let mut areas = Areas::new(alloc);
     for &id in ids {
-        let summaries = true;
-        let stub = Some(Stub { cost, summaries }).filter(|stub| stub.cost > 0);
+        let (mut stub, summaries) = (None, true);
+        if cost > 0 {
+            stub = Some(Stub { cost, summaries });
+        }
         let ranges = ranges(alloc, count, length)?;
         areas.push(AreaConfig { id, stub, ranges })?;
     }
@@ -84,6 +86,10 @@ fn config(alloc: Global, ids: &[u32], cost: u32, count: u32, length: u8) -> Resu
 fn core(rt: &HostRuntime, ids: &[u32]) -> Result<Core, Fail> {
     let config = config(rt.alloc(), ids, 0, 0, 0)?;
     Ok(Core::open(rt.alloc(), config, RandomState::new(rt)?)?)
+}
+
+fn is_current(reply: Reply, serial: u64) -> bool {
+    reply.serial == serial && reply.state == Standing::Current
 }
 
 // Whether the answers are these refusals and values of `changed`, each reply is current with the next
@@ -100,8 +106,10 @@ fn gives(
     let mut all = replies.len() == answers.len();
     for (reply, answer) in replies.iter().zip(answers) {
         serial = serial.wrapping_add(u64::from(answer.is_ok()));
-        let current = reply.map_or(true, |r| r.serial == serial && r.state == Standing::Current);
-        all &= current && reply.map(|r| r.changed) == *answer;
+        all &= match reply {
+            Ok(reply) => Ok(reply.changed) == *answer && is_current(*reply, serial),
+            Err(refusal) => Err(*refusal) == *answer,
+        };
     }
     let printed = format!(in alloc; "{}", core.table().lookup(0xc000_024d))?;
     Ok(all && core.table().serial() == serial && printed.as_str() == found)

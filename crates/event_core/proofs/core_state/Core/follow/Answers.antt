@@ -1,7 +1,6 @@
-use Rattle.std.proofs.Common.{◌≡◌, ◌+◌, ◌≤◌, length, subst, sym, ap, ◌∙◌, arith}
+use Rattle.std.proofs.Common.{◌≡◌, ◌+◌, length, subst, sym, ap, ◌∙◌, arith}
 use Rattle.event_state.specs.States.{State}
-use Rattle.route_table.specs.Tables.{TableValue}
-use Rattle.event_core.specs.Cores.{CoreValue, IsQuiet}
+use Rattle.event_core.specs.Cores.{IsQuiet}
 use Rattle.event_core.specs.Right.{IsRight}
 use Rattle.event_core.proofs.Runs.{follows, kept_current}
 use Rattle.event_core.proofs.core_state.Core.follow.Goals as goal
