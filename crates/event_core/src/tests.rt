@@ -150,6 +150,72 @@ fn a_refresh_and_premature_ageing(rt: HostRuntime) -> Result<(), Fail> {
     Ok(())
 }
 
+// A core of one area with room for two LSAs and three events.
+fn small_core(rt: &HostRuntime) -> Result<Core, Fail> {
+    let limits = Limits {
+        area_lsas: 2,
+        externals: 1,
+        events: 3,
+    };
+    let config = config(rt.alloc(), &[0], 0, 0, 0)?;
+    Ok(Core::open_within(rt.alloc(), config, limits, RandomState::new(rt)?)?)
+}
+
+fn installs(alloc: Global, lsas: &[(u32, u8)]) -> Result<Vec<Event>, Fail> {
+    let mut events = Vec::new(alloc);
+    for (router, seq) in lsas {
+        events.push(install(alloc, 0, *router, 1, *seq)?)?;
+    }
+    Ok(events)
+}
+
+fn flush_in(scope: Scope) -> Event {
+    let key = key(ROOT);
+    Event::Flush { scope, key }
+}
+
+fn purge(router: u32) -> Event {
+    let (scope, key) = (Scope::Area(0), key(router));
+    Event::Purge { scope, key }
+}
+
+#[test]
+fn a_refused_event_leaves_table_and_serial(rt: HostRuntime) -> Result<(), Fail> {
+    let mut core = small_core(&rt)?;
+    let taken = core.apply(up(1, 0, 1)).is_ok();
+    let own = installs(
+        rt.alloc(),
+        &[(ROOT, 2), (7, 1), (ROOT, 1), (ROOT, 2), (9, 1)],
+    )?;
+    let answers = [
+        Ok(true),
+        Ok(true),
+        Err(Refusal::Older),
+        Err(Refusal::Same),
+        Err(Refusal::Full),
+    ];
+    let installed = taken && gives(&mut core, own, &answers, ROUTE)?;
+    let (no_area, everywhere) = (flush_in(Scope::Area(7)), flush_in(Scope::As));
+    let events = vec![in rt.alloc();
+        no_area,
+        everywhere,
+        flush(8),
+        flush(7),
+        purge(ROOT),
+        Event::Second,
+    ]?;
+    let answers = [
+        Err(Refusal::NoArea),
+        Err(Refusal::Scope),
+        Err(Refusal::NoLsa),
+        Err(Refusal::NotOwn),
+        Err(Refusal::NotMaxAge),
+        Err(Refusal::JournalFull),
+    ];
+    assert!(rt; installed && gives(&mut core, events, &answers, ROUTE)?);
+    Ok(())
+}
+
 #[test]
 fn the_greater_area_over_each_interface(rt: HostRuntime) -> Result<(), Fail> {
     let mut core = core(&rt, &[1, 0])?;
