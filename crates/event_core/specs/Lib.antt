@@ -7,3 +7,4 @@ pub mod Listings
 pub mod Takes
 pub mod Offers
 pub mod Texts
+pub mod Lasting

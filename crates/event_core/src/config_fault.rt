@@ -1,6 +1,7 @@
 ghost use Rattle.std.specs.Prelude.{◌≡◌, ◌==◌, length, nat_lt};
 ghost use Rattle.std.specs.List.{list_any};
 ghost use Rattle.event_core.specs.Configs.{config_fault_of, has_alike, has_wrong_areas, has_overlap, is_overlap, is_cover, is_stub_backbone, is_costly};
+ghost use Rattle.event_core.specs.Lasting.{lasting_fault_of};
 
 use crate::fault::ConfigFault;
 use ospf_types::config::{AreaConfig, Config, Range, Stub};
@@ -14,9 +15,23 @@ const MOST_RANGES: usize = 32;
 
 const BACKBONE: u32 = 0;
 
-/// The first fault that the configuration has.
+/// The first fault that a core is not opened for.
 pub(crate) fn fault_in(config: &Config) -> Option<ConfigFault>
     ensures { result ≡ config_fault_of config.now }
+{
+    if let Some(fault) = lasting_fault(config) {
+        Some(fault)
+    } else if any_longer(config.areas.as_slice(), 0) {
+        Some(ConfigFault::NotYet)
+    } else {
+        None
+    }
+}
+
+/// The first fault that the configuration has, whatever is calculated so far: `NotYet` and `Memory`
+/// are none of them.
+pub fn lasting_fault(config: &Config) -> Option<ConfigFault>
+    ensures { result ≡ lasting_fault_of config.now }
 {
     let areas = config.areas.as_slice();
     if has_wrong_areas(areas) {
@@ -29,8 +44,6 @@ pub(crate) fn fault_in(config: &Config) -> Option<ConfigFault>
         Some(ConfigFault::Cost)
     } else if any_longer(areas, MOST_RANGES) {
         Some(ConfigFault::RangeCount)
-    } else if any_longer(areas, 0) {
-        Some(ConfigFault::NotYet)
     } else {
         None
     }

@@ -11,6 +11,7 @@ mod listing;
 mod reply;
 mod routes;
 
+pub use config_fault::lasting_fault;
 pub use core_state::Core;
 pub use event_state::{Event, Limits, Refusal};
 pub use fault::ConfigFault;
