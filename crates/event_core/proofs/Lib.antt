@@ -10,3 +10,5 @@ pub mod OwnStubs
 pub mod Alike
 pub mod Runs
 pub mod Filled
+pub mod Intervals
+pub mod Neighbours

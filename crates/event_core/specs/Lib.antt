@@ -8,3 +8,4 @@ pub mod Takes
 pub mod Offers
 pub mod Texts
 pub mod Lasting
+pub mod Neighbours

@@ -1,7 +1,8 @@
-ghost use Rattle.std.specs.Prelude.{◌≡◌, ◌==◌, length, nat_lt};
+ghost use Rattle.std.specs.Prelude.{◌≡◌, ◌==◌, true, length, nat_lt, All};
 ghost use Rattle.std.specs.List.{list_any};
 ghost use Rattle.event_core.specs.Configs.{config_fault_of, has_alike, has_wrong_areas, has_overlap, is_overlap, is_cover, is_stub_backbone, is_costly};
 ghost use Rattle.event_core.specs.Lasting.{lasting_fault_of};
+ghost use Rattle.event_core.specs.Neighbours.{IsMasked, is_ascending, is_before_first, has_next_overlap, overlaps_first};
 
 use crate::fault::ConfigFault;
 use ospf_types::config::{AreaConfig, Config, Range, Stub};
@@ -81,6 +82,65 @@ fn any_overlap(areas: &[AreaConfig]) -> bool
 }
 
 fn has_overlap(ranges: &[Range]) -> bool
+    ensures { result ≡ has_overlap ranges.now }
+{
+    if is_ascending(ranges) {
+        has_next_overlap(ranges)
+    } else {
+        any_pair_overlaps(ranges)
+    }
+}
+
+// Whether each range stands before the next one, in the order of their networks.
+fn is_ascending(ranges: &[Range]) -> bool
+    ensures value { result ≡ is_ascending ranges.now }
+    ensures masked { result ≡ true → All (λ range. IsMasked range.prefix) ranges.now }
+{
+    for i in 0..ranges.len() {
+        if !is_before_first(ranges[i], &ranges[i + 1..]) {
+            return false;
+        }
+    }
+    true
+}
+
+fn is_before_first(range: Range, ranges: &[Range]) -> bool
+    ensures value { result ≡ is_before_first range ranges.now }
+    ensures masked { IsMasked range.prefix }
+{
+    let address = range.prefix.address();
+    match ranges.first() {
+        None => true,
+        Some(next) => {
+            let other = next.prefix.address();
+            address < other || address == other && range.prefix.length() < next.prefix.length()
+        }
+    }
+}
+
+// Whether a range overlaps the next one. Of ranges that ascend, one that covers any later one covers
+// the next one.
+fn has_next_overlap(ranges: &[Range]) -> bool
+    ensures { result ≡ has_next_overlap ranges.now }
+{
+    for i in 0..ranges.len() {
+        if overlaps_first(ranges[i], &ranges[i + 1..]) {
+            return true;
+        }
+    }
+    false
+}
+
+fn overlaps_first(range: Range, ranges: &[Range]) -> bool
+    ensures { result ≡ overlaps_first range ranges.now }
+{
+    match ranges.first() {
+        None => false,
+        Some(next) => is_overlap(range, *next),
+    }
+}
+
+fn any_pair_overlaps(ranges: &[Range]) -> bool
     ensures { result ≡ has_overlap ranges.now }
 {
     for i in 0..ranges.len() {

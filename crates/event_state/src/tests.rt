@@ -104,32 +104,6 @@ fn refuses(state: &mut State, event: Event, refusal: Refusal) -> bool {
     state.step(event) == Err(refusal) && sizes(state) == before
 }
 
-#[test]
-fn flushes_its_own_lsas_once(rt: HostRuntime) -> Result<(), Fail> {
-    let mut state = opened(&rt, None)?;
-    state.step(install(rt.alloc(), &STUB, ROOT, 7, 1)?)?;
-    state.step(install(rt.alloc(), &STUB, OTHER, 7, 1)?)?;
-    let refused = refuses(&mut state, flush(1, OTHER), Refusal::NotOwn)
-        && refuses(&mut state, flush(1, 7), Refusal::NoLsa);
-    let first = state.step(flush(1, ROOT))? == (3, true);
-    assert!(rt; refused && first && state.step(flush(1, ROOT))? == (4, false));
-    Ok(())
-}
-
-#[test]
-fn ages_an_lsa_out_once_and_then_purges_it(rt: HostRuntime) -> Result<(), Fail> {
-    let mut state = opened(&rt, None)?;
-    state.step(install(rt.alloc(), &STUB, OTHER, 3599, 1)?)?;
-    let early = refuses(&mut state, purge(1, OTHER), Refusal::NotMaxAge);
-    let aged = state.step(Event::Second)? == (2, true);
-    let once = state.step(Event::Second)? == (3, false);
-    let gone = state.step(purge(1, OTHER))? == (4, false);
-    assert!(rt;
-        early && aged && once && gone && refuses(&mut state, purge(1, OTHER), Refusal::NoLsa)
-    );
-    Ok(())
-}
-
 // A state with room for no further LSA and for one event: LSAs of the root and of another router,
 // and an interface that is up.
 fn nearly_full(rt: &HostRuntime) -> Result<State, Fail> {
