@@ -1,0 +1,122 @@
+-- Decimal digits and the numbers that they write, and the hexadecimal digits of bytes.
+use Rattle.std.proofs.Common.{ℕ, ◌≡◌, ◌+◌, ◌-◌, ◌*◌, ◌/◌, ◌%◌, ◌^◌, ◌<◌, ◌≤◌, ◌==◌, Bool, true, cond, ltb, List, [], ◌∷◌, All, decimal, length, get_or, take, inl, inr, arith, refl, ap, sym, ◌∙◌, length-take}
+use Rattle.std.proofs.lemmas.Bool.{agree_below_at, cases_eq, eqb-true}
+use Rattle.std.proofs.Math.Nat.{pow-le-pow_right}
+use Rattle.std.proofs.lemmas.Bool.Decides.{nat_tests}
+use Rattle.std.proofs.lemmas.Int.Digits.{digits_value-lt}
+use Rattle.std.proofs.lemmas.Fmt.{decimal_is_IsNumeral, decimal_nonempty, decimal_digit, first_decimal, length-decimal-le, decimal-digits_value}
+use Rattle.std.proofs.lemmas.Str.Parse.{numerals_by_value, tells_digits}
+use Rattle.std.proofs.lemmas.List.Elements.{All-nil, All-cons, All-head, All-tail}
+use Rattle.hex.proofs.HexLemmas.{length-encode_with}
+use Rattle.std.specs.Char.{digit_value, digit_char}
+use Rattle.std.specs.Str.Parse.{AllDigits, digits_value}
+use Rattle.hex.specs.Hex.{encode_lower, encode_with, lower_digits}
+use Rattle.recording.specs.Reading.{AreDigits, IsLowerDigit, IsUnpadded}
+
+-- nine digits write less than a thousand millions
+pub digits_small : (word : List ℕ) (i : ℕ) → i < length word → length word ≤ 10 → AllDigits 10 (take i word) → digits_value 10 (take i word) < 10 ^ 9
+digits_small word i within short digits =
+    let bound = digits_value-lt 10 (take i word) digits in
+    let few : length (take i word) ≤ 9 = omega (arith, length-take i word) in
+    let ten : 0 < 10 = omega arith in
+    let more : 10 ^ length (take i word) ≤ 10 ^ 9 = pow-le-pow_right ten few in
+    omega (arith, more, bound)
+
+pub digit_value_is : (b : ℕ) → 48 ≤ b → b ≤ 57 → digit_value b ≡ b - 48
+digit_value_is b low high = grind (arith, nat_tests)
+
+-- a number has no zero in front
+pub unpadded_decimal : (n : ℕ) → n < 2 ^ 32 → IsUnpadded (decimal n)
+unpadded_decimal n fits = record {
+  some = decimal_nonempty n (omega arith);
+  few = length-decimal-le 10 n (omega arith) (omega arith) (omega arith);
+  alone = λ zero. elim (cases_eq n 0) [
+    | inl is ↦ ap (λ m. length (decimal m)) is ∙ ap length (decimal_digit 0 (omega arith))
+    | inr some ↦ let first = first_decimal n (omega arith) (omega arith) in omega arith
+  ];
+}
+
+pub decimal_digits : (n : ℕ) → n < 2 ^ 32 → AllDigits 10 (decimal n)
+decimal_digits n fits = (decimal_is_IsNumeral n (omega arith)).0.1
+
+pub decimal_value : (n : ℕ) → n < 2 ^ 32 → digits_value 10 (decimal n) ≡ n
+decimal_value n fits = (decimal_is_IsNumeral n (omega arith)).1
+
+-- digits without a zero in front are those of their number
+pub unpadded_is : (word : List ℕ) → IsUnpadded word → AllDigits 10 word → digits_value 10 word < 2 ^ 32 → word ≡ decimal (digits_value 10 word)
+unpadded_is word h digits small = sym (decimal-digits_value (numerals_by_value _ tells_digits) word digits h.some h.alone (omega arith))
+
+-- ---- hexadecimal digits
+
+-- the digit of the table at each place
+table_is : ℕ → Bool
+table_is d = get_or lower_digits d 0 == digit_char d
+
+lower_digit : (d : ℕ) → d < 16 → get_or lower_digits d 0 ≡ digit_char d
+unfolding table_is
+lower_digit d small = eqb-true _ _ (agree_below_at table_is (λ _. true) 16 d refl small)
+
+-- a digit's value
+pub value_of : ℕ → ℕ
+value_of b = cond (ltb b 58) (b - 48) (b - 87)
+
+value_small : (b : ℕ) → IsLowerDigit b → value_of b < 16
+unfolding value_of
+value_small b h = grind (arith, nat_tests)
+
+digit_again : (b : ℕ) → IsLowerDigit b → get_or lower_digits (value_of b) 0 ≡ b
+unfolding value_of
+digit_again b h = rw (lower_digit (value_of b) (value_small b h)) (grind (arith, nat_tests))
+
+-- the bytes of pairs of digits
+pub bytes_of_pairs : List ℕ → List ℕ
+bytes_of_pairs [] = []
+bytes_of_pairs (digit ∷ []) = []
+bytes_of_pairs (high ∷ low ∷ rest) = (value_of high * 16 + value_of low) ∷ bytes_of_pairs rest
+
+pub pairs_spelled : (word : List ℕ) → length word % 2 ≡ 0 → All IsLowerDigit word → word ≡ encode_lower (bytes_of_pairs word)
+unfolding encode_with bytes_of_pairs
+pairs_spelled [] even h = refl
+pairs_spelled (digit ∷ []) even h = absurd (omega arith)
+pairs_spelled (high ∷ low ∷ rest) even h =
+    let is_high = All-head IsLowerDigit high (low ∷ rest) h in
+    let tail = All-tail IsLowerDigit high (low ∷ rest) h in
+    let is_low = All-head IsLowerDigit low rest tail in
+    let small = value_small low is_low in
+    let first : (value_of high * 16 + value_of low) / 16 ≡ value_of high = omega arith in
+    let second : (value_of high * 16 + value_of low) % 16 ≡ value_of low = omega arith in
+    rw (first, second, digit_again high is_high, digit_again low is_low) (ap (λ digits. high ∷ low ∷ digits) (pairs_spelled rest (omega arith) (All-tail IsLowerDigit low rest tail)))
+
+pub pairs_small : (word : List ℕ) → All IsLowerDigit word → All (λ b. b < 2 ^ 8) (bytes_of_pairs word)
+unfolding bytes_of_pairs
+pairs_small [] h = All-nil (λ b. b < 2 ^ 8)
+pairs_small (digit ∷ []) h = All-nil (λ b. b < 2 ^ 8)
+pairs_small (high ∷ low ∷ rest) h =
+    let tail = All-tail IsLowerDigit high (low ∷ rest) h in
+    let is_high = value_small high (All-head IsLowerDigit high (low ∷ rest) h) in
+    let is_low = value_small low (All-head IsLowerDigit low rest tail) in
+    All-cons (λ b. b < 2 ^ 8) _ (bytes_of_pairs rest) (omega arith) (pairs_small rest (All-tail IsLowerDigit low rest tail))
+
+table_lower : (d : ℕ) → d < 16 → IsLowerDigit (get_or lower_digits d 0)
+table_lower d small = rw (lower_digit d small) (grind (arith, nat_tests))
+
+pub encode_digits : (bytes : List ℕ) → All (λ b. b < 2 ^ 8) bytes → All IsLowerDigit (encode_lower bytes)
+unfolding encode_with
+encode_digits [] h = All-nil IsLowerDigit
+encode_digits (b ∷ bytes) h =
+    let small : b < 2 ^ 8 = All-head (λ c. c < 2 ^ 8) b bytes h in
+    All-cons IsLowerDigit _ (get_or lower_digits (b % 16) 0 ∷ encode_lower bytes) (table_lower (b / 16) (omega arith))
+    (All-cons IsLowerDigit _ (encode_lower bytes) (table_lower (b % 16) (omega arith)) (encode_digits bytes (All-tail (λ c. c < 2 ^ 8) b bytes h)))
+
+pub encode_even : (bytes : List ℕ) → length (encode_lower bytes) % 2 ≡ 0
+encode_even bytes = let twice = length-encode_with lower_digits bytes in omega (arith, twice)
+
+-- bytes are written with an even number of digits, all in lower case
+pub digits_there : (word : List ℕ) → length word % 2 ≡ 0 → All IsLowerDigit word → AreDigits word
+digits_there word even h = (bytes_of_pairs word, pairs_small word h, pairs_spelled word even h)
+
+pub digits_lower : (word : List ℕ) → AreDigits word → All IsLowerDigit word
+digits_lower word h = rw h.2 (encode_digits h.0 h.1)
+
+pub digits_even : (word : List ℕ) → AreDigits word → length word % 2 ≡ 0
+digits_even word h = rw h.2 (encode_even h.0)

@@ -1,0 +1,16 @@
+pub mod Ascending
+pub mod Pieces
+pub mod Cutting
+pub mod Digits
+pub mod Fields
+pub mod Forms
+pub mod Saying
+pub mod Parts
+pub mod Sorting
+pub mod Areas
+pub mod AllSaid
+pub mod HeaderSteps
+pub mod HeaderLines
+pub mod LineSteps
+pub mod Beginning
+pub mod Only

@@ -1,0 +1,163 @@
+-- From line to line behind the header.
+use Rattle.std.proofs.Common.{ℕ, ◌≡◌, ◌≢◌, ◌+◌, ◌<◌, ◌≤◌, ◌++◌, true, List, [], ◌∷◌, length, map, refl, sym, ap, subst, ◌∙◌, inl, inr, arith, append_assoc}
+use Rattle.std.specs.List.{flat_map, AllPass, join_with_byte}
+use Rattle.std.proofs.lemmas.List.{length_push, map-append}
+use Rattle.std.proofs.lemmas.List.Elements.{All-head, All-push}
+use Rattle.std.proofs.lemmas.List.Splits.{join_with_byte-slice_split}
+use Rattle.lsa_codec.specs.Spelling.{spelling}
+use Rattle.lsa_codec.proofs.Again.{spelled_none}
+use Rattle.event_core.specs.declared.fault.ConfigFault.{ConfigFault}
+use Rattle.event_state.specs.declared.event.Event.TheVariants as event
+use Rattle.recording.specs.declared.fault.Fault.{Fault}
+use Rattle.recording.specs.declared.fault.Fault.TheVariants as fault
+use Rattle.recording.specs.declared.line.Line.{Line}
+use Rattle.recording.specs.declared.line.Line.TheVariants as line_is
+use Rattle.recording.specs.Forms.{Form, VersionLine, RouterLine, AreaLine, RangeLine, InterfaceLine, InstallLine, FlushLine, PurgeLine, SecondLine, LookupLine, Says, AllSay, line_text}
+use Rattle.recording.specs.Places.{IsHeader, IsPlaced, is_of_header}
+use Rattle.recording.specs.Faults.{EndsHeader, HasConfigFault, IsFaultOf}
+use Rattle.recording.specs.Recordings.{RecordingValue, IsText, HasKind, HasWholeLsa, area_forms, header_forms, form_of, forms_of, text_of_forms}
+use Rattle.recording.specs.Progress.{HasLines, IsLineOf, IsHeading, IsFaultBehind}
+use Rattle.recording.proofs.Areas.{all_right}
+use Rattle.recording.proofs.HeaderSteps.{right_past, of_end}
+use Rattle.recording.proofs.Parts.{IsLineAt, HasNoWireFault, line_fault, below_config, form_fault, order_fault, wire_fault, end_fault}
+use Rattle.recording.proofs.AllSaid.{said_push, said_length, said_legal, header_once}
+
+-- ---- what stands behind the header
+
+pub not_of_header : (l : Line) → is_of_header (form_of l) ≡ true → ⊥
+not_of_header (line_is.Event (event.Install at lsa)) h = cc
+not_of_header (line_is.Event (event.Flush at key)) h = cc
+not_of_header (line_is.Event (event.Purge at key)) h = cc
+not_of_header (line_is.Event (event.Interface id area address peer up)) h = cc
+not_of_header (line_is.Event event.Second) h = cc
+not_of_header (line_is.Lookup address) h = cc
+
+-- where all lines are of the header, there are no others
+header_alone : (fs : List Form) (lines : List Line) → AllPass is_of_header (fs ++ map form_of lines) → lines ≡ []
+header_alone fs [] all = refl
+header_alone fs (l ∷ lines) all =
+    let P : Form → Type 0 = λ form. is_of_header form ≡ true in
+    absurd (not_of_header l (All-head P (form_of l) (map form_of lines) (all_right P fs (form_of l ∷ map form_of lines) all)))
+
+placed_behind : (before : List (List ℕ)) (l : Line) → 2 ≤ length before → IsPlaced before (form_of l)
+placed_behind before (line_is.Event (event.Install at lsa)) two = two
+placed_behind before (line_is.Event (event.Flush at key)) two = two
+placed_behind before (line_is.Event (event.Purge at key)) two = two
+placed_behind before (line_is.Event (event.Interface id area address peer up)) two = two
+placed_behind before (line_is.Event event.Second) two = two
+placed_behind before (line_is.Lookup address) two = two
+
+whole_behind : (l : Line) → HasWholeLsa l → HasNoWireFault (form_of l)
+whole_behind (line_is.Event (event.Install at lsa)) whole = spelled_none (spelling lsa) lsa whole.sound whole.spelled
+whole_behind (line_is.Event (event.Flush at key)) whole = tt
+whole_behind (line_is.Event (event.Purge at key)) whole = tt
+whole_behind (line_is.Event (event.Interface id area address peer up)) whole = tt
+whole_behind (line_is.Event event.Second) whole = tt
+whole_behind (line_is.Lookup address) whole = tt
+
+pushed_lines : (lines : List Line) (l : Line) → lines ++ l ∷ [] ≢ []
+pushed_lines lines l e = let n : length (lines ++ l ∷ []) ≡ 0 = ap length e in omega (arith, length_push lines l)
+
+-- the lines, and one more of them
+abbrev with_line : RecordingValue → Line → RecordingValue
+with_line r l = record r { lines = r.lines ++ l ∷ [] }
+
+forms_push : (r : RecordingValue) (l : Line) → forms_of r ++ form_of l ∷ [] ≡ forms_of (with_line r l)
+forms_push r l =
+    append_assoc (header_forms r.config) (map form_of r.lines) (form_of l ∷ [])
+    ∙ ap (λ (fs : List Form). header_forms r.config ++ fs) (sym (map-append form_of r.lines (l ∷ [])))
+
+module _ {text : List ℕ} {taken : ℕ} {left : List (List ℕ)} {r : RecordingValue} (h : HasLines text taken left r) where
+  two_lines : 2 ≤ length h.before
+  two_lines = omega (arith, said_length h.before (forms_of r) h.said)
+
+  not_first : h.before ≢ []
+  not_first e = let n : length h.before ≡ 0 = ap length e in omega (arith, two_lines)
+
+  line_at : (line : List ℕ) (rest : List (List ℕ)) → left ≡ line ∷ rest → 0 < length rest → IsLineAt text (taken + 1) h.before line rest
+  line_at line rest is full = record {
+    parts = h.parts ∙ ap (λ (t : List (List ℕ)). h.before ++ t) is;
+    full = full;
+    counted = omega (arith, h.counted);
+  }
+
+  -- a line of the header cannot stand here
+  no_next : (line : List ℕ) (rest : List (List ℕ)) → left ≡ line ∷ rest → 0 < length rest → (form : Form) → Says line form → is_of_header form ≡ true → (forms : List Form) → IsHeader h.before forms → ⊥
+  no_next line rest is full form said here forms header =
+      let fs : List Form = flat_map area_forms r.config.areas in
+      let same = header_once h.before VersionLine (RouterLine r.config.router) (fs ++ map form_of r.lines) forms h.said header in
+      let none : r.lines ≡ [] = header_alone fs r.lines (subst (AllPass is_of_header) same header.header) in
+      of_end line rest full (subst EndsHeader is (h.ends none)) form said here
+
+  misplaced : (line : List ℕ) (rest : List (List ℕ)) → left ≡ line ∷ rest → 0 < length rest → (form : Form) → Says line form → IsHeading form → ¬ IsPlaced h.before form
+  misplaced line rest is full VersionLine said heading placed = not_first placed
+  misplaced line rest is full (RouterLine router) said heading placed = omega (arith, two_lines)
+  misplaced line rest is full (AreaLine id stub) said heading placed = no_next line rest is full (AreaLine id stub) said refl placed.0 placed.1
+  misplaced line rest is full (RangeLine area range) said heading placed = no_next line rest is full (RangeLine area range) said refl placed.0 placed.1
+  misplaced line rest is full (InterfaceLine id area address peer up) said heading placed = heading
+  misplaced line rest is full (InstallLine at bytes) said heading placed = heading
+  misplaced line rest is full (FlushLine at key) said heading placed = heading
+  misplaced line rest is full (PurgeLine at key) said heading placed = heading
+  misplaced line rest is full SecondLine said heading placed = heading
+  misplaced line rest is full (LookupLine address) said heading placed = heading
+
+  pub fault_behind : (line : List ℕ) (rest : List (List ℕ)) → left ≡ line ∷ rest → 0 < length rest → (f : Fault) → IsFaultBehind line f → IsFaultOf text (record { line = taken + 1; fault = f })
+  fault_behind line rest is full fault.Truncated has = absurd has
+  fault_behind line rest is full fault.Version has = absurd has
+  fault_behind line rest is full fault.Line has = inr (form_fault (line_at line rest is full) h.right not_first has)
+  fault_behind line rest is full fault.Order has =
+      inr (order_fault (line_at line rest is full) h.right not_first has.0 has.1 (misplaced line rest is full has.0 has.1 has.2))
+  fault_behind line rest is full (fault.Wire f) has =
+      inr (wire_fault (line_at line rest is full) h.right has.0 has.1 f has.2 two_lines has.3)
+  fault_behind line rest is full (fault.Config f) has = absurd has
+  fault_behind line rest is full fault.Memory has = inl (refl, h.right)
+
+  pub cut_behind : (cut : List ℕ) → left ≡ cut ∷ [] → cut ≢ [] → IsFaultOf text (record { line = taken + 1; fault = fault.Truncated })
+  cut_behind cut is some =
+      inr (end_fault text (taken + 1) h.before cut (h.parts ∙ ap (λ (t : List (List ℕ)). h.before ++ t) is) (omega (arith, h.counted)) h.right (inl some))
+
+  pub line_step : (line : List ℕ) (rest : List (List ℕ)) → left ≡ line ∷ rest → 0 < length rest → (l : Line) → IsLineOf line l → HasLines text (taken + 1) rest (record r { lines = r.lines ++ l ∷ [] })
+  line_step line rest is full l of =
+      let at = line_at line rest is full in
+      let said : AllSay (h.before ++ line ∷ []) (forms_of (with_line r l)) = subst (AllSay (h.before ++ line ∷ [])) (forms_push r l) (said_push h.before (forms_of r) line (form_of l) h.said of.said) in
+      let fs : List Form = flat_map area_forms r.config.areas in
+      let clean : (c : ConfigFault) → ¬ HasConfigFault (h.before ++ line ∷ []) rest c = λ c g.
+      let same = header_once (h.before ++ line ∷ []) VersionLine (RouterLine r.config.router) (fs ++ map form_of (r.lines ++ l ∷ [])) g.forms said g.header in
+      pushed_lines r.lines l (header_alone fs (r.lines ++ l ∷ []) (subst (AllPass is_of_header) same g.header.header)) in
+      record {
+        before = h.before ++ line ∷ [];
+        parts = at.parts ∙ sym (append_assoc h.before (line ∷ []) rest);
+        counted = omega (arith, h.counted, length_push h.before line);
+        said = said;
+        kept = record { config = h.kept.config; ordered = h.kept.ordered; kinds = All-push HasKind r.lines l h.kept.kinds of.kind };
+        lsas = All-push HasWholeLsa r.lines l h.lsas of.whole;
+        ends = λ e. absurd (pushed_lines r.lines l e);
+        right = right_past at h.right (λ f lt g. below_config h.before line rest (form_of l) of.said (placed_behind h.before l two_lines) (whole_behind l of.whole) f lt (line_fault at f g)) clean;
+      }
+
+-- ---- the whole text
+
+join_line : (line : List ℕ) (parts : List (List ℕ)) → 0 < length parts → join_with_byte 10 (line ∷ parts) ≡ line ++ 10 ∷ join_with_byte 10 parts
+join_line line [] full = absurd (omega arith)
+join_line line (next ∷ more) full = refl
+
+joined : (ls : List (List ℕ)) (fs : List Form) → AllSay ls fs → join_with_byte 10 (ls ++ [] ∷ []) ≡ text_of_forms fs
+joined [] [] all = refl
+joined [] (f ∷ fs) all = absurd all
+joined (l ∷ ls) [] all = absurd all
+joined (l ∷ ls) (f ∷ fs) all =
+    join_line l (ls ++ [] ∷ []) (omega (arith, length_push ls []))
+    ∙ ap (λ (t : List ℕ). l ++ 10 ∷ t) (joined ls fs all.1)
+    ∙ ap (λ (t : List ℕ). t ++ 10 ∷ text_of_forms fs) all.0.spelled
+    ∙ sym (append_assoc (line_text f) (10 ∷ []) (text_of_forms fs))
+
+pub whole_text : {text : List ℕ} {taken : ℕ} {left : List (List ℕ)} {r : RecordingValue} → HasLines text taken left r → left ≡ [] ∷ [] → IsText text r
+whole_text {text} {taken} {left} {r} h is = record {
+  spelled =
+      sym (join_with_byte-slice_split 10 text)
+      ∙ ap (join_with_byte 10) (h.parts ∙ ap (λ (t : List (List ℕ)). h.before ++ t) is)
+      ∙ joined h.before (forms_of r) h.said;
+  forms = said_legal h.before (forms_of r) h.said;
+  lsas = h.lsas;
+  kept = h.kept;
+}

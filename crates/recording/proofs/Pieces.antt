@@ -1,0 +1,120 @@
+-- The lines that several pieces make, as they are written one behind the other.
+use Rattle.std.proofs.Common.{◌≡◌, ◌∙◌, ◌++◌, ◌<◌, ◌≤◌, ◌+◌, List, [], ◌∷◌, ℕ, Bool, All, cond, length, take, map, get_or, ap, sym, subst, codes, append_assoc, append-nil}
+use Rattle.std.specs.Prelude.{decimal}
+use Rattle.std.specs.List.{flat_map}
+use Rattle.std.proofs.lemmas.List.{take_more, take_all}
+use Rattle.std.proofs.lemmas.List.Concat.{flat_map-append, flat_map_single}
+use Rattle.std.proofs.lemmas.List.Elements.{All-nil, All-cons, All-append, All-more}
+use Rattle.ospf_types.specs.declared.config.AreaConfig.{AreaConfig}
+use Rattle.ospf_types.specs.declared.config.Config.{Config}
+use Rattle.ospf_types.specs.declared.config.Range.{Range}
+use Rattle.ospf_types.specs.Text.{address_text, prefix_text}
+use Rattle.recording.specs.declared.line.Line.{Line}
+use Rattle.recording.specs.Forms.{Form, VersionLine, RouterLine, AreaLine, InterfaceLine, RangeLine, IsForm}
+use Rattle.recording.specs.Recordings.{RecordingValue, form_of, forms_of, HasKind, HasWholeLsa, ended, text_of_forms, area_forms, header_forms}
+
+three : (a b c : List ℕ) → a ++ 32 ∷ (b ++ 32 ∷ (c ++ 10 ∷ [])) ≡ (a ++ 32 ∷ (b ++ 32 ∷ c)) ++ 10 ∷ []
+three a b c = simp append_assoc
+
+five : (a b c d e : List ℕ)
+    → a ++ 32 ∷ (b ++ 32 ∷ (c ++ 32 ∷ (d ++ 32 ∷ (e ++ 10 ∷ [])))) ≡ (a ++ 32 ∷ (b ++ 32 ∷ (c ++ 32 ∷ (d ++ 32 ∷ e)))) ++ 10 ∷ []
+five a b c d e = simp append_assoc
+
+pub interface_printed : (old new state : List ℕ) (id area address peer : ℕ) (up : Bool) → state ≡ cond up (codes "up") (codes "down")
+    → new ≡ old ++ (codes "interface " ++ (decimal id ++ 32 ∷ (address_text area ++ 32 ∷ (address_text address ++ 32 ∷ (address_text peer ++ 32 ∷ (state ++ 10 ∷ []))))))
+    → new ≡ old ++ ended (InterfaceLine id area address peer up)
+interface_printed old new state id area address peer up is written =
+    written ∙ ap (λ (text : List ℕ). old ++ (codes "interface " ++ text)) (rw is (five (decimal id) (address_text area) (address_text address) (address_text peer) (cond up (codes "up") (codes "down"))))
+
+pub range_printed : (old new shown : List ℕ) (area : ℕ) (range : Range) → shown ≡ cond range.advertise (codes "advertise") (codes "hide")
+    → new ≡ old ++ (codes "range " ++ (address_text area ++ 32 ∷ (prefix_text range.prefix ++ 32 ∷ (shown ++ 10 ∷ []))))
+    → new ≡ old ++ ended (RangeLine area range)
+range_printed old new shown area range is written =
+    written ∙ ap (λ (text : List ℕ). old ++ (codes "range " ++ text)) (rw is (three (address_text area) (prefix_text range.prefix) (cond range.advertise (codes "advertise") (codes "hide"))))
+
+-- ---- lines, one after the other
+
+-- behind the old text stands that of these lines, each of which has a form
+pub record Appended (old new : List ℕ) (forms : List Form) : Type 0 where
+  pub text : new ≡ old ++ text_of_forms forms
+  pub legal : All IsForm forms
+
+pub appended_none : (old : List ℕ) → Appended old old []
+appended_none old = record { text = sym (append-nil old); legal = All-nil IsForm }
+
+pub appended_more : (old mid new : List ℕ) (forms more : List Form) → Appended old mid forms → new ≡ mid ++ text_of_forms more → All IsForm more → Appended old new (forms ++ more)
+appended_more old mid new forms more h written legal = record {
+  text = written ∙ rw h.text (append_assoc old (text_of_forms forms) (text_of_forms more)) ∙ ap (λ (text : List ℕ). old ++ text) (sym (flat_map-append ended forms more));
+  legal = All-append IsForm forms more h.legal legal;
+}
+
+-- the lines of one item more
+pub appended_item : {X : Type 0} (f : X → List Form) (old mid new : List ℕ) (xs : List X) (k : ℕ) (x : X) → k < length xs → x ≡ get_or xs k x → Appended old mid (flat_map f (take k xs))
+    → new ≡ mid ++ text_of_forms (f x) → All IsForm (f x) → Appended old new (flat_map f (take (k + 1) xs))
+appended_item f old mid new xs k x below is h written legal =
+    let one : take (k + 1) xs ≡ take k xs ++ x ∷ [] = take_more xs k x below ∙ ap (λ y. take k xs ++ y ∷ []) (sym is) in
+    let same : flat_map f (take (k + 1) xs) ≡ flat_map f (take k xs) ++ f x =
+    ap (flat_map f) one ∙ flat_map-append f (take k xs) (x ∷ []) ∙ ap (λ forms. flat_map f (take k xs) ++ forms) (append-nil (f x)) in
+    subst (Appended old new) (sym same) (appended_more old mid new (flat_map f (take k xs)) (f x) h written legal)
+
+-- the one line of one item more
+pub appended_line : {X : Type 0} (f : X → Form) (old mid new : List ℕ) (xs : List X) (k : ℕ) (x : X) → k < length xs → x ≡ get_or xs k x → Appended old mid (map f (take k xs))
+    → new ≡ mid ++ ended (f x) → IsForm (f x) → Appended old new (map f (take (k + 1) xs))
+appended_line {X = X} f old mid new xs k x below is h written legal =
+    let single : (ys : List X) → flat_map (λ y. f y ∷ []) ys ≡ map f ys = flat_map_single f in
+    let line : new ≡ mid ++ text_of_forms (f x ∷ []) = written ∙ ap (λ text. mid ++ text) (sym (append-nil (ended (f x)))) in
+    subst (Appended old new) (single (take (k + 1) xs))
+    (appended_item (λ y. f y ∷ []) old mid new xs k x below is (subst (Appended old mid) (sym (single (take k xs))) h) line (All-cons IsForm (f x) [] legal (All-nil IsForm)))
+
+pub area_appended : (old mid new : List ℕ) (a : AreaConfig) (items : List Range) (k : ℕ) → items ≡ a.ranges → length items ≤ k → mid ≡ old ++ ended (AreaLine a.id a.stub) → IsForm (AreaLine a.id a.stub)
+    → Appended mid new (map (λ (range : Range). RangeLine a.id range) (take k items)) → Appended old new (area_forms a)
+area_appended old mid new a items k is all written legal h =
+    let f : Range → Form = λ range. RangeLine a.id range in
+    let first : Appended old mid (AreaLine a.id a.stub ∷ []) = record {
+      text = written ∙ ap (λ text. old ++ text) (sym (append-nil (ended (AreaLine a.id a.stub))));
+      legal = All-cons IsForm (AreaLine a.id a.stub) [] legal (All-nil IsForm);
+    } in
+    let rest : Appended mid new (map f a.ranges) = subst (λ ranges. Appended mid new (map f ranges)) (take_all k items all ∙ is) h in
+    appended_more old mid new (AreaLine a.id a.stub ∷ []) (map f a.ranges) first rest.text rest.legal
+
+pub header_appended : (old mid new : List ℕ) (config : Config) (items : List AreaConfig) (k : ℕ) → items ≡ config.areas → length items ≤ k
+    → mid ≡ old ++ (ended VersionLine ++ ended (RouterLine config.router)) → IsForm (RouterLine config.router)
+    → Appended mid new (flat_map area_forms (take k items)) → Appended old new (header_forms config)
+header_appended old mid new config items k is all written legal h =
+    let lines = VersionLine ∷ RouterLine config.router ∷ [] in
+    let first : Appended old mid lines = record {
+      text = written ∙ ap (λ text. old ++ (ended VersionLine ++ text)) (sym (append-nil (ended (RouterLine config.router))));
+      legal = All-cons IsForm VersionLine (RouterLine config.router ∷ []) tt (All-cons IsForm (RouterLine config.router) [] legal (All-nil IsForm));
+    } in
+    let rest : Appended mid new (flat_map area_forms config.areas) = subst (λ areas. Appended mid new (flat_map area_forms areas)) (take_all k items all ∙ is) h in
+    appended_more old mid new lines (flat_map area_forms config.areas) first rest.text rest.legal
+
+-- ---- the lines behind the header
+
+-- behind the old text stands that of the lines before the k-th, and their LSAs are whole
+pub record LinesAppended (old new : List ℕ) (lines : List Line) (k : ℕ) : Type 0 where
+  pub appended : Appended old new (map form_of (take k lines))
+  pub lsas : All HasWholeLsa (take k lines)
+
+pub lines_item : (old mid new : List ℕ) (lines : List Line) (k : ℕ) (x : Line) → k < length lines → x ≡ get_or lines k x → All HasKind lines → LinesAppended old mid lines k
+    → new ≡ mid ++ ended (form_of x) → (HasKind x → IsForm (form_of x)) → HasWholeLsa x → LinesAppended old new lines (k + 1)
+lines_item old mid new lines k x below is kinds h written legal whole = record {
+  appended = appended_line form_of old mid new lines k x below is h.appended written (legal (subst HasKind (sym is) (kinds k x below)));
+  lsas = All-more HasWholeLsa lines k x below h.lsas (subst HasWholeLsa is whole);
+}
+
+pub lines_none : (old : List ℕ) (lines : List Line) → LinesAppended old old lines 0
+lines_none old lines = record { appended = appended_none old; lsas = All-nil HasWholeLsa }
+
+-- what was written into an empty text is what is appended
+pub piece_appended : (old new piece was line : List ℕ) → new ≡ old ++ piece → piece ≡ was ++ line → was ≡ [] → new ≡ old ++ line
+piece_appended old new piece was line added made empty = added ∙ ap (λ text. old ++ text) (made ∙ ap (λ text. text ++ line) empty)
+
+-- the header and all lines
+pub recording_appended : (old mid new : List ℕ) (r : RecordingValue) (config : Config) (items : List Line) (k : ℕ) → config ≡ r.config → items ≡ r.lines → length items ≤ k
+    → mid ≡ old ++ text_of_forms (header_forms config) → All IsForm (header_forms config) → LinesAppended mid new items k → Appended old new (forms_of r) × All HasWholeLsa r.lines
+recording_appended old mid new r config items k same is all written legal h =
+    let whole : take k items ≡ r.lines = take_all k items all ∙ is in
+    let header : Appended old mid (header_forms r.config) = subst (λ header. Appended old mid (header_forms header)) same (record { text = written; legal = legal }) in
+    let rest : Appended mid new (map form_of r.lines) = subst (λ lines. Appended mid new (map form_of lines)) whole h.appended in
+    (appended_more old mid new (header_forms r.config) (map form_of r.lines) header rest.text rest.legal, subst (All HasWholeLsa) whole h.lsas)

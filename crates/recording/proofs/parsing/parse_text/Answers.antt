@@ -1,0 +1,15 @@
+use Rattle.std.proofs.Common.{ℕ, List, inr, sym, subst, ◌∙◌}
+use Rattle.recording.specs.declared.fault.Fault.TheVariants as fault
+use Rattle.recording.specs.Faults.{IsFirstFault}
+use Rattle.recording.proofs.HeaderSteps.{header_config, lines_begin}
+use Rattle.recording.proofs.parsing.parse_text.Goals as goal
+
+pub returns-in-Some-clause-fault : goal.returns-in-Some-clause-fault
+returns-in-Some-clause-fault c =
+    let read = c.in_ok-config.ensures in
+    let same = read.text ∙ c.in_ok-router.ensures.text ∙ c.in_ok-lines.ensures.text in
+    inr (subst (λ (text : List ℕ). IsFirstFault text c.in_ok-config.lines.taken (fault.Config c.in-Some.fault)) same (header_config read.read read.end c.in-Some.fault (sym c.lasting_fault.ensures ∙ c.in-Some.is)))
+
+pub read_lines-requires : goal.read_lines-requires
+read_lines-requires c =
+    let read = c.in_ok-config.ensures in lines_begin read.read read.end (sym c.lasting_fault.ensures ∙ c.in_default.is)

@@ -1,0 +1,97 @@
+-- Why bytes are no recording: the first line that has a fault, and of its faults the first in their order.
+use Rattle.std.specs.Prelude.{ℕ, ◌≡◌, ◌≢◌, ◌<◌, ◌+◌, ◌==◌, ◌⊎◌, ◌++◌, List, [], ◌∷◌, length, Some, codes, true}
+use Rattle.std.specs.List.{slice_split}
+use Rattle.ospf_types.specs.declared.key.Scope.{Scope}
+use Rattle.lsa_codec.specs.Faults.{fault_of}
+use Rattle.event_core.specs.Lasting.{lasting_fault_of}
+use Rattle.event_core.specs.declared.fault.ConfigFault.{ConfigFault}
+use Rattle.recording.specs.declared.fault.Fault.{Fault}
+use Rattle.recording.specs.declared.fault.Fault.TheVariants as fault
+use Rattle.recording.specs.declared.fault.LineFault.{LineFault}
+use Rattle.recording.specs.Forms.{Form, RouterLine, InstallLine, Says}
+use Rattle.recording.specs.Places.{IsHeader, IsPlaced, areas_of, is_of_header}
+
+-- The parts that line feeds end, and last what stands behind the last line feed: a line without one, or nothing.
+abbrev pub parts_of : List ℕ → List (List ℕ)
+parts_of bytes = slice_split (λ b. b == 10) bytes
+
+-- The header ends here: the next line has its line feed and is none of the header, or there is no next line.
+abbrev pub EndsHeader : List (List ℕ) → Type 0
+EndsHeader [] = ⊥
+EndsHeader (left ∷ []) = left ≡ []
+EndsHeader (line ∷ next ∷ more) = (form : Form) → Says line form → is_of_header form ≢ true
+
+-- the lines are a whole header, whose configuration has this fault first
+pub record HasConfigFault (lines after : List (List ℕ)) (f : ConfigFault) : Type 0 where
+  pub forms : List Form
+  pub header : IsHeader lines forms
+  pub ends : EndsHeader after
+  pub router : ℕ
+  pub first : List ℕ
+  pub second : List ℕ
+  pub others : List (List ℕ)
+  pub begin : lines ≡ first ∷ second ∷ others
+  pub said : Says second (RouterLine router)
+  pub has : lasting_fault_of (record { router = router; areas = areas_of forms }) ≡ Some f
+
+-- the form of the line is not one that may stand behind these lines
+abbrev pub IsMisplaced : List (List ℕ) → List ℕ → Type 0
+IsMisplaced before line = (form : Form) × Says line form × (¬ IsPlaced before form)
+
+-- a line that has its line feed has this fault, behind these lines and before those parts
+abbrev pub IsFaultOfLine : List (List ℕ) → List ℕ → List (List ℕ) → Fault → Type 0
+IsFaultOfLine before line after fault.Truncated = ⊥
+IsFaultOfLine before line after fault.Version = (before ≡ []) × (line ≢ codes "abr 1")
+IsFaultOfLine before line after fault.Line = (form : Form) → ¬ Says line form
+IsFaultOfLine before line after fault.Order = IsMisplaced before line
+IsFaultOfLine before line after (fault.Wire f) = (at : Scope) × (bytes : List ℕ) × Says line (InstallLine at bytes) × (fault_of bytes ≡ Some f)
+IsFaultOfLine before line after (fault.Config f) = HasConfigFault (before ++ line ∷ []) after f
+IsFaultOfLine before line after fault.Memory = ⊥
+
+-- there is a line without a line feed behind these lines, or fewer than two lines
+abbrev pub IsFaultOfEnd : List (List ℕ) → List ℕ → Fault → Type 0
+IsFaultOfEnd before left fault.Truncated = (left ≢ []) ⊎ (length before < 2)
+IsFaultOfEnd before left fault.Version = ⊥
+IsFaultOfEnd before left fault.Line = ⊥
+IsFaultOfEnd before left fault.Order = ⊥
+IsFaultOfEnd before left (fault.Wire f) = ⊥
+IsFaultOfEnd before left (fault.Config f) = ⊥
+IsFaultOfEnd before left fault.Memory = ⊥
+
+-- the first of the parts that are left has this fault
+abbrev pub IsFaultAt : List (List ℕ) → List (List ℕ) → Fault → Type 0
+IsFaultAt before [] f = ⊥
+IsFaultAt before (left ∷ []) f = IsFaultOfEnd before left f
+IsFaultAt before (line ∷ next ∷ more) f = IsFaultOfLine before line (next ∷ more) f
+
+-- the line of this number, counted from 1, has this fault
+pub record HasFault (bytes : List ℕ) (number : ℕ) (f : Fault) : Type 0 where
+  pub before : List (List ℕ)
+  pub here : List (List ℕ)
+  pub parts : parts_of bytes ≡ before ++ here
+  pub counted : number ≡ length before + 1
+  pub has : IsFaultAt before here f
+
+-- the order of the faults of one line
+abbrev pub number_of : Fault → ℕ
+number_of fault.Truncated = 50
+number_of fault.Version = 51
+number_of fault.Line = 52
+number_of fault.Order = 53
+number_of (fault.Wire f) = 54
+number_of (fault.Config f) = 55
+number_of fault.Memory = 30
+
+-- no line before this one has a fault
+abbrev pub AreRightBefore : List ℕ → ℕ → Type 0
+AreRightBefore bytes number = (n : ℕ) (f : Fault) → n < number → ¬ HasFault bytes n f
+
+-- the line has this fault, and no fault comes before it
+pub record IsFirstFault (bytes : List ℕ) (number : ℕ) (f : Fault) : Type 0 where
+  pub has : HasFault bytes number f
+  pub lines : AreRightBefore bytes number
+  pub faults : (g : Fault) → number_of g < number_of f → ¬ HasFault bytes number g
+
+-- want of memory may come at any line that is read, and all others where they are first
+abbrev pub IsFaultOf : List ℕ → LineFault → Type 0
+IsFaultOf bytes l = ((l.fault ≡ fault.Memory) × AreRightBefore bytes l.line) ⊎ IsFirstFault bytes l.line l.fault

@@ -1,0 +1,115 @@
+-- The lines of a recording: their words, and the one space between each two.
+use Rattle.std.specs.Prelude.{ℕ, ◌≡◌, ◌<◌, ◌≤◌, ◌^◌, ◌++◌, Bool, cond, List, [], ◌∷◌, Option, Some, None, All, codes, decimal}
+use Rattle.std.specs.List.{join_with_byte}
+use Rattle.hex.specs.Hex.{encode_lower}
+use Rattle.ospf_types.specs.declared.config.Range.{Range}
+use Rattle.ospf_types.specs.declared.config.Stub.{Stub}
+use Rattle.ospf_types.specs.declared.key.Key.{Key}
+use Rattle.ospf_types.specs.declared.key.Scope.{Scope}
+use Rattle.ospf_types.specs.declared.key.Scope.TheVariants as scope
+use Rattle.ospf_types.specs.declared.prefix.Prefix.{Prefix}
+use Rattle.ospf_types.specs.Masks.{masked}
+use Rattle.ospf_types.specs.Text.{address_text, prefix_text}
+
+-- what a line says
+pub data Form : Type 0 where
+  VersionLine : Form
+  RouterLine : (router : ℕ) → Form
+  AreaLine : (id : ℕ) (stub : Option Stub) → Form
+  RangeLine : (area : ℕ) (range : Range) → Form
+  InterfaceLine : (id area address peer : ℕ) (up : Bool) → Form
+  InstallLine : (at : Scope) (bytes : List ℕ) → Form
+  FlushLine : (at : Scope) (key : Key) → Form
+  PurgeLine : (at : Scope) (key : Key) → Form
+  SecondLine : Form
+  LookupLine : (address : ℕ) → Form
+
+-- ---- words
+
+-- the Area ID, or `as` for the database of AS-external-LSAs
+abbrev pub scope_text : Scope → List ℕ
+scope_text (scope.Area id) = address_text id
+scope_text scope.As = codes "as"
+
+-- whether an area is a stub area, with its default cost, and which summaries it is sent
+abbrev pub stub_words : Option Stub → List (List ℕ)
+stub_words None = codes "normal" ∷ []
+stub_words (Some stub) = codes "stub" ∷ decimal stub.cost ∷ cond stub.summaries (codes "all") (codes "default") ∷ []
+
+-- LS type, Link State ID and Advertising Router
+abbrev pub key_words : Key → List (List ℕ)
+key_words key = decimal key.kind ∷ address_text key.id ∷ address_text key.router ∷ []
+
+abbrev pub words_of : Form → List (List ℕ)
+words_of VersionLine = codes "abr" ∷ codes "1" ∷ []
+words_of (RouterLine router) = codes "router" ∷ address_text router ∷ []
+words_of (AreaLine id stub) = codes "area" ∷ address_text id ∷ stub_words stub
+words_of (RangeLine area range) =
+    codes "range" ∷ address_text area ∷ prefix_text range.prefix ∷ cond range.advertise (codes "advertise") (codes "hide") ∷ []
+words_of (InterfaceLine id area address peer up) =
+    codes "interface" ∷ decimal id ∷ address_text area ∷ address_text address ∷ address_text peer ∷ cond up (codes "up") (codes "down") ∷ []
+words_of (InstallLine at bytes) = codes "install" ∷ scope_text at ∷ encode_lower bytes ∷ []
+words_of (FlushLine at key) = codes "flush" ∷ scope_text at ∷ key_words key
+words_of (PurgeLine at key) = codes "purge" ∷ scope_text at ∷ key_words key
+words_of SecondLine = codes "second" ∷ []
+words_of (LookupLine address) = codes "lookup" ∷ address_text address ∷ []
+
+-- without its line feed
+abbrev pub line_text : Form → List ℕ
+line_text form = join_with_byte 32 (words_of form)
+
+-- ---- the numbers that have a spelling
+
+-- an address, a Router ID or an Area ID
+abbrev pub IsAddress : ℕ → Type 0
+IsAddress address = address < 2 ^ 32
+
+abbrev pub IsScope : Scope → Type 0
+IsScope (scope.Area id) = IsAddress id
+IsScope scope.As = Unit {0}
+
+-- an LS type of version 2 (RFC 2328, A.4.1)
+abbrev pub IsKind : ℕ → Type 0
+IsKind kind = (1 ≤ kind) × (kind ≤ 5)
+
+pub record IsKey (key : Key) : Type 0 where
+  pub kind : IsKind key.kind
+  pub id : IsAddress key.id
+  pub router : IsAddress key.router
+
+-- the bits past the length are zero
+pub record IsPrefix (prefix : Prefix) : Type 0 where
+  pub address : IsAddress prefix.address
+  pub length : prefix.length ≤ 32
+  pub masked : masked prefix.address prefix.length ≡ prefix.address
+
+abbrev pub IsStub : Option Stub → Type 0
+IsStub None = Unit {0}
+IsStub (Some stub) = stub.cost < 2 ^ 32
+
+abbrev pub IsInterface : (id area address peer : ℕ) → Type 0
+IsInterface id area address peer = (id < 2 ^ 8) × IsAddress area × IsAddress address × IsAddress peer
+
+abbrev pub IsForm : Form → Type 0
+IsForm VersionLine = Unit {0}
+IsForm (RouterLine router) = IsAddress router
+IsForm (AreaLine id stub) = IsAddress id × IsStub stub
+IsForm (RangeLine area range) = IsAddress area × IsPrefix range.prefix
+IsForm (InterfaceLine id area address peer up) = IsInterface id area address peer
+IsForm (InstallLine at bytes) = IsScope at × All (λ b. b < 2 ^ 8) bytes
+IsForm (FlushLine at key) = IsScope at × IsKey key
+IsForm (PurgeLine at key) = IsScope at × IsKey key
+IsForm SecondLine = Unit {0}
+IsForm (LookupLine address) = IsAddress address
+
+-- the line says this
+pub record Says (line : List ℕ) (form : Form) : Type 0 where
+  pub spelled : line ≡ line_text form
+  pub legal : IsForm form
+
+-- each of the lines says its form
+abbrev pub AllSay : List (List ℕ) → List Form → Type 0
+AllSay [] [] = Unit {0}
+AllSay (line ∷ lines) (form ∷ forms) = Says line form × AllSay lines forms
+AllSay [] (form ∷ forms) = ⊥
+AllSay (line ∷ lines) [] = ⊥

@@ -1,0 +1,85 @@
+//! A line behind the header.
+ghost use Rattle.std.specs.Prelude.{◌≡◌, ◌++◌, [], ◌∷◌, OnOk, IfOk, IfErr};
+ghost use Rattle.hex.specs.Hex.{decode_of};
+ghost use Rattle.lsa_codec.specs.Spelling.{spelling};
+ghost use Rattle.recording.specs.Progress.{IsLineOf, IsFaultBehind, IsFaultOfBytes};
+ghost use Rattle.recording.specs.Reading.{bytes_of};
+ghost use Rattle.recording.specs.Recordings.{IsWhole};
+ghost use Rattle.recording.specs.declared.line.Line.{Line};
+
+use crate::fault::Fault;
+use crate::form::{LineForm, read_form};
+use crate::line::Line;
+use event_core::Event;
+use hex::FromHexError;
+use lsa_codec::{Checked, WireFault};
+use std::alloc::Global;
+
+/// Adds what the line says.
+pub(crate) fn add_line(alloc: Global, line: &[u8], lines: &mut Vec<Line>) -> Result<(), Fault>
+    ensures added { OnOk result ((l : Line) × IsLineOf line.now l × (lines.new.items ≡ lines.old.items ++ l ∷ [])) }
+    ensures fault { IfErr result (IsFaultBehind line.now) }
+{
+    match read_line(alloc, line) {
+        Ok(read) => match lines.push(read) {
+            Ok(()) => Ok(()),
+            Err(_) => Err(Fault::Memory),
+        },
+        Err(fault) => Err(fault),
+    }
+}
+
+fn read_line(alloc: Global, line: &[u8]) -> Result<Line, Fault>
+    ensures read { IfOk result (IsLineOf line.now) }
+    ensures fault { IfErr result (IsFaultBehind line.now) }
+{
+    let Some(form) = read_form(line) else {
+        return Err(Fault::Line);
+    };
+    match form {
+        LineForm::Version => Err(Fault::Order),
+        LineForm::Router(_) => Err(Fault::Order),
+        LineForm::Area { .. } => Err(Fault::Order),
+        LineForm::Range { .. } => Err(Fault::Order),
+        LineForm::Interface {
+            id,
+            area,
+            address,
+            peer,
+            up,
+        } => Ok(Line::Event(Event::Interface {
+            id,
+            area,
+            address,
+            peer,
+            up,
+        })),
+        LineForm::Install { scope, digits } => match read_lsa(alloc, digits) {
+            Ok(lsa) => Ok(Line::Event(Event::Install { scope, lsa })),
+            Err(fault) => Err(fault),
+        },
+        LineForm::Flush { scope, key } => Ok(Line::Event(Event::Flush { scope, key })),
+        LineForm::Purge { scope, key } => Ok(Line::Event(Event::Purge { scope, key })),
+        LineForm::Second => Ok(Line::Event(Event::Second)),
+        LineForm::Lookup(address) => Ok(Line::Lookup(address)),
+    }
+}
+
+// The LSA whose bytes the digits write.
+fn read_lsa(alloc: Global, digits: &[u8]) -> Result<Checked, Fault>
+    requires { decode_of digits.now ≡ Ok (bytes_of digits.now) }
+    ensures spelled { IfOk result (λ lsa. spelling lsa ≡ bytes_of digits.now) }
+    ensures whole { IfOk result IsWhole }
+    ensures fault { IfErr result (IsFaultOfBytes (bytes_of digits.now)) }
+{
+    let bytes = match hex::decode(alloc, digits) {
+        Ok(bytes) => bytes,
+        Err(FromHexError::OutOfMemory) => return Err(Fault::Memory),
+        Err(_) => unreachable!(),
+    };
+    match lsa_codec::read(alloc, bytes.as_slice()) {
+        Ok(lsa) => Ok(lsa),
+        Err(WireFault::Memory) => Err(Fault::Memory),
+        Err(fault) => Err(Fault::Wire(fault)),
+    }
+}

@@ -1,0 +1,66 @@
+ghost use Rattle.std.specs.Prelude.{Some};
+ghost use Rattle.recording.specs.Texts.{fault_text, line_fault_text};
+
+use event_core::ConfigFault;
+use lsa_codec::WireFault;
+use ospf_types::memory::Memory;
+use std::error::Error;
+use std::fmt;
+
+/// What is wrong with a line: the first of these, in this order, that holds.
+#[derive(Clone, Copy, Debug, PartialEq, Eq)]
+pub enum Fault {
+    /// The line has no line feed, or it is the first or the second and is missing.
+    Truncated,
+    /// The first line is not `abr 1`.
+    Version,
+    /// The line has none of the forms.
+    Line,
+    /// The line may not stand there.
+    Order,
+    /// The bytes to install are no LSA.
+    Wire(WireFault),
+    /// The header, of which the line is the last, says a configuration with a fault.
+    Config(ConfigFault),
+    /// A growth was refused.
+    Memory,
+}
+
+/// The number and the name, and behind them those of the fault that it has.
+impl fmt::Display for Fault {
+    ghost output = { λ fault. Some (fault_text fault) };
+
+    fn fmt<W: fmt::Write>(&self, f: &mut fmt::Formatter<W>) -> fmt::Result {
+        match self {
+            Fault::Truncated => f.write_str("50 Truncated"),
+            Fault::Version => f.write_str("51 Version"),
+            Fault::Line => f.write_str("52 Line"),
+            Fault::Order => f.write_str("53 Order"),
+            Fault::Wire(fault) => write!(f, "54 Wire {fault}"),
+            Fault::Config(fault) => write!(f, "55 Config {fault}"),
+            Fault::Memory => Memory.fmt(f),
+        }
+    }
+}
+
+impl Error for Fault {}
+
+/// Why bytes are no recording.
+#[derive(Clone, Copy, Debug, PartialEq, Eq)]
+pub struct LineFault {
+    /// The line, counted from 1.
+    pub line: usize,
+    pub fault: Fault,
+}
+
+/// As `line 5: 54 Wire 2 Checksum`.
+impl fmt::Display for LineFault {
+    ghost output = { λ fault. Some (line_fault_text fault) };
+
+    fn fmt<W: fmt::Write>(&self, f: &mut fmt::Formatter<W>) -> fmt::Result {
+        let (line, fault) = (self.line, self.fault);
+        write!(f, "line {line}: {fault}")
+    }
+}
+
+impl Error for LineFault {}

@@ -1,0 +1,161 @@
+//! The configuration that the lines of a header say, one after the other.
+ghost use Rattle.std.specs.Prelude.{◌≡◌, ◌++◌, ◌∷◌, ◌⊎◌, true, false, [], Some, OnOk, IfOk, IfErr};
+ghost use Rattle.recording.specs.Forms.{AreaLine, RangeLine};
+ghost use Rattle.recording.specs.Places.{is_of_header, is_next, with_form, last_of, is_past_area, is_past_range, is_next_range};
+ghost use Rattle.recording.specs.Progress.{IsRefusal};
+ghost use Rattle.recording.specs.Reading.{said_by};
+
+use crate::fault::Fault;
+use crate::form::LineForm;
+use ospf_types::config::{AreaConfig, Areas, Config, Range, Ranges, Stub};
+use ospf_types::listed::Listed;
+use ospf_types::memory::Memory;
+use std::alloc::Global;
+use std::cmp::Ordering;
+use std::marker::Model;
+
+/// A configuration in work.
+#[derive(Drop)]
+pub(crate) struct Header {
+    router: u32,
+    // those to which no range can be added any more
+    areas: Areas,
+    last: Option<AreaConfig>,
+}
+
+impl Model for Header {
+    ghost use Rattle.std.specs.Prelude.{◌≡◌, ◌++◌, None, []};
+    ghost use Rattle.std.specs.Option.{option_to_list};
+    ghost use Rattle.ospf_types.specs.declared.config.Config.{Config};
+
+    ghost Value = { Config };
+
+    ghost view = { λ h. record { router = h.router; areas = h.areas ++ option_to_list h.last } };
+
+    ghost invariant = { λ h. h.last ≡ None → h.areas ≡ [] };
+}
+
+impl Header {
+    pub(crate) fn new(alloc: Global, router: u32) -> Header
+        ensures { result ≡ record { router = router; areas = [] } }
+    {
+        Header {
+            router,
+            areas: Areas::new(alloc),
+            last: None,
+        }
+    }
+
+    /// Adds what a line says; `false` where it is no line of a header.
+    pub(crate) fn add(&mut self, alloc: Global, form: &LineForm<'_>) -> Result<bool, Fault>
+        ensures header { IfOk result (λ added. added ≡ is_of_header (said_by form.now)) }
+        ensures next { IfOk result (λ added. added ≡ true → is_next self.old.areas (said_by form.now) ≡ true) }
+        ensures new { OnOk result (self.new ≡ record self.old { areas = with_form self.old.areas (said_by form.now) }) }
+        ensures fault { IfErr result (IsRefusal self.old.areas (said_by form.now)) }
+        ensures refused { IfErr result (λ _. is_of_header (said_by form.now) ≡ true) }
+    {
+        match form {
+            LineForm::Area { id, stub } => self.add_area(alloc, *id, *stub),
+            LineForm::Range { area, range } => self.add_range(*area, *range),
+            _ => Ok(false),
+        }
+    }
+
+    fn add_area(&mut self, alloc: Global, id: u32, stub: Option<Stub>) -> Result<bool, Fault>
+        ensures header { IfOk result (λ added. added ≡ true) }
+        ensures next { OnOk result (is_next self.old.areas (AreaLine id stub) ≡ true) }
+        ensures new { OnOk result (self.new ≡ record self.old { areas = with_form self.old.areas (AreaLine id stub) }) }
+        ensures fault { IfErr result (IsRefusal self.old.areas (AreaLine id stub)) }
+    {
+        if !is_past_area(&self.last, id) {
+            return Err(Fault::Order);
+        }
+        let area = AreaConfig {
+            id,
+            stub,
+            ranges: Ranges::new(alloc),
+        };
+        if let Some(last) = self.last.replace(area) {
+            add_to(&mut self.areas, last)?;
+        }
+        Ok(true)
+    }
+
+    fn add_range(&mut self, area: u32, range: Range) -> Result<bool, Fault>
+        ensures header { IfOk result (λ added. added ≡ true) }
+        ensures next { OnOk result (is_next self.old.areas (RangeLine area range) ≡ true) }
+        ensures new { OnOk result (self.new ≡ record self.old { areas = with_form self.old.areas (RangeLine area range) }) }
+        ensures fault { IfErr result (IsRefusal self.old.areas (RangeLine area range)) }
+    {
+        match &mut self.last {
+            None => Err(Fault::Order),
+            Some(last) => add_range_to(last, area, &range),
+        }
+    }
+
+    /// The whole configuration.
+    pub(crate) fn into_config(self) -> Result<Config, Memory>
+        ensures { IfOk result (λ config. config ≡ self) }
+    {
+        let Header {
+            router,
+            areas,
+            last,
+        } = self;
+        let mut areas = areas;
+        if let Some(last) = last {
+            areas.push(last)?;
+        }
+        Ok(Config { router, areas })
+    }
+}
+
+fn add_to<T: Drop>(items: &mut Listed<T>, item: T) -> Result<(), Fault>
+    ensures added { OnOk result (items.new ≡ items.old ++ item ∷ []) }
+    ensures fault { IfErr result (λ f. f ≡ Fault.Memory) }
+{
+    match items.push(item) {
+        Ok(()) => Ok(()),
+        Err(Memory) => Err(Fault::Memory),
+    }
+}
+
+// A range behind the others of the last area.
+fn add_range_to(last: &mut AreaConfig, area: u32, range: &Range) -> Result<bool, Fault>
+    ensures header { IfOk result (λ added. added ≡ true) }
+    ensures next { OnOk result (is_next_range (Some last.old) area range.now ≡ true) }
+    ensures new { OnOk result (last.new ≡ record last.old { ranges = last.old.ranges ++ range.now ∷ [] }) }
+    ensures fault { IfErr result (λ f. (f ≡ Fault.Memory) ⊎ ((f ≡ Fault.Order) × (is_next_range (Some last.old) area range.now ≡ false))) }
+{
+    if !is_next_range(last, area, *range) {
+        return Err(Fault::Order);
+    }
+    add_to(&mut last.ranges, *range)?;
+    Ok(true)
+}
+
+// Whether an Area ID is greater than that of the last area.
+fn is_past_area(last: &Option<AreaConfig>, id: u32) -> bool
+    ensures { result ≡ is_past_area last.now id }
+{
+    match last {
+        None => true,
+        Some(last) => last.id < id,
+    }
+}
+
+// Whether a range is one more of the last area.
+fn is_next_range(last: &AreaConfig, area: u32, range: Range) -> bool
+    ensures { result ≡ is_next_range (Some last.now) area range }
+{
+    last.id == area && is_past_range(last.ranges.as_slice(), range)
+}
+
+fn is_past_range(ranges: &[Range], range: Range) -> bool
+    ensures { result ≡ is_past_range (last_of ranges.now) range }
+{
+    match ranges.last() {
+        None => true,
+        Some(last) => last.prefix.compare(range.prefix) == Ordering::Less,
+    }
+}

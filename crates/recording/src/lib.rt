@@ -1,0 +1,22 @@
+//! Recordings: the configuration of an area border router and what happened then, as lines of text.
+//! Each recording has one spelling.
+#![tactic(auto)]
+
+mod body;
+mod fault;
+mod form;
+mod header;
+mod line;
+mod parsing;
+mod printing;
+mod reader;
+mod recording;
+#[cfg(test)]
+mod tests;
+mod words;
+
+pub use fault::{Fault, LineFault};
+pub use line::Line;
+pub use parsing::parse;
+pub use printing::{append_event, append_header, print};
+pub use recording::Recording;

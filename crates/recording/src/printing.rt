@@ -1,0 +1,249 @@
+//! The text of a recording.
+ghost use Rattle.std.specs.Prelude.{◌≡◌, ◌++◌, All, OnOk, OnErr, Some, cond, codes, string_bytes, take, vec_len};
+ghost use Rattle.std.specs.List.{join_with_byte};
+ghost use Rattle.lsa_codec.specs.Spelling.{spelling};
+ghost use Rattle.recording.specs.Forms.{VersionLine, RouterLine, AreaLine, RangeLine, InterfaceLine, InstallLine, FlushLine, PurgeLine, LookupLine, IsForm, IsKind, scope_text, stub_words, key_words};
+ghost use Rattle.recording.specs.Recordings.{IsText, IsWhole, HasKind, HasWholeLsa, text_of, text_of_forms, header_forms, area_forms, event_form, form_of, ended};
+ghost use Rattle.recording.specs.declared.line.Line.TheVariants as line;
+
+use crate::line::Line;
+use crate::recording::Recording;
+use event_core::Event;
+use lsa_codec::Checked;
+use ospf_types::address::Address;
+use ospf_types::config::{AreaConfig, Config, Range, Stub};
+use ospf_types::key::{Key, Scope};
+use ospf_types::memory::Memory;
+use std::alloc::Global;
+use std::fmt;
+
+/// Appends the one text of the recording.
+pub fn print(alloc: Global, recording: &Recording, out: &mut Vec<u8>) -> Result<(), Memory>
+    ensures ok { OnOk result (out.new.items ≡ out.old.items ++ text_of recording.now) }
+    ensures err { OnErr result (out.new.items ≡ out.old.items) }
+    // What is appended is the text of the recording, so that it is read as it.
+    ensures text { OnOk result (IsText (text_of recording.now) recording.now) }
+{
+    let start = out.len();
+    let appended = append_lines(alloc, recording, out);
+    if appended.is_err() {
+        out.truncate(start);
+    }
+    appended
+}
+
+// Appends all lines; those before the one for which memory was refused stay.
+fn append_lines(alloc: Global, recording: &Recording, out: &mut Vec<u8>) -> Result<(), Memory>
+    ensures ok { OnOk result (out.new.items ≡ out.old.items ++ text_of recording.now) }
+    ensures kept { take (vec_len out.old) out.new.items ≡ out.old.items }
+    ensures text { OnOk result (IsText (text_of recording.now) recording.now) }
+{
+    let mut text = String::new(alloc);
+    append_header(recording.config(), &mut text)?;
+    out.extend_from_slice(text.as_bytes())?;
+    for line in recording.lines() {
+        text.clear();
+        append_line(alloc, line, &mut text)?;
+        out.extend_from_slice(text.as_bytes())?;
+    }
+    Ok(())
+}
+
+/// Appends the header: the version, the router, and its areas and ranges.
+pub fn append_header(config: &Config, out: &mut String) -> Result<(), Memory>
+    ensures text { OnOk result (string_bytes out.new ≡ string_bytes out.old ++ text_of_forms (header_forms config.now)) }
+    ensures forms { OnOk result (All IsForm (header_forms config.now)) }
+{
+    append_router(config.router, out)?;
+    for area in config.areas.as_slice() {
+        append_area(area, out)?;
+    }
+    Ok(())
+}
+
+// The first line, and that of the router.
+fn append_router(router: u32, out: &mut String) -> Result<(), Memory>
+    ensures text { OnOk result (string_bytes out.new ≡ string_bytes out.old ++ (ended VersionLine ++ ended (RouterLine router))) }
+    ensures form { OnOk result (IsForm (RouterLine router)) }
+{
+    write!(out, "abr 1\nrouter {}\n", Address(router))?;
+    Ok(())
+}
+
+// The line of an area, and those of its ranges.
+fn append_area(area: &AreaConfig, out: &mut String) -> Result<(), Memory>
+    ensures text { OnOk result (string_bytes out.new ≡ string_bytes out.old ++ text_of_forms (area_forms area.now)) }
+    ensures forms { OnOk result (All IsForm (area_forms area.now)) }
+{
+    append_area_line(area.id, area.stub, out)?;
+    for range in area.ranges.as_slice() {
+        append_range(area.id, *range, out)?;
+    }
+    Ok(())
+}
+
+fn append_area_line(id: u32, stub: Option<Stub>, out: &mut String) -> Result<(), Memory>
+    ensures text { OnOk result (string_bytes out.new ≡ string_bytes out.old ++ ended (AreaLine id stub)) }
+    ensures form { OnOk result (IsForm (AreaLine id stub)) }
+{
+    write!(out, "area {} {}\n", Address(id), StubField(stub))?;
+    Ok(())
+}
+
+fn append_range(area: u32, range: Range, out: &mut String) -> Result<(), Memory>
+    ensures text { OnOk result (string_bytes out.new ≡ string_bytes out.old ++ ended (RangeLine area range)) }
+    ensures form { OnOk result (IsForm (RangeLine area range)) }
+{
+    let (prefix, shown) = (range.prefix, advertise_word(range.advertise));
+    write!(out, "range {} {prefix} {shown}\n", Address(area))?;
+    Ok(())
+}
+
+fn advertise_word(advertise: bool) -> &'static str
+    ensures { result.now ≡ cond advertise (codes "advertise") (codes "hide") }
+{
+    if advertise { "advertise" } else { "hide" }
+}
+
+/// Appends the line of an event.
+pub fn append_event(alloc: Global, event: &Event, out: &mut String) -> Result<(), Memory>
+    ensures text { OnOk result (string_bytes out.new ≡ string_bytes out.old ++ ended (event_form event.now)) }
+    ensures form { OnOk result (HasKind (line.Event event.now) → IsForm (event_form event.now)) }
+    ensures lsa { OnOk result (HasWholeLsa (line.Event event.now)) }
+{
+    match event {
+        Event::Install { scope, lsa } => append_install(alloc, *scope, lsa, out),
+        Event::Flush { scope, key } => append_flush(*scope, *key, out),
+        Event::Purge { scope, key } => append_purge(*scope, *key, out),
+        Event::Interface {
+            id,
+            area,
+            address,
+            peer,
+            up,
+        } => append_interface(*id, *area, *address, *peer, *up, out),
+        Event::Second => Ok(out.push_str("second\n")?),
+    }
+}
+
+// The line of what happened, or of a look-up.
+pub(crate) fn append_line(alloc: Global, line: &Line, out: &mut String) -> Result<(), Memory>
+    ensures text { OnOk result (string_bytes out.new ≡ string_bytes out.old ++ ended (form_of line.now)) }
+    ensures form { OnOk result (HasKind line.now → IsForm (form_of line.now)) }
+    ensures lsa { OnOk result (HasWholeLsa line.now) }
+{
+    match line {
+        Line::Event(event) => append_event(alloc, event, out),
+        Line::Lookup(address) => append_lookup(*address, out),
+    }
+}
+
+fn append_install(
+    alloc: Global,
+    scope: Scope,
+    lsa: &Checked,
+    out: &mut String,
+) -> Result<(), Memory>
+    ensures text { OnOk result (string_bytes out.new ≡ string_bytes out.old ++ ended (InstallLine scope (spelling lsa.now))) }
+    ensures form { OnOk result (IsForm (InstallLine scope (spelling lsa.now))) }
+    ensures lsa { OnOk result (IsWhole lsa.now) }
+{
+    let mut bytes = Vec::new(alloc);
+    lsa_codec::write(lsa, &mut bytes)?;
+    let digits = hex::encode(alloc, bytes.as_slice())?;
+    write!(out, "install {} {digits}\n", ScopeField(scope))?;
+    Ok(())
+}
+
+fn append_flush(scope: Scope, key: Key, out: &mut String) -> Result<(), Memory>
+    ensures text { OnOk result (string_bytes out.new ≡ string_bytes out.old ++ ended (FlushLine scope key)) }
+    ensures form { OnOk result (IsKind key.kind → IsForm (FlushLine scope key)) }
+{
+    write!(out, "flush {} {}\n", ScopeField(scope), KeyField(key))?;
+    Ok(())
+}
+
+fn append_purge(scope: Scope, key: Key, out: &mut String) -> Result<(), Memory>
+    ensures text { OnOk result (string_bytes out.new ≡ string_bytes out.old ++ ended (PurgeLine scope key)) }
+    ensures form { OnOk result (IsKind key.kind → IsForm (PurgeLine scope key)) }
+{
+    write!(out, "purge {} {}\n", ScopeField(scope), KeyField(key))?;
+    Ok(())
+}
+
+fn append_interface(
+    id: u8,
+    area: u32,
+    address: u32,
+    peer: u32,
+    up: bool,
+    out: &mut String,
+) -> Result<(), Memory>
+    ensures text { OnOk result (string_bytes out.new ≡ string_bytes out.old ++ ended (InterfaceLine id area address peer up)) }
+    ensures form { OnOk result (IsForm (InterfaceLine id area address peer up)) }
+{
+    let (area, address, peer) = (Address(area), Address(address), Address(peer));
+    let state = state_word(up);
+    write!(out, "interface {id} {area} {address} {peer} {state}\n")?;
+    Ok(())
+}
+
+fn state_word(up: bool) -> &'static str
+    ensures { result.now ≡ cond up (codes "up") (codes "down") }
+{
+    if up { "up" } else { "down" }
+}
+
+fn append_lookup(address: u32, out: &mut String) -> Result<(), Memory>
+    ensures text { OnOk result (string_bytes out.new ≡ string_bytes out.old ++ ended (LookupLine address)) }
+    ensures form { OnOk result (IsForm (LookupLine address)) }
+{
+    write!(out, "lookup {}\n", Address(address))?;
+    Ok(())
+}
+
+// Whether an area is a stub area, and what it is sent then.
+#[derive(Clone, Copy)]
+struct StubField(Option<Stub>);
+
+impl fmt::Display for StubField {
+    ghost output = { λ stub. Some (join_with_byte 32 (stub_words stub.0)) };
+
+    fn fmt<W: fmt::Write>(&self, f: &mut fmt::Formatter<W>) -> fmt::Result {
+        match self.0 {
+            None => f.write_str("normal"),
+            Some(stub) => {
+                let (cost, sent) = (stub.cost, if stub.summaries { "all" } else { "default" });
+                write!(f, "stub {cost} {sent}")
+            }
+        }
+    }
+}
+
+// The Area ID of a database, or `as`.
+#[derive(Clone, Copy)]
+struct ScopeField(Scope);
+
+impl fmt::Display for ScopeField {
+    ghost output = { λ scope. Some (scope_text scope.0) };
+
+    fn fmt<W: fmt::Write>(&self, f: &mut fmt::Formatter<W>) -> fmt::Result {
+        match self.0 {
+            Scope::Area(id) => Address(id).fmt(f),
+            Scope::As => f.write_str("as"),
+        }
+    }
+}
+
+// LS type, Link State ID and Advertising Router.
+#[derive(Clone, Copy)]
+struct KeyField(Key);
+
+impl fmt::Display for KeyField {
+    ghost output = { λ key. Some (join_with_byte 32 (key_words key.0)) };
+
+    fn fmt<W: fmt::Write>(&self, f: &mut fmt::Formatter<W>) -> fmt::Result {
+        let (kind, id, router) = (self.0.kind, Address(self.0.id), Address(self.0.router));
+        write!(f, "{kind} {id} {router}")
+    }
+}

@@ -1,0 +1,226 @@
+//! The words of a line, and what they spell.
+ghost use Rattle.std.specs.Prelude.{◌≡◌, ◌≢◌, ◌≤◌, ◌↔◌, ◌∷◌, [], MatchOption, IsTrue, All, length, cond, decimal};
+ghost use Rattle.std.specs.Str.Parse.{AllDigits, digits_value};
+ghost use Rattle.ospf_types.specs.Text.{address_text, prefix_text};
+ghost use Rattle.recording.specs.Forms.{IsAddress, IsKey, IsPrefix, IsScope, IsStub, key_words, scope_text, stub_words};
+ghost use Rattle.recording.specs.Reading.{cut, IsRead, Takes, TakesWord, AreDigits, IsLowerDigit, IsUnpadded};
+
+use memchr::memchr;
+use ospf_types::config::Stub;
+use ospf_types::key::{Key, Scope};
+use ospf_types::prefix::Prefix;
+use std::marker::Model;
+use std::net::Ipv4Addr;
+
+/// The words of a line that are left. There is one space between each two, so that two spaces have an
+/// empty word between them.
+#[derive(Drop)]
+pub(crate) struct Words<'a> {
+    left: Option<&'a [u8]>,
+}
+
+impl<'a> Model for Words<'a> {
+    ghost use Rattle.std.specs.Prelude.{ℕ, List};
+    ghost use Rattle.recording.specs.Reading.{words_left};
+
+    ghost Value = { List (List ℕ) };
+
+    ghost view = { λ words. words_left words.left };
+}
+
+impl<'a> Words<'a> {
+    pub fn of(line: &'a [u8]) -> Words<'a>
+        ensures { result ≡ cut line.now }
+    {
+        Words { left: Some(line) }
+    }
+
+    pub fn next(&mut self) -> Option<&'a [u8]>
+        ensures { MatchOption result ((self.old ≡ []) × (self.new ≡ [])) (λ word. self.old ≡ word.now ∷ self.new) }
+    {
+        let left = self.left?;
+        match memchr(b' ', left) {
+            Some(end) => {
+                self.left = Some(&left[end + 1..]);
+                Some(&left[..end])
+            }
+            None => {
+                self.left = None;
+                Some(left)
+            }
+        }
+    }
+
+    /// That no word is left.
+    pub fn end(&self) -> Option<()>
+        ensures { MatchOption result (self.now ≢ []) (λ _. self.now ≡ []) }
+    {
+        if self.left.is_some() { None } else { Some(()) }
+    }
+
+    /// A decimal number without leading zeros, at most `most`.
+    pub fn number(&mut self, most: u32) -> Option<u32>
+        ensures { TakesWord decimal (λ n. n ≤ most) self.old self.new result }
+    {
+        read_number(self.next()?, most)
+    }
+
+    /// An address, a Router ID or an Area ID.
+    pub fn address(&mut self) -> Option<u32>
+        ensures { TakesWord address_text IsAddress self.old self.new result }
+    {
+        read_address(self.next()?)
+    }
+
+    /// An Area ID, or `as`.
+    pub fn scope(&mut self) -> Option<Scope>
+        ensures { TakesWord scope_text IsScope self.old self.new result }
+    {
+        read_scope(self.next()?)
+    }
+
+    /// A network, whose bits past the length are zero.
+    pub fn prefix(&mut self) -> Option<Prefix>
+        ensures { TakesWord prefix_text IsPrefix self.old self.new result }
+    {
+        read_prefix(self.next()?)
+    }
+
+    /// Whether it is `first`, and not `second`.
+    pub fn choice(&mut self, first: &[u8], second: &[u8]) -> Option<bool>
+        ensures { TakesWord (λ b. cond b first.now second.now) (λ _. Unit {0}) self.old self.new result }
+    {
+        read_choice(self.next()?, first, second)
+    }
+
+    /// LS type, Link State ID and Advertising Router (RFC 2328, 12.1).
+    pub fn key(&mut self) -> Option<Key>
+        ensures { Takes key_words IsKey self.old self.new result }
+    {
+        let kind = self.number(5)?;
+        if kind == 0 {
+            return None;
+        }
+        let id = self.address()?;
+        let router = self.address()?;
+        Some(Key {
+            kind: kind as u8,
+            id,
+            router,
+        })
+    }
+
+    /// Whether an area is a stub area, and what it is sent then.
+    pub fn stub(&mut self) -> Option<Option<Stub>>
+        ensures { Takes stub_words IsStub self.old self.new result }
+    {
+        if self.choice(b"normal", b"stub")? {
+            return Some(None);
+        }
+        let cost = self.number(u32::MAX)?;
+        let summaries = self.choice(b"all", b"default")?;
+        Some(Some(Stub { cost, summaries }))
+    }
+}
+
+fn read_address(word: &[u8]) -> Option<u32>
+    ensures { IsRead address_text IsAddress word.now result }
+{
+    let address = Ipv4Addr::parse_ascii(word).ok()?;
+    Some(address.to_bits())
+}
+
+fn read_scope(word: &[u8]) -> Option<Scope>
+    ensures { IsRead scope_text IsScope word.now result }
+{
+    if is(word, b"as") {
+        return Some(Scope::As);
+    }
+    Some(Scope::Area(read_address(word)?))
+}
+
+fn read_prefix(word: &[u8]) -> Option<Prefix>
+    ensures { IsRead prefix_text IsPrefix word.now result }
+{
+    let slash = memchr(b'/', word)?;
+    let address = read_address(&word[..slash])?;
+    let length = read_number(&word[slash + 1..], 32)?;
+    let prefix = Prefix::new(address, length as u8)?;
+    if prefix.address() == address {
+        Some(prefix)
+    } else {
+        None
+    }
+}
+
+fn read_choice(word: &[u8], first: &[u8], second: &[u8]) -> Option<bool>
+    ensures { IsRead (λ b. cond b first.now second.now) (λ _. Unit {0}) word.now result }
+{
+    if is(word, first) {
+        Some(true)
+    } else if is(word, second) {
+        Some(false)
+    } else {
+        None
+    }
+}
+
+fn read_number(word: &[u8], most: u32) -> Option<u32>
+    ensures { IsRead decimal (λ n. n ≤ most) word.now result }
+{
+    if !is_unpadded(word) {
+        return None;
+    }
+    let value = decimal_value(word)?;
+    if value <= u64::from(most) {
+        Some(value as u32)
+    } else {
+        None
+    }
+}
+
+fn is_unpadded(word: &[u8]) -> bool
+    ensures { IsTrue result ↔ IsUnpadded word.now }
+{
+    match word {
+        [] => false,
+        [b'0', _, ..] => false,
+        _ => word.len() <= 10,
+    }
+}
+
+// What up to ten digits write.
+fn decimal_value(word: &[u8]) -> Option<u64>
+    requires { length word.now ≤ 10 }
+    ensures { MatchOption result (¬ AllDigits 10 word.now) (λ n. AllDigits 10 word.now × (n ≡ digits_value 10 word.now)) }
+{
+    let mut value: u64 = 0;
+    for digit in word {
+        if !digit.is_ascii_digit() {
+            return None;
+        }
+        value = value * 10 + u64::from(*digit - b'0');
+    }
+    Some(value)
+}
+
+/// Whether these are the hexadecimal digits of bytes.
+pub(crate) fn are_digits(word: &[u8]) -> bool
+    ensures { IsTrue result ↔ AreDigits word.now }
+{
+    word.len() % 2 == 0 && all_digits(word)
+}
+
+fn all_digits(word: &[u8]) -> bool
+    ensures { IsTrue result ↔ All IsLowerDigit word.now }
+{
+    word.iter()
+        .all(|digit| matches!(*digit, b'0'..=b'9' | b'a'..=b'f'))
+}
+
+/// Whether the word is the text.
+pub(crate) fn is(word: &[u8], text: &[u8]) -> bool
+    ensures { IsTrue result ↔ (word.now ≡ text.now) }
+{
+    word == text
+}
