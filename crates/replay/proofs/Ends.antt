@@ -1,0 +1,129 @@
+-- What was written where a replay ends.
+use Rattle.std.proofs.Common.{◌≡◌, ℕ, List, [], ◌∷◌, ◌++◌, map, Option, inl, inr, refl, sym, ap, subst, ◌∙◌, append-nil}
+use Rattle.std.specs.List.{flat_map}
+use Rattle.std.proofs.lemmas.List.Concat.{flat_map-append}
+use Rattle.std.specs.Io.KnownBytes.{Appends}
+use Rattle.event_state.specs.declared.event.Event.{Event}
+use Rattle.event_core.specs.Cores.{CoreValue}
+use Rattle.ospf_types.specs.declared.config.Config.{Config}
+use Rattle.recording.specs.declared.line.Line.{Line}
+use Rattle.recording.specs.declared.line.Line.TheVariants as line
+use Rattle.recording.specs.Recordings.{RecordingValue, text_of, text_of_forms, header_forms, form_of, ended}
+use Rattle.recording.specs.Forms.{Form}
+use Rattle.replay.specs.declared.show.Show.{Show}
+use Rattle.replay.specs.declared.show.Show.TheVariants as show
+use Rattle.replay.specs.Lines.{first_number, serial_line, event_line}
+use Rattle.replay.specs.Runs.{Answers, Prints, IsOpened}
+use Rattle.replay.specs.Outputs.{IsRun, IsShown, IsOutput, PrintsRun, Replays, journal_of}
+use Rattle.replay.specs.Pages.{Adds, AddsPart, Ran, RanPart, IsRunTo}
+use Rattle.replay.specs.Parts.{IsRead, WritesOutput, WritesPart}
+use Rattle.replay.proofs.Written.{appends_none}
+use Rattle.replay.proofs.Paging.{adds_put, adds_more, adds_moved, part_more, part_moved}
+
+pub none_written : (r : RecordingValue) (s : Show) (a : Option (List ℕ)) → WritesPart r s a a
+none_written r s a = record { part = []; is = inl refl; written = appends_none a }
+
+is_run : (old new : CoreValue) (lines : List Line) (answers : Answers) (text : List ℕ) → IsOpened old.config old → Prints old (first_number old.config) lines answers text new
+    → IsRun (record { config = old.config; lines = lines }) answers text new
+is_run old new lines answers text opening run = record { opened = old; opening = opening; run = run }
+
+-- the run ended early
+pub run_cut : (old : CoreValue) (lines : List Line) (s : Show) (a b : Option (List ℕ)) (before : List ℕ) → IsOpened old.config old → PrintsRun s → before ≡ []
+    → RanPart old (first_number old.config) lines a b before → WritesPart (record { config = old.config; lines = lines }) s a b
+run_cut old lines s a b before opening prints none h =
+    let part : AddsPart a b h.text = subst (λ w. AddsPart a b (w ++ h.text)) none h.part in
+    record {
+      part = part.part;
+      is = inr (inl (record {
+        prints = prints;
+        count = h.count;
+        answers = h.answers;
+        printed = h.text;
+        now = h.now;
+        run = is_run old h.now _ h.answers h.text opening h.run;
+        part = part.beginning;
+      }));
+      written = part.appended;
+    }
+
+-- an output was printed, and its end is on the page
+pub record Whole (r : RecordingValue) (s : Show) (a b : Option (List ℕ)) (page : List ℕ) : Type 0 where
+  pub answers : Answers
+  pub whole : List ℕ
+  pub is : IsOutput r s answers whole
+  pub printed : Adds a b [] page whole
+
+output_cut : (r : RecordingValue) (s : Show) (answers : Answers) (whole : List ℕ) (a b : Option (List ℕ)) → IsOutput r s answers whole → AddsPart a b whole → WritesPart r s a b
+output_cut r s answers whole a b is h =
+    record { part = h.part; is = inr (inr (record { answers = answers; whole = whole; output = is; part = h.beginning })); written = h.appended }
+
+pub whole_cut : (r : RecordingValue) (s : Show) (a b c : Option (List ℕ)) (page : List ℕ) → Whole r s a b page → AddsPart b c page → WritesPart r s a c
+whole_cut r s a b c page h stopped = output_cut r s h.answers h.whole a c h.is (part_moved a b c [] page h.whole h.printed stopped)
+
+pub whole_written : (r : RecordingValue) (s : Show) (a b c : Option (List ℕ)) (page last : List ℕ) → Whole r s a b page → Adds b c page last [] → last ≡ [] → WritesOutput r s a c
+whole_written r s a b c page last h moved none =
+    let all = adds_moved a b c [] page last h.whole h.printed moved in
+    let same : all.written ≡ h.whole = sym (append-nil all.written) ∙ ap (λ l. all.written ++ l) (sym none) ∙ sym all.joined in
+    record { answers = h.answers; output = h.whole; is = h.is; written = subst (Appends a c) same all.appended }
+
+-- ---- a run whose lines are printed, and behind it what is shown
+
+module _ (old new : CoreValue) (lines : List Line) (s : Show) (a b c : Option (List ℕ)) (before page put tail : List ℕ) (opening : IsOpened old.config old)
+    (none : before ≡ []) (ran : Ran old (first_number old.config) lines new a b before page) (serial : put ≡ page ++ serial_line new) (shown : (printed : List ℕ) → IsShown s printed new ((printed ++ serial_line new) ++ tail)) where
+  output : IsOutput (record { config = old.config; lines = lines }) s ran.answers ((ran.text ++ serial_line new) ++ tail)
+  output = record { printed = ran.text; closed = new; run = is_run old new lines ran.answers ran.text opening ran.run; shown = shown ran.text }
+
+  printed : Adds a b [] put (ran.text ++ serial_line new)
+  printed = adds_put a b [] page ran.text put (serial_line new) (subst (λ w. Adds a b w page ran.text) none ran.printed) serial
+
+  pub shown_whole : (moved : List ℕ) → Adds b c put moved tail → Whole (record { config = old.config; lines = lines }) s a c moved
+  shown_whole moved more = record {
+    answers = ran.answers;
+    whole = (ran.text ++ serial_line new) ++ tail;
+    is = output;
+    printed = adds_more a b c [] put moved (ran.text ++ serial_line new) tail printed more;
+  }
+
+  pub shown_cut : AddsPart b c (put ++ tail) → WritesPart (record { config = old.config; lines = lines }) s a c
+  shown_cut stopped = output_cut (record { config = old.config; lines = lines }) s ran.answers ((ran.text ++ serial_line new) ++ tail) a c output (part_more a b c [] put (ran.text ++ serial_line new) tail printed stopped)
+
+-- ---- the journal, alone
+
+event_lines : (events : List Event) → flat_map ended (map form_of (map line.Event events)) ≡ flat_map event_line events
+event_lines [] = refl
+event_lines (e ∷ events) = ap (λ l. event_line e ++ l) (event_lines events)
+
+journal_text : (c : CoreValue) → text_of (journal_of c) ≡ text_of_forms (header_forms c.config) ++ flat_map event_line c.journal
+journal_text c = flat_map-append ended (header_forms c.config) (map form_of (map line.Event c.journal)) ∙ ap (λ l. text_of_forms (header_forms c.config) ++ l) (event_lines c.journal)
+
+module _ (old new : CoreValue) (lines : List Line) (a b : Option (List ℕ)) (before put : List ℕ) (config : Config) (events : List Event) (opening : IsOpened old.config old) (none : before ≡ [])
+    (taken : IsRunTo old lines new) (same : config ≡ new.config) (header : put ≡ before ++ text_of_forms (header_forms config)) (journal : events ≡ new.journal) where
+  journal_output : IsOutput (record { config = old.config; lines = lines }) show.Journal (taken (first_number old.config)).0 (put ++ flat_map event_line events)
+  journal_output =
+      let (answers, text, run) = taken (first_number old.config) in
+      record {
+        printed = text;
+        closed = new;
+        run = is_run old new lines answers text opening run;
+        shown = ap (λ l. l ++ flat_map event_line events) (header ∙ ap (λ l. l ++ text_of_forms (header_forms config)) none ∙ ap (λ (c : Config). text_of_forms (header_forms c)) same)
+            ∙ ap (λ (es : List Event). text_of_forms (header_forms new.config) ++ flat_map event_line es) journal ∙ sym (journal_text new);
+      }
+
+  pub journal_whole : (moved : List ℕ) → Adds a b put moved (flat_map event_line events) → Whole (record { config = old.config; lines = lines }) show.Journal a b moved
+  journal_whole moved more = record {
+    answers = (taken (first_number old.config)).0;
+    whole = put ++ flat_map event_line events;
+    is = journal_output;
+    printed = record { written = more.written; appended = more.appended; joined = more.joined };
+  }
+
+  pub journal_cut : AddsPart a b (put ++ flat_map event_line events) → WritesPart (record { config = old.config; lines = lines }) show.Journal a b
+  journal_cut stopped = output_cut (record { config = old.config; lines = lines }) show.Journal (taken (first_number old.config)).0 (put ++ flat_map event_line events) a b journal_output stopped
+
+-- ---- the whole replay
+
+pub replays : (s : Show) (before after old new : Option (List ℕ)) (r : RecordingValue) (config : Config) (lines : List Line) → IsRead before after r → config ≡ r.config → lines ≡ r.lines
+    → WritesOutput (record { config = config; lines = lines }) s old new → Replays s before after old new
+replays s before after old new r config lines read same_config same_lines h =
+    let is : IsOutput r s h.answers h.output = subst (λ (q : RecordingValue). IsOutput q s h.answers h.output) (λ i. record { config = same_config i; lines = same_lines i }) h.is in
+    record { bytes = read.bytes; read = read.read; recording = r; text = read.text; answers = h.answers; output = h.output; is = is; written = h.written }

@@ -1,0 +1,91 @@
+-- What is printed line by line: a part of it is written, and the end of it is on the page.
+use Rattle.std.proofs.Common.{◌≡◌, ℕ, suc, ◌<◌, ◌+◌, List, length, get_or, drop, add-one, drop-cons, [], ◌∷◌, ◌++◌, Option, refl, sym, ap, subst, ◌∙◌, append_assoc, append-nil}
+use Rattle.std.specs.List.{flat_map}
+use Rattle.std.specs.Io.KnownBytes.{Appends}
+use Rattle.replay.specs.Outputs.{IsBeginning}
+use Rattle.replay.specs.Pages.{Adds, AddsPart}
+use Rattle.replay.proofs.Written.{appends_none, appends_more}
+
+pub adds_none : (a : Option (List ℕ)) (page : List ℕ) → Adds a a page page []
+adds_none a page = record { written = []; appended = appends_none a; joined = append-nil page }
+
+-- a line behind the page
+pub adds_put : (a b : Option (List ℕ)) (before page text next line : List ℕ) → Adds a b before page text → next ≡ page ++ line → Adds a b before next (text ++ line)
+adds_put a b before page text next line h put = record {
+  written = h.written;
+  appended = h.appended;
+  joined = sym (append_assoc before text line) ∙ ap (λ l. l ++ line) h.joined ∙ append_assoc h.written page line ∙ ap (λ l. h.written ++ l) (sym put);
+}
+
+pub adds_more : (a b c : Option (List ℕ)) (x y z t u : List ℕ) → Adds a b x y t → Adds b c y z u → Adds a c x z (t ++ u)
+adds_more a b c x y z t u p q = record {
+  written = p.written ++ q.written;
+  appended = appends_more a b c p.written q.written p.appended q.appended;
+  joined = sym (append_assoc x t u) ∙ ap (λ l. l ++ u) p.joined ∙ append_assoc p.written y u ∙ ap (λ l. p.written ++ l) q.joined ∙ sym (append_assoc p.written q.written z);
+}
+
+-- the page may be written in part
+pub adds_moved : (a b c : Option (List ℕ)) (x y z t : List ℕ) → Adds a b x y t → Adds b c y z [] → Adds a c x z t
+adds_moved a b c x y z t p q = subst (λ l. Adds a c x z l) (append-nil t) (adds_more a b c x y z t [] p q)
+
+pub part_now : (a b : Option (List ℕ)) (before page text : List ℕ) → Adds a b before page text → AddsPart a b (before ++ text)
+part_now a b before page text h = record { part = h.written; beginning = record { rest = page; joined = h.joined }; appended = h.appended }
+
+pub part_more : (a b c : Option (List ℕ)) (x y t u : List ℕ) → Adds a b x y t → AddsPart b c (y ++ u) → AddsPart a c (x ++ (t ++ u))
+part_more a b c x y t u p q = record {
+  part = p.written ++ q.part;
+  beginning = record {
+    rest = q.beginning.rest;
+    joined = sym (append_assoc x t u) ∙ ap (λ l. l ++ u) p.joined ∙ append_assoc p.written y u ∙ ap (λ l. p.written ++ l) q.beginning.joined ∙ sym (append_assoc p.written q.part q.beginning.rest);
+  };
+  appended = appends_more a b c p.written q.part p.appended q.appended;
+}
+
+pub part_moved : (a b c : Option (List ℕ)) (x y t : List ℕ) → Adds a b x y t → AddsPart b c y → AddsPart a c (x ++ t)
+part_moved a b c x y t p q =
+    subst (λ l. AddsPart a c (x ++ l)) (append-nil t) (part_more a b c x y t [] p (subst (λ l. AddsPart b c l) (sym (append-nil y)) q))
+
+pub part_longer : (a b : Option (List ℕ)) (x t u : List ℕ) → AddsPart a b (x ++ t) → AddsPart a b (x ++ (t ++ u))
+part_longer a b x t u h = record {
+  part = h.part;
+  beginning = record {
+    rest = h.beginning.rest ++ u;
+    joined = sym (append_assoc x t u) ∙ ap (λ l. l ++ u) h.beginning.joined ∙ append_assoc h.part h.beginning.rest u;
+  };
+  appended = h.appended;
+}
+
+-- how far a text is printed, of which this is the rest
+pub record Adding (a b : Option (List ℕ)) (before page all rest : List ℕ) : Type 0 where
+  pub text : List ℕ
+  pub adds : Adds a b before page text
+  pub left : all ≡ text ++ rest
+
+pub adding_none : (a : Option (List ℕ)) (page all rest : List ℕ) → all ≡ rest → Adding a a page page all rest
+adding_none a page all rest is = record { text = []; adds = adds_none a page; left = is }
+
+-- a line is put behind the page, and the page may be written in part
+pub adding_more : (a b c : Option (List ℕ)) (before page put moved all rest line more : List ℕ) → Adding a b before page all rest → rest ≡ line ++ more → put ≡ page ++ line
+    → Adds b c put moved [] → Adding a c before moved all more
+adding_more a b c before page put moved all rest line more h next is spilled = record {
+  text = h.text ++ line;
+  adds = adds_moved a b c before put moved (h.text ++ line) (adds_put a b before page h.text put line h.adds is) spilled;
+  left = h.left ∙ ap (λ l. h.text ++ l) next ∙ sym (append_assoc h.text line more);
+}
+
+pub adding_part : (a b : Option (List ℕ)) (before page all rest : List ℕ) → Adding a b before page all rest → AddsPart a b (before ++ all)
+adding_part a b before page all rest h =
+    subst (λ l. AddsPart a b (before ++ l)) (sym h.left) (part_longer a b before h.text rest (part_now a b before page h.text h.adds))
+
+-- the page could not be written behind a line
+pub adding_stopped : (a b c : Option (List ℕ)) (before page put all rest line more : List ℕ) → Adding a b before page all rest → rest ≡ line ++ more → put ≡ page ++ line
+    → AddsPart b c put → AddsPart a c (before ++ all)
+adding_stopped a b c before page put all rest line more h next is stopped =
+    let here = part_moved a b c before put (h.text ++ line) (adds_put a b before page h.text put line h.adds is) stopped in
+    subst (λ l. AddsPart a c (before ++ l)) (append_assoc h.text line more ∙ ap (λ l. h.text ++ l) (sym next) ∙ sym h.left) (part_longer a c before (h.text ++ line) more here)
+
+-- ---- a list of which each item has a line
+
+pub line_next : {A : Type 0} (line : A → List ℕ) (items : List A) (i : ℕ) (x : A) → i < length items → x ≡ get_or items i x
+    → flat_map line (drop i items) ≡ line x ++ flat_map line (drop (i + 1) items)
+line_next line items i x within is = rw add-one (ap (flat_map line) (drop-cons items i x within ∙ ap (λ y. y ∷ drop (suc i) items) (sym is)))

@@ -1,0 +1,29 @@
+-- A recording that was read has few enough lines to be numbered.
+use Rattle.std.proofs.Common.{◌≡◌, ℕ, suc, ◌<◌, ◌≤◌, ◌+◌, ◌^◌, List, [], ◌∷◌, ◌++◌, length, map, drop, Option, ap, subst, sym, arith}
+use Rattle.std.proofs.lemmas.List.{length-append, length-map}
+use Rattle.std.specs.Io.KnownBytes.{Consumes}
+use Rattle.recording.specs.Forms.{Form, line_text}
+use Rattle.recording.specs.Recordings.{RecordingValue, IsText, text_of_forms, header_forms, forms_of, form_of, ended}
+use Rattle.replay.specs.Lines.{first_number}
+use Rattle.replay.specs.Parts.{IsRead}
+
+-- each line has a line feed
+forms_fit : (forms : List Form) → length forms ≤ length (text_of_forms forms)
+forms_fit [] = omega arith
+forms_fit (form ∷ forms) = omega (arith, forms_fit forms, length-append (ended form) (text_of_forms forms), length-append (line_text form) (10 ∷ []))
+
+lines_fit : (bytes : List ℕ) (r : RecordingValue) → IsText bytes r → first_number r.config + length r.lines ≤ length bytes + 1
+lines_fit bytes r text =
+    omega (arith, forms_fit (forms_of r), length-append (header_forms r.config) (map form_of r.lines), length-map r.lines form_of, ap length text.spelled)
+
+-- what was read stands alone, and is the text of the recording
+pub is_read : (before after : Option (List ℕ)) (old new bytes : List ℕ) (r : RecordingValue) → old ≡ [] → bytes ≡ new → Consumes before after (drop (length old) new) → IsText bytes r → length new < 2 ^ 63
+    → IsRead before after r
+is_read before after old new bytes r none same read text small =
+    let bound = lines_fit bytes r text in
+    record {
+      bytes = bytes;
+      read = subst (λ l. Consumes before after l) (sym same) (subst (λ l. Consumes before after (drop (length l) new)) none read);
+      text = text;
+      few = omega (arith, bound, ap length same);
+    }

@@ -1,0 +1,179 @@
+-- Runs of lines, and one line more.
+use Rattle.std.proofs.Common.{◌≡◌, ℕ, suc, ◌<◌, ◌≤◌, ◌+◌, List, [], ◌∷◌, ◌++◌, length, take, Option, refl, sym, ap, subst, ◌∙◌, append_assoc, append-nil, arith}
+use Rattle.std.specs.Prelude.{Result}
+use Rattle.std.proofs.lemmas.List.{length-append, take-append-le, take_all}
+use Rattle.event_state.specs.declared.event.Event.{Event}
+use Rattle.event_state.specs.declared.refusal.Refusal.{Refusal}
+use Rattle.route_table.specs.declared.table.Match.{Match}
+use Rattle.route_table.specs.Tables.{TableValue, IsMatch}
+use Rattle.event_core.specs.declared.reply.Reply.{Reply}
+use Rattle.event_core.specs.Cores.{CoreValue, Applies}
+use Rattle.recording.specs.declared.line.Line.{Line}
+use Rattle.recording.specs.declared.line.Line.TheVariants as line
+use Rattle.replay.specs.Lines.{lookup_line, answer_line}
+use Rattle.replay.specs.Runs.{Answers, Prints}
+use Rattle.replay.specs.Pages.{Adds, AddsPart, RanLine, Ran, RanPart, IsRunTo}
+use Rattle.replay.proofs.Paging.{adds_none, adds_put, adds_moved, part_now, part_moved}
+
+-- ---- one line
+
+event_prints : (old new : CoreValue) (number : ℕ) (e : Event) (answer : Result Reply Refusal) → Applies old e answer new
+    → Prints old number (line.Event e ∷ []) (answer ∷ []) (answer_line number answer) new
+event_prints old new number e answer applies = (new, [], applies, sym (append-nil (answer_line number answer)), (refl, refl))
+
+lookup_prints : (old : CoreValue) (number address : ℕ) (found : Match) → IsMatch old.table.items address found
+    → Prints old number (line.Lookup address ∷ []) [] (lookup_line number address old.table.serial found) old
+lookup_prints old number address found matched = (found, [], matched, sym (append-nil (lookup_line number address old.table.serial found)), (refl, refl))
+
+pub event_ran : (old new : CoreValue) (number : ℕ) (l : Line) (e : Event) (answer : Result Reply Refusal) (before after : List ℕ) → l ≡ line.Event e → Applies old e answer new
+    → after ≡ before ++ answer_line number answer → RanLine old number l new before after
+event_ran old new number l e answer before after is applies printed = record {
+  answers = answer ∷ [];
+  text = answer_line number answer;
+  run = subst (λ (x : Line). Prints old number (x ∷ []) (answer ∷ []) (answer_line number answer) new) (sym is) (event_prints old new number e answer applies);
+  printed = printed;
+}
+
+pub lookup_ran : (old : CoreValue) (table : TableValue) (number : ℕ) (l : Line) (address : ℕ) (before after : List ℕ) → l ≡ line.Lookup address → table ≡ old.table
+    → (found : Match) × IsMatch table.items address found × (after ≡ before ++ lookup_line number address table.serial found) → RanLine old number l old before after
+lookup_ran old table number l address before after is same (found, matched, printed) = record {
+  answers = [];
+  text = lookup_line number address old.table.serial found;
+  run = subst (λ (x : Line). Prints old number (x ∷ []) [] (lookup_line number address old.table.serial found) old) (sym is)
+      (lookup_prints old number address found (subst (λ (t : TableValue). IsMatch t.items address found) same matched));
+  printed = printed ∙ ap (λ (t : TableValue). before ++ lookup_line number address t.serial found) same;
+}
+
+pub event_taken : (old new : CoreValue) (l : Line) (e : Event) (answer : Result Reply Refusal) → l ≡ line.Event e → Applies old e answer new → IsRunTo old (l ∷ []) new
+event_taken old new l e answer is applies number =
+    subst (λ (x : Line). (answers : Answers) × (text : List ℕ) × Prints old number (x ∷ []) answers text new) (sym is) (answer ∷ [], answer_line number answer, event_prints old new number e answer applies)
+
+pub lookup_taken : (old : CoreValue) (table : TableValue) (l : Line) (address : ℕ) (found : Match) → l ≡ line.Lookup address → table ≡ old.table → IsMatch table.items address found
+    → IsRunTo old (l ∷ []) old
+lookup_taken old table l address found is same matched number =
+    subst (λ (x : Line). (answers : Answers) × (text : List ℕ) × Prints old number (x ∷ []) answers text old) (sym is)
+    ([], lookup_line number address old.table.serial found, lookup_prints old number address found (subst (λ (t : TableValue). IsMatch t.items address found) same matched))
+
+-- ---- one run behind the other
+
+pub prints_more : (old mid new : CoreValue) (number : ℕ) (xs ys : List Line) (ps qs : Answers) (t u : List ℕ) → Prints old number xs ps t mid → Prints mid (number + length xs) ys qs u new
+    → Prints old number (xs ++ ys) (ps ++ qs) (t ++ u) new
+prints_more old mid new number [] ys [] qs t u (none, same) q =
+    let count : number + 0 ≡ number = omega arith in
+    let here : Prints mid number ys qs u new = subst (λ n. Prints mid n ys qs u new) count q in
+    subst (λ (c : CoreValue). Prints c number ys qs (t ++ u) new) same (subst (λ (w : List ℕ). Prints mid number ys qs (w ++ u) new) (sym none) here)
+prints_more old mid new number [] ys (a ∷ ps) qs t u p q = absurd p
+prints_more old mid new number (line.Lookup address ∷ xs) ys ps qs t u (found, rest, matched, text, tail) q =
+    let count : number + suc (length xs) ≡ (number + 1) + length xs = omega arith in
+    let more = prints_more old mid new (number + 1) xs ys ps qs rest u tail (subst (λ n. Prints mid n ys qs u new) count q) in
+    (found, rest ++ u, matched, ap (λ w. w ++ u) text ∙ append_assoc (lookup_line number address old.table.serial found) rest u, more)
+prints_more old mid new number (line.Event e ∷ xs) ys [] qs t u p q = absurd p
+prints_more old mid new number (line.Event e ∷ xs) ys (a ∷ ps) qs t u (next, rest, applies, text, tail) q =
+    let count : number + suc (length xs) ≡ (number + 1) + length xs = omega arith in
+    let more = prints_more next mid new (number + 1) xs ys ps qs rest u tail (subst (λ n. Prints mid n ys qs u new) count q) in
+    (next, rest ++ u, applies, ap (λ w. w ++ u) text ∙ append_assoc (answer_line number a) rest u, more)
+
+-- ---- how far a run is
+
+-- some of the lines were run and printed, and these are left
+pub record Running (old : CoreValue) (first : ℕ) (lines rest : List Line) (number : ℕ) (now : CoreValue) (from to : Option (List ℕ)) (before page : List ℕ) : Type 0 where
+  pub done : List Line
+  pub left : lines ≡ done ++ rest
+  pub counted : number ≡ first + length done
+  pub ran : Ran old first done now from to before page
+
+pub running_none : (old : CoreValue) (first number : ℕ) (lines rest : List Line) (from : Option (List ℕ)) (page : List ℕ) → number ≡ first → lines ≡ rest → Running old first lines rest number old from from page page
+running_none old first number lines rest from page counted is = record {
+  done = [];
+  left = is;
+  counted = omega arith;
+  ran = record { answers = []; text = []; run = (refl, refl); printed = adds_none from page };
+}
+
+-- a line more, and then the page may be written in part
+pub ran_more : (old mid new : CoreValue) (first number : ℕ) (done : List Line) (l : Line) (from to : Option (List ℕ)) (before page put : List ℕ) → number ≡ first + length done → Ran old first done mid from to before page
+    → RanLine mid number l new page put → Ran old first (done ++ l ∷ []) new from to before put
+ran_more old mid new first number done l from to before page put counted ran more = record {
+  answers = ran.answers ++ more.answers;
+  text = ran.text ++ more.text;
+  run = prints_more old mid new first done (l ∷ []) ran.answers more.answers ran.text more.text ran.run (subst (λ n. Prints mid n (l ∷ []) more.answers more.text new) counted more.run);
+  printed = adds_put from to before page ran.text put more.text ran.printed more.printed;
+}
+
+pub running_more : (old mid new : CoreValue) (first number : ℕ) (lines rest more : List Line) (l : Line) (from to on : Option (List ℕ)) (before page put moved : List ℕ) → Running old first lines rest number mid from to before page
+    → rest ≡ l ∷ more → RanLine mid number l new page put → Adds to on put moved [] → Running old first lines more (number + 1) new from on before moved
+running_more old mid new first number lines rest more l from to on before page put moved h next line spilled =
+    let ran = ran_more old mid new first number h.done l from to before page put h.counted h.ran line in
+    record {
+      done = h.done ++ l ∷ [];
+      left = h.left ∙ ap (λ w. h.done ++ w) next ∙ sym (append_assoc h.done (l ∷ []) more);
+      counted = omega (arith, h.counted, length-append h.done (l ∷ []));
+      ran = record { answers = ran.answers; text = ran.text; run = ran.run; printed = adds_moved from to on before put moved ran.text ran.printed spilled };
+    }
+
+-- the number of a line that is left is not the last of all numbers
+pub running_fits : (old now : CoreValue) (first number : ℕ) (lines rest more : List Line) (l : Line) (from to : Option (List ℕ)) (before page : List ℕ) → Running old first lines rest number now from to before page
+    → rest ≡ l ∷ more → number + 1 ≤ first + length lines
+running_fits old now first number lines rest more l from to before page h next =
+    let whole : length lines ≡ length h.done + suc (length more) = ap length (h.left ∙ ap (λ w. h.done ++ w) next) ∙ length-append h.done (l ∷ more) in
+    omega (arith, whole, h.counted)
+
+pub running_all : (old now : CoreValue) (first number : ℕ) (lines rest : List Line) (from to : Option (List ℕ)) (before page : List ℕ) → Running old first lines rest number now from to before page
+    → rest ≡ [] → Ran old first lines now from to before page
+running_all old now first number lines rest from to before page h none =
+    subst (λ (done : List Line). Ran old first done now from to before page) (sym (h.left ∙ ap (λ w. h.done ++ w) none ∙ append-nil h.done)) h.ran
+
+-- a run of the first of the lines
+ran_part : (old now : CoreValue) (first : ℕ) (lines done rest : List Line) (from to : Option (List ℕ)) (before text : List ℕ) (answers : Answers) → lines ≡ done ++ rest → Prints old first done answers text now
+    → AddsPart from to (before ++ text) → RanPart old first lines from to before
+ran_part old now first lines done rest from to before text answers left run part = record {
+  count = length done;
+  answers = answers;
+  text = text;
+  now = now;
+  run = subst (λ (front : List Line). Prints old first front answers text now)
+      (sym (ap (take (length done)) left ∙ take-append-le (length done) done rest (omega arith) ∙ take_all (length done) done (omega arith))) run;
+  part = part;
+}
+
+pub running_part : (old now : CoreValue) (first number : ℕ) (lines rest : List Line) (from to : Option (List ℕ)) (before page : List ℕ) → Running old first lines rest number now from to before page
+    → RanPart old first lines from to before
+running_part old now first number lines rest from to before page h =
+    ran_part old now first lines h.done rest from to before h.ran.text h.ran.answers h.left h.ran.run (part_now from to before page h.ran.text h.ran.printed)
+
+-- the page could not be written behind a line
+pub running_stopped : (old mid new : CoreValue) (first number : ℕ) (lines rest more : List Line) (l : Line) (from to on : Option (List ℕ)) (before page put : List ℕ)
+    → Running old first lines rest number mid from to before page → rest ≡ l ∷ more → RanLine mid number l new page put → AddsPart to on put → RanPart old first lines from on before
+running_stopped old mid new first number lines rest more l from to on before page put h next line stopped =
+    let ran = ran_more old mid new first number h.done l from to before page put h.counted h.ran line in
+    ran_part old new first lines (h.done ++ l ∷ []) more from on before ran.text ran.answers (h.left ∙ ap (λ w. h.done ++ w) next ∙ sym (append_assoc h.done (l ∷ []) more)) ran.run
+    (part_moved from to on before put ran.text ran.printed stopped)
+
+-- ---- a run that prints nothing
+
+-- some of the lines were run, and these are left
+pub record Taking (old : CoreValue) (lines rest : List Line) (now : CoreValue) : Type 0 where
+  pub done : List Line
+  pub left : lines ≡ done ++ rest
+  pub run : IsRunTo old done now
+
+pub taking_none : (old : CoreValue) (lines rest : List Line) → lines ≡ rest → Taking old lines rest old
+taking_none old lines rest is = record { done = []; left = is; run = λ number. ([], [], (refl, refl)) }
+
+pub taking_more : (old mid new : CoreValue) (lines rest more : List Line) (l : Line) → Taking old lines rest mid → rest ≡ l ∷ more → IsRunTo mid (l ∷ []) new → Taking old lines more new
+taking_more old mid new lines rest more l h next line = record {
+  done = h.done ++ l ∷ [];
+  left = h.left ∙ ap (λ w. h.done ++ w) next ∙ sym (append_assoc h.done (l ∷ []) more);
+  run = λ number.
+      let (ps, t, run) = h.run number in
+      let (qs, u, one) = line (number + length h.done) in
+      (ps ++ qs, t ++ u, prints_more old mid new number h.done (l ∷ []) ps qs t u run one);
+}
+
+pub taking_all : (old now : CoreValue) (lines rest : List Line) → Taking old lines rest now → rest ≡ [] → IsRunTo old lines now
+taking_all old now lines rest h none = subst (λ (done : List Line). IsRunTo old done now) (sym (h.left ∙ ap (λ w. h.done ++ w) none ∙ append-nil h.done)) h.run
+
+-- a whole run is a part of itself
+pub ran_whole : (old now : CoreValue) (first : ℕ) (lines : List Line) (from to : Option (List ℕ)) (before page : List ℕ) → Ran old first lines now from to before page → RanPart old first lines from to before
+ran_whole old now first lines from to before page h =
+    ran_part old now first lines lines [] from to before h.text h.answers (sym (append-nil lines)) h.run (part_now from to before page h.text h.printed)

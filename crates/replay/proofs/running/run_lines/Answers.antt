@@ -1,0 +1,30 @@
+use Rattle.std.proofs.Common.{◌+◌, ◌≤◌, length, ap, sym, ◌∙◌, arith}
+use Rattle.std.proofs.lemmas.List.{nil_from_length}
+use Rattle.std.specs.Vec.Iter.{into_iter_items}
+use Rattle.replay.specs.Lines.{first_number}
+use Rattle.replay.proofs.Written.{on_err}
+use Rattle.replay.proofs.RunSteps.{running_none, running_more, running_fits, running_all, running_part, running_stopped}
+use Rattle.replay.proofs.running.run_lines.Goals as goal
+
+pub loop-line-init : goal.loop-line-init
+loop-line-init g c = running_none _ _ _ _ _ _ _ (c.number_of_first-number.ensures ∙ ap first_number c.config.ensures.value) (sym c.into_iter-line-iterator.ensures.into_iter_gives.0)
+
+pub overflow_add-number : goal.overflow_add-number
+overflow_add-number g c =
+    let room : c.loop-line.number + 1 ≤ first_number c.args.core.now.config + length c.args.lines.items = running_fits _ _ _ _ _ _ _ _ _ _ _ _ c.loop-line.invariant c.in-Some.ensures.steps.0 in
+    omega arith
+
+pub loop-line-preserved : goal.loop-line-preserved
+loop-line-preserved g c =
+    running_more _ _ _ _ _ _ _ _ _ _ _ _ _ _ _ _ c.loop-line.invariant c.in-Some.ensures.steps.0 c.in_ok-run_line.ensures c.in_ok-spill.ensures.ok
+
+pub returns-in_err-run_line-clause-err : goal.returns-in_err-run_line-clause-err
+returns-in_err-run_line-clause-err g c = on_err c.from_residual.result (running_part _ _ _ _ _ _ _ _ _ _ c.loop-line.invariant)
+
+pub returns-in_err-spill-clause-err : goal.returns-in_err-spill-clause-err
+returns-in_err-spill-clause-err g c =
+    on_err c.from_residual-in_err-spill.result (running_stopped _ _ _ _ _ _ _ _ _ _ _ _ _ _ _ c.loop-line.invariant c.in-Some.ensures.steps.0 c.in_ok-run_line.ensures c.in_err-spill.ensures.err)
+
+pub returns-clause-ok : goal.returns-clause-ok
+returns-clause-ok g c =
+    running_all _ _ _ _ _ _ _ _ _ _ c.loop-line.invariant (nil_from_length (into_iter_items c.loop-line.line-iterator) (sym c.loop-line.line-iterator.rest.ok.0 ∙ c.in-None.ensures.steps.0))

@@ -1,0 +1,10 @@
+use Rattle.std.proofs.Common.{string_bytes}
+use Rattle.std.specs.Vec.Iter.{into_iter_items}
+use Rattle.replay.specs.Lines.{first_number}
+use Rattle.replay.proofs.RunSteps.{Running}
+use Rattle.replay.proofs.running.run_lines.Given as goal
+
+abbrev pub invariant-loop-line : goal.invariant-loop-line
+invariant-loop-line g l =
+    Running l.initial.core (first_number l.initial.core.config) l.fn.lines.items (into_iter_items l.line-iterator) l.number l.core (g.W.Write.contents l.initial.out) (g.W.Write.contents l.out)
+    (string_bytes l.initial.page) (string_bytes l.page)

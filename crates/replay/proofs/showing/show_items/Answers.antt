@@ -1,0 +1,19 @@
+use Rattle.std.proofs.Common.{ap, sym, ◌∙◌}
+use Rattle.std.specs.List.{flat_map}
+use Rattle.replay.specs.Lines.{item_line}
+use Rattle.replay.proofs.Written.{on_err}
+use Rattle.replay.proofs.Paging.{adding_none, adding_more, adding_part, adding_stopped}
+use Rattle.replay.proofs.showing.show_items.Goals as goal
+
+pub loop-prefix-init : goal.loop-prefix-init
+loop-prefix-init g c = adding_none _ _ _ _ (ap (flat_map item_line) (sym (c.into_iter-prefix-iterator.ensures.into_iter_gives ∙ c.items-prefix-items.ensures.all)))
+
+pub loop-prefix-preserved : goal.loop-prefix-preserved
+loop-prefix-preserved g c = adding_more _ _ _ _ _ _ _ _ _ _ _ c.loop-prefix.invariant (ap (flat_map item_line) c.in-Some.ensures.steps) c.in_ok-put_item.ensures c.in_ok-spill.ensures.ok
+
+pub returns-in_err-put_item-clause-err : goal.returns-in_err-put_item-clause-err
+returns-in_err-put_item-clause-err g c = on_err c.from_residual.result (adding_part _ _ _ _ _ _ c.loop-prefix.invariant)
+
+pub returns-in_err-spill-clause-err : goal.returns-in_err-spill-clause-err
+returns-in_err-spill-clause-err g c =
+    on_err c.from_residual-in_err-spill.result (adding_stopped _ _ _ _ _ _ _ _ _ _ c.loop-prefix.invariant (ap (flat_map item_line) c.in-Some.ensures.steps) c.in_ok-put_item.ensures c.in_err-spill.ensures.err)

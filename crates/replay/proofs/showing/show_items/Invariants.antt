@@ -1,0 +1,10 @@
+use Rattle.std.proofs.Common.{string_bytes}
+use Rattle.std.specs.List.{flat_map}
+use Rattle.std.specs.FinMap.{entries}
+use Rattle.replay.specs.Lines.{item_line}
+use Rattle.replay.proofs.Paging.{Adding}
+use Rattle.replay.proofs.showing.show_items.Given as goal
+
+abbrev pub invariant-loop-prefix : goal.invariant-loop-prefix
+invariant-loop-prefix g l =
+    Adding (g.W.Write.contents l.initial.out) (g.W.Write.contents l.out) (string_bytes l.initial.page) (string_bytes l.page) (flat_map item_line (entries l.fn.table.items)) (flat_map item_line l.prefix-iterator)

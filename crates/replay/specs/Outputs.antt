@@ -1,0 +1,94 @@
+-- What a replay prints.
+use Rattle.std.specs.Prelude.{ℕ, ◌≡◌, ◌++◌, List, [], ◌∷◌, Option, take, map, ◌⊎◌}
+use Rattle.std.specs.List.{flat_map}
+use Rattle.std.specs.FinMap.{entries}
+use Rattle.std.specs.Io.KnownBytes.{Appends, Consumes}
+use Rattle.ospf_types.specs.declared.key.Scope.{Scope}
+use Rattle.ospf_types.specs.Lsa.{Lsa}
+use Rattle.event_state.specs.declared.event.Event.{Event}
+use Rattle.event_core.specs.Cores.{CoreValue, state_of}
+use Rattle.event_core.specs.Listings.{AreLsas}
+use Rattle.recording.specs.declared.line.Line.{Line}
+use Rattle.recording.specs.declared.line.Line.TheVariants as line
+use Rattle.recording.specs.Recordings.{RecordingValue, IsText, text_of}
+use Rattle.replay.specs.declared.show.Show.{Show}
+use Rattle.replay.specs.declared.show.Show.TheVariants as show
+use Rattle.replay.specs.Lines.{first_number, serial_line, item_line, lsa_line}
+use Rattle.replay.specs.Runs.{Answers, Prints, IsOpened}
+
+-- the recording was run with these answers to its events, and its lines printed this
+pub record IsRun (r : RecordingValue) (answers : Answers) (printed : List ℕ) (closed : CoreValue) : Type 0 where
+  pub opened : CoreValue
+  pub opening : IsOpened r.config opened
+  pub run : Prints opened (first_number r.config) r.lines answers printed closed
+
+-- the recording of the events that were taken
+abbrev pub journal_of : CoreValue → RecordingValue
+journal_of c = record { config = c.config; lines = map line.Event c.journal }
+
+-- The text after the run: the lines of the run, how far it came, and what is shown. The journal is shown alone.
+abbrev pub IsShown : Show → (printed : List ℕ) → CoreValue → (text : List ℕ) → Type 0
+IsShown show.Routes printed c text = text ≡ printed ++ serial_line c ++ flat_map item_line (entries c.table.items)
+IsShown show.Lsdb printed c text = (lsas : List (Scope × Lsa)) × AreLsas (state_of c) lsas × (text ≡ printed ++ serial_line c ++ flat_map lsa_line lsas)
+IsShown show.Journal printed c text = text ≡ text_of (journal_of c)
+
+-- The output of a recording for a show, where its events had these answers: of those that the databases take, some may have been refused for want of
+-- memory, and some answered Behind; each of these is one of the answers.
+pub record IsOutput (r : RecordingValue) (s : Show) (answers : Answers) (text : List ℕ) : Type 0 where
+  pub printed : List ℕ
+  pub closed : CoreValue
+  pub run : IsRun r answers printed closed
+  pub shown : IsShown s printed closed text
+
+-- the text is a beginning of the other
+pub record IsBeginning (text whole : List ℕ) : Type 0 where
+  pub rest : List ℕ
+  pub joined : whole ≡ text ++ rest
+
+-- the lines of the run are printed with this show
+abbrev pub PrintsRun : Show → Type 0
+PrintsRun show.Routes = Unit {0}
+PrintsRun show.Lsdb = Unit {0}
+PrintsRun show.Journal = ⊥
+
+-- the run came so far, where its lines are printed, and the text is a beginning of what these printed
+pub record IsCutRun (r : RecordingValue) (s : Show) (text : List ℕ) : Type 0 where
+  pub prints : PrintsRun s
+  pub count : ℕ
+  pub answers : Answers
+  pub printed : List ℕ
+  pub now : CoreValue
+  pub run : IsRun (record { config = r.config; lines = take count r.lines }) answers printed now
+  pub part : IsBeginning text printed
+
+-- the text is a beginning of an output
+pub record IsCutOutput (r : RecordingValue) (s : Show) (text : List ℕ) : Type 0 where
+  pub answers : Answers
+  pub whole : List ℕ
+  pub output : IsOutput r s answers whole
+  pub part : IsBeginning text whole
+
+-- what may have been written where a replay ends early: nothing, or a beginning
+abbrev pub IsCut : RecordingValue → Show → List ℕ → Type 0
+IsCut r s text = (text ≡ []) ⊎ IsCutRun r s text ⊎ IsCutOutput r s text
+
+-- the bytes that a reader had left were a recording, and a writer's known bytes grew by its output
+pub record Replays (s : Show) (before after : Option (List ℕ)) (old new : Option (List ℕ)) : Type 0 where
+  pub bytes : List ℕ
+  pub read : Consumes before after bytes
+  pub recording : RecordingValue
+  pub text : IsText bytes recording
+  pub answers : Answers
+  pub output : List ℕ
+  pub is : IsOutput recording s answers output
+  pub written : Appends old new output
+
+-- the same, and a writer's known bytes grew by a beginning of what is to be written
+pub record ReplaysPart (s : Show) (before after : Option (List ℕ)) (old new : Option (List ℕ)) : Type 0 where
+  pub bytes : List ℕ
+  pub read : Consumes before after bytes
+  pub recording : RecordingValue
+  pub text : IsText bytes recording
+  pub part : List ℕ
+  pub is : IsCut recording s part
+  pub written : Appends old new part

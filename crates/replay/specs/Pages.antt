@@ -1,0 +1,48 @@
+-- The page: the end of what is printed, which is not yet written.
+use Rattle.std.specs.Prelude.{ℕ, ◌≡◌, ◌++◌, List, [], ◌∷◌, Option, take}
+use Rattle.std.specs.Io.KnownBytes.{Appends}
+use Rattle.event_core.specs.Cores.{CoreValue}
+use Rattle.recording.specs.declared.line.Line.{Line}
+use Rattle.replay.specs.Runs.{Answers, Prints}
+use Rattle.replay.specs.Outputs.{IsBeginning}
+
+-- The text was printed: what a writer's known bytes grew by, and behind it the page now, is the page of before with the text behind it.
+pub record Adds (old new : Option (List ℕ)) (before page text : List ℕ) : Type 0 where
+  pub written : List ℕ
+  pub appended : Appends old new written
+  pub joined : before ++ text ≡ written ++ page
+
+-- a writer's known bytes grew by a beginning of this
+pub record AddsPart (old new : Option (List ℕ)) (whole : List ℕ) : Type 0 where
+  pub part : List ℕ
+  pub beginning : IsBeginning part whole
+  pub appended : Appends old new part
+
+-- ---- runs
+
+-- the line of this number was run, and what it printed stands behind the text of before
+pub record RanLine (old : CoreValue) (number : ℕ) (line : Line) (new : CoreValue) (before after : List ℕ) : Type 0 where
+  pub answers : Answers
+  pub text : List ℕ
+  pub run : Prints old number (line ∷ []) answers text new
+  pub printed : after ≡ before ++ text
+
+-- the lines were run, from this number on, and printed
+pub record Ran (old : CoreValue) (number : ℕ) (lines : List Line) (new : CoreValue) (from to : Option (List ℕ)) (before page : List ℕ) : Type 0 where
+  pub answers : Answers
+  pub text : List ℕ
+  pub run : Prints old number lines answers text new
+  pub printed : Adds from to before page text
+
+-- so many of the lines were run, and a beginning of what they printed was written
+pub record RanPart (old : CoreValue) (number : ℕ) (lines : List Line) (from to : Option (List ℕ)) (before : List ℕ) : Type 0 where
+  pub count : ℕ
+  pub answers : Answers
+  pub text : List ℕ
+  pub now : CoreValue
+  pub run : Prints old number (take count lines) answers text now
+  pub part : AddsPart from to (before ++ text)
+
+-- the lines lead from one core to the other, whatever their numbers
+abbrev pub IsRunTo : CoreValue → List Line → CoreValue → Type 0
+IsRunTo old lines new = (number : ℕ) → (answers : Answers) × (text : List ℕ) × Prints old number lines answers text new

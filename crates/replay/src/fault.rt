@@ -1,0 +1,38 @@
+ghost use Rattle.std.specs.Prelude.{Some};
+ghost use Rattle.replay.specs.Texts.{replay_fault_text};
+
+use ospf_types::memory::Memory;
+use recording::LineFault;
+use std::error::Error;
+use std::fmt;
+
+/// Why a replay ended early.
+#[derive(Clone, Copy, Debug, PartialEq, Eq)]
+pub enum ReplayFault {
+    /// The recording could not be read.
+    Read,
+    /// The output could not be written.
+    Write,
+    /// A growth was refused.
+    Memory,
+    /// No calculation stands yet for the configuration.
+    NotYet,
+    /// What was read is no recording.
+    Line(LineFault),
+}
+
+impl fmt::Display for ReplayFault {
+    ghost output = { λ fault. Some (replay_fault_text fault) };
+
+    fn fmt<W: fmt::Write>(&self, f: &mut fmt::Formatter<W>) -> fmt::Result {
+        match self {
+            ReplayFault::Read => f.write_str("cannot read"),
+            ReplayFault::Write => f.write_str("cannot write"),
+            ReplayFault::Memory => Memory.fmt(f),
+            ReplayFault::NotYet => f.write_str("33 NotYet"),
+            ReplayFault::Line(fault) => fault.fmt(f),
+        }
+    }
+}
+
+impl Error for ReplayFault {}

@@ -1,0 +1,123 @@
+//! The lines that a replay prints, each appended to a text. Where a growth was refused, the text may
+//! have a part of the line.
+ghost use Rattle.std.specs.Prelude.{◌≡◌, ◌≤◌, ◌++◌, OnOk, codes, length, string_bytes};
+ghost use Rattle.hex.specs.Hex.{encode_lower};
+ghost use Rattle.recording.specs.Forms.{scope_text};
+ghost use Rattle.route_table.specs.declared.table.Match.{Match};
+ghost use Rattle.route_table.specs.Tables.{IsMatch};
+ghost use Rattle.replay.specs.Lines.{lookup_line, answer_line, serial_line, item_line, header_text, lsa_line};
+
+use event_core::{Core, Refusal, Reply, Standing};
+use lsa_codec::{Checked, Header};
+use ospf_types::address::Address;
+use ospf_types::key::Scope;
+use ospf_types::memory::Memory;
+use ospf_types::prefix::Prefix;
+use route_table::{Item, Table};
+
+/// The match of the address in the table.
+pub(crate) fn put_lookup(
+    number: usize,
+    address: u32,
+    table: &Table,
+    text: &mut String,
+) -> Result<(), Memory>
+    ensures { OnOk result ((found : Match) × IsMatch table.now.items address found
+        × (string_bytes text.new ≡ string_bytes text.old ++ lookup_line number address table.now.serial found)) }
+{
+    let (serial, found) = (table.serial(), table.lookup(address));
+    let address = Address(address);
+    writeln!(text, "{number} lookup {address} {serial} {found}")?;
+    Ok(())
+}
+
+/// The answer to an event: nothing where the event was taken and the table is that of the state now.
+pub(crate) fn put_answer(
+    number: usize,
+    answer: Result<Reply, Refusal>,
+    text: &mut String,
+) -> Result<(), Memory>
+    ensures { OnOk result (string_bytes text.new ≡ string_bytes text.old ++ answer_line number answer) }
+{
+    match answer {
+        Ok(reply) => match reply.state {
+            Standing::Current => {}
+            Standing::Behind => writeln!(text, "{number} behind")?,
+        },
+        Err(refusal) => writeln!(text, "{number} refused {refusal}")?,
+    }
+    Ok(())
+}
+
+/// How many events were taken, and of how many the table is.
+pub(crate) fn put_serial(core: &Core, text: &mut String) -> Result<(), Memory>
+    ensures { OnOk result (string_bytes text.new ≡ string_bytes text.old ++ serial_line core.now) }
+{
+    let (serial, built) = (core.journal().len(), core.built());
+    writeln!(text, "serial {serial} built {built}")?;
+    Ok(())
+}
+
+/// A network with its route, or with a discard.
+pub(crate) fn put_item(prefix: Prefix, item: &Item, text: &mut String) -> Result<(), Memory>
+    ensures { OnOk result (string_bytes text.new ≡ string_bytes text.old ++ item_line (prefix, item.now)) }
+{
+    match item {
+        Item::Route(entry) => writeln!(text, "route {prefix} {entry}")?,
+        Item::Discard => writeln!(text, "discard {prefix}")?,
+    }
+    Ok(())
+}
+
+/// The key of an LSA, and what tells its instances apart.
+pub(crate) fn put_lsa(scope: Scope, lsa: &Checked, text: &mut String) -> Result<(), Memory>
+    ensures { OnOk result (string_bytes text.new ≡ string_bytes text.old ++ lsa_line (scope, lsa.now)) }
+{
+    put_scope(scope, text)?;
+    put_header(&lsa.header(), text)?;
+    text.push_str("\n")?;
+    Ok(())
+}
+
+fn put_scope(scope: Scope, text: &mut String) -> Result<(), Memory>
+    ensures { OnOk result (string_bytes text.new ≡ string_bytes text.old ++ (codes "lsa " ++ (scope_text scope ++ codes " "))) }
+{
+    match scope {
+        Scope::Area(id) => {
+            let area = Address(id);
+            write!(text, "lsa {area} ")?;
+        }
+        Scope::As => text.push_str("lsa as ")?,
+    }
+    Ok(())
+}
+
+fn put_header(header: &Header, text: &mut String) -> Result<(), Memory>
+    ensures { OnOk result (string_bytes text.new ≡ string_bytes text.old ++ header_text header.now) }
+{
+    let (kind, age) = (header.kind, header.age);
+    let (id, router) = (Address(header.id), Address(header.router));
+    write!(text, "{kind} {id} {router} ")?;
+    put_hexadecimal(&header.seq.to_be_bytes(), text)?;
+    text.push_str(" ")?;
+    put_hexadecimal(&header.sum.to_be_bytes(), text)?;
+    write!(text, " {age}")?;
+    Ok(())
+}
+
+// At most four bytes.
+fn put_hexadecimal(bytes: &[u8], text: &mut String) -> Result<(), Memory>
+    requires { length bytes.now ≤ 4 }
+    ensures { OnOk result (string_bytes text.new ≡ string_bytes text.old ++ encode_lower bytes.now) }
+{
+    let mut room = [0; 8];
+    let digits = &mut room[..2 * bytes.len()];
+    match hex::encode_to_slice(bytes, digits) {
+        Ok(()) => {}
+        Err(_) => unreachable!(),
+    }
+    match str::from_utf8(digits) {
+        Ok(digits) => Ok(text.push_str(digits)?),
+        Err(_) => unreachable!(),
+    }
+}

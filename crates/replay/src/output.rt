@@ -1,0 +1,75 @@
+//! The output of a replay, printed: the run, and what is shown after it.
+ghost use Rattle.std.specs.Prelude.{◌+◌, ◌^◌, ◌<◌, length, OnOk, OnErr};
+ghost use Rattle.replay.specs.Lines.{first_number};
+ghost use Rattle.replay.specs.Runs.{IsOpened};
+ghost use Rattle.replay.specs.Parts.{WritesOutput, WritesPart};
+ghost use Rattle.replay.specs.declared.show.Show.TheVariants as show;
+
+use crate::lines::put_serial;
+use crate::page::{Stop, empty_page, write_page};
+use crate::running::{run_lines, run_silently};
+use crate::showing::{show_events, show_items, show_lsas};
+use event_core::Core;
+use recording::{Line, append_header};
+use std::alloc::Global;
+use std::io;
+
+/// Runs the lines on a core that was opened, and prints the run and the routing table.
+pub(crate) fn print_routes<W: io::Write>(
+    alloc: Global,
+    core: &mut Core,
+    lines: Vec<Line>,
+    out: &mut W,
+) -> Result<(), Stop>
+    requires opened { IsOpened core.old.config core.old }
+    requires few { first_number core.old.config + length lines.items < 2 ^ 64 }
+    ensures ok { OnOk result (WritesOutput (record { config = core.old.config; lines = lines.items }) show.Routes (W.contents out.old) (W.contents out.new)) }
+    ensures err { OnErr result (WritesPart (record { config = core.old.config; lines = lines.items }) show.Routes (W.contents out.old) (W.contents out.new)) }
+{
+    let mut page = empty_page(alloc)?;
+    run_lines(core, lines, out, &mut page)?;
+    put_serial(core, &mut page)?;
+    show_items(core.table(), out, &mut page)?;
+    write_page(out, &mut page)?;
+    Ok(())
+}
+
+/// The same, with all LSAs.
+pub(crate) fn print_lsdb<W: io::Write>(
+    alloc: Global,
+    core: &mut Core,
+    lines: Vec<Line>,
+    out: &mut W,
+) -> Result<(), Stop>
+    requires opened { IsOpened core.old.config core.old }
+    requires few { first_number core.old.config + length lines.items < 2 ^ 64 }
+    ensures ok { OnOk result (WritesOutput (record { config = core.old.config; lines = lines.items }) show.Lsdb (W.contents out.old) (W.contents out.new)) }
+    ensures err { OnErr result (WritesPart (record { config = core.old.config; lines = lines.items }) show.Lsdb (W.contents out.old) (W.contents out.new)) }
+{
+    let mut page = empty_page(alloc)?;
+    run_lines(core, lines, out, &mut page)?;
+    let lsas = core.lsas()?;
+    put_serial(core, &mut page)?;
+    show_lsas(lsas, out, &mut page)?;
+    write_page(out, &mut page)?;
+    Ok(())
+}
+
+/// Runs the lines, and prints the events that were taken, as a recording, alone.
+pub(crate) fn print_journal<W: io::Write>(
+    alloc: Global,
+    core: &mut Core,
+    lines: Vec<Line>,
+    out: &mut W,
+) -> Result<(), Stop>
+    requires { IsOpened core.old.config core.old }
+    ensures ok { OnOk result (WritesOutput (record { config = core.old.config; lines = lines.items }) show.Journal (W.contents out.old) (W.contents out.new)) }
+    ensures err { OnErr result (WritesPart (record { config = core.old.config; lines = lines.items }) show.Journal (W.contents out.old) (W.contents out.new)) }
+{
+    let mut page = empty_page(alloc)?;
+    run_silently(core, lines);
+    append_header(core.config(), &mut page)?;
+    show_events(alloc, core.journal(), out, &mut page)?;
+    write_page(out, &mut page)?;
+    Ok(())
+}

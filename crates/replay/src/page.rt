@@ -1,0 +1,61 @@
+//! The page: what is printed is collected, and written where it has become long.
+ghost use Rattle.std.specs.Prelude.{IfOk, OnOk, OnErr, [], ◌≡◌, string_bytes};
+ghost use Rattle.replay.specs.Pages.{Adds, AddsPart};
+
+use crate::writing::{CannotWrite, write_whole};
+use ospf_types::memory::Memory;
+use std::alloc::Global;
+use std::io;
+
+/// Why nothing more is printed.
+#[derive(Clone, Copy)]
+pub(crate) enum Stop {
+    /// The output could not be written.
+    Write,
+    /// A growth was refused.
+    Memory,
+}
+
+impl From<CannotWrite> for Stop {
+    fn from(_e: CannotWrite) -> Stop {
+        Stop::Write
+    }
+}
+
+impl From<Memory> for Stop {
+    fn from(_e: Memory) -> Stop {
+        Stop::Memory
+    }
+}
+
+// How many bytes are collected before they are written.
+const LENGTH: usize = 8192;
+
+/// A page with nothing on it, and with room for a line that stands behind the last of its bytes.
+pub(crate) fn empty_page(alloc: Global) -> Result<String, Memory>
+    ensures { IfOk result (λ page. string_bytes page ≡ []) }
+{
+    Ok(String::with_capacity(alloc, 2 * LENGTH)?)
+}
+
+/// Writes the page where it has become long.
+pub(crate) fn spill<W: io::Write>(out: &mut W, page: &mut String) -> Result<(), CannotWrite>
+    ensures ok { OnOk result (Adds (W.contents out.old) (W.contents out.new) (string_bytes page.old) (string_bytes page.new) []) }
+    ensures err { OnErr result (AddsPart (W.contents out.old) (W.contents out.new) (string_bytes page.old)) }
+{
+    if page.len() < LENGTH {
+        return Ok(());
+    }
+    write_page(out, page)
+}
+
+/// Writes what is on the page, and empties it.
+pub(crate) fn write_page<W: io::Write>(out: &mut W, page: &mut String) -> Result<(), CannotWrite>
+    ensures ok { OnOk result (Adds (W.contents out.old) (W.contents out.new) (string_bytes page.old) (string_bytes page.new) []) }
+    ensures empty { OnOk result (string_bytes page.new ≡ []) }
+    ensures err { OnErr result (AddsPart (W.contents out.old) (W.contents out.new) (string_bytes page.old)) }
+{
+    write_whole(out, page.as_bytes())?;
+    page.clear();
+    Ok(())
+}

@@ -1,0 +1,106 @@
+//! A replay.
+ghost use Rattle.std.specs.Prelude.{◌≡◌, ◌⊎◌, ◌+◌, ◌^◌, ◌<◌, ℕ, List, length, IfOk, IfErr, OnOk, OnErr, Some, None};
+ghost use Rattle.std.specs.Io.KnownBytes.{Consumes};
+ghost use Rattle.recording.specs.Recordings.{RecordingValue, IsText};
+ghost use Rattle.recording.specs.Faults.{IsFaultOf};
+ghost use Rattle.event_core.specs.Configs.{config_fault_of};
+ghost use Rattle.event_core.specs.Lasting.{lasting_fault_of};
+ghost use Rattle.event_core.specs.declared.fault.ConfigFault.TheVariants as config_fault;
+ghost use Rattle.replay.specs.declared.fault.ReplayFault.TheVariants as replay_fault;
+ghost use Rattle.recording.specs.declared.fault.LineFault.{LineFault};
+ghost use Rattle.replay.specs.Lines.{first_number};
+ghost use Rattle.replay.specs.Runs.{IsOpened};
+ghost use Rattle.replay.specs.Outputs.{Replays, ReplaysPart};
+ghost use Rattle.replay.specs.Parts.{IsRead, IsReadFault, IsOpenFault, WritesOutput, WritesPart};
+
+use crate::fault::ReplayFault;
+use crate::output::{print_journal, print_lsdb, print_routes};
+use crate::page::Stop;
+use crate::show::Show;
+use event_core::{ConfigFault, Core};
+use ospf_types::config::Config;
+use recording::{Line, Recording, parse};
+use std::alloc::Global;
+use std::hash::RandomState;
+use std::io;
+
+/// Reads a recording to its end, runs it on one thread, and writes what `show` names. Where it ends
+/// early, nothing is written for a fault of the input; else a beginning of the output.
+pub fn replay_one<R: io::Read, W: io::Write>(
+    alloc: Global,
+    hashing: RandomState,
+    input: &mut R,
+    out: &mut W,
+    show: Show,
+) -> Result<(), ReplayFault>
+    ensures ok { OnOk result (Replays show (R.remaining input.old) (R.remaining input.new) (W.contents out.old) (W.contents out.new)) }
+    ensures read { result ≡ Err replay_fault.Read → out.new ≡ out.old }
+    ensures line { (f : LineFault) → result ≡ Err (replay_fault.Line f) → (out.new ≡ out.old)
+        × ((bytes : List ℕ) × Consumes (R.remaining input.old) (R.remaining input.new) bytes × IsFaultOf bytes f) }
+    ensures not_yet { result ≡ Err replay_fault.NotYet → (out.new ≡ out.old)
+        × ((bytes : List ℕ) × (r : RecordingValue) × Consumes (R.remaining input.old) (R.remaining input.new) bytes × IsText bytes r × (config_fault_of r.config ≡ Some config_fault.NotYet)) }
+    ensures write { result ≡ Err replay_fault.Write → ReplaysPart show (R.remaining input.old) (R.remaining input.new) (W.contents out.old) (W.contents out.new) }
+    ensures memory { result ≡ Err replay_fault.Memory → (out.new ≡ out.old)
+        ⊎ ReplaysPart show (R.remaining input.old) (R.remaining input.new) (W.contents out.old) (W.contents out.new) }
+{
+    let recording = read_recording(alloc, input)?;
+    let (config, lines) = recording.into_parts();
+    let core = open_core(alloc, config, hashing)?;
+    match print_replay(alloc, core, lines, out, show) {
+        Ok(()) => Ok(()),
+        Err(Stop::Write) => Err(ReplayFault::Write),
+        Err(Stop::Memory) => Err(ReplayFault::Memory),
+    }
+}
+
+// Reads to the end, and takes what was read for a recording.
+fn read_recording<R: io::Read>(alloc: Global, input: &mut R) -> Result<Recording, ReplayFault>
+    ensures recording { IfOk result (IsRead (R.remaining input.old) (R.remaining input.new)) }
+    ensures fault { IfErr result (IsReadFault (R.remaining input.old) (R.remaining input.new)) }
+{
+    let mut bytes = Vec::new(alloc);
+    match input.read_to_end(&mut bytes) {
+        Ok(_) => match parse(alloc, &bytes) {
+            Ok(recording) => Ok(recording),
+            Err(fault) => Err(ReplayFault::Line(fault)),
+        },
+        Err(error) => Err(match error.kind() {
+            io::ErrorKind::OutOfMemory => ReplayFault::Memory,
+            _ => ReplayFault::Read,
+        }),
+    }
+}
+
+// The core that a run begins with. The configuration of a recording has none of the lasting faults.
+fn open_core(alloc: Global, config: Config, hashing: RandomState) -> Result<Core, ReplayFault>
+    requires { lasting_fault_of config ≡ None }
+    ensures core { IfOk result (IsOpened config) }
+    ensures fault { IfErr result (IsOpenFault config) }
+{
+    match Core::open(alloc, config, hashing) {
+        Ok(core) => Ok(core),
+        Err(ConfigFault::NotYet) => Err(ReplayFault::NotYet),
+        Err(ConfigFault::Memory) => Err(ReplayFault::Memory),
+        Err(_) => unreachable!(),
+    }
+}
+
+// Runs the lines on a core that was opened, and prints what is shown.
+fn print_replay<W: io::Write>(
+    alloc: Global,
+    mut core: Core,
+    lines: Vec<Line>,
+    out: &mut W,
+    show: Show,
+) -> Result<(), Stop>
+    requires opened { IsOpened core.config core }
+    requires few { first_number core.config + length lines.items < 2 ^ 64 }
+    ensures ok { OnOk result (WritesOutput (record { config = core.config; lines = lines.items }) show (W.contents out.old) (W.contents out.new)) }
+    ensures err { OnErr result (WritesPart (record { config = core.config; lines = lines.items }) show (W.contents out.old) (W.contents out.new)) }
+{
+    match show {
+        Show::Routes => print_routes(alloc, &mut core, lines, out),
+        Show::Lsdb => print_lsdb(alloc, &mut core, lines, out),
+        Show::Journal => print_journal(alloc, &mut core, lines, out),
+    }
+}

@@ -1,0 +1,79 @@
+//! The run of a recording's lines.
+ghost use Rattle.std.specs.Prelude.{◌≡◌, [], ◌∷◌, ◌+◌, ◌^◌, ◌<◌, length, OnOk, OnErr, string_bytes};
+ghost use Rattle.replay.specs.Lines.{first_number};
+ghost use Rattle.replay.specs.Pages.{Ran, RanPart, RanLine, IsRunTo};
+
+use crate::lines::{put_answer, put_lookup};
+use crate::page::{Stop, spill};
+use event_core::Core;
+use ospf_types::config::Config;
+use ospf_types::memory::Memory;
+use recording::Line;
+use std::io;
+
+/// Runs the lines behind the header, and prints what comes of them.
+pub(crate) fn run_lines<W: io::Write>(
+    core: &mut Core,
+    lines: Vec<Line>,
+    out: &mut W,
+    page: &mut String,
+) -> Result<(), Stop>
+    requires { first_number core.old.config + length lines.items < 2 ^ 64 }
+    ensures ok { OnOk result (Ran core.old (first_number core.old.config) lines.items core.new (W.contents out.old) (W.contents out.new) (string_bytes page.old) (string_bytes page.new)) }
+    ensures err { OnErr result (RanPart core.old (first_number core.old.config) lines.items (W.contents out.old) (W.contents out.new) (string_bytes page.old)) }
+{
+    let mut number = number_of_first(core.config());
+    for line in lines {
+        run_line(core, number, line, page)?;
+        spill(out, page)?;
+        number += 1;
+    }
+    Ok(())
+}
+
+// The number of the first line behind the header, which has a line for the version, one for the router,
+// and one for each area and each range.
+fn number_of_first(config: &Config) -> usize
+    requires { first_number config.now < 2 ^ 64 }
+    ensures { result ≡ first_number config.now }
+{
+    let mut number = 3;
+    for area in config.areas.as_slice() {
+        number += 1 + area.ranges.len();
+    }
+    number
+}
+
+// Runs a line, and appends what comes of it.
+fn run_line(core: &mut Core, number: usize, line: Line, text: &mut String) -> Result<(), Memory>
+    ensures { OnOk result (RanLine core.old number line core.new (string_bytes text.old) (string_bytes text.new)) }
+{
+    match line {
+        Line::Event(event) => put_answer(number, core.apply(event), text),
+        Line::Lookup(address) => put_lookup(number, address, core.table(), text),
+    }
+}
+
+/// Runs the lines, and prints nothing.
+pub(crate) fn run_silently(core: &mut Core, lines: Vec<Line>)
+    ensures { IsRunTo core.old lines.items core.new }
+{
+    for line in lines {
+        take_line(core, line);
+    }
+}
+
+// Runs a line.
+fn take_line(core: &mut Core, line: Line)
+    ensures { IsRunTo core.old (line ∷ []) core.new }
+{
+    match line {
+        Line::Event(event) => {
+            let _ = core.apply(event);
+        }
+        // What is found is not printed, but that something is found is a part of the run.
+        Line::Lookup(address) => {
+            let _ = core.table().lookup(address);
+        }
+    }
+}

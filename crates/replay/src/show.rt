@@ -1,0 +1,10 @@
+/// What is printed after a run.
+#[derive(Clone, Copy, Debug, PartialEq, Eq)]
+pub enum Show {
+    /// The routing table.
+    Routes,
+    /// All LSAs at their present age.
+    Lsdb,
+    /// The events that were taken, as a recording, and nothing else.
+    Journal,
+}

@@ -1,0 +1,65 @@
+//! What is shown after a run.
+ghost use Rattle.std.specs.Prelude.{◌++◌, OnOk, OnErr, string_bytes};
+ghost use Rattle.std.specs.List.{flat_map};
+ghost use Rattle.std.specs.FinMap.{entries};
+ghost use Rattle.replay.specs.Lines.{item_line, lsa_line, event_line};
+ghost use Rattle.replay.specs.Pages.{Adds, AddsPart};
+
+use crate::lines::{put_item, put_lsa};
+use crate::page::{Stop, spill};
+use event_core::Event;
+use lsa_codec::Checked;
+use ospf_types::key::Scope;
+use recording::append_event;
+use route_table::Table;
+use std::alloc::Global;
+use std::io;
+
+/// The items of the table.
+pub(crate) fn show_items<W: io::Write>(
+    table: &Table,
+    out: &mut W,
+    page: &mut String,
+) -> Result<(), Stop>
+    ensures ok { OnOk result (Adds (W.contents out.old) (W.contents out.new) (string_bytes page.old) (string_bytes page.new) (flat_map item_line (entries table.now.items))) }
+    ensures err { OnErr result (AddsPart (W.contents out.old) (W.contents out.new) (string_bytes page.old ++ flat_map item_line (entries table.now.items))) }
+{
+    for (prefix, item) in table.items() {
+        put_item(prefix, item, page)?;
+        spill(out, page)?;
+    }
+    Ok(())
+}
+
+/// The LSAs, each with its scope.
+pub(crate) fn show_lsas<W: io::Write>(
+    lsas: Vec<(Scope, Checked)>,
+    out: &mut W,
+    page: &mut String,
+) -> Result<(), Stop>
+    ensures ok { OnOk result (Adds (W.contents out.old) (W.contents out.new) (string_bytes page.old) (string_bytes page.new) (flat_map lsa_line lsas.items)) }
+    ensures err { OnErr result (AddsPart (W.contents out.old) (W.contents out.new) (string_bytes page.old ++ flat_map lsa_line lsas.items)) }
+{
+    for (scope, lsa) in lsas {
+        put_lsa(scope, &lsa, page)?;
+        spill(out, page)?;
+    }
+    Ok(())
+}
+
+/// The events, as lines of a recording.
+pub(crate) fn show_events<W: io::Write>(
+    alloc: Global,
+    events: &[Event],
+    out: &mut W,
+    page: &mut String,
+) -> Result<(), Stop>
+    ensures ok { OnOk result (Adds (W.contents out.old) (W.contents out.new) (string_bytes page.old) (string_bytes page.new) (flat_map event_line events.now)) }
+    ensures err { OnErr result (AddsPart (W.contents out.old) (W.contents out.new) (string_bytes page.old ++ flat_map event_line events.now)) }
+{
+    for event in events {
+        append_event(alloc, event, page)?;
+        spill(out, page)?;
+    }
+    Ok(())
+}
