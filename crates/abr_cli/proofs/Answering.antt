@@ -1,5 +1,5 @@
 -- What `abr one` answers, from what its words say.
-use Rattle.std.proofs.Common.{◌≡◌, ◌∙◌, ◌++◌, List, ℕ, Ok, ap, sym, subst, codes, append_assoc}
+use Rattle.std.proofs.Common.{◌≡◌, ◌⊎◌, ◌∙◌, ◌++◌, List, ℕ, Ok, ap, sym, subst, inl, inr, codes, append_assoc}
 use Rattle.std.specs.Prelude.{decimal}
 use Rattle.hex.specs.Hex.{decode_of}
 use Rattle.ospf_types.specs.Lsa.{Lsa}
@@ -13,6 +13,7 @@ use Rattle.abr_cli.specs.declared.command_fault.CommandFault.{CommandFault}
 use Rattle.abr_cli.specs.declared.command_fault.CommandFault.TheVariants as fault
 use Rattle.abr_cli.specs.Command.{OneTexts}
 use Rattle.abr_cli.specs.Words.{WritesLsa}
+use Rattle.abr_cli.specs.Answers.{AnswerValue, IsAnswer, faulty}
 use Rattle.abr_cli.specs.One.{Given, Say, IsTableOf, Answer, IsCoreFault, IsFault, lookup_line}
 
 pub writes_lsa : (word read bytes : List ℕ) (lsa : Lsa) → decode_of word ≡ Ok read → bytes ≡ read → IsSound bytes → Spells bytes lsa → WritesLsa word lsa
@@ -23,6 +24,9 @@ fault_widens words g (fault.Word f) say h = absurd h
 fault_widens words g (fault.Wire f) say h = absurd h
 fault_widens words g (fault.Config f) say h = (g, say, h)
 fault_widens words g (fault.Refused r) say h = (g, say, h)
+fault_widens words g (fault.Read file) say h = absurd h
+fault_widens words g (fault.Line f) say h = absurd h
+fault_widens words g fault.NotYet say h = absurd h
 fault_widens words g fault.Memory say h = tt
 fault_widens words g fault.Write say h = absurd h
 
@@ -42,3 +46,8 @@ answers words g core table found line say right same matched printed = record {
 pub line_printed : (line word : List ℕ) (serial : ℕ) (t : TableValue) (found : Match)
     → line ≡ codes "lookup " ++ (word ++ (codes " " ++ (decimal serial ++ (codes " " ++ (match_text found ++ codes "\n"))))) → serial ≡ t.serial → line ≡ lookup_line word t found
 line_printed line word serial t found written is = written ∙ rw is (simp append_assoc)
+
+-- the answer for a fault is that of the fault, or that of want of memory
+pub fault_answers : (Prints : List ℕ → Type 0) (Is : CommandFault → Type 0) (f : CommandFault) (a : AnswerValue) → Is f → Is fault.Memory → (a ≡ faulty f) ⊎ (a ≡ faulty fault.Memory) → IsAnswer Prints Is a
+fault_answers Prints Is f a h memory (inl e) = inr (f, h, e)
+fault_answers Prints Is f a h memory (inr e) = inr (fault.Memory, memory, e)

@@ -1,5 +1,10 @@
 pub mod Building
 pub mod Matches
+pub mod Parsers
+pub mod Names
 pub mod Line
+pub mod Jobs
 pub mod Answering
 pub mod Decoding
+pub mod Said
+pub mod Ended

@@ -1,16 +1,16 @@
--- What the parse makes of `abr one` with five words, and of `abr decode` with one, that do not begin with a hyphen.
-use Rattle.std.proofs.Common.{ℕ, ◌≡◌, ◌∙◌, ◌==◌, ◌&&◌, sym, ap, ap₂, subst, refl, is_some, Bool, true, false, List, [], ◌∷◌, Option, Some, None, codes}
+-- What the parse makes of `abr one` with five words, `abr decode` with one and `abr replay` with a file, and a name of what is shown or none. The words do not begin with a hyphen; the file may be one.
+use Rattle.std.proofs.Common.{ℕ, ◌≡◌, ◌∙◌, ◌==◌, ap, ap₂, refl, inl, inr, is_some, Bool, true, false, List, [], ◌∷◌, Option, Some, None, codes, map}
+use Rattle.std.specs.Prelude.{fold}
 use Rattle.clap.specs.Lexer.{short_of, strip_byte}
 use Rattle.clap.specs.Words.{first_of}
-use Rattle.clap.specs.Walk.{Held, Row, Rule, Text, Walk, arg_by_index, finished, idle, nothing_held, rows_after, stop_after, to_positional, value, walk, walk_from, walked}
-use Rattle.clap.specs.Simple.{App, HasMatchesOf, Shape, app_of, argument_words, built, built_leaf, entered, inherited, is_simple, names_of, subcommand_of, subcommand_rows_of}
-use Rattle.clap.specs.Takes.{entered_passes, level_passes, step_passes, takes, turn_passes, walk_passes}
-use Rattle.clap.specs.declared.builder.command.Command.{Command}
-use Rattle.clap.specs.declared.parser.matches.ArgMatches.{ArgMatches}
+use Rattle.clap.specs.Walk.{Held, Row, Rule, Text, Walk, arg_by_index, finished, idle, nothing_held, rows_after, settled, stop_after, to_positional, value, walk, walk_from, walked}
+use Rattle.clap.specs.Simple.{Shape, argument_words, built, built_leaf, entered, inherited, names_of, subcommand_of}
+use Rattle.clap.specs.Faults.{check_fault, defaults_fault, entered_fault, fault_of, level_fault, settle_fault, step_fault, turn_fault, walk_fault}
+use Rattle.clap.specs.Kinds.{Kinds, or_else}
 use Rattle.clap.proofs.OnLiterals.{clap_on_literals}
-use Rattle.abr_cli.specs.Command.{ArePlain, HasOne, HasDecode, HasWords, IsJob, IsOne, IsDecode, IsPlainWord, OneTexts, one_command, decode_command, one_line, decode_line, program, texts_of}
-use Rattle.abr_cli.specs.declared.command.Job.{Job}
-use Rattle.abr_cli.specs.declared.command.Job.TheVariants.{One, Decode}
+use Rattle.replay.specs.declared.show.Show.{Show}
+use Rattle.replay.specs.declared.show.Show.TheVariants.{Routes, Lsdb, Journal}
+use Rattle.abr_cli.specs.Command.{ArePlain, HasOne, HasDecode, HasReplay, HasWords, IsFileWord, IsPlainWord, OneTexts, one_command, decode_command, replay_command, one_line, decode_line, replay_line, show_line, show_name, show_names, program, reference}
 
 -- the walk goes on with the positional at its place
 abbrev on_positional : List Rule → Walk → Text → Walk
@@ -29,19 +29,23 @@ plain_step c h position (x ∷ xs) p = go (x == 45) refl
     go true e = let bad : strip_byte 45 (x ∷ xs) ≡ Some xs = rw e refl in cc
     go false e = let none : short_of (x ∷ xs) ≡ None = rw e refl in rw (e, none) refl
 
-plain_turn : (s : Shape) (h : Held) (position : ℕ) (word : Text) → IsPlainWord word
-    → turn_passes s [] (at_rest h position) word ≡ step_passes s position h value
-plain_turn s h position [] p = refl
-plain_turn s h position (x ∷ xs) p = go (x == 45) refl
+plain_fault : (s : Shape) (h : Held) (position : ℕ) (word : Text) → IsPlainWord word
+    → turn_fault s [] (at_rest h position) word ≡ step_fault s position h value
+plain_fault s h position [] p = refl
+plain_fault s h position (x ∷ xs) p = go (x == 45) refl
   where
-    go : (b : Bool) → (x == 45) ≡ b → turn_passes s [] (at_rest h position) (x ∷ xs) ≡ step_passes s position h value
+    go : (b : Bool) → (x == 45) ≡ b → turn_fault s [] (at_rest h position) (x ∷ xs) ≡ step_fault s position h value
     go true e = let bad : strip_byte 45 (x ∷ xs) ≡ Some xs = rw e refl in cc
     go false e = let none : short_of (x ∷ xs) ≡ None = rw e refl in rw (e, none) refl
 
-passes_cons : (s : Shape) (w next : Walk) (word : Text) (rest : List Text) → turn_passes s [] w word ≡ true → walked s.rules [] w word ≡ next
-    → walk_passes s [] next rest ≡ true → walk_passes s [] w (word ∷ rest) ≡ true
-unfolding walk_passes
-passes_cons s w next word rest t e h = rw (t, e) h
+-- a word without a fault, before the others
+faultless_cons : (s : Shape) (w after : Walk) (word : Text) (rest : List Text) → turn_fault s [] w word ≡ [] → walked s.rules [] w word ≡ after
+    → walk_fault s [] after rest ≡ [] → walk_fault s [] w (word ∷ rest) ≡ []
+unfolding walk_fault
+faultless_cons s w after word rest t e h = ap₂ or_else t (ap (λ (v : Walk). walk_fault s [] v rest) e ∙ h)
+
+neither : (a b : Kinds) → a ≡ [] → b ≡ [] → or_else a b ≡ []
+neither a b p q = ap₂ or_else p q
 
 -- ---- the words of `one`
 
@@ -112,41 +116,38 @@ one_has name t p = (
   rows_have t,
 )
 
-both_true : (x y : Bool) → x ≡ true → y ≡ true → (x && y) ≡ true
-both_true x y p q = rw (p, q) refl
+-- the line has no fault where the subcommand's words have none
+faultless : (words : List Text) (stop : Option (Text × List Text))
+    → stop_after (built program).top.rules (names_of (built program)) (argument_words program words) ≡ stop
+    → entered_fault (built program) stop ≡ []
+    → level_fault (built program).top (names_of (built program)) nothing_held (argument_words program words) (is_some (entered (built program) stop)) [] ≡ []
+    → fault_of program words ≡ []
+faultless words stop e below above =
+    ap (λ (met : Option (Text × List Text)).
+    level_fault (built program).top (names_of (built program)) nothing_held (argument_words program words) (is_some (entered (built program) met)) (entered_fault (built program) met)) e
+    ∙ ap (λ (kinds : Kinds).
+    level_fault (built program).top (names_of (built program)) nothing_held (argument_words program words) (is_some (entered (built program) stop)) kinds) below
+    ∙ above
 
-takes_from : (a : App) (words : List Text) (stop : Option (Text × List Text)) → is_simple a ≡ true
-    → stop_after (built a).top.rules (names_of (built a)) (argument_words a words) ≡ stop
-    → entered_passes (built a) stop ≡ true
-    → level_passes (built a).top (names_of (built a)) nothing_held (argument_words a words) (is_some (entered (built a) stop)) ≡ true
-    → takes a words ≡ true
-takes_from a words stop s e p l =
-    both_true _ _ s
-    (both_true _ _ (subst (λ (st : Option (Text × List Text)). entered_passes (built a) st ≡ true) (sym e) p)
-    (subst (λ (st : Option (Text × List Text)). level_passes (built a).top (names_of (built a)) nothing_held (argument_words a words) (is_some (entered (built a) st)) ≡ true) (sym e) l))
-
-pub program_simple : is_simple program ≡ true
+top_faultless : (name : Text) (t : OneTexts) → level_fault (built program).top (names_of (built program)) nothing_held (argument_words program (one_line name t)) true [] ≡ []
 unfolding clap_on_literals
-program_simple = refl
+top_faultless name t = refl
 
-top_passes : (name : Text) (t : OneTexts) → level_passes (built program).top (names_of (built program)) nothing_held (argument_words program (one_line name t)) true ≡ true
-unfolding clap_on_literals
-top_passes name t = refl
-
-sub_walks : (t : OneTexts) → ArePlain t → walk_passes sub [] (walk_from nothing_held) (words_of t) ≡ true
-unfolding walk_passes
+sub_walks : (t : OneTexts) → ArePlain t → walk_fault sub [] (walk_from nothing_held) (words_of t) ≡ []
+unfolding walk_fault
 sub_walks t p =
-    passes_cons sub _ _ t.router (t.area ∷ t.address ∷ t.lsa ∷ t.lookup ∷ []) (plain_turn sub nothing_held 1 t.router p.router) (step_1 t p)
-    (passes_cons sub _ _ t.area (t.address ∷ t.lsa ∷ t.lookup ∷ []) (plain_turn sub (walk_1 t).held 2 t.area p.area) (step_2 t p)
-    (passes_cons sub _ _ t.address (t.lsa ∷ t.lookup ∷ []) (plain_turn sub (walk_2 t).held 3 t.address p.address) (step_3 t p)
-    (passes_cons sub _ _ t.lsa (t.lookup ∷ []) (plain_turn sub (walk_3 t).held 4 t.lsa p.lsa) (step_4 t p)
-    (passes_cons sub _ _ t.lookup [] (plain_turn sub (walk_4 t).held 5 t.lookup p.lookup) (step_5 t p) refl))))
+    faultless_cons sub _ _ t.router (t.area ∷ t.address ∷ t.lsa ∷ t.lookup ∷ []) (plain_fault sub nothing_held 1 t.router p.router) (step_1 t p)
+    (faultless_cons sub _ _ t.area (t.address ∷ t.lsa ∷ t.lookup ∷ []) (plain_fault sub (walk_1 t).held 2 t.area p.area) (step_2 t p)
+    (faultless_cons sub _ _ t.address (t.lsa ∷ t.lookup ∷ []) (plain_fault sub (walk_2 t).held 3 t.address p.address) (step_3 t p)
+    (faultless_cons sub _ _ t.lsa (t.lookup ∷ []) (plain_fault sub (walk_3 t).held 4 t.lsa p.lsa) (step_4 t p)
+    (faultless_cons sub _ _ t.lookup [] (plain_fault sub (walk_4 t).held 5 t.lookup p.lookup) (step_5 t p) refl))))
 
-sub_passes : (t : OneTexts) → ArePlain t → level_passes sub [] nothing_held (words_of t) false ≡ true
-sub_passes t p = both_true _ _ (sub_walks t p) (rw (walk_is t p) refl)
+sub_faultless : (t : OneTexts) → ArePlain t → level_fault sub [] nothing_held (words_of t) false [] ≡ []
+unfolding clap_on_literals
+sub_faultless t p = neither _ _ (sub_walks t p) (rw (walk_is t p) refl)
 
-pub one_takes : (name : Text) (t : OneTexts) → ArePlain t → takes program (one_line name t) ≡ true
-one_takes name t p = takes_from program (one_line name t) _ program_simple (stop_is name t) (sub_passes t p) (top_passes name t)
+pub one_faultless : (name : Text) (t : OneTexts) → ArePlain t → fault_of program (one_line name t) ≡ []
+one_faultless name t p = faultless (one_line name t) _ (stop_is name t) (sub_faultless t p) (top_faultless name t)
 
 -- ---- the word of `decode`
 
@@ -177,67 +178,145 @@ decode_has name hex p = (
   refl,
 )
 
-decode_top_passes : (name hex : Text) → level_passes (built program).top (names_of (built program)) nothing_held (argument_words program (decode_line name hex)) true ≡ true
+decode_top_faultless : (name hex : Text) → level_fault (built program).top (names_of (built program)) nothing_held (argument_words program (decode_line name hex)) true [] ≡ []
 unfolding clap_on_literals
-decode_top_passes name hex = refl
+decode_top_faultless name hex = refl
 
-decode_sub_walks : (hex : Text) → IsPlainWord hex → walk_passes decode_sub [] (walk_from nothing_held) (hex ∷ []) ≡ true
-unfolding walk_passes
+decode_sub_walks : (hex : Text) → IsPlainWord hex → walk_fault decode_sub [] (walk_from nothing_held) (hex ∷ []) ≡ []
+unfolding walk_fault
 decode_sub_walks hex p =
-    passes_cons decode_sub _ _ hex [] (plain_turn decode_sub nothing_held 1 hex p) (plain_step decode_sub.rules nothing_held 1 hex p) refl
+    faultless_cons decode_sub _ _ hex [] (plain_fault decode_sub nothing_held 1 hex p) (plain_step decode_sub.rules nothing_held 1 hex p) refl
 
-decode_sub_passes : (hex : Text) → IsPlainWord hex → level_passes decode_sub [] nothing_held (hex ∷ []) false ≡ true
-decode_sub_passes hex p = both_true _ _ (decode_sub_walks hex p) (rw (decode_walk_is hex p) refl)
+decode_sub_faultless : (hex : Text) → IsPlainWord hex → level_fault decode_sub [] nothing_held (hex ∷ []) false [] ≡ []
+unfolding clap_on_literals
+decode_sub_faultless hex p = neither _ _ (decode_sub_walks hex p) (rw (decode_walk_is hex p) refl)
 
-pub decode_takes : (name hex : Text) → IsPlainWord hex → takes program (decode_line name hex) ≡ true
-decode_takes name hex p =
-    takes_from program (decode_line name hex) _ program_simple (decode_stop_is name hex) (decode_sub_passes hex p) (decode_top_passes name hex)
+pub decode_faultless : (name hex : Text) → IsPlainWord hex → fault_of program (decode_line name hex) ≡ []
+decode_faultless name hex p =
+    faultless (decode_line name hex) _ (decode_stop_is name hex) (decode_sub_faultless hex p) (decode_top_faultless name hex)
 
--- ---- the job
+-- ---- the words of `replay`
 
-texts_same : (a b c d e a2 b2 c2 d2 e2 : Text) → a ≡ a2 → b ≡ b2 → c ≡ c2 → d ≡ d2 → e ≡ e2
-    → (let x : OneTexts = record { router = a; area = b; address = c; lsa = d; lookup = e } in
-    let y : OneTexts = record { router = a2; area = b2; address = c2; lsa = d2; lookup = e2 } in x ≡ y)
-texts_same a b c d e a2 b2 c2 d2 e2 p q r s u = rw (p, q, r, s, u) refl
+file_step : (c : List Rule) (h : Held) (position : ℕ) (word : Text) → IsFileWord word
+    → walked c [] (at_rest h position) word ≡ on_positional c (at_rest h position) word
+unfolding walked
+file_step c h position word (inl p) = plain_step c h position word p
+file_step c h position word (inr e) = rw e refl
 
-words_unique : (given : List Row) (t u : OneTexts) → HasWords given t → HasWords given u → t ≡ u
-words_unique given t u h k = texts_same t.router t.area t.address t.lsa t.lookup u.router u.area u.address u.lsa u.lookup (cc) (cc) (cc) (cc) (cc)
+file_fault : (s : Shape) (h : Held) (position : ℕ) (word : Text) → IsFileWord word
+    → turn_fault s [] (at_rest h position) word ≡ step_fault s position h value
+file_fault s h position word (inl p) = plain_fault s h position word p
+file_fault s h position word (inr e) = rw e refl
 
-one_unique : (s : Option (Text × List Row)) (t u : OneTexts) → HasOne s t → HasOne s u → t ≡ u
-one_unique s t u h k =
-    let both : Some (codes "one", h.0) ≡ Some (codes "one", k.0) = sym h.1 ∙ k.1 in
-    let pair : (codes "one", h.0) ≡ (codes "one", k.0) = cc in
-    let same : h.0 ≡ k.0 = ap (λ (p : Text × List Row). p.1) pair in
-    words_unique k.0 t u (subst (λ (r : List Row). HasWords r t) same h.2) k.2
+abbrev replay_sub : Shape
+replay_sub = built_leaf (inherited program.top (replay_command (reference (map reference show_names))).top)
 
--- one name was met
-not_both : (s : Option (Text × List Row)) (t : OneTexts) (hex : Text) → HasOne s t → HasDecode s hex → ⊥
-not_both s t hex h k =
-    let both : Some (codes "one", h.0) ≡ Some (codes "decode", k.0) = sym h.1 ∙ k.1 in
-    let pair : (codes "one", h.0) ≡ (codes "decode", k.0) = cc in
-    let name : codes "one" ≡ codes "decode" = ap (λ (p : Text × List Row). p.0) pair in
-    absurd cc
+abbrev replay_walk : Text → Walk
+replay_walk file = on_positional replay_sub.rules (at_rest nothing_held 1) file
 
-decode_unique : (s : Option (Text × List Row)) (a b : Text) → HasDecode s a → HasDecode s b → a ≡ b
-decode_unique s a b h k =
-    let both : Some (codes "decode", h.0) ≡ Some (codes "decode", k.0) = sym h.1 ∙ k.1 in
-    let pair : (codes "decode", h.0) ≡ (codes "decode", k.0) = cc in
-    let same : h.0 ≡ k.0 = ap (λ (p : Text × List Row). p.1) pair in
-    let word : first_of (codes "HEX") k.0 ≡ Some a = subst (λ (r : List Row). first_of (codes "HEX") r ≡ Some a) same h.2 in
-    cc
+-- what follows the file
+abbrev walk_on : Text → List Text → Walk
+walk_on file rest = fold (walked replay_sub.rules []) (replay_walk file) rest
 
-pub job_is_one : (s : Option (Text × List Row)) (j : Job) (t : OneTexts) → IsJob s j → HasOne s t → IsOne t j
-job_is_one s (One w) t h k = one_unique s (texts_of w) t h k
-job_is_one s (Decode w) t h k = not_both s t w.now k h
+walk_on_is : (file : Text) (rest : List Text) → IsFileWord file → walk replay_sub.rules [] nothing_held (file ∷ rest) ≡ walk_on file rest
+walk_on_is file rest p = ap (λ (w : Walk). fold (walked replay_sub.rules []) w rest) (file_step replay_sub.rules nothing_held 1 file p)
 
-pub job_is_decode : (s : Option (Text × List Row)) (j : Job) (hex : Text) → IsJob s j → HasDecode s hex → IsDecode hex j
-job_is_decode s (One w) hex h k = not_both s (texts_of w) hex h k
-job_is_decode s (Decode w) hex h k = decode_unique s w.now hex h k
+abbrev replay_rows : Text → List Text → List Row
+replay_rows file rest = finished replay_sub.rules (walk_on file rest).held
 
--- the matches of the program are those of its words
-pub rows_as_given : (c : Command) (m : ArgMatches) (words : List Text) → app_of c ≡ program → HasMatchesOf (app_of c) words m
-    → subcommand_rows_of m ≡ subcommand_of program words
-rows_as_given c m words e h = (h (ap is_simple e ∙ program_simple)).1 ∙ ap (λ (a : App). subcommand_of a words) e
+replay_rows_are : (file : Text) (rest : List Text) → IsFileWord file → rows_after replay_sub.rules [] (file ∷ rest) ≡ replay_rows file rest
+replay_rows_are file rest p = ap (λ (w : Walk). finished replay_sub.rules w.held) (walk_on_is file rest p)
 
-pub takes_as_given : (c : Command) (words line : List Text) → app_of c ≡ program → words ≡ line → takes program line ≡ true → takes (app_of c) words ≡ true
-takes_as_given c words line e is passes = ap₂ takes e is ∙ passes
+-- the words that name what is shown
+abbrev show_words : Show → List Text
+show_words show = codes "--show" ∷ show_name show ∷ []
+
+replay_stop_is : (name file : Text)
+    → stop_after (built program).top.rules (names_of (built program)) (argument_words program (replay_line name file)) ≡ Some (codes "replay", file ∷ [])
+unfolding clap_on_literals
+replay_stop_is name file = refl
+
+show_stop_is : (name file : Text) (show : Show)
+    → stop_after (built program).top.rules (names_of (built program)) (argument_words program (show_line name file show)) ≡ Some (codes "replay", file ∷ show_words show)
+unfolding clap_on_literals
+show_stop_is name file show = refl
+
+file_kept : (file : Text) (show : Show) → first_of (codes "FILE") (replay_rows file (show_words show)) ≡ Some file
+unfolding clap_on_literals
+file_kept file Routes = refl
+file_kept file Lsdb = refl
+file_kept file Journal = refl
+
+show_kept : (file : Text) (show : Show) → first_of (codes "show") (replay_rows file (show_words show)) ≡ Some (show_name show)
+unfolding clap_on_literals
+show_kept file Routes = refl
+show_kept file Lsdb = refl
+show_kept file Journal = refl
+
+pub replay_has : (name file : Text) → IsFileWord file → HasReplay (subcommand_of program (replay_line name file)) file Routes
+replay_has name file p = (
+  replay_rows file [],
+  ap (entered (built program)) (replay_stop_is name file) ∙ ap (λ (r : List Row). Some (codes "replay", r)) (replay_rows_are file [] p),
+  refl,
+  refl,
+)
+
+pub show_has : (name file : Text) (show : Show) → IsFileWord file → HasReplay (subcommand_of program (show_line name file show)) file show
+show_has name file show p = (
+  replay_rows file (show_words show),
+  ap (entered (built program)) (show_stop_is name file show) ∙ ap (λ (r : List Row). Some (codes "replay", r)) (replay_rows_are file (show_words show) p),
+  file_kept file show,
+  show_kept file show,
+)
+
+replay_top_faultless : (name file : Text)
+    → level_fault (built program).top (names_of (built program)) nothing_held (argument_words program (replay_line name file)) true [] ≡ []
+unfolding clap_on_literals
+replay_top_faultless name file = refl
+
+show_top_faultless : (name file : Text) (show : Show)
+    → level_fault (built program).top (names_of (built program)) nothing_held (argument_words program (show_line name file show)) true [] ≡ []
+unfolding clap_on_literals
+show_top_faultless name file show = refl
+
+-- what comes after the words
+abbrev end_fault : Walk → Kinds
+end_fault w =
+    or_else (settle_fault replay_sub.rules replay_sub.args_override_self w.held)
+    (or_else (defaults_fault (settled replay_sub.rules w.held).rows replay_sub.rules) (check_fault replay_sub (finished replay_sub.rules w.held) false))
+
+replay_sub_faultless : (file : Text) (rest : List Text) → IsFileWord file → walk_fault replay_sub [] (replay_walk file) rest ≡ [] → end_fault (walk_on file rest) ≡ []
+    → level_fault replay_sub [] nothing_held (file ∷ rest) false [] ≡ []
+replay_sub_faultless file rest p walks ends =
+    neither _ _
+    (faultless_cons replay_sub _ _ file rest (file_fault replay_sub nothing_held 1 file p) (file_step replay_sub.rules nothing_held 1 file p) walks)
+    (ap end_fault (walk_on_is file rest p) ∙ ends)
+
+replay_walks : (file : Text) → walk_fault replay_sub [] (replay_walk file) [] ≡ []
+unfolding clap_on_literals
+replay_walks file = refl
+
+replay_ends : (file : Text) → end_fault (walk_on file []) ≡ []
+unfolding clap_on_literals
+replay_ends file = refl
+
+show_walks : (file : Text) (show : Show) → walk_fault replay_sub [] (replay_walk file) (show_words show) ≡ []
+unfolding clap_on_literals
+show_walks file Routes = refl
+show_walks file Lsdb = refl
+show_walks file Journal = refl
+
+show_ends : (file : Text) (show : Show) → end_fault (walk_on file (show_words show)) ≡ []
+unfolding clap_on_literals
+show_ends file Routes = refl
+show_ends file Lsdb = refl
+show_ends file Journal = refl
+
+pub replay_faultless : (name file : Text) → IsFileWord file → fault_of program (replay_line name file) ≡ []
+replay_faultless name file p =
+    faultless (replay_line name file) _ (replay_stop_is name file) (replay_sub_faultless file [] p (replay_walks file) (replay_ends file)) (replay_top_faultless name file)
+
+pub show_faultless : (name file : Text) (show : Show) → IsFileWord file → fault_of program (show_line name file show) ≡ []
+show_faultless name file show p =
+    faultless (show_line name file show) _ (show_stop_is name file show)
+    (replay_sub_faultless file (show_words show) p (show_walks file show) (show_ends file show)) (show_top_faultless name file show)

@@ -1,11 +1,15 @@
--- The command line: `abr one ROUTER AREA ADDRESS HEX LOOKUP` and `abr decode HEX`.
-use Rattle.std.specs.Prelude.{◌≡◌, ◌⊎◌, true, List, [], ◌∷◌, Option, Some, None, codes}
+-- The command line: `abr one ROUTER AREA ADDRESS HEX LOOKUP`, `abr decode HEX` and `abr replay FILE [--show NAME]`.
+use Rattle.std.specs.Prelude.{◌≡◌, ◌⊎◌, true, List, [], ◌∷◌, Option, Some, None, codes, map}
+use Rattle.std.specs.Borrow.{Bor}
 use Rattle.clap.specs.Words.{App, Row, Rule, Text, IsAmong, fault_of, first_of, kind_of, new_app, new_rule, subcommand_of, with_rule, with_subcommand}
 use Rattle.clap.specs.Lexer.{strip_byte}
+use Rattle.clap.specs.declared.builder.value_parser.ValueParser.TheVariants.{Names}
 use Rattle.clap.specs.declared.error.kind.ErrorKind.TheVariants.{MissingRequiredArgument}
+use Rattle.replay.specs.declared.show.Show.{Show}
+use Rattle.replay.specs.declared.show.Show.TheVariants.{Routes, Lsdb, Journal}
 use Rattle.abr_cli.specs.declared.command.OneWords.{OneWords}
 use Rattle.abr_cli.specs.declared.command.Job.{Job}
-use Rattle.abr_cli.specs.declared.command.Job.TheVariants.{One, Decode}
+use Rattle.abr_cli.specs.declared.command.Job.TheVariants.{One, Decode, Replay}
 use Rattle.abr_cli.specs.declared.command.Usage.{Usage}
 use Rattle.abr_cli.specs.declared.command.Usage.TheVariants.{Told, Memory}
 
@@ -20,11 +24,54 @@ one_command =
 abbrev pub decode_command : App
 decode_command = with_rule (new_app (codes "decode")) (required_word (codes "HEX"))
 
--- what follows the program's name is one of its commands
-abbrev pub program : App
-program =
+-- the name of what is shown
+abbrev pub show_name : Show → Text
+show_name Routes = codes "routes"
+show_name Lsdb = codes "lsdb"
+show_name Journal = codes "journal"
+
+-- the names that `--show` takes
+abbrev pub show_names : List Text
+show_names = show_name Routes ∷ show_name Lsdb ∷ show_name Journal ∷ []
+
+-- a reference to references to names
+abbrev pub References : Type 0
+References = Bor (List (Bor Text))
+
+-- they point to the names that `--show` takes
+abbrev pub AreShowNames : References → Type 0
+AreShowNames names = map (λ s. s.now) names.now ≡ show_names
+
+-- `--show NAME`, by default `routes`
+abbrev pub show_option : References → Rule
+show_option names = record (new_rule (codes "show")) {
+  long = Some (codes "show");
+  value_names = 1;
+  parser = Some (Names names);
+  defaults = show_name Routes ∷ [];
+}
+
+abbrev pub replay_command : References → App
+replay_command names = with_rule (with_rule (new_app (codes "replay")) (required_word (codes "FILE"))) (show_option names)
+
+-- what follows the program's name is one of its commands, or asks for its version
+abbrev pub program_with : References → App
+program_with names =
     let p = new_app (codes "abr") in
-    with_subcommand (with_subcommand (record p { top = record p.top { subcommand_required = true; arg_required_else_help = true } }) one_command.top) decode_command.top
+    let top = record p { top = record p.top { has_version = true; subcommand_required = true; arg_required_else_help = true } } in
+    with_subcommand (with_subcommand (with_subcommand top one_command.top) decode_command.top) (replay_command names).top
+
+-- the program, wherever its references point
+abbrev pub IsProgram : App → Type 0
+IsProgram a = (names : References) × AreShowNames names × (a ≡ program_with names)
+
+-- a reference to the value, at no place
+abbrev pub reference : {X : Type 0} → X → Bor X
+reference x = record { ref_ptr = (0, 0); now = x }
+
+-- The program. A parse gives the same for all its references, and here they point nowhere.
+abbrev pub program : App
+program = program_with (reference (map reference show_names))
 
 -- the texts of the words of `abr one`
 pub record OneTexts : Type 0 where
@@ -59,14 +106,21 @@ HasOne met t = (rows : List Row) × (met ≡ Some (codes "one", rows)) × HasWor
 abbrev pub HasDecode : Option (Text × List Row) → Text → Type 0
 HasDecode met hex = (rows : List Row) × (met ≡ Some (codes "decode", rows)) × (first_of (codes "HEX") rows ≡ Some hex)
 
+-- `replay` was met, and this file and the name of what is shown were given for it; where no name was given, the matches have `routes`
+abbrev pub HasReplay : Option (Text × List Row) → Text → Show → Type 0
+HasReplay met file show = (rows : List Row) × (met ≡ Some (codes "replay", rows))
+    × (first_of (codes "FILE") rows ≡ Some file)
+    × (first_of (codes "show") rows ≡ Some (show_name show))
+
 -- a command was met, and its words were given
 abbrev pub HasJob : Option (Text × List Row) → Type 0
-HasJob met = ((t : OneTexts) × HasOne met t) ⊎ ((hex : Text) × HasDecode met hex)
+HasJob met = ((t : OneTexts) × HasOne met t) ⊎ ((hex : Text) × HasDecode met hex) ⊎ ((file : Text) × (show : Show) × HasReplay met file show)
 
 -- the job is the command that was met, with the words that were given for it
 abbrev pub IsJob : Option (Text × List Row) → Job → Type 0
 IsJob met (One w) = HasOne met (texts_of w)
 IsJob met (Decode hex) = HasDecode met hex.now
+IsJob met (Replay file show) = HasReplay met file.now show
 
 -- A mistake is one that the command line has. Where no mistake is found and there is no job, a word is missing.
 abbrev pub IsMistake : List Text → Usage → Type 0
@@ -93,6 +147,7 @@ pub record ArePlain (t : OneTexts) : Type 0 where
 abbrev pub IsOne : OneTexts → Job → Type 0
 IsOne t (One w) = texts_of w ≡ t
 IsOne t (Decode hex) = ⊥
+IsOne t (Replay file show) = ⊥
 
 -- the command line `abr decode` with this word, whatever the program is called
 abbrev pub decode_line : Text → Text → List Text
@@ -102,3 +157,22 @@ decode_line name hex = name ∷ codes "decode" ∷ hex ∷ []
 abbrev pub IsDecode : Text → Job → Type 0
 IsDecode word (One w) = ⊥
 IsDecode word (Decode hex) = hex.now ≡ word
+IsDecode word (Replay file show) = ⊥
+
+-- the word does not begin with a hyphen, or is one
+abbrev pub IsFileWord : Text → Type 0
+IsFileWord word = IsPlainWord word ⊎ (word ≡ codes "-")
+
+-- the command line `abr replay` with this file, whatever the program is called
+abbrev pub replay_line : Text → Text → List Text
+replay_line name file = name ∷ codes "replay" ∷ file ∷ []
+
+-- the same with `--show` and a name
+abbrev pub show_line : Text → Text → Show → List Text
+show_line name file show = name ∷ codes "replay" ∷ file ∷ codes "--show" ∷ show_name show ∷ []
+
+-- the job is `replay` of this file, to show this
+abbrev pub IsReplay : Text → Show → Job → Type 0
+IsReplay word what (One w) = ⊥
+IsReplay word what (Decode hex) = ⊥
+IsReplay word what (Replay file show) = (file.now ≡ word) × (show ≡ what)

@@ -1,7 +1,6 @@
 -- What `abr decode` prints: the fields of an LSA (RFC 2328, A.4).
-use Rattle.std.specs.Prelude.{ℕ, ◌≡◌, ◌++◌, List, [], ◌∷◌, Option, codes, decimal}
+use Rattle.std.specs.Prelude.{ℕ, ◌≡◌, ◌++◌, List, [], ◌∷◌, codes, decimal}
 use Rattle.std.specs.Int.{w16, w32, to_be_bytes}
-use Rattle.std.specs.Io.KnownBytes.{Appends}
 use Rattle.hex.specs.Hex.{encode_lower}
 use Rattle.ospf_types.specs.declared.lsa.Header.{Header}
 use Rattle.ospf_types.specs.Lsa.{Lsa}
@@ -10,8 +9,8 @@ use Rattle.lsa_codec.specs.Spelling.{body_bytes}
 use Rattle.abr_cli.specs.declared.words.WordFault.TheVariants.{NotAnAddress, NotHexadecimal, Memory}
 use Rattle.abr_cli.specs.declared.command_fault.CommandFault.{CommandFault}
 use Rattle.abr_cli.specs.declared.command_fault.CommandFault.TheVariants as fault
-use Rattle.abr_cli.specs.Words.{IsHexadecimal, WritesLsa, HasWireFault, fault_text}
-use Rattle.abr_cli.specs.Faults.{fault_line}
+use Rattle.abr_cli.specs.Words.{IsHexadecimal, WritesLsa, HasWireFault}
+use Rattle.abr_cli.specs.Answers.{AnswerValue, IsAnswer}
 
 -- the fields of a header, each behind its name; Options, sequence number and checksum in hexadecimal
 abbrev pub front_text : Header → List ℕ
@@ -45,17 +44,12 @@ IsDecodeFault word (fault.Word Memory) = Unit {0}
 IsDecodeFault word (fault.Wire f) = HasWireFault word f
 IsDecodeFault word (fault.Config f) = ⊥
 IsDecodeFault word (fault.Refused f) = ⊥
+IsDecodeFault word (fault.Read file) = ⊥
+IsDecodeFault word (fault.Line f) = ⊥
+IsDecodeFault word fault.NotYet = ⊥
 IsDecodeFault word fault.Memory = Unit {0}
 IsDecodeFault word fault.Write = ⊥
 
--- the word is that of an LSA
-abbrev pub HasDecoded : List ℕ → Type 0
-HasDecoded word = (text : List ℕ) × Decodes word text
-
--- a writer's known bytes grow by the lines of the word's LSA
-abbrev pub PrintsDecoded : List ℕ → Option (List ℕ) → Option (List ℕ) → Type 0
-PrintsDecoded word old new = (text : List ℕ) × Decodes word text × Appends old new text
-
--- the word is not hexadecimal, and a writer's known bytes grow by the line that says so
-abbrev pub PrintsNotHexadecimal : List ℕ → Option (List ℕ) → Option (List ℕ) → Type 0
-PrintsNotHexadecimal word old new = (¬ IsHexadecimal word) × Appends old new (fault_line (fault_text NotHexadecimal))
+-- the answer of `abr decode` with this word
+abbrev pub IsDecodeAnswer : List ℕ → AnswerValue → Type 0
+IsDecodeAnswer word = IsAnswer (Decodes word) (IsDecodeFault word)

@@ -1,5 +1,9 @@
 pub mod Command
 pub mod Words
 pub mod Faults
+pub mod Answers
 pub mod One
 pub mod Decode
+pub mod Usage
+pub mod Replaying
+pub mod Jobs

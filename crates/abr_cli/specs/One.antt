@@ -1,6 +1,5 @@
 -- What `abr one` answers: the longest match of an address (RFC 2328, 11.1) in the table that one LSA gives a router with one area and one interface.
-use Rattle.std.specs.Prelude.{ℕ, ◌≡◌, ◌⊎◌, ◌++◌, List, [], ◌∷◌, Option, None, codes, decimal, true}
-use Rattle.std.specs.Io.KnownBytes.{Appends}
+use Rattle.std.specs.Prelude.{ℕ, ◌≡◌, ◌⊎◌, ◌++◌, List, [], ◌∷◌, None, codes, decimal, true}
 use Rattle.ospf_types.specs.declared.config.Config.{Config}
 use Rattle.ospf_types.specs.declared.key.Scope.TheVariants as scope
 use Rattle.ospf_types.specs.Lsa.{Lsa}
@@ -8,6 +7,7 @@ use Rattle.event_state.specs.declared.event.Event.{Event}
 use Rattle.event_state.specs.declared.event.Event.TheVariants as event
 use Rattle.route_table.specs.declared.table.Match.{Match}
 use Rattle.event_state.specs.declared.refusal.Refusal.{Refusal}
+use Rattle.event_core.specs.Configs.{config_fault_of}
 use Rattle.event_core.specs.Cores.{IsFaultOf}
 use Rattle.event_state.specs.Steps.{standard_limits}
 use Rattle.event_state.specs.Refusals.{IsRefusalOf}
@@ -17,12 +17,11 @@ use Rattle.event_state.specs.Steps.{run_of, refusal_of, IsLegalList}
 use Rattle.route_table.specs.Tables.{TableValue, IsMatch}
 use Rattle.route_table.specs.Texts.{match_text}
 use Rattle.abr_cli.specs.declared.words.OneInput.{OneInput}
-use Rattle.abr_cli.specs.declared.words.WordFault.{WordFault}
 use Rattle.abr_cli.specs.declared.command_fault.CommandFault.{CommandFault}
 use Rattle.abr_cli.specs.declared.command_fault.CommandFault.TheVariants as fault
 use Rattle.abr_cli.specs.Command.{OneTexts}
-use Rattle.abr_cli.specs.Words.{Writes, WritesLsa, HasWireFault, IsFirstFault, fault_text}
-use Rattle.abr_cli.specs.Faults.{status_of, fault_line}
+use Rattle.abr_cli.specs.Words.{Writes, WritesLsa, HasWireFault, IsFirstFault, AreRead}
+use Rattle.abr_cli.specs.Answers.{AnswerValue, IsAnswer}
 
 -- what the words of the command say
 pub record Given : Type 0 where
@@ -92,27 +91,26 @@ abbrev pub IsCoreFault : Given → CommandFault → Type 0
 IsCoreFault g (fault.Word f) = ⊥
 IsCoreFault g (fault.Wire f) = ⊥
 IsCoreFault g (fault.Config f) = IsFaultOf (config_of g) f
-IsCoreFault g (fault.Refused r) = IsRefused g r
+IsCoreFault g (fault.Refused r) = (config_fault_of (config_of g) ≡ None) × IsRefused g r
+IsCoreFault g (fault.Read file) = ⊥
+IsCoreFault g (fault.Line f) = ⊥
+IsCoreFault g fault.NotYet = ⊥
 IsCoreFault g fault.Memory = Unit {0}
 IsCoreFault g fault.Write = ⊥
 
--- why there is no line
+-- Why there is no line. A word's fault is that of the first at fault, the LSA is judged once all words are read, and the configuration and
+-- the events once the LSA is. Want of memory may come anywhere.
 abbrev pub IsFault : OneTexts → CommandFault → Type 0
 IsFault words (fault.Word f) = IsFirstFault words f
-IsFault words (fault.Wire f) = HasWireFault words.lsa f
-IsFault words (fault.Config f) = (g : Given) × Say words g × IsFaultOf (config_of g) f
-IsFault words (fault.Refused r) = (g : Given) × Say words g × IsRefused g r
+IsFault words (fault.Wire f) = AreRead words × HasWireFault words.lsa f
+IsFault words (fault.Config f) = (g : Given) × Say words g × IsCoreFault g (fault.Config f)
+IsFault words (fault.Refused r) = (g : Given) × Say words g × IsCoreFault g (fault.Refused r)
+IsFault words (fault.Read file) = ⊥
+IsFault words (fault.Line f) = ⊥
+IsFault words fault.NotYet = ⊥
 IsFault words fault.Memory = Unit {0}
 IsFault words fault.Write = ⊥
 
--- the words have an answer
-abbrev pub HasAnswer : OneTexts → Type 0
-HasAnswer words = (line : List ℕ) × Answer words line
-
--- a writer's known bytes grow by the line of an answer
-abbrev pub PrintsAnswer : OneTexts → Option (List ℕ) → Option (List ℕ) → Type 0
-PrintsAnswer words old new = (line : List ℕ) × Answer words line × Appends old new line
-
--- a writer's known bytes grow by the line of a fault of the words
-abbrev pub PrintsWordFault : OneTexts → Option (List ℕ) → Option (List ℕ) → Type 0
-PrintsWordFault words old new = (f : WordFault) × (status_of (fault.Word f) ≡ 2) × IsFirstFault words f × Appends old new (fault_line (fault_text f))
+-- the answer of `abr one` with these words
+abbrev pub IsOneAnswer : OneTexts → AnswerValue → Type 0
+IsOneAnswer words = IsAnswer (Answer words) (IsFault words)

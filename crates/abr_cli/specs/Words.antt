@@ -43,6 +43,14 @@ IsFirstFault t NotAnAddress =
 IsFirstFault t NotHexadecimal = IsAddress t.router × IsAddress t.area × IsAddress t.address × ¬ IsHexadecimal t.lsa
 IsFirstFault t Memory = Unit {0}
 
+-- each word of `abr one` can be read
+pub record AreRead (t : OneTexts) : Type 0 where
+  pub router : IsAddress t.router
+  pub area : IsAddress t.area
+  pub address : IsAddress t.address
+  pub lsa : IsHexadecimal t.lsa
+  pub lookup : IsAddress t.lookup
+
 abbrev pub fault_text : WordFault → List ℕ
 fault_text NotAnAddress = codes "not an address"
 fault_text NotHexadecimal = codes "not hexadecimal"

@@ -2,6 +2,7 @@
 ghost use Rattle.std.specs.Prelude.{◌≡◌};
 
 use clap::Error;
+use replay::Show;
 use std::alloc::AllocError;
 
 /// The words of `abr one`, as they were given.
@@ -21,6 +22,8 @@ pub enum Job<'a> {
     One(OneWords<'a>),
     /// `abr decode`, with its word.
     Decode(&'a str),
+    /// `abr replay`, with its file (`-` is standard input) and what is shown.
+    Replay { file: &'a str, show: Show },
 }
 
 /// Why there is no job.

@@ -1,17 +1,18 @@
-ghost use Rattle.std.specs.Prelude.{◌≡◌, ◌⊎◌};
-ghost use Rattle.abr_cli.specs.Faults.{command_fault_text, status_of, PrintsFault};
+ghost use Rattle.std.specs.Prelude.{◌≡◌, Some};
+ghost use Rattle.abr_cli.specs.Faults.{command_fault_text, status_of};
 
 use crate::words::WordFault;
 use event_core::{ConfigFault, Refusal};
 use lsa_codec::WireFault;
 use ospf_types::memory::Memory;
+use recording::LineFault;
 use std::alloc::AllocError;
 use std::error::Error;
-use std::{fmt, io};
+use std::fmt;
 
 /// Why a command prints nothing.
 #[derive(Clone, Copy, Debug, PartialEq, Eq)]
-pub enum CommandFault {
+pub enum CommandFault<'a> {
     /// A word cannot be read.
     Word(WordFault),
     /// The bytes are no LSA.
@@ -20,16 +21,22 @@ pub enum CommandFault {
     Config(ConfigFault),
     /// The interface or the LSA was refused.
     Refused(Refusal),
+    /// The file of a recording, of this name, cannot be read.
+    Read(&'a str),
+    /// The file is no recording.
+    Line(LineFault),
+    /// No calculation stands yet for the configuration of a recording.
+    NotYet,
     /// A growth was refused.
     Memory,
     /// What there is to print could not be written.
     Write,
 }
 
-impl CommandFault {
+impl CommandFault<'_> {
     /// The status of the program: 2 for a word that cannot be read, and else 1.
     pub fn status(self) -> u8
-        ensures { result ≡ status_of self }
+        ensures { result ≡ status_of self.entry }
     {
         match self {
             CommandFault::Word(WordFault::NotAnAddress | WordFault::NotHexadecimal) => 2,
@@ -38,8 +45,8 @@ impl CommandFault {
     }
 }
 
-impl fmt::Display for CommandFault {
-    ghost output = { command_fault_text };
+impl fmt::Display for CommandFault<'_> {
+    ghost output = { λ fault. Some (command_fault_text fault) };
 
     fn fmt<W: fmt::Write>(&self, f: &mut fmt::Formatter<W>) -> fmt::Result {
         match self {
@@ -47,82 +54,73 @@ impl fmt::Display for CommandFault {
             CommandFault::Wire(fault) => fault.fmt(f),
             CommandFault::Config(fault) => fault.fmt(f),
             CommandFault::Refused(fault) => fault.fmt(f),
+            CommandFault::Read(file) => write!(f, "cannot read {file}"),
+            CommandFault::Line(fault) => fault.fmt(f),
+            CommandFault::NotYet => f.write_str("33 NotYet"),
             CommandFault::Memory => Memory.fmt(f),
             CommandFault::Write => f.write_str("cannot write"),
         }
     }
 }
 
-impl Error for CommandFault {}
+impl Error for CommandFault<'_> {}
 
-impl From<WordFault> for CommandFault {
+impl<'a> From<WordFault> for CommandFault<'a> {
     ghost use Rattle.abr_cli.specs.declared.command_fault.CommandFault.TheVariants.{Word};
 
     ghost from_gives = { λ fault given. given ≡ Word fault };
 
-    fn from(fault: WordFault) -> CommandFault {
+    fn from(fault: WordFault) -> CommandFault<'a> {
         CommandFault::Word(fault)
     }
 }
 
-impl From<WireFault> for CommandFault {
+impl<'a> From<WireFault> for CommandFault<'a> {
     ghost use Rattle.abr_cli.specs.declared.command_fault.CommandFault.TheVariants.{Wire};
 
     ghost from_gives = { λ fault given. given ≡ Wire fault };
 
-    fn from(fault: WireFault) -> CommandFault {
+    fn from(fault: WireFault) -> CommandFault<'a> {
         CommandFault::Wire(fault)
     }
 }
 
-impl From<ConfigFault> for CommandFault {
+impl<'a> From<ConfigFault> for CommandFault<'a> {
     ghost use Rattle.abr_cli.specs.declared.command_fault.CommandFault.TheVariants.{Config};
 
     ghost from_gives = { λ fault given. given ≡ Config fault };
 
-    fn from(fault: ConfigFault) -> CommandFault {
+    fn from(fault: ConfigFault) -> CommandFault<'a> {
         CommandFault::Config(fault)
     }
 }
 
-impl From<Refusal> for CommandFault {
+impl<'a> From<Refusal> for CommandFault<'a> {
     ghost use Rattle.abr_cli.specs.declared.command_fault.CommandFault.TheVariants.{Refused};
 
     ghost from_gives = { λ refusal given. given ≡ Refused refusal };
 
-    fn from(refusal: Refusal) -> CommandFault {
+    fn from(refusal: Refusal) -> CommandFault<'a> {
         CommandFault::Refused(refusal)
     }
 }
 
-impl From<Memory> for CommandFault {
+impl<'a> From<Memory> for CommandFault<'a> {
     ghost use Rattle.abr_cli.specs.declared.command_fault.CommandFault.TheVariants as fault;
 
     ghost from_gives = { λ _ given. given ≡ fault.Memory };
 
-    fn from(_e: Memory) -> CommandFault {
+    fn from(_e: Memory) -> CommandFault<'a> {
         CommandFault::Memory
     }
 }
 
-impl From<AllocError> for CommandFault {
+impl<'a> From<AllocError> for CommandFault<'a> {
     ghost use Rattle.abr_cli.specs.declared.command_fault.CommandFault.TheVariants as fault;
 
     ghost from_gives = { λ _ given. given ≡ fault.Memory };
 
-    fn from(_e: AllocError) -> CommandFault {
+    fn from(_e: AllocError) -> CommandFault<'a> {
         CommandFault::Memory
-    }
-}
-
-/// Says why nothing is printed, as `abr: FAULT`. The answer is the status, and 1 where that cannot be
-/// said.
-pub fn report<F: io::Write>(faults: &mut F, fault: CommandFault) -> u8
-    ensures status { (result ≡ 1) ⊎ (result ≡ status_of fault) }
-    ensures printed { result ≡ 2 → PrintsFault fault (F.contents faults.old) (F.contents faults.new) }
-{
-    match writeln!(faults, "abr: {fault}") {
-        Ok(()) => fault.status(),
-        Err(_) => 1,
     }
 }

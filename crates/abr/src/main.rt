@@ -1,0 +1,37 @@
+//! The program `abr`: the databases and the routing table of an OSPF area border router (RFC 2328) from
+//! the command line. What its words mean, and what is written, `abr_cli` says; here is what it needs of
+//! the system.
+#![tactic(auto)]
+
+mod source;
+
+use abr_cli::{Answer, job, run, tell};
+use source::Source;
+use std::hash::RandomState;
+use std::io;
+use std::process::ExitCode;
+
+fn main(rt: HostRuntime) -> io::Result<ExitCode> {
+    let status = match status(&rt) {
+        Ok(status) => status,
+        Err(error) if error.kind() == io::ErrorKind::OutOfMemory => {
+            tell(&Answer::NoMemory, &mut rt.stdout(), &mut rt.stderr())
+        }
+        Err(error) => return Err(error),
+    };
+    Ok(ExitCode::from(status))
+}
+
+// Does what the words ask for. What is returned is the status.
+fn status(rt: &HostRuntime) -> io::Result<u8> {
+    let given: Vec<String> = std::env::args(rt)?.collect(rt.alloc())?;
+    let mut words = Vec::new(rt.alloc());
+    for word in given.as_slice() {
+        words.push(word.as_str())?;
+    }
+    let job = job(rt.alloc(), words.as_slice());
+    let hashing = RandomState::new(rt)?;
+    let mut input = Source::of(rt, &job);
+    let (out, faults) = (&mut rt.stdout(), &mut rt.stderr());
+    Ok(run(rt.alloc(), hashing, job, &mut input, out, faults))
+}

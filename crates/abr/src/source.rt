@@ -1,0 +1,37 @@
+use abr_cli::{Job, Usage};
+use std::fs::File;
+use std::io;
+use std::io::{Read, Stdin};
+
+/// Where a recording is read from.
+#[derive(Drop)]
+pub enum Source {
+    File(File),
+    Standard(Stdin),
+    /// There is none, or it could not be opened. Every read fails.
+    Missing,
+}
+
+impl Source {
+    /// The file that the job names, and standard input for `-`.
+    pub fn of(rt: &HostRuntime, job: &Result<Job<'_>, Usage>) -> Source {
+        match job {
+            Ok(Job::Replay { file: "-", .. }) => Source::Standard(rt.stdin()),
+            Ok(Job::Replay { file, .. }) => match File::open(rt, *file) {
+                Ok(file) => Source::File(file),
+                Err(_) => Source::Missing,
+            },
+            _ => Source::Missing,
+        }
+    }
+}
+
+impl Read for Source {
+    fn read(&mut self, buf: &mut [u8]) -> io::Result<usize> {
+        match self {
+            Source::File(file) => file.read(buf),
+            Source::Standard(input) => input.read(buf),
+            Source::Missing => Err(io::Error::from(io::ErrorKind::NotFound)),
+        }
+    }
+}

@@ -1,0 +1,97 @@
+-- The job is the command that was met.
+use Rattle.std.proofs.Common.{◌≡◌, ◌≢◌, ◌⊎◌, ◌∙◌, sym, ap, subst, refl, inl, inr, lit<, List, [], Option, Some, codes}
+use Rattle.clap.specs.Words.{Row, Text, first_of, kind_of}
+use Rattle.clap.specs.Faults.{fault_of}
+use Rattle.clap.specs.Kinds.{HasKind, IsAmong, Kinds}
+use Rattle.clap.specs.declared.error.Error.{Error}
+use Rattle.clap.specs.declared.error.kind.ErrorKind.TheVariants.{OutOfMemory}
+use Rattle.replay.specs.declared.show.Show.{Show}
+use Rattle.replay.specs.declared.show.Show.TheVariants.{Routes, Lsdb, Journal}
+use Rattle.abr_cli.specs.Command.{HasOne, HasDecode, HasReplay, HasWords, IsJob, IsMistake, IsOne, IsDecode, IsReplay, OneTexts, program, show_name, texts_of}
+use Rattle.abr_cli.specs.declared.command.Job.{Job}
+use Rattle.abr_cli.specs.declared.command.Job.TheVariants.{One, Decode, Replay}
+use Rattle.abr_cli.specs.declared.command.Usage.{Usage}
+use Rattle.abr_cli.specs.declared.command.Usage.TheVariants.{Told, Memory}
+use Rattle.abr_cli.proofs.Matches.{decode_is_no_replay, first_differs, one_given, one_is_no_decode, one_is_no_replay}
+
+-- one command was met, with its rows
+one_met : (s : Option (Text × List Row)) (a b : Text) (x y : List Row) → s ≡ Some (a, x) → s ≡ Some (b, y) → (a ≡ b) × (x ≡ y)
+one_met s a b x y p q =
+    let both : Some (a, x) ≡ Some (b, y) = sym p ∙ q in
+    let pair : (a, x) ≡ (b, y) = cc in
+    (ap (λ (m : Text × List Row). m.0) pair, ap (λ (m : Text × List Row). m.1) pair)
+
+texts_same : (a b c d e a2 b2 c2 d2 e2 : Text) → a ≡ a2 → b ≡ b2 → c ≡ c2 → d ≡ d2 → e ≡ e2
+    → (let x : OneTexts = record { router = a; area = b; address = c; lsa = d; lookup = e } in
+    let y : OneTexts = record { router = a2; area = b2; address = c2; lsa = d2; lookup = e2 } in x ≡ y)
+texts_same a b c d e a2 b2 c2 d2 e2 p q r s u = rw (p, q, r, s, u) refl
+
+words_unique : (given : List Row) (t u : OneTexts) → HasWords given t → HasWords given u → t ≡ u
+words_unique given t u h k = texts_same t.router t.area t.address t.lsa t.lookup u.router u.area u.address u.lsa u.lookup (cc) (cc) (cc) (cc) (cc)
+
+one_unique : (s : Option (Text × List Row)) (t u : OneTexts) → HasOne s t → HasOne s u → t ≡ u
+one_unique s t u h k =
+    let same : h.0 ≡ k.0 = (one_met s _ _ h.0 k.0 h.1 k.1).1 in
+    words_unique k.0 t u (subst (λ (r : List Row). HasWords r t) same h.2) k.2
+
+decode_unique : (s : Option (Text × List Row)) (a b : Text) → HasDecode s a → HasDecode s b → a ≡ b
+decode_unique s a b h k =
+    let same : h.0 ≡ k.0 = (one_met s _ _ h.0 k.0 h.1 k.1).1 in
+    one_given _ a b (subst (λ (r : List Row). first_of (codes "HEX") r ≡ Some a) same h.2) k.2
+
+show_unique : (a b : Show) → show_name a ≡ show_name b → a ≡ b
+show_unique Routes Routes e = refl
+show_unique Routes Lsdb e = absurd (first_differs (show_name Routes) (show_name Lsdb) (show_name Routes) (lit< tt) e refl)
+show_unique Routes Journal e = absurd (first_differs (show_name Routes) (show_name Journal) (show_name Routes) (lit< tt) e refl)
+show_unique Lsdb Routes e = absurd (first_differs (show_name Lsdb) (show_name Lsdb) (show_name Routes) (lit< tt) refl e)
+show_unique Lsdb Lsdb e = refl
+show_unique Lsdb Journal e = absurd (first_differs (show_name Lsdb) (show_name Journal) (show_name Lsdb) (lit< tt) e refl)
+show_unique Journal Routes e = absurd (first_differs (show_name Journal) (show_name Journal) (show_name Routes) (lit< tt) refl e)
+show_unique Journal Lsdb e = absurd (first_differs (show_name Journal) (show_name Journal) (show_name Lsdb) (lit< tt) refl e)
+show_unique Journal Journal e = refl
+
+replay_unique : (s : Option (Text × List Row)) (a b : Text) (x y : Show) → HasReplay s a x → HasReplay s b y → (a ≡ b) × (x ≡ y)
+replay_unique s a b x y h k =
+    let same : h.0 ≡ k.0 = (one_met s _ _ h.0 k.0 h.1 k.1).1 in (
+      one_given _ a b (subst (λ (r : List Row). first_of (codes "FILE") r ≡ Some a) same h.2) k.2,
+      show_unique x y (one_given _ (show_name x) (show_name y) (subst (λ (r : List Row). first_of (codes "show") r ≡ Some (show_name x)) same h.3) k.3),
+    )
+
+one_or_decode : (s : Option (Text × List Row)) (t : OneTexts) (hex : Text) → HasOne s t → HasDecode s hex → ⊥
+one_or_decode s t hex h k = one_is_no_decode (codes "one") refl (one_met s _ _ h.0 k.0 h.1 k.1).0
+
+one_or_replay : (s : Option (Text × List Row)) (t : OneTexts) (file : Text) (show : Show) → HasOne s t → HasReplay s file show → ⊥
+one_or_replay s t file show h k = one_is_no_replay (codes "one") refl (one_met s _ _ h.0 k.0 h.1 k.1).0
+
+decode_or_replay : (s : Option (Text × List Row)) (hex file : Text) (show : Show) → HasDecode s hex → HasReplay s file show → ⊥
+decode_or_replay s hex file show h k = decode_is_no_replay (codes "decode") refl (one_met s _ _ h.0 k.0 h.1 k.1).0
+
+pub job_is_one : (s : Option (Text × List Row)) (j : Job) (t : OneTexts) → IsJob s j → HasOne s t → IsOne t j
+job_is_one s (One w) t h k = one_unique s (texts_of w) t h k
+job_is_one s (Decode w) t h k = one_or_decode s t w.now k h
+job_is_one s (Replay file show) t h k = one_or_replay s t file.now show k h
+
+pub job_is_decode : (s : Option (Text × List Row)) (j : Job) (hex : Text) → IsJob s j → HasDecode s hex → IsDecode hex j
+job_is_decode s (One w) hex h k = one_or_decode s (texts_of w) hex h k
+job_is_decode s (Decode w) hex h k = decode_unique s w.now hex h k
+job_is_decode s (Replay file show) hex h k = decode_or_replay s hex file.now show k h
+
+pub job_is_replay : (s : Option (Text × List Row)) (j : Job) (word : Text) (what : Show) → IsJob s j → HasReplay s word what → IsReplay word what j
+job_is_replay s (One w) word what h k = one_or_replay s (texts_of w) word what h k
+job_is_replay s (Decode w) word what h k = decode_or_replay s w.now word what h k
+job_is_replay s (Replay file show) word what h k = replay_unique s file.now word show what h k
+
+-- ---- where there is none
+
+abbrev UsageOf : Error → Usage → Type 0
+UsageOf e u = (u ≡ Memory × kind_of e ≡ OutOfMemory) ⊎ (u ≡ Told e × kind_of e ≢ OutOfMemory)
+
+pub mistake_is : (words : List Text) (e : Error) (u : Usage) → HasKind (fault_of program words) e → UsageOf e u → IsMistake words u
+mistake_is words e u h (inl m) = subst (λ (x : Usage). IsMistake words x) (sym m.0) tt
+mistake_is words e u (inl memory) (inr m) = absurd (m.1 memory)
+mistake_is words e u (inr among) (inr m) = subst (λ (x : Usage). IsMistake words x) (sym m.0) (inl among)
+
+pub only_memory : (words line : List Text) (e : Error) (u : Usage) → HasKind (fault_of program words) e → UsageOf e u → words ≡ line → fault_of program line ≡ [] → u ≡ Memory
+only_memory words line e u h (inl m) is none = m.0
+only_memory words line e u (inl memory) (inr m) is none = absurd (m.1 memory)
+only_memory words line e u (inr among) (inr m) is none = absurd (subst (λ (kinds : Kinds). IsAmong (kind_of e) kinds) (ap (fault_of program) is ∙ none) among)

@@ -1,0 +1,22 @@
+-- What the program wrote, whatever its words were.
+use Rattle.std.specs.Prelude.{ℕ, ◌≡◌, List, Option, Result, Ok, Err}
+use Rattle.abr_cli.specs.declared.command.Job.{Job}
+use Rattle.abr_cli.specs.declared.command.Job.TheVariants as job
+use Rattle.abr_cli.specs.declared.command.Usage.{Usage}
+use Rattle.abr_cli.specs.Command.{texts_of}
+use Rattle.abr_cli.specs.Answers.{Tells}
+use Rattle.abr_cli.specs.One.{IsOneAnswer}
+use Rattle.abr_cli.specs.Decode.{IsDecodeAnswer}
+use Rattle.abr_cli.specs.Replaying.{IsReplayTold}
+use Rattle.abr_cli.specs.Usage.{IsUsageAnswer}
+
+-- The job was done. A replay alone reads its input.
+abbrev pub IsDone : Job → (status : ℕ) (i i' o o' f f' : Option (List ℕ)) → Type 0
+IsDone (job.One words) status i i' o o' f f' = (i' ≡ i) × Tells (IsOneAnswer (texts_of words)) status o o' f f'
+IsDone (job.Decode hex) status i i' o o' f f' = (i' ≡ i) × Tells (IsDecodeAnswer hex.now) status o o' f f'
+IsDone (job.Replay file show) status i i' o o' f f' = IsReplayTold file show status i i' o o' f f'
+
+-- the job was done, or it was said why there is none
+abbrev pub IsJobTold : Result Job Usage → (status : ℕ) (i i' o o' f f' : Option (List ℕ)) → Type 0
+IsJobTold (Ok job) status i i' o o' f f' = IsDone job status i i' o o' f f'
+IsJobTold (Err usage) status i i' o o' f f' = (i' ≡ i) × Tells (IsUsageAnswer usage) status o o' f f'

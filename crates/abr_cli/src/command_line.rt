@@ -1,0 +1,178 @@
+//! What the command line asks for.
+ghost use Rattle.std.specs.Prelude.{◌≡◌, ◌≢◌, ◌⊎◌, IfOk, IfErr, IfSome, IsNone, MatchResult, false, map};
+ghost use Rattle.clap.specs.Words.{Text, app_of, rows_of, found_of, rule_of, subcommand_of, subcommand_rows_of, kind_of};
+ghost use Rattle.clap.specs.declared.builder.command.Command.TheViews.{out-Command};
+ghost use Rattle.replay.specs.declared.show.Show.{Show};
+ghost use Rattle.abr_cli.specs.Command.{one_command, decode_command, replay_command, program, required_word, show_option, show_name, References, AreShowNames, OneTexts, texts_of, HasWords, HasJob, IsJob, IsMistake, one_line, ArePlain, IsOne, decode_line, IsPlainWord, IsDecode, IsProgram, replay_line, show_line, IsFileWord, IsReplay};
+
+use crate::command::{Job, OneWords, Usage};
+use clap::builder::ValueParser;
+use clap::error::ErrorKind;
+use clap::{Arg, ArgMatches, Command, Error};
+use replay::Show;
+use std::alloc::{AllocError, Global};
+
+// What `--version` says.
+const VERSION: &str = "0.1.0";
+
+// What `--show` takes.
+const SHOW_NAMES: &[&str] = &["routes", "lsdb", "journal"];
+
+/// The job that the words name, the first of them the program's name.
+pub fn job<'a>(alloc: Global, words: &'a [&'a str]) -> Result<Job<'a>, Usage>
+    ensures job { IfOk result (IsJob (subcommand_of program (map (λ w. w.now) words.entry.now))) }
+    ensures mistake { IfErr result (IsMistake (map (λ w. w.now) words.entry.now)) }
+    ensures one { (name : Text) (t : OneTexts) → map (λ w. w.now) words.entry.now ≡ one_line name t
+        → ArePlain t → MatchResult result (IsOne t) (λ u. u ≡ Usage.Memory) }
+    ensures decode { (name hex : Text) → map (λ w. w.now) words.entry.now ≡ decode_line name hex
+        → IsPlainWord hex → MatchResult result (IsDecode hex) (λ u. u ≡ Usage.Memory) }
+    ensures replay { (name file : Text) → map (λ w. w.now) words.entry.now ≡ replay_line name file
+        → IsFileWord file → MatchResult result (IsReplay file Show.Routes) (λ u. u ≡ Usage.Memory) }
+    ensures show { (name file : Text) (show : Show) → map (λ w. w.now) words.entry.now ≡ show_line name file show
+        → IsFileWord file → MatchResult result (IsReplay file show) (λ u. u ≡ Usage.Memory) }
+{
+    let command = program_command(alloc)?;
+    match command.try_get_matches_from(words) {
+        Ok(matches) => match job_in(&matches) {
+            Some(job) => Ok(job),
+            None => Err(Usage::Told(missing_word(alloc)?)),
+        },
+        Err(error) => Err(usage_of(error)),
+    }
+}
+
+fn usage_of(error: Error) -> Usage
+    ensures { (result ≡ Usage.Memory × kind_of error ≡ ErrorKind.OutOfMemory)
+        ⊎ (result ≡ Usage.Told error × kind_of error ≢ ErrorKind.OutOfMemory) }
+{
+    match error.kind() {
+        ErrorKind::OutOfMemory => Usage::Memory,
+        _ => Usage::Told(error),
+    }
+}
+
+// A required word always has a value, and an option with a default too, but no clause of the matches
+// says so of a subcommand's words.
+fn missing_word(alloc: Global) -> Result<Error, AllocError>
+    ensures { IfOk result (λ e. kind_of e ≡ ErrorKind.MissingRequiredArgument) }
+{
+    let mut command = program_command(alloc)?;
+    command.error(ErrorKind::MissingRequiredArgument, "a word is missing")
+}
+
+fn job_in<'a>(matches: &ArgMatches<'a>) -> Option<Job<'a>>
+    ensures some { IfSome result (IsJob (subcommand_rows_of matches.now)) }
+    ensures none { IsNone result → ¬ HasJob (subcommand_rows_of matches.now) }
+{
+    let (name, words) = matches.subcommand()?;
+    if name == "one" {
+        Some(Job::One(one_words(words)?))
+    } else if name == "decode" {
+        Some(Job::Decode(words.get_str("HEX")?))
+    } else if name == "replay" {
+        let file = words.get_str("FILE")?;
+        let show = show_of(words.get_str("show")?)?;
+        Some(Job::Replay { file, show })
+    } else {
+        None
+    }
+}
+
+fn one_words<'a>(matches: &ArgMatches<'a>) -> Option<OneWords<'a>>
+    ensures some { IfSome result (λ w. HasWords (rows_of (found_of matches.now)) (texts_of w)) }
+    ensures none { IsNone result → (t : OneTexts) → ¬ HasWords (rows_of (found_of matches.now)) t }
+{
+    Some(OneWords {
+        router: matches.get_str("ROUTER")?,
+        area: matches.get_str("AREA")?,
+        address: matches.get_str("ADDRESS")?,
+        lsa: matches.get_str("HEX")?,
+        lookup: matches.get_str("LOOKUP")?,
+    })
+}
+
+fn show_of(name: &str) -> Option<Show>
+    ensures some { IfSome result (λ show. show_name show ≡ name.now) }
+    ensures none { IsNone result → (show : Show) → show_name show ≢ name.now }
+{
+    if name == "routes" {
+        Some(Show::Routes)
+    } else if name == "lsdb" {
+        Some(Show::Lsdb)
+    } else if name == "journal" {
+        Some(Show::Journal)
+    } else {
+        None
+    }
+}
+
+fn program_command<'a>(alloc: Global) -> Result<Command<'a>, AllocError>
+    ensures { IfOk result (λ c. IsProgram (app_of c)) }
+{
+    Command::new(alloc, "abr")
+        .about("An OSPF area border router's databases and routing table (RFC 2328)")
+        .version(VERSION)
+        .subcommand_required(true)
+        .arg_required_else_help(true)
+        .subcommand(one(alloc)?)?
+        .subcommand(decode(alloc)?)?
+        .subcommand(replay(alloc)?)
+}
+
+fn one<'a>(alloc: Global) -> Result<Command<'a>, AllocError>
+    ensures app { IfOk result (λ c. app_of c ≡ one_command) }
+    ensures local { IfOk result (λ c. (out-Command c).has_globals ≡ false) }
+{
+    Command::new(alloc, "one")
+        .about("Looks an address up in the table that one router-LSA gives")
+        .arg(word(alloc, "ROUTER", "The Router ID"))?
+        .arg(word(alloc, "AREA", "The Area ID"))?
+        .arg(word(alloc, "ADDRESS", "The address of interface 1, which is up"))?
+        .arg(word(alloc, "HEX", "The LSA, in hexadecimal"))?
+        .arg(word(alloc, "LOOKUP", "The address to look up"))
+}
+
+fn decode<'a>(alloc: Global) -> Result<Command<'a>, AllocError>
+    ensures app { IfOk result (λ c. app_of c ≡ decode_command) }
+    ensures local { IfOk result (λ c. (out-Command c).has_globals ≡ false) }
+{
+    Command::new(alloc, "decode")
+        .about("Prints the fields of an LSA")
+        .arg(word(alloc, "HEX", "The LSA, in hexadecimal"))
+}
+
+fn replay<'a>(alloc: Global) -> Result<Command<'a>, AllocError>
+    ensures app { IfOk result (λ c. (names : References) × AreShowNames names × (app_of c ≡ replay_command names)) }
+    ensures local { IfOk result (λ c. (out-Command c).has_globals ≡ false) }
+{
+    Command::new(alloc, "replay")
+        .about("Runs a recording and shows what came of it")
+        .arg(word(alloc, "FILE", "The recording, or - for standard input"))?
+        .arg(show_option(alloc))
+}
+
+fn show_option<'a>(alloc: Global) -> Arg<'a>
+    ensures rule { (names : References) × AreShowNames names × (rule_of result ≡ show_option names) }
+    ensures local { result.global ≡ false }
+{
+    Arg::new(alloc, "show")
+        .long("show")
+        .value_name("NAME")
+        .value_parser(show_parser())
+        .default_value("routes")
+        .help("What is shown after the run")
+}
+
+fn show_parser<'a>() -> ValueParser<'a>
+    ensures { (names : References) × AreShowNames names × (result ≡ ValueParser.Names names) }
+{
+    ValueParser::Names(SHOW_NAMES)
+}
+
+// A word that has to be there.
+fn word<'a>(alloc: Global, id: &'a str, help: &'a str) -> Arg<'a>
+    ensures rule { rule_of result ≡ required_word id.entry.now }
+    ensures local { result.global ≡ false }
+{
+    Arg::new(alloc, id).required(true).help(help)
+}
