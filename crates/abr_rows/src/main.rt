@@ -1,0 +1,61 @@
+//! Runs the commands of `abr` on the rows of `data/`, and prints which differ from what is wanted.
+#![tactic(auto)]
+
+mod input;
+mod row;
+mod trial;
+
+use row::read_rows;
+use std::alloc::{AllocError, Global};
+use std::hash::RandomState;
+use std::random::RandomSource;
+use std::rt::Files;
+use std::{fs, io};
+use trial::is_as_wanted;
+
+// The files of rows.
+const FILES: [&str; 3] = ["commands.rows", "recordings.rows", "events.rows"];
+
+/// How many rows ran, and how many of them differ.
+#[derive(Clone, Copy)]
+struct Count {
+    ran: u64,
+    differ: u64,
+}
+
+fn main(rt: HostRuntime) -> io::Result<()> {
+    let mut count = Count { ran: 0, differ: 0 };
+    for file in FILES {
+        count = run_file(&rt, file, count)?;
+    }
+    let Count { ran, differ } = count;
+    println!(rt; "{ran} rows, {differ} differ")
+}
+
+// Runs the rows of a file, and prints those that differ.
+fn run_file<R: Files + AllocGlobal + RandomSource + Print>(
+    rt: &R,
+    file: &str,
+    count: Count,
+) -> io::Result<Count> {
+    let text = fs::read_to_string(rt, file)?;
+    let hashing = RandomState::new(rt)?;
+    let mut count = count;
+    match read_rows(rt.alloc(), text.as_str()) {
+        Ok(rows) => {
+            for row in rows.as_slice() {
+                count.ran = count.ran.saturating_add(1);
+                if !is_as_wanted(rt.alloc(), hashing, row)? {
+                    count.differ = count.differ.saturating_add(1);
+                    let line = row.line;
+                    println!(rt; "{file}:{line} differs")?;
+                }
+            }
+        }
+        Err(fault) => {
+            count.differ = count.differ.saturating_add(1);
+            println!(rt; "{file}: {fault}")?;
+        }
+    }
+    Ok(count)
+}

@@ -1,0 +1,158 @@
+//! Rows, read. In a file of rows each line has a mark in front:
+//!
+//! | Mark | The rest of the line |
+//! |---|---|
+//! | `$` | begins a row: the words behind `abr`, with one space between each two; `""` is a word of no letters |
+//! | `<` | a line of the input, which has its line feed |
+//! | `\|` | the end of the input, which has none |
+//! | `x` | the input cannot be read |
+//! | `>` | a line of the output that is wanted |
+//! | `!` | a line that is wanted on standard error |
+//! | `?` | whatever is printed is as it is wanted |
+//! | `=` | the status that is wanted, and the end of the row |
+//! | `#` | a remark |
+
+use std::alloc::{AllocError, AllocFailed, Global};
+use std::fmt;
+
+/// A command, and what is wanted of it.
+#[derive(Debug, Drop)]
+pub struct Row<'a> {
+    /// The line at which it begins, counted from 1.
+    pub line: usize,
+    pub words: Vec<&'a str>,
+    pub input: Vec<u8>,
+    pub is_readable: bool,
+    pub output: Vec<u8>,
+    pub faults: Vec<u8>,
+    pub is_any_text: bool,
+    pub status: u8,
+}
+
+/// Why there are no rows.
+#[derive(Clone, Copy, Debug)]
+pub enum RowFault {
+    /// The line has no mark, or one that may not stand there.
+    Line(usize),
+    Memory,
+}
+
+impl fmt::Display for RowFault {
+    fn fmt<W: fmt::Write>(&self, f: &mut fmt::Formatter<W>) -> fmt::Result {
+        match self {
+            RowFault::Line(line) => write!(f, "line {line} is none of a row"),
+            RowFault::Memory => f.write_str("no memory"),
+        }
+    }
+}
+
+impl From<AllocError> for RowFault {
+    fn from(_e: AllocError) -> RowFault {
+        RowFault::Memory
+    }
+}
+
+impl<T> From<AllocFailed<T>> for RowFault
+where
+    T: Drop,
+{
+    fn from(_e: AllocFailed<T>) -> RowFault {
+        RowFault::Memory
+    }
+}
+
+/// The rows of a file, in order.
+pub fn read_rows<'a>(alloc: Global, text: &'a str) -> Result<Vec<Row<'a>>, RowFault> {
+    let mut rows = Vec::new(alloc);
+    let mut open = None;
+    let mut number = 0usize;
+    for line in text.lines() {
+        number = number.saturating_add(1);
+        open = match open {
+            None => begin_row(alloc, number, line)?,
+            Some(row) => match go_on(row, number, line)? {
+                Step::Open(row) => Some(row),
+                Step::Ended(row) => {
+                    rows.push(row)?;
+                    None
+                }
+            },
+        };
+    }
+    Ok(rows)
+}
+
+// A row, and whether it has ended.
+#[derive(Drop)]
+enum Step<'a> {
+    Open(Row<'a>),
+    Ended(Row<'a>),
+}
+
+// The row that the line begins; none where it is empty or a remark.
+fn begin_row<'a>(alloc: Global, number: usize, line: &'a str) -> Result<Option<Row<'a>>, RowFault> {
+    if line.is_empty() || line.starts_with('#') {
+        return Ok(None);
+    }
+    let Some(rest) = line.strip_prefix('$') else {
+        return Err(RowFault::Line(number));
+    };
+    Ok(Some(Row {
+        line: number,
+        words: words_of(alloc, rest)?,
+        input: Vec::new(alloc),
+        is_readable: true,
+        output: Vec::new(alloc),
+        faults: Vec::new(alloc),
+        is_any_text: false,
+        status: 0,
+    }))
+}
+
+// The words of a command, each behind a space.
+fn words_of<'a>(alloc: Global, text: &'a str) -> Result<Vec<&'a str>, RowFault> {
+    let mut words = Vec::new(alloc);
+    words.push("abr")?;
+    let mut is_first = true;
+    for word in text.split(' ') {
+        if is_first {
+            is_first = false;
+        } else if word == "\"\"" {
+            words.push("")?;
+        } else {
+            words.push(word)?;
+        }
+    }
+    Ok(words)
+}
+
+// The row with a further line.
+fn go_on<'a>(mut row: Row<'a>, number: usize, line: &str) -> Result<Step<'a>, RowFault> {
+    if let Some(status) = line.strip_prefix("= ") {
+        row.status = status.parse().map_err(|_| RowFault::Line(number))?;
+        return Ok(Step::Ended(row));
+    }
+    if let Some(text) = line.strip_prefix("< ") {
+        add_line(&mut row.input, text)?;
+    } else if let Some(text) = line.strip_prefix("| ") {
+        row.input.extend_from_slice(text.as_bytes())?;
+    } else if let Some(text) = line.strip_prefix("> ") {
+        add_line(&mut row.output, text)?;
+    } else if let Some(text) = line.strip_prefix("! ") {
+        add_line(&mut row.faults, text)?;
+    } else if line == "x" {
+        row.is_readable = false;
+    } else if line == "?" {
+        row.is_any_text = true;
+    } else {
+        return Err(RowFault::Line(number));
+    }
+    Ok(Step::Open(row))
+}
+
+// Adds the text and a line feed.
+fn add_line(to: &mut Vec<u8>, text: &str) -> Result<(), RowFault> {
+    to.extend_from_slice(text.as_bytes())?;
+    to.push(b'\n')?;
+    Ok(())
+}

@@ -1,0 +1,26 @@
+//! A row, run.
+
+use crate::input::Input;
+use crate::row::Row;
+use abr_cli::{job, run};
+use std::alloc::{AllocError, Global};
+use std::hash::RandomState;
+
+/// Whether the command answers what the row wants.
+pub fn is_as_wanted(
+    alloc: Global,
+    hashing: RandomState,
+    row: &Row<'_>,
+) -> Result<bool, AllocError> {
+    let mut input = if row.is_readable {
+        Input::Bytes(row.input.as_slice())
+    } else {
+        Input::Unreadable
+    };
+    let (mut out, mut faults) = (Vec::new(alloc), Vec::new(alloc));
+    let asked = job(alloc, row.words.as_slice());
+    let status = run(alloc, hashing, asked, &mut input, &mut out, &mut faults);
+    let is_text = row.is_any_text
+        || (out.as_slice() == row.output.as_slice() && faults.as_slice() == row.faults.as_slice());
+    Ok(status == row.status && is_text)
+}
