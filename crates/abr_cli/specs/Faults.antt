@@ -1,4 +1,4 @@
--- Why a command prints nothing, as it is printed, and the status of the program then.
+-- What went wrong with a command, as it is printed, and the status of the program then.
 use Rattle.std.specs.Prelude.{ℕ, ◌++◌, List, codes}
 use Rattle.ospf_types.specs.Text.{memory_text}
 use Rattle.lsa_codec.specs.Text.{wire_fault_text}

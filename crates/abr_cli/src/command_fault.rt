@@ -10,7 +10,7 @@ use std::alloc::AllocError;
 use std::error::Error;
 use std::fmt;
 
-/// Why a command prints nothing.
+/// What went wrong with a command.
 #[derive(Clone, Copy, Debug, PartialEq, Eq)]
 pub enum CommandFault<'a> {
     /// A word cannot be read.
