@@ -7,3 +7,4 @@ pub mod Elements
 pub mod NoLinks
 pub mod OneBest
 pub mod Maps
+pub mod InOrder

@@ -50,7 +50,7 @@ area_cost_total = then_total (on_total (λ k. k.0) nat_cmp_total) (on_total (λ 
 pub area_cost_exact : CmpEqualImpliesEq area_cost_cmp
 area_cost_exact a b h = exact_pairs nat_cmp (λ x y. nat_cmp y x) exact_unsigned (λ x y h. sym (exact_unsigned y x h)) a b h
 
-hop_total : IsTotalOrder hop_cmp
+pub hop_total : IsTotalOrder hop_cmp
 hop_total = then_total (on_total (λ h. (hop_rank h).0) nat_cmp_total) (then_total (on_total (λ h. (hop_rank h).1) nat_cmp_total) (on_total (λ h. (hop_rank h).2) nat_cmp_total))
 
 advertiser_total : IsTotalOrder advertiser_cmp
@@ -77,7 +77,7 @@ same_advertiser None (Some y) there router = absurd (omega arith)
 same_advertiser (Some x) None there router = absurd (omega arith)
 same_advertiser (Some x) (Some y) there router = ap Some router
 
-hop_exact : CmpEqualImpliesEq hop_cmp
+pub hop_exact : CmpEqualImpliesEq hop_cmp
 hop_exact x y h =
     let e = exact_pairs nat_cmp (λ (x y : ℕ × ℕ). ordering_then (nat_cmp x.0 y.0) (nat_cmp x.1 y.1)) exact_unsigned (exact_pairs nat_cmp nat_cmp exact_unsigned exact_unsigned) ((hop_rank x).0, ((hop_rank x).1, (hop_rank x).2)) ((hop_rank y).0, ((hop_rank y).1, (hop_rank y).2)) h in
     same_hop x y (ap (λ (p : ℕ × (ℕ × ℕ)). p.0) e) (ap (λ (p : ℕ × (ℕ × ℕ)). p.1.0) e) (ap (λ (p : ℕ × (ℕ × ℕ)). p.1.1) e)

@@ -1,13 +1,15 @@
--- The derived order of paths is `path_cmp`, by kind, interface, address and advertiser.
-use Rattle.std.proofs.Common.{◌≡◌, ℕ, Option, Some, None, Ordering, refl, sym, subst}
+-- The derived orders of next hops and of paths are `hop_cmp` and `path_cmp`, by kind, interface, address and advertiser; next hops are equal as values.
+use Rattle.std.proofs.Common.{◌≡◌, ℕ, Option, Some, None, Ordering, refl, sym, ap, subst, ◌&&◌, Decides, nat_eq}
 use Rattle.std.specs.declared.cmp.Ordering.TheVariants.{Less, Equal, Greater}
 use Rattle.std.specs.Option.{option_cmp}
 use Rattle.std.specs.Ordering.{nat_cmp, ordering_then}
 use Rattle.ospf_types.specs.declared.hop.NextHop.{NextHop}
 use Rattle.ospf_types.specs.declared.hop.NextHop.TheVariants.{Direct, Peer, Router}
 use Rattle.ospf_types.specs.declared.hop.Path.{Path}
+use Rattle.ospf_types.specs.contracts.hop.NextHopPartialEq.TheImpl as hop_equality
 use Rattle.ospf_types.specs.contracts.hop.NextHopOrd.TheImpl as hop_order
 use Rattle.ospf_types.specs.contracts.hop.PathOrd.TheImpl as path_order
+use Rattle.std.proofs.lemmas.Bool.Decides.{Decides-and, Decides-eqb, Decides-like}
 use Rattle.std.proofs.lemmas.Map.Lookups.{CmpEqualImpliesEq}
 use Rattle.ospf_types.specs.Hops.{hop_cmp, advertiser_cmp, path_cmp}
 use Rattle.ospf_types.proofs.Orders.{path_exact}
@@ -17,16 +19,19 @@ then_equal Less = refl
 then_equal Equal = refl
 then_equal Greater = refl
 
-hop_cmp_is : (x y : NextHop) → hop_order.ghosts.cmp x y ≡ hop_cmp x y
-hop_cmp_is (Direct a) (Direct b) = sym (then_equal (nat_cmp a b))
-hop_cmp_is (Direct a) (Peer b) = refl
-hop_cmp_is (Direct a) (Router b c) = refl
-hop_cmp_is (Peer a) (Direct b) = refl
-hop_cmp_is (Peer a) (Peer b) = sym (then_equal (nat_cmp a b))
-hop_cmp_is (Peer a) (Router b c) = refl
-hop_cmp_is (Router a c) (Direct b) = refl
-hop_cmp_is (Router a c) (Peer b) = refl
-hop_cmp_is (Router a c) (Router b d) = refl
+hop_cmp_at : (x y : NextHop) → hop_order.ghosts.cmp x y ≡ hop_cmp x y
+hop_cmp_at (Direct a) (Direct b) = sym (then_equal (nat_cmp a b))
+hop_cmp_at (Direct a) (Peer b) = refl
+hop_cmp_at (Direct a) (Router b c) = refl
+hop_cmp_at (Peer a) (Direct b) = refl
+hop_cmp_at (Peer a) (Peer b) = sym (then_equal (nat_cmp a b))
+hop_cmp_at (Peer a) (Router b c) = refl
+hop_cmp_at (Router a c) (Direct b) = refl
+hop_cmp_at (Router a c) (Peer b) = refl
+hop_cmp_at (Router a c) (Router b d) = refl
+
+pub hop_cmp_is : hop_order.ghosts.cmp ≡ hop_cmp
+hop_cmp_is = λ i x y. hop_cmp_at x y i
 
 advertiser_cmp_is : (x y : Option ℕ) → option_cmp nat_cmp x y ≡ advertiser_cmp x y
 advertiser_cmp_is None None = refl
@@ -35,7 +40,7 @@ advertiser_cmp_is (Some x) None = refl
 advertiser_cmp_is (Some x) (Some y) = refl
 
 path_cmp_at : (x y : Path) → path_order.ghosts.cmp x y ≡ path_cmp x y
-path_cmp_at x y = λ i. ordering_then (hop_cmp_is x.hop y.hop i) (advertiser_cmp_is x.advertiser y.advertiser i)
+path_cmp_at x y = λ i. ordering_then (hop_cmp_at x.hop y.hop i) (advertiser_cmp_is x.advertiser y.advertiser i)
 
 pub path_cmp_is : path_order.ghosts.cmp ≡ path_cmp
 path_cmp_is = λ i x y. path_cmp_at x y i
@@ -43,3 +48,15 @@ path_cmp_is = λ i x y. path_cmp_at x y i
 -- paths that tie are one
 pub path_order_exact : CmpEqualImpliesEq path_order.ghosts.cmp
 path_order_exact = subst (λ (R : Path → Path → Ordering). CmpEqualImpliesEq R) (sym path_cmp_is) path_exact
+
+-- the derived equality of next hops is that of values
+pub hop_eq-Decides : (x y : NextHop) → Decides (hop_equality.ghosts.eq x y) (x ≡ y)
+hop_eq-Decides (Direct a) (Direct b) = Decides-like (nat_eq a b) (λ h. ap Direct h) (λ e. cc) (Decides-eqb a b)
+hop_eq-Decides (Direct a) (Peer b) = (λ h. cc, λ e. cc)
+hop_eq-Decides (Direct a) (Router b d) = (λ h. cc, λ e. cc)
+hop_eq-Decides (Peer a) (Direct b) = (λ h. cc, λ e. cc)
+hop_eq-Decides (Peer a) (Peer b) = Decides-like (nat_eq a b) (λ h. ap Peer h) (λ e. cc) (Decides-eqb a b)
+hop_eq-Decides (Peer a) (Router b d) = (λ h. cc, λ e. cc)
+hop_eq-Decides (Router a c) (Direct b) = (λ h. cc, λ e. cc)
+hop_eq-Decides (Router a c) (Peer b) = (λ h. cc, λ e. cc)
+hop_eq-Decides (Router a c) (Router b d) = Decides-like (nat_eq a b && nat_eq c d) (λ h. λ i. Router (h.0 i) (h.1 i)) (λ e. (cc, cc)) (Decides-and (nat_eq a b) (nat_eq c d) (Decides-eqb a b) (Decides-eqb c d))

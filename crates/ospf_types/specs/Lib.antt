@@ -4,6 +4,7 @@ pub mod Masks
 pub mod Address
 pub mod Keys
 pub mod Hops
+pub mod Vertices
 pub mod Text
 pub mod Best
 pub mod Lsa

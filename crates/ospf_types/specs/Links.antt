@@ -4,6 +4,8 @@ use Rattle.std.specs.Prelude.{◌↔◌, ℕ, ◌≡◌, ◌≢◌, ◌<◌, ◌
 use Rattle.ospf_types.specs.declared.config.Interface.{Interface}
 use Rattle.ospf_types.specs.declared.entry.Vertex.{Vertex}
 use Rattle.ospf_types.specs.declared.entry.Vertex.TheVariants.{Router, Network}
+use Rattle.ospf_types.specs.declared.label.Label.{Label}
+use Rattle.ospf_types.specs.declared.label.Label.TheVariants.{Over, At, Plain}
 use Rattle.ospf_types.specs.declared.lsa.LinkKind.TheVariants.{PointToPoint, Transit}
 use Rattle.ospf_types.specs.Lsa.{Lsa, RouterLink, RouterLinks, NetworkLinks}
 use Rattle.ospf_types.specs.Inputs.{Inputs, Area, HasLsa, IsUp}
@@ -25,31 +27,37 @@ abbrev pub IsVertex : Area → Vertex → Type 0
 IsVertex a (Router r) = (flags : ℕ) × (links : List RouterLink) × IsRouter a r flags links
 IsVertex a (Network n) = (mask : ℕ) × (routers : List ℕ) × IsNetwork a n mask routers
 
--- what a link tells of the next hop: the root's interface; the addresses of a router on a network; nothing
-pub data Label : Type 0 where
-  Over : (interface : ℕ) → Label
-  At : (addresses : List ℕ) → Label
-  Plain : Label
+-- What links rest on: the router whose databases these are, the routers with their flags and links, the networks with their masks and routers, and the interfaces that are up, by identifier and address. A database is one such view, and what a graph was handed is another.
+pub record View : Type 1 where
+  pub root : ℕ
+  pub HasRouter : ℕ → ℕ → List RouterLink → Type 0
+  pub HasNetwork : ℕ → ℕ → List ℕ → Type 0
+  pub HasInterface : ℕ → ℕ → Type 0
+
+-- the vertex is there
+abbrev pub IsVertexOf : View → Vertex → Type 0
+IsVertexOf w (Router r) = (flags : ℕ) × (links : List RouterLink) × w.HasRouter r flags links
+IsVertexOf w (Network n) = (mask : ℕ) × (routers : List ℕ) × w.HasNetwork n mask routers
 
 -- the router has a point-to-point link to that router, whatever its metric
-abbrev pub NamesRouter : Area → ℕ → ℕ → Type 0
-NamesRouter a from to = (flags : ℕ) × (links : List RouterLink) × (l : RouterLink)
-    × IsRouter a from flags links × Contains links l × (l.kind ≡ PointToPoint) × (l.id ≡ to)
+abbrev pub NamesRouter : View → ℕ → ℕ → Type 0
+NamesRouter w from to = (flags : ℕ) × (links : List RouterLink) × (l : RouterLink)
+    × w.HasRouter from flags links × Contains links l × (l.kind ≡ PointToPoint) × (l.id ≡ to)
 
 -- the router has a link to that transit network, whatever its metric
-abbrev pub NamesNetwork : Area → ℕ → ℕ → Type 0
-NamesNetwork a from to = (flags : ℕ) × (links : List RouterLink) × (l : RouterLink)
-    × IsRouter a from flags links × Contains links l × (l.kind ≡ Transit) × (l.id ≡ to)
+abbrev pub NamesNetwork : View → ℕ → ℕ → Type 0
+NamesNetwork w from to = (flags : ℕ) × (links : List RouterLink) × (l : RouterLink)
+    × w.HasRouter from flags links × Contains links l × (l.kind ≡ Transit) × (l.id ≡ to)
 
 -- the network lists that router
-abbrev pub ListsRouter : Area → ℕ → ℕ → Type 0
-ListsRouter a network router = (mask : ℕ) × (routers : List ℕ) × IsNetwork a network mask routers × Contains routers router
+abbrev pub ListsRouter : View → ℕ → ℕ → Type 0
+ListsRouter w network router = (mask : ℕ) × (routers : List ℕ) × w.HasNetwork network mask routers × Contains routers router
 
 -- The label of a link of a router with this Link Data. A link of the root counts only over an interface that is up and has that address.
-abbrev pub IsLabel : Inputs → Area → ℕ → ℕ → Label → Type 0
-IsLabel s a from detail (Over id) = (from ≡ s.router) × ((i : Interface) × IsUp s a id i × (i.address ≡ detail))
-IsLabel s a from detail Plain = from ≢ s.router
-IsLabel s a from detail (At addresses) = ⊥
+abbrev pub IsLabel : View → ℕ → ℕ → Label → Type 0
+IsLabel w from detail (Over id) = (from ≡ w.root) × w.HasInterface id detail
+IsLabel w from detail Plain = from ≢ w.root
+IsLabel w from detail (At addresses) = ⊥
 
 -- the router has this address on the network: the Link Data of a link to it, whatever its metric
 abbrev pub HasAddressOn : ℕ → List RouterLink → ℕ → Type 0
@@ -61,19 +69,32 @@ pub record AreAddressesOn (network : ℕ) (links : List RouterLink) (addresses :
   pub same : (address : ℕ) → Contains addresses address ↔ HasAddressOn network links address
 
 -- A link from one vertex to another at a cost. The other end links back; a metric of 0 gives no link.
-abbrev pub IsLink : Inputs → Area → Vertex → Vertex → ℕ → Label → Type 0
-IsLink s a (Router from) (Router to) cost label =
+abbrev pub IsLinkOf : View → Vertex → Vertex → ℕ → Label → Type 0
+IsLinkOf w (Router from) (Router to) cost label =
     (flags : ℕ) × (links : List RouterLink) × (l : RouterLink)
-    × IsRouter a from flags links × Contains links l × (l.kind ≡ PointToPoint) × (l.id ≡ to)
-    × (l.metric ≡ cost) × (0 < cost) × IsLabel s a from l.detail label
-    × NamesRouter a to from
-IsLink s a (Router from) (Network to) cost label =
+    × w.HasRouter from flags links × Contains links l × (l.kind ≡ PointToPoint) × (l.id ≡ to)
+    × (l.metric ≡ cost) × (0 < cost) × IsLabel w from l.detail label
+    × NamesRouter w to from
+IsLinkOf w (Router from) (Network to) cost label =
     (flags : ℕ) × (links : List RouterLink) × (l : RouterLink)
-    × IsRouter a from flags links × Contains links l × (l.kind ≡ Transit) × (l.id ≡ to)
-    × (l.metric ≡ cost) × (0 < cost) × IsLabel s a from l.detail label
-    × ListsRouter a to from
-IsLink s a (Network from) (Router to) cost label =
+    × w.HasRouter from flags links × Contains links l × (l.kind ≡ Transit) × (l.id ≡ to)
+    × (l.metric ≡ cost) × (0 < cost) × IsLabel w from l.detail label
+    × ListsRouter w to from
+IsLinkOf w (Network from) (Router to) cost label =
     (flags : ℕ) × (links : List RouterLink) × (addresses : List ℕ)
-    × ListsRouter a from to × (cost ≡ 0) × IsRouter a to flags links × AreAddressesOn from links addresses × (label ≡ At addresses)
-    × NamesNetwork a to from
-IsLink s a (Network from) (Network to) cost label = ⊥
+    × ListsRouter w from to × (cost ≡ 0) × w.HasRouter to flags links × AreAddressesOn from links addresses × (label ≡ At addresses)
+    × NamesNetwork w to from
+IsLinkOf w (Network from) (Network to) cost label = ⊥
+
+-- an area of the inputs, as its links see it
+abbrev pub view_of : Inputs → Area → View
+view_of s a = record {
+  root = s.router;
+  HasRouter = IsRouter a;
+  HasNetwork = IsNetwork a;
+  HasInterface = λ id address. (i : Interface) × IsUp s a id i × (i.address ≡ address);
+}
+
+-- the links of an area
+abbrev pub IsLink : Inputs → Area → Vertex → Vertex → ℕ → Label → Type 0
+IsLink s a = IsLinkOf (view_of s a)

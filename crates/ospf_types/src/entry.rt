@@ -1,17 +1,28 @@
 ghost use Rattle.std.specs.Prelude.{◌≡◌, ◌↔◌, [], length, IsTrue};
 ghost use Rattle.std.specs.List.Sorted.{IsStrictlySortedBy};
 ghost use Rattle.ospf_types.specs.Hops.{path_cmp};
+ghost use Rattle.ospf_types.specs.Vertices.{vertex_cmp};
 
 use crate::hop::Path;
+use std::cmp::Ordering;
 use std::marker::Model;
 
 /// A vertex of an area's graph (RFC 2328, 16.1).
-#[derive(Clone, Copy, Debug, PartialEq, Eq, Hash)]
+#[derive(Clone, Copy, Debug, PartialEq, Eq, Hash, PartialOrd, Ord)]
 pub enum Vertex {
     /// By its Router ID.
     Router(u32),
     /// A transit network, by its Designated Router's address.
     Network(u32),
+}
+
+impl Vertex {
+    /// The order of vertices: routers first, each kind by number.
+    pub fn compare(self, other: Vertex) -> Ordering
+        ensures { result ≡ vertex_cmp self other }
+    {
+        self.cmp(&other)
+    }
 }
 
 /// How a destination was learned, the most preferred first (RFC 2328, 11).

@@ -8,6 +8,7 @@ pub mod config;
 pub mod entry;
 pub mod hop;
 pub mod key;
+pub mod label;
 pub mod listed;
 pub mod lsa;
 pub mod memory;
