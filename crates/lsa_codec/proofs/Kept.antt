@@ -93,7 +93,7 @@ routers_in h (NetworkSummary mask metric tos) bytes e legal two = absurd (omega 
 routers_in h (BoundarySummary metric tos) bytes e legal two = absurd (omega (arith, two))
 routers_in h (AsExternal mask first more) bytes e legal two = absurd (omega (arith, two))
 
-kept_network : (bytes : List ℕ) (l : Lsa) → lsa_of bytes ≡ l → IsKept bytes → kind_of l.body ≡ 2 → Routers bytes (routers_of l.body)
+pub kept_network : (bytes : List ℕ) (l : Lsa) → lsa_of bytes ≡ l → IsKept bytes → kind_of l.body ≡ 2 → Routers bytes (routers_of l.body)
 unfolding spelling
 kept_network bytes l e kept two =
     routers_in l.header l.body bytes (kept_spelled bytes l e kept) (kept_legal bytes l e kept).body two

@@ -12,6 +12,7 @@ pub mod LinkBytes
 pub mod Bodies
 pub mod Again
 pub mod Kept
+pub mod Left
 pub mod Places
 pub mod Contents
 pub mod Ages

@@ -4,4 +4,5 @@ pub mod Faults
 pub mod Text
 pub mod Decoding
 pub mod Readers
+pub mod Left
 pub mod Kept

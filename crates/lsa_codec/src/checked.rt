@@ -1,11 +1,12 @@
-ghost use Rattle.std.specs.Prelude.{◌≡◌, ◌≤◌, ◌↔◌, ◌==◌, ◌||◌, IsTrue, length, IfOk};
+ghost use Rattle.std.specs.Prelude.{◌≡◌, ◌≤◌, ◌↔◌, ◌==◌, ◌||◌, IsTrue, length, map, IfOk};
 ghost use Rattle.ospf_types.specs.Lsa.{MaxAge, key_of, kind_of};
 ghost use Rattle.lsa_codec.specs.Spelling.{IsLegal, body_bytes};
-ghost use Rattle.lsa_codec.specs.Readers.{flags_of, links_of, link_at, listed_at, prefix_of, metric_of, external_of, with_age};
+ghost use Rattle.lsa_codec.specs.Readers.{flags_of, links_of, without_tos, link_at, routers_of, listed_at, prefix_of, metric_of, external_of, with_age};
 
 use crate::header::header_in;
-use crate::links::{after_links, front_link};
+use crate::links::{Links, after_links, front_link};
 use crate::metrics::{first_record, metric_in};
+use crate::routers::Routers;
 use byteorder::{BigEndian, ByteOrder};
 use ospf_types::key::Key;
 use ospf_types::lsa::{
@@ -109,6 +110,17 @@ impl Checked {
         Some(front_link(front))
     }
 
+    /// The links of a router-LSA one after the other, each without its TOS entries: what `link` answers
+    /// at 0, at 1 and so on. None for another LS type.
+    pub fn links(&self) -> Links<'_>
+        ensures { result ≡ map without_tos (links_of self.now.body) }
+    {
+        Links {
+            left: self.link_count(),
+            rest: &self.bytes[24..],
+        }
+    }
+
     /// The Router ID at a place of a network-LSA, counted from 0 (A.4.3); `None` past the last.
     pub fn listed(&self, n: usize) -> Option<u32>
         ensures { result ≡ listed_at self.now.body n }
@@ -121,6 +133,21 @@ impl Checked {
             return None;
         }
         Some(BigEndian::read_u32(&routers[4 * n..]))
+    }
+
+    /// The Router IDs of a network-LSA one after the other (A.4.3): what `listed` answers at 0, at 1
+    /// and so on. None for another LS type.
+    pub fn routers(&self) -> Routers<'_>
+        ensures { result ≡ routers_of self.now.body }
+    {
+        let start = if self.kind() == NETWORK_LSA {
+            24
+        } else {
+            self.bytes.len()
+        };
+        Routers {
+            rest: &self.bytes[start..],
+        }
     }
 
     /// The network that a network-LSA, a summary-LSA for a network or an AS-external-LSA is about: its

@@ -12,15 +12,18 @@ mod links;
 mod mask;
 mod metrics;
 mod reading;
+mod routers;
 mod writing;
 
 pub use checked::Checked;
 pub use checksum::sum_of;
 pub use fault::WireFault;
+pub use links::Links;
 pub use ospf_types::lsa::{External, Header, Link, LinkKind};
 pub use ospf_types::memory::Memory;
 pub use ospf_types::prefix::Prefix;
 pub use reading::read;
+pub use routers::Routers;
 pub use writing::write;
 
 #[cfg(test)]

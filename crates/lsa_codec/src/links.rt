@@ -10,6 +10,47 @@ use crate::findings::{Findings, NO_FINDING};
 use crate::mask::is_mask;
 use byteorder::{BigEndian, ByteOrder};
 use ospf_types::lsa::{Link, LinkKind};
+use std::marker::Model;
+
+/// The links of a router-LSA, in their order, each without its TOS entries. A step takes constant
+/// time.
+#[derive(Drop)]
+pub struct Links<'a> {
+    pub(crate) left: usize,
+    pub(crate) rest: &'a [u8],
+}
+
+impl<'a> Model for Links<'a> {
+    ghost use Rattle.std.specs.Prelude.{List};
+    ghost use Rattle.ospf_types.specs.declared.lsa.Link.{Link};
+    ghost use Rattle.lsa_codec.specs.Left.{links_left, AreThere};
+
+    ghost Value = { List Link };
+
+    ghost view = { λ l. links_left l.left l.rest.now };
+
+    ghost invariant = { λ l. AreThere l.left l.rest.now };
+}
+
+impl<'a> Iterator for Links<'a> {
+    ghost use Rattle.std.specs.Iterator.{YieldsFirst, item_count};
+
+    type Item = Link;
+
+    ghost next_gives = { YieldsFirst (λ s. s) };
+
+    ghost remaining = { item_count (λ s. s) };
+
+    fn next(&mut self) -> Option<Link> {
+        if self.left == 0 {
+            return None;
+        }
+        let bytes = self.rest;
+        self.left -= 1;
+        self.rest = &bytes[link_size(bytes)..];
+        Some(front_link(bytes))
+    }
+}
 
 /// The number of bytes of the link in front, its TOS entries counted.
 fn link_size(bytes: &[u8]) -> usize
