@@ -14,7 +14,7 @@ use Rattle.std.proofs.lemmas.Map.Views.{tells_apart, lookup-from_Contains}
 use Rattle.std.proofs.lemmas.Map.Keys.{IsDistinct-from_sorted}
 use Rattle.ospf_types.specs.Best.{IsBest, NoOffer}
 use Rattle.event_core.specs.Choices.{Chosen, HasAlso, IsOffered, IsChosen, ChoosesFrom}
-use Rattle.event_core.proofs.InOrder.{only_item}
+use Rattle.ospf_types.proofs.InOrder.{only_item}
 
 -- new has the offers of old, and this one
 record Adds {K X : Type 0} (old new : K → X → Type 0) (key : K) (item : X) : Type 0 where

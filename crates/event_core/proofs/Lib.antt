@@ -1,4 +1,3 @@
-pub mod InOrder
 pub mod Choosing
 pub mod Configs
 pub mod Listings

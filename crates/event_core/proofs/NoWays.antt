@@ -13,7 +13,8 @@ use Rattle.ospf_types.specs.declared.prefix.Prefix.{Prefix}
 use Rattle.ospf_types.specs.Inputs.{Area}
 use Rattle.ospf_types.specs.Inter.{NoInter}
 use Rattle.ospf_types.specs.Intra.{IsHopIn}
-use Rattle.ospf_types.specs.Links.{Label, IsLink, IsVertex}
+use Rattle.ospf_types.specs.declared.label.Label.{Label}
+use Rattle.ospf_types.specs.Links.{IsLink, IsVertex}
 use Rattle.ospf_types.specs.Lsa.{Body, RouterLink, RouterLinks, NetworkLinks, NetworkSummary, BoundarySummary, AsExternal, kind_of}
 use Rattle.ospf_types.specs.External.{NoExternal}
 use Rattle.ospf_types.specs.Ranges.{IsActivePrefix}

@@ -8,7 +8,7 @@ use Rattle.std.proofs.lemmas.List.Elements.{Contains-append_left, Contains-appen
 use Rattle.ospf_types.proofs.Elements.{no_element, first_element, later_element, first_or_later}
 use Rattle.event_core.specs.Choices.{Chosen, ChoosesFrom}
 use Rattle.event_core.specs.Takes.{Takes, OnlyOffer, OfferedBySome}
-use Rattle.event_core.proofs.InOrder.{only_item}
+use Rattle.ospf_types.proofs.InOrder.{only_item}
 
 module _ {D K X : Type 0} {Q : D → D → Ordering} {R : K → K → Ordering} {S : X → X → Ordering} where
   -- where nothing is offered, the choices stay

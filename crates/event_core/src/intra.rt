@@ -73,10 +73,8 @@ fn offer_links(
 ) -> Result<(), Memory>
     ensures { OnOk result (TakesPaths (LsaOffers (entries state.now.interfaces) area lsa.now.body) choices.old choices.new) }
 {
-    for n in 0..lsa.link_count() {
-        if let Some(link) = lsa.link(n) {
-            offer_link(choices, state, area, link)?;
-        }
+    for link in lsa.links() {
+        offer_link(choices, state, area, link)?;
     }
     Ok(())
 }

@@ -409,14 +409,7 @@ fn is_stub_only(lsa: &Checked) -> bool
     if lsa.key().kind != ROUTER_LSA {
         return false;
     }
-    for n in 0..lsa.link_count() {
-        if let Some(link) = lsa.link(n)
-            && is_edge(link.kind)
-        {
-            return false;
-        }
-    }
-    true
+    lsa.links().all(|link| !is_edge(link.kind))
 }
 
 // Whether a link of this kind leads to a vertex.

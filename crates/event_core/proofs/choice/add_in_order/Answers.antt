@@ -1,4 +1,4 @@
-use Rattle.event_core.proofs.InOrder.{has_also_inserted, searchable, sorted_insert}
+use Rattle.ospf_types.proofs.InOrder.{has_also_inserted, searchable, sorted_insert}
 use Rattle.event_core.proofs.choice.add_in_order.Goals as goal
 
 pub returns-in_ok-insert-in-Err-clause-added : goal.returns-in_ok-insert-in-Err-clause-added

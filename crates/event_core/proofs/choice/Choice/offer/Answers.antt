@@ -1,6 +1,6 @@
 use Rattle.std.proofs.Common.{ap, subst}
 use Rattle.event_core.specs.Choices.{Chosen, HasAlso}
-use Rattle.event_core.proofs.InOrder.{sorted_one}
+use Rattle.ospf_types.proofs.InOrder.{sorted_one}
 use Rattle.event_core.proofs.choice.Choice.offer.Goals as goal
 
 pub returns-in_ok-insert-in-Less-clause-in_order :
