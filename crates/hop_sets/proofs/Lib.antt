@@ -1,0 +1,4 @@
+pub mod Unions
+pub mod Places
+pub mod SameHops
+pub mod Empty
