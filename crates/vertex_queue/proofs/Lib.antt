@@ -1,0 +1,4 @@
+pub mod VertexOrder
+pub mod Distances
+pub mod HeapEntries
+pub mod Ranks

@@ -1,0 +1,22 @@
+use Rattle.std.proofs.Common.{◌≡◌, length, sym, subst, ◌∙◌}
+use Rattle.std.specs.BinaryHeap.{heap_items}
+use Rattle.vertex_queue.specs.Heaps.{AreQueue}
+use Rattle.vertex_queue.proofs.Distances.{no_items}
+use Rattle.vertex_queue.proofs.HeapEntries.{dropped, others, none_waits}
+use Rattle.vertex_queue.proofs.queue.pop_waiting.Goals as goal
+
+pub returns-then-waits_at-clause-others : goal.returns-then-waits_at-clause-others
+returns-then-waits_at-clause-others c =
+    others c.args.distances.now.entries (heap_items c.loop-first.order) (heap_items c.pop.new.self) c.in-Some.field-0.0 c.loop-first.invariant
+    c.in-Some.ensures.permutation (c.in-Some.ensures.heap_order c.loop-first.invariant.in_order).0
+
+pub loop-first-preserved : goal.loop-first-preserved
+loop-first-preserved c =
+    dropped c.args.distances.now.entries (heap_items c.loop-first.order) (heap_items c.pop.new.self) c.in-Some.field-0.0 c.loop-first.invariant
+    c.in-Some.ensures.permutation (c.in-Some.ensures.heap_order c.loop-first.invariant.in_order).0
+    (λ waits. let yes = c.waits_at.ensures.1 waits in absurd cc)
+
+pub returns-clause-none : goal.returns-clause-none
+returns-clause-none c =
+    let none : length (heap_items c.loop-first.order) ≡ 0 = sym c.loop-first.order.data.ok.0 ∙ c.in_default.ensures.none in
+    none_waits c.args.distances.now.entries (subst (AreQueue c.args.distances.now.entries) (no_items (heap_items c.loop-first.order) none) c.loop-first.invariant)

@@ -1,0 +1,149 @@
+ghost use Rattle.std.specs.Prelude.{◌≡◌, ◌↔◌, [], IfNone, IfSome, OnErr, OnOk, IsTrue};
+ghost use Rattle.std.specs.FinMap as map;
+ghost use Rattle.std.specs.BinaryHeap.{heap_items};
+ghost use Rattle.vertex_queue.specs.Heaps.{AreQueue, IsNext, HoldsOthers, Waits};
+ghost use Rattle.vertex_queue.specs.Queues.{lessened, waits_within, IsFirst};
+
+use crate::waiting::Waiting;
+use indexmap::IndexMap;
+use ospf_types::entry::Vertex;
+use ospf_types::memory::Memory;
+use std::alloc::Global;
+use std::cmp::Reverse;
+use std::collections::BinaryHeap;
+use std::hash::RandomState;
+use std::marker::Model;
+
+/// The vertices that wait, each at its distance, a sum of metrics.
+#[derive(Debug, Drop)]
+pub struct Queue {
+    distances: IndexMap<Vertex, u32, RandomState>,
+    // Each vertex that waits, at its distance, and others that no longer do.
+    order: BinaryHeap<Reverse<Waiting>>,
+}
+
+impl Model for Queue {
+    ghost use Rattle.std.specs.FinMap as map;
+    ghost use Rattle.std.specs.Coded.{coded_ℕ};
+    ghost use Rattle.ospf_types.specs.Vertices.{vertex_code};
+    ghost use Rattle.vertex_queue.specs.Queues.{Queue as Distances};
+
+    ghost Value = { Distances };
+
+    ghost coded = { map.code vertex_code coded_ℕ };
+
+    ghost use Rattle.std.specs.BinaryHeap.{heap_items};
+    ghost use Rattle.vertex_queue.specs.Heaps.{AreQueue};
+
+    ghost view = { λ q. map.from_entries q.distances.entries };
+
+    ghost invariant = { λ q. AreQueue q.distances.entries (heap_items q.order) };
+}
+
+impl Queue {
+    /// No vertices.
+    pub fn new(alloc: Global, hashing: RandomState) -> Queue
+        ensures { result ≡ map.empty }
+    {
+        Queue {
+            distances: IndexMap::with_hasher(alloc, hashing),
+            order: BinaryHeap::new(alloc),
+        }
+    }
+
+    /// How many vertices wait.
+    pub fn len(&self) -> usize
+        ensures { result ≡ map.len self.now }
+    {
+        self.distances.len()
+    }
+
+    /// Whether none waits.
+    pub fn is_empty(&self) -> bool
+        ensures { IsTrue result ↔ (self.now ≡ map.empty) }
+    {
+        self.distances.is_empty()
+    }
+
+    /// At what distance the vertex waits, if it does.
+    pub fn get(&self, vertex: Vertex) -> Option<u32>
+        ensures { result ≡ map.get self.now vertex }
+    {
+        self.distances.get(&vertex).copied()
+    }
+
+    /// Lets the vertex wait at the distance, unless it waits at that or less already.
+    pub fn put(&mut self, vertex: Vertex, distance: u32) -> Result<(), Memory>
+        ensures put { OnOk result (self.new ≡ lessened self.old vertex distance) }
+        ensures unchanged { OnErr result (self.new ≡ self.old) }
+    {
+        if is_within(self.get(vertex), distance) {
+            return Ok(());
+        }
+        self.order.push(Reverse(Waiting::new(vertex, distance)))?;
+        self.distances.insert(vertex, distance)?;
+        Ok(())
+    }
+
+    /// Takes out the vertex that is first: the nearest, of equal distances networks before routers,
+    /// each kind by number. The answer is the vertex and its distance.
+    pub fn take(&mut self) -> Option<(Vertex, u32)>
+        ensures none { IfNone result (self.old ≡ map.empty) }
+        ensures first { IfSome result (λ p. IsFirst self.old p.0 p.1) }
+        ensures rest { IfSome result (λ p. self.new ≡ map.remove self.old p.0) }
+        ensures still_none { IfNone result (self.new ≡ map.empty) }
+    {
+        let first = pop_waiting(&mut self.order, &self.distances)?;
+        let vertex = first.vertex();
+        self.distances.swap_remove(&vertex);
+        Some((vertex, first.distance))
+    }
+
+    /// Takes all vertices out.
+    pub fn clear(&mut self)
+        ensures { self.new ≡ map.empty }
+    {
+        self.distances.clear();
+        self.order.clear();
+    }
+}
+
+// Whether a vertex waits at the distance or less.
+fn is_within(waits: Option<u32>, distance: u32) -> bool
+    ensures { result ≡ waits_within waits distance }
+{
+    match waits {
+        Some(least) => least <= distance,
+        None => false,
+    }
+}
+
+// Takes the first vertex that waits off the heap, and what comes before it, which waits no longer.
+fn pop_waiting(
+    order: &mut BinaryHeap<Reverse<Waiting>>,
+    distances: &IndexMap<Vertex, u32, RandomState>,
+) -> Option<Waiting>
+    requires { AreQueue distances.now.entries (heap_items order.old) }
+    ensures none { IfNone result (distances.now.entries ≡ []) }
+    ensures next { IfSome result (λ first. IsNext distances.now.entries first) }
+    ensures others { IfSome result (λ first. HoldsOthers distances.now.entries first (heap_items order.new)) }
+    ensures none_kept { IfNone result (AreQueue distances.now.entries (heap_items order.new)) }
+{
+    if distances.is_empty() {
+        order.clear();
+        return None;
+    }
+    while let Some(Reverse(first)) = order.pop() {
+        if waits_at(distances, first) {
+            return Some(first);
+        }
+    }
+    None
+}
+
+// Whether the vertex waits at the distance.
+fn waits_at(distances: &IndexMap<Vertex, u32, RandomState>, entry: Waiting) -> bool
+    ensures { IsTrue result ↔ Waits distances.now.entries entry }
+{
+    distances.get(&entry.vertex()).copied() == Some(entry.distance)
+}
