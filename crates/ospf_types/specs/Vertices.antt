@@ -1,5 +1,5 @@
 -- The order of vertices, and their code.
-use Rattle.std.proofs.Common.{ℕ, ◌≡◌, ◌⊎◌, inl, inr, refl}
+use Rattle.std.proofs.Common.{ℕ, ◌≡◌, ◌+◌, ◌^◌, ◌⊎◌, inl, inr, refl}
 use Rattle.std.specs.Ordering.{nat_cmp, ordering_then}
 use Rattle.std.specs.Coded.{Coded, code_by, coded⊎, coded_ℕ}
 use Rattle.std.specs.declared.cmp.Ordering.{Ordering}
@@ -13,6 +13,11 @@ vertex_rank (Network n) = (1, n)
 
 abbrev pub vertex_cmp : Vertex → Vertex → Ordering
 vertex_cmp a b = ordering_then (nat_cmp (vertex_rank a).0 (vertex_rank b).0) (nat_cmp (vertex_rank a).1 (vertex_rank b).1)
+
+-- a number of its own for each vertex, below 2^33
+abbrev pub vertex_word : Vertex → ℕ
+vertex_word (Router r) = r
+vertex_word (Network n) = 2 ^ 32 + n
 
 -- the number of a router, or of a network
 abbrev pub vertex_number : Vertex → ℕ ⊎ ℕ

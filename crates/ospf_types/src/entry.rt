@@ -1,14 +1,15 @@
 ghost use Rattle.std.specs.Prelude.{◌≡◌, ◌↔◌, [], length, IsTrue};
 ghost use Rattle.std.specs.List.Sorted.{IsStrictlySortedBy};
 ghost use Rattle.ospf_types.specs.Hops.{path_cmp};
-ghost use Rattle.ospf_types.specs.Vertices.{vertex_cmp};
+ghost use Rattle.ospf_types.specs.Vertices.{vertex_cmp, vertex_word};
 
 use crate::hop::Path;
 use std::cmp::Ordering;
+use std::hash::{Hash, Hasher};
 use std::marker::Model;
 
 /// A vertex of an area's graph (RFC 2328, 16.1).
-#[derive(Clone, Copy, Debug, PartialEq, Eq, Hash, PartialOrd, Ord)]
+#[derive(Clone, Copy, Debug, PartialEq, Eq, PartialOrd, Ord)]
 pub enum Vertex {
     /// By its Router ID.
     Router(u32),
@@ -22,6 +23,35 @@ impl Vertex {
         ensures { result ≡ vertex_cmp self other }
     {
         self.cmp(&other)
+    }
+
+    // A number of its own for each vertex.
+    fn word(self) -> u64
+        ensures { result ≡ vertex_word self }
+    {
+        match self {
+            Vertex::Router(number) => u64::from(number),
+            Vertex::Network(number) => NETWORKS + u64::from(number),
+        }
+    }
+}
+
+// Above the numbers of routers.
+const NETWORKS: u64 = 1 << 32;
+
+// As one word: a shortest-path search hashes vertices more than it does anything else.
+impl Hash for Vertex {
+    ghost use Rattle.std.specs.Hash as fed;
+    ghost use Rattle.std.specs.Cmp.Rules.{hashing};
+    ghost use Rattle.std.proofs.Common.{rules};
+    ghost use Rattle.ospf_types.specs.Vertices.{vertex_word};
+
+    ghost hash_input = { λ v. fed.u64 (vertex_word v) };
+
+    ghost respects_eq = { Prim.search (hashing, rules) };
+
+    fn hash<H: Hasher>(&self, state: &mut H) {
+        self.word().hash(state);
     }
 }
 
