@@ -1,19 +1,21 @@
 -- The entries of vertex and distance, and the finite map that they make.
 use borrow.Author.Tests.{eqb-true, eq-eqb}
-use Rattle.std.proofs.Common.{◌≡◌, ℕ, ◌+◌, Bool, false, cond, List, [], ◌∷◌, length, Option, Some, None, refl, sym, ap, subst, ◌∙◌, arith}
-use Rattle.std.specs.Prelude.{◌↔◌, IsTrue, is_some, nat_eq}
+use Rattle.std.proofs.Common.{◌≡◌, ℕ, ◌+◌, ◌≤◌, ◌<◌, Bool, true, false, cond, List, [], ◌∷◌, length, Option, Some, None, refl, sym, ap, subst, ◌∙◌, arith}
+use Rattle.std.specs.Prelude.{◌↔◌, IsTrue, is_some, nat_eq, if◌then◌else◌}
 use Rattle.std.specs.Option.{option_eq}
 use Rattle.std.specs.Ordering.{eq_by_cmp}
 use Rattle.std.specs.Cmp.{eq_by_cmp_equiv}
 use Rattle.std.specs.List.{AllByRecursion, IsDistinct}
-use Rattle.std.specs.Map.{keys_of, lookup}
+use Rattle.std.specs.Map.{keys_of, lookup, lookup_key}
 use Rattle.std.specs.FinMap.{find, empty, get, insert, remove, len, contains_key, from_entries, get-from_entries, get-insert, get-remove, get-empty, len-insert, len-empty, same_map}
+use Rattle.std.proofs.lemmas.Bool.Decides.{nat_tests}
 use Rattle.std.proofs.lemmas.Map.Keys.{IsDistinct-head, IsDistinct-tail}
+use Rattle.std.proofs.lemmas.Map.Views.{tells_apart}
 use Rattle.ospf_types.specs.declared.entry.Vertex.{Vertex}
 use Rattle.ospf_types.specs.Vertices.{vertex_cmp}
 use Rattle.ospf_types.proofs.Maps.{find-lookup}
-use Rattle.vertex_queue.specs.Queues.{Queue}
-use Rattle.vertex_queue.proofs.VertexOrder.{vertex_total, vertex_exact, equals, equals_order}
+use Rattle.vertex_queue.specs.Queues.{Queue, waits_within, lessened}
+use Rattle.vertex_queue.proofs.VertexOrder.{vertex_total, vertex_exact, equals, equals_is, equals_order}
 
 abbrev pub Entries : Type 0
 Entries = List (Vertex × ℕ)
@@ -25,11 +27,24 @@ queue_of es = from_entries es
 pub found_by_equals : (q : Vertex) (es : Entries) → lookup (equals q) es ≡ find vertex_cmp q es
 found_by_equals q es = ap (λ (eq : Vertex → Vertex → Bool). lookup (eq q) es) equals_order ∙ sym (find-lookup vertex_cmp q es)
 
+-- the key that is found is the vertex
+pub key_found : (q k : Vertex) (es : Entries) → Some k ≡ lookup_key (equals q) es → k ≡ q
+key_found q k [] is = absurd cc
+key_found q k (e ∷ es) is =
+    elim (equals q e.0) as (λ b. equals q e.0 ≡ b → Some k ≡ cond b (Some e.0) (lookup_key (equals q) es) → k ≡ q) [
+      | true ↦ λ same here. let this : k ≡ e.0 = cc in this ∙ sym (tells_apart vertex_exact q e.0 (sym (equals_is q e.0) ∙ same))
+      | false ↦ λ other there. key_found q k es there
+    ] refl is
+
 pub get_is : (es : Entries) (q : Vertex) → get (queue_of es) q ≡ find vertex_cmp q es
 get_is es q = get-from_entries vertex_total es q
 
+-- the entries es, with what is new at one vertex
+abbrev pub AreUpdated : Entries → Vertex → Option ℕ → Entries → Type 0
+AreUpdated es v new fs = (q : Vertex) → lookup (equals q) fs ≡ cond (equals v q) new (lookup (equals q) es)
+
 -- what an update at one vertex leaves at each
-pub found_after : (es fs : Entries) (v : Vertex) (new : Option ℕ) → ((q : Vertex) → lookup (equals q) fs ≡ cond (equals v q) new (lookup (equals q) es))
+pub found_after : (es fs : Entries) (v : Vertex) (new : Option ℕ) → AreUpdated es v new fs
     → (q : Vertex) → find vertex_cmp q fs ≡ cond (eq_by_cmp vertex_cmp q v) new (find vertex_cmp q es)
 found_after es fs v new updates q =
     sym (found_by_equals q fs) ∙ updates q ∙ (λ i. cond (equals_order i v q) new (found_by_equals q es i))
@@ -42,6 +57,25 @@ inserted es fs v d after = same_map vertex_total vertex_exact (queue_of fs) (ins
 pub removed : (es fs : Entries) (v : Vertex) → ((q : Vertex) → find vertex_cmp q fs ≡ cond (eq_by_cmp vertex_cmp q v) None (find vertex_cmp q es)) → queue_of fs ≡ remove (queue_of es) v
 removed es fs v after = same_map vertex_total vertex_exact (queue_of fs) (remove (queue_of es) v) (λ q.
     get_is fs q ∙ after q ∙ ap (cond (eq_by_cmp vertex_cmp q v) None) (sym (get_is es q)) ∙ sym (get-remove vertex_total (queue_of es) v q))
+
+-- ---- lessened
+
+-- a vertex that waits at the distance or less stays
+pub lessened_kept : (es : Entries) (v : Vertex) (d e : ℕ) → lookup (equals v) es ≡ Some e → e ≤ d → queue_of es ≡ lessened (queue_of es) v d
+lessened_kept es v d e there within =
+    let stays : waits_within (get (queue_of es) v) d ≡ true = ap (λ (o : Option ℕ). waits_within o d) (get_is es v ∙ sym (found_by_equals v es) ∙ there) ∙ grind (arith, nat_tests, within) in
+    ap (λ b. if b then queue_of es else insert (queue_of es) v d) (sym stays)
+
+-- another waits at the distance
+pub lessened_set : (es fs : Entries) (v : Vertex) (d : ℕ) (o : Option ℕ) → lookup (equals v) es ≡ o → waits_within o d ≡ false
+    → AreUpdated es v (Some d) fs → queue_of fs ≡ lessened (queue_of es) v d
+lessened_set es fs v d o there farther updates =
+    let changes : waits_within (get (queue_of es) v) d ≡ false = ap (λ (o : Option ℕ). waits_within o d) (get_is es v ∙ sym (found_by_equals v es) ∙ there) ∙ farther in
+    inserted es fs v d (found_after es fs v (Some d) updates) ∙ ap (λ b. if b then queue_of es else insert (queue_of es) v d) (sym changes)
+
+-- what waits farther does not wait within
+pub farther : (e d : ℕ) → d < e → waits_within (Some e) d ≡ false
+farther e d less = grind (arith, nat_tests, less)
 
 -- ---- how many
 

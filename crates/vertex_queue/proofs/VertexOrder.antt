@@ -33,7 +33,7 @@ abbrev pub equals : Vertex → Vertex → Bool
 equals = (derived_equality.eq-value).it
 
 -- `==` tests what the order does not tell apart
-equals_is : (v w : Vertex) → equals v w ≡ eq_by_cmp vertex_cmp v w
+pub equals_is : (v w : Vertex) → equals v w ≡ eq_by_cmp vertex_cmp v w
 equals_is (Router a) (Router b) = unsigned_ties a b
 equals_is (Router a) (Network b) = refl
 equals_is (Network a) (Router b) = refl

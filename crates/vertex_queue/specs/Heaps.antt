@@ -1,5 +1,5 @@
 -- The parts of a queue: entries of vertex and distance, and beside them a heap of what was put there.
-use Rattle.std.specs.Prelude.{ℕ, ◌≡◌, ◌≢◌, Bool, true, false, List, Some}
+use Rattle.std.specs.Prelude.{ℕ, ◌≡◌, ◌≢◌, Bool, true, false, List, Some, slice_get}
 use Rattle.std.specs.BinaryHeap.{IsHeap}
 use Rattle.std.specs.FinMap.{find}
 use Rattle.std.specs.List.{Contains}
@@ -33,6 +33,10 @@ heap_cmp x y = ordering_then (nat_cmp y.0.distance x.0.distance) (ordering_then 
 -- the vertex waits at the distance
 abbrev pub Waits : List (Vertex × ℕ) → Waiting → Type 0
 Waits entries w = find vertex_cmp (waiting_vertex w) entries ≡ Some w.distance
+
+-- it stands at the place
+abbrev pub IsAt : List (Vertex × ℕ) → Waiting → ℕ → Type 0
+IsAt entries w place = slice_get entries place ≡ Some (waiting_vertex w, w.distance)
 
 -- what the entries and the heap have to do with each other
 pub record AreQueue (entries : List (Vertex × ℕ)) (heap : List (Reverse Waiting)) : Type 0 where

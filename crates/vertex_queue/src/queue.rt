@@ -1,11 +1,12 @@
 ghost use Rattle.std.specs.Prelude.{◌≡◌, ◌↔◌, [], IfNone, IfSome, OnErr, OnOk, IsTrue};
 ghost use Rattle.std.specs.FinMap as map;
 ghost use Rattle.std.specs.BinaryHeap.{heap_items};
-ghost use Rattle.vertex_queue.specs.Heaps.{AreQueue, IsNext, HoldsOthers, Waits};
-ghost use Rattle.vertex_queue.specs.Queues.{lessened, waits_within, IsFirst};
+ghost use Rattle.vertex_queue.specs.Heaps.{AreQueue, IsNext, HoldsOthers, Waits, IsAt};
+ghost use Rattle.vertex_queue.specs.Queues.{lessened, IsFirst};
 
 use crate::waiting::Waiting;
 use indexmap::IndexMap;
+use indexmap::map::Entry;
 use ospf_types::entry::Vertex;
 use ospf_types::memory::Memory;
 use std::alloc::Global;
@@ -77,12 +78,22 @@ impl Queue {
         ensures put { OnOk result (self.new ≡ lessened self.old vertex distance) }
         ensures unchanged { OnErr result (self.new ≡ self.old) }
     {
-        if is_within(self.get(vertex), distance) {
-            return Ok(());
+        match self.distances.entry(vertex)? {
+            Entry::Occupied(mut waits) => {
+                let least = *waits.get();
+                if least <= distance {
+                    return Ok(());
+                }
+                self.order.push(Reverse(Waiting::new(vertex, distance)))?;
+                waits.insert(distance);
+                Ok(())
+            }
+            Entry::Vacant(room) => {
+                self.order.push(Reverse(Waiting::new(vertex, distance)))?;
+                room.insert_entry(distance);
+                Ok(())
+            }
         }
-        self.order.push(Reverse(Waiting::new(vertex, distance)))?;
-        self.distances.insert(vertex, distance)?;
-        Ok(())
     }
 
     /// Takes out the vertex that is first: the nearest, of equal distances networks before routers,
@@ -93,9 +104,9 @@ impl Queue {
         ensures rest { IfSome result (λ p. self.new ≡ map.remove self.old p.0) }
         ensures still_none { IfNone result (self.new ≡ map.empty) }
     {
-        let first = pop_waiting(&mut self.order, &self.distances)?;
+        let (place, first) = pop_waiting(&mut self.order, &self.distances)?;
         let vertex = first.vertex();
-        self.distances.swap_remove(&vertex);
+        self.distances.swap_remove_index(place);
         Some((vertex, first.distance))
     }
 
@@ -108,25 +119,17 @@ impl Queue {
     }
 }
 
-// Whether a vertex waits at the distance or less.
-fn is_within(waits: Option<u32>, distance: u32) -> bool
-    ensures { result ≡ waits_within waits distance }
-{
-    match waits {
-        Some(least) => least <= distance,
-        None => false,
-    }
-}
-
 // Takes the first vertex that waits off the heap, and what comes before it, which waits no longer.
+// The answer begins with its place in the map.
 fn pop_waiting(
     order: &mut BinaryHeap<Reverse<Waiting>>,
     distances: &IndexMap<Vertex, u32, RandomState>,
-) -> Option<Waiting>
+) -> Option<(usize, Waiting)>
     requires { AreQueue distances.now.entries (heap_items order.old) }
     ensures none { IfNone result (distances.now.entries ≡ []) }
-    ensures next { IfSome result (λ first. IsNext distances.now.entries first) }
-    ensures others { IfSome result (λ first. HoldsOthers distances.now.entries first (heap_items order.new)) }
+    ensures place { IfSome result (λ p. IsAt distances.now.entries p.1 p.0) }
+    ensures next { IfSome result (λ p. IsNext distances.now.entries p.1) }
+    ensures others { IfSome result (λ p. HoldsOthers distances.now.entries p.1 (heap_items order.new)) }
     ensures none_kept { IfNone result (AreQueue distances.now.entries (heap_items order.new)) }
 {
     if distances.is_empty() {
@@ -134,16 +137,23 @@ fn pop_waiting(
         return None;
     }
     while let Some(Reverse(first)) = order.pop() {
-        if waits_at(distances, first) {
-            return Some(first);
+        if let Some(place) = place_of(distances, first) {
+            return Some((place, first));
         }
     }
     None
 }
 
-// Whether the vertex waits at the distance.
-fn waits_at(distances: &IndexMap<Vertex, u32, RandomState>, entry: Waiting) -> bool
-    ensures { IsTrue result ↔ Waits distances.now.entries entry }
+// The vertex's place in the map, if it waits at the distance.
+fn place_of(distances: &IndexMap<Vertex, u32, RandomState>, entry: Waiting) -> Option<usize>
+    ensures place { IfSome result (λ place. IsAt distances.now.entries entry place) }
+    ensures waits { IfSome result (λ _. Waits distances.now.entries entry) }
+    ensures none { IfNone result (¬ Waits distances.now.entries entry) }
 {
-    distances.get(&entry.vertex()).copied() == Some(entry.distance)
+    let (place, _, least) = distances.get_full(&entry.vertex())?;
+    if *least == entry.distance {
+        Some(place)
+    } else {
+        None
+    }
 }

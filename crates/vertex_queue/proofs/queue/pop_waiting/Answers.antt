@@ -5,8 +5,8 @@ use Rattle.vertex_queue.proofs.Distances.{no_items}
 use Rattle.vertex_queue.proofs.HeapEntries.{dropped, others, none_waits}
 use Rattle.vertex_queue.proofs.queue.pop_waiting.Goals as goal
 
-pub returns-then-waits_at-clause-others : goal.returns-then-waits_at-clause-others
-returns-then-waits_at-clause-others c =
+pub returns-in-Some-place_of-clause-others : goal.returns-in-Some-place_of-clause-others
+returns-in-Some-place_of-clause-others c =
     others c.args.distances.now.entries (heap_items c.loop-first.order) (heap_items c.pop.new.self) c.in-Some.field-0.0 c.loop-first.invariant
     c.in-Some.ensures.permutation (c.in-Some.ensures.heap_order c.loop-first.invariant.in_order).0
 
@@ -14,7 +14,7 @@ pub loop-first-preserved : goal.loop-first-preserved
 loop-first-preserved c =
     dropped c.args.distances.now.entries (heap_items c.loop-first.order) (heap_items c.pop.new.self) c.in-Some.field-0.0 c.loop-first.invariant
     c.in-Some.ensures.permutation (c.in-Some.ensures.heap_order c.loop-first.invariant.in_order).0
-    (λ waits. let yes = c.waits_at.ensures.1 waits in absurd cc)
+    c.in_default-place_of.ensures.none
 
 pub returns-clause-none : goal.returns-clause-none
 returns-clause-none c =
