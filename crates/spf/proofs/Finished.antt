@@ -1,0 +1,98 @@
+-- What the second and the third part of a repair come to.
+use Rattle.std.proofs.Common.{◌≡◌, ◌≢◌, ℕ, ◌+◌, ◌-◌, ◌≤◌, List, [], ◌∷◌, length, map, Option, refl, sym, ap, subst, ◌∙◌, ◌⊎◌, inl, inr, arith}
+use Rattle.std.specs.Prelude.{◌↔◌}
+use Rattle.std.specs.FinMap.{get}
+use Rattle.std.specs.List.{Contains}
+use Rattle.std.specs.List.Sorted.{IsStrictlySortedBy}
+use Rattle.ospf_types.specs.declared.entry.Vertex.{Vertex}
+use Rattle.ospf_types.specs.declared.entry.Vertex.TheVariants.{Router}
+use Rattle.ospf_types.specs.Vertices.{vertex_cmp}
+use Rattle.ospf_types.proofs.Elements.{mapped_element, mapped_from}
+use Rattle.vertex_graph.specs.declared.link.Link.{Link}
+use Rattle.vertex_graph.specs.Graphs.{GraphValue}
+use Rattle.spf.specs.Parts.{DistanceMap, AreLost, AreNeared, AreSettled, hops_of}
+use Rattle.spf.specs.TreeValues.{TreeValue, IsTreeOf, IsTreeBefore, IsBegun, Differs, IsFarther, IsNearer, IsChangedBy, AreChanged, IsBounded, IsWorkDone, IsRenewed}
+use Rattle.spf.proofs.Idle.{idle}
+use Rattle.spf.proofs.Renewed.{tree_after, bounded, work_done, changed_by}
+
+-- What was taken in both parts is what was moved, and what was taken in the third.
+counted : (moved near taken : ℕ) → near ≡ moved → near ≤ taken → moved + (taken - near) ≡ taken
+counted moved near taken all more = omega arith
+
+-- What the second and the third part of a repair leave, once it is begun.
+pub renewed : {g : GraphValue} {gone come : List Link} {t : TreeValue} (u : TreeValue) {lost left stale wider moved written : List Vertex} {near taken hop_sets : ℕ} → IsBegun g gone come t lost stale
+    → AreNeared g come (get t.distances) (get u.distances) lost stale wider moved → left ≡ lost → AreSettled g (get u.distances) (hops_of t.hops) (hops_of u.hops) left moved wider written (taken - near)
+    → near ≡ length moved → near ≤ taken → hop_sets ≡ length written → u.spent ≡ t.spent → IsRenewed g come t u lost stale moved written taken hop_sets
+renewed {g} {gone} {come} {t} u {lost} {left} {stale} {wider} {moved} {written} {near} {taken} {hop_sets} b n same_lost settled all more wrote kept = record {
+  tree = tree_after u b.before b.losses n s (kept ∙ b.before.fresh);
+  bounded = λ went d. let is = bounded u d.before d.losses n s in subst (λ k. IsBounded g went come t k hop_sets) total (subst (λ k. IsBounded g went come t (length moved + (taken - near)) k) (sym wrote) is);
+  idle = λ d none. let no = idle [] come u d.before d.losses n s refl none in (sym total ∙ no.0, wrote ∙ no.1);
+  work = let is = work_done u b.before b.losses n s in subst (λ k. IsWorkDone g t u k hop_sets) total (subst (λ k. IsWorkDone g t u (length moved + (taken - near)) k) (sym wrote) is);
+  differ = changed_by u b.before b.losses n s;
+}
+  where
+    s : AreSettled g (get u.distances) (hops_of t.hops) (hops_of u.hops) lost moved wider written (taken - near)
+    s = subst (λ (vs : List Vertex). AreSettled g (get u.distances) (hops_of t.hops) (hops_of u.hops) vs moved wider written (taken - near)) same_lost settled
+
+    total : length moved + (taken - near) ≡ taken
+    total = counted (length moved) near taken all more
+
+-- A repair is begun where the first part left what is lost, of the tree as it stands.
+pub begun : {g : GraphValue} {gone come : List Link} (i t : TreeValue) {slice : List Link} {lost stale : List Vertex} → i ≡ t → slice ≡ come → IsTreeBefore g gone come t → AreLost g gone come (get i.distances) lost stale → IsBegun g gone slice t lost stale
+begun {g} {gone} {come} i t {slice} {lost} {stale} view same before losses =
+    subst (λ (links : List Link). IsBegun g gone links t lost stale) (sym same) (record { before = before; losses = subst (λ (w : TreeValue). AreLost g gone come (get w.distances) lost stale) view losses })
+
+-- a vertex with its distance
+abbrev pub with_distance : DistanceMap → Vertex → Vertex × Option ℕ
+with_distance distances v = (v, get distances v)
+
+-- what was remembered with another distance than it has
+farther_is : (remembered : List (Vertex × Option ℕ)) (vertices : List Vertex) (old new : DistanceMap) → remembered ≡ map (with_distance old) vertices → (v : Vertex) → IsFarther remembered new v ↔ (Contains vertices v × (get new v ≢ get old v))
+farther_is remembered vertices old new all v = (
+  λ far.
+      let c = subst (λ (ps : List (Vertex × Option ℕ)). Contains ps (v, far.0)) all far.1 in
+      let w = mapped_from (with_distance old) vertices (v, far.0) c in
+      let same : w.0 ≡ v = ap (λ (p : Vertex × Option ℕ). p.0) w.2 in
+      let at : get old w.0 ≡ far.0 = ap (λ (p : Vertex × Option ℕ). p.1) w.2 in
+      (subst (λ u. Contains vertices u) same w.1, λ e. far.2 (e ∙ ap (get old) (sym same) ∙ at)),
+  λ c. (get old v, subst (λ (ps : List (Vertex × Option ℕ)). Contains ps (v, get old v)) (sym all) (mapped_element (with_distance old) vertices v c.0), c.1),
+)
+
+-- What is listed as changed is what differs.
+pub listed : (root : ℕ) (t u : TreeValue) (lost moved written changed : List Vertex) (remembered : List (Vertex × Option ℕ)) → remembered ≡ map (with_distance t.distances) (Router root ∷ lost)
+    → ((v : Vertex) → Contains changed v ↔ (IsFarther remembered u.distances v ⊎ (IsNearer moved lost v ⊎ Contains written v)))
+    → ((v : Vertex) → IsChangedBy root t u lost moved written v ↔ Differs t u v) → (v : Vertex) → Contains changed v ↔ Differs t u v
+listed root t u lost moved written changed remembered all exact differ v =
+    let far = farther_is remembered (Router root ∷ lost) t.distances u.distances all v in (
+      λ c. (differ v).0 (elim ((exact v).0 c) [ inl f ↦ inl (far.0 f) | inr other ↦ inr other ]),
+      λ d. (exact v).1 (elim ((differ v).1 d) [ inl f ↦ inl (far.1 f) | inr other ↦ inr other ]),
+    )
+
+-- the tree with the vertices that were listed
+abbrev pub with_changed : TreeValue → List Vertex → TreeValue
+with_changed u changed = record { distances = u.distances; hops = u.hops; changed = changed; spent = u.spent }
+
+-- is one as before
+pub listed_tree : {g : GraphValue} (u : TreeValue) (changed : List Vertex) → IsTreeOf g u → IsTreeOf g (with_changed u changed)
+listed_tree u changed is = record { fresh = is.fresh; tree = is.tree }
+
+-- and the work is the same
+pub listed_work : {g : GraphValue} {t : TreeValue} (u : TreeValue) (changed : List Vertex) {taken hop_sets : ℕ} → IsWorkDone g t u taken hop_sets → IsWorkDone g t (with_changed u changed) taken hop_sets
+listed_work u changed work = record { taken_least = work.taken_least; sets_least = work.sets_least }
+
+-- what the tree is seen as, and the links that came, given another way
+pub renewed_at : {g : GraphValue} {slice come : List Link} {t : TreeValue} (u new : TreeValue) {lost stale moved written : List Vertex} {taken hop_sets : ℕ} → u ≡ new → slice ≡ come → IsRenewed g slice t new lost stale moved written taken hop_sets
+    → IsRenewed g come t u lost stale moved written taken hop_sets
+renewed_at {g} {slice} {come} {t} u new {lost} {stale} {moved} {written} {taken} {hop_sets} view same r =
+    subst (λ (links : List Link). IsRenewed g links t u lost stale moved written taken hop_sets) same (subst (λ (w : TreeValue). IsRenewed g slice t w lost stale moved written taken hop_sets) (sym view) r)
+
+-- The list is that of what differs, where the root and what was lost were remembered as the tree was.
+pub changed_list : (i t u : TreeValue) (root at_root : ℕ) (lost at_lost left moved written changed : List Vertex) (remembered slice : List (Vertex × Option ℕ)) → i ≡ t → at_root ≡ root → at_lost ≡ lost → left ≡ lost → slice ≡ remembered
+    → remembered ≡ map (with_distance i.distances) (Router at_root ∷ at_lost) → IsStrictlySortedBy vertex_cmp changed
+    → ((v : Vertex) → Contains changed v ↔ (IsFarther slice u.distances v ⊎ (IsNearer moved left v ⊎ Contains written v)))
+    → ((v : Vertex) → IsChangedBy root t u lost moved written v ↔ Differs t u v) → AreChanged t (with_changed u changed) changed
+changed_list i t u root at_root lost at_lost left moved written changed remembered slice view is_root are_lost still_lost same all in_order exact differ = record {
+  in_order = in_order;
+  exact = listed root t u lost moved written changed slice (same ∙ all ∙ (λ j. map (with_distance (view j).distances) (Router (is_root j) ∷ are_lost j)))
+      (subst (λ (vs : List Vertex). (v : Vertex) → Contains changed v ↔ (IsFarther slice u.distances v ⊎ (IsNearer moved vs v ⊎ Contains written v))) still_lost exact) differ;
+}

@@ -1,0 +1,16 @@
+use Rattle.std.proofs.Common.{◌<◌, ℕ, Option, sym, ap, subst, ◌∙◌}
+use Rattle.std.specs.Prelude.{IfSome}
+use Rattle.std.specs.FinMap.{get}
+use Rattle.vertex_queue.proofs.VertexOrder.{equals}
+use Rattle.spf.specs.Parts.{DistanceMap, most_distance}
+use Rattle.spf.proofs.VertexMaps.{looked_up, some_looked_up}
+use Rattle.spf.proofs.distances.Distances.get.Goals as goal
+
+pub returns-clause-value : goal.returns-clause-value
+returns-clause-value c =
+    c.copied.ensures ∙ c.get.ensures.value ∙ looked_up c.self.inside.entries.entries c.args.vertex ∙ ap (λ (m : DistanceMap). get m c.args.vertex) c.self.view_is
+
+pub returns-clause-bounded : goal.returns-clause-bounded
+returns-clause-bounded c =
+    subst (λ (o : Option ℕ). IfSome o (λ distance. distance < most_distance)) (sym (c.copied.ensures ∙ c.get.ensures.value))
+    (some_looked_up (λ distance. distance < most_distance) (equals c.args.vertex) c.self.inside.entries.entries c.self.invariant)

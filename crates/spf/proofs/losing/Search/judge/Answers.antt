@@ -1,0 +1,28 @@
+use Rattle.std.proofs.Common.{ℕ, List, sym, subst}
+use Rattle.std.specs.FinMap.{get}
+use Rattle.std.specs.Prelude.{Result, Ok, Err, OnOk}
+use Rattle.ospf_types.specs.declared.entry.Vertex.{Vertex}
+use Rattle.spf.specs.Suspects.{MaySupport, IsHead, AreToldOf, IsJudged}
+use Rattle.spf.proofs.Suspecting.{judged_lost}
+use Rattle.spf.proofs.losing.Search.judge.Goals as goal
+
+-- what two facts of the same success show of it
+on_both : {T E A B C : Type 0} (r : Result T E) → OnOk r A → OnOk r B → (A → B → C) → OnOk r C
+on_both (Ok t) a b show = show a b
+on_both (Err e) a b show = tt
+
+pub returns : goal.returns
+returns c =
+    let old = get c.args.distances.now in
+    let s = c.args.self.now in
+    let new = c.suspect_beyond.new.self in
+    let lost = s.losses.lost in
+    on_both c.suspect_beyond.result c.suspect_beyond.ensures.told c.suspect_beyond.ensures.lost
+    (λ told same.
+    subst (λ (vs : List Vertex). IsJudged c.args.graph.now old lost vs s.suspects new.suspects s.losses.stale new.losses.stale c.args.suspect) (sym same)
+    (judged_lost c.args.graph.now old lost s.suspects s.losses.stale c.args.suspect c.add.new.self new.suspects new.losses.stale c.in_ok-add.field-0 c.in-Some.distance c.links_from.result.now
+    (λ there. let yes = c.has.ensures.1 there in let no = c.if-has.false in absurd cc)
+    (sym c.in-Some.ensures.value)
+    (λ supported. let yes = c.in_ok-is_supported.ensures.1 supported in let no = c.if-branch.false in absurd cc)
+    c.links_from.ensures.exact c.in_ok-add.ensures.end
+    (subst (λ (r : ℕ). AreToldOf (IsHead (MaySupport r old c.in-Some.distance) c.links_from.result.now) c.add.new.self s.losses.stale new.losses.stale s.suspects new.suspects) c.root.ensures.value told)))

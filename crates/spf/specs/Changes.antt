@@ -1,0 +1,31 @@
+-- The changes of links as lists: those that went and those that came.
+use Rattle.std.specs.Prelude.{◌↔◌, ℕ, ◌⊎◌, List, Contains}
+use Rattle.ospf_types.specs.declared.entry.Vertex.{Vertex}
+use Rattle.ospf_types.specs.declared.label.Label.{Label}
+use Rattle.ospf_types.specs.Distances.{Links}
+use Rattle.vertex_graph.specs.declared.link.Link.{Link}
+
+-- the value of a link
+abbrev pub link_value : Vertex → Vertex → ℕ → Label → Link
+link_value v w c l = record { from = v; to = w; cost = c; label = l }
+
+-- the links of a list
+abbrev pub Among : List Link → Links
+Among links from to cost label = Contains links (link_value from to cost label)
+
+-- the links before: those after that did not come, and those that went
+abbrev pub Earlier : Links → List Link → List Link → Links
+Earlier after gone come from to cost label = (after from to cost label × (Among come from to cost label → ⊥)) ⊎ Among gone from to cost label
+
+-- the same links
+abbrev pub SameLinks : Links → Links → Type 0
+SameLinks A B = (from to : Vertex) (cost : ℕ) (label : Label) → A from to cost label ↔ B from to cost label
+
+-- each link is there or not
+abbrev pub AreDecided : Links → Type 0
+AreDecided link = (from to : Vertex) (cost : ℕ) (label : Label) → link from to cost label ⊎ (link from to cost label → ⊥)
+
+-- The lists have just the links that went and just those that came.
+pub record AreExactChanges (before after : Links) (gone come : List Link) : Type 0 where
+  pub went : SameLinks (Among gone) (λ from to cost label. before from to cost label × (after from to cost label → ⊥))
+  pub came : SameLinks (Among come) (λ from to cost label. after from to cost label × (before from to cost label → ⊥))

@@ -1,0 +1,89 @@
+-- What the steps of the third part do: what a link gives, what is put into the queue, what is written at one vertex.
+use Rattle.std.specs.Prelude.{◌↔◌, ◌⊎◌, ℕ, ◌+◌, ◌≡◌, ◌≢◌, ◌++◌, ◌∷◌, List, [], length, Contains, Option, Some, None}
+use Rattle.ospf_types.specs.declared.entry.Vertex.{Vertex}
+use Rattle.ospf_types.specs.declared.entry.Vertex.TheVariants.{Router}
+use Rattle.ospf_types.specs.declared.hop.NextHop.{NextHop}
+use Rattle.ospf_types.specs.declared.label.Label.{Label}
+use Rattle.ospf_types.specs.Distances.{Links}
+use Rattle.std.specs.FinMap.{get}
+use Rattle.vertex_graph.specs.Graphs.{GraphValue, LinksOf}
+use Rattle.vertex_graph.specs.declared.link.Link.{Link}
+use Rattle.vertex_queue.specs.Queues.{Queue}
+use Rattle.spf.specs.Loops.{HasNoDoubles, IsReached, AreHanding}
+use Rattle.spf.specs.Parts.{HopMap, IsTakenBy}
+use Rattle.spf.specs.Repairs.{IsQueued}
+use Rattle.spf.specs.Trees.{IsLeast, IsGiven, Gives, HandsOn}
+
+-- some element of the list has the property
+abbrev pub IsOfSome : {A B : Type 0} → List A → (A → B → Type 0) → B → Type 0
+IsOfSome {A} xs P y = (x : A) × Contains xs x × P x y
+
+-- ---- what is given
+
+-- the head of the link is as far as its tail and the link together
+pub record IsLeastLink (distance : Vertex → Option ℕ) (l : Link) : Type 0 where
+  pub near : ℕ
+  pub tail : distance l.from ≡ Some near
+  pub head : distance l.to ≡ Some (near + l.cost)
+
+-- what the link gives its head, if it is a least link
+abbrev pub IsGivenOver : ℕ → (Vertex → Option ℕ) → (Vertex → NextHop → Type 0) → Link → NextHop → Type 0
+IsGivenOver root distance hops l h = IsLeastLink distance l × Gives root hops l.from l.to l.label h
+
+-- what a link with this label hands on of a next hop
+abbrev pub IsHandedOn : Label → NextHop → NextHop → Type 0
+IsHandedOn label g h = HandsOn g label h
+
+-- the set has what it had, and what is given
+pub record IsUnion (old new : List NextHop) (Given : NextHop → Type 0) : Type 0 where
+  pub union : (h : NextHop) → Contains new h ↔ (Contains old h ⊎ Given h)
+
+-- ---- what is put into the queue
+
+-- what is due is put into the queue at its distance
+pub record ArePut (distance : Vertex → Option ℕ) (Due : Vertex → Type 0) (old new : Vertex → Option ℕ) : Type 0 where
+  pub keeps : (v : Vertex) → IsQueued old v → IsQueued new v
+  pub all : (v : Vertex) → Due v → IsQueued new v
+  pub only : (v : Vertex) (k : ℕ) → new v ≡ Some k → (old v ≡ Some k) ⊎ (Due v × (distance v ≡ Some k))
+
+-- it is that vertex, and is reached
+abbrev pub IsReachedAt : ℕ → (Vertex → Option ℕ) → Vertex → Vertex → Type 0
+IsReachedAt root distance at v = (v ≡ at) × IsReached root distance v
+
+-- it is the head of the link, if that is a least link, and not the root
+abbrev pub IsHeadOver : ℕ → (Vertex → Option ℕ) → Link → Vertex → Type 0
+IsHeadOver root distance l v = IsLeastLink distance l × (v ≡ l.to) × (v ≢ Router root)
+
+-- it is the head of a least link out of the vertex, and not the root
+abbrev pub IsLeastHead : Links → ℕ → (Vertex → Option ℕ) → Vertex → Vertex → Type 0
+IsLeastHead link root distance from to = ((cost : ℕ) × (label : Label) × IsLeast link distance from to cost label) × (to ≢ Router root)
+
+-- ---- what is written
+
+-- What is in the list and is not reached is written, each once, and has no next hops. The others stay.
+pub record AreBlanked (distance : Vertex → Option ℕ) (vertices : List Vertex) (old new : HopMap) (written : List Vertex) : Type 0 where
+  pub exact : (v : Vertex) → Contains written v ↔ (Contains vertices v × (distance v ≡ None))
+  pub apart : HasNoDoubles written
+  pub blank : (v : Vertex) → Contains written v → get new v ≡ None
+  pub kept : (v : Vertex) → (Contains written v → ⊥) → get new v ≡ get old v
+
+-- The vertex has what its least links give it. If that is another set, it was written, and the heads of its least links are put into the queue.
+pub record IsSettled (link : Links) (root : ℕ) (distance : Vertex → Option ℕ) (queue more : Queue) (now new : Vertex → NextHop → Type 0) (written wider : List Vertex) (v : Vertex) : Type 0 where
+  pub union : (h : NextHop) → new v h ↔ IsGiven link root distance now v h
+  pub elsewhere : (w : Vertex) → w ≢ v → (h : NextHop) → new w h ↔ now w h
+  pub outcome : ((wider ≡ written ++ v ∷ []) × (((h : NextHop) → new v h ↔ now v h) → ⊥) × ArePut distance (IsLeastHead link root distance v) (get queue) (get more))
+      ⊎ ((wider ≡ written) × ((h : NextHop) → new v h ↔ now v h) × (more ≡ queue))
+
+-- While vertices wait: those that were taken, and those that were written since what is lost is blank. The counts are those of the start and now.
+pub record IsAmidst (g : GraphValue) (distance : Vertex → Option ℕ) (begun now : Vertex → NextHop → Type 0) (queue : Queue) (blanked moved stale written : List Vertex) (start number sets : ℕ) : Type 0 where
+  pub taken : List Vertex
+  pub set : List Vertex
+  pub handing : AreHanding (LinksOf g) g.root distance (get queue) begun now taken set
+  pub whole : written ≡ blanked ++ set
+  pub unreached : (v : Vertex) → Contains blanked v → distance v ≡ None
+  pub apart : HasNoDoubles taken
+  pub written_apart : HasNoDoubles written
+  pub count : number ≡ start + length taken
+  pub counted : sets ≡ length written
+  pub why_taken : (v : Vertex) → Contains taken v → IsTakenBy g moved stale written v
+  pub why_queued : (v : Vertex) (k : ℕ) → get queue v ≡ Some k → IsTakenBy g moved stale written v

@@ -1,0 +1,9 @@
+pub mod Trees
+pub mod Repairs
+pub mod Loops
+pub mod Changes
+pub mod Parts
+pub mod Suspects
+pub mod TreeValues
+pub mod Offers
+pub mod HandedOn

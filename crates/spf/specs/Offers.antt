@@ -1,0 +1,50 @@
+-- What links offer vertices: each a distance at which it can be reached. A nearer one is queued; over one that is as near the vertex has another least link.
+use Rattle.std.specs.Prelude.{ℕ, ◌+◌, ◌≡◌, ◌≢◌, ◌<◌, ◌⊎◌, List, Contains, Option, Some, None}
+use Rattle.ospf_types.specs.declared.entry.Vertex.{Vertex}
+use Rattle.ospf_types.specs.declared.entry.Vertex.TheVariants.{Router}
+use Rattle.ospf_types.specs.declared.label.Label.{Label}
+use Rattle.ospf_types.specs.Distances.{Links}
+use Rattle.vertex_graph.specs.declared.link.Link.{Link}
+use Rattle.spf.specs.Trees.{IsWithin}
+
+-- vertices, each with a distance
+abbrev pub Offers : Type 1
+Offers = Vertex → ℕ → Type 0
+
+-- one vertex, and one distance
+abbrev pub OneOffer : Vertex → ℕ → Offers
+OneOffer v k to e = (to ≡ v) × (e ≡ k)
+
+-- what a link offers its head, where its tail has this distance; the root is offered nothing
+abbrev pub OverLink : ℕ → Link → ℕ → Offers
+OverLink root l near to e = (to ≡ l.to) × (to ≢ Router root) × (e ≡ near + l.cost)
+
+-- what links offer whose tails all have this distance
+abbrev pub OverLinks : ℕ → List Link → ℕ → Offers
+OverLinks root links near to e = (l : Link) × Contains links l × OverLink root l near to e
+
+-- what links offer where their tails are reached
+abbrev pub OverReached : ℕ → (Vertex → Option ℕ) → List Link → Offers
+OverReached root distance links to e = (l : Link) × (near : ℕ) × Contains links l × (distance l.from ≡ Some near) × OverLink root l near to e
+
+-- what is offered over a relation of links out of one vertex
+abbrev pub OutOf : Links → ℕ → Vertex → ℕ → Offers
+OutOf link root from near to e = (cost : ℕ) × (label : Label) × link from to cost label × (to ≢ Router root) × (e ≡ near + cost)
+
+-- and into several, where the tails are reached
+abbrev pub Into : Links → ℕ → (Vertex → Option ℕ) → List Vertex → Offers
+Into link root distance vertices to e = (from : Vertex) × (cost : ℕ) × (label : Label) × (near : ℕ) × Contains vertices to × link from to cost label × (distance from ≡ Some near) × (to ≢ Router root) × (e ≡ near + cost)
+
+-- The offers were made: what is nearer is queued, and of each vertex the nearest; what is as near makes its vertex stale.
+pub record AreMade (offers : Offers) (distance queue more : Vertex → Option ℕ) (stale wider : List Vertex) : Type 0 where
+  pub keeps : (v : Vertex) (e : ℕ) → queue v ≡ Some e → IsWithin (more v) e
+  pub put : (v : Vertex) (e : ℕ) → more v ≡ Some e → (queue v ≡ Some e) ⊎ (offers v e × ((d : ℕ) → distance v ≡ Some d → e < d))
+  pub offered : (v : Vertex) (e : ℕ) → offers v e → IsWithin (distance v) e ⊎ IsWithin (more v) e
+  pub widens : (v : Vertex) → Contains stale v → Contains wider v
+  pub tells : (v : Vertex) (e : ℕ) → offers v e → distance v ≡ Some e → Contains wider v
+  pub why : (v : Vertex) → Contains wider v → Contains stale v ⊎ ((e : ℕ) × offers v e × (distance v ≡ Some e))
+
+-- what is lost has no distance, the others keep theirs
+pub record IsCleared (old : Vertex → Option ℕ) (lost : List Vertex) (new : Vertex → Option ℕ) : Type 0 where
+  pub blank : (v : Vertex) → Contains lost v → new v ≡ None
+  pub kept : (v : Vertex) → (Contains lost v → ⊥) → new v ≡ old v

@@ -1,0 +1,130 @@
+-- What each part of a repair is handed, and what it leaves (RFC 2328, 16.1): the vertices that lose their distance, the distances after, the next hops after.
+use Rattle.std.specs.Prelude.{◌↔◌, ◌⊎◌, ℕ, ◌+◌, ◌≡◌, ◌≢◌, ◌++◌, ◌∷◌, Bool, true, false, List, [], length, Contains, Option, Some, None}
+use Rattle.std.specs.FinMap.{FinMap, get, insert, remove}
+use Rattle.ospf_types.specs.declared.entry.Vertex.{Vertex}
+use Rattle.ospf_types.specs.declared.entry.Vertex.TheVariants.{Router}
+use Rattle.ospf_types.specs.declared.hop.NextHop.{NextHop}
+use Rattle.ospf_types.specs.declared.label.Label.{Label}
+use Rattle.ospf_types.specs.Distances.{Links}
+use Rattle.ospf_types.specs.Vertices.{vertex_cmp}
+use Rattle.vertex_graph.specs.declared.link.Link.{Link}
+use Rattle.vertex_graph.specs.Graphs.{GraphValue, LinksOf, HasRoot}
+use Rattle.spf.specs.Changes.{Among, Earlier}
+use Rattle.spf.specs.Loops.{HasNoDoubles, AreLosing, AreNearing, IsReached}
+use Rattle.spf.specs.Repairs.{AreHeld, IsReset}
+use Rattle.spf.specs.Trees.{AreLinks, AreDistances, IsGiven, IsTree, IsWithin}
+
+abbrev pub DistanceMap : Type 0
+DistanceMap = FinMap vertex_cmp ℕ
+
+abbrev pub HopMap : Type 0
+HopMap = FinMap vertex_cmp (List NextHop)
+
+-- distances stay below this
+abbrev pub most_distance : ℕ
+most_distance = 1073741824
+
+-- the vertices with one more at the end, unless it is there
+abbrev pub IsWithMember : List Vertex → List Vertex → Vertex → Bool → Type 0
+IsWithMember old new v fresh = ((fresh ≡ true) × (new ≡ old ++ v ∷ []) × (Contains old v → ⊥)) ⊎ ((fresh ≡ false) × (new ≡ old) × Contains old v)
+
+-- the next hops with those of a vertex set, or taken out
+abbrev pub with_hops : HopMap → Vertex → Option (List NextHop) → HopMap
+with_hops m v (Some hops) = insert m v hops
+with_hops m v None = remove m v
+
+-- the next hops of each vertex
+abbrev pub hops_of : HopMap → Vertex → NextHop → Type 0
+hops_of m v h = (hops : List NextHop) × (get m v ≡ Some hops) × Contains hops h
+
+-- nothing is queued
+abbrev pub nothing_queued : Vertex → Option ℕ
+nothing_queued v = None
+
+-- the distances have the root as a vertex
+abbrev pub HadRoot : ℕ → (Vertex → Option ℕ) → Type 0
+HadRoot root old = old (Router root) ≡ Some 0
+
+-- the links before the changes that are told
+abbrev pub LinksBefore : GraphValue → List Link → List Link → Links
+LinksBefore g gone come = Earlier (LinksOf g) gone come
+
+-- The distances are right for the links before, and what came are links after.
+pub record IsBefore (g : GraphValue) (gone come : List Link) (old : Vertex → Option ℕ) : Type 0 where
+  pub links : AreLinks (LinksBefore g gone come) g.root (HadRoot g.root old)
+  pub distances : AreDistances (LinksBefore g gone come) g.root (HadRoot g.root old) old
+  pub came : (l : Link) → Contains come l → LinksOf g l.from l.to l.cost l.label
+
+-- ---- who loses its distance
+
+-- why a vertex is stale: it is the head of a link that went, or of a link out of a vertex that is lost
+abbrev pub IsStaleBy : GraphValue → List Link → List Vertex → Vertex → Type 0
+IsStaleBy g gone lost to =
+    ((from : Vertex) × (cost : ℕ) × (label : Label) × Among gone from to cost label)
+    ⊎ ((from : Vertex) × (cost : ℕ) × (label : Label) × LinksOf g from to cost label × Contains lost from)
+
+-- what the first part leaves
+pub record AreLost (g : GraphValue) (gone come : List Link) (old : Vertex → Option ℕ) (lost stale : List Vertex) : Type 0 where
+  pub losing : AreLosing (LinksBefore g gone come) (LinksOf g) (Among gone) g.root (HadRoot g.root old) (HasRoot g) old lost [] stale
+  pub why : (v : Vertex) → Contains stale v → IsStaleBy g gone lost v
+
+-- ---- the distances after
+
+-- A vertex from which the search starts, at this distance: the root, or one that was reached and is not lost. It is what `Starts` of the proofs says.
+abbrev pub StartsAt : ℕ → Type 0 → (Vertex → Option ℕ) → List Vertex → Vertex → ℕ → Type 0
+StartsAt root has_root old lost v d = ((v ≡ Router root) × has_root × (d ≡ 0)) ⊎ ((v ≢ Router root) × (Contains lost v → ⊥) × (old v ≡ Some d))
+
+-- What the second part starts from: what is not lost is held by links after, and each link from where the search starts came, leads to what is lost, or leads no nearer.
+pub record AreStarted (after come : Links) (root : ℕ) (has_root : Type 0) (old : Vertex → Option ℕ) (lost : List Vertex) : Type 0 where
+  pub held : AreHeld after root old lost []
+  pub reached : (v : Vertex) → Contains lost v → IsReached root old v
+  pub fair : (from to : Vertex) (cost : ℕ) (label : Label) (d : ℕ) → after from to cost label → to ≢ Router root → StartsAt root has_root old lost from d
+      → come from to cost label ⊎ (Contains lost to ⊎ IsWithin (old to) (d + cost))
+
+-- why a vertex is stale after the second part: it was before, it is the head of a link that came, or of a link out of a vertex that moved
+abbrev pub IsStaleNow : GraphValue → List Link → List Vertex → List Vertex → Vertex → Type 0
+IsStaleNow g come stale moved to =
+    Contains stale to
+    ⊎ (((from : Vertex) × (cost : ℕ) × (label : Label) × Among come from to cost label)
+    ⊎ ((from : Vertex) × (cost : ℕ) × (label : Label) × LinksOf g from to cost label × Contains moved from))
+
+-- what the second part leaves: the distances after, reached from those at its start, where what was lost is taken out
+pub record AreNeared (g : GraphValue) (come : List Link) (old distance : Vertex → Option ℕ) (lost stale wider moved : List Vertex) : Type 0 where
+  pub start : DistanceMap
+  pub reset : IsReset g.root (HasRoot g) old lost (get start)
+  pub nearing : AreNearing (LinksOf g) (Among come) g.root (HasRoot g) (get start) distance nothing_queued moved wider
+  pub apart : HasNoDoubles moved
+  pub widens : (v : Vertex) → Contains stale v → Contains wider v
+  pub why : (v : Vertex) → Contains wider v → IsStaleNow g come stale moved v
+
+-- ---- the next hops after
+
+-- What the third part starts from: the distances are right; what is neither moved nor stale has the next hops that its least links give it; only what is lost may have next hops though it is not reached.
+pub record AreUnsettled (g : GraphValue) (distance : Vertex → Option ℕ) (hops : Vertex → NextHop → Type 0) (lost moved stale : List Vertex) : Type 0 where
+  pub distances : AreDistances (LinksOf g) g.root (HasRoot g) distance
+  pub right : (to : Vertex) (d : ℕ) → distance to ≡ Some d → to ≢ Router g.root
+      → (Contains moved to ⊎ Contains stale to) ⊎ ((h : NextHop) → hops to h ↔ IsGiven (LinksOf g) g.root distance hops to h)
+  pub root : (h : NextHop) → hops (Router g.root) h → ⊥
+  pub blank : (v : Vertex) (h : NextHop) → distance v ≡ None → hops v h → Contains lost v
+
+-- why a vertex is taken in the third part: it moved, it is stale, or it is the head of a link out of one whose next hops were written
+abbrev pub IsTakenBy : GraphValue → List Vertex → List Vertex → List Vertex → Vertex → Type 0
+IsTakenBy g moved stale written to =
+    Contains moved to
+    ⊎ (Contains stale to
+    ⊎ ((from : Vertex) × (cost : ℕ) × (label : Label) × LinksOf g from to cost label × Contains written from))
+
+-- What the third part leaves: the tree. What was lost for good is blank and counts as written; the others were written where they differ from before.
+pub record AreSettled (g : GraphValue) (distance : Vertex → Option ℕ) (before now : Vertex → NextHop → Type 0) (lost moved stale written : List Vertex) (taken_count : ℕ) : Type 0 where
+  pub tree : IsTree (LinksOf g) g.root (HasRoot g) distance now
+  pub taken : List Vertex
+  pub count : length taken ≡ taken_count
+  pub taken_apart : HasNoDoubles taken
+  pub why : (v : Vertex) → Contains taken v → IsTakenBy g moved stale written v
+  pub taken_reached : (v : Vertex) → Contains taken v → IsReached g.root distance v
+  pub written_apart : HasNoDoubles written
+  pub written_for : (v : Vertex) → Contains written v
+      → (Contains lost v × (distance v ≡ None))
+      ⊎ (Contains taken v × (((h : NextHop) → now v h ↔ before v h) → ⊥))
+  pub lost_written : (v : Vertex) → Contains lost v → distance v ≡ None → Contains written v
+  pub unwritten : (v : Vertex) → (Contains written v → ⊥) → (h : NextHop) → now v h ↔ before v h

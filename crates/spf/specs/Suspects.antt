@@ -1,0 +1,62 @@
+-- What is done with vertices that are suspected to have lost their distance, in the first part of a repair.
+use Rattle.std.specs.Prelude.{◌⊎◌, ℕ, ◌+◌, ◌≡◌, ◌≢◌, ◌≤◌, ◌++◌, ◌∷◌, List, [], Contains, Option, Some}
+use Rattle.ospf_types.specs.declared.entry.Vertex.{Vertex}
+use Rattle.ospf_types.specs.declared.entry.Vertex.TheVariants.{Router}
+use Rattle.ospf_types.specs.declared.label.Label.{Label}
+use Rattle.vertex_graph.specs.declared.link.Link.{Link}
+use Rattle.vertex_graph.specs.Graphs.{GraphValue, LinksOf, HasRoot}
+use Rattle.spf.specs.Changes.{Among}
+use Rattle.spf.specs.Loops.{HasNoDoubles, AreLosing, IsLost}
+use Rattle.spf.specs.Parts.{LinksBefore, HadRoot, IsStaleBy}
+use Rattle.spf.specs.Repairs.{IsSupported}
+
+-- the link's tail is reached and not lost, and over the link its head is no farther than the limit
+abbrev pub Supports : (Vertex → Option ℕ) → List Vertex → ℕ → Link → Type 0
+Supports old lost limit l = (near : ℕ) × (old l.from ≡ Some near) × (Contains lost l.from → ⊥) × (near + l.cost ≤ limit)
+
+-- the link is a least one into a vertex other than the root
+abbrev pub WasLeast : ℕ → (Vertex → Option ℕ) → Link → Type 0
+WasLeast root old l = (l.to ≢ Router root) × (near : ℕ) × (old l.from ≡ Some near) × (old l.to ≡ Some (near + l.cost))
+
+-- over the link, from a tail at this distance, a reached vertex other than the root is no farther than it was
+abbrev pub MaySupport : ℕ → (Vertex → Option ℕ) → ℕ → Link → Type 0
+MaySupport root old near l = (l.to ≢ Router root) × (far : ℕ) × (old l.to ≡ Some far) × (near + l.cost ≤ far)
+
+-- the head of a link of the list that passes
+abbrev pub IsHead : (Link → Type 0) → List Link → Vertex → Type 0
+IsHead Passes links v = (l : Link) × Contains links l × Passes l × (l.to ≡ v)
+
+-- Each vertex that is told becomes stale, and suspected unless it is lost. No other does.
+pub record AreToldOf (Told : Vertex → Type 0) (lost stale wider suspects more : List Vertex) : Type 0 where
+  pub widens : (v : Vertex) → Contains stale v → Contains wider v
+  pub waits : (v : Vertex) → Contains suspects v → Contains more v
+  pub told : (v : Vertex) → Told v → Contains wider v × (Contains lost v ⊎ Contains more v)
+  pub stale_only : (v : Vertex) → Contains wider v → Contains stale v ⊎ Told v
+  pub suspects_only : (v : Vertex) → Contains more v → Contains suspects v ⊎ Told v
+  pub apart : HasNoDoubles suspects → HasNoDoubles more
+
+-- a suspect that is lost already, or supported, changes nothing
+pub record IsPassed (g : GraphValue) (old : Vertex → Option ℕ) (lost more suspects again stale wider : List Vertex) (v : Vertex) : Type 0 where
+  pub lost_same : more ≡ lost
+  pub suspects_same : again ≡ suspects
+  pub stale_same : wider ≡ stale
+  pub passed : Contains lost v ⊎ ((d : ℕ) → old v ≡ Some d → IsSupported (LinksOf g) old lost v d)
+
+-- a suspect without support is lost, and the heads of its links are told
+pub record IsLostNow (g : GraphValue) (old : Vertex → Option ℕ) (lost more suspects again stale wider : List Vertex) (v : Vertex) : Type 0 where
+  pub losing : IsLost (LinksOf g) g.root old lost more suspects again stale wider v
+  pub why : (w : Vertex) → Contains wider w → Contains stale w ⊎ ((cost : ℕ) × (label : Label) × LinksOf g v w cost label)
+  pub fresh : Contains lost v → ⊥
+  pub end : more ≡ lost ++ v ∷ []
+  pub apart : HasNoDoubles suspects → HasNoDoubles again
+
+-- what comes of a suspect
+abbrev pub IsJudged : GraphValue → (Vertex → Option ℕ) → List Vertex → List Vertex → List Vertex → List Vertex → List Vertex → List Vertex → Vertex → Type 0
+IsJudged g old lost more suspects again stale wider v = IsPassed g old lost more suspects again stale wider v ⊎ IsLostNow g old lost more suspects again stale wider v
+
+-- while suspects are left
+pub record AreSuspected (g : GraphValue) (gone come : List Link) (old : Vertex → Option ℕ) (lost suspects stale : List Vertex) : Type 0 where
+  pub losing : AreLosing (LinksBefore g gone come) (LinksOf g) (Among gone) g.root (HadRoot g.root old) (HasRoot g) old lost suspects stale
+  pub why : (v : Vertex) → Contains stale v → IsStaleBy g gone lost v
+  pub lost_apart : HasNoDoubles lost
+  pub suspects_apart : HasNoDoubles suspects

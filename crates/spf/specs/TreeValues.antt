@@ -1,0 +1,102 @@
+-- A shortest-path tree as its callers see it, and what a repair promises of it.
+use Rattle.std.specs.Prelude.{◌↔◌, ◌⊎◌, ℕ, ◌+◌, ◌*◌, ◌≡◌, ◌≢◌, ◌≤◌, Bool, false, List, [], ◌∷◌, length, Contains, Option, Some, None}
+use Rattle.std.specs.FinMap.{get, empty}
+use Rattle.std.specs.List.Sorted.{IsStrictlySortedBy}
+use Rattle.ospf_types.specs.declared.entry.Vertex.{Vertex}
+use Rattle.ospf_types.specs.declared.entry.Vertex.TheVariants.{Router}
+use Rattle.ospf_types.specs.declared.hop.NextHop.{NextHop}
+use Rattle.ospf_types.specs.Vertices.{vertex_cmp}
+use Rattle.vertex_graph.specs.declared.link.Link.{Link}
+use Rattle.vertex_graph.specs.Graphs.{GraphValue, LinksOf, HasRoot}
+use Rattle.spf.specs.Changes.{Among}
+use Rattle.spf.specs.Loops.{HasNoDoubles}
+use Rattle.spf.specs.Parts.{DistanceMap, HopMap, HadRoot, LinksBefore, AreLost, hops_of}
+use Rattle.spf.specs.Repairs.{AreOwed}
+use Rattle.spf.specs.Trees.{AreLinks, IsTree}
+
+pub record TreeValue : Type 0 where
+  pub distances : DistanceMap  -- of what is reached
+  pub hops : HopMap
+  pub changed : List Vertex
+  pub spent : Bool
+
+-- the next hops of a vertex, as a list
+abbrev pub listed_hops : Option (List NextHop) → List NextHop
+listed_hops None = []
+listed_hops (Some hops) = hops
+
+-- The tree is that of the graph: each distance and each next hop is the one that the definitions give.
+pub record IsTreeOf (g : GraphValue) (t : TreeValue) : Type 0 where
+  pub fresh : t.spent ≡ false
+  pub tree : IsTree (LinksOf g) g.root (HasRoot g) (get t.distances) (hops_of t.hops)
+
+-- The tree is right for the links before the changes that are told, and what came are links of the graph.
+pub record IsTreeBefore (g : GraphValue) (gone come : List Link) (t : TreeValue) : Type 0 where
+  pub fresh : t.spent ≡ false
+  pub links : AreLinks (LinksBefore g gone come) g.root (HadRoot g.root (get t.distances))
+  pub tree : IsTree (LinksBefore g gone come) g.root (HadRoot g.root (get t.distances)) (get t.distances) (hops_of t.hops)
+  pub came : (l : Link) → Contains come l → LinksOf g l.from l.to l.cost l.label
+
+-- A repair is begun: the tree is right before the changes, and what they take is known.
+pub record IsBegun (g : GraphValue) (gone come : List Link) (t : TreeValue) (lost stale : List Vertex) : Type 0 where
+  pub before : IsTreeBefore g gone come t
+  pub losses : AreLost g gone come (get t.distances) lost stale
+
+-- the vertex has another distance or other next hops
+abbrev pub Differs : TreeValue → TreeValue → Vertex → Type 0
+Differs old new v = ((get new.distances v ≡ get old.distances v) × ((h : NextHop) → hops_of new.hops v h ↔ hops_of old.hops v h)) → ⊥
+
+-- the vertex was remembered with another distance than it has
+abbrev pub IsFarther : List (Vertex × Option ℕ) → DistanceMap → Vertex → Type 0
+IsFarther before distances v = (d : Option ℕ) × Contains before (v, d) × (get distances v ≢ d)
+
+-- the vertex was moved, and had not lost its distance
+abbrev pub IsNearer : List Vertex → List Vertex → Vertex → Type 0
+IsNearer moved lost v = Contains moved v × (Contains lost v → ⊥)
+
+-- why a vertex differs: it is the root or lost its distance, and has another than before; it is nearer; or its next hops were written
+abbrev pub IsChangedBy : ℕ → TreeValue → TreeValue → List Vertex → List Vertex → List Vertex → Vertex → Type 0
+IsChangedBy root old new lost moved written v =
+    (Contains (Router root ∷ lost) v × (get new.distances v ≢ get old.distances v))
+    ⊎ (IsNearer moved lost v ⊎ Contains written v)
+
+-- exactly the vertices that differ, ascending, each once
+pub record AreChanged (old new : TreeValue) (changed : List Vertex) : Type 0 where
+  pub in_order : IsStrictlySortedBy vertex_cmp changed
+  pub exact : (v : Vertex) → Contains changed v ↔ Differs old new v
+
+-- The work is bounded by what differs: for all lists of the vertices that differ, of the heads of the links that differ, and of the heads of the links out of the vertices that differ.
+pub record IsBounded (g : GraphValue) (gone come : List Link) (old : TreeValue) (taken hop_sets : ℕ) : Type 0 where
+  pub taken_most : (first second heads first_out second_out : List Vertex)
+      → AreOwed g.root (LinksBefore g gone come) (LinksOf g) (Among gone) (Among come) (HadRoot g.root (get old.distances)) (HasRoot g) first second heads first_out second_out
+      → taken ≤ 2 * (length first + length second) + (length heads + (length first_out + length second_out))
+  pub sets_most : (first second heads first_out second_out : List Vertex)
+      → AreOwed g.root (LinksBefore g gone come) (LinksOf g) (Among gone) (Among come) (HadRoot g.root (get old.distances)) (HasRoot g) first second heads first_out second_out
+      → hop_sets ≤ length first + length second
+
+-- a vertex other than the root that is reached
+abbrev pub IsReachedIn : GraphValue → TreeValue → Vertex → Type 0
+IsReachedIn g t v = ((d : ℕ) × (get t.distances v ≡ Some d)) × (v ≢ Router g.root)
+
+-- And it is no less than what differs: no list of different vertices that are reached at another distance than before is longer than what was taken, none of those that have other next hops longer than the sets that were written.
+pub record IsWorkDone (g : GraphValue) (old new : TreeValue) (taken hop_sets : ℕ) : Type 0 where
+  pub taken_least : (vertices : List Vertex) → HasNoDoubles vertices
+      → ((v : Vertex) → Contains vertices v → IsReachedIn g new v × (get new.distances v ≢ get old.distances v)) → length vertices ≤ taken
+  pub sets_least : (vertices : List Vertex) → HasNoDoubles vertices
+      → ((v : Vertex) → Contains vertices v → IsReachedIn g new v × (((h : NextHop) → hops_of new.hops v h ↔ hops_of old.hops v h) → ⊥)) → length vertices ≤ hop_sets
+
+-- It is no less than the vertices that are reached: no list of different ones, the root left out, is longer than either count.
+abbrev pub IsWorkForAll : GraphValue → TreeValue → ℕ → ℕ → Type 0
+IsWorkForAll g t taken hop_sets = (vertices : List Vertex) → HasNoDoubles vertices → ((v : Vertex) → Contains vertices v → IsReachedIn g t v) → (length vertices ≤ taken) × (length vertices ≤ hop_sets)
+
+-- What a repair that is begun comes to, with what was moved and what was written: the tree, its work, and why vertices differ.
+pub record IsRenewed (g : GraphValue) (come : List Link) (old new : TreeValue) (lost stale moved written : List Vertex) (taken hop_sets : ℕ) : Type 0 where
+  pub tree : IsTreeOf g new
+  pub bounded : (gone : List Link) → IsBegun g gone come old lost stale → IsBounded g gone come old taken hop_sets
+  pub idle : IsBegun g [] come old lost stale → come ≡ [] → (taken ≡ 0) × (hop_sets ≡ 0)
+  pub work : IsWorkDone g old new taken hop_sets
+  pub differ : (v : Vertex) → IsChangedBy g.root old new lost moved written v ↔ Differs old new v
+
+-- the tree of no links
+abbrev pub blank_value : TreeValue
+blank_value = record { distances = empty; hops = empty; changed = []; spent = false }

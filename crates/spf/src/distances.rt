@@ -1,0 +1,80 @@
+//! The distances of vertices.
+ghost use Rattle.std.specs.Prelude.{◌≡◌, ◌<◌, ◌^◌, IfSome, OnOk, OnErr};
+ghost use Rattle.std.specs.FinMap as map;
+ghost use Rattle.spf.specs.Parts.{most_distance};
+
+use indexmap::IndexMap;
+use ospf_types::entry::Vertex;
+use ospf_types::memory::Memory;
+use std::alloc::Global;
+use std::hash::RandomState;
+use std::marker::Model;
+
+/// The vertices that are reached, each at its distance: a sum of metrics below 2^30.
+#[derive(Debug, Drop)]
+pub(crate) struct Distances {
+    entries: IndexMap<Vertex, u32, RandomState>,
+}
+
+impl Model for Distances {
+    ghost use Rattle.std.specs.FinMap as map;
+    ghost use Rattle.std.specs.Coded.{coded_ℕ};
+    ghost use Rattle.std.specs.Prelude.{◌<◌};
+    ghost use Rattle.std.specs.List.{All};
+    ghost use Rattle.ospf_types.specs.Vertices.{vertex_code};
+    ghost use Rattle.spf.specs.Parts.{DistanceMap, most_distance};
+
+    ghost Value = { DistanceMap };
+
+    ghost coded = { map.code vertex_code coded_ℕ };
+
+    ghost view = { λ d. map.from_entries d.entries.entries };
+
+    ghost invariant = { λ d. All (λ p. p.1 < most_distance) d.entries.entries };
+}
+
+impl Distances {
+    pub(crate) fn new(alloc: Global, hashing: RandomState) -> Distances
+        ensures { result ≡ map.empty }
+    {
+        Distances {
+            entries: IndexMap::with_hasher(alloc, hashing),
+        }
+    }
+
+    pub(crate) fn get(&self, vertex: Vertex) -> Option<u32>
+        ensures value { result ≡ map.get self.now vertex }
+        ensures bounded { IfSome result (λ distance. distance < most_distance) }
+    {
+        self.entries.get(&vertex).copied()
+    }
+
+    /// How many vertices are reached.
+    pub(crate) fn len(&self) -> usize
+        ensures value { result ≡ map.len self.now }
+        ensures small { result < 2 ^ 63 }
+    {
+        self.entries.len()
+    }
+
+    pub(crate) fn set(&mut self, vertex: Vertex, distance: u32) -> Result<(), Memory>
+        requires { distance < most_distance }
+        ensures set { OnOk result (self.new ≡ map.insert self.old vertex distance) }
+        ensures unchanged { OnErr result (self.new ≡ self.old) }
+    {
+        self.entries.insert(vertex, distance)?;
+        Ok(())
+    }
+
+    pub(crate) fn remove(&mut self, vertex: Vertex)
+        ensures { self.new ≡ map.remove self.old vertex }
+    {
+        self.entries.swap_remove(&vertex);
+    }
+
+    pub(crate) fn clear(&mut self)
+        ensures { self.new ≡ map.empty }
+    {
+        self.entries.clear();
+    }
+}

@@ -1,0 +1,159 @@
+//! What the least links into a vertex give it, of the next hops of their tails (RFC 2328, 16.1.1).
+ghost use Rattle.std.specs.Prelude.{◌≡◌, ◌↔◌, ℕ, IfSome, IfNone, IsTrue, IfOk, OnOk, Contains, option_copied, option_to_list};
+ghost use Rattle.std.specs.FinMap as map;
+ghost use Rattle.ospf_types.specs.Distances.{FirstOnly};
+ghost use Rattle.ospf_types.specs.declared.hop.NextHop.{NextHop as Hop};
+ghost use Rattle.vertex_graph.specs.Graphs.{LinksOf};
+ghost use Rattle.spf.specs.HandedOn.{IsOfSome, IsLeastLink, IsGivenOver, IsHandedOn, IsUnion};
+ghost use Rattle.spf.specs.Parts.{hops_of};
+ghost use Rattle.spf.specs.TreeValues.{listed_hops};
+ghost use Rattle.spf.specs.Trees.{IsGiven, HandsOn, first_hops};
+
+use crate::distances::Distances;
+use crate::hop_columns::HopColumns;
+use hop_sets::HopSet;
+use ospf_types::entry::Vertex;
+use ospf_types::hop::NextHop;
+use ospf_types::label::Label;
+use ospf_types::memory::Memory;
+use std::alloc::Global;
+use vertex_graph::{Graph, Link};
+
+/// The next hops that the least links into a vertex give it.
+pub(crate) fn gather(
+    alloc: Global,
+    graph: &Graph,
+    distances: &Distances,
+    hops: &HopColumns,
+    vertex: Vertex,
+) -> Result<HopSet, Memory>
+    ensures { IfOk result (λ set. (h : Hop) → Contains set h ↔ IsGiven (LinksOf graph.now) graph.now.root (map.get distances.now) (hops_of hops.now) vertex h) }
+{
+    let root = graph.root();
+    let far = distances.get(vertex);
+    let mut set = HopSet::new(alloc);
+    for link in graph.links_to(vertex) {
+        add_given(root, distances, hops, link, far, &mut set)?;
+    }
+    Ok(set)
+}
+
+/// Whether both are the same next hops.
+pub(crate) fn are_same(before: Option<&HopSet>, after: &HopSet) -> bool
+    ensures { IsTrue result ↔ ((h : Hop) → Contains (listed_hops (option_copied before.entry)) h ↔ Contains after.now h) }
+{
+    match before {
+        Some(before) => before.as_slice() == after.as_slice(),
+        None => after.is_empty(),
+    }
+}
+
+pub(crate) fn is_root(root: u32, vertex: Vertex) -> bool
+    ensures { IsTrue result ↔ (vertex ≡ Vertex.Router root) }
+{
+    match vertex {
+        Vertex::Router(id) => id == root,
+        Vertex::Network(_) => false,
+    }
+}
+
+// Adds what a link gives its head, which is this far, if it is a least link.
+fn add_given(
+    root: u32,
+    distances: &Distances,
+    hops: &HopColumns,
+    link: &Link,
+    far: Option<u32>,
+    set: &mut HopSet,
+) -> Result<(), Memory>
+    requires { far ≡ map.get distances.now link.now.to }
+    ensures { OnOk result (IsUnion set.old set.new (IsGivenOver root (map.get distances.now) (hops_of hops.now) link.now)) }
+{
+    if !is_least(distances, link, far) {
+        return Ok(());
+    }
+    if is_root(root, link.from) {
+        return add_first(link.to, &link.label, set);
+    }
+    match hops.get(link.from) {
+        Some(tail) => add_handed_on(tail, &link.label, set),
+        None => Ok(()),
+    }
+}
+
+// Whether a link is a least link: its head, which is this far, is as far as tail and link together.
+fn is_least(distances: &Distances, link: &Link, far: Option<u32>) -> bool
+    requires { far ≡ map.get distances.now link.now.to }
+    ensures { IsTrue result ↔ IsLeastLink (map.get distances.now) link.now }
+{
+    match distances.get(link.from) {
+        Some(near) => far == Some(near + u32::from(link.cost)),
+        None => false,
+    }
+}
+
+// Adds the next hop of a path that is one link, to this vertex.
+fn add_first(to: Vertex, label: &Label, set: &mut HopSet) -> Result<(), Memory>
+    ensures { OnOk result (IsUnion set.old set.new (FirstOnly to label.now)) }
+{
+    match first_hop(to, label) {
+        Some(hop) => set.put(hop),
+        None => Ok(()),
+    }
+}
+
+// The next hop of a path that is one link.
+fn first_hop(to: Vertex, label: &Label) -> Option<NextHop>
+    ensures { option_to_list result ≡ first_hops to label.now }
+{
+    let Label::Over(interface) = label else {
+        return None;
+    };
+    match to {
+        Vertex::Router(_) => Some(NextHop::Peer(*interface)),
+        Vertex::Network(_) => Some(NextHop::Direct(*interface)),
+    }
+}
+
+// Adds what a link hands on of the next hops of its tail. Only of a network that is attached to the
+// root are they others than those.
+fn add_handed_on(tail: &HopSet, label: &Label, set: &mut HopSet) -> Result<(), Memory>
+    ensures { OnOk result (IsUnion set.old set.new (IsOfSome tail.now (IsHandedOn label.now))) }
+{
+    if !has_direct(tail.as_slice()) {
+        return set.unite(tail);
+    }
+    for hop in tail.as_slice() {
+        add_handed(*hop, label, set)?;
+    }
+    Ok(())
+}
+
+fn has_direct(hops: &[NextHop]) -> bool
+    ensures { IsTrue result ↔ ((interface : ℕ) × Contains hops.now (NextHop.Direct interface)) }
+{
+    hops.iter().any(|hop| matches!(hop, NextHop::Direct(_)))
+}
+
+// Adds what a link hands on of one next hop.
+fn add_handed(hop: NextHop, label: &Label, set: &mut HopSet) -> Result<(), Memory>
+    ensures { OnOk result (IsUnion set.old set.new (HandsOn hop label.now)) }
+{
+    match hop {
+        NextHop::Direct(interface) => add_addresses(interface, label, set),
+        NextHop::Peer(_) | NextHop::Router(_, _) => set.put(hop),
+    }
+}
+
+// Adds the addresses on a network that is attached to this interface.
+fn add_addresses(interface: u8, label: &Label, set: &mut HopSet) -> Result<(), Memory>
+    ensures { OnOk result (IsUnion set.old set.new (HandsOn (NextHop.Direct interface) label.now)) }
+{
+    let Label::At(addresses) = label else {
+        return Ok(());
+    };
+    for address in addresses.as_slice() {
+        set.put(NextHop::Router(interface, *address))?;
+    }
+    Ok(())
+}

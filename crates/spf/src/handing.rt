@@ -1,0 +1,227 @@
+//! The third part of a repair: the next hops after, handed on over least links, the nearest vertex
+//! first.
+ghost use Rattle.std.specs.Prelude.{◌≡◌, ◌-◌, ◌^◌, ◌<◌, ◌≤◌, ◌++◌, ◌∷◌, [], Some, IfSome, IfNone, IfOk, OnOk, Contains, length};
+ghost use Rattle.std.specs.FinMap as map;
+ghost use Rattle.vertex_graph.specs.Graphs.{LinksOf};
+ghost use Rattle.spf.specs.HandedOn.{IsOfSome, ArePut, IsReachedAt, IsHeadOver, IsLeastHead, IsLeastLink, AreBlanked, IsSettled};
+ghost use Rattle.spf.specs.Loops.{HasNoDoubles};
+ghost use Rattle.spf.specs.Parts.{AreUnsettled, AreSettled, hops_of, most_distance, with_hops};
+
+use crate::distances::Distances;
+use crate::gathering::{are_same, gather, is_root};
+use crate::hop_columns::HopColumns;
+use crate::losing::Losses;
+use crate::members::Members;
+use crate::touched::Touched;
+use hop_sets::HopSet;
+use ospf_types::entry::Vertex;
+use ospf_types::memory::Memory;
+use std::alloc::Global;
+use std::hash::RandomState;
+use vertex_graph::{Graph, Link};
+use vertex_queue::Queue;
+
+/// Brings the next hops to those after. The answer is the vertices whose next hops were written.
+pub(crate) fn hand(
+    alloc: Global,
+    hashing: RandomState,
+    graph: &Graph,
+    distances: &Distances,
+    losses: &Losses,
+    moved: &Members,
+    hops: &mut HopColumns,
+    touched: &mut Touched,
+) -> Result<Members, Memory>
+    requires unsettled { AreUnsettled graph.now (map.get distances.now) (hops_of hops.old) losses.now.lost moved.now losses.now.stale }
+    requires fits { touched.old.taken < 2 ^ 63 }
+    requires none_written { touched.old.hop_sets ≡ 0 }
+    ensures settled { IfOk result (λ written. AreSettled graph.now (map.get distances.now) (hops_of hops.old) (hops_of hops.new) losses.now.lost moved.now losses.now.stale written (touched.new.taken - touched.old.taken)) }
+    ensures taken { OnOk result (touched.old.taken ≤ touched.new.taken) }
+    ensures written { IfOk result (λ written. touched.new.hop_sets ≡ length written) }
+{
+    let mut written = blank(
+        alloc,
+        hashing,
+        distances,
+        losses.lost.as_slice(),
+        hops,
+        touched,
+    )?;
+    let root = graph.root();
+    let mut queue = Queue::new(alloc, hashing);
+    put_reached(root, distances, moved.as_slice(), &mut queue)?;
+    put_reached(root, distances, losses.stale.as_slice(), &mut queue)?;
+    prove!(distances.len() <= usize::MAX / 2);
+    while let Some((vertex, _)) = touched.take(&mut queue) {
+        settle(
+            alloc,
+            graph,
+            distances,
+            vertex,
+            hops,
+            touched,
+            &mut queue,
+            &mut written,
+        )?;
+    }
+    Ok(written)
+}
+
+// Takes the next hops of what is lost and is not reached again. The answer is those vertices.
+fn blank(
+    alloc: Global,
+    hashing: RandomState,
+    distances: &Distances,
+    lost: &[Vertex],
+    hops: &mut HopColumns,
+    touched: &mut Touched,
+) -> Result<Members, Memory>
+    requires apart { HasNoDoubles lost.now }
+    requires none_written { touched.old.hop_sets ≡ 0 }
+    ensures blanked { IfOk result (λ written. AreBlanked (map.get distances.now) lost.now hops.old hops.new written) }
+    ensures taken { OnOk result (touched.new.taken ≡ touched.old.taken) }
+    ensures counted { IfOk result (λ written. touched.new.hop_sets ≡ length written) }
+{
+    let mut written = Members::new(alloc, hashing);
+    for vertex in lost {
+        if distances.get(*vertex).is_none() {
+            write(*vertex, None, hops, touched, &mut written)?;
+        }
+    }
+    Ok(written)
+}
+
+// Brings the next hops of a vertex to those that its least links give it. If they are others, the
+// heads of its least links wait.
+fn settle(
+    alloc: Global,
+    graph: &Graph,
+    distances: &Distances,
+    vertex: Vertex,
+    hops: &mut HopColumns,
+    touched: &mut Touched,
+    queue: &mut Queue,
+    written: &mut Members,
+) -> Result<(), Memory>
+    requires fresh { Contains written.old vertex → ⊥ }
+    requires counted { touched.old.hop_sets ≡ length written.old }
+    ensures settled { OnOk result (IsSettled (LinksOf graph.now) graph.now.root (map.get distances.now) queue.old queue.new (hops_of hops.old) (hops_of hops.new) written.old written.new vertex) }
+    ensures taken { OnOk result (touched.new.taken ≡ touched.old.taken) }
+    ensures counted { OnOk result (touched.new.hop_sets ≡ length written.new) }
+{
+    let set = gather(alloc, graph, distances, hops, vertex)?;
+    if are_same(hops.get(vertex), &set) {
+        return Ok(());
+    }
+    write(vertex, Some(set), hops, touched, written)?;
+    put_heads(graph, distances, vertex, queue)
+}
+
+// Writes the next hops of a vertex where none were written yet.
+fn write(
+    vertex: Vertex,
+    set: Option<HopSet>,
+    hops: &mut HopColumns,
+    touched: &mut Touched,
+    written: &mut Members,
+) -> Result<(), Memory>
+    requires fresh { Contains written.old vertex → ⊥ }
+    requires counted { touched.old.hop_sets ≡ length written.old }
+    ensures hops { OnOk result (hops.new ≡ with_hops hops.old vertex set) }
+    ensures written { OnOk result (written.new ≡ written.old ++ vertex ∷ []) }
+    ensures taken { OnOk result (touched.new.taken ≡ touched.old.taken) }
+    ensures counted { OnOk result (touched.new.hop_sets ≡ length written.new) }
+{
+    prove!(written.len() < usize::MAX);
+    touched.write(hops, vertex, set)?;
+    written.add(vertex)?;
+    Ok(())
+}
+
+// Lets those of the vertices wait that are reached, but not the root.
+fn put_reached(
+    root: u32,
+    distances: &Distances,
+    vertices: &[Vertex],
+    queue: &mut Queue,
+) -> Result<(), Memory>
+    ensures { OnOk result (ArePut (map.get distances.now) (IsOfSome vertices.now (IsReachedAt root (map.get distances.now))) (map.get queue.old) (map.get queue.new)) }
+{
+    for vertex in vertices {
+        put_if_reached(root, distances, *vertex, queue)?;
+    }
+    Ok(())
+}
+
+fn put_if_reached(
+    root: u32,
+    distances: &Distances,
+    vertex: Vertex,
+    queue: &mut Queue,
+) -> Result<(), Memory>
+    ensures { OnOk result (ArePut (map.get distances.now) (IsReachedAt root (map.get distances.now) vertex) (map.get queue.old) (map.get queue.new)) }
+{
+    if is_root(root, vertex) {
+        return Ok(());
+    }
+    match distances.get(vertex) {
+        Some(distance) => queue.put(vertex, distance),
+        None => Ok(()),
+    }
+}
+
+// Lets the heads of the least links out of a vertex wait, but not the root.
+fn put_heads(
+    graph: &Graph,
+    distances: &Distances,
+    vertex: Vertex,
+    queue: &mut Queue,
+) -> Result<(), Memory>
+    ensures { OnOk result (ArePut (map.get distances.now) (IsLeastHead (LinksOf graph.now) graph.now.root (map.get distances.now) vertex) (map.get queue.old) (map.get queue.new)) }
+{
+    let root = graph.root();
+    let near = distances.get(vertex);
+    for link in graph.links_from(vertex) {
+        put_head(root, distances, link, near, queue)?;
+    }
+    Ok(())
+}
+
+// The same over one link, whose tail is this near.
+fn put_head(
+    root: u32,
+    distances: &Distances,
+    link: &Link,
+    near: Option<u32>,
+    queue: &mut Queue,
+) -> Result<(), Memory>
+    requires near { near ≡ map.get distances.now link.now.from }
+    requires bounded { IfSome near (λ distance. distance < most_distance) }
+    ensures { OnOk result (ArePut (map.get distances.now) (IsHeadOver root (map.get distances.now) link.now) (map.get queue.old) (map.get queue.new)) }
+{
+    if is_root(root, link.to) {
+        return Ok(());
+    }
+    match least_distance(distances, link, near) {
+        Some(distance) => queue.put(link.to, distance),
+        None => Ok(()),
+    }
+}
+
+// The distance of a link's head, if that is a least link: the head is as far as its tail, which is this near,
+// and the link together.
+fn least_distance(distances: &Distances, link: &Link, near: Option<u32>) -> Option<u32>
+    requires near { near ≡ map.get distances.now link.now.from }
+    requires bounded { IfSome near (λ distance. distance < most_distance) }
+    ensures least { IfSome result (λ distance. IsLeastLink (map.get distances.now) link.now) }
+    ensures head { IfSome result (λ distance. map.get distances.now link.now.to ≡ Some distance) }
+    ensures none { IfNone result (IsLeastLink (map.get distances.now) link.now → ⊥) }
+{
+    let near = near?;
+    let far = distances.get(link.to)?;
+    if near + u32::from(link.cost) == far {
+        Some(far)
+    } else {
+        None
+    }
+}

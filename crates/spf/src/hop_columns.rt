@@ -1,0 +1,66 @@
+//! The next hops of vertices.
+ghost use Rattle.std.specs.Prelude.{◌≡◌, OnOk, OnErr, option_copied};
+ghost use Rattle.std.specs.FinMap as map;
+
+use hop_sets::HopSet;
+use indexmap::IndexMap;
+use ospf_types::entry::Vertex;
+use ospf_types::memory::Memory;
+use std::alloc::Global;
+use std::hash::RandomState;
+use std::marker::Model;
+
+/// The next hops of each vertex that has some.
+#[derive(Debug, Drop)]
+pub(crate) struct HopColumns {
+    entries: IndexMap<Vertex, HopSet, RandomState>,
+}
+
+impl Model for HopColumns {
+    ghost use Rattle.std.specs.FinMap as map;
+    ghost use Rattle.std.specs.Coded.{codes};
+    ghost use Rattle.ospf_types.specs.Vertices.{vertex_code};
+    ghost use Rattle.spf.specs.Parts.{HopMap};
+
+    ghost Value = { HopMap };
+
+    ghost coded = { map.code vertex_code (Prim.hlevel codes) };
+
+    ghost view = { λ h. map.from_entries h.entries.entries };
+}
+
+impl HopColumns {
+    pub(crate) fn new(alloc: Global, hashing: RandomState) -> HopColumns
+        ensures { result ≡ map.empty }
+    {
+        HopColumns {
+            entries: IndexMap::with_hasher(alloc, hashing),
+        }
+    }
+
+    pub(crate) fn get(&self, vertex: Vertex) -> Option<&HopSet>
+        ensures { option_copied result ≡ map.get self.now vertex }
+    {
+        self.entries.get(&vertex)
+    }
+
+    pub(crate) fn set(&mut self, vertex: Vertex, hops: HopSet) -> Result<(), Memory>
+        ensures set { OnOk result (self.new ≡ map.insert self.old vertex hops) }
+        ensures unchanged { OnErr result (self.new ≡ self.old) }
+    {
+        self.entries.insert(vertex, hops)?;
+        Ok(())
+    }
+
+    pub(crate) fn remove(&mut self, vertex: Vertex)
+        ensures { self.new ≡ map.remove self.old vertex }
+    {
+        self.entries.swap_remove(&vertex);
+    }
+
+    pub(crate) fn clear(&mut self)
+        ensures { self.new ≡ map.empty }
+    {
+        self.entries.clear();
+    }
+}

@@ -1,0 +1,224 @@
+//! The first part of a repair: which vertices lose their distance, since the links that went took all
+//! that supported it.
+ghost use Rattle.std.specs.Prelude.{◌≡◌, ◌↔◌, ◌<◌, [], IsTrue, IfSome, IfNone, IfOk, OnOk, Contains, length};
+ghost use Rattle.std.specs.FinMap as map;
+ghost use Rattle.std.specs.List.{All};
+ghost use Rattle.vertex_graph.specs.Graphs.{LinksOf};
+ghost use Rattle.vertex_graph.specs.declared.link.Link.{Link as LinkValue};
+ghost use Rattle.spf.specs.Parts.{IsBefore, AreLost, most_distance};
+ghost use Rattle.spf.specs.Repairs.{IsSupported};
+ghost use Rattle.spf.specs.Suspects.{Supports, WasLeast, MaySupport, IsHead, AreToldOf, IsJudged};
+
+use crate::distances::Distances;
+use crate::members::Members;
+use indexmap::IndexMap;
+use ospf_types::entry::Vertex;
+use ospf_types::memory::Memory;
+use std::alloc::Global;
+use std::hash::RandomState;
+use vertex_graph::{Graph, Link, LinkChanges};
+
+/// The vertices that lose their distance, and those whose least links changed by that.
+#[derive(Debug, Drop)]
+pub(crate) struct Losses {
+    pub(crate) lost: Members,
+    pub(crate) stale: Members,
+}
+
+/// What is lost by the links that went.
+pub(crate) fn lose(
+    alloc: Global,
+    hashing: RandomState,
+    graph: &Graph,
+    changes: &LinkChanges,
+    distances: &Distances,
+) -> Result<Losses, Memory>
+    requires { IsBefore graph.now changes.now.gone.items changes.now.came.items (map.get distances.now) }
+    ensures { IfOk result (λ losses. AreLost graph.now changes.now.gone.items changes.now.came.items (map.get distances.now) losses.lost losses.stale) }
+{
+    let mut search = Search::new(alloc, hashing);
+    search.suspect_heads(changes.gone.as_slice(), graph.root(), distances)?;
+    while let Some(suspect) = search.suspects.pop() {
+        search.judge(graph, distances, suspect)?;
+    }
+    Ok(search.losses)
+}
+
+// What is found while vertices are suspected to have lost all that supported them.
+#[derive(Drop)]
+struct Search {
+    losses: Losses,
+    suspects: Members,
+    // At which of the links into a vertex the last search for support stopped.
+    stops: IndexMap<Vertex, usize, RandomState>,
+}
+
+impl Search {
+    fn new(alloc: Global, hashing: RandomState) -> Search
+        ensures lost { result.losses.lost ≡ [] }
+        ensures stale { result.losses.stale ≡ [] }
+        ensures suspects { result.suspects ≡ [] }
+    {
+        Search {
+            losses: Losses {
+                lost: Members::new(alloc, hashing),
+                stale: Members::new(alloc, hashing),
+            },
+            suspects: Members::new(alloc, hashing),
+            stops: IndexMap::with_hasher(alloc, hashing),
+        }
+    }
+
+    // Suspects the heads of the least links among those that went.
+    fn suspect_heads(
+        &mut self,
+        gone: &[Link],
+        root: u32,
+        distances: &Distances,
+    ) -> Result<(), Memory>
+        ensures told { OnOk result (AreToldOf (IsHead (WasLeast root (map.get distances.now)) gone.now) self.old.losses.lost self.old.losses.stale self.new.losses.stale self.old.suspects self.new.suspects) }
+        ensures lost { OnOk result (self.new.losses.lost ≡ self.old.losses.lost) }
+    {
+        for link in gone {
+            if was_least(link, root, distances) {
+                self.suspect(link.to)?;
+            }
+        }
+        Ok(())
+    }
+
+    // Suspects the heads of the links out of a lost vertex that it might have supported.
+    fn suspect_beyond(
+        &mut self,
+        links: &[Link],
+        root: u32,
+        distances: &Distances,
+        distance: u32,
+    ) -> Result<(), Memory>
+        requires { distance < most_distance }
+        ensures told { OnOk result (AreToldOf (IsHead (MaySupport root (map.get distances.now) distance) links.now) self.old.losses.lost self.old.losses.stale self.new.losses.stale self.old.suspects self.new.suspects) }
+        ensures lost { OnOk result (self.new.losses.lost ≡ self.old.losses.lost) }
+    {
+        for link in links {
+            if may_support(link, root, distances, distance) {
+                self.suspect(link.to)?;
+            }
+        }
+        Ok(())
+    }
+
+    // The vertex is stale, and suspected unless it is lost.
+    fn suspect(&mut self, vertex: Vertex) -> Result<(), Memory>
+        ensures told { OnOk result (AreToldOf (λ v. vertex ≡ v) self.old.losses.lost self.old.losses.stale self.new.losses.stale self.old.suspects self.new.suspects) }
+        ensures lost { OnOk result (self.new.losses.lost ≡ self.old.losses.lost) }
+    {
+        self.losses.stale.add(vertex)?;
+        if !self.losses.lost.has(vertex) {
+            self.suspects.add(vertex)?;
+        }
+        Ok(())
+    }
+
+    // Finds whether a suspect is lost.
+    fn judge(&mut self, graph: &Graph, distances: &Distances, suspect: Vertex) -> Result<(), Memory>
+        ensures { OnOk result (IsJudged graph.now (map.get distances.now) self.old.losses.lost self.new.losses.lost self.old.suspects self.new.suspects self.old.losses.stale self.new.losses.stale suspect) }
+    {
+        if self.losses.lost.has(suspect) {
+            return Ok(());
+        }
+        let Some(distance) = distances.get(suspect) else {
+            return Ok(());
+        };
+        if is_supported(
+            &mut self.stops,
+            graph,
+            &self.losses.lost,
+            distances,
+            suspect,
+            distance,
+        )? {
+            return Ok(());
+        }
+        self.losses.lost.add(suspect)?;
+        self.suspect_beyond(graph.links_from(suspect), graph.root(), distances, distance)
+    }
+}
+
+// Whether a link into the vertex supports it at its distance. The search goes on where the last one
+// for the vertex stopped. What that one passed over is read again only before the vertex is lost.
+fn is_supported(
+    stops: &mut IndexMap<Vertex, usize, RandomState>,
+    graph: &Graph,
+    lost: &Members,
+    distances: &Distances,
+    vertex: Vertex,
+    distance: u32,
+) -> Result<bool, Memory>
+    ensures { IfOk result (λ supported. IsTrue supported ↔ IsSupported (LinksOf graph.now) (map.get distances.now) lost.now vertex distance) }
+{
+    let links = graph.links_to(vertex);
+    let start = stops.get(&vertex).copied().unwrap_or(0).min(links.len());
+    let (passed, open) = links.split_at(start);
+    if let Some(place) = find_support(open, lost, distances, distance) {
+        stops.insert(vertex, start + place)?;
+        return Ok(true);
+    }
+    Ok(find_support(passed, lost, distances, distance).is_some())
+}
+
+// The place of the first link that supports its head at the distance.
+fn find_support(
+    links: &[Link],
+    lost: &Members,
+    distances: &Distances,
+    distance: u32,
+) -> Option<usize>
+    ensures none { IfNone result (All (λ l. Supports (map.get distances.now) lost.now distance l → ⊥) links.now) }
+    ensures within { IfSome result (λ place. place < length links.now) }
+    ensures found { IfSome result (λ place. (l : LinkValue) × Contains links.now l × Supports (map.get distances.now) lost.now distance l) }
+{
+    for (place, link) in links.iter().enumerate() {
+        if supports(link, lost, distances, distance) {
+            return Some(place);
+        }
+    }
+    None
+}
+
+// Whether the link's tail is reached and not lost, and its head no farther over it than the distance.
+fn supports(link: &Link, lost: &Members, distances: &Distances, distance: u32) -> bool
+    ensures { IsTrue result ↔ Supports (map.get distances.now) lost.now distance link.now }
+{
+    match distances.get(link.from) {
+        Some(near) => !lost.has(link.from) && near + u32::from(link.cost) <= distance,
+        None => false,
+    }
+}
+
+// Whether the link is a least one into a vertex other than the root.
+fn was_least(link: &Link, root: u32, distances: &Distances) -> bool
+    ensures { IsTrue result ↔ WasLeast root (map.get distances.now) link.now }
+{
+    if link.to == Vertex::Router(root) {
+        return false;
+    }
+    match distances.get(link.from) {
+        Some(near) => distances.get(link.to) == Some(near + u32::from(link.cost)),
+        None => false,
+    }
+}
+
+// Whether, over a link whose tail is at the distance, a reached vertex other than the root is no
+// farther than it was.
+fn may_support(link: &Link, root: u32, distances: &Distances, distance: u32) -> bool
+    requires { distance < most_distance }
+    ensures { IsTrue result ↔ MaySupport root (map.get distances.now) distance link.now }
+{
+    if link.to == Vertex::Router(root) {
+        return false;
+    }
+    match distances.get(link.to) {
+        Some(far) => distance + u32::from(link.cost) <= far,
+        None => false,
+    }
+}

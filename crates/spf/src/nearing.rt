@@ -1,0 +1,225 @@
+//! The second part of a repair: the distances after, from those that are kept and the links that came.
+ghost use Rattle.std.specs.Prelude.{◌≡◌, ◌↔◌, ◌^◌, ◌<◌, IfOk, OnOk, IsTrue, Contains, length};
+ghost use Rattle.std.specs.FinMap as map;
+ghost use Rattle.ospf_types.specs.declared.entry.Vertex.TheVariants.{Router as RouterValue};
+ghost use Rattle.vertex_graph.specs.Graphs.{LinksOf, HasRoot, AreCheap};
+ghost use Rattle.vertex_graph.specs.declared.link.Link.{Link as LinkValue};
+ghost use Rattle.spf.specs.Changes.{Among};
+ghost use Rattle.spf.specs.Offers.{OneOffer, OverLink, OverLinks, OverReached, OutOf, Into, AreMade, IsCleared};
+ghost use Rattle.spf.specs.Parts.{AreStarted, AreNeared, most_distance};
+ghost use Rattle.spf.specs.Repairs.{IsReset};
+
+use crate::distances::Distances;
+use crate::losing::Losses;
+use crate::members::Members;
+use crate::touched::Touched;
+use ospf_types::entry::Vertex;
+use ospf_types::memory::Memory;
+use std::alloc::Global;
+use std::hash::RandomState;
+use vertex_graph::{Graph, Link};
+use vertex_queue::Queue;
+
+/// Finds the distances after. Vertices whose least links changed by them become stale. The answer is
+/// the vertices that moved.
+pub(crate) fn near(
+    alloc: Global,
+    hashing: RandomState,
+    graph: &Graph,
+    came: &[Link],
+    losses: &mut Losses,
+    distances: &mut Distances,
+    touched: &mut Touched,
+) -> Result<Members, Memory>
+    requires started { AreStarted (LinksOf graph.now) (Among came.now) graph.now.root (HasRoot graph.now) (map.get distances.old) losses.old.lost }
+    requires links { (l : LinkValue) → Contains came.now l → LinksOf graph.now l.from l.to l.cost l.label }
+    requires fits { touched.old.taken ≡ 0 }
+    ensures neared { IfOk result (λ moved. AreNeared graph.now came.now (map.get distances.old) (map.get distances.new) losses.old.lost losses.old.stale losses.new.stale moved) }
+    ensures lost { OnOk result (losses.new.lost ≡ losses.old.lost) }
+    ensures counted { IfOk result (λ moved. touched.new ≡ record { taken = length moved; hop_sets = touched.old.hop_sets }) }
+    ensures small { OnOk result (touched.new.taken < 2 ^ 63) }
+{
+    let root = graph.root();
+    reset(graph, losses.lost.as_slice(), distances)?;
+    let mut queue = Queue::new(alloc, hashing);
+    offer_into(
+        graph,
+        losses.lost.as_slice(),
+        distances,
+        &mut queue,
+        &mut losses.stale,
+    )?;
+    offer_reached(root, came, distances, &mut queue, &mut losses.stale)?;
+    let mut moved = Members::new(alloc, hashing);
+    while let Some((vertex, distance)) = touched.take(&mut queue) {
+        reach(
+            graph,
+            vertex,
+            distance,
+            distances,
+            &mut queue,
+            &mut losses.stale,
+        )?;
+        moved.add(vertex)?;
+        prove!(moved.len() < usize::MAX);
+    }
+    Ok(moved)
+}
+
+// The distances from which those after are sought: none of what is lost, and of the root by whether it
+// is a vertex.
+fn reset(graph: &Graph, lost: &[Vertex], distances: &mut Distances) -> Result<(), Memory>
+    ensures { OnOk result (IsReset graph.now.root (HasRoot graph.now) (map.get distances.old) lost.now (map.get distances.new)) }
+{
+    clear(lost, distances);
+    let root = Vertex::Router(graph.root());
+    if graph.has_root() {
+        distances.set(root, 0)?;
+    } else {
+        distances.remove(root);
+    }
+    Ok(())
+}
+
+fn clear(lost: &[Vertex], distances: &mut Distances)
+    ensures { IsCleared (map.get distances.old) lost.now (map.get distances.new) }
+{
+    for vertex in lost {
+        distances.remove(*vertex);
+    }
+}
+
+// Gives the vertex its distance, and offers the heads of its links what they have over it.
+fn reach(
+    graph: &Graph,
+    vertex: Vertex,
+    distance: u32,
+    distances: &mut Distances,
+    queue: &mut Queue,
+    stale: &mut Members,
+) -> Result<(), Memory>
+    requires { distance < most_distance }
+    ensures set { OnOk result (distances.new ≡ map.insert distances.old vertex distance) }
+    ensures made { OnOk result (AreMade (OutOf (LinksOf graph.now) graph.now.root vertex distance) (map.get distances.new) (map.get queue.old) (map.get queue.new) stale.old stale.new) }
+{
+    distances.set(vertex, distance)?;
+    offer_from(
+        graph.root(),
+        graph.links_from(vertex),
+        distance,
+        distances,
+        queue,
+        stale,
+    )
+}
+
+// Offers these vertices what they have over links from reached ones.
+fn offer_into(
+    graph: &Graph,
+    vertices: &[Vertex],
+    distances: &Distances,
+    queue: &mut Queue,
+    stale: &mut Members,
+) -> Result<(), Memory>
+    ensures { OnOk result (AreMade (Into (LinksOf graph.now) graph.now.root (map.get distances.now) vertices.now) (map.get distances.now) (map.get queue.old) (map.get queue.new) stale.old stale.new) }
+{
+    let root = graph.root();
+    for vertex in vertices {
+        offer_reached(root, graph.links_to(*vertex), distances, queue, stale)?;
+    }
+    Ok(())
+}
+
+// Offers the heads of links what they have over them, where the tails are reached.
+fn offer_reached(
+    root: u32,
+    links: &[Link],
+    distances: &Distances,
+    queue: &mut Queue,
+    stale: &mut Members,
+) -> Result<(), Memory>
+    requires { AreCheap links.now }
+    ensures { OnOk result (AreMade (OverReached root (map.get distances.now) links.now) (map.get distances.now) (map.get queue.old) (map.get queue.new) stale.old stale.new) }
+{
+    for link in links {
+        if let Some(near) = distances.get(link.from) {
+            offer_over(root, link, near, distances, queue, stale)?;
+        }
+    }
+    Ok(())
+}
+
+// The same where the tails are all at one distance.
+fn offer_from(
+    root: u32,
+    links: &[Link],
+    near: u32,
+    distances: &Distances,
+    queue: &mut Queue,
+    stale: &mut Members,
+) -> Result<(), Memory>
+    requires reached { near < most_distance }
+    requires cheap { AreCheap links.now }
+    ensures { OnOk result (AreMade (OverLinks root links.now near) (map.get distances.now) (map.get queue.old) (map.get queue.new) stale.old stale.new) }
+{
+    for link in links {
+        offer_over(root, link, near, distances, queue, stale)?;
+    }
+    Ok(())
+}
+
+// Offers the head of a link what it has over it, unless that is the root.
+fn offer_over(
+    root: u32,
+    link: &Link,
+    near: u32,
+    distances: &Distances,
+    queue: &mut Queue,
+    stale: &mut Members,
+) -> Result<(), Memory>
+    requires reached { near < most_distance }
+    requires cheap { link.now.cost < 65536 }
+    ensures { OnOk result (AreMade (OverLink root link.now near) (map.get distances.now) (map.get queue.old) (map.get queue.new) stale.old stale.new) }
+{
+    if is_root(root, link.to) {
+        return Ok(());
+    }
+    offer(
+        link.to,
+        near + u32::from(link.cost),
+        distances,
+        queue,
+        stale,
+    )
+}
+
+fn is_root(root: u32, vertex: Vertex) -> bool
+    ensures { IsTrue result ↔ (vertex ≡ RouterValue root) }
+{
+    match vertex {
+        Vertex::Router(number) => number == root,
+        Vertex::Network(_) => false,
+    }
+}
+
+// Offers the vertex a distance. If it is nearer the vertex is queued; if it is as near, it is stale.
+fn offer(
+    vertex: Vertex,
+    distance: u32,
+    distances: &Distances,
+    queue: &mut Queue,
+    stale: &mut Members,
+) -> Result<(), Memory>
+    ensures { OnOk result (AreMade (OneOffer vertex distance) (map.get distances.now) (map.get queue.old) (map.get queue.new) stale.old stale.new) }
+{
+    let Some(least) = distances.get(vertex) else {
+        return queue.put(vertex, distance);
+    };
+    if distance < least {
+        return queue.put(vertex, distance);
+    }
+    if distance == least {
+        stale.add(vertex)?;
+    }
+    Ok(())
+}

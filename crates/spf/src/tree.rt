@@ -1,0 +1,222 @@
+ghost use Rattle.std.specs.Prelude.{◌≡◌, List, [], true, OnOk, OnErr, IfOk};
+ghost use Rattle.std.specs.FinMap as map;
+ghost use Rattle.std.specs.List.Sorted.{IsStrictlySortedBy};
+ghost use Rattle.ospf_types.specs.Hops.{hop_cmp};
+ghost use Rattle.vertex_graph.specs.declared.link.Link.{Link as LinkValue};
+ghost use Rattle.spf.specs.TreeValues.{IsTreeOf, IsTreeBefore, IsBegun, IsRenewed, AreChanged, IsBounded, IsWorkDone, IsWorkForAll, listed_hops};
+
+use crate::differing::{differing, remember};
+use crate::distances::Distances;
+use crate::handing::hand;
+use crate::hop_columns::HopColumns;
+use crate::losing::{Losses, lose};
+use crate::members::Members;
+use crate::nearing::near;
+use crate::touched::Touched;
+use ospf_types::entry::Vertex;
+use ospf_types::hop::NextHop;
+use ospf_types::memory::Memory;
+use std::alloc::Global;
+use std::hash::RandomState;
+use std::marker::Model;
+use vertex_graph::{Graph, Link, LinkChanges};
+
+// What the second and the third part of a repair did.
+#[derive(Debug, Drop)]
+struct Renewed {
+    moved: Members,
+    written: Members,
+    touched: Touched,
+}
+
+/// The shortest-path tree of an area.
+#[derive(Debug, Drop)]
+pub struct Tree {
+    distances: Distances,
+    hops: HopColumns,
+    changed: Vec<Vertex>,
+    spent: bool,
+    hashing: RandomState,
+}
+
+impl Model for Tree {
+    ghost use Rattle.std.specs.Coded.{Coded, codes, coded_ℕ};
+    ghost use Rattle.std.specs.FinMap as map;
+    ghost use Rattle.ospf_types.specs.Vertices.{vertex_code};
+    ghost use Rattle.spf.specs.Parts.{DistanceMap, HopMap};
+    ghost use Rattle.spf.specs.TreeValues.{TreeValue};
+
+    ghost Value = { TreeValue };
+
+    ghost coded = { let distances : Coded DistanceMap = map.code vertex_code coded_ℕ in
+        let hops : Coded HopMap = map.code vertex_code (Prim.hlevel codes) in
+        Prim.hlevel (codes, distances, hops) };
+
+    ghost view = { λ t. record { distances = t.distances; hops = t.hops; changed = t.changed.items; spent = t.spent } };
+}
+
+impl Tree {
+    /// The tree of a graph, and the work of building it.
+    pub fn build(
+        alloc: Global,
+        graph: &Graph,
+        hashing: RandomState,
+    ) -> Result<(Tree, Touched), Memory>
+        ensures tree { IfOk result (λ built. IsTreeOf graph.now built.0) }
+        ensures changed { IfOk result (λ built. built.0.changed ≡ []) }
+        ensures work { IfOk result (λ built. IsWorkForAll graph.now built.0 built.1.taken built.1.hop_sets) }
+    {
+        let mut tree = Tree {
+            distances: Distances::new(alloc, hashing),
+            hops: HopColumns::new(alloc, hashing),
+            changed: Vec::new(alloc),
+            spent: false,
+            hashing,
+        };
+        let mut losses = Losses {
+            lost: Members::new(alloc, hashing),
+            stale: Members::new(alloc, hashing),
+        };
+        let came = graph.links_from(Vertex::Router(graph.root()));
+        let renewed = tree.renew(alloc, graph, came, &mut losses)?;
+        Ok((tree, renewed.touched))
+    }
+
+    /// Brings a tree that is right for the links before to those of the graph, and answers the work. Where memory
+    /// is refused, the tree is spent: it answers nothing, and only `build` makes another.
+    pub fn repair(
+        &mut self,
+        alloc: Global,
+        graph: &Graph,
+        changes: &LinkChanges,
+    ) -> Result<Touched, Memory>
+        requires { IsTreeBefore graph.now changes.now.gone.items changes.now.came.items self.old }
+        ensures tree { OnOk result (IsTreeOf graph.now self.new) }
+        ensures changed { OnOk result (AreChanged self.old self.new self.new.changed) }
+        ensures bounded { IfOk result (λ touched. IsBounded graph.now changes.now.gone.items changes.now.came.items self.old touched.taken touched.hop_sets) }
+        ensures idle { IfOk result (λ touched. changes.now.gone.items ≡ [] → changes.now.came.items ≡ [] → touched ≡ record { taken = 0; hop_sets = 0 }) }
+        ensures work { IfOk result (λ touched. IsWorkDone graph.now self.old self.new touched.taken touched.hop_sets) }
+        ensures spent { OnErr result (self.new ≡ record { distances = map.empty; hops = map.empty; changed = []; spent = true }) }
+    {
+        let repaired = self.repair_parts(alloc, graph, changes);
+        if repaired.is_err() {
+            self.spend();
+        }
+        repaired
+    }
+
+    /// The distance of a vertex, a sum of metrics; none where it is not reached, or the tree is spent.
+    pub fn distance(&self, vertex: Vertex) -> Option<u32>
+        ensures { result ≡ map.get self.now.distances vertex }
+    {
+        self.distances.get(vertex)
+    }
+
+    /// The next hops of a vertex, ascending, each once; none for the root, where it is not reached, and where the
+    /// tree is spent.
+    pub fn hops(&self, vertex: Vertex) -> &[NextHop]
+        ensures value { result.now ≡ listed_hops (map.get self.now.hops vertex) }
+        ensures in_order { IsStrictlySortedBy hop_cmp result.now }
+    {
+        match self.hops.get(vertex) {
+            Some(hops) => hops.as_slice(),
+            None => &[],
+        }
+    }
+
+    /// Whether a repair was refused memory. A spent tree may not be repaired.
+    pub fn spent(&self) -> bool
+        ensures { result ≡ self.now.spent }
+    {
+        self.spent
+    }
+
+    /// The vertices whose distance or next hops the last repair changed, ascending, each once.
+    pub fn changed(&self) -> &[Vertex]
+        ensures { result.now ≡ self.now.changed }
+    {
+        self.changed.as_slice()
+    }
+}
+
+impl Tree {
+    // All parts of a repair, and the vertices that they changed. After an error the tree is neither of the links
+    // before nor of those after.
+    fn repair_parts(
+        &mut self,
+        alloc: Global,
+        graph: &Graph,
+        changes: &LinkChanges,
+    ) -> Result<Touched, Memory>
+        requires { IsTreeBefore graph.now changes.now.gone.items changes.now.came.items self.old }
+        ensures tree { OnOk result (IsTreeOf graph.now self.new) }
+        ensures changed { OnOk result (AreChanged self.old self.new self.new.changed) }
+        ensures bounded { IfOk result (λ touched. IsBounded graph.now changes.now.gone.items changes.now.came.items self.old touched.taken touched.hop_sets) }
+        ensures idle { IfOk result (λ touched. changes.now.gone.items ≡ [] → changes.now.came.items ≡ [] → touched ≡ record { taken = 0; hop_sets = 0 }) }
+        ensures work { IfOk result (λ touched. IsWorkDone graph.now self.old self.new touched.taken touched.hop_sets) }
+    {
+        let mut losses = lose(alloc, self.hashing, graph, changes, &self.distances)?;
+        let root = Vertex::Router(graph.root());
+        let remembered = remember(alloc, &self.distances, root, losses.lost.as_slice())?;
+        let renewed = self.renew(alloc, graph, changes.came.as_slice(), &mut losses)?;
+        self.changed = differing(
+            alloc,
+            remembered.as_slice(),
+            &self.distances,
+            &losses.lost,
+            &renewed.moved,
+            &renewed.written,
+        )?;
+        Ok(renewed.touched)
+    }
+
+    // The second and the third part of a repair, once it is known what is lost.
+    fn renew(
+        &mut self,
+        alloc: Global,
+        graph: &Graph,
+        came: &[Link],
+        losses: &mut Losses,
+    ) -> Result<Renewed, Memory>
+        requires begun { (gone : List LinkValue) × IsBegun graph.now gone came.now self.old losses.old.lost losses.old.stale }
+        ensures renewed { IfOk result (λ renewed. IsRenewed graph.now came.now self.old self.new losses.old.lost losses.old.stale renewed.moved renewed.written renewed.touched.taken renewed.touched.hop_sets) }
+        ensures lost { OnOk result (losses.new.lost ≡ losses.old.lost) }
+        ensures changed { self.new.changed ≡ self.old.changed }
+    {
+        let mut touched = Touched::none();
+        let moved = near(
+            alloc,
+            self.hashing,
+            graph,
+            came,
+            losses,
+            &mut self.distances,
+            &mut touched,
+        )?;
+        let written = hand(
+            alloc,
+            self.hashing,
+            graph,
+            &self.distances,
+            losses,
+            &moved,
+            &mut self.hops,
+            &mut touched,
+        )?;
+        Ok(Renewed {
+            moved,
+            written,
+            touched,
+        })
+    }
+
+    // Takes all out of the tree.
+    fn spend(&mut self)
+        ensures { self.new ≡ record { distances = map.empty; hops = map.empty; changed = []; spent = true } }
+    {
+        self.distances.clear();
+        self.hops.clear();
+        self.changed.clear();
+        self.spent = true;
+    }
+}

@@ -1,0 +1,29 @@
+use Rattle.std.proofs.Common.{List, subst}
+use Rattle.ospf_types.specs.declared.entry.Vertex.{Vertex}
+use Rattle.vertex_graph.specs.Sides.{StagedList, ends_after, LinksBy, AreFresh, AreMissing}
+use Rattle.vertex_graph.proofs.Placing.{placed_changed}
+use Rattle.vertex_graph.proofs.change.change.Goals as goal
+
+pub returns-clause-changed : goal.returns-clause-changed
+returns-clause-changed c =
+    let after = ends_after c.args.rows.now.entries c.args.staging.now.ends.entries in
+    let Is = LinksBy c.args.is.root c.args.is.interfaces.now after in
+    let fresh = c.in_ok-fresh.field-0.fresh.items in
+    placed_changed after Is c.args.staging.now.touched.keys fresh c.args.rows.now.entries c.commit.new.rows.entries
+    (subst (λ (vs : List Vertex). AreFresh after Is vs fresh) c.as_slice.ensures.keys c.in_ok-fresh.ensures.fresh) c.in_ok-commit.ensures.placed
+
+pub returns-clause-gone : goal.returns-clause-gone
+returns-clause-gone c =
+    let rows = c.args.rows.now.entries in
+    let after = ends_after rows c.args.staging.now.ends.entries in
+    let Is = LinksBy c.args.is.root c.args.is.interfaces.now after in
+    subst (λ (t : StagedList × List Vertex). AreMissing t.1 (LinksBy c.args.was.root c.args.was.interfaces.now (ends_after rows t.0)) Is c.in_ok-fresh.field-0.changes.gone.items)
+    (λ k. (c.with_hasher-none.ensures.empty k, c.as_slice.ensures.keys k)) c.in_ok-fresh.ensures.gone
+
+pub returns-clause-came : goal.returns-clause-came
+returns-clause-came c =
+    let rows = c.args.rows.now.entries in
+    let after = ends_after rows c.args.staging.now.ends.entries in
+    let Is = LinksBy c.args.is.root c.args.is.interfaces.now after in
+    subst (λ (t : StagedList × List Vertex). AreMissing t.1 Is (LinksBy c.args.was.root c.args.was.interfaces.now (ends_after rows t.0)) c.in_ok-fresh.field-0.changes.came.items)
+    (λ k. (c.with_hasher-none.ensures.empty k, c.as_slice.ensures.keys k)) c.in_ok-fresh.ensures.came

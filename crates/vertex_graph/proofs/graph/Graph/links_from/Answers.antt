@@ -1,0 +1,27 @@
+use Rattle.std.proofs.Common.{List, [], sym, ap, subst, ◌∙◌}
+use Rattle.std.specs.Prelude.{option_map}
+use Rattle.vertex_graph.specs.declared.link.Link.{Link}
+use Rattle.vertex_graph.specs.declared.row.Row.{Row}
+use Rattle.vertex_graph.specs.Graphs.{GraphValue, AreLinksFrom, AreCheap}
+use Rattle.vertex_graph.specs.Rows.{graph_of}
+use Rattle.vertex_graph.proofs.VertexTests.{found}
+use Rattle.vertex_graph.proofs.Changed.{get_graph, no_links_from}
+use Rattle.vertex_graph.proofs.graph.Graph.links_from.Goals as goal
+
+pub returns-in-Some-clause-exact : goal.returns-in-Some-clause-exact
+returns-in-Some-clause-exact c =
+    let i = c.self.inside in
+    let is = c.self.invariant.right c.args.vertex c.in-Some.row.now (sym (c.in-Some.ensures.value ∙ found c.args.vertex i.rows.entries)) in
+    subst (λ (g : GraphValue). AreLinksFrom g c.args.vertex c.deref.result.now) c.self.view_is
+    (subst (λ (links : List Link). AreLinksFrom (graph_of i.root i.rows.entries i.interfaces.items) c.args.vertex links) (sym c.deref.ensures.value) is.out)
+
+pub returns-in-Some-clause-cheap : goal.returns-in-Some-clause-cheap
+returns-in-Some-clause-cheap c =
+    let is = c.self.invariant.right c.args.vertex c.in-Some.row.now (sym (c.in-Some.ensures.value ∙ found c.args.vertex c.self.inside.rows.entries)) in
+    subst AreCheap (sym c.deref.ensures.value) is.out_cheap
+
+pub returns-in-None-clause-exact : goal.returns-in-None-clause-exact
+returns-in-None-clause-exact c =
+    let i = c.self.inside in
+    let none = get_graph i.root i.rows.entries i.interfaces.items c.args.vertex ∙ ap (option_map (λ (row : Row). row.ends.items)) (sym (c.in-None.ensures.value ∙ found c.args.vertex i.rows.entries)) in
+    subst (λ (g : GraphValue). AreLinksFrom g c.args.vertex []) c.self.view_is (no_links_from (graph_of i.root i.rows.entries i.interfaces.items) c.self.invariant.ends c.args.vertex none)

@@ -1,0 +1,11 @@
+use Rattle.std.proofs.Common.{take}
+use Rattle.vertex_graph.specs.Graphs.{handed_of}
+use Rattle.vertex_graph.specs.Sides.{row_ends, ends_after, AreTouched}
+use Rattle.vertex_graph.proofs.Handing.{IsStagedUpTo}
+use Rattle.vertex_graph.proofs.staging.stage.Given as goal
+
+abbrev pub invariant-loop-vertex : goal.invariant-loop-vertex
+invariant-loop-vertex l = record {
+  staged : IsStagedUpTo l.rows.entries l.staging.ends.entries (take l.vertex-index (handed_of l.lsas));
+  touched : AreTouched (row_ends l.rows.entries) (ends_after l.rows.entries l.staging.ends.entries) l.staging.touched.keys;
+}

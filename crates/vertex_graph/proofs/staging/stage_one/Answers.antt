@@ -1,0 +1,21 @@
+use Rattle.std.proofs.Common.{◌≡◌, ap, ◌∙◌}
+use Rattle.std.specs.Prelude.{option_map}
+use Rattle.std.specs.Global.{Vec}
+use Rattle.vertex_graph.specs.declared.end.End.{End}
+use Rattle.vertex_graph.specs.Sides.{row_ends, ends_or}
+use Rattle.vertex_graph.proofs.Handing.{staged_by, touched_more, touches_as}
+use Rattle.vertex_graph.proofs.staging.stage_one.Goals as goal
+
+pub returns-clause-ends : goal.returns-clause-ends
+returns-clause-ends c = staged_by c.args.rows.now.entries c.args.staging.now.ends.entries c.insert.new.self.entries c.args.vertex c.args.ends c.in_ok-insert.ensures.updates.0
+
+pub returns-clause-touched : goal.returns-clause-touched
+returns-clause-touched c =
+    let rows = c.args.rows.now.entries in
+    let ends = option_map (λ (es : Vec End). es.items) c.args.ends in
+    let touched = c.touch_both.new.touched.keys in
+    let before : c.slice_or_none.result.now ≡ ends_or (row_ends rows c.args.vertex) = c.slice_or_none.ensures ∙ ap ends_or c.row_ends-before.ensures in
+    let after : c.slice_or_none-2.result.now ≡ ends_or ends = c.slice_or_none-2.ensures ∙ ap ends_or c.slice_of-after.ensures in
+    let all = c.in_ok-touch_both.ensures in
+    touched_more rows c.args.vertex ends c.args.staging.now.ends.entries c.insert.new.self.entries c.args.staging.now.touched.keys touched (returns-clause-ends c) c.requires.touched all.own all.kept
+    (touches_as _ _ _ _ touched before after all.gone) (touches_as _ _ _ _ touched after before all.came)

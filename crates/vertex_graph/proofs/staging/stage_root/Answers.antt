@@ -1,0 +1,9 @@
+use Rattle.std.proofs.Common.{ap, ◌∙◌}
+use Rattle.ospf_types.specs.declared.entry.Vertex.TheVariants.{Router}
+use Rattle.vertex_graph.specs.Sides.{row_ends, ends_or}
+use Rattle.vertex_graph.proofs.Handing.{named_touched}
+use Rattle.vertex_graph.proofs.staging.stage_root.Goals as goal
+
+pub returns-clause-neighbours : goal.returns-clause-neighbours
+returns-clause-neighbours c =
+    named_touched c.slice_or_none-ends.result.now (ends_or (row_ends c.args.rows.now.entries (Router c.args.root))) c.touch_both.new.touched.keys (c.slice_or_none-ends.ensures ∙ ap ends_or c.row_ends.ensures) c.in_ok-touch_both.ensures.gone

@@ -1,0 +1,9 @@
+use Rattle.std.proofs.Common.{take}
+use Rattle.vertex_graph.specs.Sides.{IsWithin, TouchesOthers}
+use Rattle.vertex_graph.proofs.staging.touch.Given as goal
+
+abbrev pub invariant-loop-end : goal.invariant-loop-end
+invariant-loop-end l = record {
+  kept : IsWithin l.fn.touched.keys l.touched.keys;
+  others : TouchesOthers (take l.end-index l.ends) l.others l.touched.keys;
+}

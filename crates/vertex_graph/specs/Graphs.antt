@@ -1,0 +1,122 @@
+-- A graph of an area as its callers see it, and the links that it has (RFC 2328, 16.1).
+use Rattle.std.specs.Prelude.{◌↔◌, ◌⊎◌, ℕ, ◌≡◌, ◌≢◌, ◌≤◌, ◌<◌, List, [], map, length, Contains, Option, Some, None, IsSome, option_map}
+use Rattle.std.specs.List.{AllPairs, All}
+use Rattle.std.specs.List.Sorted.{IsStrictlySortedBy}
+use Rattle.std.specs.FinMap.{FinMap, get}
+use Rattle.std.proofs.Common.{Bor}
+use Rattle.lsa_codec.specs.declared.checked.Checked.{Checked}
+use Rattle.ospf_types.specs.declared.entry.Vertex.{Vertex}
+use Rattle.ospf_types.specs.declared.entry.Vertex.TheVariants.{Router, Network}
+use Rattle.ospf_types.specs.declared.label.Label.{Label}
+use Rattle.ospf_types.specs.declared.lsa.LinkKind.TheVariants as kind
+use Rattle.ospf_types.specs.Distances.{Links}
+use Rattle.ospf_types.specs.Links.{View, IsLinkOf, IsVertexOf}
+use Rattle.ospf_types.specs.Lsa.{Body, RouterLink}
+use Rattle.ospf_types.specs.Vertices.{vertex_cmp}
+use Rattle.vertex_graph.specs.declared.link.Link.{Link}
+use Rattle.vertex_graph.specs.declared.link.Up.{Up}
+use Rattle.vertex_graph.specs.declared.end.End.{End}
+use Rattle.vertex_graph.specs.Ends.{end_cmp, listed_end, AreEnds}
+
+abbrev pub EndsByVertex : Type 0
+EndsByVertex = FinMap vertex_cmp (List End)
+
+-- the root, where each vertex leads, and the area's interfaces that are up
+pub record GraphValue : Type 0 where
+  pub root : ℕ
+  pub ends : EndsByVertex
+  pub interfaces : List Up
+
+-- the kind of link that leads to the vertex
+abbrev pub link_to : Vertex → End → RouterLink
+link_to (Router r) e = record { id = r; detail = e.detail; kind = kind.PointToPoint; metric = e.metric; tos = [] }
+link_to (Network n) e = record { id = n; detail = e.detail; kind = kind.Transit; metric = e.metric; tos = [] }
+
+abbrev pub link_of : End → RouterLink
+link_of e = link_to e.to e
+
+abbrev pub number_of : Vertex → ℕ
+number_of (Router r) = r
+number_of (Network n) = n
+
+-- what the graph's links rest on: the LSAs and interfaces that were handed in
+abbrev pub graph_view : GraphValue → View
+graph_view g = record {
+  root = g.root;
+  HasRouter = λ r flags links. (ends : List End) × (get g.ends (Router r) ≡ Some ends) × (flags ≡ 0) × (links ≡ map link_of ends);
+  HasNetwork = λ n mask routers. (ends : List End) × (get g.ends (Network n) ≡ Some ends) × (mask ≡ 0) × (routers ≡ map (λ e. number_of e.to) ends);
+  HasInterface = λ id address. Contains g.interfaces (record { id = id; address = address });
+}
+
+-- the links of the graph
+abbrev pub LinksOf : GraphValue → Links
+LinksOf g = IsLinkOf (graph_view g)
+
+-- the root is a vertex
+abbrev pub HasRoot : GraphValue → Type 0
+HasRoot g = IsVertexOf (graph_view g) (Router g.root)
+
+-- the links out of a vertex
+abbrev pub AreLinksFrom : GraphValue → Vertex → List Link → Type 0
+AreLinksFrom g v links = (l : Link) → Contains links l ↔ ((l.from ≡ v) × LinksOf g l.from l.to l.cost l.label)
+
+-- the links into a vertex
+abbrev pub AreLinksTo : GraphValue → Vertex → List Link → Type 0
+AreLinksTo g v links = (l : Link) → Contains links l ↔ ((l.to ≡ v) × LinksOf g l.from l.to l.cost l.label)
+
+-- metrics of links have 16 bits
+abbrev pub AreCheap : List Link → Type 0
+AreCheap links = All (λ (l : Link). l.cost < 65536) links
+
+-- and so for every link of a graph
+abbrev pub HasCheapLinks : GraphValue → Type 0
+HasCheapLinks g = (from to : Vertex) (cost : ℕ) (label : Label) → LinksOf g from to cost label → cost < 65536
+
+-- at most this many routers of an area have an LSA
+abbrev pub most_routers : ℕ
+most_routers = 16384
+
+-- no list of different routers that are there is longer than that
+abbrev pub AreFew : (ℕ → Type 0) → Type 0
+AreFew IsThere = (routers : List ℕ) → AllPairs (λ x y. x ≢ y) routers → ((r : ℕ) → Contains routers r → IsThere r) → length routers ≤ most_routers
+
+abbrev pub HasFewRouters : GraphValue → Type 0
+HasFewRouters g = AreFew (λ r. IsSome (get g.ends (Router r)))
+
+-- each vertex has its ends in order, and a network leads to routers alone
+pub record HasEnds (g : GraphValue) : Type 0 where
+  pub in_order : (v : Vertex) (ends : List End) → get g.ends v ≡ Some ends → IsStrictlySortedBy end_cmp ends
+  pub listed : (n : ℕ) (ends : List End) (e : End) → get g.ends (Network n) ≡ Some ends → Contains ends e → (router : ℕ) × (e ≡ listed_end router)
+
+-- what is handed in: a vertex with the body of its LSA, or with none where the LSA goes
+abbrev pub Handed : Type 0
+Handed = Vertex × Option Body
+
+-- what a slice hands in
+abbrev pub handed_of : List (Vertex × Option (Bor Checked)) → List Handed
+handed_of = map (λ p. (p.0, option_map (λ lsa. lsa.now.body) p.1))
+
+-- no vertex is handed in twice
+abbrev pub AreApartHanded : List Handed → Type 0
+AreApartHanded handed = AllPairs (λ x y. x.0 ≢ y.0) handed
+
+-- the vertex is there once these were handed in
+abbrev pub IsThereAfter : GraphValue → List Handed → Vertex → Type 0
+IsThereAfter g handed v = ((body : Body) × Contains handed (v, Some body)) ⊎ (((given : Option Body) → Contains handed (v, given) → ⊥) × IsSome (get g.ends v))
+
+-- then too the routers are few
+abbrev pub AreFewAfter : GraphValue → List Handed → Type 0
+AreFewAfter g handed = AreFew (λ r. IsThereAfter g handed (Router r))
+
+-- the graph once these were handed in
+pub record IsReplaced (old new : GraphValue) (handed : List Handed) : Type 0 where
+  pub there : (v : Vertex) (body : Body) → Contains handed (v, Some body) → (ends : List End) × (get new.ends v ≡ Some ends) × AreEnds v body ends
+  pub away : (v : Vertex) → Contains handed (v, None) → get new.ends v ≡ None
+  pub others : (v : Vertex) → ((given : Option Body) → Contains handed (v, given) → ⊥) → get new.ends v ≡ get old.ends v
+  pub root : new.root ≡ old.root
+  pub interfaces : new.interfaces ≡ old.interfaces
+
+-- exactly the links that went and those that came; one with another cost or label is one of each
+pub record AreExact (old new : GraphValue) (gone come : List Link) : Type 0 where
+  pub went : (l : Link) → Contains gone l ↔ (LinksOf old l.from l.to l.cost l.label × (LinksOf new l.from l.to l.cost l.label → ⊥))
+  pub came : (l : Link) → Contains come l ↔ (LinksOf new l.from l.to l.cost l.label × (LinksOf old l.from l.to l.cost l.label → ⊥))

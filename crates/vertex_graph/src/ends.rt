@@ -1,0 +1,113 @@
+//! What the graph keeps of an LSA: where its links lead.
+ghost use Rattle.std.specs.Prelude.{◌≡◌, ◌≢◌, ◌↔◌, ◌≤◌, map as list_map, length, IsTrue, IfOk, Contains};
+ghost use Rattle.std.specs.List.{filter_map};
+ghost use Rattle.std.specs.List.Sorted.{IsStrictlySortedBy, IsPartitionPoint};
+ghost use Rattle.ospf_types.specs.Vertices.{vertex_cmp};
+ghost use Rattle.lsa_codec.specs.Readers.{links_of, routers_of};
+ghost use Rattle.vertex_graph.specs.Ends.{end_cmp, end_of as end_of_listed, end_of_link, listed_end, AreEnds};
+ghost use Rattle.vertex_graph.specs.Pairs.{Names};
+ghost use Rattle.vertex_graph.specs.declared.end.End.{End as EndValue};
+
+use crate::end::End;
+use lsa_codec::{Checked, Link, LinkKind};
+use ospf_types::entry::Vertex;
+use ospf_types::memory::Memory;
+use std::alloc::Global;
+use std::cmp::Ordering;
+
+/// Where the links of the vertex's LSA lead, in order, each once.
+pub(crate) fn ends_of(alloc: Global, vertex: Vertex, lsa: &Checked) -> Result<Vec<End>, Memory>
+    ensures { IfOk result (λ ends. AreEnds vertex lsa.now.body ends.items) }
+{
+    let mut ends = match vertex {
+        Vertex::Router(_) => router_ends(alloc, lsa)?,
+        Vertex::Network(_) => network_ends(alloc, lsa)?,
+    };
+    ends.sort_unstable();
+    ends.dedup();
+    Ok(ends)
+}
+
+/// Where the links of a router-LSA lead, in their order.
+fn router_ends(alloc: Global, lsa: &Checked) -> Result<Vec<End>, Memory>
+    ensures { IfOk result (λ ends. ends.items ≡ filter_map end_of_listed (links_of lsa.now.body)) }
+{
+    let mut ends = Vec::new(alloc);
+    for link in lsa.links() {
+        if let Some(end) = end_of(link) {
+            ends.push(end)?;
+        }
+    }
+    Ok(ends)
+}
+
+/// Where a link leads; `None` for a stub link and one of type 4.
+fn end_of(link: Link) -> Option<End>
+    ensures { result ≡ end_of_link link }
+{
+    let to = match link.kind {
+        LinkKind::PointToPoint => Vertex::Router(link.id),
+        LinkKind::Transit => Vertex::Network(link.id),
+        LinkKind::Stub | LinkKind::Virtual => return None,
+    };
+    Some(End {
+        to,
+        detail: link.detail,
+        metric: link.metric,
+    })
+}
+
+/// The routers of a network-LSA, in their order.
+fn network_ends(alloc: Global, lsa: &Checked) -> Result<Vec<End>, Memory>
+    ensures { IfOk result (λ ends. ends.items ≡ list_map listed_end (routers_of lsa.now.body)) }
+{
+    let mut ends = Vec::new(alloc);
+    for router in lsa.routers() {
+        ends.push(End {
+            to: Vertex::Router(router),
+            detail: 0,
+            metric: 0,
+        })?;
+    }
+    Ok(ends)
+}
+
+/// Whether one of the ends is at the vertex.
+pub(crate) fn names(ends: &[End], vertex: Vertex) -> bool
+    requires { IsStrictlySortedBy end_cmp ends.now }
+    ensures { IsTrue result ↔ Names ends.now vertex }
+{
+    match ends.get(first_at(ends, vertex)) {
+        Some(end) => end.to == vertex,
+        None => false,
+    }
+}
+
+/// The ends that are at the vertex.
+pub(crate) fn ends_at(ends: &[End], vertex: Vertex) -> &[End]
+    requires { IsStrictlySortedBy end_cmp ends.now }
+    ensures in_order { IsStrictlySortedBy end_cmp result.now }
+    ensures exact { (e : EndValue) → Contains result.now e ↔ (Contains ends.now e × (e.to ≡ vertex)) }
+{
+    let first = first_at(ends, vertex);
+    let past = first_past(ends, vertex);
+    &ends[first..past]
+}
+
+/// How many ends are below the vertex.
+fn first_at(ends: &[End], vertex: Vertex) -> usize
+    requires { IsStrictlySortedBy end_cmp ends.now }
+    ensures within { result ≤ length ends.now }
+    ensures split { IsPartitionPoint (λ (e : EndValue). vertex_cmp e.to vertex ≡ Ordering.Less) (λ (e : EndValue). vertex_cmp e.to vertex ≢ Ordering.Less) ends.now result }
+{
+    ends.partition_point(|end| end.to.compare(vertex).is_lt())
+}
+
+/// How many ends are below the vertex or at it.
+fn first_past(ends: &[End], vertex: Vertex) -> usize
+    requires { IsStrictlySortedBy end_cmp ends.now }
+    ensures within { result ≤ length ends.now }
+    ensures split { IsPartitionPoint (λ (e : EndValue). vertex_cmp e.to vertex ≢ Ordering.Greater) (λ (e : EndValue). vertex_cmp e.to vertex ≡ Ordering.Greater) ends.now result }
+{
+    ends.partition_point(|end| end.to.compare(vertex).is_le())
+}

@@ -1,0 +1,159 @@
+//! The graph of an area: the vertices that are there, and their links.
+ghost use Rattle.std.specs.Prelude.{◌≡◌, ◌↔◌, [], ◌∷◌, IsTrue, OnOk, OnErr, IfOk, option_map};
+ghost use Rattle.std.specs.FinMap as map;
+ghost use Rattle.vertex_graph.specs.Graphs.{HasRoot, AreLinksFrom, AreLinksTo, AreCheap, HasFewRouters, HasCheapLinks, handed_of, AreApartHanded, AreFewAfter, IsReplaced, AreExact, HasEnds};
+
+use crate::change::change;
+use crate::link::{Link, LinkChanges, Up};
+use crate::pair::Local;
+use crate::row::Rows;
+use crate::staging::{stage, stage_root};
+use indexmap::IndexMap;
+use lsa_codec::Checked;
+use ospf_types::entry::Vertex;
+use ospf_types::memory::Memory;
+use std::alloc::Global;
+use std::hash::RandomState;
+use std::marker::Model;
+
+/// The graph of an area, as far as LSAs and interfaces were handed in.
+#[derive(Debug, Drop)]
+pub struct Graph {
+    root: u32,
+    rows: Rows,
+    interfaces: Vec<Up>,
+}
+
+impl Model for Graph {
+    ghost use Rattle.std.specs.FinMap as map;
+    ghost use Rattle.std.specs.Coded.{Coded, codes};
+    ghost use Rattle.ospf_types.specs.Vertices.{vertex_code};
+    ghost use Rattle.vertex_graph.specs.Graphs.{GraphValue, EndsByVertex};
+
+    ghost Value = { GraphValue };
+
+    ghost coded = { let ends : Coded EndsByVertex = map.code vertex_code (Prim.hlevel codes) in Prim.hlevel (codes, ends) };
+
+    ghost use Rattle.vertex_graph.specs.Rows.{graph_of, AreRows};
+
+    ghost view = { λ g. graph_of g.root g.rows.entries g.interfaces.items };
+
+    ghost invariant = { λ g. AreRows g.root g.rows.entries g.interfaces.items };
+}
+
+impl Graph {
+    /// The graph of the router with this Router ID, with no vertex and no interface.
+    pub fn new(alloc: Global, root: u32, hashing: RandomState) -> Graph
+        ensures { result ≡ record { root = root; ends = map.empty; interfaces = [] } }
+    {
+        Graph {
+            root,
+            rows: IndexMap::with_hasher(alloc, hashing),
+            interfaces: Vec::new(alloc),
+        }
+    }
+
+    /// The Router ID of the router whose graph it is.
+    pub fn root(&self) -> u32
+        ensures value { result ≡ self.now.root }
+        ensures few { HasFewRouters self.now }
+        ensures ends { HasEnds self.now }
+        ensures cheap { HasCheapLinks self.now }
+    {
+        self.root
+    }
+
+    /// How many vertices there are.
+    pub fn len(&self) -> usize
+        ensures { result ≡ map.len self.now.ends }
+    {
+        self.rows.len()
+    }
+
+    /// Whether the root is a vertex.
+    pub fn has_root(&self) -> bool
+        ensures { IsTrue result ↔ HasRoot self.now }
+    {
+        self.rows.contains_key(&Vertex::Router(self.root))
+    }
+
+    /// The links out of a vertex, none where it is not there.
+    pub fn links_from(&self, vertex: Vertex) -> &[Link]
+        ensures exact { AreLinksFrom self.now vertex result.now }
+        ensures cheap { AreCheap result.now }
+    {
+        match self.rows.get(&vertex) {
+            Some(row) => &row.out,
+            None => &[],
+        }
+    }
+
+    /// The links into a vertex, none where it is not there.
+    pub fn links_to(&self, vertex: Vertex) -> &[Link]
+        ensures exact { AreLinksTo self.now vertex result.now }
+        ensures cheap { AreCheap result.now }
+    {
+        match self.rows.get(&vertex) {
+            Some(row) => &row.into,
+            None => &[],
+        }
+    }
+
+    /// Puts the LSA of each vertex in the place of what it had, and takes out the vertices without one.
+    /// Answers the links that went and came. They are usable LSAs (below MaxAge), and for a network that of the
+    /// greatest Advertising Router. Where memory is refused, the graph stays as it was.
+    pub fn replace_all(
+        &mut self,
+        lsas: &[(Vertex, Option<&Checked>)],
+    ) -> Result<LinkChanges, Memory>
+        requires apart { AreApartHanded (handed_of lsas.now) }
+        requires few { AreFewAfter self.old (handed_of lsas.now) }
+        ensures replaced { OnOk result (IsReplaced self.old self.new (handed_of lsas.now)) }
+        ensures exact { IfOk result (λ changes. AreExact self.old self.new changes.gone.items changes.came.items) }
+        ensures unchanged { OnErr result (self.new ≡ self.old) }
+    {
+        let alloc = *self.interfaces.allocator();
+        let staging = stage(alloc, &self.rows, lsas)?;
+        let local = Local {
+            root: self.root,
+            interfaces: &self.interfaces,
+        };
+        let changes = change(alloc, &mut self.rows, local, local, &staging)?;
+        Ok(changes)
+    }
+
+    /// The same for one vertex.
+    pub fn replace(&mut self, vertex: Vertex, lsa: Option<&Checked>) -> Result<LinkChanges, Memory>
+        requires few { AreFewAfter self.old ((vertex, option_map (λ l. l.now.body) lsa) ∷ []) }
+        ensures replaced { OnOk result (IsReplaced self.old self.new ((vertex, option_map (λ l. l.now.body) lsa.entry) ∷ [])) }
+        ensures exact { IfOk result (λ changes. AreExact self.old self.new changes.gone.items changes.came.items) }
+        ensures unchanged { OnErr result (self.new ≡ self.old) }
+    {
+        self.replace_all(&[(vertex, lsa)])
+    }
+
+    /// Takes these as the area's interfaces that are up, in the place of all before. Answers the links
+    /// that went and came. Where memory is refused, the graph stays as it was.
+    pub fn interfaces(&mut self, interfaces: &[Up]) -> Result<LinkChanges, Memory>
+        ensures root { self.new.root ≡ self.old.root }
+        ensures ends { self.new.ends ≡ self.old.ends }
+        ensures interfaces { OnOk result (self.new.interfaces ≡ interfaces.now) }
+        ensures exact { IfOk result (λ changes. AreExact self.old self.new changes.gone.items changes.came.items) }
+        ensures unchanged { OnErr result (self.new ≡ self.old) }
+    {
+        let alloc = *self.interfaces.allocator();
+        let ups = Vec::from_slice(alloc, interfaces)?;
+        let staging = stage_root(alloc, &self.rows, self.root)?;
+        let was = Local {
+            root: self.root,
+            interfaces: &self.interfaces,
+        };
+        let is = Local {
+            root: self.root,
+            interfaces: &ups,
+        };
+        let changes = change(alloc, &mut self.rows, was, is, &staging)?;
+        self.interfaces = ups;
+        Ok(changes)
+    }
+}

@@ -1,0 +1,28 @@
+use ospf_types::entry::Vertex;
+use ospf_types::label::Label;
+
+/// An interface of the area that is up.
+#[derive(Clone, Copy, Debug, PartialEq, Eq)]
+pub struct Up {
+    pub id: u8,
+    /// Its IP address, in host order.
+    pub address: u32,
+}
+
+/// A link of the graph, with its metric (RFC 2328, 16.1).
+#[derive(Debug, Drop)]
+pub struct Link {
+    pub from: Vertex,
+    pub to: Vertex,
+    /// The metric; 0 out of a network.
+    pub cost: u16,
+    pub label: Label,
+}
+
+/// The links that a change took away, and those that it brought. One with another cost or label is
+/// one of each.
+#[derive(Debug, Drop)]
+pub struct LinkChanges {
+    pub gone: Vec<Link>,
+    pub came: Vec<Link>,
+}

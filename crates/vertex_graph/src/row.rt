@@ -1,0 +1,20 @@
+//! What the graph keeps of its vertices.
+use crate::end::End;
+use crate::link::Link;
+use indexmap::IndexMap;
+use ospf_types::entry::Vertex;
+use std::hash::RandomState;
+
+/// A vertex that is there: where its LSA leads, and its links.
+#[derive(Debug, Drop)]
+pub(crate) struct Row {
+    pub(crate) ends: Vec<End>,
+    pub(crate) out: Vec<Link>,
+    pub(crate) into: Vec<Link>,
+}
+
+/// The vertices that are there.
+pub(crate) type Rows = IndexMap<Vertex, Row, RandomState>;
+
+/// Where vertices lead whose LSAs change, none where the LSA goes.
+pub(crate) type StagedEnds = IndexMap<Vertex, Option<Vec<End>>, RandomState>;

@@ -1,0 +1,179 @@
+//! What is handed in, before anything changes.
+ghost use Rattle.std.specs.Prelude.{◌≡◌, ◌⊎◌, None, [], IsTrue, OnOk, IfOk, Contains, option_map};
+ghost use Rattle.std.specs.FinMap.{find};
+ghost use Rattle.ospf_types.specs.declared.entry.Vertex.{Vertex as VertexValue};
+ghost use Rattle.ospf_types.specs.declared.entry.Vertex.TheVariants.{Router};
+ghost use Rattle.ospf_types.specs.Vertices.{vertex_cmp};
+ghost use Rattle.vertex_graph.specs.Graphs.{handed_of, AreApartHanded};
+ghost use Rattle.vertex_graph.specs.Pairs.{Names};
+ghost use Rattle.vertex_graph.specs.Sides.{row_ends, ends_after, ends_or, IsHandedIn, IsGivenEnds, IsStaged, AreTouched, IsWithin, TouchesOthers};
+
+use crate::end::End;
+use crate::ends::ends_of;
+use crate::row::{Rows, StagedEnds};
+use crate::side::{row_ends, slice_of, slice_or_none};
+use indexmap::{IndexMap, IndexSet};
+use lsa_codec::Checked;
+use ospf_types::entry::Vertex;
+use ospf_types::memory::Memory;
+use std::alloc::Global;
+use std::hash::RandomState;
+
+/// The vertices whose rows may change.
+pub(crate) type Touched = IndexSet<Vertex, RandomState>;
+
+/// Where the vertices lead that are handed in and lead elsewhere than before, and the vertices whose rows may
+/// change by that: those, and what they cease or begin to lead to, or lead to otherwise.
+#[derive(Drop)]
+pub(crate) struct Staging {
+    pub(crate) ends: StagedEnds,
+    pub(crate) touched: Touched,
+}
+
+impl Staging {
+    /// Nothing handed in.
+    pub(crate) fn new(alloc: Global, hashing: RandomState) -> Staging
+        ensures ends { result.ends.entries ≡ [] }
+        ensures touched { result.touched.keys ≡ [] }
+    {
+        Staging {
+            ends: IndexMap::with_hasher(alloc, hashing),
+            touched: IndexSet::with_hasher(alloc, hashing),
+        }
+    }
+}
+
+/// Where the vertices lead that are handed in, each with its LSA or with none, and what that touches.
+pub(crate) fn stage(
+    alloc: Global,
+    rows: &Rows,
+    lsas: &[(Vertex, Option<&Checked>)],
+) -> Result<Staging, Memory>
+    requires apart { AreApartHanded (handed_of lsas.now) }
+    ensures handed { IfOk result (λ staging. IsHandedIn (row_ends rows.now.entries) (ends_after rows.now.entries staging.ends.entries)
+        (handed_of lsas.now)) }
+    ensures touched { IfOk result (λ staging. AreTouched (row_ends rows.now.entries) (ends_after rows.now.entries staging.ends.entries) staging.touched.keys) }
+{
+    let mut staging = Staging::new(alloc, *rows.hasher());
+    for (vertex, lsa) in lsas {
+        let ends = given_ends(alloc, *vertex, *lsa)?;
+        stage_one(rows, *vertex, ends, &mut staging)?;
+    }
+    Ok(staging)
+}
+
+// Where the vertex leads by its LSA, none where the LSA goes.
+fn given_ends(
+    alloc: Global,
+    vertex: Vertex,
+    lsa: Option<&Checked>,
+) -> Result<Option<Vec<End>>, Memory>
+    ensures { IfOk result (λ ends. IsGivenEnds vertex (option_map (λ l. l.now.body) lsa.entry) (option_map (λ e. e.items) ends)) }
+{
+    match lsa {
+        Some(lsa) => {
+            let ends = ends_of(alloc, vertex, lsa)?;
+            Ok(Some(ends))
+        }
+        None => Ok(None),
+    }
+}
+
+// Stages where a vertex leads and what that touches, unless it leads there already.
+fn stage_one(
+    rows: &Rows,
+    vertex: Vertex,
+    ends: Option<Vec<End>>,
+    staging: &mut Staging,
+) -> Result<(), Memory>
+    requires new { find vertex_cmp vertex staging.old.ends.entries ≡ None }
+    requires touched { AreTouched (row_ends rows.now.entries) (ends_after rows.now.entries staging.old.ends.entries) staging.old.touched.keys }
+    ensures ends { OnOk result (IsStaged rows.now.entries vertex (option_map (λ e. e.items) ends) staging.old.ends.entries staging.new.ends.entries) }
+    ensures touched { OnOk result (AreTouched (row_ends rows.now.entries) (ends_after rows.now.entries staging.new.ends.entries) staging.new.touched.keys) }
+{
+    let before = row_ends(rows, vertex);
+    let after = slice_of(&ends);
+    if is_same(before, after) {
+        return Ok(());
+    }
+    touch_both(
+        vertex,
+        slice_or_none(before),
+        slice_or_none(after),
+        &mut staging.touched,
+    )?;
+    staging.ends.insert(vertex, ends)?;
+    Ok(())
+}
+
+// Whether a vertex leads where it did.
+fn is_same(before: Option<&[End]>, after: Option<&[End]>) -> bool
+    ensures { IsTrue result → option_map (λ e. e.now) before.entry ≡ option_map (λ e. e.now) after.entry }
+{
+    match (before, after) {
+        (Some(before), Some(after)) => before == after,
+        (None, None) => true,
+        _ => false,
+    }
+}
+
+// Touches a vertex, and what it leads to either before or after.
+fn touch_both(
+    vertex: Vertex,
+    before: &[End],
+    after: &[End],
+    touched: &mut Touched,
+) -> Result<(), Memory>
+    ensures own { OnOk result (Contains touched.new.keys vertex) }
+    ensures kept { OnOk result (IsWithin touched.old.keys touched.new.keys) }
+    ensures gone { OnOk result (TouchesOthers before.now after.now touched.new.keys) }
+    ensures came { OnOk result (TouchesOthers after.now before.now touched.new.keys) }
+{
+    touched.insert(vertex)?;
+    touch(before, after, touched)?;
+    touch(after, before, touched)?;
+    Ok(())
+}
+
+// Touches the vertices at those ends that are not among others.
+fn touch(ends: &[End], others: &[End], touched: &mut Touched) -> Result<(), Memory>
+    ensures kept { OnOk result (IsWithin touched.old.keys touched.new.keys) }
+    ensures others { OnOk result (TouchesOthers ends.now others.now touched.new.keys) }
+{
+    for end in ends {
+        touch_end(*end, others, touched)?;
+    }
+    Ok(())
+}
+
+// Touches the vertex at the end, unless the end is among others.
+fn touch_end(end: End, others: &[End], touched: &mut Touched) -> Result<(), Memory>
+    ensures kept { OnOk result (IsWithin touched.old.keys touched.new.keys) }
+    ensures other { OnOk result (Contains others.now end ⊎ Contains touched.new.keys end.to) }
+{
+    if has_end(others, end) {
+        return Ok(());
+    }
+    touched.insert(end.to)?;
+    Ok(())
+}
+
+// Whether the end is among ends that are in order.
+fn has_end(ends: &[End], end: End) -> bool
+    ensures { IsTrue result → Contains ends.now end }
+{
+    ends.binary_search(&end).is_ok()
+}
+
+/// The root and what it leads to: what the area's interfaces touch.
+pub(crate) fn stage_root(alloc: Global, rows: &Rows, root: u32) -> Result<Staging, Memory>
+    ensures ends { IfOk result (λ staging. staging.ends.entries ≡ []) }
+    ensures root { IfOk result (λ staging. Contains staging.touched.keys (Router root)) }
+    ensures neighbours { IfOk result (λ staging. (v : VertexValue) → Names (ends_or (row_ends rows.now.entries (Router root))) v → Contains staging.touched.keys v) }
+{
+    let mut staging = Staging::new(alloc, *rows.hasher());
+    let vertex = Vertex::Router(root);
+    let ends = slice_or_none(row_ends(rows, vertex));
+    touch_both(vertex, ends, &[], &mut staging.touched)?;
+    Ok(staging)
+}
