@@ -1,5 +1,5 @@
 //! The distances of vertices.
-ghost use Rattle.std.specs.Prelude.{◌≡◌, ◌<◌, ◌^◌, IfSome, OnOk, OnErr};
+ghost use Rattle.std.specs.Prelude.{◌≡◌, ◌<◌, ◌^◌, IfSome, IfOk, OnOk, OnErr};
 ghost use Rattle.std.specs.FinMap as map;
 ghost use Rattle.spf.specs.Parts.{most_distance};
 
@@ -34,12 +34,16 @@ impl Model for Distances {
 }
 
 impl Distances {
-    pub(crate) fn new(alloc: Global, hashing: RandomState) -> Distances
-        ensures { result ≡ map.empty }
+    /// None, with room for so many vertices.
+    pub(crate) fn with_room(
+        alloc: Global,
+        hashing: RandomState,
+        room: usize,
+    ) -> Result<Distances, Memory>
+        ensures { IfOk result (λ none. none ≡ map.empty) }
     {
-        Distances {
-            entries: IndexMap::with_hasher(alloc, hashing),
-        }
+        let entries = IndexMap::with_capacity_and_hasher(alloc, room, hashing)?;
+        Ok(Distances { entries })
     }
 
     pub(crate) fn get(&self, vertex: Vertex) -> Option<u32>

@@ -1,5 +1,5 @@
 //! The next hops of vertices.
-ghost use Rattle.std.specs.Prelude.{◌≡◌, OnOk, OnErr, option_copied};
+ghost use Rattle.std.specs.Prelude.{◌≡◌, IfOk, OnOk, OnErr, option_copied};
 ghost use Rattle.std.specs.FinMap as map;
 
 use hop_sets::HopSet;
@@ -30,12 +30,16 @@ impl Model for HopColumns {
 }
 
 impl HopColumns {
-    pub(crate) fn new(alloc: Global, hashing: RandomState) -> HopColumns
-        ensures { result ≡ map.empty }
+    /// None, with room for so many vertices.
+    pub(crate) fn with_room(
+        alloc: Global,
+        hashing: RandomState,
+        room: usize,
+    ) -> Result<HopColumns, Memory>
+        ensures { IfOk result (λ none. none ≡ map.empty) }
     {
-        HopColumns {
-            entries: IndexMap::with_hasher(alloc, hashing),
-        }
+        let entries = IndexMap::with_capacity_and_hasher(alloc, room, hashing)?;
+        Ok(HopColumns { entries })
     }
 
     pub(crate) fn get(&self, vertex: Vertex) -> Option<&HopSet>

@@ -67,8 +67,8 @@ impl Tree {
         ensures work { IfOk result (λ built. IsWorkForAll graph.now built.0 built.1.taken built.1.hop_sets) }
     {
         let mut tree = Tree {
-            distances: Distances::new(alloc, hashing),
-            hops: HopColumns::new(alloc, hashing),
+            distances: Distances::with_room(alloc, hashing, graph.len())?,
+            hops: HopColumns::with_room(alloc, hashing, graph.len())?,
             changed: Vec::new(alloc),
             spent: false,
             hashing,
