@@ -10,6 +10,7 @@ use Rattle.spf.specs.declared.touched.Touched.{Touched}
 use Rattle.spf.specs.TreeValues.{IsWorkForAll}
 use Rattle.area_trees.specs.Areas.{AreaTreeValue}
 use Rattle.area_trees.specs.Work.{IsWorkOf}
+use Rattle.calculation.specs.Calculations.{CalculationValue, IsCalculationOf}
 use Rattle.event_state.specs.States.{State, database_of, lsas_of, inputs_of}
 
 -- a configured area, with its LSAs
@@ -43,3 +44,7 @@ IsTotal works w = (w.taken ≡ min (sum_by (λ (x : Touched). x.taken) works) mo
 -- the work of an event
 abbrev pub IsEventWork : State → State → Touched → Type 0
 IsEventWork s t w = (works : List Touched) × AreWorksOf s t s.config.areas works × IsTotal works w
+
+-- the work of building all that is kept of a state
+abbrev pub IsBuildWork : State → Touched → Type 0
+IsBuildWork s w = (c : CalculationValue) × IsCalculationOf s c × ((works : List Touched) × AreWorksForAll c.trees works × IsTotal works w)

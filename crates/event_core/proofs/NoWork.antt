@@ -1,5 +1,5 @@
 -- No work is due between states whose areas have the same trees.
-use Rattle.std.proofs.Common.{◌≡◌, ◌≤◌, ℕ, List, [], ◌∷◌, length, map, refl, sym, ap, subst, ◌∙◌, arith}
+use Rattle.std.proofs.Common.{◌≡◌, ◌≤◌, ℕ, List, [], ◌∷◌, length, map, refl, sym, ap, subst, arith}
 use Rattle.std.specs.Prelude.{◌↔◌, min}
 use Rattle.std.specs.List.{Contains, sum_by}
 use Rattle.ospf_types.specs.declared.config.AreaConfig.{AreaConfig}

@@ -1,5 +1,5 @@
 -- Runs of events, and one event more.
-use Rattle.std.proofs.Common.{◌≡◌, ℕ, ◌+◌, ◌≤◌, take, List, [], ◌∷◌, ◌++◌, length, Option, Some, None, refl, sym, ap, subst, ◌∙◌, arith}
+use Rattle.std.proofs.Common.{◌≡◌, ℕ, ◌≤◌, take, List, [], ◌∷◌, ◌++◌, length, Option, Some, None, refl, sym, ap, subst, ◌∙◌, arith}
 use Rattle.std.specs.Prelude.{false, ◌↔◌, ◌<◌, Result, Ok, Err, OnOk, OnErr}
 use Rattle.std.proofs.lemmas.List.{length-append, take-append-le, take_all}
 use Rattle.ospf_types.specs.declared.config.Config.{Config}
@@ -17,12 +17,12 @@ use Rattle.event_core.specs.Right.{IsRight}
 use Rattle.event_core.specs.declared.reply.Reply.{Reply}
 use Rattle.event_core.specs.declared.reply.Standing.{Standing}
 use Rattle.event_core.specs.declared.reply.Standing.TheVariants.{Current, Behind}
-use Rattle.event_core.specs.Cores.{CoreValue, IsCore, IsTaken, Stands, HasBoundedWork, state_of}
+use Rattle.event_core.specs.Cores.{CoreValue, IsCore, IsTaken, Stands, HasBoundedWork, NamesChanges, state_of}
 use Rattle.event_core.specs.Kept.{core_of, IsCoherent}
 use Rattle.event_core.specs.Configs.{config_fault_of}
 use Rattle.ospf_types.specs.declared.memory.Memory.{Memory}
-use Rattle.calculation.specs.Totals.{IsEventWork}
-use Rattle.event_core.specs.Following.{RoutesValue, AreRoutesOf, no_work}
+use Rattle.calculation.specs.Totals.{IsBuildWork, IsEventWork}
+use Rattle.event_core.specs.Following.{RoutesValue, AreRoutesOf, AreChanges, no_work}
 use Rattle.event_state.specs.Held.{AreFit}
 use Rattle.event_core.proofs.Configs.{sound_ranges}
 use Rattle.event_core.proofs.RoutesRight.{routes_right}
@@ -147,8 +147,12 @@ pub record IsSettled (s u : State) (r : RoutesValue) (built : ℕ) (result : Res
   pub right : OnOk result (AreRoutesOf u new)
   pub fit : OnOk result (AreFit u.config.areas u.databases)
   pub bounded : OnOk result (built ≡ length s.journal → IsEventWork s u new.work)
+  pub exact : OnOk result (built ≡ length s.journal → AreChanges r.table.items new.table.items new.changes)
+  pub anew : OnOk result ((built ≡ length s.journal → ⊥) → IsBuildWork u new.work)
+  pub unnamed : OnOk result ((built ≡ length s.journal → ⊥) → new.changes ≡ [])
   pub unchanged : OnErr result (new.table ≡ r.table)
   pub work : OnErr result (new.work ≡ no_work)
+  pub changes : OnErr result (new.changes ≡ [])
 
 module _ (s u : State) (r new : RoutesValue) (built : ℕ) (e : Event) (kept : IsCoherent s r built) (is : u ≡ step s e) (accepted : refusal_of s e ≡ None) where
   settled_ok : (now : ℕ) → now ≡ length u.journal → AreFit u.config.areas u.databases → AreRoutesOf u new → IsCoherent u new now
@@ -183,14 +187,24 @@ module _ (s u : State) (r new : RoutesValue) (built : ℕ) (e : Event) (kept : I
       (subst (λ (standing : Standing). Stands (core_of u r built) standing (core_of u new built)) (sym behind) (refl, h.unchanged, longer)) serial
 
   pub bounded_ok : (result : Result (Unit {0}) Memory) (now : ℕ) → now ≡ length u.journal → result ≡ Ok tt → IsSettled s u r built result new → HasBoundedWork (core_of s r built) Current (core_of u new now)
-  bounded_ok (Ok x) now all ok h current =
-      let after = settled_ok now all h.fit h.right in
-      subst (λ (v : State). IsEventWork v (state_of (core_of u new now)) new.work) kept.run (subst (λ (v : State). IsEventWork s v new.work) after.run (h.bounded current))
-  bounded_ok (Err m) now all ok h current = absurd cc
+  bounded_ok (Ok x) now all ok h =
+      let after = settled_ok now all h.fit h.right in (
+        λ current. subst (λ (v : State). IsEventWork v (state_of (core_of u new now)) new.work) kept.run (subst (λ (v : State). IsEventWork s v new.work) after.run (h.bounded current)),
+        λ behind. subst (λ (v : State). IsBuildWork v new.work) after.run (h.anew behind),
+      )
+  bounded_ok (Err m) now all ok h = absurd cc
 
   pub bounded_err : (result : Result (Unit {0}) Memory) (m : Memory) → result ≡ Err m → IsSettled s u r built result new → HasBoundedWork (core_of s r built) Behind (core_of u new built)
   bounded_err (Ok x) m err h = absurd cc
   bounded_err (Err x) m err h = h.work
+
+  pub named_ok : (result : Result (Unit {0}) Memory) (now : ℕ) → result ≡ Ok tt → IsSettled s u r built result new → NamesChanges (core_of s r built) Current (core_of u new now)
+  named_ok (Ok x) now ok h = (h.exact, h.unnamed)
+  named_ok (Err m) now ok h = absurd cc
+
+  pub named_err : (result : Result (Unit {0}) Memory) (m : Memory) → result ≡ Err m → IsSettled s u r built result new → NamesChanges (core_of s r built) Behind (core_of u new built)
+  named_err (Ok x) m err h = absurd cc
+  named_err (Err x) m err h = h.changes
 
 -- what a core is made of then
 pub record IsOutcome (s u : State) (r : RoutesValue) (built : ℕ) (result : Result (Unit {0}) Memory) (state : State) (new : RoutesValue) (still : ℕ) : Type 0 where

@@ -1,5 +1,5 @@
 -- The core as its callers see it: the configuration, the events that were taken, and a table that is right for the first of them.
-use Rattle.std.specs.Prelude.{ℕ, ◌≡◌, ◌≤◌, ◌<◌, ◌+◌, ◌↔◌, ◌⊎◌, false, List, [], ◌∷◌, ◌++◌, take, length, Some, None, Result, Ok, Err}
+use Rattle.std.specs.Prelude.{ℕ, ◌≡◌, ◌≤◌, ◌<◌, ◌↔◌, ◌⊎◌, false, List, [], ◌∷◌, ◌++◌, take, length, Some, None, Result, Ok, Err}
 use Rattle.ospf_types.specs.declared.config.Config.{Config}
 use Rattle.event_state.specs.declared.event.Event.{Event}
 use Rattle.event_core.specs.declared.reply.Reply.{Reply}
@@ -17,7 +17,7 @@ use Rattle.route_table.specs.Tables.{TableValue}
 use Rattle.event_core.specs.Right.{IsRight}
 use Rattle.ospf_types.specs.declared.prefix.Prefix.{Prefix}
 use Rattle.spf.specs.declared.touched.Touched.{Touched}
-use Rattle.calculation.specs.Totals.{IsEventWork}
+use Rattle.calculation.specs.Totals.{IsBuildWork, IsEventWork}
 use Rattle.event_core.specs.Following.{AreChanges, no_work}
 
 pub record CoreValue : Type 0 where
@@ -72,14 +72,14 @@ Applies old e (Err refusal) new = IsRefused old e refusal new
 abbrev pub IsCurrent : CoreValue → Type 0
 IsCurrent c = c.built ≡ length c.journal
 
--- Of an event that found the table current and leaves it current, the networks whose item differs. One that leaves it behind changes none.
+-- Of an event that finds the table current and leaves it current, the networks whose item differs. Of one that finds it behind, or leaves it behind, none.
 abbrev pub NamesChanges : CoreValue → Standing → CoreValue → Type 0
-NamesChanges old Current new = IsCurrent old → AreChanges old.table.items new.table.items new.changes
+NamesChanges old Current new = (IsCurrent old → AreChanges old.table.items new.table.items new.changes) × ((IsCurrent old → ⊥) → new.changes ≡ [])
 NamesChanges old Behind new = new.changes ≡ []
 
--- Of such an event, the work is bounded by what differs in the areas.
+-- Of an event that finds the table current and leaves it current, the work is bounded by what differs in the areas. One that finds it behind builds all.
 abbrev pub HasBoundedWork : CoreValue → Standing → CoreValue → Type 0
-HasBoundedWork old Current new = IsCurrent old → IsEventWork (state_of old) (state_of new) new.work
+HasBoundedWork old Current new = (IsCurrent old → IsEventWork (state_of old) (state_of new) new.work) × ((IsCurrent old → ⊥) → IsBuildWork (state_of new) new.work)
 HasBoundedWork old Behind new = new.work ≡ no_work
 
 -- the answers to events, one after the other

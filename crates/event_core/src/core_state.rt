@@ -117,7 +117,8 @@ impl Core {
         let settled = if is_current {
             self.routes.settle(self.alloc, &self.state, changed, named)
         } else {
-            self.routes.rebuild(self.alloc, &self.state, self.hashing)
+            self.routes
+                .start_anew(self.alloc, &self.state, self.hashing)
         };
         let state = match settled {
             Ok(()) => {
@@ -133,11 +134,14 @@ impl Core {
         })
     }
 
-    /// Builds the table anew, where it is behind; databases and journal stay as they are.
+    /// Builds the table anew, where it is behind; databases and journal stay as they are, and so does what `changes`
+    /// and `work` tell of the last event.
     pub fn catch_up(&mut self) -> Standing
         ensures journal { self.new.journal ≡ self.old.journal }
         ensures config { self.new.config ≡ self.old.config }
         ensures limits { self.new.limits ≡ self.old.limits }
+        ensures changes { self.new.changes ≡ self.old.changes }
+        ensures work { self.new.work ≡ self.old.work }
         ensures stands { Stands self.old result self.new }
     {
         let serial = self.state.journal().len() as u64;
@@ -145,7 +149,7 @@ impl Core {
             return Standing::Current;
         }
         match self.routes.rebuild(self.alloc, &self.state, self.hashing) {
-            Ok(()) => {
+            Ok(_) => {
                 self.built = serial;
                 Standing::Current
             }
@@ -176,15 +180,17 @@ impl Core {
         self.routes.table()
     }
 
-    /// The networks whose item in the table the last taken event changed, ascending, each once. Where that event found
-    /// the table behind, all of it was built anew, and none is named.
+    /// The networks whose item in the table the last taken event changed, ascending, each once. None is named where that
+    /// event found the table behind (all of it is built anew then), or left it behind.
     pub fn changes(&self) -> &[Prefix]
         ensures { result.now ≡ self.now.changes }
     {
         self.routes.changes()
     }
 
-    /// The work of the last taken event: vertices taken from queues and sets of next hops written, over all areas.
+    /// The work of the last taken event: vertices taken from queues and sets of next hops written, over all areas, by the
+    /// repairs of their trees, or by building them where the event found the table behind. Where it left the table
+    /// behind, none is told.
     pub fn work(&self) -> Touched
         ensures { result ≡ self.now.work }
     {

@@ -1,10 +1,10 @@
 //! The routing table, and what is kept to follow events (RFC 2328, 16).
-ghost use Rattle.std.specs.Prelude.{◌≡◌, ◌≤◌, [], false, IfOk, OnOk, OnErr};
+ghost use Rattle.std.specs.Prelude.{◌≡◌, ◌≤◌, [], false, length, IfOk, OnOk, OnErr};
 ghost use Rattle.vertex_graph.specs.Graphs.{most_routers};
 ghost use Rattle.event_state.specs.Held.{AreFit};
 ghost use Rattle.event_state.specs.States.{State as StateValue, LooksAlike};
 ghost use Rattle.calculation.specs.Calculations.{IsCalculationOf, IsTableOf, StatesDifferAmong};
-ghost use Rattle.calculation.specs.Totals.{IsEventWork};
+ghost use Rattle.calculation.specs.Totals.{IsBuildWork, IsEventWork};
 ghost use Rattle.event_core.specs.Following.{AreRoutesOf, AreChanges, items_for, no_work};
 
 use crate::named::Named;
@@ -72,8 +72,7 @@ impl Routes {
         ensures work { IfOk result (λ routes. routes.work ≡ no_work) }
         ensures changes { IfOk result (λ routes. routes.changes ≡ []) }
     {
-        let (calculation, _) = Calculation::build(alloc, state, hashing)?;
-        let table = calculation.table(alloc, state.journal().len() as u64)?;
+        let (calculation, table, _) = from_scratch(alloc, state, hashing)?;
         Ok(Routes {
             calculation,
             table,
@@ -83,8 +82,31 @@ impl Routes {
         })
     }
 
-    /// The same in the place of routes that are behind.
+    /// The same in the place of routes that are behind, and the work of building them. What is told of the last event
+    /// stays.
     pub(crate) fn rebuild(
+        &mut self,
+        alloc: Global,
+        state: &State,
+        hashing: RandomState,
+    ) -> Result<Touched, Memory>
+        requires few { state.now.limits.area_lsas ≤ most_routers }
+        ensures right { OnOk result (AreRoutesOf state.now self.new) }
+        ensures fit { OnOk result (AreFit state.now.config.areas state.now.databases) }
+        ensures built { IfOk result (IsBuildWork state.now) }
+        ensures unchanged { OnErr result (self.new.table ≡ self.old.table) }
+        ensures work { self.new.work ≡ self.old.work }
+        ensures changes { self.new.changes ≡ self.old.changes }
+    {
+        let (calculation, table, work) = from_scratch(alloc, state, hashing)?;
+        self.calculation = calculation;
+        self.table = table;
+        self.builds = self.builds.wrapping_add(1);
+        Ok(work)
+    }
+
+    /// The same after an event, of which the work is told, and no network is named.
+    pub(crate) fn start_anew(
         &mut self,
         alloc: Global,
         state: &State,
@@ -93,17 +115,13 @@ impl Routes {
         requires few { state.now.limits.area_lsas ≤ most_routers }
         ensures right { OnOk result (AreRoutesOf state.now self.new) }
         ensures fit { OnOk result (AreFit state.now.config.areas state.now.databases) }
+        ensures built { OnOk result (IsBuildWork state.now self.new.work) }
         ensures unchanged { OnErr result (self.new.table ≡ self.old.table) }
         ensures work { OnErr result (self.new.work ≡ no_work) }
-        ensures changes { OnErr result (self.new.changes ≡ []) }
+        ensures changes { self.new.changes ≡ [] }
     {
         self.forget();
-        let (calculation, work) = Calculation::build(alloc, state, hashing)?;
-        let table = calculation.table(alloc, state.journal().len() as u64)?;
-        self.calculation = calculation;
-        self.table = table;
-        self.work = work;
-        self.builds = self.builds.wrapping_add(1);
+        self.work = self.rebuild(alloc, state, hashing)?;
         Ok(())
     }
 
@@ -188,6 +206,24 @@ impl Routes {
         self.changes = networks;
         Ok(())
     }
+}
+
+// What is kept of the state, its table, and the work of building its trees.
+fn from_scratch(
+    alloc: Global,
+    state: &State,
+    hashing: RandomState,
+) -> Result<(Calculation, Table, Touched), Memory>
+    requires few { state.now.limits.area_lsas ≤ most_routers }
+    ensures calculation { IfOk result (λ built. IsCalculationOf state.now built.0) }
+    ensures items { IfOk result (λ built. IsTableOf built.0.intra built.1.items) }
+    ensures serial { IfOk result (λ built. built.1.serial ≡ length state.now.journal) }
+    ensures fit { IfOk result (λ built. AreFit state.now.config.areas state.now.databases) }
+    ensures work { IfOk result (λ built. IsBuildWork state.now built.2) }
+{
+    let (calculation, work) = Calculation::build(alloc, state, hashing)?;
+    let table = calculation.table(alloc, state.journal().len() as u64)?;
+    Ok((calculation, table, work))
 }
 
 // What the table has to have for each of these networks.

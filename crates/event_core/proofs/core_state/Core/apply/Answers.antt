@@ -1,6 +1,6 @@
 use Rattle.std.proofs.Common.{length, ap, subst, sym, refl, ◌∙◌}
 use Rattle.std.specs.Prelude.{Result}
-use Rattle.std.proofs.lemmas.Result.{on_ok_weaker}
+use Rattle.std.proofs.lemmas.Result.{on_ok_weaker, on_err_weaker}
 use Rattle.ospf_types.specs.declared.memory.Memory.{Memory}
 use Rattle.event_state.specs.States.{State}
 use Rattle.calculation.specs.Calculations.{StatesDifferAmong}
@@ -8,9 +8,9 @@ use Rattle.event_core.specs.declared.core_state.Core.TheInside.{Inside}
 use Rattle.event_core.specs.declared.reply.Reply.{Reply}
 use Rattle.event_core.specs.declared.reply.Standing.{Standing}
 use Rattle.event_core.specs.declared.reply.Standing.TheVariants.{Current, Behind}
-use Rattle.event_core.specs.Cores.{CoreValue, IsTaken, HasBoundedWork}
+use Rattle.event_core.specs.Cores.{CoreValue, IsTaken, HasBoundedWork, NamesChanges}
 use Rattle.event_core.specs.Kept.{IsCoherent, core_of}
-use Rattle.event_core.proofs.Runs.{IsSettled, IsOutcome, coherent_ok, coherent_err, taken_ok, taken_err, bounded_ok, bounded_err}
+use Rattle.event_core.proofs.Runs.{IsSettled, IsOutcome, coherent_ok, coherent_err, taken_ok, taken_err, bounded_ok, bounded_err, named_ok, named_err}
 use Rattle.event_core.proofs.core_state.Core.apply.Goals as goal
 use Rattle.event_core.proofs.core_state.Core.apply.Goals.{then-is_current, else-is_current, in-Ok, in-Err, Joined-is_current}
 
@@ -39,8 +39,12 @@ outcome c =
             right = did.right;
             fit = did.fit;
             bounded = on_ok_weaker result (λ bounded. λ all. bounded s c.journal.ensures.fit (c.self.invariant.fresh all) differ told.changed.0) did.bounded;
+            exact = on_ok_weaker result (λ exact. λ all. exact) did.exact;
+            anew = on_ok_weaker result (λ right. λ behind. absurd (behind (w.if-is_current.true ∙ serial))) did.right;
+            unnamed = on_ok_weaker result (λ right. λ behind. absurd (behind (w.if-is_current.true ∙ serial))) did.right;
             unchanged = did.unchanged;
             work = did.work;
+            changes = did.changes;
           } in
           subst (λ (x : Inside). IsOutcome s u i.routes i.built c.if-is_current.settled x.state x.routes x.built) (sym w.self-inside-is) (record {
             state_is = refl;
@@ -48,19 +52,23 @@ outcome c =
             settled = subst (λ (r : Result (Unit {0}) Memory). IsSettled s u i.routes i.built r w.settle-settled.new.self) (sym w.settled-is) settled;
           })
       | else-is_current w ↦
-          let did = w.rebuild-settled.ensures in
-          let result = w.rebuild-settled.result in
-          let settled : IsSettled s u i.routes i.built result w.rebuild-settled.new.self = record {
+          let did = w.start_anew-settled.ensures in
+          let result = w.start_anew-settled.result in
+          let settled : IsSettled s u i.routes i.built result w.start_anew-settled.new.self = record {
             right = did.right;
             fit = did.fit;
             bounded = on_ok_weaker result (λ right. λ all. absurd (w.if-is_current.false (all ∙ sym serial))) did.right;
+            exact = on_ok_weaker result (λ right. λ all. absurd (w.if-is_current.false (all ∙ sym serial))) did.right;
+            anew = on_ok_weaker result (λ built. λ behind. built) did.built;
+            unnamed = on_ok_weaker result (λ right. λ behind. did.changes) did.right;
             unchanged = did.unchanged;
             work = did.work;
+            changes = on_err_weaker result (λ work. did.changes) did.work;
           } in
           subst (λ (x : Inside). IsOutcome s u i.routes i.built c.if-is_current.settled x.state x.routes x.built) (sym w.self-inside-is) (record {
             state_is = refl;
             still_is = refl;
-            settled = subst (λ (r : Result (Unit {0}) Memory). IsSettled s u i.routes i.built r w.rebuild-settled.new.self) (sym w.settled-is) settled;
+            settled = subst (λ (r : Result (Unit {0}) Memory). IsSettled s u i.routes i.built r w.start_anew-settled.new.self) (sym w.settled-is) settled;
           })
     ]
 
@@ -124,4 +132,26 @@ returns-clause-work c =
           let all = bounded_err i.state u i.routes now.routes i.built c.args.event c.self.invariant told.taken told.accepted c.if-is_current.settled w.in-Err.field-0 w.in-Err.is o.settled in
           subst (λ (state : Standing). HasBoundedWork (core_of i.state i.routes i.built) state c.match-settled.self) (sym w.state-is)
           (subst (λ (new : CoreValue). HasBoundedWork (core_of i.state i.routes i.built) Behind new) (sym is) all)
+    ])
+
+pub returns-clause-changes : goal.returns-clause-changes
+returns-clause-changes c =
+    let i = c.self.inside in
+    let u = c.step.new.self in
+    let told = c.in_ok-serial.ensures in
+    let serial = c.in_ok-serial.serial in
+    let now = c.if-is_current.self-inside in
+    let o = outcome (goal.at.returns-clause-changes c).Joined-is_current in
+    subst (λ (old : CoreValue). NamesChanges old c.match-settled.state c.match-settled.self) c.self.view_is
+    (elim c.match-settled.branch [
+      | in-Ok w ↦
+          let is = w.self-is ∙ ap (λ (v : State). core_of v now.routes serial) o.state_is in
+          let all = named_ok i.state u i.routes now.routes i.built c.args.event c.self.invariant told.taken told.accepted c.if-is_current.settled serial w.in-Ok.is o.settled in
+          subst (λ (state : Standing). NamesChanges (core_of i.state i.routes i.built) state c.match-settled.self) (sym w.state-is)
+          (subst (λ (new : CoreValue). NamesChanges (core_of i.state i.routes i.built) Current new) (sym is) all)
+      | in-Err w ↦
+          let is = w.self-is ∙ (λ j. core_of (o.state_is j) now.routes (o.still_is j)) in
+          let all = named_err i.state u i.routes now.routes i.built c.args.event c.self.invariant told.taken told.accepted c.if-is_current.settled w.in-Err.field-0 w.in-Err.is o.settled in
+          subst (λ (state : Standing). NamesChanges (core_of i.state i.routes i.built) state c.match-settled.self) (sym w.state-is)
+          (subst (λ (new : CoreValue). NamesChanges (core_of i.state i.routes i.built) Behind new) (sym is) all)
     ])
