@@ -1,10 +1,10 @@
 -- The graph of an area follows its database: what is not named keeps what stands for it, and what is named is handed in.
-use Rattle.std.proofs.Common.{◌≡◌, ◌≢◌, ℕ, ◌<◌, ◌≤◌, true, List, [], ◌∷◌, length, map, get_or, take, Option, Some, None, refl, sym, ap, subst, ◌∙◌, inl, inr, ⊎_elim, is_some, arith}
+use Rattle.std.proofs.Common.{◌≡◌, ◌≢◌, ℕ, ◌<◌, ◌≤◌, true, List, [], ◌∷◌, length, map, get_or, Option, Some, None, refl, sym, ap, subst, ◌∙◌, inl, inr, ⊎_elim, is_some, arith}
 use Rattle.std.specs.Prelude.{◌↔◌, Contains, IsSome, option_map, option_and_then}
 use Rattle.std.specs.FinMap.{get, empty, get-empty, keys, len, entries, len-entries, contains_key-keys}
 use Rattle.std.specs.List.{AllPairs}
 use Rattle.std.specs.List.Sorted.{IsStrictlySortedBy}
-use Rattle.std.proofs.lemmas.List.{length-map, get_or-map, take_all}
+use Rattle.std.proofs.lemmas.List.{length-map, get_or-map}
 use Rattle.std.proofs.lemmas.Map.Entries.{length-keys_of}
 use Rattle.std.proofs.lemmas.Map.Keys.{IsDistinct-from_sorted}
 use Rattle.std.proofs.lemmas.Map.Made.{AllPairs-from_IsDistinct}
@@ -106,14 +106,12 @@ key_there d key there = Contains-from_any (tells_apart key_exact) key (keys d) (
 used_there : (d : Database) (key : Key) → IsUsed d key → IsSome (get d key)
 used_there d key used = elim (get d key) as (λ o. IsSome (body_of o) → IsSome o) [ None ↦ λ h. absurd cc | Some l ↦ λ h. refl ] used
 
--- The rows have no more keys than there are LSAs, so that the keys of so many rows are those of all LSAs.
-pub differ_from_none : (d : DatabaseValue) → IsOrder d → (row : ℕ) → len d.lsas ≤ row → (listed : List Key) → listed ≡ take row d.order → DifferAmong empty d.lsas listed
-differ_from_none d order row past listed is key apart =
-    let fits : length d.order ≤ length (keys d.lsas) = no_longer d.order (keys d.lsas) order.once (λ k c. key_there d.lsas k ((order.there k).0 c)) in
-    let all : listed ≡ d.order = is ∙ take_all row d.order (omega (arith, fits, past, length-keys_of (entries d.lsas), len-entries d.lsas)) in
+-- a database differs from none in its own keys alone
+pub differ_from_none : (d : DatabaseValue) → IsOrder d → DifferAmong empty d.lsas d.order
+differ_from_none d order key apart =
     let none : get d.lsas key ≡ None = elim (get d.lsas key) as (λ o. get d.lsas key ≡ o → o ≡ None) [
       | None ↦ λ at. refl
-      | Some l ↦ λ at. absurd (apart (subst (λ (ks : List Key). Contains ks key) (sym all) ((order.there key).1 (subst (λ (o : Option Lsa). IsSome o) (sym at) refl))))
+      | Some l ↦ λ at. absurd (apart ((order.there key).1 (subst (λ (o : Option Lsa). IsSome o) (sym at) refl)))
     ] refl in
     ap body_of (none ∙ sym (get-empty key_cmp key))
 

@@ -1,6 +1,6 @@
 -- Graph and tree of an area stay together through a change.
-use Rattle.std.proofs.Common.{◌≡◌, ℕ, ◌+◌, zero, suc, Bool, false, List, [], ◌∷◌, ◌++◌, take, Result, Ok, Err, refl, sym, ap, subst, ◌∙◌, arith}
-use Rattle.std.specs.Prelude.{OnOk, is_err, option_to_list, slice_get}
+use Rattle.std.proofs.Common.{◌≡◌, ℕ, Bool, false, List, Result, Ok, Err, sym, ap, subst, ◌∙◌}
+use Rattle.std.specs.Prelude.{OnOk, is_err}
 use Rattle.lsdb.specs.Databases.{Database}
 use Rattle.vertex_graph.specs.declared.link.Link.{Link}
 use Rattle.vertex_graph.specs.declared.link.Up.{Up}
@@ -38,10 +38,3 @@ not_spent {root} {d} {ups} parts inside spent view_is fresh is =
 pub where_ok : {T E : Type 0} (r : Result T E) (b : Bool) (P Q : Type 0) → b ≡ is_err r → (b ≡ false → P → Q) → OnOk r P → OnOk r Q
 where_ok (Ok x) b P Q is then p = then is p
 where_ok (Err e) b P Q is then p = p
-
--- the keys of one row more
-pub row_more : {X : Type 0} (xs : List X) (i : ℕ) → take (i + 1) xs ≡ take i xs ++ option_to_list (slice_get xs i)
-row_more [] zero = refl
-row_more [] (suc i) = let next : suc i + 1 ≡ suc (i + 1) = omega arith in rw next refl
-row_more (x ∷ xs) zero = refl
-row_more {X} (x ∷ xs) (suc i) = let next : suc i + 1 ≡ suc (i + 1) = omega arith in rw next (ap (λ (ys : List X). x ∷ ys) (row_more xs i))

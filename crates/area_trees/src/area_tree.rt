@@ -1,5 +1,5 @@
 //! The graph of an area and its shortest-path tree, which stay together.
-ghost use Rattle.std.specs.Prelude.{◌≡◌, ◌≤◌, ◌<◌, ◌++◌, [], ℕ, List, Some, true, OnOk, OnErr, IfOk, IfSome, option_map, option_to_list, slice_get};
+ghost use Rattle.std.specs.Prelude.{◌≡◌, ◌≤◌, ◌<◌, [], ℕ, List, Some, true, OnOk, OnErr, IfOk, IfSome, option_map};
 ghost use Rattle.std.specs.FinMap as map;
 ghost use Rattle.std.specs.List.Sorted.{IsStrictlySortedBy};
 ghost use Rattle.lsdb.specs.Databases.{Database as Lsas};
@@ -65,8 +65,7 @@ impl AreaTree {
         ensures work { IfOk result (λ built. IsWorkForAll built.0.area.graph built.0.tree built.1.taken built.1.hop_sets) }
     {
         let mut area = AreaGraph::new(alloc, root, hashing);
-        let keys = keys_of(alloc, database)?;
-        area.follow(alloc, database, keys.as_slice())?;
+        area.follow(alloc, database, database.keys())?;
         area.interfaces(interfaces)?;
         let (tree, touched) = Tree::build(alloc, area.graph(), hashing)?;
         let spent = false;
@@ -183,25 +182,4 @@ impl AreaTree {
         let changes = self.area.interfaces(interfaces)?;
         self.tree.repair(alloc, self.area.graph(), &changes)
     }
-}
-
-// The keys of all LSAs of the database.
-fn keys_of(alloc: Global, database: &Database) -> Result<Vec<Key>, Memory>
-    ensures { IfOk result (λ keys. DifferAmong map.empty database.now.lsas keys.items) }
-{
-    let mut keys = Vec::with_capacity(alloc, database.len())?;
-    for row in 0..database.len() {
-        push_key(database, row, &mut keys)?;
-    }
-    Ok(keys)
-}
-
-// Adds the key of the row, if there is such a row.
-fn push_key(database: &Database, row: usize, keys: &mut Vec<Key>) -> Result<(), Memory>
-    ensures { OnOk result (keys.new.items ≡ keys.old.items ++ option_to_list (slice_get database.now.order row)) }
-{
-    if let Some(key) = database.key_at(row) {
-        keys.push(*key)?;
-    }
-    Ok(())
 }

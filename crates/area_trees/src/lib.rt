@@ -10,3 +10,4 @@ mod tests;
 mod vertices;
 
 pub use area_tree::AreaTree;
+pub use vertices::vertex_of;

@@ -53,8 +53,9 @@ fn push_named(key: Key, vertices: &mut Vec<Vertex>) -> Result<(), Memory>
     Ok(())
 }
 
-/// The vertex of an LSA with this key: a router by its router-LSA, a transit network by its network-LSA.
-fn vertex_of(key: Key) -> Option<Vertex>
+/// The vertex of an LSA with this key: a router by its router-LSA, a transit network by its network-LSA
+/// (RFC 2328, 16.1).
+pub fn vertex_of(key: Key) -> Option<Vertex>
     ensures { result ≡ vertex_of_key key }
 {
     match key.kind {

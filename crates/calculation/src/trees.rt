@@ -32,7 +32,7 @@ pub(crate) fn build_trees(
     ensures work { IfOk result (λ built. (works : List TouchedValue) × AreWorksForAll built.0.items works × IsTotal works built.1) }
 {
     let mut trees = Vec::new(alloc);
-    let mut work = none();
+    let mut work = Touched::none();
     for area in state.config().areas.as_slice() {
         let (tree, touched) = build_tree(alloc, state, area.id, hashing)?;
         trees.push(tree)?;
@@ -74,7 +74,7 @@ pub(crate) fn follow_trees(
     requires before { (before : StateValue) × AreTreesOf before before.config.areas trees.old × StatesDifferAmong keys.now interfaces.now before state.now }
     ensures { IfOk result (λ work. AreFollowed state.now state.now.config.areas trees.old trees.new vertices.new.items work) }
 {
-    let mut work = none();
+    let mut work = Touched::none();
     for (place, area) in state.config().areas.as_slice().iter().enumerate() {
         let tree = &mut trees[place];
         let touched = follow_tree(alloc, tree, state, area.id, keys, interfaces)?;
@@ -140,16 +140,6 @@ fn push_changed(area: u32, tree: &AreaTree, vertices: &mut Vec<(u32, Vertex)>) -
         vertices.push((area, *vertex))?;
     }
     Ok(())
-}
-
-// No work.
-fn none() -> Touched
-    ensures { result ≡ record { taken = 0; hop_sets = 0 } }
-{
-    Touched {
-        taken: 0,
-        hop_sets: 0,
-    }
 }
 
 // The work of both, as far as it can be counted.

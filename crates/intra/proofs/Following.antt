@@ -23,7 +23,7 @@ use Rattle.intra.specs.Indexes.{IndexValue, IsIndex, IsIndexOf, IsOfferedFor, Of
 use Rattle.intra.specs.Intras.{AreaIntraValue}
 use Rattle.intra.specs.Reached.{ReachedValue}
 use Rattle.intra.specs.Following.{LsasDifferAmong, NamesVertex, NamesIn, IsCurrent, IsTaken, HasOffered, IsGathered, IsRenewed, router_now}
-use Rattle.intra.proofs.KeyOrders.{vertex_total, vertex_exact}
+use Rattle.ospf_types.proofs.VertexOrder.{vertex_total, vertex_exact}
 
 -- a key is this one, or another
 pub one_or_other : {K : Type 0} {cmp : K → K → Ordering} → IsTotalOrder cmp → IsAntisymmetric cmp → (k q : K) → (q ≡ k) ⊎ (q ≢ k)

@@ -16,4 +16,3 @@ pub mod Placing
 pub mod SortedOnce
 pub mod Renewing
 pub mod Updating
-pub mod Rows

@@ -6,7 +6,7 @@ use Rattle.std.proofs.lemmas.Bool.{true≢false}
 use Rattle.ospf_types.specs.declared.entry.Vertex.{Vertex}
 use Rattle.ospf_types.proofs.Elements.{no_element, first_element, later_element, first_or_later}
 use Rattle.intra.specs.declared.area_index.Source.{Source}
-use Rattle.intra.proofs.KeyOrders.{vertices_equal, vertices_decided}
+use Rattle.ospf_types.proofs.VertexOrder.{vertices_equal, vertices_decided}
 
 module _ {X : Type 0} (test : X → Bool) where
   kept_from : (xs : List X) (y : X) → Contains (filter test xs) y → Contains xs y × (test y ≡ true)

@@ -7,7 +7,7 @@ ghost use Rattle.ospf_types.specs.declared.prefix.Prefix.{Prefix as PrefixValue}
 ghost use Rattle.lsdb.specs.Databases.{Database as Lsas};
 ghost use Rattle.vertex_graph.specs.declared.link.Up.{Up as UpValue};
 ghost use Rattle.spf.specs.HandedOn.{IsOfSome};
-ghost use Rattle.area_trees.specs.Areas.{IsAreaTree, vertex_of as vertex_of_key};
+ghost use Rattle.area_trees.specs.Areas.{IsAreaTree};
 ghost use Rattle.intra.specs.Indexes.{IsIndex, IsIndexOf};
 ghost use Rattle.intra.specs.Following.{LsasDifferAmong, NamesVertex, NamesIn, IsRouterNamed, IsTaken, HasOffered, IsGathered, IsRenewed, router_now};
 
@@ -15,11 +15,12 @@ use crate::area_index::AreaIndex;
 use crate::dirty::Dirty;
 use crate::inputs::AreaInputs;
 use crate::offered::Offer;
-use crate::reached::{Reached, is_same, keep};
+use crate::reached::{Reached, keep};
+use crate::same::are_same;
+use area_trees::vertex_of;
 use indexmap::IndexMap;
 use ospf_types::entry::Vertex;
 use ospf_types::key::{Key, Scope};
-use ospf_types::lsa::{NETWORK_LSA, ROUTER_LSA};
 use ospf_types::memory::Memory;
 use ospf_types::prefix::Prefix;
 use std::alloc::Global;
@@ -296,7 +297,7 @@ impl AreaIntra {
         ensures { OnOk result (IsRenewed root area.now (λ r. r ≡ router) self.old self.new routers.old.items routers.new.items) }
     {
         let fresh = self.fresh(alloc, root, area, router)?;
-        if is_same(self.router(router), fresh.as_ref()) {
+        if are_same(self.router(router), fresh.as_ref()) {
             return Ok(());
         }
         self.put(router, fresh)?;
@@ -369,16 +370,5 @@ fn vertex_in(area: u32, named: (Scope, Key)) -> Option<Vertex>
         vertex_of(key)
     } else {
         None
-    }
-}
-
-// The vertex of an LSA with this key: a router by its router-LSA, a transit network by its network-LSA.
-fn vertex_of(key: Key) -> Option<Vertex>
-    ensures { result ≡ vertex_of_key key }
-{
-    match key.kind {
-        ROUTER_LSA => Some(Vertex::Router(key.router)),
-        NETWORK_LSA => Some(Vertex::Network(key.id)),
-        _ => None,
     }
 }

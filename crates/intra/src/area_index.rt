@@ -1,5 +1,5 @@
 //! The index of an area: what each vertex offers, and who offers each prefix. It follows the area's LSAs alone.
-ghost use Rattle.std.specs.Prelude.{◌≡◌, ◌≢◌, ◌↔◌, ℕ, List, Option, None, Contains, IfOk, OnOk, option_copied, IsTrue};
+ghost use Rattle.std.specs.Prelude.{◌≡◌, ◌≢◌, ◌↔◌, ℕ, List, Option, None, Contains, IfOk, OnOk, option_copied};
 ghost use Rattle.std.specs.FinMap as map;
 ghost use Rattle.vertex_graph.specs.declared.link.Up.{Up as UpValue};
 ghost use Rattle.ospf_types.specs.declared.entry.Vertex.{Vertex as VertexValue};
@@ -10,6 +10,7 @@ ghost use Rattle.intra.specs.IndexSteps.{AreGone, HaveCome, IsPrefixOf, IsOfferO
 
 use crate::inputs::AreaInputs;
 use crate::offered::{Offer, Offered, offers_in};
+use crate::same::are_same;
 use indexmap::IndexMap;
 use ospf_types::entry::Vertex;
 use ospf_types::memory::Memory;
@@ -97,7 +98,7 @@ impl AreaIndex {
         ensures touched { OnOk result (AreTouched self.old self.new dirty.old.items dirty.new.items) }
     {
         let fresh = standing_offers(self.alloc, area, vertex)?;
-        if is_same(self.offered(vertex), fresh.as_ref()) {
+        if are_same(self.offered(vertex), fresh.as_ref()) {
             return Ok(());
         }
         self.take_out(vertex, dirty)?;
@@ -237,15 +238,4 @@ fn leave_out(sources: &mut Vec<Source>, vertex: Vertex)
     ensures { (w : VertexValue) (metric : ℕ) → Contains sources.new.items (record { vertex = w; metric = metric }) ↔ (Contains sources.old.items (record { vertex = w; metric = metric }) × (w ≢ vertex)) }
 {
     sources.retain(|source| source.vertex != vertex);
-}
-
-// Whether the two offer the same, or both are absent.
-fn is_same(a: Option<&Offered>, b: Option<&Offered>) -> bool
-    ensures { IsTrue result ↔ (option_copied a.entry ≡ option_copied b.entry) }
-{
-    match (a, b) {
-        (Some(a), Some(b)) => a.is_same(b),
-        (None, None) => true,
-        _ => false,
-    }
 }

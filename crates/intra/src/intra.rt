@@ -1,4 +1,4 @@
-ghost use Rattle.std.specs.Prelude.{◌≡◌, ◌≢◌, ◌↔◌, ◌++◌, ℕ, [], Some, true, false, length, map as list_map, IfOk, OnOk, OnErr, IsTrue, IsSome, Contains, option_copied};
+ghost use Rattle.std.specs.Prelude.{◌≡◌, ◌≢◌, ◌↔◌, ◌++◌, ℕ, [], Some, true, false, length, map as list_map, IfOk, OnOk, OnErr, IsSome, Contains, option_copied};
 ghost use Rattle.std.specs.FinMap as map;
 ghost use Rattle.std.specs.Ordering.{nat_cmp};
 ghost use Rattle.ospf_types.specs.declared.key.Dest.TheVariants as dest_value;
@@ -23,6 +23,7 @@ use crate::choose::choose;
 use crate::dirty::Dirty;
 use crate::inputs::{AreaInputs, Inputs};
 use crate::reached::Reached;
+use crate::same::are_same;
 use indexmap::IndexMap;
 use lsdb::Database;
 use ospf_types::entry::Entry;
@@ -257,7 +258,7 @@ impl Intra {
         ensures { OnOk result (IsRenewed inputs.now self.old self.new prefix dests.old.items dests.new.items) }
     {
         let fresh = choose(alloc, inputs, self.areas.as_slice(), prefix)?;
-        if is_same(self.get(prefix), fresh.as_ref()) {
+        if are_same(self.get(prefix), fresh.as_ref()) {
             return Ok(());
         }
         self.put(prefix, fresh)?;
@@ -355,30 +356,8 @@ fn push_keys(area: u32, database: &Database, keys: &mut Vec<(Scope, Key)>) -> Re
     ensures kept { OnOk result ((named : ScopeValue × KeyValue) → Contains keys.old.items named → Contains keys.new.items named) }
     ensures all { OnOk result ((key : KeyValue) → IsSome (map.get database.now.lsas key) → Contains keys.new.items (scope_value.Area area, key)) }
 {
-    for row in 0..database.len() {
-        push_key(area, database.key_at(row), keys)?;
-    }
-    Ok(())
-}
-
-// Adds the key, where there is one, with the scope of its area.
-fn push_key(area: u32, key: Option<&Key>, keys: &mut Vec<(Scope, Key)>) -> Result<(), Memory>
-    ensures kept { OnOk result ((named : ScopeValue × KeyValue) → Contains keys.old.items named → Contains keys.new.items named) }
-    ensures here { OnOk result ((k : KeyValue) → option_copied key.entry ≡ Some k → Contains keys.new.items (scope_value.Area area, k)) }
-{
-    if let Some(key) = key {
+    for key in database.keys() {
         keys.push((Scope::Area(area), *key))?;
     }
     Ok(())
-}
-
-// Whether the two are equal, or both are absent.
-fn is_same(a: Option<&Entry>, b: Option<&Entry>) -> bool
-    ensures { IsTrue result ↔ (option_copied a.entry ≡ option_copied b.entry) }
-{
-    match (a, b) {
-        (Some(a), Some(b)) => a.is_same(b),
-        (None, None) => true,
-        _ => false,
-    }
 }

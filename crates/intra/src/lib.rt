@@ -12,6 +12,7 @@ mod inputs;
 mod intra;
 mod offered;
 mod reached;
+mod same;
 
 pub use choice::{AreaCost, Best, Choice, ExactOrd};
 pub use dirty::Dirty;

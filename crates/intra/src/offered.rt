@@ -1,5 +1,5 @@
 //! What the LSA of a vertex offers: the prefixes of stub links, or that of the transit network.
-ghost use Rattle.std.specs.Prelude.{◌≡◌, ◌↔◌, Some, IfOk, IsTrue};
+ghost use Rattle.std.specs.Prelude.{◌≡◌, Some, IfOk};
 ghost use Rattle.std.specs.List.{filter_map};
 ghost use Rattle.ospf_types.specs.Lsa.{key_of};
 ghost use Rattle.lsa_codec.specs.Readers.{links_of, prefix_of};
@@ -7,6 +7,7 @@ ghost use Rattle.area_trees.specs.Areas.{vertex_of};
 ghost use Rattle.intra.specs.Indexes.{IsOfferedBy};
 ghost use Rattle.intra.specs.Stubs.{offer_of_link, stub_of_link, transit_offers};
 
+use crate::same::Same;
 use lsa_codec::Checked;
 use ospf_types::entry::Vertex;
 use ospf_types::lsa::{Link, LinkKind};
@@ -51,11 +52,10 @@ impl Offered {
     {
         self.offers.as_slice()
     }
+}
 
-    /// Whether the two are equal.
-    pub(crate) fn is_same(&self, other: &Offered) -> bool
-        ensures { IsTrue result ↔ (self.now ≡ other.now) }
-    {
+impl Same for Offered {
+    fn is_same(&self, other: &Offered) -> bool {
         self.flags == other.flags && self.offers == other.offers
     }
 }

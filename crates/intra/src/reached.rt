@@ -1,10 +1,11 @@
 //! Area border routers and AS boundary routers that are reached in an area (RFC 2328, 16.1).
-ghost use Rattle.std.specs.Prelude.{◌≡◌, ◌↔◌, ◌<◌, IfOk, IsTrue, bit_and, option_copied};
+ghost use Rattle.std.specs.Prelude.{◌≡◌, ◌↔◌, ◌<◌, IfOk, IsTrue, bit_and};
 ghost use Rattle.std.specs.List.Sorted.{IsStrictlySortedBy};
 ghost use Rattle.ospf_types.specs.Hops.{hop_cmp};
 ghost use Rattle.ospf_types.specs.Intra.{B, E};
 ghost use Rattle.intra.specs.Reached.{reached_by, has_bit};
 
+use crate::same::Same;
 use ospf_types::hop::NextHop;
 use ospf_types::memory::Memory;
 use std::alloc::Global;
@@ -61,18 +62,17 @@ impl Reached {
         self.hops.as_slice()
     }
 
-    // Whether the two are equal.
-    fn is_same(&self, other: &Reached) -> bool
-        ensures { IsTrue result ↔ (self.now ≡ other.now) }
-    {
-        self.has_numbers_of(other) && self.hops == other.hops
-    }
-
     // Whether bits and distance are equal.
     fn has_numbers_of(&self, other: &Reached) -> bool
         ensures { IsTrue result ↔ ((self.now.flags ≡ other.now.flags) × (self.now.distance ≡ other.now.distance)) }
     {
         self.flags == other.flags && self.distance == other.distance
+    }
+}
+
+impl Same for Reached {
+    fn is_same(&self, other: &Reached) -> bool {
+        self.has_numbers_of(other) && self.hops == other.hops
     }
 }
 
@@ -106,15 +106,4 @@ fn has_bit(flags: u8) -> bool
     ensures { result ≡ has_bit flags }
 {
     flags & BORDER > 0 || flags & BOUNDARY > 0
-}
-
-/// Whether the two are equal, or both are absent.
-pub(crate) fn is_same(a: Option<&Reached>, b: Option<&Reached>) -> bool
-    ensures { IsTrue result ↔ (option_copied a.entry ≡ option_copied b.entry) }
-{
-    match (a, b) {
-        (Some(a), Some(b)) => a.is_same(b),
-        (None, None) => true,
-        _ => false,
-    }
 }

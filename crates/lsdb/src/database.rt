@@ -226,6 +226,15 @@ impl Database {
         &self.kinds
     }
 
+    /// The keys of all LSAs, one a row.
+    pub fn keys(&self) -> &[Key]
+        ensures value { result.now ≡ self.now.order }
+        ensures ordered { IsOrder self.now }
+    {
+        let keys = self.rows.keys();
+        keys.as_slice()
+    }
+
     /// The key of a row.
     pub fn key_at(&self, row: usize) -> Option<&Key>
         ensures { option_copied result ≡ slice_get self.now.order row }

@@ -4,10 +4,13 @@ use Rattle.ospf_types.specs.declared.key.Key.{Key}
 use Rattle.vertex_graph.specs.Graphs.{GraphValue}
 use Rattle.spf.specs.TreeValues.{IsTreeOf, IsWorkForAll}
 use Rattle.area_trees.specs.Areas.{DifferAmong}
+use Rattle.area_trees.proofs.AreaGraphs.{differ_from_none}
 use Rattle.area_trees.proofs.area_tree.AreaTree.build.Goals as goal
 
 pub follow-requires-clause-before : goal.follow-requires-clause-before
-follow-requires-clause-before c = (empty, c.new-area.ensures.right, subst (λ (ks : List Key). DifferAmong empty c.args.database.now.lsas ks) (sym c.as_slice.ensures.value) c.in_ok-keys.ensures)
+follow-requires-clause-before c =
+    let d = c.args.database.now in
+    (empty, c.new-area.ensures.right, subst (λ (ks : List Key). DifferAmong empty d.lsas ks) (sym c.keys.ensures.value) (differ_from_none d c.keys.ensures.ordered))
 
 pub returns-clause-right : goal.returns-clause-right
 returns-clause-right c =

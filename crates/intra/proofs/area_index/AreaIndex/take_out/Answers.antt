@@ -2,7 +2,7 @@ use Rattle.std.proofs.Common.{◌≡◌, [], Some, None, refl, ap, ◌∙◌}
 use Rattle.std.specs.FinMap.{get, remove, from_entries}
 use Rattle.ospf_types.specs.Vertices.{vertex_cmp}
 use Rattle.intra.specs.Indexes.{IndexValue, offers_of}
-use Rattle.intra.proofs.KeyOrders.{vertex_total, vertex_exact, vertices_order}
+use Rattle.ospf_types.proofs.VertexOrder.{vertex_total, vertex_exact, vertices_order}
 use Rattle.intra.proofs.KeyedMaps.{looked_up, removed}
 use Rattle.intra.proofs.SourceMaps.{sources_map}
 use Rattle.intra.proofs.IndexSteps.{taken_out, touched_gone, gone_kept, gone_start}

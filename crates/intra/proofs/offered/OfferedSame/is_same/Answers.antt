@@ -2,7 +2,7 @@ use Rattle.std.proofs.Common.{◌≡◌, sym, ap, ◌∙◌}
 use Rattle.std.proofs.lemmas.Slice.Eq.{slice_eq-Decides}
 use Rattle.intra.specs.Indexes.{OfferedValue}
 use Rattle.intra.proofs.OfferTests.{offers_decided}
-use Rattle.intra.proofs.offered.Offered.is_same.Goals as goal
+use Rattle.intra.proofs.offered.OfferedSame.is_same.Goals as goal
 
 pub returns-then-self-other : goal.returns-then-self-other
 returns-then-self-other c =
