@@ -76,7 +76,7 @@ impl Routes {
         Ok(Routes {
             calculation,
             table,
-            work: none(),
+            work: Touched::none(),
             changes: Vec::new(alloc),
             builds: 1,
         })
@@ -182,7 +182,7 @@ impl Routes {
     fn forget(&mut self)
         ensures { self.new ≡ record self.old { work = no_work; changes = [] } }
     {
-        self.work = none();
+        self.work = Touched::none();
         self.changes.clear();
     }
 
@@ -240,14 +240,4 @@ fn items(
         items.push((*network, item))?;
     }
     Ok(items)
-}
-
-// No work.
-fn none() -> Touched
-    ensures { result ≡ no_work }
-{
-    Touched {
-        taken: 0,
-        hop_sets: 0,
-    }
 }
