@@ -14,7 +14,12 @@ use std::{fs, io};
 use trial::is_as_wanted;
 
 // The files of rows.
-const FILES: [&str; 3] = ["commands.rows", "recordings.rows", "events.rows"];
+const FILES: [&str; 4] = [
+    "commands.rows",
+    "recordings.rows",
+    "events.rows",
+    "routes.rows",
+];
 
 /// How many rows ran, and how many of them differ.
 #[derive(Clone, Copy)]

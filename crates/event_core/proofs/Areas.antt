@@ -1,4 +1,4 @@
--- The LSAs of a scope: each stands under its own key, is in the grammar and in its scope, and has no link to a vertex.
+-- The LSAs of a scope: each stands under its own key, is in the grammar and in its scope, and is a router-LSA or a network-LSA.
 use Rattle.std.proofs.Common.{◌≡◌, ℕ, true, false, get_or, Option, Some, None, refl, sym, ap, subst, ◌∙◌, arith}
 use Rattle.std.specs.Prelude.{option_map, option_and_then}
 use Rattle.std.specs.List.{Contains}
@@ -15,7 +15,7 @@ use Rattle.lsa_codec.specs.Spelling.{IsLegal}
 use Rattle.lsdb.specs.Databases.{Database}
 use Rattle.event_state.proofs.Sorted.{find_at}
 use Rattle.event_state.specs.States.{State, database_of, lsas_of, place_of}
-use Rattle.event_state.specs.Steps.{is_stub_only, is_out_of_scope}
+use Rattle.event_state.specs.Steps.{is_of_topology, is_out_of_scope}
 use Rattle.event_state.specs.Held.{AreFit, IsFit}
 use Rattle.ospf_types.proofs.Maps.{find-lookup}
 
@@ -32,13 +32,13 @@ pub among_values : (d : Database) (k : Key) (l : Lsa) → get d k ≡ Some l →
 among_values d k l e =
     Contains-values_of (entries d) k l (Contains-from_lookup (tells_apart key_exact) k l (entries d) (sym (find-lookup key_cmp k (entries d)) ∙ sym (get-entries d k) ∙ e))
 
--- what an LSA of a scope is: it stands under its own key there, is in the grammar and in its scope, and has no link to a vertex
+-- what an LSA of a scope is: it stands under its own key there, is in the grammar and in its scope, and is a router-LSA or a network-LSA
 pub record IsHere (s : State) (at : Scope) (l : Lsa) : Type 0 where
   pub held : Contains (lsas_of (database_of s at)) l
   pub found : option_and_then (λ d. get d (key_of l)) (database_of s at) ≡ Some l
   pub legal : IsLegal l
   pub placed : is_out_of_scope at l.header.kind ≡ false
-  pub stub : is_stub_only l.body ≡ true
+  pub topology : is_of_topology l.body ≡ true
 
 module _ (s : State) (held : AreFit s.config.areas s.databases) where
   -- the database of a scope
@@ -65,7 +65,7 @@ module _ (s : State) (held : AreFit s.config.areas s.databases) where
         found = ap (λ (o : Option Database). option_and_then (λ d. get d (key_of l)) o) w.1 ∙ ap (λ (key : Key). get w.0 key) (sym (fit.sound.under_own_key k.0 l k.1)) ∙ k.1;
         legal = fit.sound.legal k.0 l k.1;
         placed = fit.placed k.0 l k.1;
-        stub = fit.stubs k.0 l k.1;
+        topology = fit.topology k.0 l k.1;
       }
 
   found_in : (o : Option Database) (key : Key) (l : Lsa) → option_and_then (λ d. get d key) o ≡ Some l → (d : Database) × (o ≡ Some d) × (get d key ≡ Some l)

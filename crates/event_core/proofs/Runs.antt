@@ -1,6 +1,6 @@
 -- Runs of events, and one event more.
-use Rattle.std.proofs.Common.{◌≡◌, ℕ, ◌+◌, take, List, [], ◌∷◌, ◌++◌, length, Option, Some, None, refl, sym, ap, subst, ◌∙◌, arith}
-use Rattle.std.specs.Prelude.{false, ◌↔◌}
+use Rattle.std.proofs.Common.{◌≡◌, ℕ, ◌≤◌, take, List, [], ◌∷◌, ◌++◌, length, Option, Some, None, refl, sym, ap, subst, ◌∙◌, arith}
+use Rattle.std.specs.Prelude.{false, ◌↔◌, ◌<◌, Result, Ok, Err, OnOk, OnErr}
 use Rattle.std.proofs.lemmas.List.{length-append, take-append-le, take_all}
 use Rattle.ospf_types.specs.declared.config.Config.{Config}
 use Rattle.ospf_types.specs.Lsa.{key_of}
@@ -11,17 +11,21 @@ use Rattle.event_state.specs.declared.limits.Limits.{Limits}
 use Rattle.lsdb.specs.Databases.{Database, aged_out}
 use Rattle.event_state.specs.States.{State, LooksAlike, place_of, changed_at_place}
 use Rattle.event_state.specs.Steps.{opening, step, refusal_of, run_from, run_of, AreTaken}
+use Rattle.vertex_graph.specs.Graphs.{most_routers}
 use Rattle.route_table.specs.Tables.{TableValue}
 use Rattle.event_core.specs.Right.{IsRight}
 use Rattle.event_core.specs.declared.reply.Reply.{Reply}
 use Rattle.event_core.specs.declared.reply.Standing.{Standing}
 use Rattle.event_core.specs.declared.reply.Standing.TheVariants.{Current, Behind}
-use Rattle.event_core.specs.Cores.{CoreValue, IsCore, IsTaken, Stands, IsQuiet, state_of, built_state}
+use Rattle.event_core.specs.Cores.{CoreValue, IsCore, IsTaken, Stands, HasBoundedWork, NamesChanges, state_of}
 use Rattle.event_core.specs.Kept.{core_of, IsCoherent}
-use Rattle.event_core.specs.Configs.{HasNoRanges}
+use Rattle.event_core.specs.Configs.{config_fault_of}
+use Rattle.ospf_types.specs.declared.memory.Memory.{Memory}
+use Rattle.calculation.specs.Totals.{IsBuildWork, IsEventWork}
+use Rattle.event_core.specs.Following.{RoutesValue, AreRoutesOf, AreChanges, no_work}
 use Rattle.event_state.specs.Held.{AreFit}
-use Rattle.event_core.proofs.Alike.{right_alike}
 use Rattle.event_core.proofs.Configs.{sound_ranges}
+use Rattle.event_core.proofs.RoutesRight.{routes_right}
 
 -- what no event changes
 pub record SameSetting (s t : State) : Type 0 where
@@ -59,67 +63,75 @@ run_setting s (e ∷ events) =
 step_runs : (s : State) (e : Event) → s ≡ run_of s.config s.limits s.journal → step s e ≡ run_of s.config s.limits (s.journal ++ e ∷ [])
 step_runs s e run = ap (λ (t : State). step t e) run ∙ sym (run_push _ s.journal e)
 
-pub kept_step : (s : State) (t : TableValue) (built : ℕ) (e : Event) → IsCoherent s t built → refusal_of s e ≡ None → IsCoherent (step s e) t built
-kept_step s t built e kept accepted =
+-- no event was taken, and the routes are those of the opening state
+pub kept_open : (config : Config) (limits : Limits) (s : State) (r : RoutesValue) → s ≡ opening config limits → config_fault_of config ≡ None → limits.area_lsas ≤ most_routers → AreFit s.config.areas s.databases → AreRoutesOf s r → IsCoherent s r 0
+kept_open config limits s r is sound few fit are =
+    let first : State = opening config limits in
+    let first_fit = subst (λ (v : State). AreFit v.config.areas v.databases) is fit in
+    let first_are = subst (λ (v : State). AreRoutesOf v r) is are in
+    subst (λ (v : State). IsCoherent v r 0) (sym is) (record {
+      run = refl;
+      core = record { sound = sound; legal = tt; within = omega arith; right = routes_right first r first_fit (sound_ranges config sound) first_are };
+      fresh = λ _. first_are;
+      few = few;
+    })
+
+-- an event more, and the table is as it was, whatever else is kept
+pub kept_behind : (s : State) (r new : RoutesValue) (built : ℕ) (e : Event) → IsCoherent s r built → refusal_of s e ≡ None → new.table ≡ r.table → IsCoherent (step s e) new built
+kept_behind s r new built e kept accepted table =
     let setting = step_setting s e in
     let runs : (config : Config) (limits : Limits) → config ≡ s.config → limits ≡ s.limits → step s e ≡ run_of config limits (s.journal ++ e ∷ []) = λ config limits p q. step_runs s e kept.run ∙ sym (λ i. run_of (p i) (q i) (s.journal ++ e ∷ [])) in
-    let core : IsCore (record { config = s.config; limits = s.limits; journal = s.journal ++ e ∷ []; built = built; table = t }) = record {
+    let front : take built (s.journal ++ e ∷ []) ≡ take built s.journal = take-append-le built s.journal (e ∷ []) kept.core.within in
+    let core : IsCore (record { config = s.config; limits = s.limits; journal = s.journal ++ e ∷ []; built = built; table = new.table; work = new.work; changes = new.changes }) = record {
       sound = kept.core.sound;
       legal = taken_push _ s.journal e kept.core.legal (ap (λ (u : State). refusal_of u e) (sym kept.run) ∙ accepted);
       within = omega (arith, kept.core.within, length-append s.journal (e ∷ []));
-      right = subst (λ (events : List Event). IsRight (run_of s.config s.limits events) t) (sym (take-append-le built s.journal (e ∷ []) kept.core.within)) kept.core.right;
+      right = subst (λ (t : TableValue). IsRight (run_of s.config s.limits (take built (s.journal ++ e ∷ []))) t) (sym table)
+          (subst (λ (events : List Event). IsRight (run_of s.config s.limits events) r.table) (sym front) kept.core.right);
     } in
     record {
       run = runs (step s e).config (step s e).limits setting.config setting.limits;
-      core = subst (λ (c : CoreValue). IsCore c) (λ i. record { config = sym setting.config i; limits = sym setting.limits i; journal = s.journal ++ e ∷ []; built = built; table = t }) core;
-      fit =
-          let fit = subst (λ (events : List Event). AreFit s.config.areas (run_of s.config s.limits events).databases) (sym (take-append-le built s.journal (e ∷ []) kept.core.within)) kept.fit in
-          let P : Config → Limits → Type 0 = λ config limits. AreFit config.areas (run_of config limits (take built (s.journal ++ e ∷ []))).databases in
-          subst (λ (limits : Limits). P (step s e).config limits) (sym setting.limits) (subst (λ (config : Config). P config s.limits) (sym setting.config) fit);
+      core = subst (λ (c : CoreValue). IsCore c) (λ i. record { config = sym setting.config i; limits = sym setting.limits i; journal = s.journal ++ e ∷ []; built = built; table = new.table; work = new.work; changes = new.changes }) core;
+      fresh = λ all. absurd (omega (arith, all, kept.core.within, length-append s.journal (e ∷ [])));
+      few = subst (λ (limits : Limits). limits.area_lsas ≤ most_routers) (sym setting.limits) kept.few;
     }
 
-stands_same : (s u : State) (t : TableValue) (built : ℕ) (standing : Standing) (new : CoreValue) → Stands (core_of u t built) standing new → Stands (core_of s t built) standing new
-stands_same s u t built Current new h = h
-stands_same s u t built Behind new h = h
+pub kept_step : (s : State) (r : RoutesValue) (built : ℕ) (e : Event) → IsCoherent s r built → refusal_of s e ≡ None → IsCoherent (step s e) r built
+kept_step s r built e kept accepted = kept_behind s r r built e kept accepted refl
 
 -- a table that is current
 pub current_right : (c : CoreValue) → IsCore c → c.built ≡ length c.journal → IsRight (state_of c) c.table
 current_right c core all = subst (λ (events : List Event). IsRight (run_of c.config c.limits events) c.table) (take_all c.built c.journal (omega arith)) core.right
 
--- a core with a table that is right for its state
-pub kept_current : (s : State) (t u : TableValue) (built now : ℕ) → IsCoherent s t built → AreFit s.config.areas s.databases → now ≡ length s.journal → IsRight s u → IsCoherent s u now
-kept_current s t u built now kept fit all right =
+-- routes that are the state's make a core that is current
+pub kept_current : (s : State) (r new : RoutesValue) (built now : ℕ) → IsCoherent s r built → AreFit s.config.areas s.databases → now ≡ length s.journal → AreRoutesOf s new → IsCoherent s new now
+kept_current s r new built now kept fit all are =
+    let right = routes_right s new fit (sound_ranges s.config kept.core.sound) are in
     let whole : take now s.journal ≡ s.journal = take_all now s.journal (omega arith) in
     let is : s ≡ run_of s.config s.limits (take now s.journal) = kept.run ∙ ap (run_of s.config s.limits) (sym whole) in
     record {
       run = kept.run;
-      core = record { sound = kept.core.sound; legal = kept.core.legal; within = omega arith; right = subst (λ (v : State). IsRight v u) is right };
-      fit = subst (λ (v : State). AreFit s.config.areas v.databases) is fit;
+      core = record { sound = kept.core.sound; legal = kept.core.legal; within = omega arith; right = subst (λ (v : State). IsRight v new.table) is right };
+      fresh = λ _. are;
+      few = kept.few;
     }
 
--- where an event changed nothing that is calculated from, the table is right but for its serial
-pub follows : (s : State) (t : TableValue) (built : ℕ) → IsCoherent s t built → AreFit s.config.areas s.databases → built + 1 ≡ length s.journal → IsQuiet (core_of s t built) → IsRight s (record t { serial = length s.journal })
-follows s t built kept fit one quiet =
-    let before = built_state (core_of s t built) in
-    let setting = run_setting (opening s.config s.limits) (take built s.journal) in
-    let ranges = sound_ranges s.config kept.core.sound in
-    right_alike before s t (record {
-      looks = subst (λ (v : State). LooksAlike before v) (sym kept.run) (quiet one);
-      config = setting.config;
-      fit = subst (λ (c : Config). AreFit c.areas before.databases) (sym setting.config) kept.fit;
-      other_fit = fit;
-      ranges = subst HasNoRanges (sym setting.config) ranges;
-      other_ranges = ranges;
-    }) kept.core.right
+-- and so stand
+pub stands_current : (s : State) (new : RoutesValue) (now : ℕ) (old : CoreValue) → IsCoherent s new now → now ≡ length s.journal → Stands old Current (core_of s new now)
+stands_current s new now old kept all = (all, current_right (core_of s new now) kept.core all)
 
--- a step of the state, and then a table that stands, take the event
-pub takes : (s u : State) (t : TableValue) (built : ℕ) (e : Event) (reply : Reply) (new : CoreValue) → IsCoherent s t built → u ≡ step s e → refusal_of s e ≡ None
-    → (reply.changed ≡ false) ↔ LooksAlike s u → new.journal ≡ u.journal → new.config ≡ u.config → new.limits ≡ u.limits → Stands (core_of u t built) reply.state new → reply.serial ≡ length new.journal
-    → IsTaken (core_of s t built) e reply new
-takes s u t built e reply new kept is accepted changed journal config limits stands serial =
-    let run_new : state_of new ≡ u = (λ i. run_of (config i) (limits i) (journal i)) ∙ sym (subst (λ (v : State). v ≡ run_of v.config v.limits v.journal) (sym is) (kept_step s t built e kept accepted).run) in
-    let looks : LooksAlike s u → LooksAlike (state_of (core_of s t built)) (state_of new) = λ l. subst (λ (v : State). LooksAlike v (state_of new)) kept.run (subst (λ (v : State). LooksAlike s v) (sym run_new) l) in
-    let back : LooksAlike (state_of (core_of s t built)) (state_of new) → LooksAlike s u = λ l. subst (λ (v : State). LooksAlike s v) run_new (subst (λ (v : State). LooksAlike v (state_of new)) (sym kept.run) l) in
+stands_same : (s u : State) (r : RoutesValue) (built : ℕ) (standing : Standing) (new : CoreValue) → Stands (core_of u r built) standing new → Stands (core_of s r built) standing new
+stands_same s u r built Current new h = h
+stands_same s u r built Behind new h = h
+
+-- a step of the state, and then routes that stand, take the event
+pub takes : (s u : State) (r : RoutesValue) (built : ℕ) (e : Event) (reply : Reply) (new : CoreValue) → IsCoherent s r built → u ≡ step s e → refusal_of s e ≡ None
+    → (reply.changed ≡ false) ↔ LooksAlike s u → new.journal ≡ u.journal → new.config ≡ u.config → new.limits ≡ u.limits → Stands (core_of u r built) reply.state new → reply.serial ≡ length new.journal
+    → IsTaken (core_of s r built) e reply new
+takes s u r built e reply new kept is accepted changed journal config limits stands serial =
+    let run_new : state_of new ≡ u = (λ i. run_of (config i) (limits i) (journal i)) ∙ sym (subst (λ (v : State). v ≡ run_of v.config v.limits v.journal) (sym is) (kept_step s r built e kept accepted).run) in
+    let looks : LooksAlike s u → LooksAlike (state_of (core_of s r built)) (state_of new) = λ l. subst (λ (v : State). LooksAlike v (state_of new)) kept.run (subst (λ (v : State). LooksAlike s v) (sym run_new) l) in
+    let back : LooksAlike (state_of (core_of s r built)) (state_of new) → LooksAlike s u = λ l. subst (λ (v : State). LooksAlike s v) run_new (subst (λ (v : State). LooksAlike v (state_of new)) (sym kept.run) l) in
     record {
       accepted = ap (λ (v : State). refusal_of v e) (sym kept.run) ∙ accepted;
       joins = journal ∙ ap (λ (v : State). v.journal) is;
@@ -127,19 +139,75 @@ takes s u t built e reply new kept is accepted changed journal config limits sta
       limits = limits ∙ ap (λ (v : State). v.limits) is ∙ (step_setting s e).limits;
       serial = serial;
       changed = (λ p. looks (changed.0 p), λ l. changed.1 (back l));
-      stands = stands_same s u t built reply.state new stands;
+      stands = stands_same s u r built reply.state new stands;
     }
 
--- after an event that leaves a state looking as before, a core that lacks that event alone is quiet
-quiet_step : (s : State) (t : TableValue) (built : ℕ) (e : Event) → IsCoherent s t built → refusal_of s e ≡ None → LooksAlike s (step s e) → IsQuiet (core_of (step s e) t built)
-quiet_step s t built e kept accepted looks one =
-    let setting = step_setting s e in
-    let all : built ≡ length s.journal = omega (arith, one, length-append s.journal (e ∷ [])) in
-    let front : take built (s.journal ++ e ∷ []) ≡ s.journal = take-append-le built s.journal (e ∷ []) kept.core.within ∙ take_all built s.journal (omega arith) in
-    let before : s ≡ built_state (core_of (step s e) t built) = kept.run ∙ (λ i. run_of (sym setting.config i) (sym setting.limits i) (sym front i)) in
-    let now : step s e ≡ state_of (core_of (step s e) t built) = (kept_step s t built e kept accepted).run in
-    subst (λ (v : State). LooksAlike v (state_of (core_of (step s e) t built))) before (subst (λ (v : State). LooksAlike s v) now looks)
+-- routes that follow an event or are built anew after it, or were refused memory
+pub record IsSettled (s u : State) (r : RoutesValue) (built : ℕ) (result : Result (Unit {0}) Memory) (new : RoutesValue) : Type 0 where
+  pub right : OnOk result (AreRoutesOf u new)
+  pub fit : OnOk result (AreFit u.config.areas u.databases)
+  pub bounded : OnOk result (built ≡ length s.journal → IsEventWork s u new.work)
+  pub exact : OnOk result (built ≡ length s.journal → AreChanges r.table.items new.table.items new.changes)
+  pub anew : OnOk result ((built ≡ length s.journal → ⊥) → IsBuildWork u new.work)
+  pub unnamed : OnOk result ((built ≡ length s.journal → ⊥) → new.changes ≡ [])
+  pub unchanged : OnErr result (new.table ≡ r.table)
+  pub work : OnErr result (new.work ≡ no_work)
+  pub changes : OnErr result (new.changes ≡ [])
 
-pub quiet_after : (s u : State) (t : TableValue) (built : ℕ) (e : Event) → IsCoherent s t built → u ≡ step s e → refusal_of s e ≡ None → LooksAlike s u → IsQuiet (core_of u t built)
-quiet_after s u t built e kept is accepted looks =
-    subst (λ (v : State). IsQuiet (core_of v t built)) (sym is) (quiet_step s t built e kept accepted (subst (λ (v : State). LooksAlike s v) is looks))
+module _ (s u : State) (r new : RoutesValue) (built : ℕ) (e : Event) (kept : IsCoherent s r built) (is : u ≡ step s e) (accepted : refusal_of s e ≡ None) where
+  settled_ok : (now : ℕ) → now ≡ length u.journal → AreFit u.config.areas u.databases → AreRoutesOf u new → IsCoherent u new now
+  settled_ok now all fit are = kept_current u r new built now (subst (λ (v : State). IsCoherent v r built) (sym is) (kept_step s r built e kept accepted)) fit all are
+
+  settled_err : new.table ≡ r.table → IsCoherent u new built
+  settled_err table = subst (λ (v : State). IsCoherent v new built) (sym is) (kept_behind s r new built e kept accepted table)
+
+  -- where the routes settle, the core is current
+  pub coherent_ok : (result : Result (Unit {0}) Memory) (now : ℕ) → now ≡ length u.journal → result ≡ Ok tt → IsSettled s u r built result new → IsCoherent u new now
+  coherent_ok (Ok x) now all ok h = settled_ok now all h.fit h.right
+  coherent_ok (Err m) now all ok h = absurd cc
+
+  -- and where they don't, it is behind
+  pub coherent_err : (result : Result (Unit {0}) Memory) (m : Memory) → result ≡ Err m → IsSettled s u r built result new → IsCoherent u new built
+  coherent_err (Ok x) m err h = absurd cc
+  coherent_err (Err x) m err h = settled_err h.unchanged
+
+  pub taken_ok : (result : Result (Unit {0}) Memory) (now : ℕ) (reply : Reply) → now ≡ length u.journal → result ≡ Ok tt → IsSettled s u r built result new
+      → (reply.changed ≡ false) ↔ LooksAlike s u → reply.state ≡ Current → reply.serial ≡ now → IsTaken (core_of s r built) e reply (core_of u new now)
+  taken_ok result now reply all ok h changed current serial =
+      let after = coherent_ok result now all ok h in
+      takes s u r built e reply (core_of u new now) kept is accepted changed refl refl refl
+      (subst (λ (standing : Standing). Stands (core_of u r built) standing (core_of u new now)) (sym current) (stands_current u new now (core_of u r built) after all)) (serial ∙ all)
+
+  pub taken_err : (result : Result (Unit {0}) Memory) (m : Memory) (reply : Reply) → result ≡ Err m → IsSettled s u r built result new
+      → (reply.changed ≡ false) ↔ LooksAlike s u → reply.state ≡ Behind → reply.serial ≡ length u.journal → IsTaken (core_of s r built) e reply (core_of u new built)
+  taken_err (Ok x) m reply err h changed behind serial = absurd cc
+  taken_err (Err x) m reply err h changed behind serial =
+      let longer : built < length u.journal = omega (arith, kept.core.within, length-append s.journal (e ∷ []), ap (λ (v : State). length v.journal) is) in
+      takes s u r built e reply (core_of u new built) kept is accepted changed refl refl refl
+      (subst (λ (standing : Standing). Stands (core_of u r built) standing (core_of u new built)) (sym behind) (refl, h.unchanged, longer)) serial
+
+  pub bounded_ok : (result : Result (Unit {0}) Memory) (now : ℕ) → now ≡ length u.journal → result ≡ Ok tt → IsSettled s u r built result new → HasBoundedWork (core_of s r built) Current (core_of u new now)
+  bounded_ok (Ok x) now all ok h =
+      let after = settled_ok now all h.fit h.right in (
+        λ current. subst (λ (v : State). IsEventWork v (state_of (core_of u new now)) new.work) kept.run (subst (λ (v : State). IsEventWork s v new.work) after.run (h.bounded current)),
+        λ behind. subst (λ (v : State). IsBuildWork v new.work) after.run (h.anew behind),
+      )
+  bounded_ok (Err m) now all ok h = absurd cc
+
+  pub bounded_err : (result : Result (Unit {0}) Memory) (m : Memory) → result ≡ Err m → IsSettled s u r built result new → HasBoundedWork (core_of s r built) Behind (core_of u new built)
+  bounded_err (Ok x) m err h = absurd cc
+  bounded_err (Err x) m err h = h.work
+
+  pub named_ok : (result : Result (Unit {0}) Memory) (now : ℕ) → result ≡ Ok tt → IsSettled s u r built result new → NamesChanges (core_of s r built) Current (core_of u new now)
+  named_ok (Ok x) now ok h = (h.exact, h.unnamed)
+  named_ok (Err m) now ok h = absurd cc
+
+  pub named_err : (result : Result (Unit {0}) Memory) (m : Memory) → result ≡ Err m → IsSettled s u r built result new → NamesChanges (core_of s r built) Behind (core_of u new built)
+  named_err (Ok x) m err h = absurd cc
+  named_err (Err x) m err h = h.changes
+
+-- what a core is made of then
+pub record IsOutcome (s u : State) (r : RoutesValue) (built : ℕ) (result : Result (Unit {0}) Memory) (state : State) (new : RoutesValue) (still : ℕ) : Type 0 where
+  pub state_is : state ≡ u
+  pub still_is : still ≡ built
+  pub settled : IsSettled s u r built result new

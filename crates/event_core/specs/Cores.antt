@@ -1,5 +1,5 @@
 -- The core as its callers see it: the configuration, the events that were taken, and a table that is right for the first of them.
-use Rattle.std.specs.Prelude.{ℕ, ◌≡◌, ◌≤◌, ◌<◌, ◌+◌, ◌↔◌, ◌⊎◌, false, List, [], ◌∷◌, ◌++◌, take, length, Some, None, Result, Ok, Err}
+use Rattle.std.specs.Prelude.{ℕ, ◌≡◌, ◌≤◌, ◌<◌, ◌↔◌, ◌⊎◌, false, List, [], ◌∷◌, ◌++◌, take, length, Some, None, Result, Ok, Err}
 use Rattle.ospf_types.specs.declared.config.Config.{Config}
 use Rattle.event_state.specs.declared.event.Event.{Event}
 use Rattle.event_core.specs.declared.reply.Reply.{Reply}
@@ -15,6 +15,10 @@ use Rattle.event_state.specs.Steps.{run_of, refusal_of, IsLegalList}
 use Rattle.event_state.specs.Refusals.{IsRefusalOf}
 use Rattle.route_table.specs.Tables.{TableValue}
 use Rattle.event_core.specs.Right.{IsRight}
+use Rattle.ospf_types.specs.declared.prefix.Prefix.{Prefix}
+use Rattle.spf.specs.declared.touched.Touched.{Touched}
+use Rattle.calculation.specs.Totals.{IsBuildWork, IsEventWork}
+use Rattle.event_core.specs.Following.{AreChanges, no_work}
 
 pub record CoreValue : Type 0 where
   pub config : Config
@@ -22,6 +26,8 @@ pub record CoreValue : Type 0 where
   pub journal : List Event  -- the events that were taken
   pub built : ℕ  -- the table is that of so many of them
   pub table : TableValue
+  pub work : Touched  -- that of the last event
+  pub changes : List Prefix  -- the networks whose item the last event changed
 
 -- the databases and interfaces now
 abbrev pub state_of : CoreValue → State
@@ -43,10 +49,6 @@ abbrev pub Stands : CoreValue → Standing → CoreValue → Type 0
 Stands old Current new = (new.built ≡ length new.journal) × IsRight (state_of new) new.table
 Stands old Behind new = (new.built ≡ old.built) × (new.table ≡ old.table) × (new.built < length new.journal)
 
--- where the table lacks the last event alone, that event changed nothing that is calculated from
-abbrev pub IsQuiet : CoreValue → Type 0
-IsQuiet c = c.built + 1 ≡ length c.journal → LooksAlike (built_state c) (state_of c)
-
 -- the event is taken, with this reply
 pub record IsTaken (old : CoreValue) (e : Event) (r : Reply) (new : CoreValue) : Type 0 where
   pub accepted : refusal_of (state_of old) e ≡ None
@@ -66,6 +68,20 @@ abbrev pub Applies : CoreValue → Event → Result Reply Refusal → CoreValue 
 Applies old e (Ok reply) new = IsTaken old e reply new
 Applies old e (Err refusal) new = IsRefused old e refusal new
 
+-- the table is that of the whole journal
+abbrev pub IsCurrent : CoreValue → Type 0
+IsCurrent c = c.built ≡ length c.journal
+
+-- Of an event that finds the table current and leaves it current, the networks whose item differs. Of one that finds it behind, or leaves it behind, none.
+abbrev pub NamesChanges : CoreValue → Standing → CoreValue → Type 0
+NamesChanges old Current new = (IsCurrent old → AreChanges old.table.items new.table.items new.changes) × ((IsCurrent old → ⊥) → new.changes ≡ [])
+NamesChanges old Behind new = new.changes ≡ []
+
+-- Of an event that finds the table current and leaves it current, the work is bounded by what differs in the areas. One that finds it behind builds all.
+abbrev pub HasBoundedWork : CoreValue → Standing → CoreValue → Type 0
+HasBoundedWork old Current new = (IsCurrent old → IsEventWork (state_of old) (state_of new) new.work) × ((IsCurrent old → ⊥) → IsBuildWork (state_of new) new.work)
+HasBoundedWork old Behind new = new.work ≡ no_work
+
 -- the answers to events, one after the other
 abbrev pub Runs : CoreValue → List Event → List (Result Reply Refusal) → CoreValue → Type 0
 Runs old [] [] new = new ≡ old
@@ -84,3 +100,5 @@ pub record IsOpening (given : Config) (most : Limits) (c : CoreValue) : Type 0 w
   pub limits : c.limits ≡ most
   pub journal : c.journal ≡ []
   pub built : c.built ≡ 0
+  pub work : c.work ≡ no_work
+  pub changes : c.changes ≡ []

@@ -1,16 +1,17 @@
 -- What a core keeps of its parts.
-use Rattle.std.specs.Prelude.{ℕ, ◌≡◌}
+use Rattle.std.specs.Prelude.{ℕ, ◌≡◌, ◌≤◌, length}
+use Rattle.vertex_graph.specs.Graphs.{most_routers}
 use Rattle.event_state.specs.States.{State}
 use Rattle.event_state.specs.Steps.{run_of}
-use Rattle.route_table.specs.Tables.{TableValue}
-use Rattle.event_state.specs.Held.{AreFit}
-use Rattle.event_core.specs.Cores.{CoreValue, IsCore, built_state}
+use Rattle.event_core.specs.Cores.{CoreValue, IsCore}
+use Rattle.event_core.specs.Following.{RoutesValue, AreRoutesOf}
 
-abbrev pub core_of : State → TableValue → ℕ → CoreValue
-core_of s t built = record { config = s.config; limits = s.limits; journal = s.journal; built = built; table = t }
+abbrev pub core_of : State → RoutesValue → ℕ → CoreValue
+core_of s r built = record { config = s.config; limits = s.limits; journal = s.journal; built = built; table = r.table; work = r.work; changes = r.changes }
 
--- databases and interfaces are those of the run of the journal; and those that the table is of were such as every state has
-pub record IsCoherent (s : State) (t : TableValue) (built : ℕ) : Type 0 where
+-- databases and interfaces are those of the run of the journal; and where the table is that of all of it, so are the routes that are kept
+pub record IsCoherent (s : State) (r : RoutesValue) (built : ℕ) : Type 0 where
   pub run : s ≡ run_of s.config s.limits s.journal
-  pub core : IsCore (core_of s t built)
-  pub fit : AreFit s.config.areas (built_state (core_of s t built)).databases
+  pub core : IsCore (core_of s r built)
+  pub fresh : built ≡ length s.journal → AreRoutesOf s r
+  pub few : s.limits.area_lsas ≤ most_routers

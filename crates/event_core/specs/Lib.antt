@@ -1,11 +1,9 @@
-pub mod Choices
 pub mod Right
 pub mod Configs
 pub mod Cores
 pub mod Kept
 pub mod Listings
-pub mod Takes
-pub mod Offers
 pub mod Texts
 pub mod Lasting
 pub mod Neighbours
+pub mod Following

@@ -1,20 +1,24 @@
-ghost use Rattle.std.specs.Prelude.{◌≡◌, None, false, IfErr, IfOk, OnErr};
+ghost use Rattle.std.specs.Prelude.{◌≡◌, ◌≤◌, None, IfErr, IfOk, OnErr};
+ghost use Rattle.vertex_graph.specs.Graphs.{most_routers};
 ghost use Rattle.event_core.specs.Configs.{config_fault_of};
-ghost use Rattle.event_core.specs.Cores.{IsCore, IsOpening, IsFaultOf, Applies, Stands, Runs, IsQuiet, state_of};
+ghost use Rattle.event_core.specs.Cores.{IsCore, IsOpening, IsFaultOf, Applies, NamesChanges, HasBoundedWork, Stands, Runs, state_of};
 ghost use Rattle.event_state.specs.Steps.{standard_limits};
 ghost use Rattle.event_core.specs.Listings.{AreLsas};
 
 use crate::config_fault::fault_in;
 use crate::fault::ConfigFault;
 use crate::listing::lsas;
+use crate::named::named_by;
 use crate::reply::{Reply, Standing};
-use crate::routes::build;
+use crate::routes::Routes;
 use event_state::{Event, Limits, Refusal, State};
 use lsa_codec::Checked;
 use ospf_types::config::Config;
 use ospf_types::key::Scope;
 use ospf_types::memory::Memory;
+use ospf_types::prefix::Prefix;
 use route_table::Table;
+use spf::Touched;
 use std::alloc::Global;
 use std::hash::RandomState;
 use std::marker::Model;
@@ -24,8 +28,9 @@ use std::marker::Model;
 #[derive(Drop)]
 pub struct Core {
     alloc: Global,
+    hashing: RandomState,
     state: State,
-    table: Table,
+    routes: Routes,
     built: u64,
 }
 
@@ -40,9 +45,9 @@ impl Model for Core {
 
     ghost use Rattle.event_core.specs.Kept.{core_of, IsCoherent};
 
-    ghost view = { λ c. core_of c.state c.table c.built };
+    ghost view = { λ c. core_of c.state c.routes c.built };
 
-    ghost invariant = { λ c. IsCoherent c.state c.table c.built };
+    ghost invariant = { λ c. IsCoherent c.state c.routes c.built };
 }
 
 impl Core {
@@ -62,6 +67,7 @@ impl Core {
         limits: Limits,
         hashing: RandomState,
     ) -> Result<Core, ConfigFault>
+        requires { limits.area_lsas ≤ most_routers }
         ensures fault { IfErr result (IsFaultOf config) }
         ensures opens { IfOk result (IsOpening config limits) }
         ensures kept { IfOk result IsCore }
@@ -81,27 +87,46 @@ impl Core {
         limits: Limits,
         hashing: RandomState,
     ) -> Result<Core, Memory>
-        requires { config_fault_of config ≡ None }
+        requires sound { config_fault_of config ≡ None }
+        requires few { limits.area_lsas ≤ most_routers }
         ensures opens { IfOk result (IsOpening config limits) }
         ensures kept { IfOk result IsCore }
     {
         let state = State::within(alloc, config, limits, hashing)?;
-        let table = build(alloc, &state)?;
+        let routes = Routes::build(alloc, &state, hashing)?;
         Ok(Core {
             alloc,
+            hashing,
             state,
-            table,
+            routes,
             built: 0,
         })
     }
 
     /// Takes the event, and brings the table up to the state then; or refuses it, and leaves
-    /// everything as it was.
+    /// everything as it was. The work follows what the event touches; where the table was behind, all
+    /// is built anew.
     pub fn apply(&mut self, event: Event) -> Result<Reply, Refusal>
-        ensures { Applies self.old event result self.new }
+        ensures applied { Applies self.old event result self.new }
+        ensures changes { IfOk result (λ reply. NamesChanges self.old reply.state self.new) }
+        ensures work { IfOk result (λ reply. HasBoundedWork self.old reply.state self.new) }
     {
+        let is_current = self.built == self.state.journal().len() as u64;
+        let named = named_by(self.alloc, &self.state, &event)?;
         let (serial, changed) = self.state.step(event)?;
-        let state = self.settle(changed);
+        let settled = if is_current {
+            self.routes.settle(self.alloc, &self.state, changed, named)
+        } else {
+            self.routes
+                .start_anew(self.alloc, &self.state, self.hashing)
+        };
+        let state = match settled {
+            Ok(()) => {
+                self.built = serial;
+                Standing::Current
+            }
+            Err(Memory) => Standing::Behind,
+        };
         Ok(Reply {
             serial,
             changed,
@@ -109,53 +134,23 @@ impl Core {
         })
     }
 
-    // Brings the table up to the last event.
-    fn settle(&mut self, changed: bool) -> Standing
-        requires { changed ≡ false → IsQuiet self.old }
-        ensures journal { self.new.journal ≡ self.old.journal }
-        ensures config { self.new.config ≡ self.old.config }
-        ensures limits { self.new.limits ≡ self.old.limits }
-        ensures stands { Stands self.old result self.new }
-    {
-        if changed {
-            self.catch_up()
-        } else {
-            self.follow()
-        }
-    }
-
-    // The last event changed nothing that the table is calculated from: where the table is that of
-    // the events before it, only its serial moves.
-    fn follow(&mut self) -> Standing
-        requires { IsQuiet self.old }
-        ensures journal { self.new.journal ≡ self.old.journal }
-        ensures config { self.new.config ≡ self.old.config }
-        ensures limits { self.new.limits ≡ self.old.limits }
-        ensures stands { Stands self.old result self.new }
-    {
-        let serial = self.state.journal().len() as u64;
-        if serial - self.built == 1 {
-            self.table.set_serial(serial);
-            self.built = serial;
-            return Standing::Current;
-        }
-        self.catch_up()
-    }
-
-    /// Builds the table anew, where it is behind; databases and journal stay as they are.
+    /// Builds the table anew, where it is behind; databases and journal stay as they are, and so does what `changes`
+    /// and `work` tell of the last event.
     pub fn catch_up(&mut self) -> Standing
         ensures journal { self.new.journal ≡ self.old.journal }
         ensures config { self.new.config ≡ self.old.config }
         ensures limits { self.new.limits ≡ self.old.limits }
+        ensures changes { self.new.changes ≡ self.old.changes }
+        ensures work { self.new.work ≡ self.old.work }
         ensures stands { Stands self.old result self.new }
     {
-        if self.built == self.state.journal().len() as u64 {
+        let serial = self.state.journal().len() as u64;
+        if self.built == serial {
             return Standing::Current;
         }
-        match build(self.alloc, &self.state) {
-            Ok(table) => {
-                self.built = table.serial();
-                self.table = table;
+        match self.routes.rebuild(self.alloc, &self.state, self.hashing) {
+            Ok(_) => {
+                self.built = serial;
                 Standing::Current
             }
             Err(Memory) => Standing::Behind,
@@ -182,7 +177,24 @@ impl Core {
         ensures value { result.now ≡ self.now.table }
         ensures kept { IsCore self.now }
     {
-        &self.table
+        self.routes.table()
+    }
+
+    /// The networks whose item in the table the last taken event changed, ascending, each once. None is named where that
+    /// event found the table behind (all of it is built anew then), or left it behind.
+    pub fn changes(&self) -> &[Prefix]
+        ensures { result.now ≡ self.now.changes }
+    {
+        self.routes.changes()
+    }
+
+    /// The work of the last taken event: vertices taken from queues and sets of next hops written, over all areas, by the
+    /// repairs of their trees, or by building them where the event found the table behind. Where it left the table
+    /// behind, none is told.
+    pub fn work(&self) -> Touched
+        ensures { result ≡ self.now.work }
+    {
+        self.routes.work()
     }
 
     /// The events that were taken, in their order.
@@ -214,5 +226,11 @@ impl Core {
         ensures kept { IsCore self.now }
     {
         self.state.config()
+    }
+
+    /// How often all was built.
+    #[cfg(test)]
+    pub(crate) fn builds(&self) -> u64 {
+        self.routes.builds()
     }
 }

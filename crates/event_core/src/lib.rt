@@ -2,12 +2,11 @@
 //! interfaces, and the routing table follows.
 #![tactic(auto)]
 
-mod choice;
 mod config_fault;
 mod core_state;
 mod fault;
-mod intra;
 mod listing;
+mod named;
 mod reply;
 mod routes;
 
@@ -17,6 +16,7 @@ pub use event_state::{Event, Limits, Refusal};
 pub use fault::ConfigFault;
 pub use reply::{Reply, Standing};
 pub use route_table as table;
+pub use spf::Touched;
 
 #[cfg(test)]
 mod tests;

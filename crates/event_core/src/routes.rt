@@ -1,47 +1,243 @@
-//! The routing table, from the state (RFC 2328, 16).
-ghost use Rattle.std.specs.Prelude.{◌≡◌, Some, IfOk};
-ghost use Rattle.std.specs.List.Sorted.{IsStrictlySortedBy};
-ghost use Rattle.ospf_types.specs.Hops.{path_cmp};
-ghost use Rattle.ospf_types.specs.Routes.{entry_of};
-ghost use Rattle.event_core.specs.Configs.{HasNoRanges};
+//! The routing table, and what is kept to follow events (RFC 2328, 16).
+ghost use Rattle.std.specs.Prelude.{◌≡◌, ◌≤◌, [], false, length, IfOk, OnOk, OnErr};
+ghost use Rattle.vertex_graph.specs.Graphs.{most_routers};
 ghost use Rattle.event_state.specs.Held.{AreFit};
-ghost use Rattle.event_core.specs.Right.{IsRight};
+ghost use Rattle.event_state.specs.States.{State as StateValue, LooksAlike};
+ghost use Rattle.calculation.specs.Calculations.{IsCalculationOf, IsTableOf, StatesDifferAmong};
+ghost use Rattle.calculation.specs.Totals.{IsBuildWork, IsEventWork};
+ghost use Rattle.event_core.specs.Following.{AreRoutesOf, AreChanges, items_for, no_work};
 
-use crate::choice::{AreaCost, Choice};
-use crate::intra;
+use crate::named::Named;
+use calculation::Calculation;
 use event_state::State;
-use ospf_types::entry::{Entry, PathType, Paths};
-use ospf_types::hop::Path;
 use ospf_types::memory::Memory;
+use ospf_types::prefix::Prefix;
 use route_table::{Item, Table};
+use spf::Touched;
 use std::alloc::Global;
+use std::hash::RandomState;
+use std::marker::Model;
 
-/// The routing table of the state. Intra-area routes are all that there is: no database has a
-/// summary or an external route.
-pub(crate) fn build(alloc: Global, state: &State) -> Result<Table, Memory>
-    requires { HasNoRanges state.now.config }
-    ensures right { IfOk result (IsRight state.now) }
-    ensures fit { AreFit state.now.config.areas state.now.databases }
-{
-    let choices = intra::choices(alloc, state)?;
-    let mut table = Table::new(alloc, state.journal().len() as u64);
-    for (network, choice) in choices.into_entries() {
-        table.set(network, intra_route(choice))?;
-    }
-    Ok(table)
+/// The routing table of a state, what it is calculated from, and what the last event changed.
+#[derive(Debug, Drop)]
+pub(crate) struct Routes {
+    calculation: Calculation,
+    table: Table,
+    work: Touched,
+    changes: Vec<Prefix>,
+    // How often all was built; read by tests alone.
+    builds: u64,
 }
 
-// The route of an intra-area network.
-fn intra_route(choice: Choice<AreaCost, Path>) -> Item
-    requires { IsStrictlySortedBy path_cmp choice.items }
-    ensures { result ≡ Item.Route (entry_of PathType.Intra (Some choice.key.1) choice.key.0 0 choice.items) }
+impl Model for Routes {
+    ghost use Rattle.std.specs.FinMap as map;
+    ghost use Rattle.std.specs.Coded.{Coded, codes, coded_ℕ};
+    ghost use Rattle.ospf_types.specs.Network.{network_code};
+    ghost use Rattle.ospf_types.specs.Vertices.{vertex_code};
+    ghost use Rattle.ospf_types.specs.contracts.entry.Entry as entry;
+    ghost use Rattle.vertex_graph.specs.Graphs.{EndsByVertex};
+    ghost use Rattle.spf.specs.Parts.{DistanceMap, HopMap};
+    ghost use Rattle.intra.specs.Indexes.{OfferedByVertex, SourcesByPrefix};
+    ghost use Rattle.intra.specs.Reached.{ReachedByRouter};
+    ghost use Rattle.intra.specs.Intras.{EntriesByPrefix};
+    ghost use Rattle.intra.specs.contracts.offered.Offer as offer;
+    ghost use Rattle.intra.specs.contracts.area_index.Source as source;
+    ghost use Rattle.route_table.specs.Tables.{TableValue, table_code};
+    ghost use Rattle.event_core.specs.Following.{RoutesValue};
+
+    ghost Value = { RoutesValue };
+
+    ghost coded = { let ends : Coded EndsByVertex = map.code vertex_code (Prim.hlevel codes) in
+        let distances : Coded DistanceMap = map.code vertex_code coded_ℕ in
+        let hops : Coded HopMap = map.code vertex_code (Prim.hlevel codes) in
+        let offered : Coded OfferedByVertex = map.code vertex_code (Prim.hlevel (codes, offer.the_row.coded)) in
+        let sources : Coded SourcesByPrefix = map.code network_code (Prim.hlevel (codes, source.the_row.coded)) in
+        let reached : Coded ReachedByRouter = map.code coded_ℕ (Prim.hlevel codes) in
+        let entries : Coded EntriesByPrefix = map.code network_code (Prim.hlevel (codes, entry.the_row.coded)) in
+        let table : Coded TableValue = table_code in
+        Prim.hlevel (codes, ends, distances, hops, offered, sources, reached, entries, table) };
+
+    ghost view = { λ r. record { calculation = r.calculation; table = r.table; work = r.work; changes = r.changes.items } };
+}
+
+impl Routes {
+    /// The routes of the state, from scratch.
+    pub(crate) fn build(
+        alloc: Global,
+        state: &State,
+        hashing: RandomState,
+    ) -> Result<Routes, Memory>
+        requires few { state.now.limits.area_lsas ≤ most_routers }
+        ensures right { IfOk result (AreRoutesOf state.now) }
+        ensures work { IfOk result (λ routes. routes.work ≡ no_work) }
+        ensures changes { IfOk result (λ routes. routes.changes ≡ []) }
+    {
+        let (calculation, table, _) = from_scratch(alloc, state, hashing)?;
+        Ok(Routes {
+            calculation,
+            table,
+            work: Touched::none(),
+            changes: Vec::new(alloc),
+            builds: 1,
+        })
+    }
+
+    /// The same in the place of routes that are behind, and the work of building them. What is told of the last event
+    /// stays.
+    pub(crate) fn rebuild(
+        &mut self,
+        alloc: Global,
+        state: &State,
+        hashing: RandomState,
+    ) -> Result<Touched, Memory>
+        requires few { state.now.limits.area_lsas ≤ most_routers }
+        ensures right { OnOk result (AreRoutesOf state.now self.new) }
+        ensures fit { OnOk result (AreFit state.now.config.areas state.now.databases) }
+        ensures built { IfOk result (IsBuildWork state.now) }
+        ensures unchanged { OnErr result (self.new.table ≡ self.old.table) }
+        ensures work { self.new.work ≡ self.old.work }
+        ensures changes { self.new.changes ≡ self.old.changes }
+    {
+        let (calculation, table, work) = from_scratch(alloc, state, hashing)?;
+        self.calculation = calculation;
+        self.table = table;
+        self.builds = self.builds.wrapping_add(1);
+        Ok(work)
+    }
+
+    /// The same after an event, of which the work is told, and no network is named.
+    pub(crate) fn start_anew(
+        &mut self,
+        alloc: Global,
+        state: &State,
+        hashing: RandomState,
+    ) -> Result<(), Memory>
+        requires few { state.now.limits.area_lsas ≤ most_routers }
+        ensures right { OnOk result (AreRoutesOf state.now self.new) }
+        ensures fit { OnOk result (AreFit state.now.config.areas state.now.databases) }
+        ensures built { OnOk result (IsBuildWork state.now self.new.work) }
+        ensures unchanged { OnErr result (self.new.table ≡ self.old.table) }
+        ensures work { OnErr result (self.new.work ≡ no_work) }
+        ensures changes { self.new.changes ≡ [] }
+    {
+        self.forget();
+        self.work = self.rebuild(alloc, state, hashing)?;
+        Ok(())
+    }
+
+    /// Follows the state, which differs from the one before in what is named. Where memory is refused, the table is as
+    /// it was, and what is kept beside it is of no use any more.
+    pub(crate) fn settle(
+        &mut self,
+        alloc: Global,
+        state: &State,
+        changed: bool,
+        named: Named,
+    ) -> Result<(), Memory>
+        requires few { state.now.limits.area_lsas ≤ most_routers }
+        requires before { (before : StateValue) × AreFit before.config.areas before.databases × AreRoutesOf before self.old × StatesDifferAmong named.keys.items named.interfaces.items before state.now × (changed ≡ false → LooksAlike before state.now) }
+        ensures right { OnOk result (AreRoutesOf state.now self.new) }
+        ensures fit { OnOk result (AreFit state.now.config.areas state.now.databases) }
+        ensures exact { OnOk result (AreChanges self.old.table.items self.new.table.items self.new.changes) }
+        ensures bounded { OnOk result ((before : StateValue) → AreFit before.config.areas before.databases → AreRoutesOf before self.old → StatesDifferAmong named.keys.items named.interfaces.items before state.now → (changed ≡ false → LooksAlike before state.now) → IsEventWork before state.now self.new.work) }
+        ensures unchanged { OnErr result (self.new.table ≡ self.old.table) }
+        ensures work { OnErr result (self.new.work ≡ no_work) }
+        ensures changes { OnErr result (self.new.changes ≡ []) }
+    {
+        self.forget();
+        if changed {
+            self.follow(alloc, state, named)?;
+        }
+        self.table.set_serial(state.journal().len() as u64);
+        Ok(())
+    }
+
+    pub(crate) fn table(&self) -> &Table
+        ensures { result.now ≡ self.now.table }
+    {
+        &self.table
+    }
+
+    pub(crate) fn changes(&self) -> &[Prefix]
+        ensures { result.now ≡ self.now.changes }
+    {
+        self.changes.as_slice()
+    }
+
+    pub(crate) fn work(&self) -> Touched
+        ensures { result ≡ self.now.work }
+    {
+        self.work
+    }
+
+    /// How often all was built.
+    #[cfg(test)]
+    pub(crate) fn builds(&self) -> u64 {
+        self.builds
+    }
+}
+
+impl Routes {
+    // What the event before changed is no longer told.
+    fn forget(&mut self)
+        ensures { self.new ≡ record self.old { work = no_work; changes = [] } }
+    {
+        self.work = Touched::none();
+        self.changes.clear();
+    }
+
+    // What is kept and the items of the table follow the state.
+    fn follow(&mut self, alloc: Global, state: &State, named: Named) -> Result<(), Memory>
+        requires few { state.now.limits.area_lsas ≤ most_routers }
+        requires before { (before : StateValue) × AreRoutesOf before self.old × StatesDifferAmong named.keys.items named.interfaces.items before state.now }
+        ensures calculation { OnOk result (IsCalculationOf state.now self.new.calculation) }
+        ensures items { OnOk result (IsTableOf self.new.calculation.intra self.new.table.items) }
+        ensures exact { OnOk result (AreChanges self.old.table.items self.new.table.items self.new.changes) }
+        ensures bounded { OnOk result ((before : StateValue) → AreRoutesOf before self.old → StatesDifferAmong named.keys.items named.interfaces.items before state.now → IsEventWork before state.now self.new.work) }
+        ensures unchanged { OnErr result (self.new.table ≡ self.old.table) }
+        ensures work { OnErr result (self.new.work ≡ self.old.work) }
+        ensures changes { OnErr result (self.new.changes ≡ self.old.changes) }
+    {
+        let Named { keys, interfaces } = named;
+        let (networks, work) = self.calculation.follow(alloc, state, keys, interfaces)?;
+        let items = items(alloc, &self.calculation, &networks)?;
+        self.table.change(alloc, items)?;
+        self.work = work;
+        self.changes = networks;
+        Ok(())
+    }
+}
+
+// What is kept of the state, its table, and the work of building its trees.
+fn from_scratch(
+    alloc: Global,
+    state: &State,
+    hashing: RandomState,
+) -> Result<(Calculation, Table, Touched), Memory>
+    requires few { state.now.limits.area_lsas ≤ most_routers }
+    ensures calculation { IfOk result (λ built. IsCalculationOf state.now built.0) }
+    ensures items { IfOk result (λ built. IsTableOf built.0.intra built.1.items) }
+    ensures serial { IfOk result (λ built. built.1.serial ≡ length state.now.journal) }
+    ensures fit { IfOk result (λ built. AreFit state.now.config.areas state.now.databases) }
+    ensures work { IfOk result (λ built. IsBuildWork state.now built.2) }
 {
-    let (key, paths) = choice.into_parts();
-    Item::Route(Entry {
-        kind: PathType::Intra,
-        area: Some(key.area()),
-        cost: key.cost(),
-        cost2: 0,
-        paths: Paths::new(paths),
-    })
+    let (calculation, work) = Calculation::build(alloc, state, hashing)?;
+    let table = calculation.table(alloc, state.journal().len() as u64)?;
+    Ok((calculation, table, work))
+}
+
+// What the table has to have for each of these networks.
+fn items(
+    alloc: Global,
+    calculation: &Calculation,
+    networks: &[Prefix],
+) -> Result<Vec<(Prefix, Option<Item>)>, Memory>
+    ensures { IfOk result (λ items. items.items ≡ items_for calculation.now.intra networks.now) }
+{
+    let mut items = Vec::with_capacity(alloc, networks.len())?;
+    for network in networks {
+        let item = calculation.item(alloc, *network)?;
+        items.push((*network, item))?;
+    }
+    Ok(items)
 }

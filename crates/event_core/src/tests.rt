@@ -175,3 +175,14 @@ fn the_lsas_in_their_order(rt: HostRuntime) -> Result<(), Fail> {
     assert!(rt; all && core.catch_up() == Standing::Current && core.built() == 5);
     Ok(())
 }
+
+#[test]
+fn events_are_followed_by_what_they_touch(rt: HostRuntime) -> Result<(), Fail> {
+    let mut core = core(&rt, &[0])?;
+    let taken = core.apply(up()).is_ok();
+    let events = installs(rt.alloc(), &[(ROOT, 1), (7, 1), (ROOT, 2)])?;
+    let answers = [Ok(true), Ok(true), Ok(false)];
+    let followed = taken && gives(&mut core, events, &answers, ROUTE)?;
+    assert!(rt; followed && core.builds() == 1);
+    Ok(())
+}

@@ -14,7 +14,7 @@ use Rattle.event_state.specs.declared.event.Event.{Event}
 use Rattle.event_state.specs.declared.event.Event.TheVariants as event
 use Rattle.event_state.specs.declared.refusal.Refusal.TheVariants as refusal
 use Rattle.event_state.specs.States.{State, place_of}
-use Rattle.event_state.specs.Steps.{IsAccepted, refusal_of, tests_of, lacks_area, is_not_own, is_misplaced, is_not_yet, is_older, is_repeated, has_no_lsa, is_young, is_full, is_full_in, is_stub_only, is_out_of_scope, held_at, limit_of, is_below_max_age}
+use Rattle.event_state.specs.Steps.{IsAccepted, refusal_of, tests_of, lacks_area, is_not_own, is_misplaced, is_not_yet, is_older, is_repeated, has_no_lsa, is_young, is_full, is_full_in, is_of_topology, is_out_of_scope, held_at, limit_of, is_below_max_age}
 
 passed : {X : Type 0} (test : Bool) (x : X) (rest : List (Bool × X)) → first_of ((test, x) ∷ rest) ≡ None → (test ≡ false) × (first_of rest ≡ None)
 passed true x rest e = absurd cc
@@ -33,9 +33,9 @@ accepted s e none =
     let full = passed (is_full s e) refusal.Full (drop 9 (tests_of s e)) young.1 in
     record { placed = scope.0; known = known.0; newer = older.0; differs = repeated.0; there = there.0; aged = young.0; room = full.0 }
 
-known_stub : (b : Bool) → not b ≡ false → b ≡ true
-known_stub true e = refl
-known_stub false e = absurd cc
+known_body : (b : Bool) → not b ≡ false → b ≡ true
+known_body true e = refl
+known_body false e = absurd cc
 
 none_of_three : (a b c : Bool) → a ≡ false → b ≡ false → c ≡ false → first_of ((a, install.Older) ∷ (b, install.Same) ∷ (c, install.Full) ∷ []) ≡ None
 none_of_three true b c e f g = absurd cc
@@ -68,5 +68,5 @@ module _ (s : State) (at : Scope) (k : ℕ) (place : place_of s.config.areas at 
   purge_allowed key a = old_enough (get here key) (sym (ap is_none (held_is key)) ∙ a.there) (sym (ap is_below_max_age (held_is key)) ∙ a.aged)
 
 -- an LSA whose install is taken is one of its scope, with a calculation
-pub install_placed : (s : State) (at : Scope) (lsa : Lsa) → IsAccepted s (event.Install at lsa) → (is_out_of_scope at lsa.header.kind ≡ false) × (is_stub_only lsa.body ≡ true)
-install_placed s at lsa a = (a.placed, known_stub _ a.known)
+pub install_placed : (s : State) (at : Scope) (lsa : Lsa) → IsAccepted s (event.Install at lsa) → (is_out_of_scope at lsa.header.kind ≡ false) × (is_of_topology lsa.body ≡ true)
+install_placed s at lsa a = (a.placed, known_body _ a.known)

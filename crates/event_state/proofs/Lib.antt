@@ -1,10 +1,11 @@
 pub mod Sorted
 pub mod Aging
 pub mod InPlace
-pub mod StubOnly
+pub mod Topology
 pub mod Places
 pub mod OneChange
 pub mod HeldStates
 pub mod Looks
 pub mod Accepted
 pub mod Carried
+pub mod Naming

@@ -29,7 +29,7 @@ use Rattle.event_state.proofs.Places.{place_within, scope_at}
 use Rattle.event_state.proofs.OneChange.{mapped_at}
 
 -- what is used of the database at a place that may be there
-abbrev used_in : List Database → Option ℕ → Key → Option (ℕ × Body)
+abbrev pub used_in : List Database → Option ℕ → Key → Option (ℕ × Body)
 used_in databases o key = option_and_then (λ d. used_at d key) (option_map (λ k. get_or databases k empty) o)
 
 -- ---- a change to one database

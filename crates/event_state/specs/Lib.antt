@@ -4,3 +4,4 @@ pub mod Changes
 pub mod Refusals
 pub mod Texts
 pub mod Held
+pub mod Named

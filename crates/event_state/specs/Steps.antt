@@ -1,6 +1,6 @@
 -- One event: the first refusal that holds, or what it does to the state; and runs of events (RFC 2328, 13.2 and 14).
 use Rattle.std.specs.Prelude.{ℕ, ◌==◌, ◌&&◌, ◌≡◌, not, Bool, true, false, nat_le, nat_lt, List, [], ◌∷◌, ◌++◌, map, length, Option, Some, None, is_none, option_and_then}
-use Rattle.std.specs.List.{list_all, list_any}
+use Rattle.std.specs.List.{list_any}
 use Rattle.std.specs.FinMap.{entries, get, insert, remove, empty}
 use Rattle.ospf_types.specs.FirstOf.{first_of}
 use Rattle.ospf_types.specs.declared.config.Config.{Config}
@@ -9,8 +9,6 @@ use Rattle.ospf_types.specs.declared.config.Interface.{Interface}
 use Rattle.ospf_types.specs.declared.key.Key.{Key}
 use Rattle.ospf_types.specs.declared.key.Scope.{Scope}
 use Rattle.ospf_types.specs.declared.key.Scope.TheVariants as scope
-use Rattle.ospf_types.specs.declared.lsa.LinkKind.{LinkKind}
-use Rattle.ospf_types.specs.declared.lsa.LinkKind.TheVariants as kind
 use Rattle.ospf_types.specs.Lsa.{Lsa, Body, RouterLinks, NetworkLinks, NetworkSummary, BoundarySummary, AsExternal, MaxAge, key_of}
 use Rattle.lsdb.specs.Databases.{Database, all_aged, aged_out, is_older_than, is_same_as, is_full_for}
 use Rattle.event_state.specs.declared.event.Event.{Event}
@@ -43,23 +41,17 @@ is_misplaced (event.Purge at key) = is_out_of_scope at key.kind
 is_misplaced (event.Interface id area address peer up) = false
 is_misplaced event.Second = false
 
-abbrev pub is_edge_kind : LinkKind → Bool
-is_edge_kind kind.PointToPoint = true
-is_edge_kind kind.Transit = true
-is_edge_kind kind.Stub = false
-is_edge_kind kind.Virtual = false
-
--- a router-LSA of which no link leads to a vertex
-abbrev pub is_stub_only : Body → Bool
-is_stub_only (RouterLinks flags links) = list_all (λ l. not (is_edge_kind l.kind)) links
-is_stub_only (NetworkLinks mask routers) = false
-is_stub_only (NetworkSummary mask metric tos) = false
-is_stub_only (BoundarySummary metric tos) = false
-is_stub_only (AsExternal mask first more) = false
+-- a router-LSA or a network-LSA, of which the graph of an area is made (RFC 2328, 2.1)
+abbrev pub is_of_topology : Body → Bool
+is_of_topology (RouterLinks flags links) = true
+is_of_topology (NetworkLinks mask routers) = true
+is_of_topology (NetworkSummary mask metric tos) = false
+is_of_topology (BoundarySummary metric tos) = false
+is_of_topology (AsExternal mask first more) = false
 
 -- no calculation stands yet for this LSA
 abbrev pub is_not_yet : Event → Bool
-is_not_yet (event.Install at lsa) = not (is_stub_only lsa.body)
+is_not_yet (event.Install at lsa) = not (is_of_topology lsa.body)
 is_not_yet (event.Flush at key) = false
 is_not_yet (event.Purge at key) = false
 is_not_yet (event.Interface id area address peer up) = false

@@ -6,6 +6,7 @@ mod area_databases;
 mod event;
 mod interfaces;
 mod limits;
+mod named;
 mod refusal;
 mod state;
 

@@ -1,3 +1,5 @@
+ghost use Rattle.std.specs.Prelude.{◌≡◌};
+
 use super::*;
 use lsa_codec::{read, sum_of};
 use lsdb::Database;
@@ -13,8 +15,8 @@ const OTHER: u32 = 0x0a00_0002;
 
 const BACKBONE: Scope = Scope::Area(0);
 
-// Router-LSAs with one link, of type 3 to a stub network and of type 1 to another router, and an
-// AS-external-LSA (RFC 2328, A.4.2 and A.4.5).
+// Router-LSAs with one link, of type 3 to a stub network and of type 1 to another router, a
+// network-LSA, a summary-LSA and an AS-external-LSA (RFC 2328, A.4.2 to A.4.5).
 const STUB: [u8; 36] = [
     0, 0, 2, 1, 0, 0, 0, 0, 0, 0, 0, 0, 0, 0, 0, 0, 0, 0, 0, 36, 0, 0, 0, 1, 192, 0, 2, 0, 255,
     255, 255, 0, 3, 0, 0, 10,
@@ -23,6 +25,15 @@ const STUB: [u8; 36] = [
 const LINK: [u8; 36] = [
     0, 0, 2, 1, 0, 0, 0, 0, 0, 0, 0, 0, 0, 0, 0, 0, 0, 0, 0, 36, 0, 0, 0, 1, 10, 0, 0, 9, 192, 0,
     2, 1, 1, 0, 0, 10,
+];
+
+const NETWORK: [u8; 32] = [
+    0, 0, 2, 2, 0, 0, 0, 0, 0, 0, 0, 0, 0, 0, 0, 0, 0, 0, 0, 32, 255, 255, 255, 0, 10, 0, 0, 1, 10,
+    0, 0, 2,
+];
+
+const SUMMARY: [u8; 28] = [
+    0, 0, 2, 3, 0, 0, 0, 0, 0, 0, 0, 0, 0, 0, 0, 0, 0, 0, 0, 28, 255, 255, 255, 0, 0, 0, 0, 10,
 ];
 
 const EXTERNAL: [u8; 36] = [
@@ -75,14 +86,21 @@ fn up(id: u8, area: u32, address: u32) -> Event {
     }
 }
 
-// The state of a router with a backbone, with the standard limits where none are given.
+fn area(alloc: Global, id: u32) -> AreaConfig
+    ensures { result.id ≡ id }
+{
+    AreaConfig {
+        id,
+        stub: None,
+        ranges: Ranges::new(alloc),
+    }
+}
+
+// The state of a router with a backbone and an area 1, with the standard limits where none are given.
 fn opened(rt: &HostRuntime, limits: Option<Limits>) -> Result<State, Fail> {
     let mut areas = Areas::new(rt.alloc());
-    areas.push(AreaConfig {
-        id: 0,
-        stub: None,
-        ranges: Ranges::new(rt.alloc()),
-    })?;
+    areas.push(area(rt.alloc(), 0))?;
+    areas.push(area(rt.alloc(), 1))?;
     let router = ROOT;
     let config = Config { router, areas };
     let (alloc, hashing) = (rt.alloc(), RandomState::new(rt)?);
@@ -123,13 +141,13 @@ fn nearly_full(rt: &HostRuntime) -> Result<State, Fail> {
 fn a_refused_lsa_leaves_all_as_it_was(rt: HostRuntime) -> Result<(), Fail> {
     let mut state = nearly_full(&rt)?;
     let external = install(rt.alloc(), &EXTERNAL, OTHER, 7, 1)?;
-    let link = install(rt.alloc(), &LINK, ROOT, 7, 3)?;
+    let summary = install(rt.alloc(), &SUMMARY, ROOT, 7, 3)?;
     let older = install(rt.alloc(), &STUB, ROOT, 7, 1)?;
     let same = install(rt.alloc(), &STUB, ROOT, 8, 2)?;
     let third = install(rt.alloc(), &STUB, 7, 7, 1)?;
     assert!(rt;
         refuses(&mut state, external, Refusal::Scope)
-            && refuses(&mut state, link, Refusal::NotYet)
+            && refuses(&mut state, summary, Refusal::NotYet)
             && refuses(&mut state, older, Refusal::Older)
             && refuses(&mut state, same, Refusal::Same)
             && refuses(&mut state, third, Refusal::Full)
@@ -172,12 +190,38 @@ fn takes_events_in_turn(rt: HostRuntime) -> Result<(), Fail> {
     let mut taken = 0u64;
     let mut in_turn = true;
     for n in 1..51u8 {
-        let lsa = install(rt.alloc(), &STUB, n as u32, 7, 1)?;
+        let bytes = match n % 3 {
+            0 => STUB.as_slice(),
+            1 => LINK.as_slice(),
+            _ => NETWORK.as_slice(),
+        };
+        let lsa = install(rt.alloc(), bytes, n as u32, 7, 1)?;
         for event in [lsa, up(n, 0, n as u32), Event::Second] {
             taken = taken.wrapping_add(1);
             in_turn &= state.step(event)? == (taken, taken % 3 != 0);
         }
     }
     assert!(rt; in_turn && sizes(&state) == (150, 50, 50));
+    Ok(())
+}
+
+// The same event in another scope.
+fn moved(event: Event, scope: Scope) -> Event {
+    match event {
+        Event::Install { lsa, .. } => Event::Install { scope, lsa },
+        other => other,
+    }
+}
+
+#[test]
+fn a_second_names_what_comes_to_max_age(rt: HostRuntime) -> Result<(), Fail> {
+    let mut state = opened(&rt, None)?;
+    let inside = Scope::Area(1);
+    state.step(install(rt.alloc(), &STUB, ROOT, 3599, 1)?)?;
+    state.step(install(rt.alloc(), &STUB, OTHER, 3598, 1)?)?;
+    state.step(moved(install(rt.alloc(), &STUB, OTHER, 3599, 1)?, inside))?;
+    let named = state.named(rt.alloc(), &Event::Second)?;
+    let all = [(BACKBONE, key(1, ROOT)), (inside, key(1, OTHER))];
+    assert!(rt; named.as_slice() == all.as_slice());
     Ok(())
 }

@@ -1,4 +1,4 @@
-ghost use Rattle.std.specs.Prelude.{◌≡◌, ◌+◌, ◌↔◌, ◌<◌, ◌≤◌, ◌++◌, [], ◌∷◌, false, None, Some, IsSome, OnOk, OnErr, IfOk, IfErr, nat_le, count_by, length, option_map, is_some, position, slice_get, vec_len, vec_capacity, map as list_map};
+ghost use Rattle.std.specs.Prelude.{◌≡◌, ◌+◌, ◌↔◌, ◌<◌, ◌≤◌, ◌++◌, [], ◌∷◌, false, None, Some, IsSome, OnOk, OnErr, IfOk, IfErr, IfSome, nat_le, count_by, length, option_map, is_some, position, slice_get, vec_len, vec_capacity, map as list_map};
 ghost use Rattle.std.specs.FinMap as map;
 ghost use Rattle.std.specs.List.{filter_map};
 ghost use Rattle.std.specs.Option.{option_copied};
@@ -78,7 +78,8 @@ impl Database {
     /// The LSA under the key, with its present age in seconds. The age in its header is that of the
     /// time when it was put there.
     pub fn get(&self, key: Key) -> Option<(&Checked, u16)>
-        ensures { option_map (λ found. with_age found.0.now found.1) result ≡ map.get self.now.lsas key }
+        ensures value { option_map (λ found. with_age found.0.now found.1) result ≡ map.get self.now.lsas key }
+        ensures own { IfSome result (λ found. key_of found.0.now ≡ key) }
     {
         let (row, _, lsa) = self.rows.get_full(&key)?;
         Some((lsa, self.ages[row]))
@@ -223,6 +224,15 @@ impl Database {
         ensures { result.now ≡ list_map (λ key. key.kind) self.now.order }
     {
         &self.kinds
+    }
+
+    /// The keys of all LSAs, one a row.
+    pub fn keys(&self) -> &[Key]
+        ensures value { result.now ≡ self.now.order }
+        ensures ordered { IsOrder self.now }
+    {
+        let keys = self.rows.keys();
+        keys.as_slice()
     }
 
     /// The key of a row.

@@ -8,3 +8,4 @@ pub mod NoLinks
 pub mod OneBest
 pub mod Maps
 pub mod InOrder
+pub mod VertexOrder

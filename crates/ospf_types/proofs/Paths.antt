@@ -1,7 +1,7 @@
 -- The derived orders of next hops and of paths are `hop_cmp` and `path_cmp`, by kind, interface, address and advertiser; next hops are equal as values.
 use Rattle.std.proofs.Common.{◌≡◌, ℕ, Option, Some, None, Ordering, refl, sym, ap, subst, ◌&&◌, Decides, nat_eq}
 use Rattle.std.specs.declared.cmp.Ordering.TheVariants.{Less, Equal, Greater}
-use Rattle.std.specs.Option.{option_cmp}
+use Rattle.std.specs.Option.{option_cmp, option_eq}
 use Rattle.std.specs.Ordering.{nat_cmp, ordering_then}
 use Rattle.ospf_types.specs.declared.hop.NextHop.{NextHop}
 use Rattle.ospf_types.specs.declared.hop.NextHop.TheVariants.{Direct, Peer, Router}
@@ -9,6 +9,7 @@ use Rattle.ospf_types.specs.declared.hop.Path.{Path}
 use Rattle.ospf_types.specs.contracts.hop.NextHopPartialEq.TheImpl as hop_equality
 use Rattle.ospf_types.specs.contracts.hop.NextHopOrd.TheImpl as hop_order
 use Rattle.ospf_types.specs.contracts.hop.PathOrd.TheImpl as path_order
+use Rattle.ospf_types.specs.contracts.hop.PathPartialEq.TheImpl as path_equality
 use Rattle.std.proofs.lemmas.Bool.Decides.{Decides-and, Decides-eqb, Decides-like}
 use Rattle.std.proofs.lemmas.Map.Lookups.{CmpEqualImpliesEq}
 use Rattle.ospf_types.specs.Hops.{hop_cmp, advertiser_cmp, path_cmp}
@@ -60,3 +61,17 @@ hop_eq-Decides (Peer a) (Router b d) = (λ h. cc, λ e. cc)
 hop_eq-Decides (Router a c) (Direct b) = (λ h. cc, λ e. cc)
 hop_eq-Decides (Router a c) (Peer b) = (λ h. cc, λ e. cc)
 hop_eq-Decides (Router a c) (Router b d) = Decides-like (nat_eq a b && nat_eq c d) (λ h. λ i. Router (h.0 i) (h.1 i)) (λ e. (cc, cc)) (Decides-and (nat_eq a b) (nat_eq c d) (Decides-eqb a b) (Decides-eqb c d))
+
+some_decides : (x y : Option ℕ) → Decides (option_eq nat_eq x y) (x ≡ y)
+some_decides None None = (λ h. refl, λ e. refl)
+some_decides None (Some y) = (λ h. cc, λ e. cc)
+some_decides (Some x) None = (λ h. cc, λ e. cc)
+some_decides (Some x) (Some y) = Decides-like (nat_eq x y) (λ h. ap Some h) (λ e. cc) (Decides-eqb x y)
+
+-- and that of paths
+pub path_eq-Decides : (x y : Path) → Decides (path_equality.ghosts.eq x y) (x ≡ y)
+path_eq-Decides x y =
+    let both = Decides-and (hop_equality.ghosts.eq x.hop y.hop) (option_eq nat_eq x.advertiser y.advertiser) (hop_eq-Decides x.hop y.hop) (some_decides x.advertiser y.advertiser) in (
+      λ t. let same = both.0 t in λ i. record { hop = same.0 i; advertiser = same.1 i },
+      λ same. both.1 (ap (λ (p : Path). p.hop) same, ap (λ (p : Path). p.advertiser) same),
+    )

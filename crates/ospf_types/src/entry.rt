@@ -1,9 +1,11 @@
-ghost use Rattle.std.specs.Prelude.{◌≡◌, ◌↔◌, [], length, IsTrue};
+ghost use Rattle.std.specs.Prelude.{◌≡◌, ◌↔◌, [], length, IsTrue, IfOk};
 ghost use Rattle.std.specs.List.Sorted.{IsStrictlySortedBy};
 ghost use Rattle.ospf_types.specs.Hops.{path_cmp};
 ghost use Rattle.ospf_types.specs.Vertices.{vertex_cmp, vertex_word};
 
 use crate::hop::Path;
+use crate::memory::Memory;
+use std::alloc::Global;
 use std::cmp::Ordering;
 use std::hash::{Hash, Hasher};
 use std::marker::Model;
@@ -99,6 +101,13 @@ impl Paths {
         self.items.as_slice()
     }
 
+    /// Whether the two are equal.
+    pub fn is_same(&self, other: &Paths) -> bool
+        ensures { IsTrue result ↔ (self.now ≡ other.now) }
+    {
+        self.items == other.items
+    }
+
     pub fn len(&self) -> usize
         ensures { result ≡ length self.now }
     {
@@ -123,4 +132,36 @@ pub struct Entry {
     /// The metric of a type 2 external route, and 0 elsewhere.
     pub cost2: u32,
     pub paths: Paths,
+}
+
+impl Entry {
+    /// Whether the two are equal.
+    pub fn is_same(&self, other: &Entry) -> bool
+        ensures { IsTrue result ↔ (self.now ≡ other.now) }
+    {
+        self.has_costs_of(other)
+            && self.kind == other.kind
+            && self.area == other.area
+            && self.paths.is_same(&other.paths)
+    }
+
+    // Whether both costs are equal.
+    fn has_costs_of(&self, other: &Entry) -> bool
+        ensures { IsTrue result ↔ ((self.now.cost ≡ other.now.cost) × (self.now.cost2 ≡ other.now.cost2)) }
+    {
+        self.cost == other.cost && self.cost2 == other.cost2
+    }
+
+    /// An equal value.
+    pub fn copy(&self, alloc: Global) -> Result<Entry, Memory>
+        ensures { IfOk result (λ entry. entry ≡ self.now) }
+    {
+        Ok(Entry {
+            kind: self.kind,
+            area: self.area,
+            cost: self.cost,
+            cost2: self.cost2,
+            paths: Paths::new(Vec::from_slice(alloc, self.paths.as_slice())?),
+        })
+    }
 }

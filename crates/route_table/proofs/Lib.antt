@@ -1,1 +1,2 @@
 pub mod Matches
+pub mod Changing

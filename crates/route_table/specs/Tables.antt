@@ -1,5 +1,5 @@
 -- The routing table as a value, and its longest match (RFC 2328, 11 and 11.1).
-use Rattle.std.specs.Prelude.{ℕ, ◌≡◌, ◌≤◌, Some, None, IsSome, refl}
+use Rattle.std.specs.Prelude.{ℕ, ◌≡◌, ◌≤◌, List, Contains, Option, Some, None, IsSome, refl}
 use Rattle.std.specs.FinMap as map
 use Rattle.std.specs.Coded.{Coded, code_by, coded×, coded_ℕ}
 use Rattle.ospf_types.specs.Network.{Network, network_cmp, network_code}
@@ -42,3 +42,8 @@ abbrev pub StandsAs : map.FinMap network_cmp Item → Network → Match → Type
 StandsAs items p (found.Route q entry) = (q ≡ p) × (map.get items p ≡ Some (item.Route entry.now))
 StandsAs items p (found.Discard q) = (q ≡ p) × (map.get items p ≡ Some item.Discard)
 StandsAs items p found.None = ⊥
+
+-- each network of the changes has its new item, or none, and every other network what it had
+pub record IsChanged (old new : map.FinMap network_cmp Item) (changes : List (Network × Option Item)) : Type 0 where
+  pub given : (p : Network) (o : Option Item) → Contains changes (p, o) → map.get new p ≡ o
+  pub others : (p : Network) → ((o : Option Item) → Contains changes (p, o) → ⊥) → map.get new p ≡ map.get old p

@@ -2,6 +2,7 @@
 //! the network or by the longest match of an address (11.1).
 #![tactic(auto)]
 
+mod change;
 mod table;
 mod text;
 

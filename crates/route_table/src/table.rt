@@ -142,10 +142,12 @@ impl Table {
         Match::None
     }
 
-    /// Sets the network's item, in place of the one that it had.
+    /// Sets the network's item, in place of the one that it had. That one's memory serves for it, so
+    /// only a new network's item can be refused.
     pub fn set(&mut self, prefix: Prefix, item: Item) -> Result<(), Memory>
         ensures ok { OnOk result (self.new ≡ record self.old { items = map.insert self.old.items prefix item }) }
         ensures err { OnErr result (self.new ≡ self.old) }
+        ensures absent { OnErr result (map.get self.old.items prefix ≡ None) }
     {
         prove!(prefix.length() <= 32);
         self.items.insert(prefix, item)?;
@@ -157,6 +159,13 @@ impl Table {
         ensures { self.new ≡ record self.old { serial = serial } }
     {
         self.serial = serial;
+    }
+
+    // Takes the network's item out.
+    pub(crate) fn remove(&mut self, prefix: Prefix)
+        ensures { self.new ≡ record self.old { items = map.remove self.old.items prefix } }
+    {
+        self.items.remove(&prefix);
     }
 
     // The network of that length around the address, with its item, if it has one.

@@ -1,3 +1,6 @@
+ghost use Rattle.std.specs.Prelude.{◌≡◌, IfOk};
+ghost use Rattle.ospf_types.specs.Masks.{masked};
+
 use crate::*;
 use ospf_types::entry::{Entry, PathType, Paths};
 use ospf_types::hop::{NextHop, Path};
@@ -24,6 +27,12 @@ fn item(alloc: Global, cost: Option<u32>) -> Result<Item, Memory> {
     }))
 }
 
+fn network(address: u32, length: u8) -> Result<Prefix, Fail>
+    ensures { IfOk result (λ p. p ≡ record { address = masked address length; length = length }) }
+{
+    Ok(Prefix::new(address, length).ok_or("a length up to 32")?)
+}
+
 /// Sets a network, by its address and length, to a route of that cost, or to a discard.
 fn set(
     table: &mut Table,
@@ -32,8 +41,7 @@ fn set(
     length: u8,
     cost: Option<u32>,
 ) -> Result<(), Fail> {
-    let network = Prefix::new(address, length).ok_or("a length up to 32")?;
-    Ok(table.set(network, item(alloc, cost)?)?)
+    Ok(table.set(network(address, length)?, item(alloc, cost)?)?)
 }
 
 fn table_of(alloc: Global, rows: &[(u32, u8, Option<u32>)]) -> Result<Table, Fail> {
@@ -159,5 +167,34 @@ fn finds_two_hundred_networks(rt: HostRuntime) -> Result<(), Fail> {
         set(&mut table, rt.alloc(), address, 24, Some(u32::from(index)))?;
     }
     assert!(rt; finds_each(&table));
+    Ok(())
+}
+
+#[test]
+fn a_change_adds_replaces_and_removes(rt: HostRuntime) -> Result<(), Fail> {
+    let rows = [
+        (0x0a00_0000, 8, Some(1)),
+        (0x0b00_0000, 8, Some(2)),
+        (0x0c00_0000, 8, Some(3)),
+    ];
+    let mut table = table_of(rt.alloc(), &rows)?;
+    let changes = vec![in rt.alloc();
+        (network(0x0a00_0000, 16)?, Some(item(rt.alloc(), Some(4))?)),
+        (network(0x0b00_0000, 8)?, Some(item(rt.alloc(), None)?)),
+        (network(0x0c00_0000, 8)?, None),
+    ]?;
+    table.change(rt.alloc(), changes)?;
+    assert!(rt;
+        prints(
+            &table,
+            rt.alloc(),
+            &[
+                (0x0a00_0001, "route 10.0.0.0/16 intra 0.0.0.0 4 0 direct:1"),
+                (0x0a01_0001, "route 10.0.0.0/8 intra 0.0.0.0 1 0 direct:1"),
+                (0x0b00_0001, "discard 11.0.0.0/8"),
+                (0x0c00_0001, "none"),
+            ]
+        )?
+    );
     Ok(())
 }

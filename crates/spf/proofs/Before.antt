@@ -15,7 +15,7 @@ use Rattle.spf.proofs.Ranks.{cases_vertex}
 use Rattle.spf.proofs.Elements.{cases_element}
 
 -- what a test decides holds or not
-cases_decided : {P : Type 0} (r : Bool) → Decides r P → P ⊎ (P → ⊥)
+pub cases_decided : {P : Type 0} (r : Bool) → Decides r P → P ⊎ (P → ⊥)
 cases_decided r decides = elim (cases_Bool r) [ inl passes ↦ inl (decides.0 passes) | inr fails ↦ inr (not_from_Decides r decides fails) ]
 
 -- labels are the same or not

@@ -17,7 +17,7 @@ use Rattle.vertex_graph.specs.Graphs.{GraphValue, LinksOf, graph_view}
 use Rattle.vertex_queue.specs.Queues.{Queue, IsFirst}
 use Rattle.vertex_queue.specs.Queues as queue
 use Rattle.vertex_queue.proofs.Ranks.{first_has_least_rank}
-use Rattle.vertex_queue.proofs.VertexOrder.{vertex_exact}
+use Rattle.ospf_types.proofs.VertexOrder.{vertex_exact}
 use Rattle.spf.specs.HandedOn.{IsOfSome, ArePut, IsReachedAt, IsLeastHead, AreBlanked, IsSettled, IsAmidst}
 use Rattle.spf.specs.Loops.{HasNoDoubles, IsHanded}
 use Rattle.spf.specs.Parts.{DistanceMap, HopMap, hops_of, AreUnsettled, IsTakenBy, AreSettled}

@@ -44,4 +44,5 @@ pub mod Caller
 pub mod Grown
 pub mod SortedOnce
 pub mod Finished
+pub mod Kept
 mod Smallest

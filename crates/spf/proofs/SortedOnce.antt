@@ -15,7 +15,7 @@ use Rattle.ospf_types.specs.declared.entry.Vertex.{Vertex}
 use Rattle.ospf_types.specs.declared.entry.Vertex.TheVariants.{Router, Network}
 use Rattle.ospf_types.specs.contracts.entry.VertexOrd.TheImpl as derived_order
 use Rattle.ospf_types.specs.Vertices.{vertex_cmp}
-use Rattle.vertex_queue.proofs.VertexOrder.{vertex_total, vertex_exact, equals, equals_order}
+use Rattle.ospf_types.proofs.VertexOrder.{vertex_total, vertex_exact, vertices_equal, vertices_order}
 use Rattle.spf.proofs.Grown.{IsGrown}
 
 -- what compares equal
@@ -35,10 +35,10 @@ order_at (Network a) (Network b) = refl
 pub order_is : derived_order.ghosts.cmp ≡ vertex_cmp
 order_is i v w = order_at v w i
 
-module _ (all sorted kept : List Vertex) (moved : IsPermutation all sorted) (in_order : IsSorted derived_order.ghosts.cmp sorted) (filtered : IsFiltered (DiffersFromLast equals) [] sorted kept) where
+module _ (all sorted kept : List Vertex) (moved : IsPermutation all sorted) (in_order : IsSorted derived_order.ghosts.cmp sorted) (filtered : IsFiltered (DiffersFromLast vertices_equal) [] sorted kept) where
   -- what is kept
   kept_is : kept ≡ dedup (eq_by_cmp vertex_cmp) sorted
-  kept_is = dedup_is equals sorted kept filtered ∙ ap (λ (same : Vertex → Vertex → Bool). dedup same sorted) equals_order
+  kept_is = dedup_is vertices_equal sorted kept filtered ∙ ap (λ (same : Vertex → Vertex → Bool). dedup same sorted) vertices_order
 
   -- is ascending, and each once
   pub strictly : IsStrictlySortedBy vertex_cmp kept

@@ -15,7 +15,7 @@ use Rattle.indexmap.specs.IndexMap.{insert_entry, swap_remove_entry}
 use Rattle.ospf_types.specs.declared.entry.Vertex.{Vertex}
 use Rattle.ospf_types.specs.Vertices.{vertex_cmp}
 use Rattle.ospf_types.proofs.Maps.{find-lookup}
-use Rattle.vertex_queue.proofs.VertexOrder.{vertex_total, vertex_exact, equals, equals_order}
+use Rattle.ospf_types.proofs.VertexOrder.{vertex_total, vertex_exact, vertices_equal, vertices_order}
 use Rattle.spf.specs.Loops.{HasNoDoubles}
 use Rattle.spf.proofs.Counting.{no_longer}
 
@@ -28,28 +28,28 @@ module _ {X : Type 0} where
   map_of es = from_entries {R = vertex_cmp} es
 
   -- what `==` finds is what the order finds
-  pub found_by_equals : (q : Vertex) (es : List (Vertex × X)) → lookup (equals q) es ≡ find vertex_cmp q es
-  found_by_equals q es = ap (λ (eq : Vertex → Vertex → Bool). lookup (eq q) es) equals_order ∙ sym (find-lookup vertex_cmp q es)
+  pub found_by_equals : (q : Vertex) (es : List (Vertex × X)) → lookup (vertices_equal q) es ≡ find vertex_cmp q es
+  found_by_equals q es = ap (λ (eq : Vertex → Vertex → Bool). lookup (eq q) es) vertices_order ∙ sym (find-lookup vertex_cmp q es)
 
   pub get_is : (es : List (Vertex × X)) (q : Vertex) → get (map_of es) q ≡ find vertex_cmp q es
   get_is es q = get-from_entries vertex_total es q
 
   -- what a look-up by `==` gives
-  pub looked_up : (es : List (Vertex × X)) (q : Vertex) → lookup (equals q) es ≡ get (map_of es) q
+  pub looked_up : (es : List (Vertex × X)) (q : Vertex) → lookup (vertices_equal q) es ≡ get (map_of es) q
   looked_up es q = found_by_equals q es ∙ sym (get_is es q)
 
   -- what an update at one vertex leaves at each
-  found_after : (es fs : List (Vertex × X)) (v : Vertex) (new : Option X) → ((q : Vertex) → lookup (equals q) fs ≡ cond (equals v q) new (lookup (equals q) es))
+  found_after : (es fs : List (Vertex × X)) (v : Vertex) (new : Option X) → ((q : Vertex) → lookup (vertices_equal q) fs ≡ cond (vertices_equal v q) new (lookup (vertices_equal q) es))
       → (q : Vertex) → get (map_of fs) q ≡ cond (eq_by_cmp vertex_cmp q v) new (get (map_of es) q)
   found_after es fs v new updates q =
-      sym (looked_up fs q) ∙ updates q ∙ (λ i. cond (equals_order i v q) new (looked_up es q i))
+      sym (looked_up fs q) ∙ updates q ∙ (λ i. cond (vertices_order i v q) new (looked_up es q i))
       ∙ ap (λ b. cond b new (get (map_of es) q)) ((eq_by_cmp_equiv vertex_total).symm v q)
 
-  pub inserted : (es fs : List (Vertex × X)) (v : Vertex) (x : X) → ((q : Vertex) → lookup (equals q) fs ≡ cond (equals v q) (Some x) (lookup (equals q) es)) → map_of fs ≡ insert (map_of es) v x
+  pub inserted : (es fs : List (Vertex × X)) (v : Vertex) (x : X) → ((q : Vertex) → lookup (vertices_equal q) fs ≡ cond (vertices_equal v q) (Some x) (lookup (vertices_equal q) es)) → map_of fs ≡ insert (map_of es) v x
   inserted es fs v x updates = same_map vertex_total vertex_exact (map_of fs) (insert (map_of es) v x) (λ q.
       found_after es fs v (Some x) updates q ∙ sym (get-insert vertex_total (map_of es) v x q))
 
-  pub removed : (es fs : List (Vertex × X)) (v : Vertex) → ((q : Vertex) → lookup (equals q) fs ≡ cond (equals v q) None (lookup (equals q) es)) → map_of fs ≡ remove (map_of es) v
+  pub removed : (es fs : List (Vertex × X)) (v : Vertex) → ((q : Vertex) → lookup (vertices_equal q) fs ≡ cond (vertices_equal v q) None (lookup (vertices_equal q) es)) → map_of fs ≡ remove (map_of es) v
   removed es fs v updates = same_map vertex_total vertex_exact (map_of fs) (remove (map_of es) v) (λ q.
       found_after es fs v None updates q ∙ sym (get-remove vertex_total (map_of es) v q))
 
@@ -66,8 +66,8 @@ module _ {X : Type 0} where
       let rest = len_distinct es (IsDistinct-tail (eq_by_cmp vertex_cmp) e.0 (keys_of es) unique) in
       len-insert vertex_total (map_of es) e.0 e.1 ∙ ap (λ b. cond b (len (map_of es)) (len (map_of es) + 1)) absent ∙ ap (λ n. n + 1) rest ∙ omega arith
 
-  pub len_is : (es : List (Vertex × X)) → IsDistinct equals (keys_of es) → len (map_of es) ≡ length es
-  len_is es unique = len_distinct es (subst (λ (eq : Vertex → Vertex → Bool). IsDistinct eq (keys_of es)) equals_order unique)
+  pub len_is : (es : List (Vertex × X)) → IsDistinct vertices_equal (keys_of es) → len (map_of es) ≡ length es
+  len_is es unique = len_distinct es (subst (λ (eq : Vertex → Vertex → Bool). IsDistinct eq (keys_of es)) vertices_order unique)
 
   -- among the keys is each vertex that has a value
   pub key_there : (m : FinMap vertex_cmp X) (v : Vertex) (x : X) → get m v ≡ Some x → Contains (keys m) v

@@ -1,38 +1,30 @@
 -- Vertices that are told apart by `==`: whether a list has one, that none stands twice, and one more.
 use Rattle.std.proofs.Common.{◌≡◌, Bool, true, false, List, [], ◌∷◌, ◌++◌, refl, sym, subst, inl, inr}
 use Rattle.std.specs.Prelude.{◌↔◌, IsTrue, not, if◌then◌else◌}
-use Rattle.std.specs.Bool.{Decides}
 use Rattle.std.specs.Cmp.{eq_by_cmp_equiv}
 use Rattle.std.specs.List.{Contains, IsDistinct, list_any}
-use Rattle.std.specs.Ordering.{eq_by_cmp}
 use Rattle.std.proofs.lemmas.Map.Made.{AllPairs-from_IsDistinct}
 use Rattle.std.proofs.lemmas.Map.Views.{tells_apart, Contains-from_any, list_any-from_Contains}
 use Rattle.ospf_types.specs.declared.entry.Vertex.{Vertex}
-use Rattle.ospf_types.specs.Vertices.{vertex_cmp}
-use Rattle.vertex_queue.proofs.VertexOrder.{vertex_total, vertex_exact, equals, equals_order}
+use Rattle.ospf_types.proofs.VertexOrder.{vertex_total, vertex_exact, vertices_equal, vertices_order, vertices_decided}
 use Rattle.spf.specs.Loops.{HasNoDoubles, IsAdded}
 use Rattle.spf.specs.Parts.{IsWithMember}
 use Rattle.spf.proofs.Elements.{added_end}
 
 -- a test by `==` finds a vertex just where the list has it
-pub found : (vs : List Vertex) (v : Vertex) → IsTrue (list_any (equals v) vs) ↔ Contains vs v
+pub found : (vs : List Vertex) (v : Vertex) → IsTrue (list_any (vertices_equal v) vs) ↔ Contains vs v
 found vs v =
-    subst (λ (eq : Vertex → Vertex → Bool). IsTrue (list_any (eq v) vs) ↔ Contains vs v) (sym equals_order)
+    subst (λ (eq : Vertex → Vertex → Bool). IsTrue (list_any (eq v) vs) ↔ Contains vs v) (sym vertices_order)
     (Contains-from_any (tells_apart vertex_exact) v vs, list_any-from_Contains (eq_by_cmp_equiv vertex_total) v vs)
 
-equals_decides : (v w : Vertex) → Decides (equals v w) (v ≡ w)
-equals_decides v w =
-    subst (λ (eq : Vertex → Vertex → Bool). Decides (eq v w) (v ≡ w)) (sym equals_order)
-    (tells_apart vertex_exact v w, λ same. subst (λ (x : Vertex). eq_by_cmp vertex_cmp v x ≡ true) same ((eq_by_cmp_equiv vertex_total).refl v))
-
 -- none stands twice
-pub apart : (vs : List Vertex) → IsDistinct equals vs → HasNoDoubles vs
-apart vs unique = AllPairs-from_IsDistinct equals_decides vs unique
+pub apart : (vs : List Vertex) → IsDistinct vertices_equal vs → HasNoDoubles vs
+apart vs unique = AllPairs-from_IsDistinct vertices_decided vs unique
 
 -- one more at the end, unless it is there
-pub with_member : (vs : List Vertex) (v : Vertex) (fresh : Bool) → fresh ≡ not (list_any (equals v) vs) → IsWithMember vs (if list_any (equals v) vs then vs else vs ++ v ∷ []) v fresh
+pub with_member : (vs : List Vertex) (v : Vertex) (fresh : Bool) → fresh ≡ not (list_any (vertices_equal v) vs) → IsWithMember vs (if list_any (vertices_equal v) vs then vs else vs ++ v ∷ []) v fresh
 with_member vs v fresh is =
-    elim (list_any (equals v) vs) as (λ b. list_any (equals v) vs ≡ b → fresh ≡ not b → IsWithMember vs (if b then vs else vs ++ v ∷ []) v fresh) [
+    elim (list_any (vertices_equal v) vs) as (λ b. list_any (vertices_equal v) vs ≡ b → fresh ≡ not b → IsWithMember vs (if b then vs else vs ++ v ∷ []) v fresh) [
       | true ↦ λ here is. inr (is, refl, (found vs v).0 here)
       | false ↦ λ none is. inl (is, refl, λ there. let here = (found vs v).1 there in absurd cc)
     ] refl is

@@ -1,11 +1,13 @@
 -- What each part of a repair is handed, and what it leaves (RFC 2328, 16.1): the vertices that lose their distance, the distances after, the next hops after.
-use Rattle.std.specs.Prelude.{◌↔◌, ◌⊎◌, ℕ, ◌+◌, ◌≡◌, ◌≢◌, ◌++◌, ◌∷◌, Bool, true, false, List, [], length, Contains, Option, Some, None}
+use Rattle.std.specs.Prelude.{◌↔◌, ◌⊎◌, ℕ, ◌+◌, ◌≡◌, ◌≢◌, ◌++◌, ◌∷◌, Bool, true, false, List, [], length, Contains, Option, Some, None, IfSome}
 use Rattle.std.specs.FinMap.{FinMap, get, insert, remove}
+use Rattle.std.specs.List.Sorted.{IsStrictlySortedBy}
 use Rattle.ospf_types.specs.declared.entry.Vertex.{Vertex}
 use Rattle.ospf_types.specs.declared.entry.Vertex.TheVariants.{Router}
 use Rattle.ospf_types.specs.declared.hop.NextHop.{NextHop}
 use Rattle.ospf_types.specs.declared.label.Label.{Label}
 use Rattle.ospf_types.specs.Distances.{Links}
+use Rattle.ospf_types.specs.Hops.{hop_cmp}
 use Rattle.ospf_types.specs.Vertices.{vertex_cmp}
 use Rattle.vertex_graph.specs.declared.link.Link.{Link}
 use Rattle.vertex_graph.specs.Graphs.{GraphValue, LinksOf, HasRoot}
@@ -36,6 +38,10 @@ with_hops m v None = remove m v
 -- the next hops of each vertex
 abbrev pub hops_of : HopMap → Vertex → NextHop → Type 0
 hops_of m v h = (hops : List NextHop) × (get m v ≡ Some hops) × Contains hops h
+
+-- the next hops of each vertex stand in their order, each once
+abbrev pub AreHopsInOrder : HopMap → Type 0
+AreHopsInOrder m = (v : Vertex) → IfSome (get m v) (λ (hops : List NextHop). IsStrictlySortedBy hop_cmp hops)
 
 -- nothing is queued
 abbrev pub nothing_queued : Vertex → Option ℕ

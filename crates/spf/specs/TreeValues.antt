@@ -65,6 +65,11 @@ pub record AreChanged (old new : TreeValue) (changed : List Vertex) : Type 0 whe
   pub in_order : IsStrictlySortedBy vertex_cmp changed
   pub exact : (v : Vertex) → Contains changed v ↔ Differs old new v
 
+-- each vertex that is not among the changed ones has its distance and its next hops still
+abbrev pub AreOthersKept : TreeValue → TreeValue → Type 0
+AreOthersKept old new = (v : Vertex) → (Contains new.changed v → ⊥)
+    → (get new.distances v ≡ get old.distances v) × (listed_hops (get new.hops v) ≡ listed_hops (get old.hops v))
+
 -- The work is bounded by what differs: for all lists of the vertices that differ, of the heads of the links that differ, and of the heads of the links out of the vertices that differ.
 pub record IsBounded (g : GraphValue) (gone come : List Link) (old : TreeValue) (taken hop_sets : ℕ) : Type 0 where
   pub taken_most : (first second heads first_out second_out : List Vertex)

@@ -1,6 +1,7 @@
 //! The next hops of vertices.
 ghost use Rattle.std.specs.Prelude.{◌≡◌, IfOk, OnOk, OnErr, option_copied};
 ghost use Rattle.std.specs.FinMap as map;
+ghost use Rattle.spf.specs.Parts.{AreHopsInOrder};
 
 use hop_sets::HopSet;
 use indexmap::IndexMap;
@@ -10,7 +11,7 @@ use std::alloc::Global;
 use std::hash::RandomState;
 use std::marker::Model;
 
-/// The next hops of each vertex that has some.
+/// The next hops of each vertex that has some, ascending, each once.
 #[derive(Debug, Drop)]
 pub(crate) struct HopColumns {
     entries: IndexMap<Vertex, HopSet, RandomState>,
@@ -19,6 +20,9 @@ pub(crate) struct HopColumns {
 impl Model for HopColumns {
     ghost use Rattle.std.specs.FinMap as map;
     ghost use Rattle.std.specs.Coded.{codes};
+    ghost use Rattle.std.specs.List.{All};
+    ghost use Rattle.std.specs.List.Sorted.{IsStrictlySortedBy};
+    ghost use Rattle.ospf_types.specs.Hops.{hop_cmp};
     ghost use Rattle.ospf_types.specs.Vertices.{vertex_code};
     ghost use Rattle.spf.specs.Parts.{HopMap};
 
@@ -27,6 +31,8 @@ impl Model for HopColumns {
     ghost coded = { map.code vertex_code (Prim.hlevel codes) };
 
     ghost view = { λ h. map.from_entries h.entries.entries };
+
+    ghost invariant = { λ h. All (λ p. IsStrictlySortedBy hop_cmp p.1) h.entries.entries };
 }
 
 impl HopColumns {
@@ -48,10 +54,19 @@ impl HopColumns {
         self.entries.get(&vertex)
     }
 
+    /// How many vertices have next hops.
+    pub(crate) fn len(&self) -> usize
+        ensures value { result ≡ map.len self.now }
+        ensures in_order { AreHopsInOrder self.now }
+    {
+        self.entries.len()
+    }
+
     pub(crate) fn set(&mut self, vertex: Vertex, hops: HopSet) -> Result<(), Memory>
         ensures set { OnOk result (self.new ≡ map.insert self.old vertex hops) }
         ensures unchanged { OnErr result (self.new ≡ self.old) }
     {
+        let _ = hops.as_slice();
         self.entries.insert(vertex, hops)?;
         Ok(())
     }

@@ -16,6 +16,3 @@ mod tree;
 
 pub use touched::Touched;
 pub use tree::Tree;
-
-#[cfg(test)]
-mod tests;

@@ -20,7 +20,8 @@ pub struct Touched {
 }
 
 impl Touched {
-    pub(crate) fn none() -> Touched
+    /// No work.
+    pub fn none() -> Touched
         ensures { result ≡ record { taken = 0; hop_sets = 0 } }
     {
         Touched {

@@ -1,9 +1,10 @@
-ghost use Rattle.std.specs.Prelude.{◌≡◌, List, [], true, OnOk, OnErr, IfOk};
+ghost use Rattle.std.specs.Prelude.{◌≡◌, ◌<◌, List, [], true, OnOk, OnErr, IfOk, IfSome};
 ghost use Rattle.std.specs.FinMap as map;
 ghost use Rattle.std.specs.List.Sorted.{IsStrictlySortedBy};
 ghost use Rattle.ospf_types.specs.Hops.{hop_cmp};
 ghost use Rattle.vertex_graph.specs.declared.link.Link.{Link as LinkValue};
-ghost use Rattle.spf.specs.TreeValues.{IsTreeOf, IsTreeBefore, IsBegun, IsRenewed, AreChanged, IsBounded, IsWorkDone, IsWorkForAll, listed_hops};
+ghost use Rattle.spf.specs.Parts.{AreHopsInOrder, most_distance};
+ghost use Rattle.spf.specs.TreeValues.{IsTreeOf, IsTreeBefore, IsBegun, IsRenewed, AreChanged, AreOthersKept, IsBounded, IsWorkDone, IsWorkForAll, listed_hops};
 
 use crate::differing::{differing, remember};
 use crate::distances::Distances;
@@ -93,6 +94,7 @@ impl Tree {
         requires { IsTreeBefore graph.now changes.now.gone.items changes.now.came.items self.old }
         ensures tree { OnOk result (IsTreeOf graph.now self.new) }
         ensures changed { OnOk result (AreChanged self.old self.new self.new.changed) }
+        ensures others { OnOk result (AreOthersKept self.old self.new) }
         ensures bounded { IfOk result (λ touched. IsBounded graph.now changes.now.gone.items changes.now.came.items self.old touched.taken touched.hop_sets) }
         ensures idle { IfOk result (λ touched. changes.now.gone.items ≡ [] → changes.now.came.items ≡ [] → touched ≡ record { taken = 0; hop_sets = 0 }) }
         ensures work { IfOk result (λ touched. IsWorkDone graph.now self.old self.new touched.taken touched.hop_sets) }
@@ -105,9 +107,10 @@ impl Tree {
         repaired
     }
 
-    /// The distance of a vertex, a sum of metrics; none where it is not reached, or the tree is spent.
+    /// The distance of a vertex, a sum of metrics below 2^30; none where it is not reached, or the tree is spent.
     pub fn distance(&self, vertex: Vertex) -> Option<u32>
-        ensures { result ≡ map.get self.now.distances vertex }
+        ensures value { result ≡ map.get self.now.distances vertex }
+        ensures bounded { IfSome result (λ distance. distance < most_distance) }
     {
         self.distances.get(vertex)
     }
@@ -151,6 +154,7 @@ impl Tree {
         requires { IsTreeBefore graph.now changes.now.gone.items changes.now.came.items self.old }
         ensures tree { OnOk result (IsTreeOf graph.now self.new) }
         ensures changed { OnOk result (AreChanged self.old self.new self.new.changed) }
+        ensures others { OnOk result (AreOthersKept self.old self.new) }
         ensures bounded { IfOk result (λ touched. IsBounded graph.now changes.now.gone.items changes.now.came.items self.old touched.taken touched.hop_sets) }
         ensures idle { IfOk result (λ touched. changes.now.gone.items ≡ [] → changes.now.came.items ≡ [] → touched ≡ record { taken = 0; hop_sets = 0 }) }
         ensures work { IfOk result (λ touched. IsWorkDone graph.now self.old self.new touched.taken touched.hop_sets) }
@@ -182,7 +186,10 @@ impl Tree {
         ensures renewed { IfOk result (λ renewed. IsRenewed graph.now came.now self.old self.new losses.old.lost losses.old.stale renewed.moved renewed.written renewed.touched.taken renewed.touched.hop_sets) }
         ensures lost { OnOk result (losses.new.lost ≡ losses.old.lost) }
         ensures changed { self.new.changed ≡ self.old.changed }
+        ensures were_in_order { AreHopsInOrder self.old.hops }
+        ensures in_order { OnOk result (AreHopsInOrder self.new.hops) }
     {
+        let _ = self.hops.len();
         let mut touched = Touched::none();
         let moved = near(
             alloc,
@@ -203,6 +210,7 @@ impl Tree {
             &mut self.hops,
             &mut touched,
         )?;
+        let _ = self.hops.len();
         Ok(Renewed {
             moved,
             written,

@@ -15,7 +15,7 @@ use Rattle.ospf_types.specs.declared.entry.Vertex.{Vertex}
 use Rattle.ospf_types.specs.Vertices.{vertex_cmp}
 use Rattle.ospf_types.proofs.Maps.{find-lookup}
 use Rattle.vertex_queue.specs.Queues.{Queue, waits_within, lessened}
-use Rattle.vertex_queue.proofs.VertexOrder.{vertex_total, vertex_exact, equals, equals_is, equals_order}
+use Rattle.ospf_types.proofs.VertexOrder.{vertex_total, vertex_exact, vertices_equal, vertices_equal_is, vertices_order}
 
 abbrev pub Entries : Type 0
 Entries = List (Vertex × ℕ)
@@ -24,15 +24,15 @@ abbrev pub queue_of : Entries → Queue
 queue_of es = from_entries es
 
 -- what `==` finds is what the order finds
-pub found_by_equals : (q : Vertex) (es : Entries) → lookup (equals q) es ≡ find vertex_cmp q es
-found_by_equals q es = ap (λ (eq : Vertex → Vertex → Bool). lookup (eq q) es) equals_order ∙ sym (find-lookup vertex_cmp q es)
+pub found_by_equals : (q : Vertex) (es : Entries) → lookup (vertices_equal q) es ≡ find vertex_cmp q es
+found_by_equals q es = ap (λ (eq : Vertex → Vertex → Bool). lookup (eq q) es) vertices_order ∙ sym (find-lookup vertex_cmp q es)
 
 -- the key that is found is the vertex
-pub key_found : (q k : Vertex) (es : Entries) → Some k ≡ lookup_key (equals q) es → k ≡ q
+pub key_found : (q k : Vertex) (es : Entries) → Some k ≡ lookup_key (vertices_equal q) es → k ≡ q
 key_found q k [] is = absurd cc
 key_found q k (e ∷ es) is =
-    elim (equals q e.0) as (λ b. equals q e.0 ≡ b → Some k ≡ cond b (Some e.0) (lookup_key (equals q) es) → k ≡ q) [
-      | true ↦ λ same here. let this : k ≡ e.0 = cc in this ∙ sym (tells_apart vertex_exact q e.0 (sym (equals_is q e.0) ∙ same))
+    elim (vertices_equal q e.0) as (λ b. vertices_equal q e.0 ≡ b → Some k ≡ cond b (Some e.0) (lookup_key (vertices_equal q) es) → k ≡ q) [
+      | true ↦ λ same here. let this : k ≡ e.0 = cc in this ∙ sym (tells_apart vertex_exact q e.0 (sym (vertices_equal_is q e.0) ∙ same))
       | false ↦ λ other there. key_found q k es there
     ] refl is
 
@@ -41,13 +41,13 @@ get_is es q = get-from_entries vertex_total es q
 
 -- the entries es, with what is new at one vertex
 abbrev pub AreUpdated : Entries → Vertex → Option ℕ → Entries → Type 0
-AreUpdated es v new fs = (q : Vertex) → lookup (equals q) fs ≡ cond (equals v q) new (lookup (equals q) es)
+AreUpdated es v new fs = (q : Vertex) → lookup (vertices_equal q) fs ≡ cond (vertices_equal v q) new (lookup (vertices_equal q) es)
 
 -- what an update at one vertex leaves at each
 pub found_after : (es fs : Entries) (v : Vertex) (new : Option ℕ) → AreUpdated es v new fs
     → (q : Vertex) → find vertex_cmp q fs ≡ cond (eq_by_cmp vertex_cmp q v) new (find vertex_cmp q es)
 found_after es fs v new updates q =
-    sym (found_by_equals q fs) ∙ updates q ∙ (λ i. cond (equals_order i v q) new (found_by_equals q es i))
+    sym (found_by_equals q fs) ∙ updates q ∙ (λ i. cond (vertices_order i v q) new (found_by_equals q es i))
     ∙ ap (λ b. cond b new (find vertex_cmp q es)) ((eq_by_cmp_equiv vertex_total).symm v q)
 
 pub inserted : (es fs : Entries) (v : Vertex) (d : ℕ) → ((q : Vertex) → find vertex_cmp q fs ≡ cond (eq_by_cmp vertex_cmp q v) (Some d) (find vertex_cmp q es)) → queue_of fs ≡ insert (queue_of es) v d
@@ -61,13 +61,13 @@ removed es fs v after = same_map vertex_total vertex_exact (queue_of fs) (remove
 -- ---- lessened
 
 -- a vertex that waits at the distance or less stays
-pub lessened_kept : (es : Entries) (v : Vertex) (d e : ℕ) → lookup (equals v) es ≡ Some e → e ≤ d → queue_of es ≡ lessened (queue_of es) v d
+pub lessened_kept : (es : Entries) (v : Vertex) (d e : ℕ) → lookup (vertices_equal v) es ≡ Some e → e ≤ d → queue_of es ≡ lessened (queue_of es) v d
 lessened_kept es v d e there within =
     let stays : waits_within (get (queue_of es) v) d ≡ true = ap (λ (o : Option ℕ). waits_within o d) (get_is es v ∙ sym (found_by_equals v es) ∙ there) ∙ grind (arith, nat_tests, within) in
     ap (λ b. if b then queue_of es else insert (queue_of es) v d) (sym stays)
 
 -- another waits at the distance
-pub lessened_set : (es fs : Entries) (v : Vertex) (d : ℕ) (o : Option ℕ) → lookup (equals v) es ≡ o → waits_within o d ≡ false
+pub lessened_set : (es fs : Entries) (v : Vertex) (d : ℕ) (o : Option ℕ) → lookup (vertices_equal v) es ≡ o → waits_within o d ≡ false
     → AreUpdated es v (Some d) fs → queue_of fs ≡ lessened (queue_of es) v d
 lessened_set es fs v d o there farther updates =
     let changes : waits_within (get (queue_of es) v) d ≡ false = ap (λ (o : Option ℕ). waits_within o d) (get_is es v ∙ sym (found_by_equals v es) ∙ there) ∙ farther in
@@ -92,8 +92,8 @@ len_distinct (e ∷ es) unique =
     let rest = len_distinct es (IsDistinct-tail (eq_by_cmp vertex_cmp) e.0 (keys_of es) unique) in
     len-insert vertex_total (queue_of es) e.0 e.1 ∙ ap (λ b. cond b (len (queue_of es)) (len (queue_of es) + 1)) absent ∙ ap (λ n. n + 1) rest ∙ omega arith
 
-pub len_is : (es : Entries) → IsDistinct equals (keys_of es) → len (queue_of es) ≡ length es
-len_is es unique = len_distinct es (subst (λ (eq : Vertex → Vertex → Bool). IsDistinct eq (keys_of es)) equals_order unique)
+pub len_is : (es : Entries) → IsDistinct vertices_equal (keys_of es) → len (queue_of es) ≡ length es
+len_is es unique = len_distinct es (subst (λ (eq : Vertex → Vertex → Bool). IsDistinct eq (keys_of es)) vertices_order unique)
 
 -- ---- no entries
 

@@ -17,7 +17,8 @@ use Rattle.ospf_types.specs.Vertices.{vertex_cmp}
 use Rattle.vertex_queue.specs.declared.waiting.Waiting.{Waiting}
 use Rattle.vertex_queue.specs.Queues.{queue_cmp, IsFirst}
 use Rattle.vertex_queue.specs.Heaps.{waiting, vertex_of_kind, waiting_vertex, heap_cmp, Waits, AreQueue, IsNext, HoldsOthers}
-use Rattle.vertex_queue.proofs.VertexOrder.{vertex_total, vertex_exact, queue_total}
+use Rattle.ospf_types.proofs.VertexOrder.{vertex_total, vertex_exact}
+use Rattle.vertex_queue.proofs.QueueOrder.{queue_total}
 use Rattle.vertex_queue.proofs.Distances.{Entries, queue_of, get_is, first_found}
 
 abbrev pub Heap : Type 0

@@ -1,4 +1,4 @@
-pub mod VertexOrder
+pub mod QueueOrder
 pub mod Distances
 pub mod HeapEntries
 pub mod Ranks

@@ -12,7 +12,7 @@ use Rattle.ospf_types.specs.declared.entry.Vertex.{Vertex}
 use Rattle.ospf_types.specs.declared.entry.Vertex.TheVariants.{Router, Network}
 use Rattle.ospf_types.specs.Vertices.{vertex_cmp}
 use Rattle.vertex_queue.specs.Queues.{Queue, queue_cmp, IsFirst, waits_within, lessened, rank}
-use Rattle.vertex_queue.proofs.VertexOrder.{vertex_total, vertex_exact}
+use Rattle.ospf_types.proofs.VertexOrder.{vertex_total, vertex_exact}
 
 no_farther : (k e : ℕ) (rest : Ordering) → ordering_then (nat_cmp k e) rest ≢ Greater → k ≤ e
 no_farther k e rest upto =

@@ -1,29 +1,157 @@
-use Rattle.std.proofs.Common.{length, ap, subst, sym, ◌∙◌}
-use Rattle.event_core.specs.declared.reply.Reply.{Reply}
+use Rattle.std.proofs.Common.{length, ap, subst, sym, refl, ◌∙◌}
+use Rattle.std.specs.Prelude.{Result}
+use Rattle.std.proofs.lemmas.Result.{on_ok_weaker, on_err_weaker}
+use Rattle.ospf_types.specs.declared.memory.Memory.{Memory}
 use Rattle.event_state.specs.States.{State}
-use Rattle.event_core.specs.Cores.{CoreValue, IsTaken}
-use Rattle.event_core.specs.Kept.{IsCoherent}
-use Rattle.event_core.proofs.Runs.{kept_step, takes, quiet_after}
+use Rattle.calculation.specs.Calculations.{StatesDifferAmong}
+use Rattle.event_core.specs.declared.core_state.Core.TheInside.{Inside}
+use Rattle.event_core.specs.declared.reply.Reply.{Reply}
+use Rattle.event_core.specs.declared.reply.Standing.{Standing}
+use Rattle.event_core.specs.declared.reply.Standing.TheVariants.{Current, Behind}
+use Rattle.event_core.specs.Cores.{CoreValue, IsTaken, HasBoundedWork, NamesChanges}
+use Rattle.event_core.specs.Kept.{IsCoherent, core_of}
+use Rattle.event_core.proofs.Runs.{IsSettled, IsOutcome, coherent_ok, coherent_err, taken_ok, taken_err, bounded_ok, bounded_err, named_ok, named_err}
 use Rattle.event_core.proofs.core_state.Core.apply.Goals as goal
+use Rattle.event_core.proofs.core_state.Core.apply.Goals.{then-is_current, else-is_current, in-Ok, in-Err, Joined-is_current}
 
-pub invariant_of-self-2 : goal.invariant_of-self-2
-invariant_of-self-2 c =
+pub settle-settled-requires-clause-before : goal.settle-settled-requires-clause-before
+settle-settled-requires-clause-before c =
+    let s = c.self.inside.state in
+    let told = c.in_ok-serial.ensures in
+    let named = c.in_ok-named.named in
+    let differ = subst (λ (u : State). StatesDifferAmong named.keys.items named.interfaces.items s u) (sym told.taken) c.in_ok-named.ensures.named in
+    (s, c.journal.ensures.fit, c.self.invariant.fresh (c.if-is_current.true ∙ ap length c.journal.ensures.value), differ, told.changed.0)
+
+outcome : (c : Joined-is_current) → IsOutcome c.self.inside.state c.step.new.self c.self.inside.routes c.self.inside.built c.if-is_current.settled c.if-is_current.self-inside.state c.if-is_current.self-inside.routes c.if-is_current.self-inside.built
+outcome c =
     let i = c.self.inside in
-    subst (λ (s : State). IsCoherent s i.table i.built) (sym c.in_ok-serial.ensures.taken) (kept_step i.state i.table i.built c.args.event c.self.invariant c.in_ok-serial.ensures.accepted)
+    let s = i.state in
+    let u = c.step.new.self in
+    let told = c.in_ok-serial.ensures in
+    let named = c.in_ok-named.named in
+    let serial = ap length c.journal.ensures.value in
+    elim c.if-is_current.branch [
+      | then-is_current w ↦
+          let did = w.settle-settled.ensures in
+          let result = w.settle-settled.result in
+          let differ = subst (λ (v : State). StatesDifferAmong named.keys.items named.interfaces.items s v) (sym told.taken) c.in_ok-named.ensures.named in
+          let settled : IsSettled s u i.routes i.built result w.settle-settled.new.self = record {
+            right = did.right;
+            fit = did.fit;
+            bounded = on_ok_weaker result (λ bounded. λ all. bounded s c.journal.ensures.fit (c.self.invariant.fresh all) differ told.changed.0) did.bounded;
+            exact = on_ok_weaker result (λ exact. λ all. exact) did.exact;
+            anew = on_ok_weaker result (λ right. λ behind. absurd (behind (w.if-is_current.true ∙ serial))) did.right;
+            unnamed = on_ok_weaker result (λ right. λ behind. absurd (behind (w.if-is_current.true ∙ serial))) did.right;
+            unchanged = did.unchanged;
+            work = did.work;
+            changes = did.changes;
+          } in
+          subst (λ (x : Inside). IsOutcome s u i.routes i.built c.if-is_current.settled x.state x.routes x.built) (sym w.self-inside-is) (record {
+            state_is = refl;
+            still_is = refl;
+            settled = subst (λ (r : Result (Unit {0}) Memory). IsSettled s u i.routes i.built r w.settle-settled.new.self) (sym w.settled-is) settled;
+          })
+      | else-is_current w ↦
+          let did = w.start_anew-settled.ensures in
+          let result = w.start_anew-settled.result in
+          let settled : IsSettled s u i.routes i.built result w.start_anew-settled.new.self = record {
+            right = did.right;
+            fit = did.fit;
+            bounded = on_ok_weaker result (λ right. λ all. absurd (w.if-is_current.false (all ∙ sym serial))) did.right;
+            exact = on_ok_weaker result (λ right. λ all. absurd (w.if-is_current.false (all ∙ sym serial))) did.right;
+            anew = on_ok_weaker result (λ built. λ behind. built) did.built;
+            unnamed = on_ok_weaker result (λ right. λ behind. did.changes) did.right;
+            unchanged = did.unchanged;
+            work = did.work;
+            changes = on_err_weaker result (λ work. did.changes) did.work;
+          } in
+          subst (λ (x : Inside). IsOutcome s u i.routes i.built c.if-is_current.settled x.state x.routes x.built) (sym w.self-inside-is) (record {
+            state_is = refl;
+            still_is = refl;
+            settled = subst (λ (r : Result (Unit {0}) Memory). IsSettled s u i.routes i.built r w.start_anew-settled.new.self) (sym w.settled-is) settled;
+          })
+    ]
 
-pub settle-state-requires : goal.settle-state-requires
-settle-state-requires c = λ unchanged.
+pub invariant_of-self-in-Ok : goal.invariant_of-self-in-Ok
+invariant_of-self-in-Ok c =
     let i = c.self.inside in
     let told = c.in_ok-serial.ensures in
-    quiet_after i.state c.step.new.self i.table i.built c.args.event c.self.invariant told.taken told.accepted (told.changed.0 unchanged)
+    let now = c.if-is_current.self-inside in
+    let o = outcome (goal.at.invariant_of-self-in-Ok c).Joined-is_current in
+    subst (λ (v : State). IsCoherent v now.routes c.in_ok-serial.serial) (sym o.state_is)
+    (coherent_ok i.state c.step.new.self i.routes now.routes i.built c.args.event c.self.invariant told.taken told.accepted c.if-is_current.settled c.in_ok-serial.serial told.serial c.in-Ok.is o.settled)
 
-pub returns : goal.returns
-returns c =
+pub invariant_of-self-in-Err : goal.invariant_of-self-in-Err
+invariant_of-self-in-Err c =
     let i = c.self.inside in
     let told = c.in_ok-serial.ensures in
-    let new = c.settle-state.new.self in
-    let after = c.settle-state.ensures in
-    let reply : Reply = record { serial = c.in_ok-serial.serial; changed = c.in_ok-serial.changed; state = c.settle-state.result } in
-    subst (λ (old : CoreValue). IsTaken old c.args.event reply new) c.self.view_is
-    (takes i.state c.step.new.self i.table i.built c.args.event reply new c.self.invariant told.taken told.accepted told.changed after.journal after.config after.limits after.stands
-    (told.serial ∙ ap length (sym after.journal)))
+    let now = c.if-is_current.self-inside in
+    let o = outcome (goal.at.invariant_of-self-in-Err c).Joined-is_current in
+    let kept = coherent_err i.state c.step.new.self i.routes now.routes i.built c.args.event c.self.invariant told.taken told.accepted c.if-is_current.settled c.in-Err.field-0 c.in-Err.is o.settled in
+    subst (λ (v : State). IsCoherent v now.routes now.built) (sym o.state_is) (subst (IsCoherent c.step.new.self now.routes) (sym o.still_is) kept)
+
+pub returns-clause-applied : goal.returns-clause-applied
+returns-clause-applied c =
+    let i = c.self.inside in
+    let u = c.step.new.self in
+    let told = c.in_ok-serial.ensures in
+    let serial = c.in_ok-serial.serial in
+    let now = c.if-is_current.self-inside in
+    let o = outcome (goal.at.returns-clause-applied c).Joined-is_current in
+    let reply : Reply = record { serial = serial; changed = c.in_ok-serial.changed; state = c.match-settled.state } in
+    let event = c.args.event in
+    subst (λ (old : CoreValue). IsTaken old event reply c.match-settled.self) c.self.view_is
+    (elim c.match-settled.branch [
+      | in-Ok w ↦
+          let is = w.self-is ∙ ap (λ (v : State). core_of v now.routes serial) o.state_is in
+          subst (λ (new : CoreValue). IsTaken (core_of i.state i.routes i.built) event reply new) (sym is)
+          (taken_ok i.state u i.routes now.routes i.built event c.self.invariant told.taken told.accepted c.if-is_current.settled serial reply told.serial w.in-Ok.is o.settled told.changed w.state-is refl)
+      | in-Err w ↦
+          let is = w.self-is ∙ (λ j. core_of (o.state_is j) now.routes (o.still_is j)) in
+          subst (λ (new : CoreValue). IsTaken (core_of i.state i.routes i.built) event reply new) (sym is)
+          (taken_err i.state u i.routes now.routes i.built event c.self.invariant told.taken told.accepted c.if-is_current.settled w.in-Err.field-0 reply w.in-Err.is o.settled told.changed w.state-is told.serial)
+    ])
+
+pub returns-clause-work : goal.returns-clause-work
+returns-clause-work c =
+    let i = c.self.inside in
+    let u = c.step.new.self in
+    let told = c.in_ok-serial.ensures in
+    let serial = c.in_ok-serial.serial in
+    let now = c.if-is_current.self-inside in
+    let o = outcome (goal.at.returns-clause-work c).Joined-is_current in
+    subst (λ (old : CoreValue). HasBoundedWork old c.match-settled.state c.match-settled.self) c.self.view_is
+    (elim c.match-settled.branch [
+      | in-Ok w ↦
+          let is = w.self-is ∙ ap (λ (v : State). core_of v now.routes serial) o.state_is in
+          let all = bounded_ok i.state u i.routes now.routes i.built c.args.event c.self.invariant told.taken told.accepted c.if-is_current.settled serial told.serial w.in-Ok.is o.settled in
+          subst (λ (state : Standing). HasBoundedWork (core_of i.state i.routes i.built) state c.match-settled.self) (sym w.state-is)
+          (subst (λ (new : CoreValue). HasBoundedWork (core_of i.state i.routes i.built) Current new) (sym is) all)
+      | in-Err w ↦
+          let is = w.self-is ∙ (λ j. core_of (o.state_is j) now.routes (o.still_is j)) in
+          let all = bounded_err i.state u i.routes now.routes i.built c.args.event c.self.invariant told.taken told.accepted c.if-is_current.settled w.in-Err.field-0 w.in-Err.is o.settled in
+          subst (λ (state : Standing). HasBoundedWork (core_of i.state i.routes i.built) state c.match-settled.self) (sym w.state-is)
+          (subst (λ (new : CoreValue). HasBoundedWork (core_of i.state i.routes i.built) Behind new) (sym is) all)
+    ])
+
+pub returns-clause-changes : goal.returns-clause-changes
+returns-clause-changes c =
+    let i = c.self.inside in
+    let u = c.step.new.self in
+    let told = c.in_ok-serial.ensures in
+    let serial = c.in_ok-serial.serial in
+    let now = c.if-is_current.self-inside in
+    let o = outcome (goal.at.returns-clause-changes c).Joined-is_current in
+    subst (λ (old : CoreValue). NamesChanges old c.match-settled.state c.match-settled.self) c.self.view_is
+    (elim c.match-settled.branch [
+      | in-Ok w ↦
+          let is = w.self-is ∙ ap (λ (v : State). core_of v now.routes serial) o.state_is in
+          let all = named_ok i.state u i.routes now.routes i.built c.args.event c.self.invariant told.taken told.accepted c.if-is_current.settled serial w.in-Ok.is o.settled in
+          subst (λ (state : Standing). NamesChanges (core_of i.state i.routes i.built) state c.match-settled.self) (sym w.state-is)
+          (subst (λ (new : CoreValue). NamesChanges (core_of i.state i.routes i.built) Current new) (sym is) all)
+      | in-Err w ↦
+          let is = w.self-is ∙ (λ j. core_of (o.state_is j) now.routes (o.still_is j)) in
+          let all = named_err i.state u i.routes now.routes i.built c.args.event c.self.invariant told.taken told.accepted c.if-is_current.settled w.in-Err.field-0 w.in-Err.is o.settled in
+          subst (λ (state : Standing). NamesChanges (core_of i.state i.routes i.built) state c.match-settled.self) (sym w.state-is)
+          (subst (λ (new : CoreValue). NamesChanges (core_of i.state i.routes i.built) Behind new) (sym is) all)
+    ])

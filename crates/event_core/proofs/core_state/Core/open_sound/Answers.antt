@@ -1,11 +1,21 @@
-use Rattle.std.proofs.Common.{ap, subst, sym}
+use Rattle.std.proofs.Common.{subst}
+use Rattle.event_state.specs.Held.{AreFit}
 use Rattle.event_state.specs.States.{State}
-use Rattle.event_core.specs.Configs.{HasNoRanges}
-use Rattle.event_core.proofs.Configs.{sound_apart, sound_ranges}
+use Rattle.event_core.specs.Kept.{IsCoherent}
+use Rattle.event_core.proofs.Configs.{sound_apart}
+use Rattle.event_core.proofs.Runs.{kept_open}
 use Rattle.event_core.proofs.core_state.Core.open_sound.Goals as goal
 
 pub within-requires : goal.within-requires
-within-requires c = sound_apart c.args.config c.requires
+within-requires c = sound_apart c.args.config c.requires.sound
 
-pub build-requires : goal.build-requires
-build-requires c = subst HasNoRanges (sym (ap (λ (s : State). s.config) c.in_ok-state.ensures)) (sound_ranges c.args.config c.requires)
+kept : (c : goal.In_ok-routes) → IsCoherent c.in_ok-state.state c.in_ok-routes.routes 0
+kept c =
+    let fit = subst (λ (s : State). AreFit s.config.areas s.databases) c.state.view_is c.state.invariant.fit in
+    kept_open c.args.config c.args.limits c.in_ok-state.state c.in_ok-routes.routes c.in_ok-state.ensures c.requires.sound c.requires.few fit c.in_ok-routes.ensures.right
+
+pub invariant_of-result : goal.invariant_of-result
+invariant_of-result c = kept c
+
+pub returns-clause-kept : goal.returns-clause-kept
+returns-clause-kept c = (kept c).core

@@ -16,7 +16,7 @@ loop-event-preserved c =
     let pushed = c.in-Ok.ensures in
     record {
       rest = λ replies new h.
-          let whole : Runs turn.self (into_iter_items turn.event-iterator) (answer ∷ replies) new = subst (λ (events : List Event). Runs turn.self events (answer ∷ replies) new) (sym steps) (c.apply.new.self, c.apply.ensures, h) in
+          let whole : Runs turn.self (into_iter_items turn.event-iterator) (answer ∷ replies) new = subst (λ (events : List Event). Runs turn.self events (answer ∷ replies) new) (sym steps) (c.apply.new.self, c.apply.ensures.applied, h) in
           subst (λ (rs : List (Result Reply Refusal)). Runs c.args.self.now c.args.events.items rs new)
           (sym (ap (λ (rs : List (Result Reply Refusal)). rs ++ replies) pushed.items ∙ append_assoc turn.replies.items (answer ∷ []) replies)) (turn.invariant.rest (answer ∷ replies) new whole);
       room = omega (arith, pushed.capacity);

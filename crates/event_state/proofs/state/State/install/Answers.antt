@@ -38,7 +38,7 @@ invariant_of-self c =
     let kept = rw c.as_mut_slice.ensures.value at c.put_at.ensures.unchanged in
     let done = rw c.as_mut_slice.ensures.value at c.put_at.ensures.done in
     held_after_try i.config i.limits i.databases c.put_at.new.databases c.args.scope c.in-Some.place (λ (d : Database). insert d (key_of lsa) lsa) c.self.invariant place c.put_at.result
-    (λ fit. fit_insert c.args.scope _ (key_of lsa) lsa fit (record { own = refl; legal = c.put_at.ensures.legal; placed = placed.0; stub = placed.1 })) kept done
+    (λ fit. fit_insert c.args.scope _ (key_of lsa) lsa fit (record { own = refl; legal = c.put_at.ensures.legal; placed = placed.0; topology = placed.1 })) kept done
 
 pub returns-in-Some-clause-changed : goal.returns-in-Some-clause-changed
 returns-in-Some-clause-changed c =

@@ -1,7 +1,7 @@
 use Rattle.std.proofs.Common.{◌<◌, ℕ, Option, sym, ap, subst, ◌∙◌}
 use Rattle.std.specs.Prelude.{IfSome}
 use Rattle.std.specs.FinMap.{get}
-use Rattle.vertex_queue.proofs.VertexOrder.{equals}
+use Rattle.ospf_types.proofs.VertexOrder.{vertices_equal}
 use Rattle.spf.specs.Parts.{DistanceMap, most_distance}
 use Rattle.spf.proofs.VertexMaps.{looked_up, some_looked_up}
 use Rattle.spf.proofs.distances.Distances.get.Goals as goal
@@ -13,4 +13,4 @@ returns-clause-value c =
 pub returns-clause-bounded : goal.returns-clause-bounded
 returns-clause-bounded c =
     subst (λ (o : Option ℕ). IfSome o (λ distance. distance < most_distance)) (sym (c.copied.ensures ∙ c.get.ensures.value))
-    (some_looked_up (λ distance. distance < most_distance) (equals c.args.vertex) c.self.inside.entries.entries c.self.invariant)
+    (some_looked_up (λ distance. distance < most_distance) (vertices_equal c.args.vertex) c.self.inside.entries.entries c.self.invariant)

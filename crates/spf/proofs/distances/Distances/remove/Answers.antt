@@ -1,7 +1,7 @@
 use Rattle.std.proofs.Common.{◌<◌, ℕ, List, sym, ap, subst, ◌∙◌}
 use Rattle.std.specs.FinMap.{remove}
 use Rattle.ospf_types.specs.declared.entry.Vertex.{Vertex}
-use Rattle.vertex_queue.proofs.VertexOrder.{equals}
+use Rattle.ospf_types.proofs.VertexOrder.{vertices_equal}
 use Rattle.spf.specs.Parts.{DistanceMap, most_distance}
 use Rattle.spf.proofs.VertexMaps.{AllValues, removed, all_values_removed}
 use Rattle.spf.proofs.distances.Distances.remove.Goals as goal
@@ -9,7 +9,7 @@ use Rattle.spf.proofs.distances.Distances.remove.Goals as goal
 pub invariant_of-self : goal.invariant_of-self
 invariant_of-self c =
     subst (λ (es : List (Vertex × ℕ)). AllValues (λ distance. distance < most_distance) es) (sym c.swap_remove.ensures.entries)
-    (all_values_removed (λ distance. distance < most_distance) (equals c.args.vertex) c.self.inside.entries.entries c.self.invariant)
+    (all_values_removed (λ distance. distance < most_distance) (vertices_equal c.args.vertex) c.self.inside.entries.entries c.self.invariant)
 
 pub returns : goal.returns
 returns c =

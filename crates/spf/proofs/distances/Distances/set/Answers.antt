@@ -1,7 +1,7 @@
 use Rattle.std.proofs.Common.{◌<◌, ℕ, List, sym, ap, subst, ◌∙◌}
 use Rattle.std.specs.FinMap.{insert}
 use Rattle.ospf_types.specs.declared.entry.Vertex.{Vertex}
-use Rattle.vertex_queue.proofs.VertexOrder.{equals}
+use Rattle.ospf_types.proofs.VertexOrder.{vertices_equal}
 use Rattle.spf.specs.Parts.{DistanceMap, most_distance}
 use Rattle.spf.proofs.VertexMaps.{AllValues, inserted, all_values_inserted}
 use Rattle.spf.proofs.distances.Distances.set.Goals as goal
@@ -9,7 +9,7 @@ use Rattle.spf.proofs.distances.Distances.set.Goals as goal
 pub invariant_of-self-2 : goal.invariant_of-self-2
 invariant_of-self-2 c =
     subst (λ (es : List (Vertex × ℕ)). AllValues (λ distance. distance < most_distance) es) (sym c.in_ok-insert.ensures.entries)
-    (all_values_inserted (λ distance. distance < most_distance) equals c.self.inside.entries.entries c.args.vertex c.args.distance c.self.invariant c.requires)
+    (all_values_inserted (λ distance. distance < most_distance) vertices_equal c.self.inside.entries.entries c.args.vertex c.args.distance c.self.invariant c.requires)
 
 pub returns-clause-set : goal.returns-clause-set
 returns-clause-set c =

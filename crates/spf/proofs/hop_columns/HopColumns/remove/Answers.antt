@@ -1,8 +1,18 @@
-use Rattle.std.proofs.Common.{ap, ◌∙◌}
+use Rattle.std.proofs.Common.{List, sym, ap, subst, ◌∙◌}
 use Rattle.std.specs.FinMap.{remove}
+use Rattle.std.specs.List.Sorted.{IsStrictlySortedBy}
+use Rattle.ospf_types.specs.declared.entry.Vertex.{Vertex}
+use Rattle.ospf_types.specs.declared.hop.NextHop.{NextHop}
+use Rattle.ospf_types.specs.Hops.{hop_cmp}
+use Rattle.ospf_types.proofs.VertexOrder.{vertices_equal}
 use Rattle.spf.specs.Parts.{HopMap}
-use Rattle.spf.proofs.VertexMaps.{removed}
+use Rattle.spf.proofs.VertexMaps.{AllValues, removed, all_values_removed}
 use Rattle.spf.proofs.hop_columns.HopColumns.remove.Goals as goal
+
+pub invariant_of-self : goal.invariant_of-self
+invariant_of-self c =
+    subst (λ (es : List (Vertex × List NextHop)). AllValues (λ (hops : List NextHop). IsStrictlySortedBy hop_cmp hops) es) (sym c.swap_remove.ensures.entries)
+    (all_values_removed (λ (hops : List NextHop). IsStrictlySortedBy hop_cmp hops) (vertices_equal c.args.vertex) c.self.inside.entries.entries c.self.invariant)
 
 pub returns : goal.returns
 returns c =

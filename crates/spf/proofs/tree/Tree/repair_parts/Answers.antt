@@ -3,6 +3,7 @@ use Rattle.vertex_graph.specs.declared.link.Link.{Link}
 use Rattle.spf.specs.contracts.tree.Tree.{the_view}
 use Rattle.spf.specs.TreeValues.{TreeValue, IsTreeBefore, IsBegun}
 use Rattle.spf.proofs.Finished.{begun, renewed_at, listed_tree, listed_work, changed_list}
+use Rattle.spf.proofs.Kept.{others_listed}
 use Rattle.spf.proofs.Renewed.{distances_before}
 use Rattle.spf.proofs.tree.Tree.repair_parts.Goals as goal
 
@@ -37,3 +38,7 @@ returns-clause-idle c = λ none_gone none_came.
 
 pub returns-clause-work : goal.returns-clause-work
 returns-clause-work c = listed_work _ c.in_ok-self-inside.field-0.items (renewed_at _ _ c.self-2.view_is c.as_slice-2.ensures.value c.in_ok-renewed.ensures.renewed).work
+
+pub returns-clause-others : goal.returns-clause-others
+returns-clause-others c =
+    others_listed c.args.self.now (the_view c.self-2.inside) _ c.in_ok-self-inside.field-0.items c.self-2.view_is c.in_ok-renewed.ensures.were_in_order c.in_ok-renewed.ensures.in_order (returns-clause-changed c)

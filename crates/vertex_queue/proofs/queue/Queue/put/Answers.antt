@@ -6,7 +6,7 @@ use Rattle.indexmap.specs.Entry.{entry_value, map_with_value}
 use Rattle.vertex_queue.specs.declared.waiting.Waiting.{Waiting}
 use Rattle.vertex_queue.specs.Heaps.{AreQueue}
 use Rattle.vertex_queue.specs.Queues.{Queue, lessened}
-use Rattle.vertex_queue.proofs.VertexOrder.{equals}
+use Rattle.ospf_types.proofs.VertexOrder.{vertices_equal}
 use Rattle.vertex_queue.proofs.Distances.{queue_of, AreUpdated, found_after, lessened_kept, lessened_set, farther}
 use Rattle.vertex_queue.proofs.HeapEntries.{placed, put_there}
 use Rattle.vertex_queue.proofs.queue.Queue.put.Goals as goal
@@ -14,7 +14,7 @@ use Rattle.vertex_queue.proofs.queue.Queue.put.Goals as goal
 pub returns-then-least-distance-clause-put : goal.returns-then-least-distance-clause-put
 returns-then-least-distance-clause-put c =
     let es = c.self.inside.distances.entries in
-    let there : lookup (equals c.args.vertex) es ≡ Some c.get-least.result.now =
+    let there : lookup (vertices_equal c.args.vertex) es ≡ Some c.get-least.result.now =
     sym c.in_ok-waits.ensures.value ∙ ap entry_value c.in-Occupied.is ∙ c.get-least.ensures in
     let kept : queue_of es ≡ lessened c.args.self.now c.args.vertex c.args.distance =
     subst (λ (q : Queue). queue_of es ≡ lessened q c.args.vertex c.args.distance) c.self.view_is
@@ -57,7 +57,7 @@ pub returns-in_ok-push-in-Occupied-clause-put : goal.returns-in_ok-push-in-Occup
 returns-in_ok-push-in-Occupied-clause-put c =
     let es = c.self.inside.distances.entries in
     let fs = c.insert.new.self.map.now.entries in
-    let there : lookup (equals c.args.vertex) es ≡ Some c.get-least.result.now =
+    let there : lookup (vertices_equal c.args.vertex) es ≡ Some c.get-least.result.now =
     sym c.in_ok-waits.ensures.value ∙ ap entry_value c.in-Occupied.is ∙ c.get-least.ensures in
     let updated : AreUpdated es c.args.vertex (Some c.args.distance) fs =
     subst (AreUpdated es c.args.vertex (Some c.args.distance))
@@ -72,7 +72,7 @@ pub returns-in_ok-push-in-Vacant-clause-put : goal.returns-in_ok-push-in-Vacant-
 returns-in_ok-push-in-Vacant-clause-put c =
     let es = c.self.inside.distances.entries in
     let fs = c.insert_entry.result.map.now.entries in
-    let there : lookup (equals c.args.vertex) es ≡ None =
+    let there : lookup (vertices_equal c.args.vertex) es ≡ None =
     sym c.in_ok-waits.ensures.value ∙ (search rules) in
     let updated : AreUpdated es c.args.vertex (Some c.args.distance) fs =
     subst (AreUpdated es c.args.vertex (Some c.args.distance))

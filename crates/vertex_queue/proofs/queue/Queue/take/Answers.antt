@@ -5,7 +5,7 @@ use Rattle.indexmap.specs.IndexMap.{Updates}
 use Rattle.ospf_types.specs.declared.entry.Vertex.{Vertex}
 use Rattle.vertex_queue.specs.Queues.{Queue, IsFirst}
 use Rattle.vertex_queue.specs.Heaps.{waiting_vertex}
-use Rattle.vertex_queue.proofs.VertexOrder.{equals}
+use Rattle.ospf_types.proofs.VertexOrder.{vertices_equal}
 use Rattle.vertex_queue.proofs.Distances.{found_after, removed}
 use Rattle.vertex_queue.proofs.HeapEntries.{first_of, taken}
 use Rattle.vertex_queue.proofs.queue.Queue.take.Goals as goal
@@ -15,8 +15,8 @@ invariant_of-self-2 c =
     let i = c.self.inside in
     let left = c.swap_remove_index.new.self in
     let v = waiting_vertex c.in_ok-place.first in
-    let updates : Updates equals i.distances left v None =
-    subst (λ (o : Option (Vertex × ℕ)). IfSome o (λ p. Updates equals i.distances left p.0 None)) (c.swap_remove_index.ensures.entry ∙ c.in_ok-place.ensures.place) c.swap_remove_index.ensures.updates in
+    let updates : Updates vertices_equal i.distances left v None =
+    subst (λ (o : Option (Vertex × ℕ)). IfSome o (λ p. Updates vertices_equal i.distances left p.0 None)) (c.swap_remove_index.ensures.entry ∙ c.in_ok-place.ensures.place) c.swap_remove_index.ensures.updates in
     taken i.distances.entries left.entries c.in_ok-place.first (heap_items c.pop_waiting.new.order) c.in_ok-place.ensures.others (found_after i.distances.entries left.entries v None updates.0)
 
 pub returns-clause-first : goal.returns-clause-first
@@ -30,7 +30,7 @@ returns-clause-rest c =
     let i = c.self.inside in
     let left = c.swap_remove_index.new.self in
     let v = waiting_vertex c.in_ok-place.first in
-    let updates : Updates equals i.distances left v None =
-    subst (λ (o : Option (Vertex × ℕ)). IfSome o (λ p. Updates equals i.distances left p.0 None)) (c.swap_remove_index.ensures.entry ∙ c.in_ok-place.ensures.place) c.swap_remove_index.ensures.updates in
+    let updates : Updates vertices_equal i.distances left v None =
+    subst (λ (o : Option (Vertex × ℕ)). IfSome o (λ p. Updates vertices_equal i.distances left p.0 None)) (c.swap_remove_index.ensures.entry ∙ c.in_ok-place.ensures.place) c.swap_remove_index.ensures.updates in
     removed i.distances.entries left.entries v (found_after i.distances.entries left.entries v None updates.0)
     ∙ (λ i. remove (c.self.view_is i) (sym c.vertex-vertex.ensures i))

@@ -1,0 +1,12 @@
+pub mod Named
+pub mod NetworkSets
+pub mod Following
+pub mod Handed
+pub mod AreaGraphs
+pub mod AreaTrees
+pub mod Ageing
+pub mod Held
+pub mod Standing
+pub mod Leading
+pub mod Inside
+pub mod Work

@@ -1,0 +1,106 @@
+//! The graph of an area, with the index of its network-LSAs.
+ghost use Rattle.std.specs.Prelude.{◌≡◌, ◌≤◌, [], Some, OnOk, IfOk, IfSome, option_map};
+ghost use Rattle.std.specs.FinMap as map;
+ghost use Rattle.lsdb.specs.Databases.{Database as Lsas};
+ghost use Rattle.ospf_types.specs.Lsa.{key_of};
+ghost use Rattle.vertex_graph.specs.Graphs.{AreExact, HasEnds, most_routers};
+ghost use Rattle.area_trees.specs.Areas.{IsGraphOf, IsStanding, DifferAmong, vertex_of};
+
+use crate::networks::Networks;
+use crate::vertices::{lsa_of, standing, vertices_of};
+use lsa_codec::Checked;
+use lsdb::Database;
+use ospf_types::entry::Vertex;
+use ospf_types::key::Key;
+use ospf_types::memory::Memory;
+use std::alloc::Global;
+use std::hash::RandomState;
+use std::marker::Model;
+use vertex_graph::{Graph, LinkChanges, Up};
+
+/// The graph of an area. After an error it is that of no database.
+#[derive(Debug, Drop)]
+pub(crate) struct AreaGraph {
+    graph: Graph,
+    networks: Networks,
+}
+
+impl Model for AreaGraph {
+    ghost use Rattle.std.specs.FinMap as map;
+    ghost use Rattle.std.specs.Coded.{Coded, codes};
+    ghost use Rattle.ospf_types.specs.Vertices.{vertex_code};
+    ghost use Rattle.vertex_graph.specs.Graphs.{EndsByVertex};
+    ghost use Rattle.area_trees.specs.Areas.{AreaGraphValue};
+
+    ghost Value = { AreaGraphValue };
+
+    ghost coded = { let ends : Coded EndsByVertex = map.code vertex_code (Prim.hlevel codes) in Prim.hlevel (codes, ends) };
+
+    ghost view = { λ g. record { graph = g.graph; networks = g.networks } };
+}
+
+impl AreaGraph {
+    /// The graph of no LSAs and no interfaces.
+    pub(crate) fn new(alloc: Global, root: u32, hashing: RandomState) -> AreaGraph
+        ensures graph { result.graph ≡ record { root = root; ends = map.empty; interfaces = [] } }
+        ensures right { IsGraphOf map.empty result }
+    {
+        AreaGraph {
+            graph: Graph::new(alloc, root, hashing),
+            networks: Networks::new(alloc),
+        }
+    }
+
+    /// The graph.
+    pub(crate) fn graph(&self) -> &Graph
+        ensures value { result.now ≡ self.now.graph }
+        ensures ends { HasEnds self.now.graph }
+    {
+        let _ = self.graph.root();
+        &self.graph
+    }
+
+    /// Takes what the database says now of the LSAs under these keys, and answers the links that went and came.
+    pub(crate) fn follow(
+        &mut self,
+        alloc: Global,
+        database: &Database,
+        keys: &[Key],
+    ) -> Result<LinkChanges, Memory>
+        requires before { (before : Lsas) × IsGraphOf before self.old × DifferAmong before database.now.lsas keys.now }
+        requires few { database.now.limit ≤ most_routers }
+        ensures ends { HasEnds self.old.graph }
+        ensures right { OnOk result (IsGraphOf database.now.lsas self.new) }
+        ensures root { OnOk result (self.new.graph.root ≡ self.old.graph.root) }
+        ensures interfaces { OnOk result (self.new.graph.interfaces ≡ self.old.graph.interfaces) }
+        ensures exact { IfOk result (λ changes. AreExact self.old.graph self.new.graph changes.gone.items changes.came.items) }
+    {
+        // By these calls it is known that the routers are few and which links a vertex has.
+        let _ = (database.len(), self.graph.root());
+        self.networks.follow(database, keys)?;
+        let vertices = vertices_of(alloc, keys)?;
+        let lsas = standing(alloc, database, &self.networks, vertices.as_slice())?;
+        self.graph.replace_all(lsas.as_slice())
+    }
+
+    /// The LSA that stands for the vertex in the database, none where it is not there.
+    pub(crate) fn standing<'a>(&self, database: &'a Database, vertex: Vertex) -> Option<&'a Checked>
+        requires { IsGraphOf database.now.lsas self.now }
+        ensures body { IsStanding database.now.lsas vertex (option_map (λ l. l.now.body) result) }
+        ensures own { IfSome result (λ l. vertex_of (key_of l.now) ≡ Some vertex) }
+    {
+        lsa_of(database, &self.networks, vertex)
+    }
+
+    /// Takes these as the area's interfaces that are up, and answers the links that went and came.
+    pub(crate) fn interfaces(&mut self, ups: &[Up]) -> Result<LinkChanges, Memory>
+        ensures ends { HasEnds self.old.graph }
+        ensures right { OnOk result ((d : Lsas) → IsGraphOf d self.old → IsGraphOf d self.new) }
+        ensures root { OnOk result (self.new.graph.root ≡ self.old.graph.root) }
+        ensures interfaces { OnOk result (self.new.graph.interfaces ≡ ups.now) }
+        ensures exact { IfOk result (λ changes. AreExact self.old.graph self.new.graph changes.gone.items changes.came.items) }
+    {
+        let _ = self.graph.root();
+        self.graph.interfaces(ups)
+    }
+}

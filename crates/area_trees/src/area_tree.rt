@@ -1,0 +1,185 @@
+//! The graph of an area and its shortest-path tree, which stay together.
+ghost use Rattle.std.specs.Prelude.{◌≡◌, ◌≤◌, ◌<◌, [], ℕ, List, Some, true, OnOk, OnErr, IfOk, IfSome, option_map};
+ghost use Rattle.std.specs.FinMap as map;
+ghost use Rattle.std.specs.List.Sorted.{IsStrictlySortedBy};
+ghost use Rattle.lsdb.specs.Databases.{Database as Lsas};
+ghost use Rattle.ospf_types.specs.Lsa.{key_of};
+ghost use Rattle.ospf_types.specs.Hops.{hop_cmp};
+ghost use Rattle.spf.specs.Parts.{most_distance};
+ghost use Rattle.spf.specs.TreeValues.{AreChanged, AreOthersKept, IsWorkForAll, IsWorkDone, listed_hops};
+ghost use Rattle.vertex_graph.specs.declared.link.Up.{Up as UpValue};
+ghost use Rattle.vertex_graph.specs.Graphs.{most_routers};
+ghost use Rattle.area_trees.specs.Areas.{IsAreaTree, IsStanding, DifferAmong, IsWorkBounded, vertex_of};
+
+use crate::area_graph::AreaGraph;
+use lsa_codec::Checked;
+use lsdb::Database;
+use ospf_types::entry::Vertex;
+use ospf_types::hop::NextHop;
+use ospf_types::key::Key;
+use ospf_types::memory::Memory;
+use spf::{Touched, Tree};
+use std::alloc::Global;
+use std::hash::RandomState;
+use std::marker::Model;
+use vertex_graph::{LinkChanges, Up};
+
+/// The graph of an area and its shortest-path tree.
+#[derive(Debug, Drop)]
+pub struct AreaTree {
+    area: AreaGraph,
+    tree: Tree,
+    spent: bool,
+}
+
+impl Model for AreaTree {
+    ghost use Rattle.std.specs.FinMap as map;
+    ghost use Rattle.std.specs.Coded.{Coded, codes, coded_ℕ};
+    ghost use Rattle.ospf_types.specs.Vertices.{vertex_code};
+    ghost use Rattle.vertex_graph.specs.Graphs.{EndsByVertex};
+    ghost use Rattle.spf.specs.Parts.{DistanceMap, HopMap};
+    ghost use Rattle.area_trees.specs.Areas.{AreaTreeValue};
+
+    ghost Value = { AreaTreeValue };
+
+    ghost coded = { let ends : Coded EndsByVertex = map.code vertex_code (Prim.hlevel codes) in
+        let distances : Coded DistanceMap = map.code vertex_code coded_ℕ in
+        let hops : Coded HopMap = map.code vertex_code (Prim.hlevel codes) in
+        Prim.hlevel (codes, ends, distances, hops) };
+
+    ghost view = { λ t. record { area = t.area; tree = t.tree; spent = t.spent } };
+}
+
+impl AreaTree {
+    /// The tree of an area's database and of its interfaces that are up, and the work of building it.
+    pub fn build(
+        alloc: Global,
+        root: u32,
+        database: &Database,
+        interfaces: &[Up],
+        hashing: RandomState,
+    ) -> Result<(AreaTree, Touched), Memory>
+        requires few { database.now.limit ≤ most_routers }
+        ensures right { IfOk result (λ built. IsAreaTree root database.now.lsas interfaces.now built.0) }
+        ensures changed { IfOk result (λ built. built.0.tree.changed ≡ []) }
+        ensures work { IfOk result (λ built. IsWorkForAll built.0.area.graph built.0.tree built.1.taken built.1.hop_sets) }
+    {
+        let mut area = AreaGraph::new(alloc, root, hashing);
+        area.follow(alloc, database, database.keys())?;
+        area.interfaces(interfaces)?;
+        let (tree, touched) = Tree::build(alloc, area.graph(), hashing)?;
+        let spent = false;
+        Ok((AreaTree { area, tree, spent }, touched))
+    }
+
+    /// Takes what the database says now of the LSAs under these keys, and answers the work. Where memory is refused,
+    /// all is spent, and only `build` makes another.
+    pub fn follow(
+        &mut self,
+        alloc: Global,
+        database: &Database,
+        keys: &[Key],
+    ) -> Result<Touched, Memory>
+        requires before { (root : ℕ) × (before : Lsas) × (ups : List UpValue) × IsAreaTree root before ups self.old × DifferAmong before database.now.lsas keys.now }
+        requires few { database.now.limit ≤ most_routers }
+        ensures right { OnOk result ((root : ℕ) (before : Lsas) (ups : List UpValue) → IsAreaTree root before ups self.old → IsAreaTree root database.now.lsas ups self.new) }
+        ensures changed { OnOk result (AreChanged self.old.tree self.new.tree self.new.tree.changed) }
+        ensures others { OnOk result (AreOthersKept self.old.tree self.new.tree) }
+        ensures bounded { IfOk result (λ touched. IsWorkBounded self.old self.new touched.taken touched.hop_sets) }
+        ensures work { IfOk result (λ touched. IsWorkDone self.new.area.graph self.old.tree self.new.tree touched.taken touched.hop_sets) }
+        ensures spent { OnErr result (self.new.spent ≡ true) }
+    {
+        let touched = self.follow_keys(alloc, database, keys);
+        self.spent = touched.is_err();
+        touched
+    }
+
+    /// Takes these as the area's interfaces that are up, and answers the work. Where memory is refused, all is spent.
+    pub fn interfaces(&mut self, alloc: Global, interfaces: &[Up]) -> Result<Touched, Memory>
+        requires { (root : ℕ) × (d : Lsas) × (ups : List UpValue) × IsAreaTree root d ups self.old }
+        ensures right { OnOk result ((root : ℕ) (d : Lsas) (ups : List UpValue) → IsAreaTree root d ups self.old → IsAreaTree root d interfaces.now self.new) }
+        ensures changed { OnOk result (AreChanged self.old.tree self.new.tree self.new.tree.changed) }
+        ensures others { OnOk result (AreOthersKept self.old.tree self.new.tree) }
+        ensures bounded { IfOk result (λ touched. IsWorkBounded self.old self.new touched.taken touched.hop_sets) }
+        ensures work { IfOk result (λ touched. IsWorkDone self.new.area.graph self.old.tree self.new.tree touched.taken touched.hop_sets) }
+        ensures spent { OnErr result (self.new.spent ≡ true) }
+    {
+        let touched = self.follow_interfaces(alloc, interfaces);
+        self.spent = touched.is_err();
+        touched
+    }
+
+    /// The LSA that stands for the vertex in the area's database: a router's own router-LSA; for a transit network,
+    /// of its usable network-LSAs the one of the greatest Advertising Router. None where the vertex is not there.
+    pub fn standing<'a>(&self, database: &'a Database, vertex: Vertex) -> Option<&'a Checked>
+        requires { (root : ℕ) × (ups : List UpValue) × IsAreaTree root database.now.lsas ups self.now }
+        ensures body { IsStanding database.now.lsas vertex (option_map (λ l. l.now.body) result) }
+        ensures own { IfSome result (λ l. vertex_of (key_of l.now) ≡ Some vertex) }
+    {
+        self.area.standing(database, vertex)
+    }
+
+    /// The distance of a vertex, a sum of metrics; none where it is not reached.
+    pub fn distance(&self, vertex: Vertex) -> Option<u32>
+        ensures value { result ≡ map.get self.now.tree.distances vertex }
+        ensures bounded { IfSome result (λ distance. distance < most_distance) }
+    {
+        self.tree.distance(vertex)
+    }
+
+    /// The next hops of a vertex, ascending, each once.
+    pub fn hops(&self, vertex: Vertex) -> &[NextHop]
+        ensures value { result.now ≡ listed_hops (map.get self.now.tree.hops vertex) }
+        ensures in_order { IsStrictlySortedBy hop_cmp result.now }
+    {
+        self.tree.hops(vertex)
+    }
+
+    /// The vertices whose distance or next hops the last change changed, ascending, each once.
+    pub fn changed(&self) -> &[Vertex]
+        ensures { result.now ≡ self.now.tree.changed }
+    {
+        self.tree.changed()
+    }
+
+    /// Whether a change was refused memory.
+    pub fn spent(&self) -> bool
+        ensures { result ≡ self.now.spent }
+    {
+        self.spent
+    }
+}
+
+impl AreaTree {
+    // After an error graph and tree are those of no database.
+    fn follow_keys(
+        &mut self,
+        alloc: Global,
+        database: &Database,
+        keys: &[Key],
+    ) -> Result<Touched, Memory>
+        requires before { (root : ℕ) × (before : Lsas) × (ups : List UpValue) × IsAreaTree root before ups self.old × DifferAmong before database.now.lsas keys.now }
+        requires few { database.now.limit ≤ most_routers }
+        ensures right { OnOk result ((root : ℕ) (before : Lsas) (ups : List UpValue) → IsAreaTree root before ups self.old → IsAreaTree root database.now.lsas ups self.new) }
+        ensures changed { OnOk result (AreChanged self.old.tree self.new.tree self.new.tree.changed) }
+        ensures others { OnOk result (AreOthersKept self.old.tree self.new.tree) }
+        ensures bounded { IfOk result (λ touched. IsWorkBounded self.old self.new touched.taken touched.hop_sets) }
+        ensures work { IfOk result (λ touched. IsWorkDone self.new.area.graph self.old.tree self.new.tree touched.taken touched.hop_sets) }
+    {
+        let changes = self.area.follow(alloc, database, keys)?;
+        self.tree.repair(alloc, self.area.graph(), &changes)
+    }
+
+    // The same for interfaces.
+    fn follow_interfaces(&mut self, alloc: Global, interfaces: &[Up]) -> Result<Touched, Memory>
+        requires { (root : ℕ) × (d : Lsas) × (ups : List UpValue) × IsAreaTree root d ups self.old }
+        ensures right { OnOk result ((root : ℕ) (d : Lsas) (ups : List UpValue) → IsAreaTree root d ups self.old → IsAreaTree root d interfaces.now self.new) }
+        ensures changed { OnOk result (AreChanged self.old.tree self.new.tree self.new.tree.changed) }
+        ensures others { OnOk result (AreOthersKept self.old.tree self.new.tree) }
+        ensures bounded { IfOk result (λ touched. IsWorkBounded self.old self.new touched.taken touched.hop_sets) }
+        ensures work { IfOk result (λ touched. IsWorkDone self.new.area.graph self.old.tree self.new.tree touched.taken touched.hop_sets) }
+    {
+        let changes = self.area.interfaces(interfaces)?;
+        self.tree.repair(alloc, self.area.graph(), &changes)
+    }
+}

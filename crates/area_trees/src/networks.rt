@@ -1,0 +1,99 @@
+//! The network-LSAs of an area by Link State ID.
+ghost use Rattle.std.specs.Prelude.{◌≡◌, ◌↔◌, ◌<◌, ◌^◌, ℕ, IfSome, IfNone, OnOk, Contains};
+ghost use Rattle.area_trees.specs.Areas.{IsGreatest, IsUsed, AreNetworksOf, DifferAmong};
+ghost use Rattle.lsdb.specs.Databases.{Database as Lsas};
+
+use crate::vertices::is_usable;
+use lsdb::Database;
+use ospf_types::key::Key;
+use ospf_types::lsa::NETWORK_LSA;
+use ospf_types::memory::Memory;
+use std::alloc::Global;
+use std::collections::BTreeSet;
+use std::marker::Model;
+
+// A usable network-LSA: its Link State ID and its Advertising Router.
+#[derive(Clone, Copy, Debug, PartialEq, Eq, PartialOrd, Ord)]
+struct NetworkLsa {
+    id: u32,
+    router: u32,
+}
+
+impl NetworkLsa {
+    fn of(id: u32, router: u32) -> NetworkLsa
+        ensures value { result ≡ record { id = id; router = router } }
+        ensures small { result.router < 2 ^ 32 }
+    {
+        NetworkLsa { id, router }
+    }
+}
+
+/// The usable network-LSAs. Of several with one Link State ID that of the greatest Advertising Router stands for the
+/// network.
+#[derive(Debug, Drop)]
+pub(crate) struct Networks {
+    lsas: BTreeSet<NetworkLsa>,
+}
+
+impl Model for Networks {
+    ghost use Rattle.std.specs.Prelude.{List, ℕ, ◌<◌, ◌^◌, map};
+    ghost use Rattle.std.specs.List.{All};
+
+    ghost Value = { List (ℕ × ℕ) };
+
+    ghost view = { λ n. map (λ l. (l.id, l.router)) n.lsas.keys };
+
+    ghost invariant = { λ n. All (λ l. l.router < 2 ^ 32) n.lsas.keys };
+}
+
+impl Networks {
+    pub(crate) fn new(alloc: Global) -> Networks
+        ensures { (id router : ℕ) → Contains result (id, router) → ⊥ }
+    {
+        Networks {
+            lsas: BTreeSet::new(alloc),
+        }
+    }
+
+    /// The greatest Advertising Router of a usable network-LSA with the Link State ID.
+    pub(crate) fn greatest(&self, id: u32) -> Option<u32>
+        ensures some { IfSome result (IsGreatest self.now id) }
+        ensures none { IfNone result ((router : ℕ) → Contains self.now (id, router) → ⊥) }
+    {
+        let first = NetworkLsa { id, router: 0 };
+        let last = NetworkLsa {
+            id,
+            router: u32::MAX,
+        };
+        let greatest = self.lsas.range(first..=last).next_back()?;
+        Some(greatest.router)
+    }
+
+    /// Takes what the database says now of the LSAs under these keys.
+    pub(crate) fn follow(&mut self, database: &Database, keys: &[Key]) -> Result<(), Memory>
+        requires { (before : Lsas) × AreNetworksOf before self.old × DifferAmong before database.now.lsas keys.now }
+        ensures { OnOk result (AreNetworksOf database.now.lsas self.new) }
+    {
+        for key in keys {
+            self.follow_key(database, *key)?;
+        }
+        Ok(())
+    }
+
+    // The same for one key.
+    fn follow_key(&mut self, database: &Database, key: Key) -> Result<(), Memory>
+        ensures own { OnOk result (key.kind ≡ 2 → Contains self.new (key.id, key.router) ↔ IsUsed database.now.lsas key) }
+        ensures others { OnOk result ((id router : ℕ) → (((key.kind ≡ 2) × (key.id ≡ id) × (key.router ≡ router)) → ⊥) → Contains self.new (id, router) ↔ Contains self.old (id, router)) }
+    {
+        if key.kind != NETWORK_LSA {
+            return Ok(());
+        }
+        let lsa = NetworkLsa::of(key.id, key.router);
+        if is_usable(database, key) {
+            self.lsas.insert(lsa)?;
+        } else {
+            self.lsas.remove(&lsa);
+        }
+        Ok(())
+    }
+}

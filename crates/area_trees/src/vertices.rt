@@ -1,0 +1,132 @@
+//! The vertices that LSAs stand for, and the LSA of each.
+ghost use Rattle.std.specs.Prelude.{◌≡◌, ◌↔◌, ◌++◌, Some, IsTrue, IfOk, IfSome, OnOk, option_to_list, Contains, option_map};
+ghost use Rattle.std.specs.List.{filter_map};
+ghost use Rattle.std.specs.List.Sorted.{IsStrictlySortedBy};
+ghost use Rattle.ospf_types.specs.declared.entry.Vertex.{Vertex as VertexValue};
+ghost use Rattle.ospf_types.specs.declared.key.Key.{Key as KeyValue};
+ghost use Rattle.ospf_types.specs.Lsa.{key_of};
+ghost use Rattle.ospf_types.specs.Vertices.{vertex_cmp};
+ghost use Rattle.vertex_graph.specs.Graphs.{handed_of};
+ghost use Rattle.area_trees.specs.Areas.{body_at, vertex_of as vertex_of_key, router_key, network_key, IsUsed, IsStanding, AreStanding, AreNetworksOf};
+
+use crate::networks::Networks;
+use lsa_codec::Checked;
+use lsdb::Database;
+use ospf_types::entry::Vertex;
+use ospf_types::key::Key;
+use ospf_types::lsa::{MAX_AGE, NETWORK_LSA, ROUTER_LSA};
+use ospf_types::memory::Memory;
+use std::alloc::Global;
+
+/// An LSA with the vertex that it stands for, or a vertex without one.
+pub(crate) type Handed<'a> = (Vertex, Option<&'a Checked>);
+
+/// The vertices that LSAs under these keys stand for, ascending, each once.
+pub(crate) fn vertices_of(alloc: Global, keys: &[Key]) -> Result<Vec<Vertex>, Memory>
+    ensures in_order { IfOk result (λ vertices. IsStrictlySortedBy vertex_cmp vertices.items) }
+    ensures exact { IfOk result (λ vertices. (v : VertexValue) → Contains vertices.items v ↔ ((k : KeyValue) × Contains keys.now k × (vertex_of_key k ≡ Some v))) }
+{
+    let mut vertices = named(alloc, keys)?;
+    vertices.sort_unstable();
+    vertices.dedup();
+    Ok(vertices)
+}
+
+// The vertices in the order of the keys.
+fn named(alloc: Global, keys: &[Key]) -> Result<Vec<Vertex>, Memory>
+    ensures { IfOk result (λ vertices. vertices.items ≡ filter_map vertex_of_key keys.now) }
+{
+    let mut vertices = Vec::new(alloc);
+    for key in keys {
+        push_named(*key, &mut vertices)?;
+    }
+    Ok(vertices)
+}
+
+// Adds the vertex of the key, if it has one.
+fn push_named(key: Key, vertices: &mut Vec<Vertex>) -> Result<(), Memory>
+    ensures { OnOk result (vertices.new.items ≡ vertices.old.items ++ option_to_list (vertex_of_key key)) }
+{
+    if let Some(vertex) = vertex_of(key) {
+        vertices.push(vertex)?;
+    }
+    Ok(())
+}
+
+/// The vertex of an LSA with this key: a router by its router-LSA, a transit network by its network-LSA
+/// (RFC 2328, 16.1).
+pub fn vertex_of(key: Key) -> Option<Vertex>
+    ensures { result ≡ vertex_of_key key }
+{
+    match key.kind {
+        ROUTER_LSA => Some(Vertex::Router(key.router)),
+        NETWORK_LSA => Some(Vertex::Network(key.id)),
+        _ => None,
+    }
+}
+
+/// Each vertex with the LSA that stands for it now.
+pub(crate) fn standing<'a>(
+    alloc: Global,
+    database: &'a Database,
+    networks: &Networks,
+    vertices: &[Vertex],
+) -> Result<Vec<Handed<'a>>, Memory>
+    requires { AreNetworksOf database.now.lsas networks.now }
+    ensures { IfOk result (λ handed. AreStanding database.now.lsas vertices.now (handed_of handed.items)) }
+{
+    let mut handed = Vec::with_capacity(alloc, vertices.len())?;
+    for vertex in vertices {
+        handed.push((*vertex, lsa_of(database, networks, *vertex)))?;
+    }
+    Ok(handed)
+}
+
+/// The LSA that stands for the vertex, none where it is not there.
+pub(crate) fn lsa_of<'a>(
+    database: &'a Database,
+    networks: &Networks,
+    vertex: Vertex,
+) -> Option<&'a Checked>
+    requires { AreNetworksOf database.now.lsas networks.now }
+    ensures body { IsStanding database.now.lsas vertex (option_map (λ l. l.now.body) result) }
+    ensures own { IfSome result (λ l. vertex_of_key (key_of l.now) ≡ Some vertex) }
+{
+    match vertex {
+        Vertex::Router(router) => usable(
+            database,
+            Key {
+                kind: ROUTER_LSA,
+                id: router,
+                router,
+            },
+        ),
+        Vertex::Network(id) => {
+            let router = networks.greatest(id)?;
+            usable(
+                database,
+                Key {
+                    kind: NETWORK_LSA,
+                    id,
+                    router,
+                },
+            )
+        }
+    }
+}
+
+/// The LSA under the key, where it is there and below MaxAge.
+fn usable(database: &Database, key: Key) -> Option<&Checked>
+    ensures body { option_map (λ l. l.now.body) result ≡ body_at database.now.lsas key }
+    ensures own { IfSome result (λ l. key_of l.now ≡ key) }
+{
+    let (lsa, age) = database.get(key)?;
+    if age < MAX_AGE { Some(lsa) } else { None }
+}
+
+/// Whether there is such an LSA.
+pub(crate) fn is_usable(database: &Database, key: Key) -> bool
+    ensures { IsTrue result ↔ IsUsed database.now.lsas key }
+{
+    usable(database, key).is_some()
+}

@@ -1,0 +1,28 @@
+use Rattle.std.proofs.Common.{◌≡◌, ℕ, List, length, sym, ap, subst, ◌∙◌}
+use Rattle.std.proofs.lemmas.Result.{IfOk-weaker}
+use Rattle.ospf_types.specs.declared.config.Config.{Config}
+use Rattle.ospf_types.specs.declared.config.Interface.{Interface}
+use Rattle.intra.specs.Inputs.{AreaValue, InputsValue, AreReady}
+use Rattle.intra.specs.Right.{AreInputsOf}
+use Rattle.event_state.specs.States.{inputs_of}
+use Rattle.calculation.specs.Calculations.{inputs_with}
+use Rattle.calculation.proofs.InputsAre.{ready_of, inputs_are, inputs_made}
+use Rattle.calculation.proofs.Turns.{trees_long}
+use Rattle.calculation.proofs.calculation.build_intra.Goals as goal
+
+pub area_inputs-requires : goal.area_inputs-requires
+area_inputs-requires c = trees_long c.args.state.now c.args.state.now.config.areas c.args.trees.now c.requires
+
+pub build-requires : goal.build-requires
+build-requires c =
+    let v : InputsValue = record { root = c.config.result.now.router; areas = c.deref.result.now; interfaces = c.deref-2.result.now } in
+    let is : v ≡ inputs_with c.args.state.now c.args.trees.now =
+    inputs_made c.args.state.now c.args.trees.now v (ap (λ (k : Config). k.router) c.config.ensures.value) (c.deref.ensures.value ∙ c.in_ok-areas.ensures) (c.deref-2.ensures.value ∙ c.in_ok-interfaces.ensures) in
+    subst AreReady (sym is) (ready_of c.args.state.now c.args.trees.now c.requires)
+
+pub returns-clause-routed : goal.returns-clause-routed
+returns-clause-routed c =
+    let v : InputsValue = record { root = c.config.result.now.router; areas = c.deref.result.now; interfaces = c.deref-2.result.now } in
+    let is : v ≡ inputs_with c.args.state.now c.args.trees.now =
+    inputs_made c.args.state.now c.args.trees.now v (ap (λ (k : Config). k.router) c.config.ensures.value) (c.deref.ensures.value ∙ c.in_ok-areas.ensures) (c.deref-2.ensures.value ∙ c.in_ok-interfaces.ensures) in
+    IfOk-weaker c.build.result _ _ (λ intra right. right (inputs_of c.args.state.now) (subst (AreInputsOf (inputs_of c.args.state.now)) (sym is) (inputs_are c.args.state.now c.args.trees.now c.config.ensures.fit c.requires))) c.build.ensures.right

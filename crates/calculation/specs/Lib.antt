@@ -1,0 +1,3 @@
+pub mod Calculations
+pub mod Totals
+pub mod Followed

@@ -1,0 +1,208 @@
+use super::*;
+use event_core::{Core, Event, Refusal, Reply, Standing};
+use lsa_codec::{read, sum_of};
+use ospf_types::key::Scope;
+use ospf_types::prefix::Prefix;
+use std::alloc::Global;
+use std::hash::RandomState;
+use std::test::Fail;
+
+// The root reaches the network 192.0.2.0/24 at 10 over interface 1, and the peer at 5 over interface 2; the peer
+// reaches the network at 5, and the leaf lies on it. The leaf has a stub link to 203.0.113.0/24, the peer one to
+// 198.18.0.0/24.
+const NETWORK: &str = "abr 1\n\
+router 10.0.0.1\n\
+area 0.0.0.0 normal\n\
+interface 1 0.0.0.0 192.0.2.1 0.0.0.0 up\n\
+interface 2 0.0.0.0 198.51.100.1 198.51.100.2 up\n\
+install 0.0.0.0 000102010a0000010a00000180000001c06b003000000002c0000202c00002010200000a0a000003c633640101000005\n\
+install 0.0.0.0 000102010a0000020a00000280000001b6ac003000000002c0000202c000020202000001cb007100ffffff0003000001\n\
+install 0.0.0.0 000102010a0000030a00000380000001e35e003c000000030a000001c633640201000005c0000202c000020302000005c6120000ffffff0003000001\n\
+install 0.0.0.0 00010202c00002020a00000280000001d68a0024ffffff000a0000010a0000020a000003\n";
+
+// The peer's link to the network costs 6.
+const DEARER: &str =
+    "install 0.0.0.0 000102010a0000030a00000380000002ff40003c000000030a000001c633640201000005c0000202c000020302000006c6120000ffffff0003000001\n";
+
+// The leaf has another address on the network.
+const MOVED: &str =
+    "install 0.0.0.0 000102010a0000020a00000280000002d08f003000000002c0000202c000020402000001cb007100ffffff0003000001\n";
+
+// The peer's link to the root goes.
+const APART: &str =
+    "install 0.0.0.0 000102010a0000030a00000380000002b609003000000002c0000202c000020302000005c6120000ffffff0003000001\n";
+
+// The peer's link to the network costs 4.
+const CHEAPER: &str =
+    "install 0.0.0.0 000102010a0000030a00000380000002c37e003c000000030a000001c633640201000005c0000202c000020302000004c6120000ffffff0003000001\n";
+
+// The network 192.0.2.0/24, and those of the leaf and of the peer.
+const LAN: (u32, u8) = (0xc000_0200, 24);
+
+const OF_LEAF: (u32, u8) = (0xcb00_7100, 24);
+
+const OF_PEER: (u32, u8) = (0xc612_0000, 24);
+
+fn after(rt: &HostRuntime, event: &str) -> Result<Core, Fail> {
+    let mut text = String::new(rt.alloc());
+    text.push_str(NETWORK)?;
+    text.push_str(event)?;
+    applied(rt.alloc(), RandomState::new(rt)?, text.as_str())
+}
+
+// Whether the last event changed the items of these networks and of no other.
+fn changes(core: &Core, networks: &[(u32, u8)]) -> bool {
+    let mut all = core.changes().len() == networks.len();
+    for (network, (address, length)) in core.changes().iter().zip(networks) {
+        all &= network.address() == *address && network.length() == *length;
+    }
+    all
+}
+
+// Whether the work of the last event was some, and no more than that.
+fn works(core: &Core, most: usize) -> bool {
+    let work = core.work();
+    work.taken >= 1 && work.taken <= most && work.hop_sets <= most
+}
+
+// The most is twice the vertices that differ and the heads of the links that went or came, and the links out of
+// the vertices that differ: 2 * 3 + 4.
+#[test]
+fn a_dearer_link_takes_a_path_away(rt: HostRuntime) -> Result<(), Fail> {
+    let core = after(&rt, DEARER)?;
+    let text = routes(rt.alloc(), &core)?;
+    assert!(rt;
+        text.as_str()
+            == "192.0.2.0/24 intra 0.0.0.0 10 0 direct:1\n198.18.0.0/24 intra 0.0.0.0 6 0 peer:2\n203.0.113.0/24 intra 0.0.0.0 11 0 router:1:192.0.2.2\n"
+    );
+    assert!(rt; changes(&core, &[LAN, OF_LEAF]) && works(&core, 10) && core.work().hop_sets >= 2);
+    Ok(())
+}
+
+// 2 * 3 + 2.
+#[test]
+fn another_address_is_another_hop(rt: HostRuntime) -> Result<(), Fail> {
+    let core = after(&rt, MOVED)?;
+    assert!(rt; changes(&core, &[OF_LEAF]) && works(&core, 8));
+    Ok(())
+}
+
+// 2 * 5 + 5.
+#[test]
+fn a_link_that_goes_leaves_the_longer_way(rt: HostRuntime) -> Result<(), Fail> {
+    let core = after(&rt, APART)?;
+    assert!(rt; changes(&core, &[LAN, OF_PEER, OF_LEAF]) && works(&core, 15));
+    Ok(())
+}
+
+// 2 * 5 + 8.
+#[test]
+fn a_cheaper_link_takes_all(rt: HostRuntime) -> Result<(), Fail> {
+    let core = after(&rt, CHEAPER)?;
+    assert!(rt; changes(&core, &[LAN, OF_LEAF]) && works(&core, 18));
+    Ok(())
+}
+
+// A second in which no LSA comes to MaxAge is no work and changes nothing.
+#[test]
+fn a_second_that_changes_nothing_is_no_work(rt: HostRuntime) -> Result<(), Fail> {
+    let core = after(&rt, "second\n")?;
+    assert!(rt; core.work().taken == 0 && core.work().hop_sets == 0 && changes(&core, &[]));
+    Ok(())
+}
+
+// The front of the leaf's router-LSA with its link to the network and a hundred more (RFC 2328, A.4.2).
+const FRONT: [u8; 36] = [
+    0, 1, 2, 1, 10, 0, 0, 2, 10, 0, 0, 2, 0x80, 0, 0, 2, 0, 0, 4, 0xd4, 0, 0, 0, 101, 192, 0, 2, 2,
+    192, 0, 2, 2, 2, 0, 0, 1,
+];
+
+// The router-LSA with a hundred stub links at metric 1, one of them at another metric.
+fn with_stubs(alloc: Global, seq: u8, other: u8) -> Result<Event, Fail> {
+    let mut bytes = Vec::from_slice(alloc, &FRONT)?;
+    for number in 0u8..100 {
+        push_stub(&mut bytes, number, if number == 57 { other } else { 1 })?;
+    }
+    *bytes.get_mut(15).ok_or("a byte")? = seq;
+    install(alloc, &mut bytes)
+}
+
+fn push_stub(bytes: &mut Vec<u8>, number: u8, metric: u8) -> Result<(), Fail> {
+    bytes.extend_from_slice(&[20, number, 0, 0, 255, 255, 0, 0, 3, 0, 0, metric])?;
+    Ok(())
+}
+
+// The install of the LSA of these bytes, with its checksum.
+fn install(alloc: Global, bytes: &mut [u8]) -> Result<Event, Fail> {
+    let [high, low] = sum_of(bytes).ok_or("20 bytes")?.to_be_bytes();
+    *bytes.get_mut(16).ok_or("a byte")? = high;
+    *bytes.get_mut(17).ok_or("a byte")? = low;
+    let lsa = read(alloc, bytes)?;
+    let scope = Scope::Area(0);
+    Ok(Event::Install { scope, lsa })
+}
+
+#[test]
+fn of_a_hundred_networks_one_changes(rt: HostRuntime) -> Result<(), Fail> {
+    let mut core = after(&rt, "")?;
+    core.apply(with_stubs(rt.alloc(), 2, 1)?)?;
+    let came = core.changes().len() == 101;
+    core.apply(with_stubs(rt.alloc(), 3, 7)?)?;
+    assert!(rt; came && changes(&core, &[(0x1439_0000, 16)]) && core.work().taken == 0);
+    Ok(())
+}
+
+// Whether the answer fits what the table then has: the old routes after a refusal and where it is behind, else the new.
+fn fits(core: &Core, answer: Result<Reply, Refusal>, is_old: bool, is_new: bool) -> bool {
+    match answer {
+        Err(refusal) => refusal == Refusal::Memory && is_old && core.journal().len() == 6,
+        Ok(reply) if reply.state == Standing::Behind => is_old && core.built() == 6,
+        Ok(_) => is_new,
+    }
+}
+
+// Brings the table up to the event, which is applied once more where it was refused.
+fn catches_up(core: &mut Core, is_refused: bool, event: Event) -> bool {
+    if is_refused {
+        return core.apply(event).is_ok();
+    }
+    core.catch_up() == Standing::Current
+}
+
+fn has_routes(rt: &HostRuntime, core: &Core, wanted: &String) -> Result<bool, Fail> {
+    let now = routes(rt.alloc(), core)?;
+    Ok(now.as_str() == wanted.as_str())
+}
+
+// The routes of a core after the event, with ample memory.
+fn fresh_routes(rt: &HostRuntime) -> Result<String, Fail> {
+    let mut fresh = after(rt, DEARER)?;
+    fresh.catch_up();
+    routes(rt.alloc(), &fresh)
+}
+
+// One more event where memory may be refused: it is refused and nothing has changed, or taken and the table is
+// behind, or all is as it is with ample memory. In the end the table is that of a fresh core.
+#[test]
+fn an_event_where_memory_may_be_refused(rt: HostRuntime) -> Result<(), Fail> {
+    let mut core = after(&rt, "")?;
+    let (old, new) = (routes(rt.alloc(), &core)?, fresh_routes(&rt)?);
+    let (first, again) = (dearer(&rt)?, dearer(&rt)?);
+    let answer = core.apply(first);
+    let (is_old, is_new) = (has_routes(&rt, &core, &old)?, has_routes(&rt, &core, &new)?);
+    let right = fits(&core, answer, is_old, is_new);
+    let caught_up = catches_up(&mut core, answer.is_err(), again);
+    let last = has_routes(&rt, &core, &new)?;
+    assert!(rt; right && caught_up && last && core.built() == 7);
+    Ok(())
+}
+
+// The event that makes the peer's link dearer.
+fn dearer(rt: &HostRuntime) -> Result<Event, Fail> {
+    let mut text = String::new(rt.alloc());
+    text.push_str("abr 1\nrouter 10.0.0.1\narea 0.0.0.0 normal\n")?;
+    text.push_str(DEARER)?;
+    let (_, mut events) = events_of(rt.alloc(), text.as_str())?;
+    let event = events.pop().ok_or("an event")?;
+    Ok(event)
+}

@@ -1,0 +1,44 @@
+use event_core::table::Item;
+use event_core::{Core, Event};
+use ospf_types::config::Config;
+use recording::{Line, parse};
+use std::alloc::Global;
+use std::hash::RandomState;
+use std::test::Fail;
+
+/// The configuration and the events of a recording.
+pub fn events_of(alloc: Global, text: &str) -> Result<(Config, Vec<Event>), Fail> {
+    let Ok(recording) = parse(alloc, text.as_bytes()) else {
+        return Err(Fail::from("a recording"));
+    };
+    let (config, lines) = recording.into_parts();
+    let mut events = Vec::new(alloc);
+    for line in lines {
+        if let Line::Event(event) = line {
+            events.push(event)?;
+        }
+    }
+    Ok((config, events))
+}
+
+/// The core after all events of a recording, each of which it takes.
+pub fn applied(alloc: Global, hashing: RandomState, text: &str) -> Result<Core, Fail> {
+    let (config, events) = events_of(alloc, text)?;
+    let mut core = Core::open(alloc, config, hashing)?;
+    for event in events {
+        core.apply(event)?;
+    }
+    Ok(core)
+}
+
+/// The routes of the core's table, printed.
+pub fn routes(alloc: Global, core: &Core) -> Result<String, Fail> {
+    let mut text = String::new(alloc);
+    for (network, item) in core.table().items() {
+        if let Item::Route(entry) = item {
+            let route = format!(in alloc; "{} {}\n", network, entry)?;
+            text.push_str(route.as_str())?;
+        }
+    }
+    Ok(text)
+}

@@ -1,0 +1,43 @@
+//! What an event may change, known before it is taken.
+ghost use Rattle.std.specs.Prelude.{IfOk, IfErr};
+ghost use Rattle.event_state.specs.Refusals.{IsRefusalOf};
+ghost use Rattle.event_state.specs.Steps.{step};
+ghost use Rattle.calculation.specs.Calculations.{StatesDifferAmong};
+
+use event_state::{Event, Refusal, State};
+use ospf_types::key::{Key, Scope};
+use ospf_types::memory::Memory;
+use std::alloc::Global;
+
+/// The LSAs and the interfaces that an event may change: the ones or the others.
+#[derive(Debug, Drop)]
+pub(crate) struct Named {
+    pub(crate) keys: Vec<(Scope, Key)>,
+    pub(crate) interfaces: Vec<u8>,
+}
+
+/// What the event may change, or its refusal where there is no room to say it.
+pub(crate) fn named_by(alloc: Global, state: &State, event: &Event) -> Result<Named, Refusal>
+    ensures named { IfOk result (λ named. StatesDifferAmong named.keys.items named.interfaces.items state.now (step state.now event.now)) }
+    ensures refused { IfErr result (IsRefusalOf state.now event.now) }
+{
+    match changed_by(alloc, state, event) {
+        Ok(named) => Ok(named),
+        Err(Memory) => Err(state.refusal(event).unwrap_or(Refusal::Memory)),
+    }
+}
+
+fn changed_by(alloc: Global, state: &State, event: &Event) -> Result<Named, Memory>
+    ensures { IfOk result (λ named. StatesDifferAmong named.keys.items named.interfaces.items state.now (step state.now event.now)) }
+{
+    if let Event::Interface { id, .. } = event {
+        return Ok(Named {
+            keys: Vec::new(alloc),
+            interfaces: Vec::from_slice(alloc, &[*id])?,
+        });
+    }
+    Ok(Named {
+        keys: state.named(alloc, event)?,
+        interfaces: Vec::new(alloc),
+    })
+}

@@ -1,0 +1,10 @@
+-- So far the routers that are named up to here are renewed.
+use Rattle.std.proofs.Common.{take}
+use Rattle.ospf_types.specs.declared.entry.Vertex.TheVariants.{Router}
+use Rattle.spf.specs.HandedOn.{IsOfSome}
+use Rattle.intra.specs.Following.{IsRenewed, NamesIn}
+use Rattle.intra.proofs.area.AreaIntra.renew_by_vertices.Given as goal
+
+abbrev pub invariant-loop-named : goal.invariant-loop-named
+invariant-loop-named l =
+    IsRenewed l.root l.area (λ r. IsOfSome (take l.named-index l.vertices) (NamesIn l.initial.self.id) (Router r)) l.initial.self l.self l.initial.routers.items l.routers.items

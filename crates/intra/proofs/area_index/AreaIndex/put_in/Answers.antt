@@ -1,0 +1,28 @@
+use Rattle.std.proofs.Common.{sym, ap, ◌∙◌}
+use Rattle.std.specs.FinMap.{insert, from_entries}
+use Rattle.ospf_types.specs.Vertices.{vertex_cmp}
+use Rattle.intra.specs.Indexes.{IndexValue, OfferedByVertex}
+use Rattle.ospf_types.proofs.VertexOrder.{vertex_total, vertex_exact, vertices_order}
+use Rattle.intra.proofs.KeyedMaps.{inserted}
+use Rattle.intra.proofs.SourceMaps.{sources_map}
+use Rattle.intra.proofs.IndexSteps.{put_there, touched_come, come_kept, named_kept}
+use Rattle.intra.proofs.area_index.AreaIndex.put_in.Goals as goal
+
+pub returns-clause-offered : goal.returns-clause-offered
+returns-clause-offered c =
+    inserted vertex_total vertex_exact vertices_order c.self.inside.offered.entries c.insert.new.self.entries c.args.vertex c.args.fresh c.in_ok-insert.ensures.updates.0
+    ∙ ap (λ (i : IndexValue). insert i.offered c.args.vertex c.args.fresh) c.self.view_is
+    ∙ ap (λ (m : OfferedByVertex). insert m c.args.vertex c.args.fresh) c.in_ok-add_sources.ensures.offered
+
+pub returns-clause-index : goal.returns-clause-index
+returns-clause-index c =
+    let new : IndexValue = record { offered = from_entries {R = vertex_cmp} c.insert.new.self.entries; sources = sources_map c.self.inside.sources.entries } in
+    put_there c.args.self.now new c.args.vertex c.args.fresh c.requires.absent c.requires.index (returns-clause-offered c)
+    (come_kept c.args.vertex c.offers.result.now c.args.fresh.offers c.offers.ensures c.args.self.now c.add_sources.new.self new (sym (ap (λ (i : IndexValue). i.sources) c.self.view_is)) c.in_ok-add_sources.ensures.come)
+
+pub returns-clause-touched : goal.returns-clause-touched
+returns-clause-touched c =
+    let new : IndexValue = record { offered = from_entries {R = vertex_cmp} c.insert.new.self.entries; sources = sources_map c.self.inside.sources.entries } in
+    touched_come c.args.self.now new c.args.vertex c.args.fresh.offers c.args.dirty.now.items c.add_sources.new.dirty.items
+    (come_kept c.args.vertex c.offers.result.now c.args.fresh.offers c.offers.ensures c.args.self.now c.add_sources.new.self new (sym (ap (λ (i : IndexValue). i.sources) c.self.view_is)) c.in_ok-add_sources.ensures.come)
+    (named_kept c.args.vertex c.offers.result.now c.args.fresh.offers c.offers.ensures c.args.dirty.now.items c.add_sources.new.dirty.items c.in_ok-add_sources.ensures.named)

@@ -1,0 +1,58 @@
+-- What the sources of a prefix in an area offer to it, part by part.
+use Rattle.std.specs.Prelude.{ℕ, ◌≡◌, ◌≤◌, ◌⊎◌, IsTrue, List, Contains, Option, Some, None}
+use Rattle.ospf_types.specs.declared.config.Interface.{Interface}
+use Rattle.ospf_types.specs.declared.hop.NextHop.{NextHop}
+use Rattle.ospf_types.specs.declared.hop.NextHop.TheVariants.{Direct}
+use Rattle.ospf_types.specs.declared.hop.Path.{Path}
+use Rattle.ospf_types.specs.declared.prefix.Prefix.{Prefix}
+use Rattle.ospf_types.specs.Hops.{path_cmp}
+use Rattle.ospf_types.specs.Intra.{AreaCost, area_cost_cmp, LiesIn, inside_area}
+use Rattle.intra.specs.declared.area_index.Source.{Source}
+use Rattle.intra.specs.Choices.{Chosen}
+use Rattle.intra.specs.Inputs.{AreaValue, InputsValue}
+use Rattle.intra.specs.Offers.{Offering, IsReachedFor, IsNearest, OffersTransit, OffersStub, OffersOwn}
+use Rattle.intra.specs.Takes.{Takes, OnlyOffer, OfferedBySome}
+
+-- just these offers of paths were taken
+abbrev pub TakesPaths : (AreaCost → Path → Type 0) → Option (Chosen AreaCost Path) → Option (Chosen AreaCost Path) → Type 0
+TakesPaths offers old new = Takes area_cost_cmp path_cmp offers old new
+
+-- the sources of one prefix offer it
+abbrev pub AmongSources : List Source → Offering
+AmongSources sources v p metric = Contains sources (record { vertex = v; metric = metric })
+
+-- one source alone offers it
+abbrev pub ThisSource : Source → Offering
+ThisSource source v p metric = source ≡ record { vertex = v; metric = metric }
+
+-- what an area offers by stub links, at its cost in that area
+abbrev pub KeyedStubs : Offering → InputsValue → AreaValue → Prefix → AreaCost → Path → Type 0
+KeyedStubs offered v a p key path = (key.1 ≡ a.id) × (OffersStub offered v.root a p key.0 path ⊎ OffersOwn offered v a p key.0 path)
+
+-- what it offers as a transit network
+abbrev pub KeyedTransit : Offering → AreaValue → Prefix → AreaCost → Path → Type 0
+KeyedTransit offered a p key path = (key.1 ≡ a.id) × OffersTransit offered a p key.0 path
+
+-- a path over each of these next hops
+abbrev pub HopsOffer : List NextHop → AreaCost → AreaCost → Path → Type 0
+HopsOffer hops at = OfferedBySome hops (λ h. OnlyOffer at (inside_area h))
+
+-- the interface is one of the area, is up, and lies in the network
+pub record IsOver (area : ℕ) (p : Prefix) (i : Interface) : Type 0 where
+  pub here : i.area ≡ area
+  pub up : IsTrue i.up
+  pub inside : LiesIn i p
+
+-- a path over the interface, where it is one of the area, up and in the network
+abbrev pub InterfaceOffers : Prefix → AreaCost → ℕ × Interface → AreaCost → Path → Type 0
+InterfaceOffers p at e key path = IsOver at.1 p e.1 × OnlyOffer at (inside_area (Direct e.0)) key path
+
+-- the transit network that stands for the prefix with its distance, or none where none is reached
+abbrev pub FindsNearest : Offering → AreaValue → Prefix → Option (ℕ × ℕ) → Type 0
+FindsNearest offered a p None = (id distance : ℕ) → IsReachedFor offered a p id distance → ⊥
+FindsNearest offered a p (Some found) = IsNearest offered a p found.0 found.1
+
+-- of two networks, each a number and a distance: the first is the nearer, or at one distance has the greater number, or is the second
+pub record IsNoFarther (a b : ℕ × ℕ) : Type 0 where
+  pub near : a.1 ≤ b.1
+  pub great : a.1 ≡ b.1 → b.0 ≤ a.0

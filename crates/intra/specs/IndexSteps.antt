@@ -1,0 +1,27 @@
+-- How an index changes as the offers of a vertex are taken out and put in.
+use Rattle.std.specs.Prelude.{ℕ, ◌≡◌, ◌↔◌, ◌⊎◌, List, Contains}
+use Rattle.ospf_types.specs.declared.entry.Vertex.{Vertex}
+use Rattle.ospf_types.specs.declared.prefix.Prefix.{Prefix}
+use Rattle.intra.specs.declared.offered.Offer.{Offer}
+use Rattle.intra.specs.Indexes.{IndexValue, IsSource}
+
+-- these vertices no longer offer these prefixes, and all else is offered as before
+abbrev pub AreGone : (Vertex → Prefix → Type 0) → IndexValue → IndexValue → Type 0
+AreGone gone old new = (w : Vertex) (p : Prefix) (metric : ℕ) → IsSource new w p metric ↔ (IsSource old w p metric × (gone w p → ⊥))
+
+-- this is offered too
+abbrev pub HaveCome : (Vertex → Prefix → ℕ → Type 0) → IndexValue → IndexValue → Type 0
+HaveCome come old new = (w : Vertex) (p : Prefix) (metric : ℕ) → IsSource new w p metric ↔ (IsSource old w p metric ⊎ come w p metric)
+
+-- the prefix of one of these offers, by this vertex
+abbrev pub IsPrefixOf : Vertex → List Offer → Vertex → Prefix → Type 0
+IsPrefixOf v offers w p = (w ≡ v) × ((metric : ℕ) × Contains offers (record { prefix = p; metric = metric }))
+
+-- one of these offers, by this vertex
+abbrev pub IsOfferOf : Vertex → List Offer → Vertex → Prefix → ℕ → Type 0
+IsOfferOf v offers w p metric = (w ≡ v) × Contains offers (record { prefix = p; metric = metric })
+
+-- after it has all prefixes of before, and those of the offers
+pub record AreNamed (offers : List Offer) (before after : List Prefix) : Type 0 where
+  pub kept : (p : Prefix) → Contains before p → Contains after p
+  pub named : (p : Prefix) (metric : ℕ) → Contains offers (record { prefix = p; metric = metric }) → Contains after p

@@ -1,0 +1,15 @@
+pub mod Choices
+pub mod Takes
+pub mod Inputs
+pub mod Offers
+pub mod Stubs
+pub mod Indexes
+pub mod Choosing
+pub mod IndexSteps
+pub mod Reached
+pub mod Intras
+pub mod Changes
+pub mod Right
+pub mod Following
+pub mod Updating
+pub mod Renewing

@@ -1,0 +1,42 @@
+-- How what is kept of the areas follows the inputs, area by area.
+use Rattle.std.specs.Prelude.{ℕ, ◌≡◌, ◌≢◌, ◌<◌, ◌≤◌, ◌⊎◌, ◌↔◌, List, [], Contains, length, get_or, Option}
+use Rattle.std.specs.FinMap.{get}
+use Rattle.ospf_types.specs.declared.entry.Vertex.{Vertex}
+use Rattle.ospf_types.specs.declared.key.Key.{Key}
+use Rattle.ospf_types.specs.declared.key.Scope.{Scope}
+use Rattle.ospf_types.specs.declared.prefix.Prefix.{Prefix}
+use Rattle.intra.specs.Changes.{DiffersAmong}
+use Rattle.intra.specs.Following.{IsGathered, IsRouterNamed, router_now}
+use Rattle.intra.specs.Indexes.{IsIndexOf}
+use Rattle.intra.specs.Inputs.{AreaValue}
+use Rattle.intra.specs.Intras.{AreaIntraValue, IsAreaIntra}
+
+-- what is kept is that of an area from which this one differs in no more than is named
+abbrev pub IsKeptBefore : ℕ → List (Scope × Key) → List (ℕ × Vertex) → AreaValue → AreaIntraValue → Type 0
+IsKeptBefore root keys vertices a i = (b : AreaValue) × IsAreaIntra root b i × DiffersAmong keys vertices b a
+
+-- the same of each area
+pub record AreKeptBefore (root : ℕ) (keys : List (Scope × Key)) (vertices : List (ℕ × Vertex)) (areas : List AreaValue) (kept : List AreaIntraValue) : Type 0 where
+  pub as_many : length areas ≡ length kept
+  pub each : (k : ℕ) (a : AreaValue) (i : AreaIntraValue) → k < length areas → IsKeptBefore root keys vertices (get_or areas k a) (get_or kept k i)
+
+-- of the first areas, so many, this holds before and after, and the others are as before
+pub record AreFirst (P : AreaValue → AreaIntraValue → AreaIntraValue → Type 0) (areas : List AreaValue) (old new : List AreaIntraValue) (count : ℕ) : Type 0 where
+  pub as_many : length new ≡ length old
+  pub each : (k : ℕ) (a : AreaValue) (i j : AreaIntraValue) → k < count → P (get_or areas k a) (get_or old k i) (get_or new k j)
+  pub rest : (k : ℕ) (i : AreaIntraValue) → count ≤ k → get_or new k i ≡ get_or old k i
+
+-- the index is that of the area, and the prefixes that may get another entry are among these
+pub record IsFollowed (root : ℕ) (vertices : List (ℕ × Vertex)) (interfaces : List ℕ) (prefixes : List Prefix) (a : AreaValue) (old new : AreaIntraValue) : Type 0 where
+  pub index : IsIndexOf a.lsas new.index
+  pub gathered : IsGathered root vertices interfaces old new [] prefixes
+
+-- only what is kept of routers followed: the named ones are as they are to be, and the others as before
+pub record IsSettled (root : ℕ) (keys : List (Scope × Key)) (vertices : List (ℕ × Vertex)) (a : AreaValue) (old new : AreaIntraValue) : Type 0 where
+  pub id : new.id ≡ old.id
+  pub index : new.index ≡ old.index
+  pub each : (router : ℕ) → (get new.reached router ≡ router_now root a old.index router) ⊎ ((get new.reached router ≡ get old.reached router) × (IsRouterNamed keys vertices old.id router → ⊥))
+
+-- in one of the first areas, so many, something else is kept of the router
+abbrev pub HasOtherAmong : ℕ → List AreaIntraValue → List AreaIntraValue → ℕ → Type 0
+HasOtherAmong count old new router = (k : ℕ) × (k < count) × ((i : AreaIntraValue) → get (get_or new k i).reached router ≢ get (get_or old k i).reached router)

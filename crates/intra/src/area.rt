@@ -1,0 +1,374 @@
+//! What is kept of an area: the index of its LSAs, and the routers that are reached in it.
+ghost use Rattle.std.specs.Prelude.{◌≡◌, ◌≢◌, ℕ, List, Contains, OnOk, IfOk, IfSome, IfNone, option_copied, option_map};
+ghost use Rattle.std.specs.FinMap as map;
+ghost use Rattle.ospf_types.specs.declared.entry.Vertex.{Vertex as VertexValue};
+ghost use Rattle.ospf_types.specs.declared.entry.Vertex.TheVariants as vertex_value;
+ghost use Rattle.ospf_types.specs.declared.prefix.Prefix.{Prefix as PrefixValue};
+ghost use Rattle.lsdb.specs.Databases.{Database as Lsas};
+ghost use Rattle.vertex_graph.specs.declared.link.Up.{Up as UpValue};
+ghost use Rattle.spf.specs.HandedOn.{IsOfSome};
+ghost use Rattle.area_trees.specs.Areas.{IsAreaTree};
+ghost use Rattle.intra.specs.Indexes.{IsIndex, IsIndexOf};
+ghost use Rattle.intra.specs.Following.{LsasDifferAmong, NamesVertex, NamesIn, IsRouterNamed, IsTaken, HasOffered, IsGathered, IsRenewed, router_now};
+
+use crate::area_index::AreaIndex;
+use crate::dirty::Dirty;
+use crate::inputs::AreaInputs;
+use crate::offered::Offer;
+use crate::reached::{Reached, keep};
+use crate::same::are_same;
+use area_trees::vertex_of;
+use indexmap::IndexMap;
+use ospf_types::entry::Vertex;
+use ospf_types::key::{Key, Scope};
+use ospf_types::memory::Memory;
+use ospf_types::prefix::Prefix;
+use std::alloc::Global;
+use std::hash::RandomState;
+use std::marker::Model;
+
+/// What is kept of an area.
+#[derive(Debug, Drop)]
+pub(crate) struct AreaIntra {
+    id: u32,
+    index: AreaIndex,
+    reached: IndexMap<u32, Reached, RandomState>,
+}
+
+impl Model for AreaIntra {
+    ghost use Rattle.std.specs.FinMap as map;
+    ghost use Rattle.std.specs.Coded.{Coded, codes, coded_ℕ};
+    ghost use Rattle.ospf_types.specs.Network.{network_code};
+    ghost use Rattle.ospf_types.specs.Vertices.{vertex_code};
+    ghost use Rattle.intra.specs.Indexes.{OfferedByVertex, SourcesByPrefix};
+    ghost use Rattle.intra.specs.Reached.{ReachedByRouter};
+    ghost use Rattle.intra.specs.Intras.{AreaIntraValue};
+    ghost use Rattle.intra.specs.contracts.offered.Offer as offer;
+    ghost use Rattle.intra.specs.contracts.area_index.Source as source;
+
+    ghost Value = { AreaIntraValue };
+
+    ghost coded = { let offered : Coded OfferedByVertex = map.code vertex_code (Prim.hlevel (codes, offer.the_row.coded)) in
+        let sources : Coded SourcesByPrefix = map.code network_code (Prim.hlevel (codes, source.the_row.coded)) in
+        let reached : Coded ReachedByRouter = map.code coded_ℕ (Prim.hlevel codes) in
+        Prim.hlevel (codes, offered, sources, reached) };
+
+    ghost view = { λ a. record { id = a.id; index = a.index; reached = map.from_entries a.reached.entries } };
+}
+
+impl AreaIntra {
+    /// What is kept of an area without LSAs.
+    pub(crate) fn new(alloc: Global, id: u32, hashing: RandomState) -> AreaIntra
+        ensures { result ≡ record { id = id; index = record { offered = map.empty; sources = map.empty }; reached = map.empty } }
+    {
+        AreaIntra {
+            id,
+            index: AreaIndex::new(alloc, hashing),
+            reached: IndexMap::with_hasher(alloc, hashing),
+        }
+    }
+
+    /// The Area ID.
+    pub(crate) fn id(&self) -> u32
+        ensures { result ≡ self.now.id }
+    {
+        self.id
+    }
+
+    pub(crate) fn index(&self) -> &AreaIndex
+        ensures { result.now ≡ self.now.index }
+    {
+        &self.index
+    }
+
+    /// A border router or AS boundary router that is reached in the area.
+    pub(crate) fn router(&self, router: u32) -> Option<&Reached>
+        ensures { option_copied result ≡ map.get self.now.reached router }
+    {
+        self.reached.get(&router)
+    }
+}
+
+impl AreaIntra {
+    /// The index takes what the named LSAs say now. The prefixes that may get another entry are added to those that are
+    /// dirty: those of LSAs that offer something else, those of vertices that are named, and, after a change of an
+    /// interface, those of the root.
+    pub(crate) fn follow(
+        &mut self,
+        root: u32,
+        area: &AreaInputs<'_>,
+        dirty: &Dirty,
+        prefixes: &mut Vec<Prefix>,
+    ) -> Result<(), Memory>
+        requires ready { (center : ℕ) × (ups : List UpValue) × IsAreaTree center area.now.lsas ups area.now.tree }
+        requires before { (before : Lsas) × IsIndexOf before self.old.index × LsasDifferAmong dirty.now.keys.items self.old.id before area.now.lsas }
+        ensures index { OnOk result (IsIndexOf area.now.lsas self.new.index) }
+        ensures gathered { OnOk result (IsGathered root dirty.now.vertices.items dirty.now.interfaces.items self.old self.new prefixes.old.items prefixes.new.items) }
+    {
+        self.follow_keys(area, &dirty.keys, prefixes)?;
+        self.name_vertices(&dirty.vertices, prefixes)?;
+        if !dirty.interfaces.is_empty() {
+            self.name_prefixes(Vertex::Router(root), prefixes)?;
+        }
+        Ok(())
+    }
+
+    // The index takes what the named LSAs of the area say now.
+    fn follow_keys(
+        &mut self,
+        area: &AreaInputs<'_>,
+        keys: &[(Scope, Key)],
+        prefixes: &mut Vec<Prefix>,
+    ) -> Result<(), Memory>
+        requires index { IsIndex self.old.index }
+        requires ready { (center : ℕ) × (ups : List UpValue) × IsAreaTree center area.now.lsas ups area.now.tree }
+        ensures { OnOk result (IsTaken area.now.lsas (IsOfSome keys.now (NamesVertex self.old.id)) self.old self.new prefixes.old.items prefixes.new.items) }
+    {
+        for named in keys {
+            self.follow_key(area, *named, prefixes)?;
+        }
+        Ok(())
+    }
+
+    // The index takes what the LSA under the key says now, where it is one of the area.
+    fn follow_key(
+        &mut self,
+        area: &AreaInputs<'_>,
+        named: (Scope, Key),
+        prefixes: &mut Vec<Prefix>,
+    ) -> Result<(), Memory>
+        requires index { IsIndex self.old.index }
+        requires ready { (center : ℕ) × (ups : List UpValue) × IsAreaTree center area.now.lsas ups area.now.tree }
+        ensures { OnOk result (IsTaken area.now.lsas (NamesVertex self.old.id named) self.old self.new prefixes.old.items prefixes.new.items) }
+    {
+        let Some(vertex) = vertex_in(self.id, named) else {
+            return Ok(());
+        };
+        self.index.follow(area, vertex, prefixes)?;
+        Ok(())
+    }
+
+    // Adds what the named vertices of the area offer.
+    fn name_vertices(
+        &self,
+        vertices: &[(u32, Vertex)],
+        prefixes: &mut Vec<Prefix>,
+    ) -> Result<(), Memory>
+        ensures { OnOk result (HasOffered self.now.index (IsOfSome vertices.now (NamesIn self.now.id)) prefixes.old.items prefixes.new.items) }
+    {
+        for named in vertices {
+            self.name_vertex(*named, prefixes)?;
+        }
+        Ok(())
+    }
+
+    // Adds what the vertex offers, where it is one of the area.
+    fn name_vertex(&self, named: (u32, Vertex), prefixes: &mut Vec<Prefix>) -> Result<(), Memory>
+        ensures { OnOk result (HasOffered self.now.index (NamesIn self.now.id named) prefixes.old.items prefixes.new.items) }
+    {
+        let (area, vertex) = named;
+        if area == self.id {
+            return self.name_prefixes(vertex, prefixes);
+        }
+        Ok(())
+    }
+
+    // Adds what the vertex offers.
+    fn name_prefixes(&self, vertex: Vertex, prefixes: &mut Vec<Prefix>) -> Result<(), Memory>
+        ensures { OnOk result (HasOffered self.now.index (λ v. v ≡ vertex) prefixes.old.items prefixes.new.items) }
+    {
+        let Some(offered) = self.index.offered(vertex) else {
+            return Ok(());
+        };
+        push_prefixes(offered.offers(), prefixes)?;
+        Ok(())
+    }
+
+    /// Takes what the named routers are now, and adds those of which something else is kept.
+    pub(crate) fn renew_routers(
+        &mut self,
+        alloc: Global,
+        root: u32,
+        area: &AreaInputs<'_>,
+        dirty: &Dirty,
+        routers: &mut Vec<u32>,
+    ) -> Result<(), Memory>
+        ensures { OnOk result (IsRenewed root area.now (IsRouterNamed dirty.now.keys.items dirty.now.vertices.items self.old.id) self.old self.new routers.old.items routers.new.items) }
+    {
+        self.renew_by_keys(alloc, root, area, &dirty.keys, routers)?;
+        self.renew_by_vertices(alloc, root, area, &dirty.vertices, routers)
+    }
+
+    // Takes what the routers with a named router-LSA of the area are now.
+    fn renew_by_keys(
+        &mut self,
+        alloc: Global,
+        root: u32,
+        area: &AreaInputs<'_>,
+        keys: &[(Scope, Key)],
+        routers: &mut Vec<u32>,
+    ) -> Result<(), Memory>
+        ensures { OnOk result (IsRenewed root area.now (λ r. IsOfSome keys.now (NamesVertex self.old.id) (vertex_value.Router r)) self.old self.new routers.old.items routers.new.items) }
+    {
+        for named in keys {
+            self.renew_by_key(alloc, root, area, *named, routers)?;
+        }
+        Ok(())
+    }
+
+    // Takes what the router with this router-LSA is now, where it is one of the area.
+    fn renew_by_key(
+        &mut self,
+        alloc: Global,
+        root: u32,
+        area: &AreaInputs<'_>,
+        named: (Scope, Key),
+        routers: &mut Vec<u32>,
+    ) -> Result<(), Memory>
+        ensures { OnOk result (IsRenewed root area.now (λ r. NamesVertex self.old.id named (vertex_value.Router r)) self.old self.new routers.old.items routers.new.items) }
+    {
+        match vertex_in(self.id, named) {
+            Some(vertex) => self.renew_vertex(alloc, root, area, vertex, routers),
+            None => Ok(()),
+        }
+    }
+
+    // Takes what the named routers of the area are now.
+    fn renew_by_vertices(
+        &mut self,
+        alloc: Global,
+        root: u32,
+        area: &AreaInputs<'_>,
+        vertices: &[(u32, Vertex)],
+        routers: &mut Vec<u32>,
+    ) -> Result<(), Memory>
+        ensures { OnOk result (IsRenewed root area.now (λ r. IsOfSome vertices.now (NamesIn self.old.id) (vertex_value.Router r)) self.old self.new routers.old.items routers.new.items) }
+    {
+        for named in vertices {
+            self.renew_named(alloc, root, area, *named, routers)?;
+        }
+        Ok(())
+    }
+
+    // Takes what the vertex is now, where it is a router of the area.
+    fn renew_named(
+        &mut self,
+        alloc: Global,
+        root: u32,
+        area: &AreaInputs<'_>,
+        named: (u32, Vertex),
+        routers: &mut Vec<u32>,
+    ) -> Result<(), Memory>
+        ensures { OnOk result (IsRenewed root area.now (λ r. NamesIn self.old.id named (vertex_value.Router r)) self.old self.new routers.old.items routers.new.items) }
+    {
+        let (id, vertex) = named;
+        if id == self.id {
+            return self.renew_vertex(alloc, root, area, vertex, routers);
+        }
+        Ok(())
+    }
+
+    // Takes what the vertex is now, where it is a router.
+    fn renew_vertex(
+        &mut self,
+        alloc: Global,
+        root: u32,
+        area: &AreaInputs<'_>,
+        vertex: Vertex,
+        routers: &mut Vec<u32>,
+    ) -> Result<(), Memory>
+        ensures { OnOk result (IsRenewed root area.now (λ r. vertex ≡ vertex_value.Router r) self.old self.new routers.old.items routers.new.items) }
+    {
+        match vertex {
+            Vertex::Router(router) => self.renew(alloc, root, area, router, routers),
+            Vertex::Network(_) => Ok(()),
+        }
+    }
+
+    // Takes what the router is now, and adds it where something else is kept.
+    fn renew(
+        &mut self,
+        alloc: Global,
+        root: u32,
+        area: &AreaInputs<'_>,
+        router: u32,
+        routers: &mut Vec<u32>,
+    ) -> Result<(), Memory>
+        ensures { OnOk result (IsRenewed root area.now (λ r. r ≡ router) self.old self.new routers.old.items routers.new.items) }
+    {
+        let fresh = self.fresh(alloc, root, area, router)?;
+        if are_same(self.router(router), fresh.as_ref()) {
+            return Ok(());
+        }
+        self.put(router, fresh)?;
+        routers.push(router)?;
+        Ok(())
+    }
+
+    // What is to be kept of the router.
+    fn fresh(
+        &self,
+        alloc: Global,
+        root: u32,
+        area: &AreaInputs<'_>,
+        router: u32,
+    ) -> Result<Option<Reached>, Memory>
+        ensures { IfOk result (λ kept. kept ≡ router_now root area.now self.now.index router) }
+    {
+        let vertex = Vertex::Router(router);
+        let (distance, hops) = (area.tree.distance(vertex), area.tree.hops(vertex));
+        keep(alloc, root, router, self.flags(router), distance, hops)
+    }
+
+    // The bits of the router's LSA.
+    fn flags(&self, router: u32) -> Option<u8>
+        ensures { result ≡ option_map (λ o. o.flags) (map.get self.now.index.offered (vertex_value.Router router)) }
+    {
+        match self.index.offered(Vertex::Router(router)) {
+            Some(offered) => Some(offered.flags()),
+            None => None,
+        }
+    }
+
+    // This is kept of the router.
+    fn put(&mut self, router: u32, fresh: Option<Reached>) -> Result<(), Memory>
+        ensures id { OnOk result (self.new.id ≡ self.old.id) }
+        ensures index { OnOk result (self.new.index ≡ self.old.index) }
+        ensures here { OnOk result (map.get self.new.reached router ≡ fresh) }
+        ensures others { OnOk result ((r : ℕ) → r ≢ router → map.get self.new.reached r ≡ map.get self.old.reached r) }
+    {
+        match fresh {
+            Some(fresh) => {
+                self.reached.insert(router, fresh)?;
+            }
+            None => {
+                self.reached.swap_remove(&router);
+            }
+        }
+        Ok(())
+    }
+}
+
+// Adds the prefixes of the offers.
+fn push_prefixes(offers: &[Offer], prefixes: &mut Vec<Prefix>) -> Result<(), Memory>
+    ensures kept { OnOk result ((p : PrefixValue) → Contains prefixes.old.items p → Contains prefixes.new.items p) }
+    ensures offered { OnOk result ((p : PrefixValue) (metric : ℕ) → Contains offers.now (record { prefix = p; metric = metric }) → Contains prefixes.new.items p) }
+{
+    for offer in offers {
+        prefixes.push(offer.prefix)?;
+    }
+    Ok(())
+}
+
+// The vertex that an LSA with this key stands for, where it is one of the area.
+fn vertex_in(area: u32, named: (Scope, Key)) -> Option<Vertex>
+    ensures is { IfSome result (λ vertex. NamesVertex area named vertex) }
+    ensures none { IfNone result ((v : VertexValue) → NamesVertex area named v → ⊥) }
+{
+    let (scope, key) = named;
+    if scope == Scope::Area(area) {
+        vertex_of(key)
+    } else {
+        None
+    }
+}

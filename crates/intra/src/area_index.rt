@@ -1,0 +1,241 @@
+//! The index of an area: what each vertex offers, and who offers each prefix. It follows the area's LSAs alone.
+ghost use Rattle.std.specs.Prelude.{◌≡◌, ◌≢◌, ◌↔◌, ℕ, List, Option, None, Contains, IfOk, OnOk, option_copied};
+ghost use Rattle.std.specs.FinMap as map;
+ghost use Rattle.vertex_graph.specs.declared.link.Up.{Up as UpValue};
+ghost use Rattle.ospf_types.specs.declared.entry.Vertex.{Vertex as VertexValue};
+ghost use Rattle.ospf_types.specs.Lsa.{Body};
+ghost use Rattle.area_trees.specs.Areas.{IsAreaTree, IsStanding};
+ghost use Rattle.intra.specs.Indexes.{IsIndex, IsOfferedFor, AreTouched, sources_of};
+ghost use Rattle.intra.specs.IndexSteps.{AreGone, HaveCome, IsPrefixOf, IsOfferOf, AreNamed};
+
+use crate::inputs::AreaInputs;
+use crate::offered::{Offer, Offered, offers_in};
+use crate::same::are_same;
+use indexmap::IndexMap;
+use ospf_types::entry::Vertex;
+use ospf_types::memory::Memory;
+use ospf_types::prefix::Prefix;
+use std::alloc::Global;
+use std::hash::RandomState;
+use std::marker::Model;
+
+/// A vertex that offers a prefix, at a metric beside its distance.
+#[derive(Clone, Copy, Debug, PartialEq, Eq)]
+pub(crate) struct Source {
+    pub(crate) vertex: Vertex,
+    pub(crate) metric: u16,
+}
+
+/// What each vertex of an area offers, as it was last taken from its LSA, and who offers each prefix.
+#[derive(Debug, Drop)]
+pub(crate) struct AreaIndex {
+    alloc: Global,
+    offered: IndexMap<Vertex, Offered, RandomState>,
+    sources: IndexMap<Prefix, Vec<Source>, RandomState>,
+}
+
+impl Model for AreaIndex {
+    ghost use Rattle.std.specs.Prelude.{map as list_map, List};
+    ghost use Rattle.std.specs.FinMap as map;
+    ghost use Rattle.std.specs.Coded.{Coded, codes};
+    ghost use Rattle.ospf_types.specs.Network.{network_code};
+    ghost use Rattle.ospf_types.specs.Vertices.{vertex_code};
+    ghost use Rattle.intra.specs.Indexes.{IndexValue, OfferedByVertex, SourcesByPrefix};
+    ghost use Rattle.intra.specs.contracts.offered.Offer as offer;
+    ghost use Rattle.intra.specs.contracts.area_index.Source as source;
+
+    ghost Value = { IndexValue };
+
+    ghost coded = { let offered : Coded OfferedByVertex = map.code vertex_code (Prim.hlevel (codes, offer.the_row.coded)) in
+        let sources : Coded SourcesByPrefix = map.code network_code (Prim.hlevel (codes, source.the_row.coded)) in
+        Prim.hlevel (codes, offered, sources) };
+
+    ghost view = { λ i. record { offered = map.from_entries i.offered.entries; sources = map.from_entries (list_map (λ e. (e.0, e.1.items)) i.sources.entries) } };
+}
+
+impl AreaIndex {
+    /// The index of no LSAs.
+    pub(crate) fn new(alloc: Global, hashing: RandomState) -> AreaIndex
+        ensures { result ≡ record { offered = map.empty; sources = map.empty } }
+    {
+        AreaIndex {
+            alloc,
+            offered: IndexMap::with_hasher(alloc, hashing),
+            sources: IndexMap::with_hasher(alloc, hashing),
+        }
+    }
+
+    /// What the vertex offers.
+    pub(crate) fn offered(&self, vertex: Vertex) -> Option<&Offered>
+        ensures { option_copied result ≡ map.get self.now.offered vertex }
+    {
+        self.offered.get(&vertex)
+    }
+
+    /// The vertices that offer the prefix.
+    pub(crate) fn sources(&self, prefix: Prefix) -> &[Source]
+        ensures { result.now ≡ sources_of (map.get self.now.sources prefix) }
+    {
+        match self.sources.get(&prefix) {
+            Some(sources) => sources.as_slice(),
+            None => &[],
+        }
+    }
+
+    /// Takes what the LSA that stands for the vertex offers now in the place of what it offered. Where the two differ,
+    /// the prefixes of both are added to those that are dirty.
+    pub(crate) fn follow(
+        &mut self,
+        area: &AreaInputs<'_>,
+        vertex: Vertex,
+        dirty: &mut Vec<Prefix>,
+    ) -> Result<(), Memory>
+        requires index { IsIndex self.old }
+        requires ready { (root : ℕ) × (ups : List UpValue) × IsAreaTree root area.now.lsas ups area.now.tree }
+        ensures index { OnOk result (IsIndex self.new) }
+        ensures taken { OnOk result ((body : Option Body) × IsStanding area.now.lsas vertex body × IsOfferedFor vertex body (map.get self.new.offered vertex)) }
+        ensures others { OnOk result ((w : VertexValue) → w ≢ vertex → map.get self.new.offered w ≡ map.get self.old.offered w) }
+        ensures touched { OnOk result (AreTouched self.old self.new dirty.old.items dirty.new.items) }
+    {
+        let fresh = standing_offers(self.alloc, area, vertex)?;
+        if are_same(self.offered(vertex), fresh.as_ref()) {
+            return Ok(());
+        }
+        self.take_out(vertex, dirty)?;
+        match fresh {
+            Some(fresh) => {
+                self.put_in(vertex, fresh, dirty)?;
+                Ok(())
+            }
+            None => Ok(()),
+        }
+    }
+}
+
+impl AreaIndex {
+    // Takes out what the vertex offers, and names its prefixes.
+    fn take_out(&mut self, vertex: Vertex, dirty: &mut Vec<Prefix>) -> Result<(), Memory>
+        requires { IsIndex self.old }
+        ensures index { OnOk result (IsIndex self.new) }
+        ensures offered { OnOk result (self.new.offered ≡ map.remove self.old.offered vertex) }
+        ensures touched { OnOk result (AreTouched self.old self.new dirty.old.items dirty.new.items) }
+    {
+        match self.offered.swap_remove(&vertex) {
+            Some(gone) => {
+                self.remove_sources(vertex, gone.offers(), dirty)?;
+                Ok(())
+            }
+            None => Ok(()),
+        }
+    }
+
+    // The vertex no longer offers the prefixes of these offers.
+    fn remove_sources(
+        &mut self,
+        vertex: Vertex,
+        offers: &[Offer],
+        dirty: &mut Vec<Prefix>,
+    ) -> Result<(), Memory>
+        ensures offered { OnOk result (self.new.offered ≡ self.old.offered) }
+        ensures gone { OnOk result (AreGone (IsPrefixOf vertex offers.now) self.old self.new) }
+        ensures named { OnOk result (AreNamed offers.now dirty.old.items dirty.new.items) }
+    {
+        for offer in offers {
+            self.remove_source(vertex, offer.prefix);
+            dirty.push(offer.prefix)?;
+        }
+        Ok(())
+    }
+
+    // The vertex no longer offers the prefix.
+    fn remove_source(&mut self, vertex: Vertex, prefix: Prefix)
+        ensures offered { self.new.offered ≡ self.old.offered }
+        ensures gone { AreGone (λ w p. (w ≡ vertex) × (p ≡ prefix)) self.old self.new }
+    {
+        let Some(sources) = self.sources.get_mut(&prefix) else {
+            return;
+        };
+        leave_out(sources, vertex);
+        if sources.is_empty() {
+            self.sources.swap_remove(&prefix);
+        }
+    }
+
+    // Puts in what the vertex offers, of which nothing is there, and names its prefixes.
+    fn put_in(
+        &mut self,
+        vertex: Vertex,
+        fresh: Offered,
+        dirty: &mut Vec<Prefix>,
+    ) -> Result<(), Memory>
+        requires index { IsIndex self.old }
+        requires absent { map.get self.old.offered vertex ≡ None }
+        ensures index { OnOk result (IsIndex self.new) }
+        ensures offered { OnOk result (self.new.offered ≡ map.insert self.old.offered vertex fresh) }
+        ensures touched { OnOk result (AreTouched self.old self.new dirty.old.items dirty.new.items) }
+    {
+        self.add_sources(vertex, fresh.offers(), dirty)?;
+        self.offered.insert(vertex, fresh)?;
+        Ok(())
+    }
+
+    // The vertex offers these prefixes too.
+    fn add_sources(
+        &mut self,
+        vertex: Vertex,
+        offers: &[Offer],
+        dirty: &mut Vec<Prefix>,
+    ) -> Result<(), Memory>
+        ensures offered { OnOk result (self.new.offered ≡ self.old.offered) }
+        ensures come { OnOk result (HaveCome (IsOfferOf vertex offers.now) self.old self.new) }
+        ensures named { OnOk result (AreNamed offers.now dirty.old.items dirty.new.items) }
+    {
+        for offer in offers {
+            self.add_source(vertex, *offer)?;
+            dirty.push(offer.prefix)?;
+        }
+        Ok(())
+    }
+
+    // The vertex offers the prefix too.
+    fn add_source(&mut self, vertex: Vertex, offer: Offer) -> Result<(), Memory>
+        ensures offered { OnOk result (self.new.offered ≡ self.old.offered) }
+        ensures come { OnOk result (HaveCome (λ w p metric. (w ≡ vertex) × (p ≡ offer.prefix) × (metric ≡ offer.metric)) self.old self.new) }
+    {
+        let metric = offer.metric;
+        let source = Source { vertex, metric };
+        match self.sources.get_mut(&offer.prefix) {
+            Some(sources) => {
+                sources.push(source)?;
+                Ok(())
+            }
+            None => {
+                let first = Vec::from_slice(self.alloc, &[source])?;
+                self.sources.insert(offer.prefix, first)?;
+                Ok(())
+            }
+        }
+    }
+}
+
+// What the LSA that stands for the vertex offers, if there is one.
+fn standing_offers(
+    alloc: Global,
+    area: &AreaInputs<'_>,
+    vertex: Vertex,
+) -> Result<Option<Offered>, Memory>
+    requires { (root : ℕ) × (ups : List UpValue) × IsAreaTree root area.now.lsas ups area.now.tree }
+    ensures { IfOk result (λ offered. (body : Option Body) × IsStanding area.now.lsas vertex body × IsOfferedFor vertex body offered) }
+{
+    match area.tree.standing(area.database, vertex) {
+        Some(lsa) => Ok(Some(offers_in(alloc, vertex, lsa)?)),
+        None => Ok(None),
+    }
+}
+
+// Leaves out all of the vertex.
+fn leave_out(sources: &mut Vec<Source>, vertex: Vertex)
+    ensures { (w : VertexValue) (metric : ℕ) → Contains sources.new.items (record { vertex = w; metric = metric }) ↔ (Contains sources.old.items (record { vertex = w; metric = metric }) × (w ≢ vertex)) }
+{
+    sources.retain(|source| source.vertex != vertex);
+}

@@ -1,0 +1,309 @@
+//! The entry of a network: the best of what the areas offer (RFC 2328, 16.1 and 16.8).
+ghost use Rattle.std.specs.Prelude.{◌≡◌, ◌↔◌, ◌⊎◌, ◌++◌, ◌∷◌, ◌<◌, [], List, Some, IfOk, OnOk, IfSome, IsTrue, map as list_map};
+ghost use Rattle.std.specs.List.Sorted.{IsStrictlySortedBy};
+ghost use Rattle.ospf_types.specs.declared.prefix.Prefix.{Prefix as PrefixValue};
+ghost use Rattle.ospf_types.specs.Hops.{path_cmp};
+ghost use Rattle.ospf_types.specs.Intra.{inside_area as path_inside};
+ghost use Rattle.ospf_types.specs.Routes.{entry_of};
+ghost use Rattle.spf.specs.Parts.{most_distance};
+ghost use Rattle.intra.specs.declared.area_index.Source.{Source as SourceValue};
+ghost use Rattle.intra.specs.Inputs.{distance_at, hops_at};
+ghost use Rattle.intra.specs.Takes.{OnlyOffer, OfferedBySome};
+ghost use Rattle.intra.specs.Indexes.{IndexedOffers, IsSource};
+ghost use Rattle.intra.specs.Intras.{IsEntryFor};
+ghost use Rattle.intra.specs.Offers.{KeyedOffers};
+ghost use Rattle.intra.specs.Choosing.{TakesPaths, AmongSources, ThisSource, KeyedStubs, KeyedTransit, HopsOffer, InterfaceOffers, IsOver, FindsNearest, IsNoFarther};
+
+use crate::area::AreaIntra;
+use crate::area_index::Source;
+use crate::choice::{AreaCost, Best, Choice};
+use crate::inputs::{AreaInputs, Inputs};
+use ospf_types::config::Interface;
+use ospf_types::entry::{Entry, PathType, Paths, Vertex};
+use ospf_types::hop::{NextHop, Path};
+use ospf_types::memory::Memory;
+use ospf_types::prefix::Prefix;
+use std::alloc::Global;
+
+/// The entry of the network, by the indexes of the areas; none where nothing is offered.
+pub(crate) fn choose(
+    alloc: Global,
+    inputs: &Inputs<'_>,
+    areas: &[AreaIntra],
+    prefix: Prefix,
+) -> Result<Option<Entry>, Memory>
+    ensures { IfOk result (IsEntryFor (IndexedOffers inputs.now (list_map (λ a. a.index) areas.now) inputs.now.areas prefix)) }
+{
+    let mut best = Best::new(alloc);
+    offer_areas(&mut best, inputs, areas, prefix)?;
+    match best.into_choice() {
+        Some(choice) => Ok(Some(entry(choice))),
+        None => Ok(None),
+    }
+}
+
+// The intra-area entry of a choice.
+fn entry(choice: Choice<AreaCost, Path>) -> Entry
+    requires { IsStrictlySortedBy path_cmp choice.items }
+    ensures { result ≡ entry_of PathType.Intra (Some choice.key.1) choice.key.0 0 choice.items }
+{
+    let (key, paths) = choice.into_parts();
+    Entry {
+        kind: PathType::Intra,
+        area: Some(key.area()),
+        cost: key.cost(),
+        cost2: 0,
+        paths: Paths::new(paths),
+    }
+}
+
+// Offers what each area has for the network.
+fn offer_areas(
+    best: &mut Best<AreaCost, Path>,
+    inputs: &Inputs<'_>,
+    areas: &[AreaIntra],
+    prefix: Prefix,
+) -> Result<(), Memory>
+    ensures { OnOk result (TakesPaths (IndexedOffers inputs.now (list_map (λ a. a.index) areas.now) inputs.now.areas prefix) best.old best.new) }
+{
+    for (kept, area) in areas.iter().zip(inputs.areas) {
+        offer_area(best, inputs, kept, area, prefix)?;
+    }
+    Ok(())
+}
+
+// Offers what an area has for the network, by its index.
+fn offer_area(
+    best: &mut Best<AreaCost, Path>,
+    inputs: &Inputs<'_>,
+    kept: &AreaIntra,
+    area: &AreaInputs<'_>,
+    prefix: Prefix,
+) -> Result<(), Memory>
+    ensures { OnOk result (TakesPaths (KeyedOffers (IsSource kept.now.index) inputs.now area.now prefix) best.old best.new) }
+{
+    offer_sources(best, inputs, area, kept.index().sources(prefix), prefix)
+}
+
+// Offers what these sources of an area have for the network.
+fn offer_sources(
+    best: &mut Best<AreaCost, Path>,
+    inputs: &Inputs<'_>,
+    area: &AreaInputs<'_>,
+    sources: &[Source],
+    prefix: Prefix,
+) -> Result<(), Memory>
+    ensures { OnOk result (TakesPaths (KeyedOffers (AmongSources sources.now) inputs.now area.now prefix) best.old best.new) }
+{
+    offer_stubs(best, inputs, area, sources, prefix)?;
+    offer_transit(best, area, sources)
+}
+
+// Offers the stub links among the sources.
+fn offer_stubs(
+    best: &mut Best<AreaCost, Path>,
+    inputs: &Inputs<'_>,
+    area: &AreaInputs<'_>,
+    sources: &[Source],
+    prefix: Prefix,
+) -> Result<(), Memory>
+    ensures { OnOk result (TakesPaths (KeyedStubs (AmongSources sources.now) inputs.now area.now prefix) best.old best.new) }
+{
+    for source in sources {
+        offer_source(best, inputs, area, *source, prefix)?;
+    }
+    Ok(())
+}
+
+// Offers the source, where it is a stub link.
+fn offer_source(
+    best: &mut Best<AreaCost, Path>,
+    inputs: &Inputs<'_>,
+    area: &AreaInputs<'_>,
+    source: Source,
+    prefix: Prefix,
+) -> Result<(), Memory>
+    ensures { OnOk result (TakesPaths (KeyedStubs (ThisSource source) inputs.now area.now prefix) best.old best.new) }
+{
+    match source.vertex {
+        Vertex::Router(router) => offer_stub(best, inputs, area, router, source.metric, prefix),
+        Vertex::Network(_) => Ok(()),
+    }
+}
+
+// Offers a stub link of a router.
+fn offer_stub(
+    best: &mut Best<AreaCost, Path>,
+    inputs: &Inputs<'_>,
+    area: &AreaInputs<'_>,
+    router: u32,
+    metric: u16,
+    prefix: Prefix,
+) -> Result<(), Memory>
+    ensures { OnOk result (TakesPaths (KeyedStubs (ThisSource (record { vertex = Vertex.Router router; metric = metric })) inputs.now area.now prefix) best.old best.new) }
+{
+    if router == inputs.root {
+        return offer_own(
+            best,
+            inputs.interfaces,
+            cost_in(area, u32::from(metric)),
+            prefix,
+        );
+    }
+    match distance(area, Vertex::Router(router)) {
+        Some(distance) => {
+            let key = cost_in(area, distance + u32::from(metric));
+            offer_hops(best, key, hops(area, Vertex::Router(router)))
+        }
+        None => Ok(()),
+    }
+}
+
+// Offers a stub link of the root over each interface of the area that is up and lies in the network.
+fn offer_own(
+    best: &mut Best<AreaCost, Path>,
+    interfaces: &[(u8, Interface)],
+    key: AreaCost,
+    prefix: Prefix,
+) -> Result<(), Memory>
+    ensures { OnOk result (TakesPaths (OfferedBySome interfaces.now (InterfaceOffers prefix key)) best.old best.new) }
+{
+    for (id, interface) in interfaces {
+        offer_over(best, *id, *interface, key, prefix)?;
+    }
+    Ok(())
+}
+
+// Offers a path over the interface, if it is one of the area, is up and lies in the network.
+fn offer_over(
+    best: &mut Best<AreaCost, Path>,
+    id: u8,
+    interface: Interface,
+    key: AreaCost,
+    prefix: Prefix,
+) -> Result<(), Memory>
+    ensures { OnOk result (TakesPaths (InterfaceOffers prefix key (id, interface)) best.old best.new) }
+{
+    if !is_over(key.area(), prefix, interface) {
+        return Ok(());
+    }
+    offer_hop(best, key, NextHop::Direct(id))
+}
+
+// Whether the interface is one of the area, is up, and lies in the network, by its address or by its peer's.
+fn is_over(area: u32, prefix: Prefix, interface: Interface) -> bool
+    ensures { IsTrue result ↔ IsOver area prefix interface }
+{
+    interface.area == area
+        && interface.up
+        && (prefix.contains(interface.address)
+            || (interface.peer > 0 && prefix.contains(interface.peer)))
+}
+
+// Of transit networks with the prefix only the nearest stands for it, and at one distance the one with the greatest
+// Link State ID.
+fn offer_transit(
+    best: &mut Best<AreaCost, Path>,
+    area: &AreaInputs<'_>,
+    sources: &[Source],
+) -> Result<(), Memory>
+    ensures { (p : PrefixValue) → OnOk result (TakesPaths (KeyedTransit (AmongSources sources.now) area.now p) best.old best.new) }
+{
+    match nearest(area, sources) {
+        Some((id, distance)) => {
+            let key = cost_in(area, distance);
+            offer_hops(best, key, hops(area, Vertex::Network(id)))
+        }
+        None => Ok(()),
+    }
+}
+
+// The transit network that stands for the prefix of these sources, and its distance.
+fn nearest(area: &AreaInputs<'_>, sources: &[Source]) -> Option<(u32, u32)>
+    ensures { (p : PrefixValue) → FindsNearest (AmongSources sources.now) area.now p result }
+{
+    let mut nearest = None;
+    for source in sources {
+        nearest = nearest_with(area, nearest, *source);
+    }
+    nearest
+}
+
+// The same of one more source.
+fn nearest_with(
+    area: &AreaInputs<'_>,
+    nearest: Option<(u32, u32)>,
+    source: Source,
+) -> Option<(u32, u32)>
+    ensures { (before : List SourceValue) (p : PrefixValue) → FindsNearest (AmongSources before) area.now p nearest → FindsNearest (AmongSources (before ++ source ∷ [])) area.now p result }
+{
+    if source.metric > 0 {
+        return nearest;
+    }
+    let Vertex::Network(id) = source.vertex else {
+        return nearest;
+    };
+    match distance(area, source.vertex) {
+        Some(distance) => Some(nearer(nearest, (id, distance))),
+        None => nearest,
+    }
+}
+
+// Of networks with their distances the nearer, or at one distance the one with the greater number.
+fn nearer(nearest: Option<(u32, u32)>, other: (u32, u32)) -> (u32, u32)
+    ensures one { (result ≡ other) ⊎ (nearest ≡ Some result) }
+    ensures other { IsNoFarther result other }
+    ensures nearest { IfSome nearest (λ n. IsNoFarther result n) }
+{
+    match nearest {
+        Some((id, least)) if least < other.1 || (least == other.1 && other.0 < id) => (id, least),
+        _ => other,
+    }
+}
+
+// The distance of a vertex of the area.
+fn distance(area: &AreaInputs<'_>, vertex: Vertex) -> Option<u32>
+    ensures value { result ≡ distance_at area.now vertex }
+    ensures bounded { IfSome result (λ distance. distance < most_distance) }
+{
+    area.tree.distance(vertex)
+}
+
+// Its next hops.
+fn hops<'a>(area: &AreaInputs<'a>, vertex: Vertex) -> &'a [NextHop]
+    ensures { result.now ≡ hops_at area.now vertex }
+{
+    area.tree.hops(vertex)
+}
+
+// This cost in the area.
+fn cost_in(area: &AreaInputs<'_>, cost: u32) -> AreaCost
+    ensures { result ≡ (cost, area.now.id) }
+{
+    AreaCost::new(cost, area.id)
+}
+
+// Offers a path over each of these next hops.
+fn offer_hops(
+    best: &mut Best<AreaCost, Path>,
+    key: AreaCost,
+    hops: &[NextHop],
+) -> Result<(), Memory>
+    ensures { OnOk result (TakesPaths (HopsOffer hops.now key) best.old best.new) }
+{
+    for hop in hops {
+        offer_hop(best, key, *hop)?;
+    }
+    Ok(())
+}
+
+// Offers a path over the next hop.
+fn offer_hop(best: &mut Best<AreaCost, Path>, key: AreaCost, hop: NextHop) -> Result<(), Memory>
+    ensures { OnOk result (TakesPaths (OnlyOffer key (path_inside hop)) best.old best.new) }
+{
+    let path = Path {
+        hop,
+        advertiser: None,
+    };
+    best.offer(key, path)
+}

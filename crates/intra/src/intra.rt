@@ -1,0 +1,363 @@
+ghost use Rattle.std.specs.Prelude.{◌≡◌, ◌≢◌, ◌↔◌, ◌++◌, ℕ, [], Some, true, false, length, map as list_map, IfOk, OnOk, OnErr, IsSome, Contains, option_copied};
+ghost use Rattle.std.specs.FinMap as map;
+ghost use Rattle.std.specs.Ordering.{nat_cmp};
+ghost use Rattle.ospf_types.specs.declared.key.Dest.TheVariants as dest_value;
+ghost use Rattle.ospf_types.specs.declared.key.Key.{Key as KeyValue};
+ghost use Rattle.ospf_types.specs.declared.key.Scope.{Scope as ScopeValue};
+ghost use Rattle.ospf_types.specs.declared.key.Scope.TheVariants as scope_value;
+ghost use Rattle.ospf_types.specs.declared.prefix.Prefix.{Prefix as PrefixValue};
+ghost use Rattle.ospf_types.specs.Network.{network_cmp};
+ghost use Rattle.intra.specs.Updating.{AreKeptBefore, AreFirst, IsFollowed, IsSettled, HasOtherAmong};
+ghost use Rattle.intra.specs.Renewing.{IsRenewed, AreRenewed};
+ghost use Rattle.std.specs.List.Sorted.{IsStrictlySortedBy};
+ghost use Rattle.ospf_types.specs.declared.prefix.Prefix.{Prefix as PrefixValue};
+ghost use Rattle.ospf_types.specs.declared.key.Dest.{Dest as DestValue};
+ghost use Rattle.ospf_types.specs.Inputs.{Inputs as Definitions};
+ghost use Rattle.intra.specs.Inputs.{AreReady, AreaValue, InputsValue};
+ghost use Rattle.intra.specs.Intras.{IsIntraOf, reached_at};
+ghost use Rattle.intra.specs.Changes.{InputsDifferAmong, DiffersAt, dest_cmp};
+ghost use Rattle.intra.specs.Right.{AreInputsOf, IsRightFor};
+
+use crate::area::AreaIntra;
+use crate::choose::choose;
+use crate::dirty::Dirty;
+use crate::inputs::{AreaInputs, Inputs};
+use crate::reached::Reached;
+use crate::same::are_same;
+use indexmap::IndexMap;
+use lsdb::Database;
+use ospf_types::entry::Entry;
+use ospf_types::key::{Dest, Key, Scope};
+use ospf_types::memory::Memory;
+use ospf_types::prefix::Prefix;
+use std::alloc::Global;
+use std::hash::RandomState;
+use std::marker::Model;
+
+/// The intra-area routes of a router: the entry of each network, and in each area the border routers and AS boundary
+/// routers that are reached.
+#[derive(Debug, Drop)]
+pub struct Intra {
+    areas: Vec<AreaIntra>,
+    entries: IndexMap<Prefix, Entry, RandomState>,
+    spent: bool,
+}
+
+impl Model for Intra {
+    ghost use Rattle.std.specs.FinMap as map;
+    ghost use Rattle.std.specs.Coded.{Coded, codes, coded_ℕ};
+    ghost use Rattle.ospf_types.specs.Network.{network_code};
+    ghost use Rattle.ospf_types.specs.Vertices.{vertex_code};
+    ghost use Rattle.ospf_types.specs.contracts.entry.Entry as entry;
+    ghost use Rattle.intra.specs.Indexes.{OfferedByVertex, SourcesByPrefix};
+    ghost use Rattle.intra.specs.Reached.{ReachedByRouter};
+    ghost use Rattle.intra.specs.Intras.{IntraValue, EntriesByPrefix};
+    ghost use Rattle.intra.specs.contracts.offered.Offer as offer;
+    ghost use Rattle.intra.specs.contracts.area_index.Source as source;
+
+    ghost Value = { IntraValue };
+
+    ghost coded = { let offered : Coded OfferedByVertex = map.code vertex_code (Prim.hlevel (codes, offer.the_row.coded)) in
+        let sources : Coded SourcesByPrefix = map.code network_code (Prim.hlevel (codes, source.the_row.coded)) in
+        let reached : Coded ReachedByRouter = map.code coded_ℕ (Prim.hlevel codes) in
+        let entries : Coded EntriesByPrefix = map.code network_code (Prim.hlevel (codes, entry.the_row.coded)) in
+        Prim.hlevel (codes, offered, sources, reached, entries) };
+
+    ghost view = { λ i. record { areas = i.areas.items; entries = map.from_entries i.entries.entries; spent = i.spent } };
+}
+
+impl Intra {
+    /// The routes of these inputs, from scratch.
+    pub fn build(alloc: Global, inputs: &Inputs<'_>, hashing: RandomState) -> Result<Intra, Memory>
+        requires { AreReady inputs.now }
+        ensures kept { IfOk result (IsIntraOf inputs.now) }
+        ensures right { IfOk result (λ intra. (s : Definitions) → AreInputsOf s inputs.now → IsRightFor s intra) }
+    {
+        let mut intra = Intra::blank(alloc, inputs.areas, hashing)?;
+        let mut dirty = Dirty {
+            vertices: Vec::new(alloc),
+            keys: Vec::new(alloc),
+            interfaces: Vec::new(alloc),
+            dests: Vec::new(alloc),
+        };
+        push_all_keys(inputs.areas, &mut dirty.keys)?;
+        intra.update(alloc, inputs, &dirty)?;
+        Ok(intra)
+    }
+
+    /// Works out again what may differ, and answers the destinations whose result does: networks, and routers of which
+    /// something else is kept in some area; ascending, each once. Where memory is refused, all is spent: nothing is
+    /// answered any more, and only `build` makes another.
+    pub fn update(
+        &mut self,
+        alloc: Global,
+        inputs: &Inputs<'_>,
+        dirty: &Dirty,
+    ) -> Result<Vec<Dest>, Memory>
+        requires ready { AreReady inputs.now }
+        requires before { (before : InputsValue) × IsIntraOf before self.old × InputsDifferAmong dirty.now.keys.items dirty.now.vertices.items dirty.now.interfaces.items before inputs.now }
+        ensures kept { OnOk result (IsIntraOf inputs.now self.new) }
+        ensures right { OnOk result ((s : Definitions) → AreInputsOf s inputs.now → IsRightFor s self.new) }
+        ensures in_order { IfOk result (λ dests. IsStrictlySortedBy dest_cmp dests.items) }
+        ensures exact { IfOk result (λ dests. (d : DestValue) → Contains dests.items d ↔ DiffersAt self.old self.new d) }
+        ensures spent { OnErr result (self.new ≡ record { areas = []; entries = map.empty; spent = true }) }
+    {
+        let dests = self.update_parts(alloc, inputs, dirty);
+        if dests.is_err() {
+            self.spend();
+        }
+        dests
+    }
+
+    /// The entry of a network; none where it is not reached, or where all is spent.
+    pub fn get(&self, network: Prefix) -> Option<&Entry>
+        ensures { option_copied result ≡ map.get self.now.entries network }
+    {
+        self.entries.get(&network)
+    }
+
+    /// The networks that have an entry, in no stated order.
+    pub fn networks(&self, alloc: Global) -> Result<Vec<Prefix>, Memory>
+        ensures { IfOk result (λ networks. (p : PrefixValue) → Contains networks.items p ↔ IsSome (map.get self.now.entries p)) }
+    {
+        let networks = Vec::from_slice(alloc, self.entries.keys().as_slice())?;
+        Ok(networks)
+    }
+
+    /// A border router or AS boundary router that is reached in the area, by its Router ID.
+    pub fn router(&self, area: u32, router: u32) -> Option<&Reached>
+        ensures { option_copied result ≡ reached_at self.now.areas area router }
+    {
+        for kept in &self.areas {
+            if kept.id() == area {
+                return kept.router(router);
+            }
+        }
+        None
+    }
+
+    /// Whether an update was refused memory.
+    pub fn spent(&self) -> bool
+        ensures { result ≡ self.now.spent }
+    {
+        self.spent
+    }
+}
+
+impl Intra {
+    // The routes of areas without LSAs.
+    fn blank(alloc: Global, areas: &[AreaInputs<'_>], hashing: RandomState) -> Result<Intra, Memory>
+        ensures { IfOk result (λ intra. intra ≡ record { areas = list_map (λ a. record { id = a.id; index = record { offered = map.empty; sources = map.empty }; reached = map.empty }) areas.now; entries = map.empty; spent = false }) }
+    {
+        let mut kept = Vec::with_capacity(alloc, areas.len())?;
+        for area in areas {
+            kept.push(AreaIntra::new(alloc, area.id, hashing))?;
+        }
+        Ok(Intra {
+            areas: kept,
+            entries: IndexMap::with_hasher(alloc, hashing),
+            spent: false,
+        })
+    }
+
+    // The same; after an error some parts followed and others did not.
+    fn update_parts(
+        &mut self,
+        alloc: Global,
+        inputs: &Inputs<'_>,
+        dirty: &Dirty,
+    ) -> Result<Vec<Dest>, Memory>
+        requires ready { AreReady inputs.now }
+        requires before { (before : InputsValue) × IsIntraOf before self.old × InputsDifferAmong dirty.now.keys.items dirty.now.vertices.items dirty.now.interfaces.items before inputs.now }
+        ensures kept { OnOk result (IsIntraOf inputs.now self.new) }
+        ensures in_order { IfOk result (λ dests. IsStrictlySortedBy dest_cmp dests.items) }
+        ensures exact { IfOk result (λ dests. (d : DestValue) → Contains dests.items d ↔ DiffersAt self.old self.new d) }
+    {
+        let prefixes = self.follow(alloc, inputs, dirty)?;
+        let routers = self.renew_routers(alloc, inputs, dirty)?;
+        let mut dests = Vec::new(alloc);
+        self.renew_entries(alloc, inputs, prefixes.as_slice(), &mut dests)?;
+        add_routers(routers.as_slice(), &mut dests)?;
+        Ok(dests)
+    }
+
+    // The prefixes that may get another entry, ascending, each once.
+    fn follow(
+        &mut self,
+        alloc: Global,
+        inputs: &Inputs<'_>,
+        dirty: &Dirty,
+    ) -> Result<Vec<Prefix>, Memory>
+        requires ready { AreReady inputs.now }
+        requires before { AreKeptBefore inputs.now.root dirty.now.keys.items dirty.now.vertices.items inputs.now.areas self.old.areas }
+        ensures entries { OnOk result (self.new.entries ≡ self.old.entries) }
+        ensures spent { OnOk result (self.new.spent ≡ self.old.spent) }
+        ensures in_order { IfOk result (λ prefixes. IsStrictlySortedBy network_cmp prefixes.items) }
+        ensures followed { IfOk result (λ prefixes. AreFirst (IsFollowed inputs.now.root dirty.now.vertices.items dirty.now.interfaces.items prefixes.items) inputs.now.areas self.old.areas self.new.areas (length inputs.now.areas)) }
+    {
+        let mut prefixes = Vec::new(alloc);
+        follow_areas(self.areas.as_mut_slice(), inputs, dirty, &mut prefixes)?;
+        prefixes.sort_unstable();
+        prefixes.dedup();
+        Ok(prefixes)
+    }
+
+    // The routers of which something else is kept in some area, ascending, each once.
+    fn renew_routers(
+        &mut self,
+        alloc: Global,
+        inputs: &Inputs<'_>,
+        dirty: &Dirty,
+    ) -> Result<Vec<u32>, Memory>
+        requires { length inputs.now.areas ≡ length self.old.areas }
+        ensures entries { OnOk result (self.new.entries ≡ self.old.entries) }
+        ensures spent { OnOk result (self.new.spent ≡ self.old.spent) }
+        ensures in_order { IfOk result (λ routers. IsStrictlySortedBy nat_cmp routers.items) }
+        ensures settled { OnOk result (AreFirst (IsSettled inputs.now.root dirty.now.keys.items dirty.now.vertices.items) inputs.now.areas self.old.areas self.new.areas (length inputs.now.areas)) }
+        ensures exact { IfOk result (λ routers. (router : ℕ) → Contains routers.items router ↔ HasOtherAmong (length inputs.now.areas) self.old.areas self.new.areas router) }
+    {
+        let mut routers = Vec::new(alloc);
+        renew_areas(
+            alloc,
+            self.areas.as_mut_slice(),
+            inputs,
+            dirty,
+            &mut routers,
+        )?;
+        routers.sort_unstable();
+        routers.dedup();
+        Ok(routers)
+    }
+
+    // Chooses the entries of the networks anew, and names those of which it differs.
+    fn renew_entries(
+        &mut self,
+        alloc: Global,
+        inputs: &Inputs<'_>,
+        prefixes: &[Prefix],
+        dests: &mut Vec<Dest>,
+    ) -> Result<(), Memory>
+        requires in_order { IsStrictlySortedBy network_cmp prefixes.now }
+        requires none { dests.old.items ≡ [] }
+        ensures { OnOk result (AreRenewed inputs.now self.old self.new prefixes.now dests.new.items) }
+    {
+        for prefix in prefixes {
+            self.renew_entry(alloc, inputs, *prefix, dests)?;
+        }
+        Ok(())
+    }
+
+    // Chooses the entry of the network anew, and names the network where it differs.
+    fn renew_entry(
+        &mut self,
+        alloc: Global,
+        inputs: &Inputs<'_>,
+        prefix: Prefix,
+        dests: &mut Vec<Dest>,
+    ) -> Result<(), Memory>
+        ensures { OnOk result (IsRenewed inputs.now self.old self.new prefix dests.old.items dests.new.items) }
+    {
+        let fresh = choose(alloc, inputs, self.areas.as_slice(), prefix)?;
+        if are_same(self.get(prefix), fresh.as_ref()) {
+            return Ok(());
+        }
+        self.put(prefix, fresh)?;
+        dests.push(Dest::Net(prefix))?;
+        Ok(())
+    }
+
+    // This is the entry of the network.
+    fn put(&mut self, network: Prefix, fresh: Option<Entry>) -> Result<(), Memory>
+        ensures areas { OnOk result (self.new.areas ≡ self.old.areas) }
+        ensures spent { OnOk result (self.new.spent ≡ self.old.spent) }
+        ensures here { OnOk result (map.get self.new.entries network ≡ fresh) }
+        ensures others { OnOk result ((p : PrefixValue) → p ≢ network → map.get self.new.entries p ≡ map.get self.old.entries p) }
+    {
+        match fresh {
+            Some(entry) => {
+                self.entries.insert(network, entry)?;
+            }
+            None => {
+                self.entries.swap_remove(&network);
+            }
+        }
+        Ok(())
+    }
+
+    fn spend(&mut self)
+        ensures { self.new ≡ record { areas = []; entries = map.empty; spent = true } }
+    {
+        self.areas.clear();
+        self.entries.clear();
+        self.spent = true;
+    }
+}
+
+// The index of each area takes what the LSAs say now.
+fn follow_areas(
+    areas: &mut [AreaIntra],
+    inputs: &Inputs<'_>,
+    dirty: &Dirty,
+    prefixes: &mut Vec<Prefix>,
+) -> Result<(), Memory>
+    requires ready { AreReady inputs.now }
+    requires before { AreKeptBefore inputs.now.root dirty.now.keys.items dirty.now.vertices.items inputs.now.areas areas.old }
+    ensures { OnOk result (AreFirst (IsFollowed inputs.now.root dirty.now.vertices.items dirty.now.interfaces.items prefixes.new.items) inputs.now.areas areas.old areas.new (length inputs.now.areas)) }
+{
+    let all = inputs.areas;
+    for place in 0..all.len() {
+        areas[place].follow(inputs.root, &all[place], dirty, prefixes)?;
+    }
+    Ok(())
+}
+
+// What is kept of routers in each area follows.
+fn renew_areas(
+    alloc: Global,
+    areas: &mut [AreaIntra],
+    inputs: &Inputs<'_>,
+    dirty: &Dirty,
+    routers: &mut Vec<u32>,
+) -> Result<(), Memory>
+    requires as_many { length inputs.now.areas ≡ length areas.old }
+    requires none { routers.old.items ≡ [] }
+    ensures settled { OnOk result (AreFirst (IsSettled inputs.now.root dirty.now.keys.items dirty.now.vertices.items) inputs.now.areas areas.old areas.new (length inputs.now.areas)) }
+    ensures exact { OnOk result ((router : ℕ) → Contains routers.new.items router ↔ HasOtherAmong (length inputs.now.areas) areas.old areas.new router) }
+{
+    let all = inputs.areas;
+    for place in 0..all.len() {
+        areas[place].renew_routers(alloc, inputs.root, &all[place], dirty, routers)?;
+    }
+    Ok(())
+}
+
+// Adds the routers as destinations.
+fn add_routers(routers: &[u32], dests: &mut Vec<Dest>) -> Result<(), Memory>
+    ensures { OnOk result (dests.new.items ≡ dests.old.items ++ list_map dest_value.Router routers.now) }
+{
+    for router in routers {
+        dests.push(Dest::Router(*router))?;
+    }
+    Ok(())
+}
+
+// Adds the keys of all LSAs of the areas.
+fn push_all_keys(areas: &[AreaInputs<'_>], keys: &mut Vec<(Scope, Key)>) -> Result<(), Memory>
+    ensures { OnOk result ((a : AreaValue) (key : KeyValue) → Contains areas.now a → IsSome (map.get a.lsas key) → Contains keys.new.items (scope_value.Area a.id, key)) }
+{
+    for area in areas {
+        push_keys(area.id, area.database, keys)?;
+    }
+    Ok(())
+}
+
+// Adds the keys of all LSAs of the database, with the scope of its area.
+fn push_keys(area: u32, database: &Database, keys: &mut Vec<(Scope, Key)>) -> Result<(), Memory>
+    ensures kept { OnOk result ((named : ScopeValue × KeyValue) → Contains keys.old.items named → Contains keys.new.items named) }
+    ensures all { OnOk result ((key : KeyValue) → IsSome (map.get database.now.lsas key) → Contains keys.new.items (scope_value.Area area, key)) }
+{
+    for key in database.keys() {
+        keys.push((Scope::Area(area), *key))?;
+    }
+    Ok(())
+}

@@ -1,0 +1,111 @@
+//! What the LSA of a vertex offers: the prefixes of stub links, or that of the transit network.
+ghost use Rattle.std.specs.Prelude.{◌≡◌, Some, IfOk};
+ghost use Rattle.std.specs.List.{filter_map};
+ghost use Rattle.ospf_types.specs.Lsa.{key_of};
+ghost use Rattle.lsa_codec.specs.Readers.{links_of, prefix_of};
+ghost use Rattle.area_trees.specs.Areas.{vertex_of};
+ghost use Rattle.intra.specs.Indexes.{IsOfferedBy};
+ghost use Rattle.intra.specs.Stubs.{offer_of_link, stub_of_link, transit_offers};
+
+use crate::same::Same;
+use lsa_codec::Checked;
+use ospf_types::entry::Vertex;
+use ospf_types::lsa::{Link, LinkKind};
+use ospf_types::memory::Memory;
+use ospf_types::prefix::Prefix;
+use std::alloc::Global;
+use std::marker::Model;
+
+/// A prefix that a vertex offers, at a metric beside its distance: 0 for a transit network.
+#[derive(Clone, Copy, Debug, PartialEq, Eq)]
+pub(crate) struct Offer {
+    pub(crate) prefix: Prefix,
+    pub(crate) metric: u16,
+}
+
+/// What the LSA of a vertex says beside its links.
+#[derive(Debug, Drop)]
+pub(crate) struct Offered {
+    /// The bits of a router-LSA (RFC 2328, A.4.2); 0 for a network.
+    flags: u8,
+    // In the order of the links.
+    offers: Vec<Offer>,
+}
+
+impl Model for Offered {
+    ghost use Rattle.intra.specs.Indexes.{OfferedValue};
+
+    ghost Value = { OfferedValue };
+
+    ghost view = { λ o. record { flags = o.flags; offers = o.offers.items } };
+}
+
+impl Offered {
+    pub(crate) fn flags(&self) -> u8
+        ensures { result ≡ self.now.flags }
+    {
+        self.flags
+    }
+
+    pub(crate) fn offers(&self) -> &[Offer]
+        ensures { result.now ≡ self.now.offers }
+    {
+        self.offers.as_slice()
+    }
+}
+
+impl Same for Offered {
+    fn is_same(&self, other: &Offered) -> bool {
+        self.flags == other.flags && self.offers == other.offers
+    }
+}
+
+/// What the LSA that stands for the vertex offers.
+pub(crate) fn offers_in(alloc: Global, vertex: Vertex, lsa: &Checked) -> Result<Offered, Memory>
+    requires { vertex_of (key_of lsa.now) ≡ Some vertex }
+    ensures { IfOk result (IsOfferedBy vertex lsa.now.body) }
+{
+    let offers = match vertex {
+        Vertex::Router(_) => stub_offers(alloc, lsa)?,
+        Vertex::Network(_) => network_offers(alloc, lsa)?,
+    };
+    let flags = lsa.flags().unwrap_or(0);
+    Ok(Offered { flags, offers })
+}
+
+// The stub networks of a router-LSA, in the order of the links.
+fn stub_offers(alloc: Global, lsa: &Checked) -> Result<Vec<Offer>, Memory>
+    ensures { IfOk result (λ offers. offers.items ≡ filter_map stub_of_link (links_of lsa.now.body)) }
+{
+    let mut offers = Vec::new(alloc);
+    for link in lsa.links() {
+        if let Some(offer) = stub_offer(link) {
+            offers.push(offer)?;
+        }
+    }
+    Ok(offers)
+}
+
+// What a link offers: a stub link its network (RFC 2328, 12.4.1).
+fn stub_offer(link: Link) -> Option<Offer>
+    ensures { result ≡ offer_of_link link }
+{
+    match link.kind {
+        LinkKind::Stub => Some(Offer {
+            prefix: Prefix::of_mask(link.id, link.detail),
+            metric: link.metric,
+        }),
+        LinkKind::PointToPoint | LinkKind::Transit | LinkKind::Virtual => None,
+    }
+}
+
+// The network of a network-LSA.
+fn network_offers(alloc: Global, lsa: &Checked) -> Result<Vec<Offer>, Memory>
+    ensures { IfOk result (λ offers. offers.items ≡ transit_offers (prefix_of lsa.now)) }
+{
+    let mut offers = Vec::new(alloc);
+    if let Some(prefix) = lsa.prefix() {
+        offers.push(Offer { prefix, metric: 0 })?;
+    }
+    Ok(offers)
+}
