@@ -1,7 +1,5 @@
 pub mod Configs
 pub mod Listings
-pub mod Areas
-pub mod NoWays
 pub mod Runs
 pub mod Intervals
 pub mod Neighbours

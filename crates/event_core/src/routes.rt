@@ -1,11 +1,14 @@
 //! The routing table, and what is kept to follow events (RFC 2328, 16).
-ghost use Rattle.std.specs.Prelude.{◌≡◌, ◌≤◌, [], false, length, IfOk, OnOk, OnErr};
+ghost use Rattle.std.specs.Prelude.{◌≡◌, ◌↔◌, ◌≤◌, [], false, length, IfOk, IsTrue, OnOk, OnErr, option_copied};
+ghost use Rattle.std.specs.List.Sorted.{IsStrictlySortedBy};
+ghost use Rattle.std.specs.Map.{keys_of};
+ghost use Rattle.ospf_types.specs.Network.{network_cmp};
 ghost use Rattle.vertex_graph.specs.Graphs.{most_routers};
 ghost use Rattle.event_state.specs.Held.{AreFit};
 ghost use Rattle.event_state.specs.States.{State as StateValue, LooksAlike};
 ghost use Rattle.calculation.specs.Calculations.{IsCalculationOf, IsTableOf, StatesDifferAmong};
 ghost use Rattle.calculation.specs.Totals.{IsBuildWork, IsEventWork};
-ghost use Rattle.event_core.specs.Following.{AreRoutesOf, AreChanges, items_for, no_work};
+ghost use Rattle.event_core.specs.Following.{AreRoutesOf, AreChanges, AreOtherItems, no_work};
 
 use crate::named::Named;
 use calculation::Calculation;
@@ -191,7 +194,7 @@ impl Routes {
         requires few { state.now.limits.area_lsas ≤ most_routers }
         requires before { (before : StateValue) × AreRoutesOf before self.old × StatesDifferAmong named.keys.items named.interfaces.items before state.now }
         ensures calculation { OnOk result (IsCalculationOf state.now self.new.calculation) }
-        ensures items { OnOk result (IsTableOf self.new.calculation.intra self.new.table.items) }
+        ensures items { OnOk result (IsTableOf self.new.calculation self.new.table.items) }
         ensures exact { OnOk result (AreChanges self.old.table.items self.new.table.items self.new.changes) }
         ensures bounded { OnOk result ((before : StateValue) → AreRoutesOf before self.old → StatesDifferAmong named.keys.items named.interfaces.items before state.now → IsEventWork before state.now self.new.work) }
         ensures unchanged { OnErr result (self.new.table ≡ self.old.table) }
@@ -200,10 +203,11 @@ impl Routes {
     {
         let Named { keys, interfaces } = named;
         let (networks, work) = self.calculation.follow(alloc, state, keys, interfaces)?;
-        let items = items(alloc, &self.calculation, &networks)?;
+        let items = other_items(alloc, &self.calculation, &self.table, &networks)?;
+        let changes = networks_of(alloc, &items)?;
         self.table.change(alloc, items)?;
         self.work = work;
-        self.changes = networks;
+        self.changes = changes;
         Ok(())
     }
 }
@@ -216,7 +220,7 @@ fn from_scratch(
 ) -> Result<(Calculation, Table, Touched), Memory>
     requires few { state.now.limits.area_lsas ≤ most_routers }
     ensures calculation { IfOk result (λ built. IsCalculationOf state.now built.0) }
-    ensures items { IfOk result (λ built. IsTableOf built.0.intra built.1.items) }
+    ensures items { IfOk result (λ built. IsTableOf built.0 built.1.items) }
     ensures serial { IfOk result (λ built. built.1.serial ≡ length state.now.journal) }
     ensures fit { IfOk result (λ built. AreFit state.now.config.areas state.now.databases) }
     ensures work { IfOk result (λ built. IsBuildWork state.now built.2) }
@@ -226,18 +230,44 @@ fn from_scratch(
     Ok((calculation, table, work))
 }
 
-// What the table has to have for each of these networks.
-fn items(
+// Those of the networks for which the table has to have another item, each with that item.
+fn other_items(
     alloc: Global,
     calculation: &Calculation,
+    table: &Table,
     networks: &[Prefix],
 ) -> Result<Vec<(Prefix, Option<Item>)>, Memory>
-    ensures { IfOk result (λ items. items.items ≡ items_for calculation.now.intra networks.now) }
+    requires { IsStrictlySortedBy network_cmp networks.now }
+    ensures { IfOk result (λ items. AreOtherItems calculation.now table.now.items networks.now items.items) }
 {
-    let mut items = Vec::with_capacity(alloc, networks.len())?;
+    let mut items = Vec::new(alloc);
     for network in networks {
         let item = calculation.item(alloc, *network)?;
-        items.push((*network, item))?;
+        if !are_same(table.get(*network), item.as_ref()) {
+            items.push((*network, item))?;
+        }
     }
     Ok(items)
+}
+
+// Whether the two items are equal, or both are absent.
+fn are_same(a: Option<&Item>, b: Option<&Item>) -> bool
+    ensures { IsTrue result ↔ (option_copied a ≡ option_copied b) }
+{
+    match (a, b) {
+        (Some(Item::Route(a)), Some(Item::Route(b))) => a.is_same(b),
+        (Some(Item::Discard), Some(Item::Discard)) | (None, None) => true,
+        _ => false,
+    }
+}
+
+// The networks of the items.
+fn networks_of(alloc: Global, items: &[(Prefix, Option<Item>)]) -> Result<Vec<Prefix>, Memory>
+    ensures { IfOk result (λ networks. networks.items ≡ keys_of items.now) }
+{
+    let mut networks = Vec::with_capacity(alloc, items.len())?;
+    for (network, _) in items {
+        networks.push(*network)?;
+    }
+    Ok(networks)
 }

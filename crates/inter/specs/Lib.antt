@@ -1,0 +1,5 @@
+pub mod Inputs
+pub mod Offers
+pub mod Inters
+pub mod Changes
+pub mod Right
