@@ -1,8 +1,9 @@
 //! The choice of a route: offers at keys come one at a time, and the least key stays, with all that
 //! was offered at it (RFC 2328, 16.1 to 16.4).
-ghost use Rattle.std.specs.Prelude.{◌≡◌, ◌∷◌, [], None, OnOk, OnErr, IfOk};
+ghost use Rattle.std.specs.Prelude.{◌≡◌, ◌<◌, ◌∷◌, [], None, OnOk, OnErr, IfOk};
 ghost use Rattle.std.specs.List.Sorted.{IsStrictlySortedBy};
 ghost use Rattle.intra.specs.Choices.{HasAlso};
+ghost use Rattle.intra.specs.Intras.{most_cost};
 ghost use Rattle.intra.specs.Takes.{Takes, OnlyOffer};
 
 use ospf_types::hop::Path;
@@ -39,11 +40,15 @@ pub struct AreaCost {
 }
 
 impl Model for AreaCost {
+    ghost use Rattle.std.specs.Prelude.{◌<◌};
     ghost use Rattle.ospf_types.specs.Intra.{AreaCost as CostInArea};
+    ghost use Rattle.intra.specs.Intras.{most_cost};
 
     ghost Value = { CostInArea };
 
     ghost view = { λ k. (k.cost, k.area.0) };
+
+    ghost invariant = { λ k. k.cost < most_cost };
 
     ghost inverse = { λ k. record { cost = k.0; area = record { 0 = k.1 } } };
 }
@@ -56,6 +61,7 @@ impl ExactOrd for AreaCost {
 
 impl AreaCost {
     pub fn new(cost: u32, area: u32) -> AreaCost
+        requires { cost < most_cost }
         ensures { result ≡ (cost, area) }
     {
         AreaCost {
@@ -66,7 +72,8 @@ impl AreaCost {
 
     /// The cost, a metric.
     pub fn cost(self) -> u32
-        ensures { result ≡ self.0 }
+        ensures value { result ≡ self.0 }
+        ensures bounded { result < most_cost }
     {
         self.cost
     }
