@@ -52,7 +52,7 @@ none = empty
 no_values : values none ≡ []
 no_values = no_length (values none) (length-map (entries none) (λ (e : Key × Lsa). e.1) ∙ sym (len-entries none) ∙ len-empty key_cmp Lsa)
 
-lsas_same : (o : Option Database) → lsas_of o ≡ values (lsas_in o)
+pub lsas_same : (o : Option Database) → lsas_of o ≡ values (lsas_in o)
 lsas_same None = sym no_values
 lsas_same (Some d) = refl
 

@@ -9,6 +9,11 @@ pub mod Follows
 pub mod InputsAre
 pub mod Alike
 pub mod Networks
+pub mod Stable
+pub mod Activity
+pub mod Staying
+pub mod Examining
+pub mod Above
+pub mod Following
 pub mod Filling
 pub mod Followed
-pub mod Tables
