@@ -5,7 +5,7 @@ use Rattle.std.specs.FinMap.{get}
 use Rattle.ospf_types.specs.declared.prefix.Prefix.{Prefix}
 use Rattle.ospf_types.proofs.Orders.{network_total, network_exact}
 use Rattle.intra.specs.Intras.{EntriesByPrefix}
-use Rattle.intra.proofs.KeyedMaps.{keys_there}
+use Rattle.result_map.proofs.KeyedMaps.{keys_there}
 use Rattle.intra.proofs.intra.Intra.networks.Goals as goal
 
 pub returns : goal.returns

@@ -1,5 +1,5 @@
 -- The entries of a map by keys of any type, and the finite map that they make.
-use Rattle.std.proofs.Common.{◌≡◌, ◌≢◌, ◌+◌, ⊎_elim, Bool, true, false, cond, List, [], ◌∷◌, length, Option, Some, None, Ordering, refl, sym, ap, subst, ◌∙◌, arith}
+use Rattle.std.proofs.Common.{◌≡◌, ◌≢◌, ◌+◌, ◌⊎◌, inl, inr, ⊎_elim, Bool, true, false, true≢false, cond, List, [], ◌∷◌, length, Option, Some, None, Ordering, refl, sym, ap, subst, ◌∙◌, arith}
 use Rattle.std.specs.Prelude.{◌↔◌, is_some, map, option_map, Contains, IsSome}
 use Rattle.std.specs.Ordering.{eq_by_cmp}
 use Rattle.std.specs.Cmp.{IsTotalOrder, eq_by_cmp_equiv}
@@ -39,6 +39,14 @@ module _ {K X Y : Type 0} (view : X → Y) where
 pub apart_by_order : {K : Type 0} {cmp : K → K → Ordering} → IsAntisymmetric cmp → (k q : K) → q ≢ k → eq_by_cmp cmp q k ≡ false
 apart_by_order {cmp = cmp} exact k q other =
     elim (eq_by_cmp cmp q k) as (λ b. eq_by_cmp cmp q k ≡ b → b ≡ false) [ true ↦ λ tied. absurd (other (tells_apart exact q k tied)) | false ↦ λ tied. refl ] refl
+
+-- a key is this one, or another
+pub one_or_other : {K : Type 0} {cmp : K → K → Ordering} → IsTotalOrder cmp → IsAntisymmetric cmp → (k q : K) → (q ≡ k) ⊎ (q ≢ k)
+one_or_other {K = K} {cmp = cmp} total exact k q =
+    elim (eq_by_cmp cmp q k) as (λ b. eq_by_cmp cmp q k ≡ b → (q ≡ k) ⊎ (q ≢ k)) [
+      | true ↦ λ tied. inl (tells_apart exact q k tied)
+      | false ↦ λ apart. inr (λ e. true≢false (sym (subst (λ (z : K). eq_by_cmp cmp q z ≡ true) e ((eq_by_cmp_equiv total).refl q)) ∙ apart))
+    ] refl
 
 module _ {K X : Type 0} {cmp : K → K → Ordering} (total : IsTotalOrder cmp) where
   -- a value that is set
