@@ -15,7 +15,8 @@ ghost use Rattle.ospf_types.specs.declared.key.Dest.{Dest as DestValue};
 ghost use Rattle.ospf_types.specs.Inputs.{Inputs as Definitions};
 ghost use Rattle.intra.specs.Inputs.{AreReady, AreaValue, InputsValue};
 ghost use Rattle.intra.specs.Intras.{IsIntraOf, reached_at};
-ghost use Rattle.intra.specs.Changes.{InputsDifferAmong, DiffersAt, dest_cmp};
+ghost use Rattle.intra.specs.Changes.{InputsDifferAmong, DiffersAt};
+ghost use Rattle.ospf_types.specs.Keys.{dest_cmp};
 ghost use Rattle.intra.specs.Right.{AreInputsOf, IsRightFor};
 
 use crate::area::AreaIntra;

@@ -9,3 +9,4 @@ pub mod OneBest
 pub mod Maps
 pub mod InOrder
 pub mod VertexOrder
+pub mod KeyOrders

@@ -2,7 +2,7 @@ use Rattle.std.proofs.Common.{ap, ◌∙◌}
 use Rattle.std.specs.FinMap.{get}
 use Rattle.ospf_types.proofs.Orders.{network_total, network_exact}
 use Rattle.intra.specs.Intras.{IntraValue}
-use Rattle.intra.proofs.KeyOrders.{prefixes_order}
+use Rattle.ospf_types.proofs.KeyOrders.{prefixes_order}
 use Rattle.intra.proofs.KeyedMaps.{looked_up}
 use Rattle.intra.proofs.intra.Intra.get.Goals as goal
 

@@ -3,7 +3,7 @@ use Rattle.std.proofs.Common.{ap, sym, ◌∙◌}
 use Rattle.std.specs.FinMap.{get}
 use Rattle.ospf_types.proofs.Orders.{network_total, network_exact}
 use Rattle.intra.specs.Intras.{EntriesByPrefix, IntraValue}
-use Rattle.intra.proofs.KeyOrders.{prefixes_order}
+use Rattle.ospf_types.proofs.KeyOrders.{prefixes_order}
 use Rattle.intra.proofs.KeyedMaps.{inserted, removed, set_here, set_elsewhere, gone_here, gone_elsewhere}
 use Rattle.intra.proofs.intra.Intra.put.Goals as goal
 use Rattle.intra.proofs.intra.Intra.put.Goals.{in-Some-1, in-None-1, in-Some-2, in-None-2}
