@@ -11,4 +11,3 @@ pub mod Alike
 pub mod Networks
 pub mod Filling
 pub mod Followed
-pub mod Tables

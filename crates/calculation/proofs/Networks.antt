@@ -12,7 +12,7 @@ use Rattle.ospf_types.specs.declared.key.Dest.TheVariants.{Net, Router}
 use Rattle.ospf_types.specs.declared.prefix.Prefix.{Prefix}
 use Rattle.ospf_types.specs.Network.{network_cmp}
 use Rattle.ospf_types.proofs.Elements.{no_element, first_element, later_element, first_or_later}
-use Rattle.intra.specs.Changes.{dest_cmp}
+use Rattle.ospf_types.specs.Keys.{dest_cmp}
 
 abbrev pub networks_in : List Dest → List Prefix
 networks_in [] = []

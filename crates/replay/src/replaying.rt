@@ -1,17 +1,14 @@
 //! A replay.
-ghost use Rattle.std.specs.Prelude.{◌≡◌, ◌⊎◌, ◌+◌, ◌^◌, ◌<◌, ℕ, List, length, IfOk, IfErr, OnOk, OnErr, Some, None};
+ghost use Rattle.std.specs.Prelude.{◌≡◌, ◌⊎◌, ◌+◌, ◌^◌, ◌<◌, ℕ, List, length, IfOk, IfErr, OnOk, OnErr, None};
 ghost use Rattle.std.specs.Io.KnownBytes.{Consumes};
-ghost use Rattle.recording.specs.Recordings.{RecordingValue, IsText};
 ghost use Rattle.recording.specs.Faults.{IsFaultOf};
 ghost use Rattle.event_core.specs.Configs.{config_fault_of};
-ghost use Rattle.event_core.specs.Lasting.{lasting_fault_of};
-ghost use Rattle.event_core.specs.declared.fault.ConfigFault.TheVariants as config_fault;
 ghost use Rattle.replay.specs.declared.fault.ReplayFault.TheVariants as replay_fault;
 ghost use Rattle.recording.specs.declared.fault.LineFault.{LineFault};
 ghost use Rattle.replay.specs.Lines.{first_number};
 ghost use Rattle.replay.specs.Runs.{IsOpened};
 ghost use Rattle.replay.specs.Outputs.{Replays, ReplaysPart};
-ghost use Rattle.replay.specs.Parts.{IsRead, IsReadFault, IsOpenFault, WritesOutput, WritesPart};
+ghost use Rattle.replay.specs.Parts.{IsRead, IsReadFault, WritesOutput, WritesPart};
 
 use crate::fault::ReplayFault;
 use crate::output::{print_journal, print_lsdb, print_routes};
@@ -37,8 +34,6 @@ pub fn replay_one<R: io::Read, W: io::Write>(
     ensures read { result ≡ Err replay_fault.Read → out.new ≡ out.old }
     ensures line { (f : LineFault) → result ≡ Err (replay_fault.Line f) → (out.new ≡ out.old)
         × ((bytes : List ℕ) × Consumes (R.remaining input.old) (R.remaining input.new) bytes × IsFaultOf bytes f) }
-    ensures not_yet { result ≡ Err replay_fault.NotYet → (out.new ≡ out.old)
-        × ((bytes : List ℕ) × (r : RecordingValue) × Consumes (R.remaining input.old) (R.remaining input.new) bytes × IsText bytes r × (config_fault_of r.config ≡ Some config_fault.NotYet)) }
     ensures write { result ≡ Err replay_fault.Write → ReplaysPart show (R.remaining input.old) (R.remaining input.new) (W.contents out.old) (W.contents out.new) }
     ensures memory { result ≡ Err replay_fault.Memory → (out.new ≡ out.old)
         ⊎ ReplaysPart show (R.remaining input.old) (R.remaining input.new) (W.contents out.old) (W.contents out.new) }
@@ -71,15 +66,14 @@ fn read_recording<R: io::Read>(alloc: Global, input: &mut R) -> Result<Recording
     }
 }
 
-// The core that a run begins with. The configuration of a recording has none of the lasting faults.
+// The core that a run begins with. The configuration of a recording has no fault.
 fn open_core(alloc: Global, config: Config, hashing: RandomState) -> Result<Core, ReplayFault>
-    requires { lasting_fault_of config ≡ None }
+    requires { config_fault_of config ≡ None }
     ensures core { IfOk result (IsOpened config) }
-    ensures fault { IfErr result (IsOpenFault config) }
+    ensures fault { IfErr result (λ fault. fault ≡ replay_fault.Memory) }
 {
     match Core::open(alloc, config, hashing) {
         Ok(core) => Ok(core),
-        Err(ConfigFault::NotYet) => Err(ReplayFault::NotYet),
         Err(ConfigFault::Memory) => Err(ReplayFault::Memory),
         Err(_) => unreachable!(),
     }

@@ -54,4 +54,4 @@ returns-clause-items c =
     let same : take c.loop-network.network-index c.deref-network-items.result.now ≡ listed = take_all c.loop-network.network-index c.deref-network-items.result.now c.loop-network-test.false ∙ c.deref-network-items.ensures.value in
     let kept : c.self.inside.intra ≡ c.args.self.now.intra = ap (λ (k : CalculationValue). k.intra) c.self.view_is in
     all_filled wanted listed c.loop-network.table.items (subst (λ (list : List Prefix). AreFilled wanted list c.loop-network.table.items) same c.loop-network.invariant.filled)
-    (λ p some. (c.in_ok-networks.ensures p).1 (subst (λ (k : IntraValue). IsSome (get k.entries p)) (sym kept) (some_mapped (λ (e : Entry). Route e) (get c.args.self.now.intra.entries p) some)))
+    (λ p some. (c.in_ok-networks.ensures.exact p).1 (subst (λ (k : IntraValue). IsSome (get k.entries p)) (sym kept) (some_mapped (λ (e : Entry). Route e) (get c.args.self.now.intra.entries p) some)))

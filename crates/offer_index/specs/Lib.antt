@@ -1,0 +1,2 @@
+pub mod Advertised
+pub mod Indexes

@@ -1,0 +1,6 @@
+mod Ascending
+mod Following
+mod Members
+mod Naming
+mod Right
+mod Turning
