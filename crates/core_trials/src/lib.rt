@@ -3,7 +3,7 @@
 
 mod trial;
 
-pub use trial::{applied, events_of, items};
+pub use trial::{applied, events_of, routes};
 
 #[cfg(test)]
 mod tests;

@@ -6,10 +6,9 @@ use Rattle.std.proofs.lemmas.Bool.Decides.{eqb_tells}
 use Rattle.ospf_types.specs.declared.config.Config.{Config}
 use Rattle.ospf_types.specs.declared.config.AreaConfig.{AreaConfig}
 use Rattle.event_core.specs.declared.fault.ConfigFault.{ConfigFault}
-use Rattle.event_core.specs.declared.fault.ConfigFault.TheVariants as fault
 use Rattle.ospf_types.specs.FirstOf.{first_of}
 use Rattle.event_state.specs.States.{AreApart}
-use Rattle.event_core.specs.Configs.{config_fault_of, has_alike, has_overlap, has_wrong_areas, is_costly, is_stub_backbone}
+use Rattle.event_core.specs.Configs.{config_fault_of, has_alike, has_wrong_areas}
 
 -- where no line of the table holds, its first does not
 first_false : (a : Bool) (x : ConfigFault) (more : List (Bool × ConfigFault)) → first_of ((a, x) ∷ more) ≡ None → a ≡ false
@@ -17,12 +16,7 @@ first_false true x more e = absurd cc
 first_false false x more e = refl
 
 no_wrong_areas : (config : Config) → config_fault_of config ≡ None → has_wrong_areas config.areas ≡ false
-no_wrong_areas config e = first_false (has_wrong_areas config.areas) fault.Areas (
-    (list_any (λ a. has_overlap a.ranges) config.areas, fault.RangesOverlap)
-    ∷ (list_any is_stub_backbone config.areas, fault.BackboneStub)
-    ∷ (list_any (λ a. is_costly a.stub) config.areas, fault.Cost)
-    ∷ (list_any (λ a. nat_lt 32 (length a.ranges)) config.areas, fault.RangeCount)
-    ∷ []) e
+no_wrong_areas config e = first_false _ _ _ e
 
 left_false : (a b : Bool) → (a || b) ≡ false → (a ≡ false) × (b ≡ false)
 left_false true b e = absurd cc

@@ -149,8 +149,8 @@ module _ (s : Inputs) (p : Prefix) where
             (λ i. entry_else (a i) (entry_else (b i) external))
         | inr w ↦
             let offer = w.1.stands in
-            let a : intra ≡ None = intra_none intra within offer.1.7 in
-            let b : inter ≡ None = inter_none inter between offer.1.8 in
+            let a : intra ≡ None = intra_none intra within offer.1.6 in
+            let b : inter ≡ None = inter_none inter between offer.1.7 in
             let c : external ≡ Some e = external_there external e outside w.0 w.1 entry.in_order w.2 in
             (λ i. entry_else (a i) (entry_else (b i) (c i)))
       ]

@@ -100,8 +100,8 @@ pub external_exact : CmpEqualImpliesEq external_cmp
 external_exact a b h =
     ap (λ (p : ℕ × (ℕ × (ℕ × ℕ))). let k : ExternalPreference = record { kind = p.0; metric = p.1.0; class = p.1.1.0; cost = p.1.1.1 } in k)
     (exact_pairs nat_cmp (λ (x y : ℕ × (ℕ × ℕ)). ordering_then (nat_cmp x.0 y.0) (ordering_then (nat_cmp x.1.0 y.1.0) (nat_cmp x.1.1 y.1.1))) exact_unsigned
-    (exact_pairs nat_cmp (λ (x y : ℕ × ℕ). ordering_then (nat_cmp x.0 y.0) (nat_cmp x.1 y.1)) exact_unsigned (exact_pairs nat_cmp nat_cmp exact_unsigned exact_unsigned))
-    (a.kind, (a.metric, (a.class, a.cost))) (b.kind, (b.metric, (b.class, b.cost))) h)
+        (exact_pairs nat_cmp (λ (x y : ℕ × ℕ). ordering_then (nat_cmp x.0 y.0) (nat_cmp x.1 y.1)) exact_unsigned (exact_pairs nat_cmp nat_cmp exact_unsigned exact_unsigned))
+        (a.kind, (a.metric, (a.class, a.cost))) (b.kind, (b.metric, (b.class, b.cost))) h)
 
 pub hop_total : IsTotalOrder hop_cmp
 hop_total = then_total (on_total (λ h. (hop_rank h).0) nat_cmp_total) (then_total (on_total (λ h. (hop_rank h).1) nat_cmp_total) (on_total (λ h. (hop_rank h).2) nat_cmp_total))

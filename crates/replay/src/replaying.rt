@@ -16,7 +16,6 @@ use crate::page::Stop;
 use crate::show::Show;
 use event_core::{ConfigFault, Core};
 use ospf_types::config::Config;
-use ospf_types::memory::Memory;
 use recording::{Line, Recording, parse};
 use std::alloc::Global;
 use std::hash::RandomState;
@@ -40,7 +39,9 @@ pub fn replay_one<R: io::Read, W: io::Write>(
         ⊎ ReplaysPart show (R.remaining input.old) (R.remaining input.new) (W.contents out.old) (W.contents out.new) }
 {
     let recording = read_recording(alloc, input)?;
-    match print_recording(alloc, hashing, recording, out, show) {
+    let (config, lines) = recording.into_parts();
+    let core = open_core(alloc, config, hashing)?;
+    match print_replay(alloc, core, lines, out, show) {
         Ok(()) => Ok(()),
         Err(Stop::Write) => Err(ReplayFault::Write),
         Err(Stop::Memory) => Err(ReplayFault::Memory),
@@ -65,31 +66,15 @@ fn read_recording<R: io::Read>(alloc: Global, input: &mut R) -> Result<Recording
     }
 }
 
-// Runs a recording, and prints what is shown.
-fn print_recording<W: io::Write>(
-    alloc: Global,
-    hashing: RandomState,
-    recording: Recording,
-    out: &mut W,
-    show: Show,
-) -> Result<(), Stop>
-    requires few { first_number recording.config + length recording.lines < 2 ^ 64 }
-    ensures ok { OnOk result (WritesOutput recording show (W.contents out.old) (W.contents out.new)) }
-    ensures err { OnErr result (WritesPart recording show (W.contents out.old) (W.contents out.new)) }
-{
-    let (config, lines) = recording.into_parts();
-    let core = open_core(alloc, config, hashing)?;
-    print_replay(alloc, core, lines, out, show)
-}
-
 // The core that a run begins with. The configuration of a recording has no fault.
-fn open_core(alloc: Global, config: Config, hashing: RandomState) -> Result<Core, Memory>
+fn open_core(alloc: Global, config: Config, hashing: RandomState) -> Result<Core, ReplayFault>
     requires { config_fault_of config ≡ None }
-    ensures { IfOk result (IsOpened config) }
+    ensures core { IfOk result (IsOpened config) }
+    ensures fault { IfErr result (λ fault. fault ≡ replay_fault.Memory) }
 {
     match Core::open(alloc, config, hashing) {
         Ok(core) => Ok(core),
-        Err(ConfigFault::Memory) => Err(Memory),
+        Err(ConfigFault::Memory) => Err(ReplayFault::Memory),
         Err(_) => unreachable!(),
     }
 }

@@ -17,7 +17,8 @@ loop-kept-init c r = (λ h. absurd (no_element r (subst (λ (xs : List ℕ). Con
 pub loop-kept-preserved : goal.loop-kept-preserved
 loop-kept-preserved c r =
     let more = of_more kept_there c.deref-kept-items.result.now c.loop-kept.kept-index c.kept-item.result r c.loop-kept-test.true c.kept-item.is in
-    let pushed = c.in_ok-push_routers.ensures r in (
+    let pushed = c.in_ok-push_routers.ensures r in
+    (
       λ h. more.1 (elim (pushed.0 h) [ inl was ↦ inl ((c.loop-kept.invariant r).0 was) | inr here ↦ inr here ]),
       λ w. pushed.1 (elim (more.0 w) [ inl was ↦ inl ((c.loop-kept.invariant r).1 was) | inr here ↦ inr here ]),
     )
