@@ -26,7 +26,6 @@ fault_widens words g (fault.Config f) say h = (g, say, h)
 fault_widens words g (fault.Refused r) say h = (g, say, h)
 fault_widens words g (fault.Read file) say h = absurd h
 fault_widens words g (fault.Line f) say h = absurd h
-fault_widens words g fault.NotYet say h = absurd h
 fault_widens words g fault.Memory say h = tt
 fault_widens words g fault.Write say h = absurd h
 

@@ -1,11 +1,8 @@
 -- How a replay ended.
-use Rattle.std.proofs.Common.{◌≡◌, ◌⊎◌, ℕ, List, Option, Some, inl, inr, refl}
+use Rattle.std.proofs.Common.{◌≡◌, ◌⊎◌, ℕ, List, Option, inl, inr, refl}
 use Rattle.std.specs.Borrow.{Bor}
 use Rattle.std.specs.Io.KnownBytes.{Consumes}
-use Rattle.event_core.specs.Configs.{config_fault_of}
-use Rattle.event_core.specs.declared.fault.ConfigFault.TheVariants as config_fault
 use Rattle.recording.specs.declared.fault.LineFault.{LineFault}
-use Rattle.recording.specs.Recordings.{RecordingValue, IsText}
 use Rattle.recording.specs.Faults.{IsFaultOf}
 use Rattle.replay.specs.declared.fault.ReplayFault.{ReplayFault}
 use Rattle.replay.specs.declared.fault.ReplayFault.TheVariants as replay_fault
@@ -18,7 +15,6 @@ memory_ends : (e : ReplayFault) (s : Show) (i i' o o' : Option (List ℕ)) → E
 memory_ends replay_fault.Read s i i' o o' h = inl h
 memory_ends replay_fault.Write s i i' o o' h = inr h
 memory_ends replay_fault.Memory s i i' o o' h = h
-memory_ends replay_fault.NotYet s i i' o o' h = inl h.0
 memory_ends (replay_fault.Line f) s i i' o o' h = inl h.0
 
 pub ended_early : (file : Bor (List ℕ)) (e : ReplayFault) (s : Show) (status : ℕ) (i i' o o' f f' : Option (List ℕ)) → EndsEarly e s i i' o o' → IsEndSaid file e status f f' → IsReplayTold file s status i i' o o' f f'
@@ -28,11 +24,8 @@ ended_early file e s status i i' o o' f f' h (inr said) = inr (replay_fault.Memo
 -- what is said of each fault by itself
 pub by_fault : (e : ReplayFault) (s : Show) (i i' o o' : Option (List ℕ)) → (e ≡ replay_fault.Read → o' ≡ o)
     → ((f : LineFault) → e ≡ replay_fault.Line f → (o' ≡ o) × ((bytes : List ℕ) × Consumes i i' bytes × IsFaultOf bytes f))
-    → (e ≡ replay_fault.NotYet → (o' ≡ o)
-    × ((bytes : List ℕ) × (r : RecordingValue) × Consumes i i' bytes × IsText bytes r × (config_fault_of r.config ≡ Some config_fault.NotYet)))
     → (e ≡ replay_fault.Write → ReplaysPart s i i' o o') → (e ≡ replay_fault.Memory → (o' ≡ o) ⊎ ReplaysPart s i i' o o') → EndsEarly e s i i' o o'
-by_fault replay_fault.Read s i i' o o' read line not_yet write memory = read refl
-by_fault replay_fault.Write s i i' o o' read line not_yet write memory = write refl
-by_fault replay_fault.Memory s i i' o o' read line not_yet write memory = memory refl
-by_fault replay_fault.NotYet s i i' o o' read line not_yet write memory = not_yet refl
-by_fault (replay_fault.Line f) s i i' o o' read line not_yet write memory = line f refl
+by_fault replay_fault.Read s i i' o o' read line write memory = read refl
+by_fault replay_fault.Write s i i' o o' read line write memory = write refl
+by_fault replay_fault.Memory s i i' o o' read line write memory = memory refl
+by_fault (replay_fault.Line f) s i i' o o' read line write memory = line f refl

@@ -46,7 +46,6 @@ IsDecodeFault word (fault.Config f) = ⊥
 IsDecodeFault word (fault.Refused f) = ⊥
 IsDecodeFault word (fault.Read file) = ⊥
 IsDecodeFault word (fault.Line f) = ⊥
-IsDecodeFault word fault.NotYet = ⊥
 IsDecodeFault word fault.Memory = Unit {0}
 IsDecodeFault word fault.Write = ⊥
 

@@ -18,7 +18,6 @@ command_fault_text (fault.Config f) = config_fault_text f
 command_fault_text (fault.Refused f) = refusal_text f
 command_fault_text (fault.Read file) = codes "cannot read " ++ file.now
 command_fault_text (fault.Line f) = line_fault_text f
-command_fault_text fault.NotYet = codes "33 NotYet"
 command_fault_text fault.Memory = memory_text
 command_fault_text fault.Write = codes "cannot write"
 
@@ -32,7 +31,6 @@ status_of (fault.Config f) = 1
 status_of (fault.Refused f) = 1
 status_of (fault.Read file) = 1
 status_of (fault.Line f) = 1
-status_of fault.NotYet = 1
 status_of fault.Memory = 1
 status_of fault.Write = 1
 

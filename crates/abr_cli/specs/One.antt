@@ -94,7 +94,6 @@ IsCoreFault g (fault.Config f) = IsFaultOf (config_of g) f
 IsCoreFault g (fault.Refused r) = (config_fault_of (config_of g) ≡ None) × IsRefused g r
 IsCoreFault g (fault.Read file) = ⊥
 IsCoreFault g (fault.Line f) = ⊥
-IsCoreFault g fault.NotYet = ⊥
 IsCoreFault g fault.Memory = Unit {0}
 IsCoreFault g fault.Write = ⊥
 
@@ -107,7 +106,6 @@ IsFault words (fault.Config f) = (g : Given) × Say words g × IsCoreFault g (fa
 IsFault words (fault.Refused r) = (g : Given) × Say words g × IsCoreFault g (fault.Refused r)
 IsFault words (fault.Read file) = ⊥
 IsFault words (fault.Line f) = ⊥
-IsFault words fault.NotYet = ⊥
 IsFault words fault.Memory = Unit {0}
 IsFault words fault.Write = ⊥
 

@@ -1,10 +1,7 @@
 -- What `abr replay` wrote.
-use Rattle.std.specs.Prelude.{ℕ, ◌≡◌, ◌≢◌, ◌⊎◌, List, Option, Some}
+use Rattle.std.specs.Prelude.{ℕ, ◌≡◌, ◌≢◌, ◌⊎◌, List, Option}
 use Rattle.std.specs.Borrow.{Bor}
 use Rattle.std.specs.Io.KnownBytes.{Consumes}
-use Rattle.event_core.specs.Configs.{config_fault_of}
-use Rattle.event_core.specs.declared.fault.ConfigFault.TheVariants as config_fault
-use Rattle.recording.specs.Recordings.{RecordingValue, IsText}
 use Rattle.recording.specs.Faults.{IsFaultOf}
 use Rattle.replay.specs.declared.fault.ReplayFault.{ReplayFault}
 use Rattle.replay.specs.declared.fault.ReplayFault.TheVariants as replay_fault
@@ -19,7 +16,6 @@ abbrev pub fault_from : Bor (List ℕ) → ReplayFault → CommandFault
 fault_from file replay_fault.Read = fault.Read file
 fault_from file replay_fault.Write = fault.Write
 fault_from file replay_fault.Memory = fault.Memory
-fault_from file replay_fault.NotYet = fault.NotYet
 fault_from file (replay_fault.Line f) = fault.Line f
 
 -- what a replay that ended early for this fault made of the input and the output
@@ -27,8 +23,6 @@ abbrev pub EndsEarly : ReplayFault → Show → (i i' o o' : Option (List ℕ)) 
 EndsEarly replay_fault.Read s i i' o o' = o' ≡ o
 EndsEarly replay_fault.Write s i i' o o' = ReplaysPart s i i' o o'
 EndsEarly replay_fault.Memory s i i' o o' = (o' ≡ o) ⊎ ReplaysPart s i i' o o'
-EndsEarly replay_fault.NotYet s i i' o o' = (o' ≡ o)
-    × ((bytes : List ℕ) × (r : RecordingValue) × Consumes i i' bytes × IsText bytes r × (config_fault_of r.config ≡ Some config_fault.NotYet))
 EndsEarly (replay_fault.Line f) s i i' o o' = (o' ≡ o) × ((bytes : List ℕ) × Consumes i i' bytes × IsFaultOf bytes f)
 
 -- The fault was said, or want of memory where there was none for its line. The line of a failed write takes none.

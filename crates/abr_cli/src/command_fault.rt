@@ -25,8 +25,6 @@ pub enum CommandFault<'a> {
     Read(&'a str),
     /// The file is no recording.
     Line(LineFault),
-    /// No calculation stands yet for the configuration of a recording.
-    NotYet,
     /// A growth was refused.
     Memory,
     /// What there is to print could not be written.
@@ -56,7 +54,6 @@ impl fmt::Display for CommandFault<'_> {
             CommandFault::Refused(fault) => fault.fmt(f),
             CommandFault::Read(file) => write!(f, "cannot read {file}"),
             CommandFault::Line(fault) => fault.fmt(f),
-            CommandFault::NotYet => f.write_str("33 NotYet"),
             CommandFault::Memory => Memory.fmt(f),
             CommandFault::Write => f.write_str("cannot write"),
         }

@@ -1,8 +1,10 @@
 //! The command `one`.
-ghost use Rattle.std.specs.Prelude.{◌≡◌, IfOk, IfErr, string_bytes};
+ghost use Rattle.std.specs.Prelude.{◌≡◌, IfOk, IfErr, OnOk, string_bytes};
+ghost use Rattle.event_state.specs.Steps.{standard_limits};
+ghost use Rattle.event_core.specs.Cores.{IsCore, IsOpening};
 ghost use Rattle.abr_cli.specs.Answers.{Tells, value_of};
 ghost use Rattle.abr_cli.specs.Command.{texts_of};
-ghost use Rattle.abr_cli.specs.One.{Answer as HasLine, IsFault, IsCoreFault, IsTableOf, IsOneAnswer, Say, given_by, one_area};
+ghost use Rattle.abr_cli.specs.One.{Answer as HasLine, IsFault, IsCoreFault, IsTableOf, IsOneAnswer, Say, config_of, given_by, one_area};
 
 use crate::answer::{Answer, answer_fault};
 use crate::command::OneWords;
@@ -87,6 +89,17 @@ fn core_after(
 {
     let config = one_area(alloc, input.router, input.area)?;
     let mut core = Core::open(alloc, config, hashing)?;
+    take_both(&mut core, input, lsa)?;
+    Ok(core)
+}
+
+// The interface comes up, and then the LSA is installed.
+fn take_both(core: &mut Core, input: &OneInput, lsa: Checked) -> Result<(), CommandFault<'static>>
+    requires opening { IsOpening (config_of (given_by input.now lsa)) standard_limits core.old }
+    requires kept { IsCore core.old }
+    ensures table { OnOk result (IsTableOf (given_by input.now lsa) core.new.table) }
+    ensures fault { IfErr result (IsCoreFault (given_by input.now lsa)) }
+{
     core.apply(Event::Interface {
         id: 1,
         area: input.area,
@@ -99,7 +112,7 @@ fn core_after(
         lsa,
     })?;
     match reply.state {
-        Standing::Current => Ok(core),
+        Standing::Current => Ok(()),
         Standing::Behind => Err(CommandFault::Memory),
     }
 }

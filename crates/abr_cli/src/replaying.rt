@@ -48,7 +48,6 @@ fn fault_from(file: &str, fault: ReplayFault) -> CommandFault<'_>
         ReplayFault::Read => CommandFault::Read(file),
         ReplayFault::Write => CommandFault::Write,
         ReplayFault::Memory => CommandFault::Memory,
-        ReplayFault::NotYet => CommandFault::NotYet,
         ReplayFault::Line(fault) => CommandFault::Line(fault),
     }
 }

@@ -14,11 +14,14 @@ use std::{fs, io};
 use trial::is_as_wanted;
 
 // The files of rows.
-const FILES: [&str; 4] = [
+const FILES: [&str; 7] = [
     "commands.rows",
     "recordings.rows",
     "events.rows",
     "routes.rows",
+    "summaries.rows",
+    "externals.rows",
+    "updates.rows",
 ];
 
 /// How many rows ran, and how many of them differ.

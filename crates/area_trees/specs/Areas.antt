@@ -1,5 +1,5 @@
 -- The graph of an area as its database gives it, and its tree (RFC 2328, 16.1).
-use Rattle.std.specs.Prelude.{◌↔◌, ◌⊎◌, ◌==◌, ℕ, ◌≡◌, ◌≤◌, Bool, false, List, [], ◌∷◌, Contains, Option, Some, None, IsSome, option_map, if◌then◌else◌}
+use Rattle.std.specs.Prelude.{◌↔◌, ◌⊎◌, ◌==◌, ℕ, ◌≡◌, ◌≤◌, Bool, false, List, [], ◌∷◌, Contains, Option, Some, None, IsSome, if◌then◌else◌}
 use Rattle.std.specs.FinMap.{get, values}
 use Rattle.ospf_types.specs.declared.entry.Vertex.{Vertex}
 use Rattle.ospf_types.specs.declared.entry.Vertex.TheVariants.{Router, Network}
@@ -8,7 +8,8 @@ use Rattle.ospf_types.specs.Lsa.{Body}
 use Rattle.lsdb.specs.Databases.{Database}
 use Rattle.ospf_types.specs.declared.config.Interface.{Interface}
 use Rattle.ospf_types.specs.Inputs.{Inputs, Area, IsUp}
-use Rattle.lsdb.specs.Contents.{used_at, IsSound}
+use Rattle.lsdb.specs.Contents.{IsSound}
+pub use Rattle.lsdb.specs.Contents.{body_at}
 use Rattle.vertex_graph.specs.declared.end.End.{End}
 use Rattle.vertex_graph.specs.declared.link.Up.{Up}
 use Rattle.vertex_graph.specs.Ends.{AreEnds}
@@ -23,10 +24,6 @@ router_key router = record { kind = 1; id = router; router = router }
 
 abbrev pub network_key : ℕ → ℕ → Key
 network_key id router = record { kind = 2; id = id; router = router }
-
--- the body of the LSA under the key, where it is there and usable
-abbrev pub body_at : Database → Key → Option Body
-body_at d key = option_map (λ (used : ℕ × Body). used.1) (used_at d key)
 
 abbrev pub IsUsed : Database → Key → Type 0
 IsUsed d key = IsSome (body_at d key)

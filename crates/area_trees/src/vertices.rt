@@ -7,14 +7,14 @@ ghost use Rattle.ospf_types.specs.declared.key.Key.{Key as KeyValue};
 ghost use Rattle.ospf_types.specs.Lsa.{key_of};
 ghost use Rattle.ospf_types.specs.Vertices.{vertex_cmp};
 ghost use Rattle.vertex_graph.specs.Graphs.{handed_of};
-ghost use Rattle.area_trees.specs.Areas.{body_at, vertex_of as vertex_of_key, router_key, network_key, IsUsed, IsStanding, AreStanding, AreNetworksOf};
+ghost use Rattle.area_trees.specs.Areas.{vertex_of as vertex_of_key, router_key, network_key, IsUsed, IsStanding, AreStanding, AreNetworksOf};
 
 use crate::networks::Networks;
 use lsa_codec::Checked;
 use lsdb::Database;
 use ospf_types::entry::Vertex;
 use ospf_types::key::Key;
-use ospf_types::lsa::{MAX_AGE, NETWORK_LSA, ROUTER_LSA};
+use ospf_types::lsa::{NETWORK_LSA, ROUTER_LSA};
 use ospf_types::memory::Memory;
 use std::alloc::Global;
 
@@ -93,40 +93,25 @@ pub(crate) fn lsa_of<'a>(
     ensures own { IfSome result (λ l. vertex_of_key (key_of l.now) ≡ Some vertex) }
 {
     match vertex {
-        Vertex::Router(router) => usable(
-            database,
-            Key {
-                kind: ROUTER_LSA,
-                id: router,
-                router,
-            },
-        ),
+        Vertex::Router(router) => database.usable(Key {
+            kind: ROUTER_LSA,
+            id: router,
+            router,
+        }),
         Vertex::Network(id) => {
             let router = networks.greatest(id)?;
-            usable(
-                database,
-                Key {
-                    kind: NETWORK_LSA,
-                    id,
-                    router,
-                },
-            )
+            database.usable(Key {
+                kind: NETWORK_LSA,
+                id,
+                router,
+            })
         }
     }
-}
-
-/// The LSA under the key, where it is there and below MaxAge.
-fn usable(database: &Database, key: Key) -> Option<&Checked>
-    ensures body { option_map (λ l. l.now.body) result ≡ body_at database.now.lsas key }
-    ensures own { IfSome result (λ l. key_of l.now ≡ key) }
-{
-    let (lsa, age) = database.get(key)?;
-    if age < MAX_AGE { Some(lsa) } else { None }
 }
 
 /// Whether there is such an LSA.
 pub(crate) fn is_usable(database: &Database, key: Key) -> bool
     ensures { IsTrue result ↔ IsUsed database.now.lsas key }
 {
-    usable(database, key).is_some()
+    database.usable(key).is_some()
 }

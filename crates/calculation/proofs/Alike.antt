@@ -1,6 +1,5 @@
 -- States that look alike have the same trees and routes: what is kept of the one is right for the other.
-use Rattle.std.proofs.Common.{◌≡◌, ℕ, List, [], ◌∷◌, Option, Some, None, refl, sym, ap, subst, ◌∙◌, ⊎_elim, inl, inr}
-use Rattle.std.specs.Prelude.{◌↔◌, option_map}
+use Rattle.std.proofs.Common.{◌≡◌, ℕ, List, [], ◌∷◌, Some, refl, sym, ap, subst, ◌∙◌, ⊎_elim, inl, inr}
 use Rattle.std.specs.List.{Contains}
 use Rattle.std.specs.Ordering.{nat_cmp}
 use Rattle.std.specs.FinMap.{FinMap, entries, get}
@@ -14,10 +13,8 @@ use Rattle.ospf_types.specs.declared.key.Scope.TheVariants.{Area}
 use Rattle.ospf_types.specs.declared.hop.Path.{Path}
 use Rattle.ospf_types.specs.declared.prefix.Prefix.{Prefix}
 use Rattle.ospf_types.specs.Intra.{AreaCost}
-use Rattle.ospf_types.specs.Lsa.{Body}
 use Rattle.ospf_types.proofs.Elements.{no_element, first_element, later_element, first_or_later}
 use Rattle.lsdb.specs.Databases.{Database}
-use Rattle.vertex_graph.specs.declared.link.Up.{Up}
 use Rattle.area_trees.specs.Areas.{AreaTreeValue, IsAreaTree, body_at}
 use Rattle.intra.specs.Indexes.{IndexValue, IsIndexOf}
 use Rattle.intra.specs.Inputs.{AreaValue, InputsValue}
@@ -25,11 +22,16 @@ use Rattle.intra.specs.Intras.{AreaIntraValue, IntraValue, IsAreaIntra, AreAreaI
 use Rattle.intra.specs.Offers.{HasOffer, IsNearest, AreaOffers, KeyedOffers, OffersOf}
 use Rattle.intra.proofs.Frame.{entry_same, offers_same}
 use Rattle.intra.proofs.Right.{intra_right}
-use Rattle.event_state.specs.States.{State, LooksAlike, database_of, usable_at, inputs_of}
+use Rattle.summaries.specs.Active.{AreRangesOf}
+use Rattle.summaries.proofs.Right.{ranges_right}
+use Rattle.inter.proofs.Right.{inter_right}
+use Rattle.external.proofs.Right.{external_right}
+use Rattle.event_state.specs.States.{State, LooksAlike, database_of, inputs_of}
 use Rattle.event_state.specs.Held.{AreFit}
-use Rattle.calculation.specs.Calculations.{CalculationValue, lsas_in, areas_with, inputs_with, AreUpsOf, IsTreeFor, AreTreesOf, IsCalculationOf}
+use Rattle.calculation.specs.Calculations.{CalculationValue, lsas_in, areas_with, inputs_with, AreUpsOf, IsTreeFor, AreTreesOf, IsCalculationOf, inter_inputs, external_inputs}
+use Rattle.calculation.proofs.Above.{configured, inter_are, external_are}
+use Rattle.calculation.proofs.AlikeAbove.{looks_back, bodies_alike, inter_alike, external_alike}
 use Rattle.calculation.proofs.InputsAre.{inputs_are}
-use Rattle.calculation.proofs.Places.{body_used}
 use Rattle.calculation.proofs.Standing.{standing_alike, alike_tree}
 
 -- ---- an area with another database that is used alike
@@ -73,7 +75,7 @@ module _ (d e : Database) (alike : (key : Key) → body_at e key ≡ body_at d k
 
 module _ (s t : State) (looks : LooksAlike s t) (router : t.config.router ≡ s.config.router) where
   body_alike : (id : ℕ) (key : Key) → body_at (lsas_in (database_of t (Area id))) key ≡ body_at (lsas_in (database_of s (Area id))) key
-  body_alike id key = body_used t (Area id) key ∙ ap (option_map (λ (used : ℕ × Body). used.1)) (sym (looks.usable (Area id) key)) ∙ sym (body_used s (Area id) key)
+  body_alike id = bodies_alike s t looks (Area id)
 
   tree_alike : (area : ℕ) (x : AreaTreeValue) → IsTreeFor s area x → IsTreeFor t area x
   tree_alike area x is = (
@@ -114,10 +116,6 @@ module _ (s t : State) (looks : LooksAlike s t) (router : t.config.router ≡ s.
       (found.0, later_element other found.0 (areas_with t areas trees) found.1, found.2))
       (first_or_later first a (areas_with s areas trees) c)
 
--- and the other way round
-looks_back : (s t : State) → LooksAlike s t → LooksAlike t s
-looks_back s t looks = record { usable = λ at key. sym (looks.usable at key); interfaces = sym looks.interfaces }
-
 module _ (s t : State) (looks : LooksAlike s t) (config : t.config ≡ s.config) where
   areas_same : t.config.areas ≡ s.config.areas
   areas_same = ap (λ (c : Config). c.areas) config
@@ -145,7 +143,26 @@ module _ (s t : State) (looks : LooksAlike s t) (config : t.config ≡ s.config)
   kept_right c fit is =
       let trees = subst (λ (areas : List AreaConfig). AreTreesOf t areas c.trees) (sym areas_same) (trees_alike s t looks router_same s.config.areas c.trees is.trees) in
       let intra = intra_alike c.trees c.intra is.intra in
-      record { fit = fit; trees = trees; intra = intra; routed = intra_right (inputs_of t) (inputs_with t c.trees) c.intra (inputs_are t c.trees fit trees) intra }
+      let routed = intra_right (inputs_of t) (inputs_with t c.trees) c.intra (inputs_are t c.trees fit trees) intra in
+      let active : AreRangesOf t.config.areas c.intra.entries c.active = subst (λ (areas : List AreaConfig). AreRangesOf areas c.intra.entries c.active) (sym areas_same) is.active in
+      let ranged = ranges_right (inputs_of t) t.config.areas c.intra.entries c.active (configured t t.config.areas) routed.entries active in
+      let examined = inter_alike s t looks config c.intra c.active is.examined is.examined_is c.inter is.inter in
+      let between = inter_right (inputs_of t) (inter_inputs t examined.0 c.intra c.active) (inter_are t fit c.intra c.active routed ranged examined.0 examined.1) c.inter examined.2 in
+      let external = external_alike s t looks config c.intra c.active c.inter c.external is.external in
+      record {
+        fit = fit;
+        trees = trees;
+        intra = intra;
+        routed = routed;
+        active = active;
+        ranged = ranged;
+        examined = examined.0;
+        examined_is = examined.1;
+        inter = examined.2;
+        between = between;
+        external = external;
+        outside = external_right (inputs_of t) (external_inputs t c.intra c.active c.inter) c.external external (external_are t fit c.intra c.active routed ranged c.inter between);
+      }
 
 -- an event that changed nothing that is used leaves right what is kept
 pub calculation_alike : (s t : State) (c : CalculationValue) → LooksAlike s t → t.config ≡ s.config → AreFit t.config.areas t.databases → IsCalculationOf s c → IsCalculationOf t c

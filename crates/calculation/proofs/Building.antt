@@ -9,7 +9,7 @@ use Rattle.area_trees.specs.Areas.{AreaTreeValue}
 use Rattle.event_state.specs.States.{State}
 use Rattle.calculation.specs.Calculations.{IsTreeFor, AreTreesOf}
 use Rattle.calculation.specs.Followed.{AreBuilt}
-use Rattle.calculation.specs.Totals.{AreWorksForAll, IsTotal, most_count}
+use Rattle.calculation.specs.Totals.{AreWorksForAll, most_count}
 use Rattle.calculation.proofs.Sums.{total_more}
 
 trees_more : (s : State) (areas : List AreaConfig) (trees : List AreaTreeValue) (a : AreaConfig) (t : AreaTreeValue) → AreTreesOf s areas trees → IsTreeFor s a.id t → AreTreesOf s (areas ++ a ∷ []) (trees ++ t ∷ [])

@@ -1,6 +1,5 @@
 -- A routing table is filled, network by network.
-use Rattle.std.proofs.Common.{◌≡◌, ℕ, ◌+◌, ◌<◌, true, false, cond, List, [], ◌∷◌, ◌++◌, length, get_or, take, Option, Some, None, refl, sym, ap, subst, ◌∙◌, ◌⊎◌, inl, inr, ⊎_elim}
-use Rattle.std.specs.Prelude.{◌↔◌, IsSome, option_map}
+use Rattle.std.proofs.Common.{◌≡◌, ℕ, ◌+◌, ◌<◌, true, false, cond, List, [], ◌∷◌, ◌++◌, length, get_or, take, Option, Some, None, sym, ap, subst, ◌∙◌, ◌⊎◌, inl, inr, ⊎_elim, refl}
 use Rattle.std.specs.declared.cmp.Ordering.TheVariants.{Less, Equal, Greater}
 use Rattle.std.specs.Ordering.{is_eq}
 use Rattle.std.specs.List.{Contains}
@@ -13,10 +12,10 @@ use Rattle.ospf_types.specs.Network.{network_cmp}
 use Rattle.ospf_types.proofs.Elements.{no_element}
 use Rattle.ospf_types.proofs.Orders.{network_total, network_exact}
 
-module _ {X : Type 0} (wanted : Prefix → Option X) where
+module _ {X : Type 0} (IsWanted : Prefix → Option X → Type 0) where
   -- the map has what is wanted, but for what has nothing yet and is not among these networks
   abbrev pub AreFilled : List Prefix → FinMap network_cmp X → Type 0
-  AreFilled networks items = (p : Prefix) → (get items p ≡ wanted p) ⊎ ((Contains networks p → ⊥) × (get items p ≡ None))
+  AreFilled networks items = (p : Prefix) → IsWanted p (get items p) ⊎ ((Contains networks p → ⊥) × (get items p ≡ None))
 
   pub none_filled : AreFilled [] empty
   none_filled p = inr (λ c. no_element p c, get-empty network_cmp p)
@@ -39,43 +38,38 @@ module _ {X : Type 0} (wanted : Prefix → Option X) where
     not_more : (p : Prefix) → is_eq (network_cmp p q) ≡ false → (Contains networks p → ⊥) → Contains (networks ++ q ∷ []) p → ⊥
     not_more p other not c = ⊎_elim (λ (before : Contains networks p). not before) (λ (now : q ≡ p). not_itself p q other now) (Contains-push_cases networks q p c)
 
-    filled_more : (x : X) → wanted q ≡ Some x → AreFilled (networks ++ q ∷ []) (insert items q x)
+    filled_more : (x : X) → IsWanted q (Some x) → AreFilled (networks ++ q ∷ []) (insert items q x)
     filled_more x is p =
         elim (same_or_other p q) [
-          | inl e ↦ inl (get-insert network_total items q x p ∙ ap (λ b. cond b (Some x) (get items p)) (subst (λ (r : Prefix). is_eq (network_cmp p r) ≡ true) e (ap is_eq (tied_itself network_total p))) ∙ sym is ∙ ap wanted (sym e))
+          | inl e ↦
+              let tie : is_eq (network_cmp p q) ≡ true = subst (λ (r : Prefix). is_eq (network_cmp p r) ≡ true) e (ap is_eq (tied_itself network_total p)) in
+              let put : get (insert items q x) p ≡ Some x = get-insert network_total items q x p ∙ ap (λ b. cond b (Some x) (get items p)) tie in
+              inl (subst (IsWanted p) (sym put) (subst (λ (r : Prefix). IsWanted r (Some x)) (sym e) is))
           | inr other ↦
               let kept : get (insert items q x) p ≡ get items p = get-insert network_total items q x p ∙ ap (λ b. cond b (Some x) (get items p)) other in
-              elim (are p) [ inl has ↦ inl (kept ∙ has) | inr none ↦ inr (not_more p other none.0, kept ∙ none.1) ]
+              elim (are p) [ inl has ↦ inl (subst (IsWanted p) (sym kept) has) | inr none ↦ inr (not_more p other none.0, kept ∙ none.1) ]
         ]
 
-    none_more : wanted q ≡ None → AreFilled (networks ++ q ∷ []) items
+    none_more : IsWanted q None → AreFilled (networks ++ q ∷ []) items
     none_more is p =
         elim (are p) [
           | inl has ↦ inl has
-          | inr none ↦ elim (same_or_other p q) [ inl e ↦ inl (none.1 ∙ sym is ∙ ap wanted (sym e)) | inr other ↦ inr (not_more p other none.0, none.1) ]
+          | inr none ↦ elim (same_or_other p q) [
+            | inl e ↦ inl (subst (IsWanted p) (sym none.1) (subst (λ (r : Prefix). IsWanted r None) (sym e) is))
+            | inr other ↦ inr (not_more p other none.0, none.1)
+          ]
         ]
 
   module _ (networks : List Prefix) (items : FinMap network_cmp X) (i : ℕ) (q : Prefix) (lt : i < length networks) (here : q ≡ get_or networks i q) (are : AreFilled (take i networks) items) where
     step : take (i + 1) networks ≡ take i networks ++ q ∷ []
     step = take_more networks i q lt ∙ ap (λ (p : Prefix). take i networks ++ p ∷ []) (sym here)
 
-    pub one_filled : (x : X) → wanted q ≡ Some x → AreFilled (take (i + 1) networks) (insert items q x)
+    pub one_filled : (x : X) → IsWanted q (Some x) → AreFilled (take (i + 1) networks) (insert items q x)
     one_filled x is = subst (λ list. AreFilled list (insert items q x)) (sym step) (filled_more (take i networks) items q are x is)
 
-    pub one_empty : wanted q ≡ None → AreFilled (take (i + 1) networks) items
+    pub one_empty : IsWanted q None → AreFilled (take (i + 1) networks) items
     one_empty is = subst (λ list. AreFilled list items) (sym step) (none_more (take i networks) items q are is)
 
-  -- all that is wanted is there
-  pub all_filled : (networks : List Prefix) (items : FinMap network_cmp X) → AreFilled networks items → ((p : Prefix) → IsSome (wanted p) → Contains networks p) → (p : Prefix) → get items p ≡ wanted p
-  all_filled networks items are all p =
-      elim (are p) [
-        | inl has ↦ has
-        | inr none ↦ elim (wanted p) as (λ o. wanted p ≡ o → get items p ≡ wanted p) [
-          | None ↦ λ e. none.1 ∙ sym e
-          | Some x ↦ λ e. absurd (none.0 (all p (subst (λ (o : Option X). IsSome o) (sym e) refl)))
-        ] refl
-      ]
-
-pub some_mapped : {X Y : Type 0} (f : X → Y) (o : Option X) → IsSome (option_map f o) → IsSome o
-some_mapped f None some = some
-some_mapped f (Some x) some = refl
+  -- all has what is wanted, where nothing is wanted of the other networks
+  pub all_filled : (networks : List Prefix) (items : FinMap network_cmp X) → AreFilled networks items → ((p : Prefix) → (Contains networks p → ⊥) → IsWanted p None) → (p : Prefix) → IsWanted p (get items p)
+  all_filled networks items are others p = elim (are p) [ inl has ↦ has | inr none ↦ subst (IsWanted p) (sym none.1) (others p none.0) ]

@@ -2,12 +2,10 @@
 --   ups_kept: interfaces that stay leave those that are up
 --   tree_by_keys, tree_by_interfaces: the tree is that of the state after
 --   keys_named: the LSAs of an area differ in no more than the keys of the area
-use Rattle.std.proofs.Common.{◌≡◌, ℕ, true, false, List, [], ◌∷◌, length, refl, sym, ap, subst, ◌∙◌, inl, inr, arith}
+use Rattle.std.proofs.Common.{◌≡◌, ℕ, true, List, [], ◌∷◌, length, refl, sym, ap, subst, ◌∙◌, inl, inr, arith}
 use Rattle.std.specs.Prelude.{◌==◌, ◌↔◌, option_map}
-use Rattle.std.specs.Ordering.{nat_cmp}
-use Rattle.std.specs.Cmp.{nat_cmp_total}
 use Rattle.std.specs.List.{Contains}
-use Rattle.std.specs.FinMap.{FinMap, get, entries, same_map, nat_cmp-IsAntisymmetric}
+use Rattle.std.specs.FinMap.{entries}
 use Rattle.std.proofs.lemmas.Bool.Decides.{eqb_tells}
 use Rattle.ospf_types.specs.declared.config.Config.{Config}
 use Rattle.ospf_types.specs.declared.config.Interface.{Interface}
@@ -18,7 +16,7 @@ use Rattle.ospf_types.specs.Lsa.{Body}
 use Rattle.ospf_types.proofs.Elements.{no_element}
 use Rattle.vertex_graph.specs.declared.link.Up.{Up}
 use Rattle.area_trees.specs.Areas.{AreaTreeValue, IsAreaTree, DifferAmong, body_at}
-use Rattle.event_state.specs.States.{State, database_of, usable_at}
+use Rattle.event_state.specs.States.{State, database_of}
 use Rattle.calculation.specs.Calculations.{lsas_in, AreUpsOf, IsTreeFor, StatesDifferAmong}
 use Rattle.calculation.proofs.Places.{body_used, interface_at, interface_from}
 use Rattle.calculation.proofs.Standing.{alike_tree}

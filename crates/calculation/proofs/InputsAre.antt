@@ -2,16 +2,13 @@
 --   ready_of: each area's tree is that of its database
 --   area_is: an area with its database and its interfaces that are up is one of the definitions
 --   inputs_are: what is kept of a state is calculated from what the definitions speak of
-use Rattle.std.proofs.Common.{◌≡◌, ℕ, List, [], ◌∷◌, map, length, Option, Some, None, refl, sym, ap, subst, ◌∙◌, ⊎_elim, arith}
-use Rattle.std.specs.Prelude.{◌↔◌, IsSome, IsTrue}
+use Rattle.std.proofs.Common.{◌≡◌, List, [], ◌∷◌, map, length, Option, Some, None, refl, sym, subst, ◌∙◌, ⊎_elim, arith}
 use Rattle.std.specs.List.{Contains}
 use Rattle.std.specs.FinMap.{values, entries, empty, len-entries, len-empty}
 use Rattle.std.proofs.lemmas.List.{length-map}
 use Rattle.ospf_types.specs.declared.config.AreaConfig.{AreaConfig}
-use Rattle.ospf_types.specs.declared.config.Interface.{Interface}
 use Rattle.ospf_types.specs.declared.key.Key.{Key}
 use Rattle.ospf_types.specs.declared.key.Scope.TheVariants.{Area as area_scope}
-use Rattle.ospf_types.specs.Inputs.{Inputs, Area, IsUp}
 use Rattle.ospf_types.specs.Keys.{key_cmp}
 use Rattle.ospf_types.specs.Lsa.{Lsa}
 use Rattle.ospf_types.proofs.Elements.{no_element, first_or_later}
@@ -19,10 +16,10 @@ use Rattle.lsdb.specs.Databases.{Database}
 use Rattle.vertex_graph.specs.declared.link.Up.{Up}
 use Rattle.area_trees.specs.Areas.{AreaTreeValue, IsAreaTree, IsAreaOf}
 use Rattle.intra.specs.Inputs.{AreaValue, InputsValue, AreReady}
-use Rattle.intra.specs.Right.{IsInputOf, AreInputAreas, AreInputsOf}
+use Rattle.intra.specs.Right.{AreInputAreas, AreInputsOf}
 use Rattle.event_state.specs.States.{State, database_of, lsas_of, inputs_of}
 use Rattle.event_state.specs.Held.{AreFit}
-use Rattle.calculation.specs.Calculations.{lsas_in, areas_with, inputs_with, AreUpsOf, IsTreeFor, AreTreesOf}
+use Rattle.calculation.specs.Calculations.{lsas_in, areas_with, inputs_with, AreUpsOf, AreTreesOf}
 use Rattle.calculation.specs.Totals.{area_of}
 use Rattle.calculation.proofs.Places.{fit_lsas}
 
@@ -52,7 +49,7 @@ none = empty
 no_values : values none ≡ []
 no_values = no_length (values none) (length-map (entries none) (λ (e : Key × Lsa). e.1) ∙ sym (len-entries none) ∙ len-empty key_cmp Lsa)
 
-lsas_same : (o : Option Database) → lsas_of o ≡ values (lsas_in o)
+pub lsas_same : (o : Option Database) → lsas_of o ≡ values (lsas_in o)
 lsas_same None = sym no_values
 lsas_same (Some d) = refl
 

@@ -7,8 +7,14 @@ pub mod Building
 pub mod Turns
 pub mod Follows
 pub mod InputsAre
-pub mod Alike
 pub mod Networks
+pub mod Stable
+pub mod Activity
+pub mod Staying
+pub mod Examining
+pub mod Above
+pub mod AlikeAbove
+pub mod Alike
+pub mod Following
 pub mod Filling
 pub mod Followed
-pub mod Tables

@@ -1,18 +1,26 @@
--- The networks among some destinations.
-use Rattle.std.proofs.Common.{◌≡◌, ℕ, ◌+◌, ◌<◌, List, [], ◌∷◌, ◌++◌, length, get_or, take, refl, sym, ap, subst, ◌∙◌, inl, inr, ⊎_elim}
-use Rattle.std.specs.Prelude.{◌↔◌}
-use Rattle.std.specs.declared.cmp.Ordering.TheVariants.{Less}
-use Rattle.std.specs.List.{Contains, AllByRecursion}
-use Rattle.std.specs.List.Sorted.{IsStrictlySortedBy}
-use Rattle.std.proofs.lemmas.Map.Keys.{sorted_head, sorted_tail}
+-- The networks among some destinations, and all those that a table may have something for.
+--   one_more: one destination more
+--   networks_exact: a network is one of the networks just where it is one of the destinations
+--   once_in_order, once_exact: so it is of those that were sorted, and of which each is kept once
+--   nothing_else: a network that no layer lists has no item
+use Rattle.std.proofs.Common.{◌≡◌, ℕ, ◌+◌, ◌<◌, List, [], ◌∷◌, ◌++◌, length, get_or, take, Option, Some, None, refl, sym, ap, subst, ◌∙◌, ⊎_elim}
+use Rattle.std.specs.Prelude.{◌↔◌, IsSome}
+use Rattle.std.specs.FinMap.{get}
+use Rattle.std.specs.List.{Contains}
+use Rattle.std.specs.List.Retain.{IsFiltered, DiffersFromLast}
+use Rattle.std.specs.List.Sorted.{IsSorted, IsStrictlySortedBy, IsPermutation}
 use Rattle.std.proofs.lemmas.List.{take_more}
-use Rattle.std.proofs.lemmas.List.Elements.{Contains-append_left, Contains-append_right, Contains-push_cases}
+use Rattle.std.proofs.lemmas.List.Elements.{Contains-append_left, Contains-append_right}
 use Rattle.ospf_types.specs.declared.key.Dest.{Dest}
 use Rattle.ospf_types.specs.declared.key.Dest.TheVariants.{Net, Router}
 use Rattle.ospf_types.specs.declared.prefix.Prefix.{Prefix}
 use Rattle.ospf_types.specs.Network.{network_cmp}
 use Rattle.ospf_types.proofs.Elements.{no_element, first_element, later_element, first_or_later}
-use Rattle.intra.specs.Changes.{dest_cmp}
+use Rattle.ospf_types.proofs.KeyOrders.{prefixes_equal, prefixes_order}
+use Rattle.ospf_types.proofs.Orders.{network_total, network_exact}
+use Rattle.intra.proofs.SortedOnce.{strictly, same_items}
+use Rattle.summaries.specs.Active.{IsActiveIn}
+use Rattle.calculation.specs.Calculations.{CalculationValue, IsItemOf, entry_else}
 
 abbrev pub networks_in : List Dest → List Prefix
 networks_in [] = []
@@ -43,15 +51,43 @@ networks_exact (Router r ∷ dests) p = (
   λ c. ⊎_elim (λ (e : Net p ≡ Router r). absurd cc) (λ (later : Contains dests (Net p)). (networks_exact dests p).1 later) (first_or_later (Router r) (Net p) dests c),
 )
 
--- what is below all destinations is below their networks
-below_networks : (p : Prefix) (dests : List Dest) → AllByRecursion (λ d. dest_cmp (Net p) d ≡ Less) dests → AllByRecursion (λ q. network_cmp p q ≡ Less) (networks_in dests)
-below_networks p [] all = tt
-below_networks p (Net q ∷ dests) all = (all.0, below_networks p dests all.1)
-below_networks p (Router r ∷ dests) all = below_networks p dests all.1
+-- sorted, and each kept once
+module _ (dests : List Dest) (found sorted kept : List Prefix) (is : found ≡ networks_in dests) (moved : IsPermutation found sorted) (in_order : IsSorted network_cmp sorted) (filtered : IsFiltered (DiffersFromLast prefixes_equal) [] sorted kept) where
+  pub once_in_order : IsStrictlySortedBy network_cmp kept
+  once_in_order = strictly network_total network_exact prefixes_order found sorted kept moved in_order filtered
 
--- the networks of destinations in order are in order
-pub networks_in_order : (dests : List Dest) → IsStrictlySortedBy dest_cmp dests → IsStrictlySortedBy network_cmp (networks_in dests)
-unfolding IsStrictlySortedBy
-networks_in_order [] sorted = tt
-networks_in_order (Net p ∷ dests) sorted = (below_networks p dests (sorted_head dest_cmp (Net p) dests sorted), networks_in_order dests (sorted_tail dest_cmp (Net p) dests sorted))
-networks_in_order (Router r ∷ dests) sorted = networks_in_order dests (sorted_tail dest_cmp (Router r) dests sorted)
+  pub once_exact : (p : Prefix) → Contains kept p ↔ Contains dests (Net p)
+  once_exact p =
+      let same = same_items network_total network_exact prefixes_order found sorted kept moved in_order filtered p in
+      let among = subst (λ (list : List Prefix). Contains list p ↔ Contains dests (Net p)) (sym is) (networks_exact dests p) in
+      (λ c. among.0 (same.0 c), λ c. same.1 (among.1 c))
+
+-- ---- all that the table may have something for
+
+none_of : {A : Type 0} (o : Option A) → (IsSome o → ⊥) → o ≡ None
+none_of None not = refl
+none_of (Some x) not = absurd (not refl)
+
+-- a network that no layer lists
+module _ (c : CalculationValue) (intra ranges inter external : List Prefix) (dests : List Dest)
+    (within : (p : Prefix) → Contains intra p ↔ IsSome (get c.intra.entries p)) (active : (p : Prefix) → Contains ranges p ↔ IsActiveIn c.active p)
+    (between : (d : Dest) → Contains dests d ↔ IsSome (get c.inter.entries d)) (networks : (p : Prefix) → Contains inter p ↔ Contains dests (Net p))
+    (outside : (p : Prefix) → Contains external p ↔ IsSome (get c.external.entries p)) where
+  abbrev all : List Prefix
+  all = ((intra ++ ranges) ++ inter) ++ external
+
+  nothing : (p : Prefix) → (Contains all p → ⊥) → IsItemOf c p None
+  nothing p not =
+      let first : List Prefix = intra ++ ranges in
+      let second : List Prefix = first ++ inter in
+      let a = none_of (get c.intra.entries p) (λ some. not (Contains-append_left second external p (Contains-append_left first inter p (Contains-append_left intra ranges p ((within p).1 some))))) in
+      let b = none_of (get c.inter.entries (Net p)) (λ some. not (Contains-append_left second external p (Contains-append_right first inter p ((networks p).1 ((between (Net p)).1 some))))) in
+      let e = none_of (get c.external.entries p) (λ some. not (Contains-append_right second external p ((outside p).1 some))) in (
+        λ i. entry_else (a i) (entry_else (b i) (e i)),
+        λ is. not (Contains-append_left second external p (Contains-append_left first inter p (Contains-append_right intra ranges p ((active p).1 is)))),
+      )
+
+  pub nothing_else : (found sorted kept : List Prefix) → found ≡ all → IsPermutation found sorted → IsSorted network_cmp sorted → IsFiltered (DiffersFromLast prefixes_equal) [] sorted kept
+      → (p : Prefix) → (Contains kept p → ⊥) → IsItemOf c p None
+  nothing_else found sorted kept is moved in_order filtered p not =
+      nothing p (λ among. not ((same_items network_total network_exact prefixes_order found sorted kept moved in_order filtered p).1 (subst (λ (list : List Prefix). Contains list p) (sym is) among)))

@@ -3,13 +3,14 @@
 --   lsas_there: what a database gives its scope is what the scope has
 --   body_used: what is used of a scope's LSAs is what is used of those that it has
 --   fit_lsas: they are fit
+--   value_at, value_from: a key with a value is among the entries of a map just where it finds the value
 --   interface_at, interface_from: an interface is among the entries just where its id finds it
-use Rattle.std.proofs.Common.{◌≡◌, ℕ, ◌<◌, true, false, List, [], ◌∷◌, ◌++◌, length, get_or, Option, Some, None, refl, sym, ap, subst, ◌∙◌, ◌⊎◌, ⊎_elim}
+use Rattle.std.proofs.Common.{◌≡◌, ℕ, ◌<◌, true, false, List, [], ◌∷◌, ◌++◌, length, get_or, Option, Some, None, Ordering, refl, sym, ap, subst, ◌∙◌, ◌⊎◌, ⊎_elim}
 use Rattle.std.specs.Prelude.{IsSome, is_some, option_map, option_and_then}
 use Rattle.std.specs.Ordering.{nat_cmp}
-use Rattle.std.specs.Cmp.{nat_cmp_total}
+use Rattle.std.specs.Cmp.{IsTotalOrder, nat_cmp_total}
 use Rattle.std.specs.List.{Contains}
-use Rattle.std.specs.FinMap.{FinMap, get, entries, empty, find, get-entries, get-empty, entries_sorted, nat_cmp-IsAntisymmetric}
+use Rattle.std.specs.FinMap.{FinMap, IsAntisymmetric, get, entries, empty, get-entries, get-empty, entries_sorted, nat_cmp-IsAntisymmetric}
 use Rattle.std.proofs.lemmas.List.{append-nil}
 use Rattle.std.proofs.lemmas.Cmp.{tied_itself}
 use Rattle.std.proofs.lemmas.Map.Views.{Contains-from_lookup, tells_apart}
@@ -22,7 +23,7 @@ use Rattle.ospf_types.specs.Keys.{key_cmp}
 use Rattle.ospf_types.specs.Lsa.{Body}
 use Rattle.ospf_types.proofs.Maps.{find-lookup}
 use Rattle.lsdb.specs.Databases.{Database}
-use Rattle.lsdb.specs.Contents.{used_at, contents_of, IsSound}
+use Rattle.lsdb.specs.Contents.{used_at, contents_of}
 use Rattle.area_trees.specs.Areas.{AreaTreeValue, body_at}
 use Rattle.intra.specs.Inputs.{AreaValue}
 use Rattle.event_state.specs.States.{State, AreApart, place_of, database_of, usable_at}
@@ -65,17 +66,23 @@ fit_lsas s fit at = of (place_of s.config.areas at) refl
     of None e = fit_empty at
     of (Some k) e = fit.fit at k e
 
+-- a key with a value is among the entries of a map just where it finds the value
+module _ {K V : Type 0} {R : K → K → Ordering} (m : FinMap R V) (k : K) (v : V) where
+  pub value_at : IsAntisymmetric R → get m k ≡ Some v → Contains (entries m) (k, v)
+  value_at exact e = Contains-from_lookup (tells_apart exact) k v (entries m) (sym (find-lookup R k (entries m)) ∙ sym (get-entries m k) ∙ e)
+
+  pub value_from : IsTotalOrder R → Contains (entries m) (k, v) → get m k ≡ Some v
+  value_from total c =
+      let e : K × V = get_or (entries m) c.0 (k, v) in
+      let is : e ≡ (k, v) = c.2 in
+      get-entries m k ∙ find_at R total (entries m) c.0 k (k, v) (entries_sorted m) c.1 (ap (λ (x : K × V). R k x.0) is ∙ tied_itself total k) ∙ ap (λ (x : K × V). Some x.1) is
+
 -- an interface is among the entries just where its id finds it
 pub interface_at : (m : FinMap nat_cmp Interface) (id : ℕ) (i : Interface) → get m id ≡ Some i → Contains (entries m) (id, i)
-interface_at m id i e =
-    Contains-from_lookup (tells_apart nat_cmp-IsAntisymmetric) id i (entries m) (sym (find-lookup nat_cmp id (entries m)) ∙ sym (get-entries m id) ∙ e)
+interface_at m id i = value_at m id i nat_cmp-IsAntisymmetric
 
 pub interface_from : (m : FinMap nat_cmp Interface) (id : ℕ) (i : Interface) → Contains (entries m) (id, i) → get m id ≡ Some i
-interface_from m id i c =
-    let e : ℕ × Interface = get_or (entries m) c.0 (id, i) in
-    let is : e ≡ (id, i) = c.2 in
-    get-entries m id ∙ find_at nat_cmp nat_cmp_total (entries m) c.0 id (id, i) (entries_sorted m) c.1 (ap (λ (x : ℕ × Interface). nat_cmp id x.0) is ∙ tied_itself nat_cmp_total id)
-    ∙ ap (λ (x : ℕ × Interface). Some x.1) is
+interface_from m id i = value_from m id i nat_cmp_total
 
 -- where areas or trees come to an end, so do the areas with their trees
 pub none_left : (s : State) (areas : List AreaConfig) (trees : List AreaTreeValue) (done all : List AreaValue) → (areas ≡ []) ⊎ (trees ≡ []) → done ++ areas_with s areas trees ≡ all → done ≡ all

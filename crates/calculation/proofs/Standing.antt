@@ -1,8 +1,8 @@
 -- Databases that are used alike have one tree.
 --   standing_alike: what stands for a vertex of the one stands for it of the other
 --   alike_tree: what is a tree of the one is a tree of the other
-use Rattle.std.proofs.Common.{◌≡◌, ℕ, ◌≤◌, Option, None, sym, subst, ◌∙◌, ◌⊎◌, inl, inr}
-use Rattle.std.specs.Prelude.{◌↔◌, List, IsSome}
+use Rattle.std.proofs.Common.{◌≡◌, ℕ, Option, sym, subst, ◌∙◌, inl, inr}
+use Rattle.std.specs.Prelude.{List, IsSome}
 use Rattle.ospf_types.specs.declared.entry.Vertex.{Vertex}
 use Rattle.ospf_types.specs.declared.entry.Vertex.TheVariants.{Router, Network}
 use Rattle.ospf_types.specs.declared.key.Key.{Key}

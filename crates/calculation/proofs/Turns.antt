@@ -3,10 +3,9 @@
 --   trees_followed: all trees are those of the state
 --   works_followed: the works are those of the two states
 --   areas_followed: the areas differ in no more than is named
-use Rattle.std.proofs.Common.{◌≡◌, ℕ, suc, zero, ◌+◌, ◌<◌, ◌≤◌, List, [], ◌∷◌, ◌++◌, length, map, get_or, set, take, drop, Option, Some, None, refl, sym, ap, subst, ◌∙◌, ◌⊎◌, inl, inr, arith}
+use Rattle.std.proofs.Common.{◌≡◌, ℕ, suc, zero, ◌+◌, ◌<◌, ◌≤◌, List, [], ◌∷◌, ◌++◌, length, map, get_or, set, take, drop, refl, sym, ap, subst, ◌∙◌, inr, arith}
 use Rattle.std.specs.Prelude.{min, option_map}
 use Rattle.std.specs.List.{Contains}
-use Rattle.std.specs.FinMap.{get}
 use Rattle.std.proofs.lemmas.List.{take_all, take_more, take_more_set, drop-set-lt, drop-drop, map-append}
 use Rattle.std.proofs.lemmas.List.Elements.{Contains-append_left, Contains-append_right}
 use Rattle.ospf_types.specs.declared.config.AreaConfig.{AreaConfig}
@@ -17,17 +16,16 @@ use Rattle.ospf_types.specs.declared.key.Scope.TheVariants.{Area}
 use Rattle.ospf_types.specs.Lsa.{Body}
 use Rattle.ospf_types.proofs.Elements.{mapped_element}
 use Rattle.spf.specs.declared.touched.Touched.{Touched}
-use Rattle.spf.specs.TreeValues.{IsWorkDone}
-use Rattle.area_trees.specs.Areas.{AreaTreeValue, IsWorkBounded, body_at}
+use Rattle.area_trees.specs.Areas.{AreaTreeValue}
 use Rattle.spf.specs.TreeValues.{AreOthersKept}
 use Rattle.area_trees.proofs.Work.{work_in}
-use Rattle.intra.specs.Changes.{DiffersAmong, AreasDifferAmong}
-use Rattle.event_state.specs.States.{State, database_of, usable_at, inputs_of}
+use Rattle.intra.specs.Changes.{AreasDifferAmong}
+use Rattle.event_state.specs.States.{State}
 use Rattle.event_state.specs.Held.{AreFit}
 use Rattle.event_state.proofs.InPlace.{not_reached}
-use Rattle.calculation.specs.Calculations.{lsas_in, areas_with, IsTreeFor, AreTreesOf, StatesDifferAmong}
+use Rattle.calculation.specs.Calculations.{areas_with, IsTreeFor, AreTreesOf, StatesDifferAmong}
 use Rattle.calculation.specs.Followed.{Turn, IsTurn, AreTurns, AreFollowed, AreFollowedTo, AreOthersStill}
-use Rattle.calculation.specs.Totals.{AreWorksOf, IsTotal, most_count, area_of}
+use Rattle.calculation.specs.Totals.{AreWorksOf, IsTotal, most_count}
 use Rattle.calculation.proofs.InputsAre.{area_is}
 use Rattle.calculation.proofs.Places.{body_used}
 use Rattle.calculation.proofs.Sums.{total_more}

@@ -6,8 +6,10 @@ use Rattle.ospf_types.specs.declared.entry.Vertex.{Vertex}
 use Rattle.spf.specs.declared.touched.Touched.{Touched}
 use Rattle.spf.specs.TreeValues.{IsWorkDone, listed_hops}
 use Rattle.area_trees.specs.Areas.{AreaTreeValue, IsWorkBounded}
+use Rattle.intra.specs.declared.dirty.Dirty.{Dirty}
+use Rattle.intra.specs.Changes.{InputsDifferAmong}
 use Rattle.event_state.specs.States.{State}
-use Rattle.calculation.specs.Calculations.{IsTreeFor, AreTreesOf}
+use Rattle.calculation.specs.Calculations.{CalculationValue, IsCalculationOf, StatesDifferAmong, IsTreeFor, AreTreesOf, inputs_with}
 use Rattle.calculation.specs.Totals.{AreWorksForAll, IsTotal}
 
 -- these trees of the areas were built, by this work
@@ -53,3 +55,8 @@ pub record AreFollowed (s : State) (areas : List AreaConfig) (old new : List Are
 pub record AreFollowedTo (s : State) (areas : List AreaConfig) (old new : List AreaTreeValue) (vertices : List (ℕ × Vertex)) (w : Touched) (i : ℕ) : Type 0 where
   pub first : AreFollowed s (take i areas) (take i old) (take i new) vertices w
   pub rest : drop i new ≡ drop i old
+
+-- the layers of routes are those of a state before, of which no more differs than is named, but the trees have followed already
+abbrev pub AreLayersBehind : State → Dirty → CalculationValue → Type 0
+AreLayersBehind t dirty c = (s : State) × (trees : List AreaTreeValue) × IsCalculationOf s (record c { trees = trees }) × StatesDifferAmong dirty.keys.items dirty.interfaces.items s t
+    × InputsDifferAmong dirty.keys.items dirty.vertices.items dirty.interfaces.items (inputs_with s trees) (inputs_with t c.trees)

@@ -1,25 +1,32 @@
-ghost use Rattle.std.specs.Prelude.{◌≡◌, ◌≢◌, ◌≤◌, ◌↔◌, List, Contains, OnOk, IfOk, option_map};
-ghost use Rattle.std.specs.FinMap as map;
+ghost use Rattle.std.specs.Prelude.{◌≡◌, ◌≤◌, ◌↔◌, ◌++◌, List, Option, None, Contains, OnOk, IfOk, option_copied, map as list_map};
 ghost use Rattle.std.specs.List.Sorted.{IsStrictlySortedBy};
+ghost use Rattle.ospf_types.specs.declared.key.Dest.{Dest as DestValue};
+ghost use Rattle.ospf_types.specs.declared.key.Dest.TheVariants as dest_value;
 ghost use Rattle.ospf_types.specs.declared.prefix.Prefix.{Prefix as PrefixValue};
+ghost use Rattle.ospf_types.specs.Keys.{dest_cmp};
 ghost use Rattle.ospf_types.specs.Network.{network_cmp};
 ghost use Rattle.spf.specs.declared.touched.Touched.{Touched as TouchedValue};
 ghost use Rattle.vertex_graph.specs.Graphs.{most_routers};
-ghost use Rattle.intra.specs.Changes.{InputsDifferAmong, DiffersAt, dest_cmp};
+ghost use Rattle.intra.specs.Changes.{InputsDifferAmong, DiffersAt};
 ghost use Rattle.intra.specs.Inputs.{InputsValue};
 ghost use Rattle.intra.specs.Intras.{IsIntraOf};
 ghost use Rattle.intra.specs.Right.{IsRightFor};
-ghost use Rattle.ospf_types.specs.declared.key.Dest.{Dest as DestValue};
+ghost use Rattle.route_table.specs.declared.table.Item.{Item as ItemValue};
 ghost use Rattle.event_state.specs.Held.{AreFit};
 ghost use Rattle.event_state.specs.States.{State as StateValue, inputs_of};
-ghost use Rattle.calculation.specs.Calculations.{IsCalculationOf, StatesDifferAmong, IsTableOf, AreTreesOf, inputs_with};
+ghost use Rattle.calculation.specs.Calculations.{IsCalculationOf, StatesDifferAmong, IsItemOf, IsTableOf, AreTreesOf, AreItemsKept, entry_at, inputs_with};
+ghost use Rattle.calculation.specs.Followed.{AreLayersBehind};
 ghost use Rattle.calculation.specs.Totals.{IsEventWork, AreWorksForAll, IsTotal};
 
 use crate::inputs::{area_inputs, interfaces};
+use crate::layers::{build_external, build_inter, follow_external, follow_inter};
 use crate::trees::{build_trees, follow_trees};
 use area_trees::AreaTree;
 use event_state::State;
+use external::External;
+use inter::Inter;
 use intra::{Dirty, Inputs, Intra};
+use ospf_types::entry::Entry;
 use ospf_types::key::{Dest, Key, Scope};
 use ospf_types::memory::Memory;
 use ospf_types::prefix::Prefix;
@@ -28,41 +35,32 @@ use spf::Touched;
 use std::alloc::Global;
 use std::hash::RandomState;
 use std::marker::Model;
+use summaries::ActiveRanges;
 
-/// What is kept of a state: the trees of its areas, and its routes.
+/// What is kept of a state: the trees of its areas, and its routes, each layer by those below it.
 #[derive(Debug, Drop)]
 pub struct Calculation {
     trees: Vec<AreaTree>,
     intra: Intra,
+    active: ActiveRanges,
+    inter: Inter,
+    external: External,
 }
 
 impl Model for Calculation {
-    ghost use Rattle.std.specs.FinMap as map;
-    ghost use Rattle.std.specs.Coded.{Coded, codes, coded_ℕ};
-    ghost use Rattle.ospf_types.specs.Network.{network_code};
-    ghost use Rattle.ospf_types.specs.Vertices.{vertex_code};
-    ghost use Rattle.ospf_types.specs.contracts.entry.Entry as entry;
-    ghost use Rattle.vertex_graph.specs.Graphs.{EndsByVertex};
-    ghost use Rattle.spf.specs.Parts.{DistanceMap, HopMap};
-    ghost use Rattle.intra.specs.Indexes.{OfferedByVertex, SourcesByPrefix};
-    ghost use Rattle.intra.specs.Reached.{ReachedByRouter};
-    ghost use Rattle.intra.specs.Intras.{EntriesByPrefix};
-    ghost use Rattle.intra.specs.contracts.offered.Offer as offer;
-    ghost use Rattle.intra.specs.contracts.area_index.Source as source;
+    ghost use Rattle.std.specs.Coded.{codes};
+    ghost use Rattle.area_trees.specs.contracts.area_tree.AreaTree as kept_tree;
+    ghost use Rattle.intra.specs.contracts.intra.Intra as kept_intra;
+    ghost use Rattle.summaries.specs.contracts.active.ActiveRanges as kept_active;
+    ghost use Rattle.inter.specs.contracts.inter.Inter as kept_inter;
+    ghost use Rattle.external.specs.contracts.external.External as kept_external;
     ghost use Rattle.calculation.specs.Calculations.{CalculationValue};
 
     ghost Value = { CalculationValue };
 
-    ghost coded = { let ends : Coded EndsByVertex = map.code vertex_code (Prim.hlevel codes) in
-        let distances : Coded DistanceMap = map.code vertex_code coded_ℕ in
-        let hops : Coded HopMap = map.code vertex_code (Prim.hlevel codes) in
-        let offered : Coded OfferedByVertex = map.code vertex_code (Prim.hlevel (codes, offer.the_row.coded)) in
-        let sources : Coded SourcesByPrefix = map.code network_code (Prim.hlevel (codes, source.the_row.coded)) in
-        let reached : Coded ReachedByRouter = map.code coded_ℕ (Prim.hlevel codes) in
-        let entries : Coded EntriesByPrefix = map.code network_code (Prim.hlevel (codes, entry.the_row.coded)) in
-        Prim.hlevel (codes, ends, distances, hops, offered, sources, reached, entries) };
+    ghost coded = { Prim.hlevel (codes, kept_tree.the_row.coded, kept_intra.the_row.coded, kept_active.the_row.coded, kept_inter.the_row.coded, kept_external.the_row.coded) };
 
-    ghost view = { λ c. record { trees = c.trees.items; intra = c.intra } };
+    ghost view = { λ c. record { trees = c.trees.items; intra = c.intra; active = c.active; inter = c.inter; external = c.external } };
 }
 
 impl Calculation {
@@ -74,17 +72,26 @@ impl Calculation {
     ) -> Result<(Calculation, Touched), Memory>
         requires few { state.now.limits.area_lsas ≤ most_routers }
         ensures right { IfOk result (λ built. IsCalculationOf state.now built.0) }
-        ensures routed { IfOk result (λ built. IsRightFor (inputs_of state.now) built.0.intra) }
         ensures work { IfOk result (λ built. (works : List TouchedValue) × AreWorksForAll built.0.trees works × IsTotal works built.1) }
     {
         let (trees, work) = build_trees(alloc, state, hashing)?;
         let intra = build_intra(alloc, state, &trees, hashing)?;
-        Ok((Calculation { trees, intra }, work))
+        let active = ActiveRanges::build(alloc, state.config().areas.as_slice(), &intra)?;
+        let inter = build_inter(alloc, state, &intra, &active, hashing)?;
+        let external = build_external(alloc, state, &intra, &active, &inter, hashing)?;
+        let calculation = Calculation {
+            trees,
+            intra,
+            active,
+            inter,
+            external,
+        };
+        Ok((calculation, work))
     }
 
-    /// Follows the state, which differs from the one before in these LSAs or in these interfaces. The answer is the
-    /// networks whose entry differs, ascending, each once, and the work of repairing the trees. After an error what is
-    /// kept is of no use any more.
+    /// Follows the state, which differs from the one before in these LSAs or in these interfaces. The answer is networks,
+    /// ascending, each once, and the work of repairing the trees: the table has another item for these alone, if for
+    /// all. After an error what is kept is of no use any more.
     pub fn follow(
         &mut self,
         alloc: Global,
@@ -95,45 +102,103 @@ impl Calculation {
         requires few { state.now.limits.area_lsas ≤ most_routers }
         requires before { (before : StateValue) × IsCalculationOf before self.old × StatesDifferAmong keys.items ids.items before state.now }
         ensures right { OnOk result (IsCalculationOf state.now self.new) }
-        ensures routed { OnOk result (IsRightFor (inputs_of state.now) self.new.intra) }
         ensures in_order { IfOk result (λ answer. IsStrictlySortedBy network_cmp answer.0.items) }
-        ensures exact { IfOk result (λ answer. (p : PrefixValue) → Contains answer.0.items p ↔ (map.get self.new.intra.entries p ≢ map.get self.old.intra.entries p)) }
+        ensures enough { IfOk result (λ answer. (p : PrefixValue) (item : Option ItemValue) → (Contains answer.0.items p → ⊥) → IsItemOf self.old p item → IsItemOf self.new p item) }
         ensures work { IfOk result (λ answer. (before : StateValue) → IsCalculationOf before self.old → StatesDifferAmong keys.items ids.items before state.now → IsEventWork before state.now answer.1) }
     {
         let mut vertices = Vec::new(alloc);
         let work = follow_trees(alloc, &mut self.trees, state, &keys, &ids, &mut vertices)?;
-        let dirty = Dirty {
+        let mut dirty = Dirty {
             vertices,
             keys,
             interfaces: ids,
             dests: Vec::new(alloc),
         };
-        let dests = follow_intra(alloc, &mut self.intra, state, &self.trees, &dirty)?;
-        Ok((networks_of(alloc, &dests)?, work))
+        self.follow_layers(alloc, state, &mut dirty)?;
+        Ok((networks_of(alloc, &dirty.dests)?, work))
     }
 
     /// What the routing table has for the network.
     pub fn item(&self, alloc: Global, network: Prefix) -> Result<Option<Item>, Memory>
-        ensures { IfOk result (λ item. item ≡ option_map (λ e. Item.Route e) (map.get self.now.intra.entries network)) }
+        ensures { IfOk result (IsItemOf self.now network) }
     {
-        match self.intra.get(network) {
-            Some(entry) => Ok(Some(Item::Route(entry.copy(alloc)?))),
-            None => Ok(None),
+        if let Some(entry) = self.entry(network) {
+            return Ok(Some(Item::Route(entry.copy(alloc)?)));
         }
+        if self.active.contains(network) {
+            return Ok(Some(Item::Discard));
+        }
+        Ok(None)
     }
 
     /// The routing table, which follows so many events.
     pub fn table(&self, alloc: Global, serial: u64) -> Result<Table, Memory>
-        ensures items { IfOk result (λ table. IsTableOf self.now.intra table.items) }
+        ensures items { IfOk result (λ table. IsTableOf self.now table.items) }
         ensures serial { IfOk result (λ table. table.serial ≡ serial) }
     {
         let mut table = Table::new(alloc, serial);
-        for network in &self.intra.networks(alloc)? {
+        for network in &self.networks(alloc)? {
             if let Some(item) = self.item(alloc, *network)? {
                 table.set(*network, item)?;
             }
         }
         Ok(table)
+    }
+}
+
+impl Calculation {
+    // The layers of routes follow the state and the trees, from below. The destinations whose result differs in one of them
+    // are added to those that are dirty.
+    fn follow_layers(
+        &mut self,
+        alloc: Global,
+        state: &State,
+        dirty: &mut Dirty,
+    ) -> Result<(), Memory>
+        requires trees { AreTreesOf state.now state.now.config.areas self.old.trees }
+        requires before { AreLayersBehind state.now dirty.old self.old }
+        ensures right { OnOk result (IsCalculationOf state.now self.new) }
+        ensures enough { OnOk result (AreItemsKept dirty.new.dests.items self.old self.new) }
+    {
+        let areas = state.config().areas.as_slice();
+        let dests = follow_intra(alloc, &mut self.intra, state, &self.trees, dirty)?;
+        let ranges = self.active.update(alloc, areas, &self.intra, &dests)?;
+        dirty.dests = dests;
+        push_networks(&ranges, &mut dirty.dests)?;
+        let inter = &mut self.inter;
+        let dests = follow_inter(alloc, inter, state, &self.intra, &self.active, dirty)?;
+        dirty.dests.extend_from_slice(&dests)?;
+        let external = &mut self.external;
+        let (intra, active, inter) = (&self.intra, &self.active, &self.inter);
+        let dests = follow_external(alloc, external, state, intra, active, inter, dirty)?;
+        dirty.dests.extend_from_slice(&dests)?;
+        Ok(())
+    }
+
+    // The network's entry: intra-area, else inter-area, else external (RFC 2328, 11).
+    fn entry(&self, network: Prefix) -> Option<&Entry>
+        ensures { option_copied result ≡ entry_at self.now network }
+    {
+        if let Some(entry) = self.intra.get(network) {
+            return Some(entry);
+        }
+        if let Some(entry) = self.inter.get(Dest::Net(network)) {
+            return Some(entry);
+        }
+        self.external.get(network)
+    }
+
+    // All networks that the table has something for, ascending, each once; and perhaps others.
+    fn networks(&self, alloc: Global) -> Result<Vec<Prefix>, Memory>
+        ensures { IfOk result (λ networks. (p : PrefixValue) → (Contains networks.items p → ⊥) → IsItemOf self.now p None) }
+    {
+        let mut networks = self.intra.networks(alloc)?;
+        networks.extend_from_slice(&self.active.prefixes(alloc)?)?;
+        networks.extend_from_slice(&networks_of(alloc, &self.inter.dests(alloc)?)?)?;
+        networks.extend_from_slice(&self.external.networks(alloc)?)?;
+        networks.sort_unstable();
+        networks.dedup();
+        Ok(networks)
     }
 }
 
@@ -185,11 +250,20 @@ fn build_intra(
     Intra::build(alloc, &inputs, hashing)
 }
 
-// The networks among the destinations.
+// Adds the networks as destinations.
+fn push_networks(networks: &[Prefix], dests: &mut Vec<Dest>) -> Result<(), Memory>
+    ensures { OnOk result (dests.new.items ≡ dests.old.items ++ list_map dest_value.Net networks.now) }
+{
+    for network in networks {
+        dests.push(Dest::Net(*network))?;
+    }
+    Ok(())
+}
+
+// The networks among the destinations, ascending, each once.
 fn networks_of(alloc: Global, dests: &[Dest]) -> Result<Vec<Prefix>, Memory>
-    requires { IsStrictlySortedBy dest_cmp dests.now }
     ensures in_order { IfOk result (λ networks. IsStrictlySortedBy network_cmp networks.items) }
-    ensures exact { IfOk result (λ networks. (p : PrefixValue) → Contains networks.items p ↔ Contains dests.now (Dest.Net p)) }
+    ensures exact { IfOk result (λ networks. (p : PrefixValue) → Contains networks.items p ↔ Contains dests.now (dest_value.Net p)) }
 {
     let mut networks = Vec::new(alloc);
     for dest in dests {
@@ -197,5 +271,7 @@ fn networks_of(alloc: Global, dests: &[Dest]) -> Result<Vec<Prefix>, Memory>
             networks.push(network)?;
         }
     }
+    networks.sort_unstable();
+    networks.dedup();
     Ok(networks)
 }

@@ -57,8 +57,8 @@ pub(crate) fn ups(alloc: Global, state: &State, area: u32) -> Result<Vec<Up>, Me
     Ok(ups)
 }
 
-// Whether the interface is one of the area's, and up.
-fn is_up_in(interface: &Interface, area: u32) -> bool
+/// Whether the interface is one of the area's, and up.
+pub(crate) fn is_up_in(interface: &Interface, area: u32) -> bool
     ensures { IsTrue result ↔ ((interface.now.area ≡ area) × IsTrue interface.now.up) }
 {
     interface.area == area && interface.up

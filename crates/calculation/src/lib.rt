@@ -4,6 +4,7 @@
 
 mod calculation;
 mod inputs;
+mod layers;
 mod trees;
 
 pub use calculation::Calculation;

@@ -3,7 +3,7 @@
 
 mod trial;
 
-pub use trial::{applied, events_of, routes};
+pub use trial::{applied, events_of, items};
 
 #[cfg(test)]
 mod tests;

@@ -44,8 +44,13 @@ const OF_LEAF: (u32, u8) = (0xcb00_7100, 24);
 const OF_PEER: (u32, u8) = (0xc612_0000, 24);
 
 fn after(rt: &HostRuntime, event: &str) -> Result<Core, Fail> {
+    follows(rt, NETWORK, event)
+}
+
+// The core after the events of the base and this one.
+fn follows(rt: &HostRuntime, base: &str, event: &str) -> Result<Core, Fail> {
     let mut text = String::new(rt.alloc());
-    text.push_str(NETWORK)?;
+    text.push_str(base)?;
     text.push_str(event)?;
     applied(rt.alloc(), RandomState::new(rt)?, text.as_str())
 }
@@ -70,7 +75,7 @@ fn works(core: &Core, most: usize) -> bool {
 #[test]
 fn a_dearer_link_takes_a_path_away(rt: HostRuntime) -> Result<(), Fail> {
     let core = after(&rt, DEARER)?;
-    let text = routes(rt.alloc(), &core)?;
+    let text = items(rt.alloc(), &core)?;
     assert!(rt;
         text.as_str()
             == "192.0.2.0/24 intra 0.0.0.0 10 0 direct:1\n198.18.0.0/24 intra 0.0.0.0 6 0 peer:2\n203.0.113.0/24 intra 0.0.0.0 11 0 router:1:192.0.2.2\n"
@@ -152,57 +157,149 @@ fn of_a_hundred_networks_one_changes(rt: HostRuntime) -> Result<(), Fail> {
     Ok(())
 }
 
+// The peer 10.0.0.2 is a border router and an AS boundary router, and has a stub link to 10.4.0.0/16, for which a range is
+// active. It tells of 10.1.0.0/16, and of three external networks: one whose forwarding address no route leads to, one
+// that is a second before MaxAge, and one at MaxAge.
+const BORDER: &str = "abr 1\n\
+router 10.0.0.1\n\
+area 0.0.0.0 normal\n\
+range 0.0.0.0 10.4.0.0/14 advertise\n\
+interface 1 0.0.0.0 198.51.100.1 198.51.100.2 up\n\
+install 0.0.0.0 000102010a0000010a00000180000001e6e20024000000010a000002c63364010100000a\n\
+install 0.0.0.0 000102010a0000020a00000280000001ddd00030030000020a000001c6336402010000010a040000ffff000003000001\n\
+install 0.0.0.0 000102030a0100000a00000280000001a898001cffff000000000005\n\
+install as 00010205cb0071000a0000028000000186710024ffffff00000000050a02000100000000\n\
+install as 0e0f0205644000000a0000028000000126b40024ffc00000000000070000000000000000\n\
+install as 000102050a0200000a0000028000000190a50024ffff0000000000050000000000000000\n\
+install as 0e1002050a0200000a0000028000000190a50024ffff0000000000050000000000000000\n";
+
 // Whether the answer fits what the table then has: the old routes after a refusal and where it is behind, else the new.
 fn fits(core: &Core, answer: Result<Reply, Refusal>, is_old: bool, is_new: bool) -> bool {
     match answer {
-        Err(refusal) => refusal == Refusal::Memory && is_old && core.journal().len() == 6,
-        Ok(reply) if reply.state == Standing::Behind => is_old && core.built() == 6,
+        Err(refusal) => refusal == Refusal::Memory && is_old && core.journal().len() == 8,
+        Ok(reply) if reply.state == Standing::Behind => is_old && core.built() == 8,
         Ok(_) => is_new,
     }
 }
 
+fn has_items(rt: &HostRuntime, core: &Core, wanted: &str) -> Result<bool, Fail> {
+    let now = items(rt.alloc(), core)?;
+    Ok(now.as_str() == wanted)
+}
+
+// Whether the core is as the answer says: its items are the old ones or the new ones.
+fn is_as_answered(
+    rt: &HostRuntime,
+    core: &Core,
+    answer: Result<Reply, Refusal>,
+    old: &str,
+    new: &str,
+) -> Result<bool, Fail> {
+    let is_old = has_items(rt, core, old)?;
+    let is_new = has_items(rt, core, new)?;
+    Ok(fits(core, answer, is_old, is_new))
+}
+
 // Brings the table up to the event, which is applied once more where it was refused.
-fn catches_up(core: &mut Core, is_refused: bool, event: Event) -> bool {
+fn catches_up(
+    rt: &HostRuntime,
+    core: &mut Core,
+    is_refused: bool,
+    line: &str,
+) -> Result<bool, Fail> {
     if is_refused {
-        return core.apply(event).is_ok();
+        let event = event_of(rt, line)?;
+        return Ok(core.apply(event).is_ok());
     }
-    core.catch_up() == Standing::Current
+    Ok(core.catch_up() == Standing::Current)
 }
 
-fn has_routes(rt: &HostRuntime, core: &Core, wanted: &String) -> Result<bool, Fail> {
-    let now = routes(rt.alloc(), core)?;
-    Ok(now.as_str() == wanted.as_str())
-}
-
-// The routes of a core after the event, with ample memory.
-fn fresh_routes(rt: &HostRuntime) -> Result<String, Fail> {
-    let mut fresh = after(rt, DEARER)?;
+// The items of a core after the event, with ample memory.
+fn fresh_items(rt: &HostRuntime, event: &str) -> Result<String, Fail> {
+    let mut fresh = follows(rt, BORDER, event)?;
     fresh.catch_up();
-    routes(rt.alloc(), &fresh)
+    items(rt.alloc(), &fresh)
+}
+
+fn event_of(rt: &HostRuntime, line: &str) -> Result<Event, Fail> {
+    let mut text = String::new(rt.alloc());
+    text.push_str("abr 1\nrouter 10.0.0.1\narea 0.0.0.0 normal\n")?;
+    text.push_str(line)?;
+    let (_, mut events) = events_of(rt.alloc(), text.as_str())?;
+    let event = events.pop().ok_or("an event")?;
+    Ok(event)
 }
 
 // One more event where memory may be refused: it is refused and nothing has changed, or taken and the table is
 // behind, or all is as it is with ample memory. In the end the table is that of a fresh core.
+fn withstands(rt: &HostRuntime, line: &str) -> Result<bool, Fail> {
+    let mut core = follows(rt, BORDER, "")?;
+    let old = items(rt.alloc(), &core)?;
+    let new = fresh_items(rt, line)?;
+    goes_on(rt, &mut core, line, old.as_str(), new.as_str())
+}
+
+fn goes_on(
+    rt: &HostRuntime,
+    core: &mut Core,
+    line: &str,
+    old: &str,
+    new: &str,
+) -> Result<bool, Fail> {
+    let event = event_of(rt, line)?;
+    let answer = core.apply(event);
+    let right = is_as_answered(rt, core, answer, old, new)?;
+    let caught_up = catches_up(rt, core, answer.is_err(), line)?;
+    let last = has_items(rt, core, new)?;
+    Ok(right && caught_up && last && core.built() == 9)
+}
+
+// The peer's last network goes, and with it the active range.
 #[test]
-fn an_event_where_memory_may_be_refused(rt: HostRuntime) -> Result<(), Fail> {
-    let mut core = after(&rt, "")?;
-    let (old, new) = (routes(rt.alloc(), &core)?, fresh_routes(&rt)?);
-    let (first, again) = (dearer(&rt)?, dearer(&rt)?);
-    let answer = core.apply(first);
-    let (is_old, is_new) = (has_routes(&rt, &core, &old)?, has_routes(&rt, &core, &new)?);
-    let right = fits(&core, answer, is_old, is_new);
-    let caught_up = catches_up(&mut core, answer.is_err(), again);
-    let last = has_routes(&rt, &core, &new)?;
-    assert!(rt; right && caught_up && last && core.built() == 7);
+fn a_router_lsa_where_memory_may_be_refused(rt: HostRuntime) -> Result<(), Fail> {
+    let line =
+        "install 0.0.0.0 000102010a0000020a00000280000002e1e10024030000010a000001c63364020100000a\n";
+    assert!(rt; withstands(&rt, line)?);
     Ok(())
 }
 
-// The event that makes the peer's link dearer.
-fn dearer(rt: &HostRuntime) -> Result<Event, Fail> {
-    let mut text = String::new(rt.alloc());
-    text.push_str("abr 1\nrouter 10.0.0.1\narea 0.0.0.0 normal\n")?;
-    text.push_str(DEARER)?;
-    let (_, mut events) = events_of(rt.alloc(), text.as_str())?;
-    let event = events.pop().ok_or("an event")?;
-    Ok(event)
+// A route to the forwarding address comes.
+#[test]
+fn a_summary_where_memory_may_be_refused(rt: HostRuntime) -> Result<(), Fail> {
+    let line = "install 0.0.0.0 000102030a0200000a0000028000000188b9001cffff000000000003\n";
+    assert!(rt; withstands(&rt, line)?);
+    Ok(())
+}
+
+#[test]
+fn an_external_where_memory_may_be_refused(rt: HostRuntime) -> Result<(), Fail> {
+    let line =
+        "install as 00010205c61200000a00000280000001cd1a0024fffe0000800000070000000000000000\n";
+    assert!(rt; withstands(&rt, line)?);
+    Ok(())
+}
+
+#[test]
+fn an_interface_where_memory_may_be_refused(rt: HostRuntime) -> Result<(), Fail> {
+    let line = "interface 1 0.0.0.0 198.51.100.1 198.51.100.2 down\n";
+    assert!(rt; withstands(&rt, line)?);
+    Ok(())
+}
+
+#[test]
+fn a_second_where_memory_may_be_refused(rt: HostRuntime) -> Result<(), Fail> {
+    assert!(rt; withstands(&rt, "second\n")?);
+    Ok(())
+}
+
+#[test]
+fn a_flush_where_memory_may_be_refused(rt: HostRuntime) -> Result<(), Fail> {
+    assert!(rt; withstands(&rt, "flush 0.0.0.0 1 10.0.0.1 10.0.0.1\n")?);
+    Ok(())
+}
+
+#[test]
+fn a_purge_where_memory_may_be_refused(rt: HostRuntime) -> Result<(), Fail> {
+    assert!(rt; withstands(&rt, "purge as 5 10.2.0.0 10.0.0.2\n")?);
+    Ok(())
 }

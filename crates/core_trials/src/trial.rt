@@ -1,6 +1,7 @@
 use event_core::table::Item;
 use event_core::{Core, Event};
 use ospf_types::config::Config;
+use ospf_types::prefix::Prefix;
 use recording::{Line, parse};
 use std::alloc::Global;
 use std::hash::RandomState;
@@ -31,14 +32,20 @@ pub fn applied(alloc: Global, hashing: RandomState, text: &str) -> Result<Core, 
     Ok(core)
 }
 
-/// The routes of the core's table, printed.
-pub fn routes(alloc: Global, core: &Core) -> Result<String, Fail> {
+/// The items of the core's table, printed.
+pub fn items(alloc: Global, core: &Core) -> Result<String, Fail> {
     let mut text = String::new(alloc);
     for (network, item) in core.table().items() {
-        if let Item::Route(entry) = item {
-            let route = format!(in alloc; "{} {}\n", network, entry)?;
-            text.push_str(route.as_str())?;
-        }
+        let line = printed(alloc, network, item)?;
+        text.push_str(line.as_str())?;
     }
     Ok(text)
+}
+
+fn printed(alloc: Global, network: Prefix, item: &Item) -> Result<String, Fail> {
+    let line = match item {
+        Item::Route(entry) => format!(in alloc; "{} {}\n", network, entry)?,
+        Item::Discard => format!(in alloc; "{} discard\n", network)?,
+    };
+    Ok(line)
 }

@@ -2,29 +2,27 @@
 use Rattle.std.proofs.Common.{◌≡◌, ◌≢◌, ℕ, zero, suc, ◌<◌, Bool, true, false, List, [], ◌∷◌, length, get_or, None, refl, sym, arith, inl, inr}
 use Rattle.std.specs.Prelude.{◌==◌, ◌||◌, nat_lt}
 use Rattle.std.specs.List.{list_any}
-use Rattle.std.proofs.lemmas.Bool.Decides.{nat_tests, eqb_tells}
-use Rattle.std.proofs.lemmas.List.{nil_from_length}
+use Rattle.std.proofs.lemmas.Bool.Decides.{eqb_tells}
 use Rattle.ospf_types.specs.declared.config.Config.{Config}
 use Rattle.ospf_types.specs.declared.config.AreaConfig.{AreaConfig}
+use Rattle.event_core.specs.declared.fault.ConfigFault.{ConfigFault}
 use Rattle.event_core.specs.declared.fault.ConfigFault.TheVariants as fault
 use Rattle.ospf_types.specs.FirstOf.{first_of}
 use Rattle.event_state.specs.States.{AreApart}
-use Rattle.event_core.specs.Configs.{config_fault_of, has_alike, has_wrong_areas, has_overlap, is_stub_backbone, is_costly, HasNoRanges}
+use Rattle.event_core.specs.Configs.{config_fault_of, has_alike, has_overlap, has_wrong_areas, is_costly, is_stub_backbone}
 
--- where no line of the table holds, its first and its last do not
-none_of_six : (a b c d f g : Bool) → first_of ((a, fault.Areas) ∷ (b, fault.RangesOverlap) ∷ (c, fault.BackboneStub) ∷ (d, fault.Cost) ∷ (f, fault.RangeCount) ∷ (g, fault.NotYet) ∷ []) ≡ None → (a ≡ false) × (g ≡ false)
-none_of_six true b c d f g e = absurd cc
-none_of_six false true c d f g e = absurd cc
-none_of_six false false true d f g e = absurd cc
-none_of_six false false false true f g e = absurd cc
-none_of_six false false false false true g e = absurd cc
-none_of_six false false false false false true e = absurd cc
-none_of_six false false false false false false e = (refl, refl)
+-- where no line of the table holds, its first does not
+first_false : (a : Bool) (x : ConfigFault) (more : List (Bool × ConfigFault)) → first_of ((a, x) ∷ more) ≡ None → a ≡ false
+first_false true x more e = absurd cc
+first_false false x more e = refl
 
-tests_false : (config : Config) → config_fault_of config ≡ None → (has_wrong_areas config.areas ≡ false) × (list_any (λ a. nat_lt 0 (length a.ranges)) config.areas ≡ false)
-tests_false config e =
-    none_of_six (has_wrong_areas config.areas) (list_any (λ a. has_overlap a.ranges) config.areas) (list_any is_stub_backbone config.areas)
-    (list_any (λ a. is_costly a.stub) config.areas) (list_any (λ a. nat_lt 32 (length a.ranges)) config.areas) (list_any (λ a. nat_lt 0 (length a.ranges)) config.areas) e
+no_wrong_areas : (config : Config) → config_fault_of config ≡ None → has_wrong_areas config.areas ≡ false
+no_wrong_areas config e = first_false (has_wrong_areas config.areas) fault.Areas (
+    (list_any (λ a. has_overlap a.ranges) config.areas, fault.RangesOverlap)
+    ∷ (list_any is_stub_backbone config.areas, fault.BackboneStub)
+    ∷ (list_any (λ a. is_costly a.stub) config.areas, fault.Cost)
+    ∷ (list_any (λ a. nat_lt 32 (length a.ranges)) config.areas, fault.RangeCount)
+    ∷ []) e
 
 left_false : (a b : Bool) → (a || b) ≡ false → (a ≡ false) × (b ≡ false)
 left_false true b e = absurd cc
@@ -53,14 +51,5 @@ apart_from_alike (a ∷ areas) e (suc i) (suc j) d lt in' =
 -- no two areas have one Area ID
 pub sound_apart : (config : Config) → config_fault_of config ≡ None → AreApart config.areas
 sound_apart config e =
-    let h = left_false (length config.areas == 0) (nat_lt 16 (length config.areas) || has_alike config.areas) (tests_false config e).0 in
+    let h = left_false (length config.areas == 0) (nat_lt 16 (length config.areas) || has_alike config.areas) (no_wrong_areas config e) in
     apart_from_alike config.areas (left_false (nat_lt 16 (length config.areas)) (has_alike config.areas) h.1).1
-
-none_short : (n : ℕ) → nat_lt 0 n ≡ false → n ≡ 0
-none_short n e = grind (arith, nat_tests)
-
--- no area has a range
-pub sound_ranges : (config : Config) → config_fault_of config ≡ None → HasNoRanges config
-sound_ranges config e k area lt =
-    let short = none_passes (λ (x : AreaConfig). nat_lt 0 (length x.ranges)) config.areas k area (tests_false config e).1 lt in
-    nil_from_length (get_or config.areas k area).ranges (none_short (length (get_or config.areas k area).ranges) short)

@@ -1,44 +1,18 @@
--- A table of items that follows the entries of its networks.
-use Rattle.std.proofs.Common.{◌≡◌, ◌≢◌, List, [], ◌∷◌, Option, Some, None, refl, sym, ap, subst, ◌∙◌, ◌⊎◌, inl, inr, ⊎_elim}
-use Rattle.std.specs.Prelude.{◌↔◌, option_map}
+-- A table of items that follows what is kept.
+use Rattle.std.proofs.Common.{◌≡◌, ◌≢◌, List, [], ◌∷◌, Option, refl, sym, ap, subst, ◌∙◌, ◌⊎◌, inl, inr, ⊎_elim}
+use Rattle.std.specs.Prelude.{◌↔◌}
 use Rattle.std.specs.FinMap.{FinMap, get}
 use Rattle.std.specs.List.{Contains}
 use Rattle.std.specs.List.Sorted.{IsStrictlySortedBy}
 use Rattle.std.specs.Map.{keys_of}
-use Rattle.std.specs.Coded.{Coded, coded_option}
 use Rattle.std.proofs.lemmas.Bool.{cases_eq}
-use Rattle.ospf_types.specs.declared.entry.Entry.{Entry}
-use Rattle.ospf_types.specs.contracts.entry.Entry as entry
 use Rattle.ospf_types.specs.declared.prefix.Prefix.{Prefix}
 use Rattle.ospf_types.specs.Network.{network_cmp}
 use Rattle.ospf_types.proofs.Elements.{no_element, first_element, later_element, first_or_later, mapped_element, mapped_from}
 use Rattle.route_table.specs.declared.table.Item.{Item}
-use Rattle.route_table.specs.declared.table.Item.TheVariants.{Route, Discard}
 use Rattle.route_table.specs.Tables.{IsChanged}
-use Rattle.intra.specs.Intras.{IntraValue}
-use Rattle.calculation.specs.Calculations.{IsTableOf}
-use Rattle.event_core.specs.Following.{AreChanges, items_for}
-use Rattle.event_core.proofs.Stable.{same_value}
-
--- what the table has for an entry
-abbrev pub item_of : Option Entry → Option Item
-item_of o = option_map (λ e. Route e) o
-
-abbrev entry_in : Item → Entry → Entry
-entry_in (Route e) other = e
-entry_in Discard other = other
-
-abbrev entry_back : Option Item → Option Entry
-entry_back None = None
-entry_back (Some (Route e)) = Some e
-entry_back (Some Discard) = None
-
-back_again : (o : Option Entry) → entry_back (item_of o) ≡ o
-back_again None = refl
-back_again (Some e) = refl
-
-same_entry : (a b : Option Entry) → item_of a ≡ item_of b → a ≡ b
-same_entry a b e = sym (back_again a) ∙ ap entry_back e ∙ back_again b
+use Rattle.calculation.specs.Calculations.{CalculationValue, IsItemOf, IsTableOf}
+use Rattle.event_core.specs.Following.{AreChanges, AreOtherItems}
 
 -- two networks are one or not
 same_network : (p q : Prefix) → (p ≡ q) ⊎ (p ≢ q)
@@ -61,35 +35,41 @@ is_named (q ∷ networks) p = elim (same_network p q) [
   ]
 ]
 
--- the networks of the items are those that are named
-pub networks_of_items : (w : IntraValue) (networks : List Prefix) → keys_of (items_for w networks) ≡ networks
-networks_of_items w [] = refl
-networks_of_items w (p ∷ networks) = ap (λ (ps : List Prefix). p ∷ ps) (networks_of_items w networks)
+-- a network with its item is among those whose item differs
+abbrev key_in : Prefix × Option Item → Prefix
+key_in e = e.0
 
-entry_coded : Coded (Option Entry)
-entry_coded = coded_option entry.the_row.coded
+is_listed : (items : List (Prefix × Option Item)) (p : Prefix) → ((o : Option Item) × Contains items (p, o)) ⊎ ((o : Option Item) → Contains items (p, o) → ⊥)
+is_listed items p = elim (is_named (keys_of items) p) [
+  | inl there ↦
+      let w = mapped_from key_in items p there in
+      inl (w.0.1, subst (Contains items) (λ i. (w.2 i, w.0.1)) w.1)
+  | inr absent ↦ inr (λ o c. absent (mapped_element key_in items (p, o) c))
+]
 
-module _ (w v : IntraValue) (old new : FinMap network_cmp Item) (networks : List Prefix) (exact : (p : Prefix) → Contains networks p ↔ (get v.entries p ≢ get w.entries p)) where
-  -- a network that is not named keeps its entry
-  kept_entry : (p : Prefix) → (Contains networks p → ⊥) → get v.entries p ≡ get w.entries p
-  kept_entry p absent = same_value entry_coded (get v.entries p) (get w.entries p) (λ other. absent ((exact p).1 other))
-
-  pub items_followed : IsTableOf w old → IsChanged old new (items_for v networks) → IsTableOf v new
-  items_followed table changed p = elim (is_named networks p) [
-    | inl named ↦ changed.given p (item_of (get v.entries p)) (mapped_element (λ (q : Prefix). (q, item_of (get v.entries q))) networks p named)
-    | inr absent ↦
-        changed.others p (λ o h.
-        let from = mapped_from (λ (q : Prefix). (q, item_of (get v.entries q))) networks (p, o) h in
-        absent (subst (Contains networks) (ap (λ (x : Prefix × Option Item). x.0) from.2) from.1))
-        ∙ table p ∙ ap item_of (sym (kept_entry p absent))
+module _ (c d : CalculationValue) (old new : FinMap network_cmp Item) (networks : List Prefix) (items : List (Prefix × Option Item))
+    (enough : (p : Prefix) (o : Option Item) → (Contains networks p → ⊥) → IsItemOf c p o → IsItemOf d p o)
+    (other : AreOtherItems d old networks items) (table : IsTableOf c old) (changed : IsChanged old new items) where
+  pub items_followed : IsTableOf d new
+  items_followed p = elim (is_listed items p) [
+    | inl w ↦ subst (IsItemOf d p) (sym (changed.given p w.0 w.1)) (other.each p w.0 w.1).1
+    | inr absent ↦ subst (IsItemOf d p) (sym (changed.others p absent)) (elim (is_named networks p) [
+      | inl named ↦ other.others p named absent
+      | inr none ↦ enough p (get old p) none (table p)
+    ])
   ]
 
-  pub changes_followed : IsStrictlySortedBy network_cmp networks → IsTableOf w old → IsTableOf v new → AreChanges old new networks
-  changes_followed in_order before after = record {
-    in_order = in_order;
+  pub changes_followed : AreChanges old new (keys_of items)
+  changes_followed = record {
+    in_order = other.in_order;
     exact = λ p. (
-      λ named. λ same. (exact p).0 named (same_entry (get v.entries p) (get w.entries p) (sym (after p) ∙ same ∙ before p)),
-      λ other. (exact p).1 (λ same. other (after p ∙ ap item_of same ∙ sym (before p))),
+      λ there. let w = mapped_from key_in items p there in
+          let listed : Contains items (p, w.0.1) = subst (Contains items) (λ i. (w.2 i, w.0.1)) w.1 in
+          λ same. (other.each p w.0.1 listed).2 (sym same ∙ changed.given p w.0.1 listed),
+      λ differs. elim (is_listed items p) [
+        | inl w ↦ mapped_element key_in items (p, w.0) w.1
+        | inr absent ↦ absurd (differs (changed.others p absent))
+      ],
     );
   }
 

@@ -1,13 +1,11 @@
 pub mod Configs
 pub mod Listings
-pub mod Areas
-pub mod NoWays
 pub mod Runs
 pub mod Intervals
 pub mod Neighbours
 pub mod Naming
-pub mod Stable
 pub mod Followed
 pub mod RoutesRight
 pub mod Settled
 pub mod NoWork
+pub mod OtherItems

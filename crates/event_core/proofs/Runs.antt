@@ -24,7 +24,6 @@ use Rattle.ospf_types.specs.declared.memory.Memory.{Memory}
 use Rattle.calculation.specs.Totals.{IsBuildWork, IsEventWork}
 use Rattle.event_core.specs.Following.{RoutesValue, AreRoutesOf, AreChanges, no_work}
 use Rattle.event_state.specs.Held.{AreFit}
-use Rattle.event_core.proofs.Configs.{sound_ranges}
 use Rattle.event_core.proofs.RoutesRight.{routes_right}
 
 -- what no event changes
@@ -64,14 +63,13 @@ step_runs : (s : State) (e : Event) → s ≡ run_of s.config s.limits s.journal
 step_runs s e run = ap (λ (t : State). step t e) run ∙ sym (run_push _ s.journal e)
 
 -- no event was taken, and the routes are those of the opening state
-pub kept_open : (config : Config) (limits : Limits) (s : State) (r : RoutesValue) → s ≡ opening config limits → config_fault_of config ≡ None → limits.area_lsas ≤ most_routers → AreFit s.config.areas s.databases → AreRoutesOf s r → IsCoherent s r 0
-kept_open config limits s r is sound few fit are =
+pub kept_open : (config : Config) (limits : Limits) (s : State) (r : RoutesValue) → s ≡ opening config limits → config_fault_of config ≡ None → limits.area_lsas ≤ most_routers → AreRoutesOf s r → IsCoherent s r 0
+kept_open config limits s r is sound few are =
     let first : State = opening config limits in
-    let first_fit = subst (λ (v : State). AreFit v.config.areas v.databases) is fit in
     let first_are = subst (λ (v : State). AreRoutesOf v r) is are in
     subst (λ (v : State). IsCoherent v r 0) (sym is) (record {
       run = refl;
-      core = record { sound = sound; legal = tt; within = omega arith; right = routes_right first r first_fit (sound_ranges config sound) first_are };
+      core = record { sound = sound; legal = tt; within = omega arith; right = routes_right first r first_are };
       fresh = λ _. first_are;
       few = few;
     })
@@ -104,9 +102,9 @@ pub current_right : (c : CoreValue) → IsCore c → c.built ≡ length c.journa
 current_right c core all = subst (λ (events : List Event). IsRight (run_of c.config c.limits events) c.table) (take_all c.built c.journal (omega arith)) core.right
 
 -- routes that are the state's make a core that is current
-pub kept_current : (s : State) (r new : RoutesValue) (built now : ℕ) → IsCoherent s r built → AreFit s.config.areas s.databases → now ≡ length s.journal → AreRoutesOf s new → IsCoherent s new now
-kept_current s r new built now kept fit all are =
-    let right = routes_right s new fit (sound_ranges s.config kept.core.sound) are in
+pub kept_current : (s : State) (r new : RoutesValue) (built now : ℕ) → IsCoherent s r built → now ≡ length s.journal → AreRoutesOf s new → IsCoherent s new now
+kept_current s r new built now kept all are =
+    let right = routes_right s new are in
     let whole : take now s.journal ≡ s.journal = take_all now s.journal (omega arith) in
     let is : s ≡ run_of s.config s.limits (take now s.journal) = kept.run ∙ ap (run_of s.config s.limits) (sym whole) in
     record {
@@ -155,15 +153,15 @@ pub record IsSettled (s u : State) (r : RoutesValue) (built : ℕ) (result : Res
   pub changes : OnErr result (new.changes ≡ [])
 
 module _ (s u : State) (r new : RoutesValue) (built : ℕ) (e : Event) (kept : IsCoherent s r built) (is : u ≡ step s e) (accepted : refusal_of s e ≡ None) where
-  settled_ok : (now : ℕ) → now ≡ length u.journal → AreFit u.config.areas u.databases → AreRoutesOf u new → IsCoherent u new now
-  settled_ok now all fit are = kept_current u r new built now (subst (λ (v : State). IsCoherent v r built) (sym is) (kept_step s r built e kept accepted)) fit all are
+  settled_ok : (now : ℕ) → now ≡ length u.journal → AreRoutesOf u new → IsCoherent u new now
+  settled_ok now all are = kept_current u r new built now (subst (λ (v : State). IsCoherent v r built) (sym is) (kept_step s r built e kept accepted)) all are
 
   settled_err : new.table ≡ r.table → IsCoherent u new built
   settled_err table = subst (λ (v : State). IsCoherent v new built) (sym is) (kept_behind s r new built e kept accepted table)
 
   -- where the routes settle, the core is current
   pub coherent_ok : (result : Result (Unit {0}) Memory) (now : ℕ) → now ≡ length u.journal → result ≡ Ok tt → IsSettled s u r built result new → IsCoherent u new now
-  coherent_ok (Ok x) now all ok h = settled_ok now all h.fit h.right
+  coherent_ok (Ok x) now all ok h = settled_ok now all h.right
   coherent_ok (Err m) now all ok h = absurd cc
 
   -- and where they don't, it is behind
@@ -188,7 +186,7 @@ module _ (s u : State) (r new : RoutesValue) (built : ℕ) (e : Event) (kept : I
 
   pub bounded_ok : (result : Result (Unit {0}) Memory) (now : ℕ) → now ≡ length u.journal → result ≡ Ok tt → IsSettled s u r built result new → HasBoundedWork (core_of s r built) Current (core_of u new now)
   bounded_ok (Ok x) now all ok h =
-      let after = settled_ok now all h.fit h.right in (
+      let after = settled_ok now all h.right in (
         λ current. subst (λ (v : State). IsEventWork v (state_of (core_of u new now)) new.work) kept.run (subst (λ (v : State). IsEventWork s v new.work) after.run (h.bounded current)),
         λ behind. subst (λ (v : State). IsBuildWork v new.work) after.run (h.anew behind),
       )

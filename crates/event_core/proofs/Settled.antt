@@ -25,7 +25,7 @@ pub record GoesOn (keys : List (Scope × Key)) (ids : List ℕ) (changed : Bool)
 -- all but the serial of the table is right for the state, and what differs from the routes of before is told
 pub record HasFollowed (t : State) (keys : List (Scope × Key)) (ids : List ℕ) (changed : Bool) (old new : RoutesValue) : Type 0 where
   pub calculation : IsCalculationOf t new.calculation
-  pub items : IsTableOf new.calculation.intra new.table.items
+  pub items : IsTableOf new.calculation new.table.items
   pub exact : AreChanges old.table.items new.table.items new.changes
   pub bounded : (before : State) → GoesOn keys ids changed before t → AreRoutesOf before old → IsEventWork before t new.work
 
@@ -36,7 +36,7 @@ pub still_routes : (s : State) (old mid : RoutesValue) → mid ≡ forgotten old
 still_routes s old mid is are = subst (AreRoutesOf s) (sym is) (forgotten_routes s old are)
 
 module _ (t : State) (keys : List (Scope × Key)) (ids : List ℕ) (changed : Bool) (old mid : RoutesValue) (is : mid ≡ forgotten old) where
-  pub followed : (new : RoutesValue) → IsCalculationOf t new.calculation → IsTableOf new.calculation.intra new.table.items → AreChanges mid.table.items new.table.items new.changes
+  pub followed : (new : RoutesValue) → IsCalculationOf t new.calculation → IsTableOf new.calculation new.table.items → AreChanges mid.table.items new.table.items new.changes
       → ((before : State) → AreRoutesOf before mid → StatesDifferAmong keys ids before t → IsEventWork before t new.work) → HasFollowed t keys ids changed old new
   followed new calculation items exact bounded = record {
     calculation = calculation;
@@ -56,6 +56,6 @@ module _ (t : State) (keys : List (Scope × Key)) (ids : List ℕ) (changed : Bo
       })
 
 -- with the serial of the state, the routes are those of the state
-pub with_serial : (t : State) (new : RoutesValue) (table : TableValue) → IsCalculationOf t new.calculation → IsTableOf new.calculation.intra new.table.items → table ≡ record new.table { serial = length t.journal } → AreRoutesOf t (record new { table = table })
+pub with_serial : (t : State) (new : RoutesValue) (table : TableValue) → IsCalculationOf t new.calculation → IsTableOf new.calculation new.table.items → table ≡ record new.table { serial = length t.journal } → AreRoutesOf t (record new { table = table })
 with_serial t new table calculation items is =
     subst (λ (v : TableValue). AreRoutesOf t (record new { table = v })) (sym is) (record { calculation = calculation; table = items; serial = refl })

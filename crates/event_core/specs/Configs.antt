@@ -1,5 +1,5 @@
 -- What a configuration must not be (RFC 2328, 3.5, 3.6 and C.2).
-use Rattle.std.specs.Prelude.{◌≡◌, ◌==◌, ◌&&◌, ◌||◌, Bool, false, nat_lt, nat_le, List, [], ◌∷◌, length, Option, Some, None, is_some, All}
+use Rattle.std.specs.Prelude.{◌==◌, ◌&&◌, ◌||◌, Bool, false, nat_lt, nat_le, List, [], ◌∷◌, length, Option, Some, None, is_some}
 use Rattle.std.specs.List.{list_any}
 use Rattle.ospf_types.specs.declared.config.Config.{Config}
 use Rattle.ospf_types.specs.declared.config.AreaConfig.{AreaConfig}
@@ -50,9 +50,4 @@ config_fault_of c = first_of (
     ∷ (list_any is_stub_backbone c.areas, fault.BackboneStub)
     ∷ (list_any (λ a. is_costly a.stub) c.areas, fault.Cost)
     ∷ (list_any (λ a. nat_lt 32 (length a.ranges)) c.areas, fault.RangeCount)
-    ∷ (list_any (λ a. nat_lt 0 (length a.ranges)) c.areas, fault.NotYet)
     ∷ [])
-
--- no area has a range
-abbrev pub HasNoRanges : Config → Type 0
-HasNoRanges c = All (λ a. a.ranges ≡ []) c.areas

@@ -1,16 +1,15 @@
 -- The routes that a core keeps, and what an event changes of them.
-use Rattle.std.specs.Prelude.{◌≡◌, ◌≢◌, ◌↔◌, List, length, Contains, Option, option_map, map as list_map}
+use Rattle.std.specs.Prelude.{◌≡◌, ◌≢◌, ◌⊎◌, ◌↔◌, ◌++◌, List, [], ◌∷◌, length, Contains, Option}
 use Rattle.std.specs.FinMap as map
 use Rattle.std.specs.List.Sorted.{IsStrictlySortedBy}
+use Rattle.std.specs.Map.{keys_of}
 use Rattle.ospf_types.specs.declared.prefix.Prefix.{Prefix}
 use Rattle.ospf_types.specs.Network.{network_cmp}
 use Rattle.spf.specs.declared.touched.Touched.{Touched}
 use Rattle.route_table.specs.declared.table.Item.{Item}
-use Rattle.route_table.specs.declared.table.Item.TheVariants.{Route}
-use Rattle.intra.specs.Intras.{IntraValue}
 use Rattle.route_table.specs.Tables.{TableValue}
 use Rattle.event_state.specs.States.{State}
-use Rattle.calculation.specs.Calculations.{CalculationValue, IsCalculationOf, IsTableOf}
+use Rattle.calculation.specs.Calculations.{CalculationValue, IsCalculationOf, IsItemOf, IsTableOf}
 
 pub record RoutesValue : Type 0 where
   pub calculation : CalculationValue
@@ -21,7 +20,7 @@ pub record RoutesValue : Type 0 where
 -- what is kept is that of the state, and the table follows its events
 pub record AreRoutesOf (s : State) (r : RoutesValue) : Type 0 where
   pub calculation : IsCalculationOf s r.calculation
-  pub table : IsTableOf r.calculation.intra r.table.items
+  pub table : IsTableOf r.calculation r.table.items
   pub serial : r.table.serial ≡ length s.journal
 
 -- the networks whose item differs, ascending, each once
@@ -29,9 +28,17 @@ pub record AreChanges (old new : map.FinMap network_cmp Item) (networks : List P
   pub in_order : IsStrictlySortedBy network_cmp networks
   pub exact : (p : Prefix) → Contains networks p ↔ (map.get new p ≢ map.get old p)
 
--- what the table has to have for each of these networks
-abbrev pub items_for : IntraValue → List Prefix → List (Prefix × Option Item)
-items_for w networks = list_map (λ p. (p, option_map (λ e. Route e) (map.get w.entries p))) networks
+-- of these networks, those for which the table has another item than it is to have, each with the item that it is to have
+pub record AreOtherItems (c : CalculationValue) (table : map.FinMap network_cmp Item) (networks : List Prefix) (items : List (Prefix × Option Item)) : Type 0 where
+  pub in_order : IsStrictlySortedBy network_cmp (keys_of items)
+  pub each : (p : Prefix) (item : Option Item) → Contains items (p, item) → Contains networks p × IsItemOf c p item × (map.get table p ≢ item)
+  pub others : (p : Prefix) → Contains networks p → ((item : Option Item) → Contains items (p, item) → ⊥) → IsItemOf c p (map.get table p)
+
+-- the item that is to stand for the network is added, where the table has another one
+abbrev pub IsOneMore : CalculationValue → map.FinMap network_cmp Item → Prefix → List (Prefix × Option Item) → List (Prefix × Option Item) → Type 0
+IsOneMore c table p before after =
+    ((after ≡ before) × IsItemOf c p (map.get table p))
+    ⊎ ((item : Option Item) × (after ≡ before ++ (p, item) ∷ []) × IsItemOf c p item × (map.get table p ≢ item))
 
 -- no work
 abbrev pub no_work : Touched

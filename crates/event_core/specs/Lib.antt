@@ -4,6 +4,5 @@ pub mod Cores
 pub mod Kept
 pub mod Listings
 pub mod Texts
-pub mod Lasting
 pub mod Neighbours
 pub mod Following

@@ -1,7 +1,6 @@
 ghost use Rattle.std.specs.Prelude.{◌≡◌, ◌==◌, true, length, nat_lt, All};
 ghost use Rattle.std.specs.List.{list_any};
 ghost use Rattle.event_core.specs.Configs.{config_fault_of, has_alike, has_wrong_areas, has_overlap, is_overlap, is_cover, is_stub_backbone, is_costly};
-ghost use Rattle.event_core.specs.Lasting.{lasting_fault_of};
 ghost use Rattle.event_core.specs.Neighbours.{IsMasked, is_ascending, is_before_first, has_next_overlap, overlaps_first};
 
 use crate::fault::ConfigFault;
@@ -16,23 +15,9 @@ const MOST_RANGES: usize = 32;
 
 const BACKBONE: u32 = 0;
 
-/// The first fault that a core is not opened for.
-pub(crate) fn fault_in(config: &Config) -> Option<ConfigFault>
+/// The first fault that the configuration has, which is never `Memory`.
+pub fn fault_in(config: &Config) -> Option<ConfigFault>
     ensures { result ≡ config_fault_of config.now }
-{
-    if let Some(fault) = lasting_fault(config) {
-        Some(fault)
-    } else if any_longer(config.areas.as_slice(), 0) {
-        Some(ConfigFault::NotYet)
-    } else {
-        None
-    }
-}
-
-/// The first fault that the configuration has, whatever is calculated so far: `NotYet` and `Memory`
-/// are none of them.
-pub fn lasting_fault(config: &Config) -> Option<ConfigFault>
-    ensures { result ≡ lasting_fault_of config.now }
 {
     let areas = config.areas.as_slice();
     if has_wrong_areas(areas) {
@@ -43,7 +28,7 @@ pub fn lasting_fault(config: &Config) -> Option<ConfigFault>
         Some(ConfigFault::BackboneStub)
     } else if any_costly(areas) {
         Some(ConfigFault::Cost)
-    } else if any_longer(areas, MOST_RANGES) {
+    } else if any_crowded(areas) {
         Some(ConfigFault::RangeCount)
     } else {
         None
@@ -196,9 +181,11 @@ fn is_costly(stub: Option<Stub>) -> bool
     }
 }
 
-// Whether an area has more ranges than that.
-fn any_longer(areas: &[AreaConfig], most: usize) -> bool
-    ensures { result ≡ list_any (λ a. nat_lt most (length a.ranges)) areas.now }
+// Whether an area has more ranges than it may.
+fn any_crowded(areas: &[AreaConfig]) -> bool
+    ensures { result ≡ list_any (λ a. nat_lt 32 (length a.ranges)) areas.now }
 {
-    areas.iter().any(|area| area.ranges.as_slice().len() > most)
+    areas
+        .iter()
+        .any(|area| area.ranges.as_slice().len() > MOST_RANGES)
 }

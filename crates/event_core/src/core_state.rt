@@ -25,7 +25,6 @@ use std::marker::Model;
 
 /// The databases and interfaces of an area border router, the journal of the events that made them,
 /// and the routing table that they give (RFC 2328, 16).
-#[derive(Drop)]
 pub struct Core {
     alloc: Global,
     hashing: RandomState,
@@ -48,6 +47,19 @@ impl Model for Core {
     ghost view = { λ c. core_of c.state c.routes c.built };
 
     ghost invariant = { λ c. IsCoherent c.state c.routes c.built };
+}
+
+// All that a core keeps is dropped here, and not in each function that has one.
+impl Drop for Core {
+    fn drop(self) {
+        let Core {
+            alloc: _,
+            hashing: _,
+            state: _state,
+            routes: _routes,
+            built: _,
+        } = self;
+    }
 }
 
 impl Core {

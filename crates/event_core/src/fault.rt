@@ -17,8 +17,6 @@ pub enum ConfigFault {
     Cost,
     /// More than 32 ranges in an area.
     RangeCount,
-    /// No calculation stands yet for ranges.
-    NotYet,
     /// A growth was refused.
     Memory,
 }
@@ -34,7 +32,6 @@ impl fmt::Display for ConfigFault {
             ConfigFault::BackboneStub => "42 BackboneStub",
             ConfigFault::Cost => "43 Cost",
             ConfigFault::RangeCount => "44 RangeCount",
-            ConfigFault::NotYet => "33 NotYet",
             ConfigFault::Memory => "30 Memory",
         })
     }

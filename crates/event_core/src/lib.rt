@@ -10,7 +10,7 @@ mod named;
 mod reply;
 mod routes;
 
-pub use config_fault::lasting_fault;
+pub use config_fault::fault_in;
 pub use core_state::Core;
 pub use event_state::{Event, Limits, Refusal};
 pub use fault::ConfigFault;

@@ -1,11 +1,14 @@
 //! The routing table, and what is kept to follow events (RFC 2328, 16).
-ghost use Rattle.std.specs.Prelude.{◌≡◌, ◌≤◌, [], false, length, IfOk, OnOk, OnErr};
+ghost use Rattle.std.specs.Prelude.{◌≡◌, ◌↔◌, ◌≤◌, [], false, length, IfOk, IsTrue, OnOk, OnErr, option_copied};
+ghost use Rattle.std.specs.List.Sorted.{IsStrictlySortedBy};
+ghost use Rattle.std.specs.Map.{keys_of};
+ghost use Rattle.ospf_types.specs.Network.{network_cmp};
 ghost use Rattle.vertex_graph.specs.Graphs.{most_routers};
 ghost use Rattle.event_state.specs.Held.{AreFit};
 ghost use Rattle.event_state.specs.States.{State as StateValue, LooksAlike};
 ghost use Rattle.calculation.specs.Calculations.{IsCalculationOf, IsTableOf, StatesDifferAmong};
 ghost use Rattle.calculation.specs.Totals.{IsBuildWork, IsEventWork};
-ghost use Rattle.event_core.specs.Following.{AreRoutesOf, AreChanges, items_for, no_work};
+ghost use Rattle.event_core.specs.Following.{AreRoutesOf, AreChanges, AreOtherItems, IsOneMore, no_work};
 
 use crate::named::Named;
 use calculation::Calculation;
@@ -30,32 +33,14 @@ pub(crate) struct Routes {
 }
 
 impl Model for Routes {
-    ghost use Rattle.std.specs.FinMap as map;
-    ghost use Rattle.std.specs.Coded.{Coded, codes, coded_ℕ};
-    ghost use Rattle.ospf_types.specs.Network.{network_code};
-    ghost use Rattle.ospf_types.specs.Vertices.{vertex_code};
-    ghost use Rattle.ospf_types.specs.contracts.entry.Entry as entry;
-    ghost use Rattle.vertex_graph.specs.Graphs.{EndsByVertex};
-    ghost use Rattle.spf.specs.Parts.{DistanceMap, HopMap};
-    ghost use Rattle.intra.specs.Indexes.{OfferedByVertex, SourcesByPrefix};
-    ghost use Rattle.intra.specs.Reached.{ReachedByRouter};
-    ghost use Rattle.intra.specs.Intras.{EntriesByPrefix};
-    ghost use Rattle.intra.specs.contracts.offered.Offer as offer;
-    ghost use Rattle.intra.specs.contracts.area_index.Source as source;
+    ghost use Rattle.std.specs.Coded.{Coded, codes};
+    ghost use Rattle.calculation.specs.contracts.calculation.Calculation as kept;
     ghost use Rattle.route_table.specs.Tables.{TableValue, table_code};
     ghost use Rattle.event_core.specs.Following.{RoutesValue};
 
     ghost Value = { RoutesValue };
 
-    ghost coded = { let ends : Coded EndsByVertex = map.code vertex_code (Prim.hlevel codes) in
-        let distances : Coded DistanceMap = map.code vertex_code coded_ℕ in
-        let hops : Coded HopMap = map.code vertex_code (Prim.hlevel codes) in
-        let offered : Coded OfferedByVertex = map.code vertex_code (Prim.hlevel (codes, offer.the_row.coded)) in
-        let sources : Coded SourcesByPrefix = map.code network_code (Prim.hlevel (codes, source.the_row.coded)) in
-        let reached : Coded ReachedByRouter = map.code coded_ℕ (Prim.hlevel codes) in
-        let entries : Coded EntriesByPrefix = map.code network_code (Prim.hlevel (codes, entry.the_row.coded)) in
-        let table : Coded TableValue = table_code in
-        Prim.hlevel (codes, ends, distances, hops, offered, sources, reached, entries, table) };
+    ghost coded = { let table : Coded TableValue = table_code in Prim.hlevel (codes, kept.the_row.coded, table) };
 
     ghost view = { λ r. record { calculation = r.calculation; table = r.table; work = r.work; changes = r.changes.items } };
 }
@@ -191,7 +176,7 @@ impl Routes {
         requires few { state.now.limits.area_lsas ≤ most_routers }
         requires before { (before : StateValue) × AreRoutesOf before self.old × StatesDifferAmong named.keys.items named.interfaces.items before state.now }
         ensures calculation { OnOk result (IsCalculationOf state.now self.new.calculation) }
-        ensures items { OnOk result (IsTableOf self.new.calculation.intra self.new.table.items) }
+        ensures items { OnOk result (IsTableOf self.new.calculation self.new.table.items) }
         ensures exact { OnOk result (AreChanges self.old.table.items self.new.table.items self.new.changes) }
         ensures bounded { OnOk result ((before : StateValue) → AreRoutesOf before self.old → StatesDifferAmong named.keys.items named.interfaces.items before state.now → IsEventWork before state.now self.new.work) }
         ensures unchanged { OnErr result (self.new.table ≡ self.old.table) }
@@ -200,10 +185,11 @@ impl Routes {
     {
         let Named { keys, interfaces } = named;
         let (networks, work) = self.calculation.follow(alloc, state, keys, interfaces)?;
-        let items = items(alloc, &self.calculation, &networks)?;
+        let items = other_items(alloc, &self.calculation, &self.table, &networks)?;
+        let changes = networks_of(alloc, &items)?;
         self.table.change(alloc, items)?;
         self.work = work;
-        self.changes = networks;
+        self.changes = changes;
         Ok(())
     }
 }
@@ -216,7 +202,7 @@ fn from_scratch(
 ) -> Result<(Calculation, Table, Touched), Memory>
     requires few { state.now.limits.area_lsas ≤ most_routers }
     ensures calculation { IfOk result (λ built. IsCalculationOf state.now built.0) }
-    ensures items { IfOk result (λ built. IsTableOf built.0.intra built.1.items) }
+    ensures items { IfOk result (λ built. IsTableOf built.0 built.1.items) }
     ensures serial { IfOk result (λ built. built.1.serial ≡ length state.now.journal) }
     ensures fit { IfOk result (λ built. AreFit state.now.config.areas state.now.databases) }
     ensures work { IfOk result (λ built. IsBuildWork state.now built.2) }
@@ -226,18 +212,59 @@ fn from_scratch(
     Ok((calculation, table, work))
 }
 
-// What the table has to have for each of these networks.
-fn items(
+// Those of the networks for which the table has to have another item, each with that item.
+fn other_items(
     alloc: Global,
     calculation: &Calculation,
+    table: &Table,
     networks: &[Prefix],
 ) -> Result<Vec<(Prefix, Option<Item>)>, Memory>
-    ensures { IfOk result (λ items. items.items ≡ items_for calculation.now.intra networks.now) }
+    requires { IsStrictlySortedBy network_cmp networks.now }
+    ensures { IfOk result (λ items. AreOtherItems calculation.now table.now.items networks.now items.items) }
 {
-    let mut items = Vec::with_capacity(alloc, networks.len())?;
+    let mut items = Vec::new(alloc);
     for network in networks {
-        let item = calculation.item(alloc, *network)?;
-        items.push((*network, item))?;
+        push_other(alloc, calculation, table, *network, &mut items)?;
     }
     Ok(items)
+}
+
+// Adds the item that the table has to have for the network, where it has another one.
+fn push_other(
+    alloc: Global,
+    calculation: &Calculation,
+    table: &Table,
+    network: Prefix,
+    items: &mut Vec<(Prefix, Option<Item>)>,
+) -> Result<(), Memory>
+    ensures { OnOk result (IsOneMore calculation.now table.now.items network items.old.items items.new.items) }
+{
+    let item = calculation.item(alloc, network)?;
+    if are_same(table.get(network), item.as_ref()) {
+        return Ok(());
+    }
+    items.push((network, item))?;
+    Ok(())
+}
+
+// Whether the two items are equal, or both are absent.
+fn are_same(a: Option<&Item>, b: Option<&Item>) -> bool
+    ensures { IsTrue result ↔ (option_copied a.entry ≡ option_copied b.entry) }
+{
+    match (a, b) {
+        (Some(Item::Route(a)), Some(Item::Route(b))) => a.is_same(b),
+        (Some(Item::Discard), Some(Item::Discard)) | (None, None) => true,
+        _ => false,
+    }
+}
+
+// The networks of the items.
+fn networks_of(alloc: Global, items: &[(Prefix, Option<Item>)]) -> Result<Vec<Prefix>, Memory>
+    ensures { IfOk result (λ networks. networks.items ≡ keys_of items.now) }
+{
+    let mut networks = Vec::with_capacity(alloc, items.len())?;
+    for (network, _) in items {
+        networks.push(*network)?;
+    }
+    Ok(networks)
 }

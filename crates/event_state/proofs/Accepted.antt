@@ -1,6 +1,6 @@
 -- What is known of an event that no test refuses.
 use Rattle.std.proofs.Common.{◌≡◌, Bool, true, false, List, [], ◌∷◌, Option, Some, None, refl, sym, ap, ◌∙◌}
-use Rattle.std.specs.Prelude.{not, is_none, option_map, option_and_then, if◌then◌else◌}
+use Rattle.std.specs.Prelude.{is_none, option_map, option_and_then, if◌then◌else◌}
 use Rattle.std.specs.FinMap.{get, empty}
 use Rattle.std.proofs.Common.{get_or, drop, ℕ}
 use Rattle.ospf_types.specs.FirstOf.{first_of}
@@ -14,7 +14,7 @@ use Rattle.event_state.specs.declared.event.Event.{Event}
 use Rattle.event_state.specs.declared.event.Event.TheVariants as event
 use Rattle.event_state.specs.declared.refusal.Refusal.TheVariants as refusal
 use Rattle.event_state.specs.States.{State, place_of}
-use Rattle.event_state.specs.Steps.{IsAccepted, refusal_of, tests_of, lacks_area, is_not_own, is_misplaced, is_not_yet, is_older, is_repeated, has_no_lsa, is_young, is_full, is_full_in, is_of_topology, is_out_of_scope, held_at, limit_of, is_below_max_age}
+use Rattle.event_state.specs.Steps.{IsAccepted, refusal_of, tests_of, lacks_area, is_not_own, is_misplaced, is_older, is_repeated, has_no_lsa, is_young, is_full, is_full_in, held_at, limit_of, is_below_max_age}
 
 passed : {X : Type 0} (test : Bool) (x : X) (rest : List (Bool × X)) → first_of ((test, x) ∷ rest) ≡ None → (test ≡ false) × (first_of rest ≡ None)
 passed true x rest e = absurd cc
@@ -24,18 +24,13 @@ pub accepted : (s : State) (e : Event) → refusal_of s e ≡ None → IsAccepte
 accepted s e none =
     let area = passed (lacks_area s e) refusal.NoArea (drop 1 (tests_of s e)) none in
     let scope = passed (is_misplaced e) refusal.Scope (drop 2 (tests_of s e)) area.1 in
-    let known = passed (is_not_yet e) refusal.NotYet (drop 3 (tests_of s e)) scope.1 in
-    let older = passed (is_older s e) refusal.Older (drop 4 (tests_of s e)) known.1 in
-    let repeated = passed (is_repeated s e) refusal.Same (drop 5 (tests_of s e)) older.1 in
-    let there = passed (has_no_lsa s e) refusal.NoLsa (drop 6 (tests_of s e)) repeated.1 in
-    let own = passed (is_not_own s e) refusal.NotOwn (drop 7 (tests_of s e)) there.1 in
-    let young = passed (is_young s e) refusal.NotMaxAge (drop 8 (tests_of s e)) own.1 in
-    let full = passed (is_full s e) refusal.Full (drop 9 (tests_of s e)) young.1 in
-    record { placed = scope.0; known = known.0; newer = older.0; differs = repeated.0; there = there.0; aged = young.0; room = full.0 }
-
-known_body : (b : Bool) → not b ≡ false → b ≡ true
-known_body true e = refl
-known_body false e = absurd cc
+    let older = passed (is_older s e) refusal.Older (drop 3 (tests_of s e)) scope.1 in
+    let repeated = passed (is_repeated s e) refusal.Same (drop 4 (tests_of s e)) older.1 in
+    let there = passed (has_no_lsa s e) refusal.NoLsa (drop 5 (tests_of s e)) repeated.1 in
+    let own = passed (is_not_own s e) refusal.NotOwn (drop 6 (tests_of s e)) there.1 in
+    let young = passed (is_young s e) refusal.NotMaxAge (drop 7 (tests_of s e)) own.1 in
+    let full = passed (is_full s e) refusal.Full (drop 8 (tests_of s e)) young.1 in
+    record { placed = scope.0; newer = older.0; differs = repeated.0; there = there.0; aged = young.0; room = full.0 }
 
 none_of_three : (a b c : Bool) → a ≡ false → b ≡ false → c ≡ false → first_of ((a, install.Older) ∷ (b, install.Same) ∷ (c, install.Full) ∷ []) ≡ None
 none_of_three true b c e f g = absurd cc
@@ -66,7 +61,3 @@ module _ (s : State) (at : Scope) (k : ℕ) (place : place_of s.config.areas at 
   -- what is purged is at MaxAge
   pub purge_allowed : (key : Key) → IsAccepted s (event.Purge at key) → purge_refusal_of (get here key) ≡ None
   purge_allowed key a = old_enough (get here key) (sym (ap is_none (held_is key)) ∙ a.there) (sym (ap is_below_max_age (held_is key)) ∙ a.aged)
-
--- an LSA whose install is taken is one of its scope, with a calculation
-pub install_placed : (s : State) (at : Scope) (lsa : Lsa) → IsAccepted s (event.Install at lsa) → (is_out_of_scope at lsa.header.kind ≡ false) × (is_of_topology lsa.body ≡ true)
-install_placed s at lsa a = (a.placed, known_body _ a.known)

@@ -27,7 +27,7 @@ use Rattle.event_state.specs.declared.limits.Limits.{Limits}
 use Rattle.event_state.specs.Changes.{lsas_in, limits_in, empty_values, aged_value}
 use Rattle.event_state.specs.States.{AreApart, place_of}
 use Rattle.event_state.specs.Held.{IsHeld, IsFit, AreFit, AreLimited}
-use Rattle.event_state.specs.Steps.{is_of_topology, is_out_of_scope}
+use Rattle.event_state.specs.Steps.{is_out_of_scope}
 use Rattle.ospf_types.proofs.Maps.{entries-from_entries}
 use Rattle.event_state.proofs.Places.{place_within, places_apart, area_at}
 use Rattle.event_state.proofs.OneChange.{mapped_at}
@@ -43,17 +43,15 @@ pub record IsWelcome (at : Scope) (k : Key) (l : Lsa) : Type 0 where
   pub own : k ≡ key_of l
   pub legal : IsLegal l
   pub placed : is_out_of_scope at l.header.kind ≡ false
-  pub topology : is_of_topology l.body ≡ true
 
 pub welcome : (at : Scope) (d : Database) → IsFit at d → (k : Key) (l : Lsa) → get d k ≡ Some l → IsWelcome at k l
-welcome at d fit k l e = record { own = fit.sound.under_own_key k l e; legal = fit.sound.legal k l e; placed = fit.placed k l e; topology = fit.topology k l e }
+welcome at d fit k l e = record { own = fit.sound.under_own_key k l e; legal = fit.sound.legal k l e; placed = fit.placed k l e }
 
 -- a database is fit where each of its LSAs is welcome
 fit_of : (at : Scope) (d : Database) → ((k : Key) (l : Lsa) → get d k ≡ Some l → IsWelcome at k l) → IsFit at d
 fit_of at d all = record {
   sound = record { under_own_key = λ k l e. (all k l e).own; legal = λ k l e. (all k l e).legal };
   placed = λ k l e. (all k l e).placed;
-  topology = λ k l e. (all k l e).topology;
 }
 
 pub fit_empty : (at : Scope) → IsFit at empty
@@ -72,7 +70,7 @@ fit_insert at d key l fit new = fit_of at (insert d key l) (λ k m e. inserted a
 
 -- an LSA is welcome at any age that an LSA may have
 later_welcome : (at : Scope) (k : Key) (l : Lsa) (age : ℕ) → age ≤ MaxAge → IsWelcome at k l → IsWelcome at k (with_age l age)
-later_welcome at k l age le w = record { own = w.own; legal = IsLegal-with_age l age w.legal le; placed = w.placed; topology = w.topology }
+later_welcome at k l age le w = record { own = w.own; legal = IsLegal-with_age l age w.legal le; placed = w.placed }
 
 pub fit_aged_out : (at : Scope) (d : Database) (key : Key) → IsFit at d → IsFit at (aged_out d key)
 fit_aged_out at d key fit =

@@ -1,7 +1,6 @@
 pub mod Sorted
 pub mod Aging
 pub mod InPlace
-pub mod Topology
 pub mod Places
 pub mod OneChange
 pub mod HeldStates

@@ -1,5 +1,5 @@
 -- What holds of the databases of every state.
-use Rattle.std.specs.Prelude.{ℕ, ◌+◌, ◌≡◌, List, length, slice_index_or, true, false, Some}
+use Rattle.std.specs.Prelude.{ℕ, ◌+◌, ◌≡◌, List, length, slice_index_or, false, Some}
 use Rattle.std.specs.FinMap.{get, empty}
 use Rattle.ospf_types.specs.declared.config.AreaConfig.{AreaConfig}
 use Rattle.ospf_types.specs.declared.config.Config.{Config}
@@ -11,13 +11,12 @@ use Rattle.lsdb.specs.Contents.{IsSound}
 use Rattle.event_state.specs.declared.limits.Limits.{Limits}
 use Rattle.event_state.specs.Changes.{lsas_in, limits_in}
 use Rattle.event_state.specs.States.{AreApart, place_of}
-use Rattle.event_state.specs.Steps.{is_of_topology, is_out_of_scope, limit_of}
+use Rattle.event_state.specs.Steps.{is_out_of_scope, limit_of}
 
--- a scope's database: each LSA under its own key, in the grammar, in its scope, and one that a calculation stands for
+-- a scope's database: each LSA under its own key, in the grammar and in its scope
 pub record IsFit (at : Scope) (d : Database) : Type 0 where
   pub sound : IsSound d
   pub placed : (k : Key) (l : Lsa) → get d k ≡ Some l → is_out_of_scope at l.header.kind ≡ false
-  pub topology : (k : Key) (l : Lsa) → get d k ≡ Some l → is_of_topology l.body ≡ true
 
 -- no two areas have one Area ID, and there is one database for each, and one for the AS
 pub record AreFit (areas : List AreaConfig) (databases : List Database) : Type 0 where

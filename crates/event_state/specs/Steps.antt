@@ -1,5 +1,5 @@
 -- One event: the first refusal that holds, or what it does to the state; and runs of events (RFC 2328, 13.2 and 14).
-use Rattle.std.specs.Prelude.{ℕ, ◌==◌, ◌&&◌, ◌≡◌, not, Bool, true, false, nat_le, nat_lt, List, [], ◌∷◌, ◌++◌, map, length, Option, Some, None, is_none, option_and_then}
+use Rattle.std.specs.Prelude.{ℕ, ◌==◌, ◌&&◌, ◌≡◌, not, Bool, false, nat_le, nat_lt, List, [], ◌∷◌, ◌++◌, map, length, Option, Some, None, is_none, option_and_then}
 use Rattle.std.specs.List.{list_any}
 use Rattle.std.specs.FinMap.{entries, get, insert, remove, empty}
 use Rattle.ospf_types.specs.FirstOf.{first_of}
@@ -9,7 +9,7 @@ use Rattle.ospf_types.specs.declared.config.Interface.{Interface}
 use Rattle.ospf_types.specs.declared.key.Key.{Key}
 use Rattle.ospf_types.specs.declared.key.Scope.{Scope}
 use Rattle.ospf_types.specs.declared.key.Scope.TheVariants as scope
-use Rattle.ospf_types.specs.Lsa.{Lsa, Body, RouterLinks, NetworkLinks, NetworkSummary, BoundarySummary, AsExternal, MaxAge, key_of}
+use Rattle.ospf_types.specs.Lsa.{Lsa, MaxAge, key_of}
 use Rattle.lsdb.specs.Databases.{Database, all_aged, aged_out, is_older_than, is_same_as, is_full_for}
 use Rattle.event_state.specs.declared.event.Event.{Event}
 use Rattle.event_state.specs.declared.event.Event.TheVariants as event
@@ -40,22 +40,6 @@ is_misplaced (event.Flush at key) = is_out_of_scope at key.kind
 is_misplaced (event.Purge at key) = is_out_of_scope at key.kind
 is_misplaced (event.Interface id area address peer up) = false
 is_misplaced event.Second = false
-
--- a router-LSA or a network-LSA, of which the graph of an area is made (RFC 2328, 2.1)
-abbrev pub is_of_topology : Body → Bool
-is_of_topology (RouterLinks flags links) = true
-is_of_topology (NetworkLinks mask routers) = true
-is_of_topology (NetworkSummary mask metric tos) = false
-is_of_topology (BoundarySummary metric tos) = false
-is_of_topology (AsExternal mask first more) = false
-
--- no calculation stands yet for this LSA
-abbrev pub is_not_yet : Event → Bool
-is_not_yet (event.Install at lsa) = not (is_of_topology lsa.body)
-is_not_yet (event.Flush at key) = false
-is_not_yet (event.Purge at key) = false
-is_not_yet (event.Interface id area address peer up) = false
-is_not_yet event.Second = false
 
 -- the instance that the database of the scope has under the key
 abbrev pub held_at : State → Scope → Key → Option Lsa
@@ -148,7 +132,6 @@ abbrev pub tests_of : State → Event → List (Bool × Refusal)
 tests_of s e =
     (lacks_area s e, refusal.NoArea)
     ∷ (is_misplaced e, refusal.Scope)
-    ∷ (is_not_yet e, refusal.NotYet)
     ∷ (is_older s e, refusal.Older)
     ∷ (is_repeated s e, refusal.Same)
     ∷ (has_no_lsa s e, refusal.NoLsa)
@@ -166,7 +149,6 @@ refusal_of s e = first_of (tests_of s e)
 -- what is known of an event that is taken, whatever the journal
 pub record IsAccepted (s : State) (e : Event) : Type 0 where
   pub placed : is_misplaced e ≡ false
-  pub known : is_not_yet e ≡ false
   pub newer : is_older s e ≡ false
   pub differs : is_repeated s e ≡ false
   pub there : has_no_lsa s e ≡ false

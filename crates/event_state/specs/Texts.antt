@@ -6,7 +6,6 @@ use Rattle.event_state.specs.declared.refusal.Refusal.TheVariants as refusal
 abbrev pub refusal_text : Refusal → List ℕ
 refusal_text refusal.NoArea = codes "20 NoArea"
 refusal_text refusal.Scope = codes "21 Scope"
-refusal_text refusal.NotYet = codes "33 NotYet"
 refusal_text refusal.Older = codes "22 Older"
 refusal_text refusal.Same = codes "23 Same"
 refusal_text refusal.NoLsa = codes "24 NoLsa"

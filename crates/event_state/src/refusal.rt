@@ -14,8 +14,6 @@ pub enum Refusal {
     NoArea,
     /// An AS-external-LSA's key for an area, or another one's for the AS.
     Scope,
-    /// No calculation stands yet for this LSA.
-    NotYet,
     /// The database's instance is newer (RFC 2328, 13.1).
     Older,
     /// The database has the same instance.
@@ -58,7 +56,6 @@ impl fmt::Display for Refusal {
         f.write_str(match self {
             Refusal::NoArea => "20 NoArea",
             Refusal::Scope => "21 Scope",
-            Refusal::NotYet => "33 NotYet",
             Refusal::Older => "22 Older",
             Refusal::Same => "23 Same",
             Refusal::NoLsa => "24 NoLsa",

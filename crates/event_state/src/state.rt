@@ -3,7 +3,7 @@ ghost use Rattle.std.specs.List.{list_any};
 ghost use Rattle.std.specs.FinMap as map;
 ghost use Rattle.event_state.specs.States.{AreApart, LooksAlike, place_of, database_of};
 ghost use Rattle.event_state.specs.Changes.{empty_values};
-ghost use Rattle.event_state.specs.Steps.{changed_by, with_interface, refusal_of, IsAccepted, step, opening, is_of_topology, is_out_of_scope, has_address, limit_of, standard_limits};
+ghost use Rattle.event_state.specs.Steps.{changed_by, with_interface, refusal_of, IsAccepted, step, opening, is_out_of_scope, has_address, limit_of, standard_limits};
 ghost use Rattle.event_state.specs.Held.{AreFit};
 ghost use Rattle.event_state.specs.Refusals.{IsRefusalOf};
 
@@ -16,7 +16,7 @@ use lsa_codec::Checked;
 use lsdb::Database;
 use ospf_types::config::{AreaConfig, Config, Interface};
 use ospf_types::key::{Key, Scope};
-use ospf_types::lsa::{AS_EXTERNAL_LSA, MAX_AGE, NETWORK_LSA, ROUTER_LSA};
+use ospf_types::lsa::{AS_EXTERNAL_LSA, MAX_AGE};
 use ospf_types::memory::Memory;
 use std::alloc::Global;
 use std::collections::{BTreeMap, btree_map};
@@ -162,9 +162,6 @@ impl State {
         };
         if is_out_of_scope(scope, lsa.key().kind) {
             return Some(Refusal::Scope);
-        }
-        if !is_of_topology(lsa) {
-            return Some(Refusal::NotYet);
         }
         match database.install_refusal(lsa) {
             Some(refusal) => Some(Refusal::of_install(refusal)),
@@ -400,12 +397,4 @@ fn is_out_of_scope(scope: Scope, kind: u8) -> bool
         Scope::Area(_) => kind == AS_EXTERNAL_LSA,
         Scope::As => kind != AS_EXTERNAL_LSA,
     }
-}
-
-// Whether the graph of an area is made of such LSAs: router-LSAs and network-LSAs.
-fn is_of_topology(lsa: &Checked) -> bool
-    ensures { result ≡ is_of_topology lsa.now.body }
-{
-    let kind = lsa.key().kind;
-    kind == ROUTER_LSA || kind == NETWORK_LSA
 }

@@ -61,6 +61,14 @@ fn install(alloc: Global, lsa: &[u8], router: u32, age: u16, instance: u8) -> Re
     Ok(Event::Install { scope, lsa })
 }
 
+// The same event in another scope.
+fn moved(event: Event, scope: Scope) -> Event {
+    match event {
+        Event::Install { lsa, .. } => Event::Install { scope, lsa },
+        other => other,
+    }
+}
+
 fn key(kind: u8, id: u32) -> Key {
     let router = id;
     Key { kind, id, router }
@@ -141,13 +149,11 @@ fn nearly_full(rt: &HostRuntime) -> Result<State, Fail> {
 fn a_refused_lsa_leaves_all_as_it_was(rt: HostRuntime) -> Result<(), Fail> {
     let mut state = nearly_full(&rt)?;
     let external = install(rt.alloc(), &EXTERNAL, OTHER, 7, 1)?;
-    let summary = install(rt.alloc(), &SUMMARY, ROOT, 7, 3)?;
     let older = install(rt.alloc(), &STUB, ROOT, 7, 1)?;
     let same = install(rt.alloc(), &STUB, ROOT, 8, 2)?;
     let third = install(rt.alloc(), &STUB, 7, 7, 1)?;
     assert!(rt;
         refuses(&mut state, external, Refusal::Scope)
-            && refuses(&mut state, summary, Refusal::NotYet)
             && refuses(&mut state, older, Refusal::Older)
             && refuses(&mut state, same, Refusal::Same)
             && refuses(&mut state, third, Refusal::Full)
@@ -190,27 +196,21 @@ fn takes_events_in_turn(rt: HostRuntime) -> Result<(), Fail> {
     let mut taken = 0u64;
     let mut in_turn = true;
     for n in 1..51u8 {
-        let bytes = match n % 3 {
-            0 => STUB.as_slice(),
-            1 => LINK.as_slice(),
-            _ => NETWORK.as_slice(),
+        let (scope, bytes) = match n % 5 {
+            0 => (BACKBONE, STUB.as_slice()),
+            1 => (BACKBONE, LINK.as_slice()),
+            2 => (BACKBONE, NETWORK.as_slice()),
+            3 => (BACKBONE, SUMMARY.as_slice()),
+            _ => (Scope::As, EXTERNAL.as_slice()),
         };
-        let lsa = install(rt.alloc(), bytes, n as u32, 7, 1)?;
+        let lsa = moved(install(rt.alloc(), bytes, n as u32, 7, 1)?, scope);
         for event in [lsa, up(n, 0, n as u32), Event::Second] {
             taken = taken.wrapping_add(1);
             in_turn &= state.step(event)? == (taken, taken % 3 != 0);
         }
     }
-    assert!(rt; in_turn && sizes(&state) == (150, 50, 50));
+    assert!(rt; in_turn && sizes(&state) == (150, 40, 50));
     Ok(())
-}
-
-// The same event in another scope.
-fn moved(event: Event, scope: Scope) -> Event {
-    match event {
-        Event::Install { lsa, .. } => Event::Install { scope, lsa },
-        other => other,
-    }
 }
 
 #[test]

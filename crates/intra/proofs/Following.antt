@@ -24,14 +24,7 @@ use Rattle.intra.specs.Intras.{AreaIntraValue}
 use Rattle.intra.specs.Reached.{ReachedValue}
 use Rattle.intra.specs.Following.{LsasDifferAmong, NamesVertex, NamesIn, IsCurrent, IsTaken, HasOffered, IsGathered, IsRenewed, router_now}
 use Rattle.ospf_types.proofs.VertexOrder.{vertex_total, vertex_exact}
-
--- a key is this one, or another
-pub one_or_other : {K : Type 0} {cmp : K → K → Ordering} → IsTotalOrder cmp → IsAntisymmetric cmp → (k q : K) → (q ≡ k) ⊎ (q ≢ k)
-one_or_other {K = K} {cmp = cmp} total exact k q =
-    elim (eq_by_cmp cmp q k) as (λ b. eq_by_cmp cmp q k ≡ b → (q ≡ k) ⊎ (q ≢ k)) [
-      | true ↦ λ tied. inl (tells_apart exact q k tied)
-      | false ↦ λ apart. inr (λ e. true≢false (sym (subst (λ (z : K). eq_by_cmp cmp q z ≡ true) e ((eq_by_cmp_equiv total).refl q)) ∙ apart))
-    ] refl
+pub use Rattle.result_map.proofs.KeyedMaps.{one_or_other}
 
 -- ---- the index follows
 

@@ -16,8 +16,8 @@ use Rattle.intra.specs.declared.offered.Offer.{Offer}
 use Rattle.intra.specs.Indexes.{IndexValue, OfferedValue, SourcesByPrefix, IsIndex, IsSource, AreTouched, sources_of, offers_of}
 use Rattle.intra.specs.IndexSteps.{AreGone, HaveCome, IsPrefixOf, IsOfferOf, AreNamed}
 use Rattle.ospf_types.proofs.VertexOrder.{vertices_equal, vertices_decided, vertex_total, vertex_exact}
-use Rattle.intra.proofs.KeyOrders.{prefixes_equal, prefixes_decided}
-use Rattle.intra.proofs.KeyedMaps.{set_here, set_elsewhere, gone_here, gone_elsewhere}
+use Rattle.ospf_types.proofs.KeyOrders.{prefixes_equal, prefixes_decided}
+use Rattle.result_map.proofs.KeyedMaps.{set_here, set_elsewhere, gone_here, gone_elsewhere}
 
 abbrev source_of : Vertex → ℕ → Source
 source_of w metric = record { vertex = w; metric = metric }

@@ -4,8 +4,6 @@ pub mod Choosing
 pub mod Taking
 pub mod Sourced
 pub mod Nearest
-pub mod KeyedMaps
-pub mod KeyOrders
 pub mod SourceMaps
 pub mod StubOffers
 pub mod OfferTests

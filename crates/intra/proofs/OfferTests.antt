@@ -3,7 +3,7 @@ use Rattle.std.proofs.Common.{◌≡◌, ◌&&◌, Decides, nat_eq, ap}
 use Rattle.std.proofs.lemmas.Bool.Decides.{Decides-and, Decides-eqb, Decides-like}
 use Rattle.intra.specs.declared.offered.Offer.{Offer}
 use Rattle.intra.specs.contracts.offered.OfferPartialEq.TheImpl as offer_equality
-use Rattle.intra.proofs.KeyOrders.{prefixes_equal, prefixes_decided}
+use Rattle.ospf_types.proofs.KeyOrders.{prefixes_equal, prefixes_decided}
 
 pub offers_decided : (a b : Offer) → Decides ((offer_equality.eq-value).it a b) (a ≡ b)
 offers_decided a b =

@@ -18,7 +18,7 @@ use Rattle.ospf_types.specs.Network.{network_cmp}
 use Rattle.ospf_types.proofs.Elements.{no_element, first_element, later_element, first_or_later}
 use Rattle.ospf_types.proofs.Orders.{network_total, network_exact}
 use Rattle.spf.proofs.OfSome.{contains_more}
-use Rattle.intra.specs.Changes.{dest_cmp}
+use Rattle.ospf_types.specs.Keys.{dest_cmp}
 use Rattle.intra.specs.Inputs.{InputsValue}
 use Rattle.ospf_types.specs.declared.entry.Entry.{Entry}
 use Rattle.intra.specs.Indexes.{IndexedOffers}

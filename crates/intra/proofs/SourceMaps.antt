@@ -7,8 +7,8 @@ use Rattle.ospf_types.specs.Network.{Network}
 use Rattle.ospf_types.proofs.Orders.{network_total, network_exact}
 use Rattle.intra.specs.declared.area_index.Source.{Source}
 use Rattle.intra.specs.Indexes.{SourcesByPrefix, sources_of}
-use Rattle.intra.proofs.KeyOrders.{prefixes_equal, prefixes_order}
-use Rattle.intra.proofs.KeyedMaps.{view_of, looked_up_viewed, inserted_viewed, removed_viewed}
+use Rattle.ospf_types.proofs.KeyOrders.{prefixes_equal, prefixes_order}
+use Rattle.result_map.proofs.KeyedMaps.{view_of, looked_up_viewed, inserted_viewed, removed_viewed}
 
 -- the list in a Vec, none where there is no Vec
 abbrev pub items_of : Vec Source Global → List Source

@@ -1,9 +1,6 @@
 -- What differs in the inputs, what is named of it, and the destinations whose result differs.
 use Rattle.std.specs.Prelude.{ℕ, ◌≡◌, ◌≢◌, ◌⊎◌, ◌↔◌, List, [], ◌∷◌, Contains, None}
 use Rattle.std.specs.FinMap.{get}
-use Rattle.std.specs.Ordering.{nat_cmp}
-use Rattle.std.specs.declared.cmp.Ordering.{Ordering}
-use Rattle.std.specs.declared.cmp.Ordering.TheVariants.{Less, Greater}
 use Rattle.ospf_types.specs.declared.config.Interface.{Interface}
 use Rattle.ospf_types.specs.declared.entry.Vertex.{Vertex}
 use Rattle.ospf_types.specs.declared.key.Dest.{Dest}
@@ -11,7 +8,6 @@ use Rattle.ospf_types.specs.declared.key.Dest.TheVariants.{Net, Router}
 use Rattle.ospf_types.specs.declared.key.Key.{Key}
 use Rattle.ospf_types.specs.declared.key.Scope.{Scope}
 use Rattle.ospf_types.specs.declared.key.Scope.TheVariants.{Area}
-use Rattle.ospf_types.specs.Network.{network_cmp}
 use Rattle.area_trees.specs.Areas.{body_at, IsStanding}
 use Rattle.intra.specs.Inputs.{AreaValue, InputsValue, distance_at, hops_at}
 use Rattle.intra.specs.Intras.{AreaIntraValue, IntraValue}
@@ -33,13 +29,6 @@ pub record InputsDifferAmong (keys : List (Scope × Key)) (vertices : List (ℕ 
   pub root : new.root ≡ old.root
   pub areas : AreasDifferAmong keys vertices old.areas new.areas
   pub interfaces : (id : ℕ) (i : Interface) → (Contains ids id → ⊥) → Contains new.interfaces (id, i) ↔ Contains old.interfaces (id, i)
-
--- networks first, each kind in its order
-abbrev pub dest_cmp : Dest → Dest → Ordering
-dest_cmp (Net p) (Net q) = network_cmp p q
-dest_cmp (Net p) (Router s) = Less
-dest_cmp (Router r) (Net q) = Greater
-dest_cmp (Router r) (Router s) = nat_cmp r s
 
 -- in some area something else is kept of the router
 abbrev pub HasOtherRouter : List AreaIntraValue → List AreaIntraValue → ℕ → Type 0

@@ -1,5 +1,5 @@
 -- Intra-area routes as their callers see them.
-use Rattle.std.specs.Prelude.{ℕ, ◌==◌, ◌≡◌, ◌≢◌, ◌⊎◌, ◌↔◌, Bool, false, List, [], ◌∷◌, Contains, Option, Some, None, if◌then◌else◌}
+use Rattle.std.specs.Prelude.{ℕ, ◌==◌, ◌≡◌, ◌≢◌, ◌⊎◌, ◌↔◌, Bool, false, List, [], ◌∷◌, Contains, Option, Some, None, IsSome, if◌then◌else◌}
 use Rattle.std.specs.FinMap.{FinMap, get}
 use Rattle.std.specs.List.Sorted.{IsStrictlySortedBy}
 use Rattle.ospf_types.specs.declared.entry.Entry.{Entry}
@@ -15,6 +15,10 @@ use Rattle.intra.specs.Indexes.{IndexValue, IsIndexOf}
 use Rattle.intra.specs.Inputs.{AreaValue, InputsValue}
 use Rattle.intra.specs.Offers.{OffersOf}
 use Rattle.intra.specs.Reached.{ReachedByRouter, ReachedValue, IsReachedOf}
+
+-- the cost of an intra-area entry is below this, 2^31 - 2^24: with a metric of 24 bits it stays below 2^31
+abbrev pub most_cost : ℕ
+most_cost = 2130706432
 
 abbrev pub EntriesByPrefix : Type 0
 EntriesByPrefix = FinMap network_cmp Entry
@@ -38,6 +42,10 @@ reached_at (a ∷ areas) area router = if a.id == area then get a.reached router
 abbrev pub IsEntryFor : (AreaCost → Path → Type 0) → Option Entry → Type 0
 IsEntryFor offers None = NoOffer offers
 IsEntryFor offers (Some e) = (key : AreaCost) × IsBest area_cost_cmp offers key e.paths × IsStrictlySortedBy path_cmp e.paths × (e ≡ entry_of Intra (Some key.1) key.0 0 e.paths)
+
+-- something is kept of the router in one of the areas
+abbrev pub IsKeptIn : List AreaIntraValue → ℕ → Type 0
+IsKeptIn areas router = (a : AreaIntraValue) × Contains areas a × IsSome (get a.reached router)
 
 -- what is kept of an area is that of its database and its tree
 pub record IsAreaIntra (root : ℕ) (a : AreaValue) (i : AreaIntraValue) : Type 0 where

@@ -1,5 +1,5 @@
 //! What is kept of an area: the index of its LSAs, and the routers that are reached in it.
-ghost use Rattle.std.specs.Prelude.{◌≡◌, ◌≢◌, ℕ, List, Contains, OnOk, IfOk, IfSome, IfNone, option_copied, option_map};
+ghost use Rattle.std.specs.Prelude.{◌≡◌, ◌≢◌, ◌↔◌, ◌⊎◌, ℕ, List, Contains, OnOk, IfOk, IfSome, IfNone, IsSome, option_copied, option_map};
 ghost use Rattle.std.specs.FinMap as map;
 ghost use Rattle.ospf_types.specs.declared.entry.Vertex.{Vertex as VertexValue};
 ghost use Rattle.ospf_types.specs.declared.entry.Vertex.TheVariants as vertex_value;
@@ -86,6 +86,14 @@ impl AreaIntra {
         ensures { option_copied result ≡ map.get self.now.reached router }
     {
         self.reached.get(&router)
+    }
+
+    /// Adds the routers of which something is kept.
+    pub(crate) fn push_routers(&self, routers: &mut Vec<u32>) -> Result<(), Memory>
+        ensures { OnOk result ((router : ℕ) → Contains routers.new.items router ↔ (Contains routers.old.items router ⊎ IsSome (map.get self.now.reached router))) }
+    {
+        routers.extend_from_slice(self.reached.keys().as_slice())?;
+        Ok(())
     }
 }
 

@@ -1,11 +1,12 @@
 //! The choice of a route: offers at keys come one at a time, and the least key stays, with all that
 //! was offered at it (RFC 2328, 16.1 to 16.4).
-ghost use Rattle.std.specs.Prelude.{◌≡◌, ◌∷◌, [], None, OnOk, OnErr, IfOk};
+ghost use Rattle.std.specs.Prelude.{◌≡◌, ◌<◌, ◌∷◌, [], None, OnOk, OnErr, IfOk};
 ghost use Rattle.std.specs.List.Sorted.{IsStrictlySortedBy};
 ghost use Rattle.intra.specs.Choices.{HasAlso};
+ghost use Rattle.intra.specs.Intras.{most_cost};
 ghost use Rattle.intra.specs.Takes.{Takes, OnlyOffer};
 
-use ospf_types::hop::Path;
+use ospf_types::hop::{NextHop, Path};
 use ospf_types::memory::Memory;
 use std::alloc::Global;
 use std::cmp::{Ordering, Reverse};
@@ -24,6 +25,17 @@ impl ExactOrd for Path {
     ghost exact = { path_order_exact };
 }
 
+impl ExactOrd for NextHop {
+    ghost use Rattle.std.proofs.Common.{sym, subst};
+    ghost use Rattle.std.specs.declared.cmp.Ordering.{Ordering};
+    ghost use Rattle.std.specs.FinMap.{IsAntisymmetric};
+    ghost use Rattle.ospf_types.specs.declared.hop.NextHop.{NextHop as HopValue};
+    ghost use Rattle.ospf_types.proofs.Orders.{hop_exact};
+    ghost use Rattle.ospf_types.proofs.Paths.{hop_cmp_is};
+
+    ghost exact = { subst (λ (R : HopValue → HopValue → Ordering). IsAntisymmetric R) (sym hop_cmp_is) hop_exact };
+}
+
 impl ExactOrd for u32 {
     ghost use Rattle.std.proofs.lemmas.Map.Lookups.{exact_unsigned};
 
@@ -39,11 +51,15 @@ pub struct AreaCost {
 }
 
 impl Model for AreaCost {
+    ghost use Rattle.std.specs.Prelude.{◌<◌};
     ghost use Rattle.ospf_types.specs.Intra.{AreaCost as CostInArea};
+    ghost use Rattle.intra.specs.Intras.{most_cost};
 
     ghost Value = { CostInArea };
 
     ghost view = { λ k. (k.cost, k.area.0) };
+
+    ghost invariant = { λ k. k.cost < most_cost };
 
     ghost inverse = { λ k. record { cost = k.0; area = record { 0 = k.1 } } };
 }
@@ -56,6 +72,7 @@ impl ExactOrd for AreaCost {
 
 impl AreaCost {
     pub fn new(cost: u32, area: u32) -> AreaCost
+        requires { cost < most_cost }
         ensures { result ≡ (cost, area) }
     {
         AreaCost {
@@ -66,7 +83,8 @@ impl AreaCost {
 
     /// The cost, a metric.
     pub fn cost(self) -> u32
-        ensures { result ≡ self.0 }
+        ensures value { result ≡ self.0 }
+        ensures bounded { result < most_cost }
     {
         self.cost
     }

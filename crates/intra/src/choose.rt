@@ -10,7 +10,7 @@ ghost use Rattle.intra.specs.declared.area_index.Source.{Source as SourceValue};
 ghost use Rattle.intra.specs.Inputs.{distance_at, hops_at};
 ghost use Rattle.intra.specs.Takes.{OnlyOffer, OfferedBySome};
 ghost use Rattle.intra.specs.Indexes.{IndexedOffers, IsSource};
-ghost use Rattle.intra.specs.Intras.{IsEntryFor};
+ghost use Rattle.intra.specs.Intras.{IsEntryFor, most_cost};
 ghost use Rattle.intra.specs.Offers.{KeyedOffers};
 ghost use Rattle.intra.specs.Choosing.{TakesPaths, AmongSources, ThisSource, KeyedStubs, KeyedTransit, HopsOffer, InterfaceOffers, IsOver, FindsNearest, IsNoFarther};
 
@@ -32,7 +32,8 @@ pub(crate) fn choose(
     areas: &[AreaIntra],
     prefix: Prefix,
 ) -> Result<Option<Entry>, Memory>
-    ensures { IfOk result (IsEntryFor (IndexedOffers inputs.now (list_map (λ a. a.index) areas.now) inputs.now.areas prefix)) }
+    ensures exact { IfOk result (IsEntryFor (IndexedOffers inputs.now (list_map (λ a. a.index) areas.now) inputs.now.areas prefix)) }
+    ensures bounded { IfOk result (λ entry. IfSome entry (λ e. e.cost < most_cost)) }
 {
     let mut best = Best::new(alloc);
     offer_areas(&mut best, inputs, areas, prefix)?;
@@ -45,7 +46,8 @@ pub(crate) fn choose(
 // The intra-area entry of a choice.
 fn entry(choice: Choice<AreaCost, Path>) -> Entry
     requires { IsStrictlySortedBy path_cmp choice.items }
-    ensures { result ≡ entry_of PathType.Intra (Some choice.key.1) choice.key.0 0 choice.items }
+    ensures value { result ≡ entry_of PathType.Intra (Some choice.key.1) choice.key.0 0 choice.items }
+    ensures bounded { result.cost < most_cost }
 {
     let (key, paths) = choice.into_parts();
     Entry {
@@ -220,7 +222,8 @@ fn offer_transit(
 
 // The transit network that stands for the prefix of these sources, and its distance.
 fn nearest(area: &AreaInputs<'_>, sources: &[Source]) -> Option<(u32, u32)>
-    ensures { (p : PrefixValue) → FindsNearest (AmongSources sources.now) area.now p result }
+    ensures found { (p : PrefixValue) → FindsNearest (AmongSources sources.now) area.now p result }
+    ensures bounded { IfSome result (λ n. n.1 < most_distance) }
 {
     let mut nearest = None;
     for source in sources {
@@ -235,7 +238,9 @@ fn nearest_with(
     nearest: Option<(u32, u32)>,
     source: Source,
 ) -> Option<(u32, u32)>
-    ensures { (before : List SourceValue) (p : PrefixValue) → FindsNearest (AmongSources before) area.now p nearest → FindsNearest (AmongSources (before ++ source ∷ [])) area.now p result }
+    requires { IfSome nearest (λ n. n.1 < most_distance) }
+    ensures found { (before : List SourceValue) (p : PrefixValue) → FindsNearest (AmongSources before) area.now p nearest → FindsNearest (AmongSources (before ++ source ∷ [])) area.now p result }
+    ensures bounded { IfSome result (λ n. n.1 < most_distance) }
 {
     if source.metric > 0 {
         return nearest;
@@ -278,6 +283,7 @@ fn hops<'a>(area: &AreaInputs<'a>, vertex: Vertex) -> &'a [NextHop]
 
 // This cost in the area.
 fn cost_in(area: &AreaInputs<'_>, cost: u32) -> AreaCost
+    requires { cost < most_cost }
     ensures { result ≡ (cost, area.now.id) }
 {
     AreaCost::new(cost, area.id)

@@ -1,5 +1,6 @@
-ghost use Rattle.std.specs.Prelude.{◌≡◌, ◌≢◌, ◌↔◌, ◌++◌, ℕ, [], Some, true, false, length, map as list_map, IfOk, OnOk, OnErr, IsSome, Contains, option_copied};
+ghost use Rattle.std.specs.Prelude.{◌≡◌, ◌≢◌, ◌↔◌, ◌<◌, ◌++◌, ℕ, [], Some, true, false, length, map as list_map, IfOk, OnOk, OnErr, IfSome, IsSome, Contains, option_copied};
 ghost use Rattle.std.specs.FinMap as map;
+ghost use Rattle.std.specs.List.{AllPairs};
 ghost use Rattle.std.specs.Ordering.{nat_cmp};
 ghost use Rattle.ospf_types.specs.declared.key.Dest.TheVariants as dest_value;
 ghost use Rattle.ospf_types.specs.declared.key.Key.{Key as KeyValue};
@@ -14,8 +15,9 @@ ghost use Rattle.ospf_types.specs.declared.prefix.Prefix.{Prefix as PrefixValue}
 ghost use Rattle.ospf_types.specs.declared.key.Dest.{Dest as DestValue};
 ghost use Rattle.ospf_types.specs.Inputs.{Inputs as Definitions};
 ghost use Rattle.intra.specs.Inputs.{AreReady, AreaValue, InputsValue};
-ghost use Rattle.intra.specs.Intras.{IsIntraOf, reached_at};
-ghost use Rattle.intra.specs.Changes.{InputsDifferAmong, DiffersAt, dest_cmp};
+ghost use Rattle.intra.specs.Intras.{IsIntraOf, IsKeptIn, most_cost, reached_at};
+ghost use Rattle.intra.specs.Changes.{InputsDifferAmong, DiffersAt};
+ghost use Rattle.ospf_types.specs.Keys.{dest_cmp};
 ghost use Rattle.intra.specs.Right.{AreInputsOf, IsRightFor};
 
 use crate::area::AreaIntra;
@@ -44,6 +46,8 @@ pub struct Intra {
 }
 
 impl Model for Intra {
+    ghost use Rattle.std.specs.Prelude.{◌<◌};
+    ghost use Rattle.std.specs.List.{All};
     ghost use Rattle.std.specs.FinMap as map;
     ghost use Rattle.std.specs.Coded.{Coded, codes, coded_ℕ};
     ghost use Rattle.ospf_types.specs.Network.{network_code};
@@ -51,7 +55,7 @@ impl Model for Intra {
     ghost use Rattle.ospf_types.specs.contracts.entry.Entry as entry;
     ghost use Rattle.intra.specs.Indexes.{OfferedByVertex, SourcesByPrefix};
     ghost use Rattle.intra.specs.Reached.{ReachedByRouter};
-    ghost use Rattle.intra.specs.Intras.{IntraValue, EntriesByPrefix};
+    ghost use Rattle.intra.specs.Intras.{IntraValue, EntriesByPrefix, most_cost};
     ghost use Rattle.intra.specs.contracts.offered.Offer as offer;
     ghost use Rattle.intra.specs.contracts.area_index.Source as source;
 
@@ -64,6 +68,8 @@ impl Model for Intra {
         Prim.hlevel (codes, offered, sources, reached, entries) };
 
     ghost view = { λ i. record { areas = i.areas.items; entries = map.from_entries i.entries.entries; spent = i.spent } };
+
+    ghost invariant = { λ i. All (λ e. e.1.cost < most_cost) i.entries.entries };
 }
 
 impl Intra {
@@ -111,14 +117,16 @@ impl Intra {
 
     /// The entry of a network; none where it is not reached, or where all is spent.
     pub fn get(&self, network: Prefix) -> Option<&Entry>
-        ensures { option_copied result ≡ map.get self.now.entries network }
+        ensures value { option_copied result ≡ map.get self.now.entries network }
+        ensures bounded { IfSome result (λ e. e.now.cost < most_cost) }
     {
         self.entries.get(&network)
     }
 
     /// The networks that have an entry, in no stated order.
     pub fn networks(&self, alloc: Global) -> Result<Vec<Prefix>, Memory>
-        ensures { IfOk result (λ networks. (p : PrefixValue) → Contains networks.items p ↔ IsSome (map.get self.now.entries p)) }
+        ensures exact { IfOk result (λ networks. (p : PrefixValue) → Contains networks.items p ↔ IsSome (map.get self.now.entries p)) }
+        ensures each_once { IfOk result (λ networks. AllPairs (λ p q. p ≢ q) networks.items) }
     {
         let networks = Vec::from_slice(alloc, self.entries.keys().as_slice())?;
         Ok(networks)
@@ -134,6 +142,18 @@ impl Intra {
             }
         }
         None
+    }
+
+    /// The border routers and AS boundary routers that are reached, in no stated order, each as often as there are areas
+    /// where it is.
+    pub fn routers(&self, alloc: Global) -> Result<Vec<u32>, Memory>
+        ensures { IfOk result (λ routers. (router : ℕ) → Contains routers.items router ↔ IsKeptIn self.now.areas router) }
+    {
+        let mut routers = Vec::new(alloc);
+        for kept in &self.areas {
+            kept.push_routers(&mut routers)?;
+        }
+        Ok(routers)
     }
 
     /// Whether an update was refused memory.
@@ -268,6 +288,7 @@ impl Intra {
 
     // This is the entry of the network.
     fn put(&mut self, network: Prefix, fresh: Option<Entry>) -> Result<(), Memory>
+        requires { IfSome fresh (λ e. e.cost < most_cost) }
         ensures areas { OnOk result (self.new.areas ≡ self.old.areas) }
         ensures spent { OnOk result (self.new.spent ≡ self.old.spent) }
         ensures here { OnOk result (map.get self.new.entries network ≡ fresh) }

@@ -1,5 +1,5 @@
 //! Area border routers and AS boundary routers that are reached in an area (RFC 2328, 16.1).
-ghost use Rattle.std.specs.Prelude.{◌≡◌, ◌↔◌, ◌<◌, IfOk, IsTrue, bit_and};
+ghost use Rattle.std.specs.Prelude.{◌≡◌, ◌↔◌, ◌<◌, ◌^◌, IfOk, IfSome, IsTrue, bit_and};
 ghost use Rattle.std.specs.List.Sorted.{IsStrictlySortedBy};
 ghost use Rattle.ospf_types.specs.Hops.{hop_cmp};
 ghost use Rattle.ospf_types.specs.Intra.{B, E};
@@ -26,11 +26,14 @@ pub struct Reached {
 }
 
 impl Model for Reached {
+    ghost use Rattle.std.specs.Prelude.{◌<◌, ◌^◌};
     ghost use Rattle.intra.specs.Reached.{ReachedValue};
 
     ghost Value = { ReachedValue };
 
     ghost view = { λ r. record { flags = r.flags; distance = r.distance; hops = r.hops.items } };
+
+    ghost invariant = { λ r. r.distance < 2 ^ 30 };
 }
 
 impl Reached {
@@ -50,7 +53,8 @@ impl Reached {
 
     /// Its distance, a sum of metrics.
     pub fn distance(&self) -> u32
-        ensures { result ≡ self.now.distance }
+        ensures value { result ≡ self.now.distance }
+        ensures bounded { self.now.distance < 2 ^ 30 }
     {
         self.distance
     }
@@ -85,6 +89,7 @@ pub(crate) fn keep(
     distance: Option<u32>,
     hops: &[NextHop],
 ) -> Result<Option<Reached>, Memory>
+    requires { IfSome distance (λ distance. distance < 2 ^ 30) }
     ensures { IfOk result (λ kept. kept ≡ reached_by root router flags distance hops.now) }
 {
     let (Some(flags), Some(distance)) = (flags, distance) else {

@@ -1,5 +1,5 @@
 -- What is used of a database's LSAs (RFC 2328, 13.2), and what holds of every database.
-use Rattle.std.specs.Prelude.{ℕ, ◌≡◌, ◌≢◌, ◌↔◌, Option, Some, None, IsSome, Contains, nat_lt, count_by, option_and_then, if◌then◌else◌}
+use Rattle.std.specs.Prelude.{ℕ, ◌≡◌, ◌≢◌, ◌↔◌, Option, Some, None, IsSome, Contains, nat_lt, count_by, option_and_then, option_map, if◌then◌else◌}
 use Rattle.std.specs.List.{AllPairs}
 use Rattle.std.specs.FinMap.{get, values}
 use Rattle.ospf_types.specs.declared.key.Key.{Key}
@@ -14,6 +14,10 @@ contents_of l = if nat_lt l.header.age MaxAge then Some (l.header.options, l.bod
 -- Options and body of the LSA under the key, where it is there and used in calculations
 abbrev pub used_at : Database → Key → Option (ℕ × Body)
 used_at d key = option_and_then contents_of (get d key)
+
+-- the body of the LSA under the key, where it is there and used in calculations
+abbrev pub body_at : Database → Key → Option Body
+body_at d key = option_map (λ (used : ℕ × Body). used.1) (used_at d key)
 
 -- what is used of the LSA is what is used of the instance that the database has
 abbrev pub IsUsedAlike : Database → Lsa → Type 0

@@ -9,7 +9,7 @@ ghost use Rattle.ospf_types.specs.Lsa.{key_of};
 ghost use Rattle.lsa_codec.specs.Readers.{with_age};
 ghost use Rattle.lsdb.specs.Databases.{install_refusal_of, IsInstallRefusal, purge_refusal_of, all_aged, aged_out, comes_to_max_age, order_with, ages_of, keys_by, keys_aged};
 ghost use Rattle.lsdb.specs.Columns.{is_key};
-ghost use Rattle.lsdb.specs.Contents.{used_at, IsUsedAlike, IsSound, IsOrder};
+ghost use Rattle.lsdb.specs.Contents.{used_at, body_at, IsUsedAlike, IsSound, IsOrder};
 
 use crate::contents::is_used_otherwise;
 use crate::refusal::{InstallRefusal, NoLsa, PurgeRefusal};
@@ -83,6 +83,15 @@ impl Database {
     {
         let (row, _, lsa) = self.rows.get_full(&key)?;
         Some((lsa, self.ages[row]))
+    }
+
+    /// The LSA under the key, where it is below MaxAge, and so used in calculations.
+    pub fn usable(&self, key: Key) -> Option<&Checked>
+        ensures body { option_map (λ l. l.now.body) result ≡ body_at self.now.lsas key }
+        ensures own { IfSome result (λ l. key_of l.now ≡ key) }
+    {
+        let (lsa, age) = self.get(key)?;
+        if age < MAX_AGE { Some(lsa) } else { None }
     }
 
     /// Why the LSA would not be installed, memory aside.

@@ -9,3 +9,7 @@ pub mod OneBest
 pub mod Maps
 pub mod InOrder
 pub mod VertexOrder
+pub mod KeyOrders
+pub mod Boundary
+pub mod Forwards
+pub mod Examined

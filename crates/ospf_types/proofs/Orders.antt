@@ -1,5 +1,6 @@
--- The orders of networks, keys, scopes, costs in areas, next hops and paths are total, and only equal values tie.
-use Rattle.std.proofs.Common.{◌≡◌, ℕ, Option, Some, None, sym, ap, arith}
+-- The orders of networks, keys, scopes, destinations, costs in areas, next hops and paths are total, and only equal values tie.
+use Rattle.std.proofs.Common.{◌≡◌, ℕ, Option, Some, None, Ordering, refl, sym, ap, subst, arith}
+use Rattle.std.specs.declared.cmp.Ordering.TheVariants.{Less, Equal, Greater}
 use Rattle.std.specs.Ordering.{nat_cmp, ordering_then}
 use Rattle.std.specs.Cmp.{IsTotalOrder, nat_cmp_total}
 use Rattle.std.proofs.lemmas.Cmp.{on_total, then_total, back_total}
@@ -7,12 +8,16 @@ use Rattle.std.proofs.lemmas.Map.Lookups.{CmpEqualImpliesEq, exact_pairs, exact_
 use Rattle.ospf_types.specs.declared.hop.NextHop.{NextHop}
 use Rattle.ospf_types.specs.declared.hop.NextHop.TheVariants.{Direct, Peer, Router}
 use Rattle.ospf_types.specs.declared.hop.Path.{Path}
+use Rattle.ospf_types.specs.declared.key.Dest.{Dest}
+use Rattle.ospf_types.specs.declared.key.Dest.TheVariants as dest_value
 use Rattle.ospf_types.specs.declared.key.Key.{Key}
 use Rattle.ospf_types.specs.declared.key.Scope.{Scope}
 use Rattle.ospf_types.specs.declared.key.Scope.TheVariants.{Area, As}
 use Rattle.ospf_types.specs.Network.{Network, network_cmp}
-use Rattle.ospf_types.specs.Keys.{key_cmp, scope_rank, scope_cmp}
+use Rattle.ospf_types.specs.Keys.{key_cmp, scope_rank, scope_cmp, dest_cmp}
 use Rattle.ospf_types.specs.Intra.{area_cost_cmp}
+use Rattle.ospf_types.specs.Boundary.{Preference, preference_cmp}
+use Rattle.ospf_types.specs.External.{ExternalPreference, external_cmp}
 use Rattle.ospf_types.specs.Hops.{hop_rank, hop_cmp, advertiser_rank, advertiser_cmp, path_cmp}
 
 pub network_total : IsTotalOrder network_cmp
@@ -44,11 +49,59 @@ scope_exact x y h =
     let e = exact_pairs nat_cmp nat_cmp exact_unsigned exact_unsigned (scope_rank x) (scope_rank y) h in
     same_scope x y (ap (λ (p : ℕ × ℕ). p.0) e) (ap (λ (p : ℕ × ℕ). p.1) e)
 
+pub then_equal : (o : Ordering) → ordering_then o Equal ≡ o
+then_equal Less = refl
+then_equal Equal = refl
+then_equal Greater = refl
+
+-- destinations by three numbers
+abbrev dest_rank : Dest → ℕ × (ℕ × ℕ)
+dest_rank (dest_value.Net p) = (0, (p.address, p.length))
+dest_rank (dest_value.Router r) = (1, (r, 0))
+
+abbrev dest_rank_cmp : Dest → Dest → Ordering
+dest_rank_cmp x y = ordering_then (nat_cmp (dest_rank x).0 (dest_rank y).0) (ordering_then (nat_cmp (dest_rank x).1.0 (dest_rank y).1.0) (nat_cmp (dest_rank x).1.1 (dest_rank y).1.1))
+
+dest_rank_cmp_at : (x y : Dest) → dest_rank_cmp x y ≡ dest_cmp x y
+dest_rank_cmp_at (dest_value.Net p) (dest_value.Net q) = refl
+dest_rank_cmp_at (dest_value.Net p) (dest_value.Router s) = refl
+dest_rank_cmp_at (dest_value.Router r) (dest_value.Net q) = refl
+dest_rank_cmp_at (dest_value.Router r) (dest_value.Router s) = then_equal (nat_cmp r s)
+
+pub dest_total : IsTotalOrder dest_cmp
+dest_total =
+    subst (λ (R : Dest → Dest → Ordering). IsTotalOrder R) (λ i x y. dest_rank_cmp_at x y i)
+    (then_total (on_total (λ d. (dest_rank d).0) nat_cmp_total) (then_total (on_total (λ d. (dest_rank d).1.0) nat_cmp_total) (on_total (λ d. (dest_rank d).1.1) nat_cmp_total)))
+
+pub dest_exact : CmpEqualImpliesEq dest_cmp
+dest_exact (dest_value.Net p) (dest_value.Net q) h = ap dest_value.Net (network_exact p q h)
+dest_exact (dest_value.Net p) (dest_value.Router s) h = absurd cc
+dest_exact (dest_value.Router r) (dest_value.Net q) h = absurd cc
+dest_exact (dest_value.Router r) (dest_value.Router s) h = ap dest_value.Router (exact_unsigned r s h)
+
 pub area_cost_total : IsTotalOrder area_cost_cmp
 area_cost_total = then_total (on_total (λ k. k.0) nat_cmp_total) (on_total (λ k. k.1) (back_total nat_cmp_total))
 
 pub area_cost_exact : CmpEqualImpliesEq area_cost_cmp
 area_cost_exact a b h = exact_pairs nat_cmp (λ x y. nat_cmp y x) exact_unsigned (λ x y h. sym (exact_unsigned y x h)) a b h
+
+pub preference_total : IsTotalOrder preference_cmp
+preference_total = then_total (on_total (λ p. p.class) nat_cmp_total) (then_total (on_total (λ p. p.cost) nat_cmp_total) (on_total (λ p. p.area) (back_total nat_cmp_total)))
+
+pub preference_exact : CmpEqualImpliesEq preference_cmp
+preference_exact a b h =
+    ap (λ (p : ℕ × (ℕ × ℕ)). let k : Preference = record { class = p.0; cost = p.1.0; area = p.1.1 } in k)
+    (exact_pairs nat_cmp area_cost_cmp exact_unsigned area_cost_exact (a.class, (a.cost, a.area)) (b.class, (b.cost, b.area)) h)
+
+pub external_total : IsTotalOrder external_cmp
+external_total = then_total (on_total (λ p. p.kind) nat_cmp_total) (then_total (on_total (λ p. p.metric) nat_cmp_total) (then_total (on_total (λ p. p.class) nat_cmp_total) (on_total (λ p. p.cost) nat_cmp_total)))
+
+pub external_exact : CmpEqualImpliesEq external_cmp
+external_exact a b h =
+    ap (λ (p : ℕ × (ℕ × (ℕ × ℕ))). let k : ExternalPreference = record { kind = p.0; metric = p.1.0; class = p.1.1.0; cost = p.1.1.1 } in k)
+    (exact_pairs nat_cmp (λ (x y : ℕ × (ℕ × ℕ)). ordering_then (nat_cmp x.0 y.0) (ordering_then (nat_cmp x.1.0 y.1.0) (nat_cmp x.1.1 y.1.1))) exact_unsigned
+    (exact_pairs nat_cmp (λ (x y : ℕ × ℕ). ordering_then (nat_cmp x.0 y.0) (nat_cmp x.1 y.1)) exact_unsigned (exact_pairs nat_cmp nat_cmp exact_unsigned exact_unsigned))
+    (a.kind, (a.metric, (a.class, a.cost))) (b.kind, (b.metric, (b.class, b.cost))) h)
 
 pub hop_total : IsTotalOrder hop_cmp
 hop_total = then_total (on_total (λ h. (hop_rank h).0) nat_cmp_total) (then_total (on_total (λ h. (hop_rank h).1) nat_cmp_total) (on_total (λ h. (hop_rank h).2) nat_cmp_total))

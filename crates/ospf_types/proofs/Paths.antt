@@ -13,12 +13,7 @@ use Rattle.ospf_types.specs.contracts.hop.PathPartialEq.TheImpl as path_equality
 use Rattle.std.proofs.lemmas.Bool.Decides.{Decides-and, Decides-eqb, Decides-like}
 use Rattle.std.proofs.lemmas.Map.Lookups.{CmpEqualImpliesEq}
 use Rattle.ospf_types.specs.Hops.{hop_cmp, advertiser_cmp, path_cmp}
-use Rattle.ospf_types.proofs.Orders.{path_exact}
-
-then_equal : (o : Ordering) → ordering_then o Equal ≡ o
-then_equal Less = refl
-then_equal Equal = refl
-then_equal Greater = refl
+use Rattle.ospf_types.proofs.Orders.{path_exact, then_equal}
 
 hop_cmp_at : (x y : NextHop) → hop_order.ghosts.cmp x y ≡ hop_cmp x y
 hop_cmp_at (Direct a) (Direct b) = sym (then_equal (nat_cmp a b))

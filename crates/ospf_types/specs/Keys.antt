@@ -3,9 +3,13 @@ use Rattle.std.specs.Prelude.{ℕ, refl}
 use Rattle.std.specs.Ordering.{nat_cmp, ordering_then}
 use Rattle.std.specs.Coded.{Coded, code_by, coded×, coded_ℕ}
 use Rattle.std.specs.declared.cmp.Ordering.{Ordering}
+use Rattle.std.specs.declared.cmp.Ordering.TheVariants.{Less, Greater}
+use Rattle.ospf_types.specs.declared.key.Dest.{Dest}
+use Rattle.ospf_types.specs.declared.key.Dest.TheVariants.{Net, Router}
 use Rattle.ospf_types.specs.declared.key.Key.{Key}
 use Rattle.ospf_types.specs.declared.key.Scope.{Scope}
 use Rattle.ospf_types.specs.declared.key.Scope.TheVariants.{Area, As}
+use Rattle.ospf_types.specs.Network.{network_cmp}
 
 -- by LS type, then Link State ID, then Advertising Router
 abbrev pub key_cmp : Key → Key → Ordering
@@ -23,3 +27,10 @@ scope_rank As = (1, 0)
 
 abbrev pub scope_cmp : Scope → Scope → Ordering
 scope_cmp a b = ordering_then (nat_cmp (scope_rank a).0 (scope_rank b).0) (nat_cmp (scope_rank a).1 (scope_rank b).1)
+
+-- networks first, each kind in its order
+abbrev pub dest_cmp : Dest → Dest → Ordering
+dest_cmp (Net p) (Net q) = network_cmp p q
+dest_cmp (Net p) (Router s) = Less
+dest_cmp (Router r) (Net q) = Greater
+dest_cmp (Router r) (Router s) = nat_cmp r s

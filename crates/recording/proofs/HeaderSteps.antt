@@ -5,7 +5,7 @@ use Rattle.std.proofs.lemmas.List.{length_push}
 use Rattle.std.proofs.lemmas.List.Elements.{All-nil}
 use Rattle.ospf_types.specs.declared.config.AreaConfig.{AreaConfig}
 use Rattle.ospf_types.specs.declared.config.Config.{Config}
-use Rattle.event_core.specs.Lasting.{lasting_fault_of}
+use Rattle.event_core.specs.Configs.{config_fault_of}
 use Rattle.event_core.specs.declared.fault.ConfigFault.{ConfigFault}
 use Rattle.recording.specs.declared.fault.Fault.{Fault}
 use Rattle.recording.specs.declared.fault.Fault.TheVariants as fault
@@ -218,11 +218,11 @@ module _ {text : List ℕ} {taken : ℕ} {left : List (List ℕ)} {config : Conf
       let many : 0 < length left = omega (arith, ap length is) in
       end_fault text (taken + 1) before cut (h.parts ∙ ap (λ (t : List (List ℕ)). before ++ t) is) (omega (arith, h.counted, length_push h.earlier h.last)) (header_right many (λ e. some (subst EndsHeader is e))) (inl some)
 
-  pub header_config : EndsHeader left → (f : ConfigFault) → lasting_fault_of config ≡ Some f → IsFirstFault text taken (fault.Config f)
+  pub header_config : EndsHeader left → (f : ConfigFault) → config_fault_of config ≡ Some f → IsFirstFault text taken (fault.Config f)
   header_config ends f is =
       let before : List (List ℕ) = h.earlier ++ h.last ∷ [] in
       let two = said_second before VersionLine (RouterLine config.router) (flat_map area_forms config.areas) h.said in
-      let P : List AreaConfig → Type 0 = λ areas. lasting_fault_of (record { router = config.router; areas = areas }) ≡ Some f in
+      let P : List AreaConfig → Type 0 = λ areas. config_fault_of (record { router = config.router; areas = areas }) ≡ Some f in
       let fault_is : HasConfigFault before left f = record {
         forms = flat_map area_forms config.areas;
         header = said_header before config h.said;
@@ -242,12 +242,12 @@ module _ {text : List ℕ} {taken : ℕ} {left : List (List ℕ)} {config : Conf
       }
 
   -- the header is right, and ends
-  pub lines_begin : EndsHeader left → lasting_fault_of config ≡ None → HasLines text taken left (record { config = config; lines = [] })
+  pub lines_begin : EndsHeader left → config_fault_of config ≡ None → HasLines text taken left (record { config = config; lines = [] })
   lines_begin ends none =
       let before : List (List ℕ) = h.earlier ++ h.last ∷ [] in
       let clean : (c : ConfigFault) → ¬ HasConfigFault before left c = λ c g.
-      let P : List AreaConfig → Type 0 = λ areas. lasting_fault_of (record { router = config.router; areas = areas }) ≡ Some c in
-      none_or_some (lasting_fault_of config) c none (subst P (same_areas g.forms g.header) g.has) in
+      let P : List AreaConfig → Type 0 = λ areas. config_fault_of (record { router = config.router; areas = areas }) ≡ Some c in
+      none_or_some (config_fault_of config) c none (subst P (same_areas g.forms g.header) g.has) in
       record {
         before = before;
         parts = h.parts;

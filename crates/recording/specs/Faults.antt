@@ -3,7 +3,7 @@ use Rattle.std.specs.Prelude.{ℕ, ◌≡◌, ◌≢◌, ◌<◌, ◌+◌, ◌==
 use Rattle.std.specs.List.{slice_split}
 use Rattle.ospf_types.specs.declared.key.Scope.{Scope}
 use Rattle.lsa_codec.specs.Faults.{fault_of}
-use Rattle.event_core.specs.Lasting.{lasting_fault_of}
+use Rattle.event_core.specs.Configs.{config_fault_of}
 use Rattle.event_core.specs.declared.fault.ConfigFault.{ConfigFault}
 use Rattle.recording.specs.declared.fault.Fault.{Fault}
 use Rattle.recording.specs.declared.fault.Fault.TheVariants as fault
@@ -32,7 +32,7 @@ pub record HasConfigFault (lines after : List (List ℕ)) (f : ConfigFault) : Ty
   pub others : List (List ℕ)
   pub begin : lines ≡ first ∷ second ∷ others
   pub said : Says second (RouterLine router)
-  pub has : lasting_fault_of (record { router = router; areas = areas_of forms }) ≡ Some f
+  pub has : config_fault_of (record { router = router; areas = areas_of forms }) ≡ Some f
 
 -- the form of the line is not one that may stand behind these lines
 abbrev pub IsMisplaced : List (List ℕ) → List ℕ → Type 0

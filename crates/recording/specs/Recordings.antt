@@ -12,7 +12,7 @@ use Rattle.lsa_codec.specs.Checksum.{IsSound}
 use Rattle.lsa_codec.specs.Spelling.{Spells, spelling}
 use Rattle.event_state.specs.declared.event.Event.{Event}
 use Rattle.event_state.specs.declared.event.Event.TheVariants as event
-use Rattle.event_core.specs.Lasting.{lasting_fault_of}
+use Rattle.event_core.specs.Configs.{config_fault_of}
 use Rattle.recording.specs.declared.line.Line.{Line}
 use Rattle.recording.specs.declared.line.Line.TheVariants as line
 use Rattle.recording.specs.Forms.{Form, VersionLine, RouterLine, AreaLine, RangeLine, InterfaceLine, InstallLine, FlushLine, PurgeLine, SecondLine, LookupLine, IsForm, IsKind, line_text}
@@ -72,7 +72,7 @@ HasKind (line.Lookup address) = Unit {0}
 
 -- a configuration without a fault, in order, and lines that have a form
 pub record IsRecording (r : RecordingValue) : Type 0 where
-  pub config : lasting_fault_of r.config ≡ None
+  pub config : config_fault_of r.config ≡ None
   pub ordered : IsOrdered r.config.areas
   pub kinds : All HasKind r.lines
 

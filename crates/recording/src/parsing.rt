@@ -11,7 +11,7 @@ use crate::form::{LineForm, read_form};
 use crate::header::Header;
 use crate::reader::Lines;
 use crate::recording::Recording;
-use event_core::lasting_fault;
+use event_core::fault_in;
 use ospf_types::config::Config;
 use ospf_types::memory::Memory;
 use std::alloc::Global;
@@ -34,7 +34,7 @@ fn parse_text(alloc: Global, text: &[u8]) -> Result<Recording, LineFault>
     let lines = read_version(text)?;
     let (router, lines) = read_router(lines)?;
     let (config, lines) = read_header(alloc, router, lines)?;
-    if let Some(fault) = lasting_fault(&config) {
+    if let Some(fault) = fault_in(&config) {
         return Err(LineFault {
             line: lines.taken,
             fault: Fault::Config(fault),

@@ -7,7 +7,7 @@ ghost use Rattle.recording.specs.Forms.{IsKind};
 ghost use Rattle.recording.specs.Recordings.{IsRecording, IsOrdered, HasKind};
 
 use crate::line::Line;
-use event_core::{Event, lasting_fault};
+use event_core::{Event, fault_in};
 use ospf_types::config::{AreaConfig, Config, Range};
 use ospf_types::lsa::{AS_EXTERNAL_LSA, ROUTER_LSA};
 use std::marker::Model;
@@ -40,7 +40,7 @@ impl Recording {
         ensures kept { IfSome result IsRecording }
         ensures none { IsNone result → ¬ IsRecording (record { config = config; lines = lines.items }) }
     {
-        let tested = lasting_fault(&config).is_none()
+        let tested = fault_in(&config).is_none()
             && has_order(config.areas.as_slice())
             && has_kinds(lines.as_slice());
         if !tested {

@@ -14,7 +14,7 @@ use Rattle.replay.specs.declared.show.Show.{Show}
 use Rattle.replay.specs.declared.show.Show.TheVariants as show
 use Rattle.replay.specs.Lines.{first_number, serial_line, event_line}
 use Rattle.replay.specs.Runs.{Answers, Prints, IsOpened}
-use Rattle.replay.specs.Outputs.{IsRun, IsShown, IsOutput, PrintsRun, Replays, journal_of}
+use Rattle.replay.specs.Outputs.{IsRun, IsShown, IsOutput, IsCut, PrintsRun, Replays, ReplaysPart, journal_of}
 use Rattle.replay.specs.Pages.{Adds, AddsPart, Ran, RanPart, IsRunTo}
 use Rattle.replay.specs.Parts.{IsRead, WritesOutput, WritesPart}
 use Rattle.replay.proofs.Written.{appends_none}
@@ -122,8 +122,22 @@ module _ (old new : CoreValue) (lines : List Line) (a b : Option (List ℕ)) (be
 
 -- ---- the whole replay
 
-pub replays : (s : Show) (before after old new : Option (List ℕ)) (r : RecordingValue) (config : Config) (lines : List Line) → IsRead before after r → config ≡ r.config → lines ≡ r.lines
-    → WritesOutput (record { config = config; lines = lines }) s old new → Replays s before after old new
-replays s before after old new r config lines read same_config same_lines h =
-    let is : IsOutput r s h.answers h.output = subst (λ (q : RecordingValue). IsOutput q s h.answers h.output) (λ i. record { config = same_config i; lines = same_lines i }) h.is in
-    record { bytes = read.bytes; read = read.read; recording = r; text = read.text; answers = h.answers; output = h.output; is = is; written = h.written }
+-- the parts are those of the recording
+whole_of : (r : RecordingValue) (config : Config) (lines : List Line) → config ≡ r.config → lines ≡ r.lines → record { config = config; lines = lines } ≡ r
+whole_of r config lines same_config same_lines = λ i. record { config = same_config i; lines = same_lines i }
+
+pub output_of : (s : Show) (old new : Option (List ℕ)) (r : RecordingValue) (config : Config) (lines : List Line) → config ≡ r.config → lines ≡ r.lines
+    → WritesOutput (record { config = config; lines = lines }) s old new → WritesOutput r s old new
+output_of s old new r config lines same_config same_lines h = subst (λ (q : RecordingValue). WritesOutput q s old new) (whole_of r config lines same_config same_lines) h
+
+pub part_of : (s : Show) (old new : Option (List ℕ)) (r : RecordingValue) (config : Config) (lines : List Line) → config ≡ r.config → lines ≡ r.lines
+    → WritesPart (record { config = config; lines = lines }) s old new → WritesPart r s old new
+part_of s old new r config lines same_config same_lines h = subst (λ (q : RecordingValue). WritesPart q s old new) (whole_of r config lines same_config same_lines) h
+
+pub replays : (s : Show) (before after old new : Option (List ℕ)) (r : RecordingValue) → IsRead before after r → WritesOutput r s old new → Replays s before after old new
+replays s before after old new r read h =
+    record { bytes = read.bytes; read = read.read; recording = r; text = read.text; answers = h.answers; output = h.output; is = h.is; written = h.written }
+
+pub replays_part : (s : Show) (before after old new : Option (List ℕ)) (r : RecordingValue) → IsRead before after r → WritesPart r s old new → ReplaysPart s before after old new
+replays_part s before after old new r read h =
+    record { bytes = read.bytes; read = read.read; recording = r; text = read.text; part = h.part; is = h.is; written = h.written }

@@ -1,9 +1,6 @@
 -- The parts of a replay: a recording is read, a core is opened, and the output is printed.
-use Rattle.std.specs.Prelude.{ℕ, ◌≡◌, ◌<◌, ◌+◌, ◌^◌, List, length, Option, Some}
+use Rattle.std.specs.Prelude.{ℕ, ◌≡◌, ◌<◌, ◌+◌, ◌^◌, List, length, Option}
 use Rattle.std.specs.Io.KnownBytes.{Appends, Consumes}
-use Rattle.ospf_types.specs.declared.config.Config.{Config}
-use Rattle.event_core.specs.Configs.{config_fault_of}
-use Rattle.event_core.specs.declared.fault.ConfigFault.TheVariants as config_fault
 use Rattle.recording.specs.Recordings.{RecordingValue, IsText}
 use Rattle.recording.specs.Faults.{IsFaultOf}
 use Rattle.replay.specs.declared.fault.ReplayFault.{ReplayFault}
@@ -25,16 +22,7 @@ abbrev pub IsReadFault : (before after : Option (List ℕ)) → ReplayFault → 
 IsReadFault before after fault.Read = Unit {0}
 IsReadFault before after fault.Write = ⊥
 IsReadFault before after fault.Memory = Unit {0}
-IsReadFault before after fault.NotYet = ⊥
 IsReadFault before after (fault.Line f) = (bytes : List ℕ) × Consumes before after bytes × IsFaultOf bytes f
-
--- why the core of a recording is not opened
-abbrev pub IsOpenFault : Config → ReplayFault → Type 0
-IsOpenFault config fault.Read = ⊥
-IsOpenFault config fault.Write = ⊥
-IsOpenFault config fault.Memory = Unit {0}
-IsOpenFault config fault.NotYet = config_fault_of config ≡ Some config_fault.NotYet
-IsOpenFault config (fault.Line f) = ⊥
 
 -- a writer's known bytes grew by an output of the recording
 pub record WritesOutput (r : RecordingValue) (s : Show) (old new : Option (List ℕ)) : Type 0 where

@@ -9,5 +9,4 @@ abbrev pub replay_fault_text : ReplayFault → List ℕ
 replay_fault_text fault.Read = codes "cannot read"
 replay_fault_text fault.Write = codes "cannot write"
 replay_fault_text fault.Memory = memory_text
-replay_fault_text fault.NotYet = codes "33 NotYet"
 replay_fault_text (fault.Line f) = line_fault_text f

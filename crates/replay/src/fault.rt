@@ -15,8 +15,6 @@ pub enum ReplayFault {
     Write,
     /// A growth was refused.
     Memory,
-    /// No calculation stands yet for the configuration.
-    NotYet,
     /// What was read is no recording.
     Line(LineFault),
 }
@@ -29,7 +27,6 @@ impl fmt::Display for ReplayFault {
             ReplayFault::Read => f.write_str("cannot read"),
             ReplayFault::Write => f.write_str("cannot write"),
             ReplayFault::Memory => Memory.fmt(f),
-            ReplayFault::NotYet => f.write_str("33 NotYet"),
             ReplayFault::Line(fault) => fault.fmt(f),
         }
     }

@@ -1,17 +1,14 @@
 //! A replay.
-ghost use Rattle.std.specs.Prelude.{◌≡◌, ◌⊎◌, ◌+◌, ◌^◌, ◌<◌, ℕ, List, length, IfOk, IfErr, OnOk, OnErr, Some, None};
+ghost use Rattle.std.specs.Prelude.{◌≡◌, ◌⊎◌, ◌+◌, ◌^◌, ◌<◌, ℕ, List, length, IfOk, IfErr, OnOk, OnErr, None};
 ghost use Rattle.std.specs.Io.KnownBytes.{Consumes};
-ghost use Rattle.recording.specs.Recordings.{RecordingValue, IsText};
 ghost use Rattle.recording.specs.Faults.{IsFaultOf};
 ghost use Rattle.event_core.specs.Configs.{config_fault_of};
-ghost use Rattle.event_core.specs.Lasting.{lasting_fault_of};
-ghost use Rattle.event_core.specs.declared.fault.ConfigFault.TheVariants as config_fault;
 ghost use Rattle.replay.specs.declared.fault.ReplayFault.TheVariants as replay_fault;
 ghost use Rattle.recording.specs.declared.fault.LineFault.{LineFault};
 ghost use Rattle.replay.specs.Lines.{first_number};
 ghost use Rattle.replay.specs.Runs.{IsOpened};
 ghost use Rattle.replay.specs.Outputs.{Replays, ReplaysPart};
-ghost use Rattle.replay.specs.Parts.{IsRead, IsReadFault, IsOpenFault, WritesOutput, WritesPart};
+ghost use Rattle.replay.specs.Parts.{IsRead, IsReadFault, WritesOutput, WritesPart};
 
 use crate::fault::ReplayFault;
 use crate::output::{print_journal, print_lsdb, print_routes};
@@ -19,6 +16,7 @@ use crate::page::Stop;
 use crate::show::Show;
 use event_core::{ConfigFault, Core};
 use ospf_types::config::Config;
+use ospf_types::memory::Memory;
 use recording::{Line, Recording, parse};
 use std::alloc::Global;
 use std::hash::RandomState;
@@ -37,16 +35,12 @@ pub fn replay_one<R: io::Read, W: io::Write>(
     ensures read { result ≡ Err replay_fault.Read → out.new ≡ out.old }
     ensures line { (f : LineFault) → result ≡ Err (replay_fault.Line f) → (out.new ≡ out.old)
         × ((bytes : List ℕ) × Consumes (R.remaining input.old) (R.remaining input.new) bytes × IsFaultOf bytes f) }
-    ensures not_yet { result ≡ Err replay_fault.NotYet → (out.new ≡ out.old)
-        × ((bytes : List ℕ) × (r : RecordingValue) × Consumes (R.remaining input.old) (R.remaining input.new) bytes × IsText bytes r × (config_fault_of r.config ≡ Some config_fault.NotYet)) }
     ensures write { result ≡ Err replay_fault.Write → ReplaysPart show (R.remaining input.old) (R.remaining input.new) (W.contents out.old) (W.contents out.new) }
     ensures memory { result ≡ Err replay_fault.Memory → (out.new ≡ out.old)
         ⊎ ReplaysPart show (R.remaining input.old) (R.remaining input.new) (W.contents out.old) (W.contents out.new) }
 {
     let recording = read_recording(alloc, input)?;
-    let (config, lines) = recording.into_parts();
-    let core = open_core(alloc, config, hashing)?;
-    match print_replay(alloc, core, lines, out, show) {
+    match print_recording(alloc, hashing, recording, out, show) {
         Ok(()) => Ok(()),
         Err(Stop::Write) => Err(ReplayFault::Write),
         Err(Stop::Memory) => Err(ReplayFault::Memory),
@@ -71,16 +65,31 @@ fn read_recording<R: io::Read>(alloc: Global, input: &mut R) -> Result<Recording
     }
 }
 
-// The core that a run begins with. The configuration of a recording has none of the lasting faults.
-fn open_core(alloc: Global, config: Config, hashing: RandomState) -> Result<Core, ReplayFault>
-    requires { lasting_fault_of config ≡ None }
-    ensures core { IfOk result (IsOpened config) }
-    ensures fault { IfErr result (IsOpenFault config) }
+// Runs a recording, and prints what is shown.
+fn print_recording<W: io::Write>(
+    alloc: Global,
+    hashing: RandomState,
+    recording: Recording,
+    out: &mut W,
+    show: Show,
+) -> Result<(), Stop>
+    requires few { first_number recording.config + length recording.lines < 2 ^ 64 }
+    ensures ok { OnOk result (WritesOutput recording show (W.contents out.old) (W.contents out.new)) }
+    ensures err { OnErr result (WritesPart recording show (W.contents out.old) (W.contents out.new)) }
+{
+    let (config, lines) = recording.into_parts();
+    let core = open_core(alloc, config, hashing)?;
+    print_replay(alloc, core, lines, out, show)
+}
+
+// The core that a run begins with. The configuration of a recording has no fault.
+fn open_core(alloc: Global, config: Config, hashing: RandomState) -> Result<Core, Memory>
+    requires { config_fault_of config ≡ None }
+    ensures { IfOk result (IsOpened config) }
 {
     match Core::open(alloc, config, hashing) {
         Ok(core) => Ok(core),
-        Err(ConfigFault::NotYet) => Err(ReplayFault::NotYet),
-        Err(ConfigFault::Memory) => Err(ReplayFault::Memory),
+        Err(ConfigFault::Memory) => Err(Memory),
         Err(_) => unreachable!(),
     }
 }

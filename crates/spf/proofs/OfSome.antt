@@ -1,23 +1,10 @@
 -- What holds of some element of a list, element by element.
-use Rattle.std.proofs.Common.{◌≡◌, ℕ, ◌+◌, ◌<◌, ◌≤◌, List, [], ◌∷◌, ◌++◌, length, take, get_or, refl, sym, ap, subst, ◌∙◌, ◌⊎◌, inl, inr}
+use Rattle.std.proofs.Common.{◌≡◌, ℕ, ◌+◌, ◌<◌, ◌≤◌, List, [], length, take, get_or, refl, sym, subst, ◌⊎◌, inl, inr}
 use Rattle.std.specs.Prelude.{◌↔◌}
-use Rattle.std.specs.List.{Contains}
-use Rattle.std.proofs.lemmas.List.{take_more, take_all}
-use Rattle.std.proofs.lemmas.List.Elements.{Contains-append_left, Contains-get_or, Contains-push, Contains-push_cases}
+use Rattle.std.proofs.lemmas.List.{take_all}
+pub use Rattle.ospf_types.proofs.Elements.{contains_at, contains_more}
 use Rattle.ospf_types.proofs.Elements.{no_element}
 use Rattle.spf.specs.HandedOn.{IsOfSome}
-
--- the element at a place
-pub contains_at : {A : Type 0} (xs : List A) (i : ℕ) (x : A) → i < length xs → x ≡ get_or xs i x → Contains xs x
-contains_at {A} xs i x lt is = subst (λ (z : A). Contains xs z) (sym is) (Contains-get_or xs i x lt)
-
--- the elements of one more are those before and the next
-pub contains_more : {A : Type 0} (xs : List A) (i : ℕ) (x y : A) → i < length xs → x ≡ get_or xs i x → Contains (take (i + 1) xs) y ↔ (Contains (take i xs) y ⊎ (y ≡ x))
-contains_more {A} xs i x y lt is =
-    let e : take (i + 1) xs ≡ take i xs ++ x ∷ [] = take_more xs i x lt ∙ ap (λ (z : A). take i xs ++ z ∷ []) (sym is) in (
-      λ c. elim (Contains-push_cases (take i xs) x y (subst (λ (zs : List A). Contains zs y) e c)) [ inl was ↦ inl was | inr same ↦ inr (sym same) ],
-      λ w. subst (λ (zs : List A). Contains zs y) (sym e) (elim w [ inl was ↦ Contains-append_left (take i xs) (x ∷ []) y was | inr same ↦ subst (λ (z : A). Contains (take i xs ++ x ∷ []) z) (sym same) (Contains-push (take i xs) x) ]),
-    )
 
 module _ {A B : Type 0} (P : A → B → Type 0) where
   -- none of no elements

@@ -93,32 +93,32 @@ module _ {X : Type 0} where
   pub gone_elsewhere : (m : FinMap vertex_cmp X) (v w : Vertex) → w ≢ v → get (remove m v) w ≡ get m w
   gone_elsewhere m v w other = get-remove vertex_total m v w ∙ ap (λ b. cond b None (get m w)) (apart_by_order v w other)
 
--- ---- what holds of each value
+-- ---- what holds of each value, by keys of any type
 
-module _ {X : Type 0} (P : X → Type 0) where
-  abbrev pub AllValues : List (Vertex × X) → Type 0
-  AllValues es = All (λ (e : Vertex × X). P e.1) es
+module _ {K X : Type 0} (P : X → Type 0) where
+  abbrev pub AllValues : List (K × X) → Type 0
+  AllValues es = All (λ (e : K × X). P e.1) es
 
-  pub all_values_inserted : (eq : Vertex → Vertex → Bool) (es : List (Vertex × X)) (v : Vertex) (x : X) → AllValues es → P x → AllValues (insert_entry eq es v x)
-  all_values_inserted eq [] v x all here = All-cons (λ (e : Vertex × X). P e.1) (v, x) [] here all
+  pub all_values_inserted : (eq : K → K → Bool) (es : List (K × X)) (v : K) (x : X) → AllValues es → P x → AllValues (insert_entry eq es v x)
+  all_values_inserted eq [] v x all here = All-cons (λ (e : K × X). P e.1) (v, x) [] here all
   all_values_inserted eq (e ∷ es) v x all here =
       let rest : AllValues es = λ k d within. all (suc k) d (omega (arith, within)) in
       let first : P e.1 = all 0 e (omega arith) in
       elim (eq v e.0) as (λ b. AllValues (if b then (e.0, x) ∷ es else e ∷ insert_entry eq es v x)) [
-        | true ↦ All-cons (λ (e : Vertex × X). P e.1) (e.0, x) es here rest
-        | false ↦ All-cons (λ (e : Vertex × X). P e.1) e (insert_entry eq es v x) first (all_values_inserted eq es v x rest here)
+        | true ↦ All-cons (λ (e : K × X). P e.1) (e.0, x) es here rest
+        | false ↦ All-cons (λ (e : K × X). P e.1) e (insert_entry eq es v x) first (all_values_inserted eq es v x rest here)
       ]
 
-  pub all_values_removed : (test : Vertex → Bool) (es : List (Vertex × X)) → AllValues es → AllValues (swap_remove_entry test es)
+  pub all_values_removed : (test : K → Bool) (es : List (K × X)) → AllValues es → AllValues (swap_remove_entry test es)
   all_values_removed test [] all = all
   all_values_removed test (e ∷ es) all =
       elim (position test (keys_of (e ∷ es))) as (λ o. AllValues (option_map_or (λ i. swap_remove (e ∷ es) i e) o (e ∷ es))) [
         | None ↦ all
-        | Some i ↦ All-take (λ (e : Vertex × X). P e.1) (length (e ∷ es) - 1) (slice_set (e ∷ es) i (get_or (e ∷ es) (length (e ∷ es) - 1) e))
-            (All-set (λ (e : Vertex × X). P e.1) (e ∷ es) i (get_or (e ∷ es) (length (e ∷ es) - 1) e) (all (length (e ∷ es) - 1) e (omega arith)) all)
+        | Some i ↦ All-take (λ (e : K × X). P e.1) (length (e ∷ es) - 1) (slice_set (e ∷ es) i (get_or (e ∷ es) (length (e ∷ es) - 1) e))
+            (All-set (λ (e : K × X). P e.1) (e ∷ es) i (get_or (e ∷ es) (length (e ∷ es) - 1) e) (all (length (e ∷ es) - 1) e (omega arith)) all)
       ]
 
-  pub some_looked_up : (test : Vertex → Bool) (es : List (Vertex × X)) → AllValues es → IfSome (lookup test es) P
+  pub some_looked_up : (test : K → Bool) (es : List (K × X)) → AllValues es → IfSome (lookup test es) P
   some_looked_up test [] all = tt
   some_looked_up test (e ∷ es) all =
       let rest : AllValues es = λ k d within. all (suc k) d (omega (arith, within)) in

@@ -10,7 +10,6 @@ returns-in-Err g c =
     (by_fault c.in-Err.fault _ _ _ _ _
     (λ e. ap held (said.read (ap Err e)))
     (λ f e. let h = said.line f (ap Err e) in (ap held h.0, h.1))
-    (λ e. let h = said.not_yet (ap Err e) in (ap held h.0, h.1))
     (λ e. said.write (ap Err e))
     (λ e. elim (said.memory (ap Err e)) [ inl h ↦ inl (ap held h) | inr h ↦ inr h ]))
     c.say_end.ensures

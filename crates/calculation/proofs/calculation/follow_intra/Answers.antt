@@ -1,8 +1,7 @@
-use Rattle.std.proofs.Common.{◌≡◌, ℕ, List, length, sym, ap, subst, ◌∙◌}
+use Rattle.std.proofs.Common.{◌≡◌, sym, ap, subst, ◌∙◌}
 use Rattle.std.proofs.lemmas.Result.{on_ok_weaker}
 use Rattle.ospf_types.specs.declared.config.Config.{Config}
-use Rattle.ospf_types.specs.declared.config.Interface.{Interface}
-use Rattle.intra.specs.Inputs.{AreaValue, InputsValue, AreReady}
+use Rattle.intra.specs.Inputs.{InputsValue, AreReady}
 use Rattle.intra.specs.Right.{AreInputsOf}
 use Rattle.intra.specs.Changes.{InputsDifferAmong}
 use Rattle.event_state.specs.States.{inputs_of}

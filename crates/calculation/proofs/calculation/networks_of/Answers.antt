@@ -1,13 +1,8 @@
-use Rattle.std.proofs.Common.{◌≡◌, ◌++◌, [], ◌∷◌, List, take, sym, ap, subst, ◌∙◌}
-use Rattle.std.specs.Prelude.{◌↔◌}
-use Rattle.std.specs.List.{Contains}
-use Rattle.std.specs.List.Sorted.{IsStrictlySortedBy}
+use Rattle.std.proofs.Common.{◌≡◌, ◌++◌, [], ◌∷◌, List, take, sym, ap, ◌∙◌}
 use Rattle.std.proofs.lemmas.List.{take_all, append-nil}
 use Rattle.ospf_types.specs.declared.key.Dest.{Dest}
-use Rattle.ospf_types.specs.declared.key.Dest.TheVariants.{Net}
 use Rattle.ospf_types.specs.declared.prefix.Prefix.{Prefix}
-use Rattle.ospf_types.specs.Network.{network_cmp}
-use Rattle.calculation.proofs.Networks.{networks_in, one_more, networks_exact, networks_in_order}
+use Rattle.calculation.proofs.Networks.{networks_in, one_more, once_in_order, once_exact}
 use Rattle.calculation.proofs.calculation.networks_of.Goals.{in-Net+in_ok-push, in_default}
 use Rattle.calculation.proofs.calculation.networks_of.Goals as goal
 
@@ -28,9 +23,9 @@ loop-dest-preserved c =
 pub returns-clause-in_order : goal.returns-clause-in_order
 returns-clause-in_order c =
     let is : c.loop-dest.networks.items ≡ networks_in c.args.dests.now = c.loop-dest.invariant ∙ ap networks_in (take_all c.loop-dest.dest-index c.args.dests.now c.loop-dest-test.false) in
-    subst (λ (ps : List Prefix). IsStrictlySortedBy network_cmp ps) (sym is) (networks_in_order c.args.dests.now c.requires)
+    once_in_order c.args.dests.now c.loop-dest.networks.items c.sort_unstable.new.self.items c.dedup.new.self.items is c.sort_unstable.ensures.permutation c.sort_unstable.ensures.sorted c.dedup.ensures.filtered
 
 pub returns-clause-exact : goal.returns-clause-exact
 returns-clause-exact c =
     let is : c.loop-dest.networks.items ≡ networks_in c.args.dests.now = c.loop-dest.invariant ∙ ap networks_in (take_all c.loop-dest.dest-index c.args.dests.now c.loop-dest-test.false) in
-    subst (λ (ps : List Prefix). (p : Prefix) → Contains ps p ↔ Contains c.args.dests.now (Net p)) (sym is) (networks_exact c.args.dests.now)
+    once_exact c.args.dests.now c.loop-dest.networks.items c.sort_unstable.new.self.items c.dedup.new.self.items is c.sort_unstable.ensures.permutation c.sort_unstable.ensures.sorted c.dedup.ensures.filtered

@@ -1,18 +1,13 @@
-use Rattle.std.proofs.Common.{◌≡◌, ℕ, List, sym, ap, subst, ◌∙◌}
-use Rattle.std.specs.Prelude.{IfOk}
+use Rattle.std.proofs.Common.{◌≡◌, ℕ, List, sym, ap, subst}
 use Rattle.std.proofs.lemmas.Result.{IfOk-weaker}
 use Rattle.ospf_types.specs.declared.config.Config.{Config}
 use Rattle.ospf_types.specs.declared.key.Scope.TheVariants.{Area}
 use Rattle.lsdb.specs.Databases.{Database}
 use Rattle.vertex_graph.specs.declared.link.Up.{Up}
-use Rattle.area_trees.specs.Areas.{AreaTreeValue, IsAreaTree}
+use Rattle.area_trees.specs.Areas.{IsAreaTree}
 use Rattle.event_state.specs.States.{database_of}
-use Rattle.calculation.specs.Calculations.{IsTreeFor, AreUpsOf, lsas_in}
+use Rattle.calculation.specs.Calculations.{AreUpsOf, lsas_in}
 use Rattle.calculation.proofs.Places.{lsas_there}
-use Rattle.calculation.proofs.Turns as turns
-use Rattle.calculation.proofs.Follows as follows
-use Rattle.calculation.proofs.Building as building
-use Rattle.calculation.proofs.Alike as alike
 use Rattle.calculation.proofs.trees.build_tree.Goals as goal
 
 pub returns-clause-right : goal.returns-clause-right

@@ -1,12 +1,11 @@
-use Rattle.std.proofs.Common.{rules, ◌≡◌, ℕ, List, [], sym, ap, subst, ◌∙◌, ⊎_elim}
+use Rattle.std.proofs.Common.{rules, ◌≡◌, List, [], sym, subst, ◌∙◌, ⊎_elim}
 use Rattle.std.proofs.lemmas.Result.{on_ok_weaker}
 use Rattle.ospf_types.specs.declared.key.Key.{Key}
-use Rattle.ospf_types.specs.declared.key.Scope.{Scope}
 use Rattle.ospf_types.specs.declared.key.Scope.TheVariants.{Area}
 use Rattle.lsdb.specs.Databases.{Database}
 use Rattle.vertex_graph.specs.declared.link.Up.{Up}
-use Rattle.area_trees.specs.Areas.{AreaTreeValue, IsAreaTree, DifferAmong}
-use Rattle.event_state.specs.States.{State, database_of}
+use Rattle.area_trees.specs.Areas.{IsAreaTree, DifferAmong}
+use Rattle.event_state.specs.States.{database_of}
 use Rattle.calculation.specs.Calculations.{AreUpsOf, lsas_in}
 use Rattle.calculation.proofs.Places.{lsas_there}
 use Rattle.calculation.proofs.Follows.{nothing, keys_named, tree_by_keys, tree_by_interfaces}

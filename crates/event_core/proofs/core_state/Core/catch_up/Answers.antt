@@ -5,11 +5,11 @@ use Rattle.event_core.proofs.core_state.Core.catch_up.Goals as goal
 pub invariant_of-self : goal.invariant_of-self
 invariant_of-self c =
     let i = c.self.inside in
-    kept_current i.state i.routes c.rebuild.new.self i.built (length c.journal.result.now) c.self.invariant c.journal.ensures.fit (ap length c.journal.ensures.value) c.in-Ok.ensures.right
+    kept_current i.state i.routes c.rebuild.new.self i.built (length c.journal.result.now) c.self.invariant (ap length c.journal.ensures.value) c.in-Ok.ensures.right
 
 pub returns-in-Ok-clause-stands : goal.returns-in-Ok-clause-stands
 returns-in-Ok-clause-stands c =
     let i = c.self.inside in
     let all = ap length c.journal.ensures.value in
-    let kept = kept_current i.state i.routes c.rebuild.new.self i.built (length c.journal.result.now) c.self.invariant c.journal.ensures.fit all c.in-Ok.ensures.right in
+    let kept = kept_current i.state i.routes c.rebuild.new.self i.built (length c.journal.result.now) c.self.invariant all c.in-Ok.ensures.right in
     stands_current i.state c.rebuild.new.self (length c.journal.result.now) c.args.self.now kept all

@@ -1,6 +1,3 @@
-use Rattle.std.proofs.Common.{subst}
-use Rattle.event_state.specs.Held.{AreFit}
-use Rattle.event_state.specs.States.{State}
 use Rattle.event_core.specs.Kept.{IsCoherent}
 use Rattle.event_core.proofs.Configs.{sound_apart}
 use Rattle.event_core.proofs.Runs.{kept_open}
@@ -11,8 +8,7 @@ within-requires c = sound_apart c.args.config c.requires.sound
 
 kept : (c : goal.In_ok-routes) → IsCoherent c.in_ok-state.state c.in_ok-routes.routes 0
 kept c =
-    let fit = subst (λ (s : State). AreFit s.config.areas s.databases) c.state.view_is c.state.invariant.fit in
-    kept_open c.args.config c.args.limits c.in_ok-state.state c.in_ok-routes.routes c.in_ok-state.ensures c.requires.sound c.requires.few fit c.in_ok-routes.ensures.right
+    kept_open c.args.config c.args.limits c.in_ok-state.state c.in_ok-routes.routes c.in_ok-state.ensures c.requires.sound c.requires.few c.in_ok-routes.ensures.right
 
 pub invariant_of-result : goal.invariant_of-result
 invariant_of-result c = kept c

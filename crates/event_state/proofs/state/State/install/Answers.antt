@@ -10,7 +10,7 @@ use Rattle.event_state.specs.declared.event.Event.TheVariants as event
 use Rattle.event_state.specs.Changes.{no_database, lsas_in}
 use Rattle.event_state.specs.States.{State, LooksAlike, place_of}
 use Rattle.event_state.specs.Steps.{changed_by, IsAccepted}
-use Rattle.event_state.proofs.Accepted.{install_fits, install_placed}
+use Rattle.event_state.proofs.Accepted.{install_fits}
 use Rattle.event_state.proofs.Carried.{fits_at, place_held, held_after_try, install_looks}
 use Rattle.event_state.proofs.HeldStates.{fit_insert}
 use Rattle.event_state.proofs.OneChange.{lsas_at}
@@ -34,11 +34,10 @@ invariant_of-self c =
     let lsa = c.args.lsa in
     let place : place_of i.config.areas c.args.scope ≡ Some c.in-Some.place = ap (λ (areas : List AreaConfig). place_of areas c.args.scope) (sym c.as_slice.ensures) ∙ sym c.place_of.ensures ∙ c.in-Some.is in
     let taken = subst (λ (t : State). IsAccepted t (event.Install c.args.scope lsa)) (sym c.self.view_is) c.requires in
-    let placed = install_placed s c.args.scope lsa taken in
     let kept = rw c.as_mut_slice.ensures.value at c.put_at.ensures.unchanged in
     let done = rw c.as_mut_slice.ensures.value at c.put_at.ensures.done in
     held_after_try i.config i.limits i.databases c.put_at.new.databases c.args.scope c.in-Some.place (λ (d : Database). insert d (key_of lsa) lsa) c.self.invariant place c.put_at.result
-    (λ fit. fit_insert c.args.scope _ (key_of lsa) lsa fit (record { own = refl; legal = c.put_at.ensures.legal; placed = placed.0; topology = placed.1 })) kept done
+    (λ fit. fit_insert c.args.scope _ (key_of lsa) lsa fit (record { own = refl; legal = c.put_at.ensures.legal; placed = taken.placed })) kept done
 
 pub returns-in-Some-clause-changed : goal.returns-in-Some-clause-changed
 returns-in-Some-clause-changed c =

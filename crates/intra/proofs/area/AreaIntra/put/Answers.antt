@@ -5,8 +5,8 @@ use Rattle.std.specs.FinMap.{get}
 use Rattle.std.proofs.lemmas.Map.Lookups.{exact_unsigned}
 use Rattle.intra.specs.Reached.{ReachedByRouter}
 use Rattle.intra.specs.Intras.{AreaIntraValue}
-use Rattle.intra.proofs.KeyOrders.{numbers_order}
-use Rattle.intra.proofs.KeyedMaps.{inserted, removed, set_here, set_elsewhere, gone_here, gone_elsewhere}
+use Rattle.ospf_types.proofs.KeyOrders.{numbers_order}
+use Rattle.result_map.proofs.KeyedMaps.{inserted, removed, set_here, set_elsewhere, gone_here, gone_elsewhere}
 use Rattle.intra.proofs.area.AreaIntra.put.Goals as goal
 use Rattle.intra.proofs.area.AreaIntra.put.Goals.{in-Some-1, in-None-1, in-Some-2, in-None-2}
 

@@ -3,8 +3,8 @@ use Rattle.std.specs.Cmp.{nat_cmp_total}
 use Rattle.std.specs.FinMap.{get}
 use Rattle.std.proofs.lemmas.Map.Lookups.{exact_unsigned}
 use Rattle.intra.specs.Intras.{AreaIntraValue}
-use Rattle.intra.proofs.KeyOrders.{numbers_order}
-use Rattle.intra.proofs.KeyedMaps.{looked_up}
+use Rattle.ospf_types.proofs.KeyOrders.{numbers_order}
+use Rattle.result_map.proofs.KeyedMaps.{looked_up}
 use Rattle.intra.proofs.area.AreaIntra.router.Goals as goal
 
 pub returns : goal.returns

@@ -2,7 +2,7 @@ use Rattle.std.proofs.Common.{◌≡◌, [], Some, None, sym, ap, refl, ◌∙�
 use Rattle.std.specs.FinMap.{get, insert}
 use Rattle.std.specs.Map.{lookup}
 use Rattle.intra.specs.Indexes.{IndexValue, SourcesByPrefix, sources_of}
-use Rattle.intra.proofs.KeyOrders.{prefixes_equal}
+use Rattle.ospf_types.proofs.KeyOrders.{prefixes_equal}
 use Rattle.intra.proofs.SourceMaps.{sources_map, sources_at, sources_written}
 use Rattle.intra.proofs.IndexSteps.{come_written}
 use Rattle.intra.proofs.area_index.AreaIndex.add_source.Goals as goal

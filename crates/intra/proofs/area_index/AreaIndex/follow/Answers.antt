@@ -4,7 +4,7 @@ use Rattle.ospf_types.specs.Lsa.{Body}
 use Rattle.area_trees.specs.Areas.{IsStanding}
 use Rattle.intra.specs.Indexes.{OfferedByVertex, OfferedValue, IsOfferedFor}
 use Rattle.ospf_types.proofs.VertexOrder.{vertex_total, vertex_exact}
-use Rattle.intra.proofs.KeyedMaps.{set_here, set_elsewhere, gone_here, gone_elsewhere}
+use Rattle.result_map.proofs.KeyedMaps.{set_here, set_elsewhere, gone_here, gone_elsewhere}
 use Rattle.intra.proofs.IndexSteps.{touched_twice}
 use Rattle.intra.proofs.area_index.AreaIndex.follow.Goals as goal
 

@@ -3,7 +3,7 @@ use Rattle.std.specs.FinMap.{insert, from_entries}
 use Rattle.ospf_types.specs.Vertices.{vertex_cmp}
 use Rattle.intra.specs.Indexes.{IndexValue, OfferedByVertex}
 use Rattle.ospf_types.proofs.VertexOrder.{vertex_total, vertex_exact, vertices_order}
-use Rattle.intra.proofs.KeyedMaps.{inserted}
+use Rattle.result_map.proofs.KeyedMaps.{inserted}
 use Rattle.intra.proofs.SourceMaps.{sources_map}
 use Rattle.intra.proofs.IndexSteps.{put_there, touched_come, come_kept, named_kept}
 use Rattle.intra.proofs.area_index.AreaIndex.put_in.Goals as goal

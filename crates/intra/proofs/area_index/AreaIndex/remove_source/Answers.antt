@@ -3,7 +3,7 @@ use Rattle.std.specs.FinMap.{get, insert, remove}
 use Rattle.std.specs.Map.{lookup}
 use Rattle.std.proofs.lemmas.Bool.Decides.{Decides-eqb}
 use Rattle.intra.specs.Indexes.{IndexValue, SourcesByPrefix, sources_of}
-use Rattle.intra.proofs.KeyOrders.{prefixes_equal}
+use Rattle.ospf_types.proofs.KeyOrders.{prefixes_equal}
 use Rattle.intra.proofs.SourceMaps.{sources_map, sources_at, sources_written, sources_removed}
 use Rattle.intra.proofs.IndexSteps.{no_sources, gone_absent, gone_written, gone_removed}
 use Rattle.intra.proofs.area_index.AreaIndex.remove_source.Goals as goal

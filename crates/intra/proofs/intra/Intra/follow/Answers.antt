@@ -3,7 +3,7 @@ use Rattle.std.proofs.Common.{◌≡◌, ℕ, List, length, ap, subst, sym, refl
 use Rattle.intra.specs.Intras.{IntraValue}
 use Rattle.ospf_types.proofs.Orders.{network_total, network_exact}
 use Rattle.intra.specs.Updating.{IsFollowed}
-use Rattle.intra.proofs.KeyOrders.{prefixes_order}
+use Rattle.ospf_types.proofs.KeyOrders.{prefixes_order}
 use Rattle.intra.proofs.SortedOnce.{strictly, same_items}
 use Rattle.intra.proofs.Placing.{first_at, first_weaker, followed_grown, items_of_slice}
 use Rattle.intra.proofs.intra.Intra.follow.Goals as goal

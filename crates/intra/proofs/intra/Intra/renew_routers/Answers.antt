@@ -5,7 +5,7 @@ use Rattle.intra.specs.Updating.{IsSettled}
 use Rattle.intra.proofs.Placing.{first_at, other_at, items_of_slice}
 use Rattle.std.specs.Cmp.{nat_cmp_total}
 use Rattle.std.proofs.lemmas.Map.Lookups.{exact_unsigned}
-use Rattle.intra.proofs.KeyOrders.{numbers_order}
+use Rattle.ospf_types.proofs.KeyOrders.{numbers_order}
 use Rattle.intra.proofs.SortedOnce.{strictly, same_items}
 use Rattle.intra.proofs.intra.Intra.renew_routers.Goals as goal
 

@@ -6,7 +6,8 @@ use Rattle.std.specs.List.Sorted.{IsStrictlySortedBy}
 use Rattle.ospf_types.specs.declared.key.Dest.{Dest}
 use Rattle.ospf_types.specs.declared.key.Dest.TheVariants.{Net, Router}
 use Rattle.ospf_types.specs.declared.prefix.Prefix.{Prefix}
-use Rattle.intra.specs.Changes.{dest_cmp, DiffersAt}
+use Rattle.intra.specs.Changes.{DiffersAt}
+use Rattle.ospf_types.specs.Keys.{dest_cmp}
 use Rattle.intra.specs.Intras.{AreAreaIntras, IntraValue}
 use Rattle.intra.specs.Renewing.{AreRenewed}
 use Rattle.intra.proofs.Updating.{updated, exactly, are_before, renewed_from}

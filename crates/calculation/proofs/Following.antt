@@ -1,0 +1,103 @@
+-- The layers of routes follow a state, each by what those below it answered.
+--   ranges_before, inter_before, external_before: what each layer was calculated from differs in no more than was answered
+--   items_kept: a network that no layer named has its item still
+use Rattle.std.proofs.Common.{◌≡◌, ℕ, List, ◌++◌, map, Option, Some, None, sym, ap, subst, ◌∙◌}
+use Rattle.std.specs.Prelude.{◌↔◌}
+use Rattle.std.specs.FinMap.{get}
+use Rattle.std.specs.List.{Contains}
+use Rattle.std.proofs.lemmas.List.Elements.{Contains-append_left, Contains-append_right}
+use Rattle.ospf_types.specs.declared.config.AreaConfig.{AreaConfig}
+use Rattle.ospf_types.specs.declared.config.Config.{Config}
+use Rattle.ospf_types.specs.declared.entry.Entry.{Entry}
+use Rattle.ospf_types.specs.declared.key.Dest.{Dest}
+use Rattle.ospf_types.specs.declared.key.Dest.TheVariants.{Net, Router}
+use Rattle.ospf_types.specs.declared.key.Key.{Key}
+use Rattle.ospf_types.specs.declared.key.Scope.{Scope}
+use Rattle.ospf_types.specs.declared.prefix.Prefix.{Prefix}
+use Rattle.ospf_types.proofs.Elements.{mapped_element}
+use Rattle.area_trees.specs.Areas.{AreaTreeValue}
+use Rattle.intra.specs.Changes.{DiffersAt}
+use Rattle.intra.specs.Intras.{AreaIntraValue, IntraValue, EntriesByPrefix, IsIntraOf, reached_at}
+use Rattle.summaries.specs.Active.{ActiveValue, AreRangesOf, EntriesDifferAmong, IsActiveIn, DiffersAt as RangeDiffers}
+use Rattle.inter.specs.Changes.{InputsDifferAmong as InterInputsDiffer, DiffersAt as InterDiffers}
+use Rattle.inter.specs.Inputs.{ExaminedValue, InterInputsValue}
+use Rattle.inter.specs.Inters.{InterValue, IsInterOf}
+use Rattle.external.specs.Changes.{InputsDifferAmong as ExternalInputsDiffer, DiffersAt as ExternalDiffers}
+use Rattle.external.specs.Inputs.{ExternalInputsValue}
+use Rattle.external.specs.Externals.{ExternalValue, IsExternalOf}
+use Rattle.route_table.specs.declared.table.Item.{Item}
+use Rattle.route_table.specs.declared.table.Item.TheVariants.{Route, Discard}
+use Rattle.event_state.specs.States.{State}
+use Rattle.calculation.specs.Calculations.{CalculationValue, IsCalculationOf, StatesDifferAmong, AreTreesOf, AreItemsKept, IsExaminedOf, IsItem, entry_else, entry_at, inputs_with, inter_inputs, external_inputs}
+use Rattle.calculation.proofs.Above.{kept_ids, inter_differ, external_differ}
+use Rattle.calculation.proofs.Staying.{networks_stay, routers_stay, ranges_stay, inter_stays, external_stays}
+
+-- an item is that of the same entry, and of what is active alike
+item_same : (entry other : Option Entry) (active also : Type 0) → other ≡ entry → (active → also) → (also → active) → (item : Option Item) → IsItem entry active item → IsItem other also item
+item_same entry other active also same there back None is = (same ∙ is.0, λ a. is.1 (back a))
+item_same entry other active also same there back (Some (Route e)) is = same ∙ is
+item_same entry other active also same there back (Some Discard) is = (same ∙ is.0, there is.1)
+
+module _ (s t : State) (keys : List (Scope × Key)) (ids : List ℕ) (differ : StatesDifferAmong keys ids s t) (c : CalculationValue) (is : IsCalculationOf s c)
+    (trees : List AreaTreeValue) (grown : AreTreesOf t t.config.areas trees) (intra : IntraValue) (kept : IsIntraOf (inputs_with t trees) intra)
+    (dests : List Dest) (exact : (d : Dest) → Contains dests d ↔ DiffersAt c.intra intra d) where
+  areas_same : t.config.areas ≡ s.config.areas
+  areas_same = ap (λ (k : Config). k.areas) differ.config
+
+  pub ranges_before : (before : EntriesByPrefix) × AreRangesOf t.config.areas before c.active × EntriesDifferAmong dests before intra.entries
+  ranges_before = (c.intra.entries, subst (λ (areas : List AreaConfig). AreRangesOf areas c.intra.entries c.active) (sym areas_same) is.active, networks_stay c.intra intra dests exact)
+
+  ids_same : map (λ (i : AreaIntraValue). i.id) intra.areas ≡ map (λ (i : AreaIntraValue). i.id) c.intra.areas
+  ids_same =
+      kept_ids t t.config.router t.config.areas trees intra.areas grown kept.areas ∙ ap (λ (areas : List AreaConfig). map (λ (a : AreaConfig). a.id) areas) areas_same
+      ∙ sym (kept_ids s s.config.router s.config.areas c.trees c.intra.areas is.trees is.intra.areas)
+
+  module _ (active : ActiveValue) (prefixes : List Prefix) (turned : (p : Prefix) → Contains prefixes p ↔ RangeDiffers c.active active p) (below : List Dest) (below_is : below ≡ dests ++ map Net prefixes) where
+    unnamed : (d : Dest) → (Contains below d → ⊥) → Contains dests d → ⊥
+    unnamed d not named = not (subst (λ (list : List Dest). Contains list d) (sym below_is) (Contains-append_left dests (map Net prefixes) d named))
+
+    networks : (p : Prefix) → (Contains below (Net p) → ⊥) → get intra.entries p ≡ get c.intra.entries p
+    networks p not = networks_stay c.intra intra dests exact p (unnamed (Net p) not)
+
+    routers : (r : ℕ) → (Contains below (Router r) → ⊥) → (area : ℕ) → reached_at intra.areas area r ≡ reached_at c.intra.areas area r
+    routers r not = routers_stay c.intra intra dests exact ids_same r (unnamed (Router r) not)
+
+    ranges : (p : Prefix) → (Contains below (Net p) → ⊥) → IsActiveIn active p ↔ IsActiveIn c.active p
+    ranges p not =
+        ranges_stay c.active active prefixes turned p
+        (λ named. not (subst (λ (list : List Dest). Contains list (Net p)) (sym below_is) (Contains-append_right dests (map Net prefixes) (Net p) (mapped_element Net prefixes p named))))
+
+    pub inter_before : (before : InterInputsValue) × IsInterOf before c.inter × ((examined : Option ExaminedValue) → IsExaminedOf t examined → InterInputsDiffer keys below before (inter_inputs t examined intra active))
+    inter_before = (
+      inter_inputs s is.examined c.intra c.active,
+      is.inter,
+      λ examined at. inter_differ s t keys ids differ below c.intra intra c.active active networks ranges routers is.examined examined is.examined_is at,
+    )
+
+    module _ (inter : InterValue) (others : List Dest) (changed : (d : Dest) → Contains others d ↔ InterDiffers c.inter inter d) (more : List Dest) (more_is : more ≡ below ++ others) where
+      lower : (d : Dest) → (Contains more d → ⊥) → Contains below d → ⊥
+      lower d not named = not (subst (λ (list : List Dest). Contains list d) (sym more_is) (Contains-append_left below others d named))
+
+      between : (d : Dest) → (Contains more d → ⊥) → get inter.entries d ≡ get c.inter.entries d
+      between d not = inter_stays c.inter inter others changed d (λ named. not (subst (λ (list : List Dest). Contains list d) (sym more_is) (Contains-append_right below others d named)))
+
+      pub external_before : (before : ExternalInputsValue) × IsExternalOf before c.external × ExternalInputsDiffer keys more before (external_inputs t intra active inter)
+      external_before = (
+        external_inputs s c.intra c.active c.inter,
+        is.external,
+        external_differ s t keys ids differ more c.intra intra c.active active (λ p not. networks p (lower (Net p) not)) (λ p not. ranges p (lower (Net p) not)) (λ r not. routers r (lower (Router r) not)) c.inter inter between,
+      )
+
+      module _ (external : ExternalValue) (last : List Dest) (renewed : (d : Dest) → Contains last d ↔ ExternalDiffers c.external external d) (all : List Dest) (all_is : all ≡ more ++ last) where
+        abbrev now : CalculationValue
+        now = record { trees = trees; intra = intra; active = active; inter = inter; external = external }
+
+        pub items_kept : AreItemsKept all c now
+        items_kept p item not =
+            let not_more = λ (named : Contains more (Net p)). not (subst (λ (list : List Dest). Contains list (Net p)) (sym all_is) (Contains-append_left more last (Net p) named)) in
+            let not_below = lower (Net p) not_more in
+            let first = networks p not_below in
+            let second = between (Net p) not_more in
+            let third = external_stays c.external external last renewed p (λ named. not (subst (λ (list : List Dest). Contains list (Net p)) (sym all_is) (Contains-append_right more last (Net p) named))) in
+            let both = ranges p not_below in
+            item_same (entry_at c p) (entry_at now p) (IsActiveIn c.active p) (IsActiveIn active p) (λ i. entry_else (first i) (entry_else (second i) (third i))) both.1 both.0 item

@@ -1,0 +1,119 @@
+use Rattle.std.proofs.Common.{◌≡◌, ◌++◌, List, map, sym, ap, subst, ◌∙◌}
+use Rattle.ospf_types.specs.declared.config.AreaConfig.{AreaConfig}
+use Rattle.ospf_types.specs.declared.config.Config.{Config}
+use Rattle.ospf_types.specs.declared.key.Dest.{Dest}
+use Rattle.ospf_types.specs.declared.key.Dest.TheVariants.{Net}
+use Rattle.ospf_types.specs.declared.prefix.Prefix.{Prefix}
+use Rattle.area_trees.specs.Areas.{AreaTreeValue}
+use Rattle.intra.specs.Intras.{IsIntraOf}
+use Rattle.summaries.specs.Active.{AreRangesOf, EntriesDifferAmong}
+use Rattle.summaries.specs.Right.{AreConfigured}
+use Rattle.event_state.specs.States.{inputs_of}
+use Rattle.calculation.specs.Calculations.{CalculationValue, AreItemsKept, AreTreesOf, inputs_with}
+use Rattle.calculation.specs.Followed.{AreLayersBehind}
+use Rattle.calculation.proofs.Above.{configured}
+use Rattle.calculation.proofs.Following.{ranges_before, inter_before, external_before, items_kept}
+use Rattle.calculation.proofs.calculation.Calculation.follow_layers.Goals as goal
+
+pub update-requires : goal.update-requires
+update-requires c =
+    let s = c.args.state.now in
+    let k : CalculationValue = record { trees = c.self.inside.trees.items; intra = c.self.inside.intra; active = c.self.inside.active; inter = c.self.inside.inter; external = c.self.inside.external } in
+    let b : AreLayersBehind s c.args.dirty.now k = subst (AreLayersBehind s c.args.dirty.now) (sym c.self.view_is) c.requires.before in
+    let grown : AreTreesOf s s.config.areas k.trees = subst (λ (v : CalculationValue). AreTreesOf s s.config.areas v.trees) (sym c.self.view_is) c.requires.trees in
+    let old : CalculationValue = record k { trees = b.1 } in
+    let intra = c.follow_intra.new.intra in
+    let kept : IsIntraOf (inputs_with s k.trees) intra = subst (λ (trees : List AreaTreeValue). IsIntraOf (inputs_with s trees) intra) c.deref.ensures.value c.in_ok-dests.ensures.kept in
+    let dests : List Dest = c.in_ok-dests.dests.items in
+    let listed : c.as_slice-areas.result.now ≡ s.config.areas = c.as_slice-areas.ensures ∙ ap (λ (x : Config). x.areas) c.config.ensures.value in
+    let before = ranges_before b.0 s c.args.dirty.now.keys.items c.args.dirty.now.interfaces.items b.3 old b.2 k.trees grown intra kept dests c.in_ok-dests.ensures.exact in
+    record {
+      before = (
+        before.0,
+        subst (λ (areas : List AreaConfig). AreRangesOf areas before.0 old.active) (sym listed) before.1,
+        subst (λ (ds : List Dest). EntriesDifferAmong ds before.0 intra.entries) (sym c.deref-2.ensures.value) before.2,
+      );
+    }
+
+pub follow_inter-requires-clause-ranged : goal.follow_inter-requires-clause-ranged
+follow_inter-requires-clause-ranged c =
+    let s = c.args.state.now in
+    let listed : c.as_slice-areas.result.now ≡ s.config.areas = c.as_slice-areas.ensures ∙ ap (λ (x : Config). x.areas) c.config.ensures.value in
+    c.in_ok-ranges.ensures.right (inputs_of s) (subst (λ (areas : List AreaConfig). AreConfigured (inputs_of s).areas areas) (sym listed) (configured s s.config.areas)) c.in_ok-dests.ensures.routed
+
+pub follow_inter-requires-clause-before : goal.follow_inter-requires-clause-before
+follow_inter-requires-clause-before c =
+    let s = c.args.state.now in
+    let k : CalculationValue = record { trees = c.self.inside.trees.items; intra = c.self.inside.intra; active = c.self.inside.active; inter = c.self.inside.inter; external = c.self.inside.external } in
+    let b : AreLayersBehind s c.args.dirty.now k = subst (AreLayersBehind s c.args.dirty.now) (sym c.self.view_is) c.requires.before in
+    let grown : AreTreesOf s s.config.areas k.trees = subst (λ (v : CalculationValue). AreTreesOf s s.config.areas v.trees) (sym c.self.view_is) c.requires.trees in
+    let old : CalculationValue = record k { trees = b.1 } in
+    let intra = c.follow_intra.new.intra in
+    let kept : IsIntraOf (inputs_with s k.trees) intra = subst (λ (trees : List AreaTreeValue). IsIntraOf (inputs_with s trees) intra) c.deref.ensures.value c.in_ok-dests.ensures.kept in
+    let dests : List Dest = c.in_ok-dests.dests.items in
+    let below : c.push_networks.new.dests.items ≡ dests ++ map Net c.in_ok-ranges.ranges.items = c.in_ok-push_networks.ensures ∙ ap (λ (ps : List Prefix). dests ++ map Net ps) c.deref-3.ensures.value in
+    inter_before b.0 s c.args.dirty.now.keys.items c.args.dirty.now.interfaces.items b.3 old b.2 k.trees grown intra kept dests c.in_ok-dests.ensures.exact c.update.new.self c.in_ok-ranges.ranges.items c.in_ok-ranges.ensures.exact c.push_networks.new.dests.items below
+
+pub follow_external-requires-clause-ranged : goal.follow_external-requires-clause-ranged
+follow_external-requires-clause-ranged c =
+    let s = c.args.state.now in
+    let listed : c.as_slice-areas.result.now ≡ s.config.areas = c.as_slice-areas.ensures ∙ ap (λ (x : Config). x.areas) c.config.ensures.value in
+    c.in_ok-ranges.ensures.right (inputs_of s) (subst (λ (areas : List AreaConfig). AreConfigured (inputs_of s).areas areas) (sym listed) (configured s s.config.areas)) c.in_ok-dests.ensures.routed
+
+pub follow_external-requires-clause-before : goal.follow_external-requires-clause-before
+follow_external-requires-clause-before c =
+    let s = c.args.state.now in
+    let k : CalculationValue = record { trees = c.self.inside.trees.items; intra = c.self.inside.intra; active = c.self.inside.active; inter = c.self.inside.inter; external = c.self.inside.external } in
+    let b : AreLayersBehind s c.args.dirty.now k = subst (AreLayersBehind s c.args.dirty.now) (sym c.self.view_is) c.requires.before in
+    let grown : AreTreesOf s s.config.areas k.trees = subst (λ (v : CalculationValue). AreTreesOf s s.config.areas v.trees) (sym c.self.view_is) c.requires.trees in
+    let old : CalculationValue = record k { trees = b.1 } in
+    let intra = c.follow_intra.new.intra in
+    let kept : IsIntraOf (inputs_with s k.trees) intra = subst (λ (trees : List AreaTreeValue). IsIntraOf (inputs_with s trees) intra) c.deref.ensures.value c.in_ok-dests.ensures.kept in
+    let dests : List Dest = c.in_ok-dests.dests.items in
+    let below : c.push_networks.new.dests.items ≡ dests ++ map Net c.in_ok-ranges.ranges.items = c.in_ok-push_networks.ensures ∙ ap (λ (ps : List Prefix). dests ++ map Net ps) c.deref-3.ensures.value in
+    let more : c.extend_from_slice.new.self.items ≡ c.push_networks.new.dests.items ++ c.in_ok-dests-2.dests.items = c.in_ok-extend_from_slice.ensures.items ∙ ap (λ (ds : List Dest). c.push_networks.new.dests.items ++ ds) c.deref-4.ensures.value in
+    external_before b.0 s c.args.dirty.now.keys.items c.args.dirty.now.interfaces.items b.3 old b.2 k.trees grown intra kept dests c.in_ok-dests.ensures.exact c.update.new.self c.in_ok-ranges.ranges.items c.in_ok-ranges.ensures.exact c.push_networks.new.dests.items below c.follow_inter.new.inter c.in_ok-dests-2.dests.items c.in_ok-dests-2.ensures.exact c.extend_from_slice.new.self.items more
+
+pub returns-clause-right : goal.returns-clause-right
+returns-clause-right c =
+    let s = c.args.state.now in
+    let k : CalculationValue = record { trees = c.self.inside.trees.items; intra = c.self.inside.intra; active = c.self.inside.active; inter = c.self.inside.inter; external = c.self.inside.external } in
+    let b : AreLayersBehind s c.args.dirty.now k = subst (AreLayersBehind s c.args.dirty.now) (sym c.self.view_is) c.requires.before in
+    let grown : AreTreesOf s s.config.areas k.trees = subst (λ (v : CalculationValue). AreTreesOf s s.config.areas v.trees) (sym c.self.view_is) c.requires.trees in
+    let old : CalculationValue = record k { trees = b.1 } in
+    let intra = c.follow_intra.new.intra in
+    let kept : IsIntraOf (inputs_with s k.trees) intra = subst (λ (trees : List AreaTreeValue). IsIntraOf (inputs_with s trees) intra) c.deref.ensures.value c.in_ok-dests.ensures.kept in
+    let dests : List Dest = c.in_ok-dests.dests.items in
+    let listed : c.as_slice-areas.result.now ≡ s.config.areas = c.as_slice-areas.ensures ∙ ap (λ (x : Config). x.areas) c.config.ensures.value in
+    let inter = c.in_ok-dests-2.ensures.kept in
+    record {
+      fit = c.in_ok-dests.ensures.fit;
+      trees = grown;
+      intra = kept;
+      routed = c.in_ok-dests.ensures.routed;
+      active = subst (λ (areas : List AreaConfig). AreRangesOf areas intra.entries c.update.new.self) listed c.in_ok-ranges.ensures.kept;
+      ranged = c.in_ok-ranges.ensures.right (inputs_of s) (subst (λ (areas : List AreaConfig). AreConfigured (inputs_of s).areas areas) (sym listed) (configured s s.config.areas)) c.in_ok-dests.ensures.routed;
+      examined = inter.0;
+      examined_is = inter.1;
+      inter = inter.2;
+      between = c.in_ok-dests-2.ensures.right;
+      external = c.in_ok-dests-3.ensures.kept;
+      outside = c.in_ok-dests-3.ensures.right;
+    }
+
+pub returns-clause-enough : goal.returns-clause-enough
+returns-clause-enough c =
+    let s = c.args.state.now in
+    let k : CalculationValue = record { trees = c.self.inside.trees.items; intra = c.self.inside.intra; active = c.self.inside.active; inter = c.self.inside.inter; external = c.self.inside.external } in
+    let b : AreLayersBehind s c.args.dirty.now k = subst (AreLayersBehind s c.args.dirty.now) (sym c.self.view_is) c.requires.before in
+    let grown : AreTreesOf s s.config.areas k.trees = subst (λ (v : CalculationValue). AreTreesOf s s.config.areas v.trees) (sym c.self.view_is) c.requires.trees in
+    let old : CalculationValue = record k { trees = b.1 } in
+    let intra = c.follow_intra.new.intra in
+    let kept : IsIntraOf (inputs_with s k.trees) intra = subst (λ (trees : List AreaTreeValue). IsIntraOf (inputs_with s trees) intra) c.deref.ensures.value c.in_ok-dests.ensures.kept in
+    let dests : List Dest = c.in_ok-dests.dests.items in
+    let below : c.push_networks.new.dests.items ≡ dests ++ map Net c.in_ok-ranges.ranges.items = c.in_ok-push_networks.ensures ∙ ap (λ (ps : List Prefix). dests ++ map Net ps) c.deref-3.ensures.value in
+    let more : c.extend_from_slice.new.self.items ≡ c.push_networks.new.dests.items ++ c.in_ok-dests-2.dests.items = c.in_ok-extend_from_slice.ensures.items ∙ ap (λ (ds : List Dest). c.push_networks.new.dests.items ++ ds) c.deref-4.ensures.value in
+    let last : c.extend_from_slice-2.new.self.items ≡ c.extend_from_slice.new.self.items ++ c.in_ok-dests-3.dests.items = c.in_ok-extend_from_slice-2.ensures.items ∙ ap (λ (ds : List Dest). c.extend_from_slice.new.self.items ++ ds) c.deref-5.ensures.value in
+    let now : CalculationValue = record { trees = k.trees; intra = intra; active = c.update.new.self; inter = c.follow_inter.new.inter; external = c.follow_external.new.external } in
+    subst (λ (v : CalculationValue). AreItemsKept c.extend_from_slice-2.new.self.items v now) c.self.view_is
+    (items_kept b.0 s c.args.dirty.now.keys.items c.args.dirty.now.interfaces.items b.3 old b.2 k.trees grown intra kept dests c.in_ok-dests.ensures.exact c.update.new.self c.in_ok-ranges.ranges.items c.in_ok-ranges.ensures.exact c.push_networks.new.dests.items below c.follow_inter.new.inter c.in_ok-dests-2.dests.items c.in_ok-dests-2.ensures.exact c.extend_from_slice.new.self.items more c.follow_external.new.external c.in_ok-dests-3.dests.items c.in_ok-dests-3.ensures.exact c.extend_from_slice-2.new.self.items last)

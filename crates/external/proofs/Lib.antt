@@ -1,0 +1,13 @@
+pub mod PreferredOffers
+pub mod LongestMatch
+pub mod Ways
+pub mod ExternalOffers
+pub mod RightPreferred
+pub mod RightForwards
+pub mod Right
+pub mod Frame
+pub mod Stable
+pub mod Renewed
+pub mod Updating
+pub mod Led
+pub mod OfferingRouters

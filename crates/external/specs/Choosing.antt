@@ -1,0 +1,55 @@
+-- What is offered to a choice of a preferred entry or of an external route, part by part.
+use Rattle.std.specs.Prelude.{ℕ, ◌≡◌, List, Option, Some}
+use Rattle.std.specs.FinMap.{get}
+use Rattle.ospf_types.specs.declared.hop.NextHop.{NextHop}
+use Rattle.ospf_types.specs.declared.hop.Path.{Path}
+use Rattle.ospf_types.specs.declared.key.Dest.TheVariants.{Net}
+use Rattle.ospf_types.specs.declared.key.Key.{Key}
+use Rattle.ospf_types.specs.declared.prefix.Prefix.{Prefix}
+use Rattle.ospf_types.specs.Boundary.{Preference, preference_cmp, intra_class}
+use Rattle.ospf_types.specs.External.{ExternalPreference, external_cmp}
+use Rattle.ospf_types.specs.Hops.{hop_cmp, path_cmp}
+use Rattle.ospf_types.specs.Inter.{through}
+use Rattle.ospf_types.specs.Intra.{E}
+use Rattle.intra.specs.Choices.{Chosen}
+use Rattle.intra.specs.Reached.{ReachedValue, HandsOut}
+use Rattle.intra.specs.Takes.{Takes, OnlyOffer, OfferedBySome}
+use Rattle.offer_index.specs.Advertised.{AdvertisedValue}
+use Rattle.offer_index.specs.Indexes.{AdvertisedByKey, OfferIndexValue, IsInGroup}
+use Rattle.offer_index.specs.declared.group.Group.TheVariants.{To}
+use Rattle.external.specs.Preferred.{PreferredByRouter}
+use Rattle.external.specs.Forwards.{ForwardsByAddress}
+use Rattle.external.specs.Offers.{AdvertisedOffers, preference_of}
+
+-- just these offers of next hops were taken
+abbrev pub TakesHops : (Preference → NextHop → Type 0) → Option (Chosen Preference NextHop) → Option (Chosen Preference NextHop) → Type 0
+TakesHops offers old new = Takes preference_cmp hop_cmp offers old new
+
+-- each of these next hops
+abbrev pub HopsOffer : List NextHop → Preference → Preference → NextHop → Type 0
+HopsOffer hops at = OfferedBySome hops (OnlyOffer at)
+
+-- what is kept of the router in the area offers it, if it is an AS boundary router
+abbrev pub AreaOffers : ℕ → Option ReachedValue → Preference → NextHop → Type 0
+AreaOffers area reached preference h = (preference.area ≡ area) × (preference.class ≡ intra_class area) × HandsOut E reached preference.cost h
+
+-- just these offers of paths were taken
+abbrev pub TakesPaths : (ExternalPreference → Path → Type 0) → Option (Chosen ExternalPreference Path) → Option (Chosen ExternalPreference Path) → Type 0
+TakesPaths offers old new = Takes external_cmp path_cmp offers old new
+
+-- a path by the router over each of these next hops
+abbrev pub PathsOffer : List NextHop → ℕ → ExternalPreference → ExternalPreference → Path → Type 0
+PathsOffer hops router at = OfferedBySome hops (λ h. OnlyOffer at (through router h))
+
+-- what is advertised under a key offers these next hops at this distance
+abbrev pub LeadsOffer : (ℕ → ℕ → NextHop → Type 0) → ℕ → AdvertisedValue → ExternalPreference → Path → Type 0
+LeadsOffer leads router a preference path = (class x : ℕ) × (h : NextHop) × leads class x h × (preference ≡ preference_of a class x) × (path ≡ through router h)
+
+-- what is advertised under the key, if anything, offers this
+abbrev pub KeyOffers : AdvertisedByKey → PreferredByRouter → ForwardsByAddress → Key → ExternalPreference → Path → Type 0
+KeyOffers routes preferred forwards k preference path = (a : AdvertisedValue) × (get routes k ≡ Some a)
+    × AdvertisedOffers (get preferred k.router) (get forwards a.forwarding) k a preference path
+
+-- what is advertised to the network offers this
+abbrev pub NetworkOffers : OfferIndexValue → PreferredByRouter → ForwardsByAddress → Prefix → ExternalPreference → Path → Type 0
+NetworkOffers i preferred forwards p preference path = (k : Key) × IsInGroup i (To (Net p)) k × KeyOffers i.routes preferred forwards k preference path

@@ -1,0 +1,264 @@
+//! The entry of an external network: the best of what AS-external-LSAs offer.
+ghost use Rattle.std.specs.Prelude.{◌≡◌, ◌<◌, None, Some, IfOk, OnOk};
+ghost use Rattle.std.specs.FinMap as map;
+ghost use Rattle.std.specs.List.Sorted.{IsStrictlySortedBy};
+ghost use Rattle.std.specs.Ordering.{nat_cmp};
+ghost use Rattle.ospf_types.specs.Hops.{path_cmp};
+ghost use Rattle.ospf_types.specs.Inter.{through};
+ghost use Rattle.ospf_types.specs.Routes.{entry_of, external_type};
+ghost use Rattle.intra.specs.Takes.{OnlyOffer, OfferedBySome};
+ghost use Rattle.inter.specs.Inters.{most_cost};
+ghost use Rattle.external.specs.Choosing.{TakesPaths, PathsOffer, LeadsOffer, KeyOffers, NetworkOffers};
+ghost use Rattle.external.specs.Externals.{IsEntryFor};
+ghost use Rattle.external.specs.Forwards.{WayOffers};
+ghost use Rattle.external.specs.Offers.{AdvertisedOffers, ForwardLeads, OffersBy, preference_of};
+
+use crate::forward::{Forward, Way, has_internal};
+use crate::inputs::ExternalInputs;
+use crate::preferred::Preferred;
+use intra::{Best, Choice, ExactOrd};
+use offer_index::{Advertised, Group, OfferIndex};
+use ospf_types::entry::{Entry, PathType, Paths};
+use ospf_types::hop::{NextHop, Path};
+use ospf_types::key::{Dest, Key};
+use ospf_types::memory::Memory;
+use ospf_types::prefix::Prefix;
+use result_map::ResultMap;
+use std::alloc::Global;
+use std::marker::Model;
+
+// What external routes to one network are compared by: type 1 before type 2, the metric of type 2, the class of the way, and
+// then the cost, which is the distance alone for type 2.
+#[derive(Clone, Copy, Debug, PartialEq, Eq, PartialOrd, Ord)]
+struct ExternalKey {
+    kind: u8,
+    metric: u32,
+    class: u8,
+    cost: u32,
+}
+
+impl Model for ExternalKey {
+    ghost use Rattle.ospf_types.specs.External.{ExternalPreference};
+
+    ghost Value = { ExternalPreference };
+
+    ghost view = { λ k. record { kind = k.kind; metric = k.metric; class = k.class; cost = k.cost } };
+
+    ghost inverse = { λ p. record { kind = p.kind; metric = p.metric; class = p.class; cost = p.cost } };
+}
+
+impl ExactOrd for ExternalKey {
+    ghost use Rattle.std.specs.Prelude.{ℕ};
+    ghost use Rattle.std.specs.Ordering.{nat_cmp, ordering_then};
+    ghost use Rattle.std.proofs.Common.{ap};
+    ghost use Rattle.std.proofs.lemmas.Map.Lookups.{exact_pairs, exact_unsigned};
+    ghost use Rattle.ospf_types.specs.External.{ExternalPreference};
+
+    ghost exact = { λ a b h.
+        ap (λ (t : ℕ × (ℕ × (ℕ × ℕ))). let p : ExternalPreference = record { kind = t.0; metric = t.1.0; class = t.1.1.0; cost = t.1.1.1 } in p)
+        (exact_pairs nat_cmp (λ (x y : ℕ × (ℕ × ℕ)). ordering_then (nat_cmp x.0 y.0) (ordering_then (nat_cmp x.1.0 y.1.0) (nat_cmp x.1.1 y.1.1))) exact_unsigned
+        (exact_pairs nat_cmp (λ (x y : ℕ × ℕ). ordering_then (nat_cmp x.0 y.0) (nat_cmp x.1 y.1)) exact_unsigned (exact_pairs nat_cmp nat_cmp exact_unsigned exact_unsigned))
+        (a.kind, (a.metric, (a.class, a.cost))) (b.kind, (b.metric, (b.class, b.cost))) h) };
+}
+
+impl ExternalKey {
+    // That of a route, over a way of this class and distance.
+    fn of(route: Advertised, class: u8, distance: u32) -> ExternalKey
+        requires { distance < most_cost }
+        ensures { result ≡ preference_of route class distance }
+    {
+        if route.is_type_2() {
+            ExternalKey {
+                kind: 2,
+                metric: route.metric(),
+                class,
+                cost: distance,
+            }
+        } else {
+            ExternalKey {
+                kind: 1,
+                metric: 0,
+                class,
+                cost: distance + route.metric(),
+            }
+        }
+    }
+
+    fn path_type(self) -> PathType
+        ensures { result ≡ external_type self.kind }
+    {
+        if self.kind == 1 {
+            PathType::External1
+        } else {
+            PathType::External2
+        }
+    }
+}
+
+/// The entry of the network by the index, with what is kept of AS boundary routers and of forwarding addresses; none where
+/// nothing is offered.
+pub(crate) fn choose(
+    alloc: Global,
+    inputs: &ExternalInputs<'_>,
+    index: &OfferIndex,
+    preferred: &ResultMap<u32, Preferred>,
+    forwards: &ResultMap<u32, Forward>,
+    network: Prefix,
+) -> Result<Option<Entry>, Memory>
+    ensures { IfOk result (IsEntryFor (OffersBy inputs.now (map.from_entries preferred.now.entries) (map.from_entries forwards.now.entries) (λ k a. map.get index.now.routes k ≡ Some a) network)) }
+{
+    if has_internal(inputs, network) {
+        return Ok(None);
+    }
+    let mut best = Best::new(alloc);
+    offer_network(alloc, &mut best, index, preferred, forwards, network)?;
+    match best.into_choice() {
+        Some(choice) => Ok(Some(entry(choice))),
+        None => Ok(None),
+    }
+}
+
+// The external entry of a choice.
+fn entry(choice: Choice<ExternalKey, Path>) -> Entry
+    requires { IsStrictlySortedBy path_cmp choice.items }
+    ensures { result ≡ entry_of (external_type choice.key.kind) None choice.key.cost choice.key.metric choice.items }
+{
+    let (key, paths) = choice.into_parts();
+    Entry {
+        kind: key.path_type(),
+        area: None,
+        cost: key.cost,
+        cost2: key.metric,
+        paths: Paths::new(paths),
+    }
+}
+
+// Offers what is advertised to the network.
+fn offer_network(
+    alloc: Global,
+    best: &mut Best<ExternalKey, Path>,
+    index: &OfferIndex,
+    preferred: &ResultMap<u32, Preferred>,
+    forwards: &ResultMap<u32, Forward>,
+    network: Prefix,
+) -> Result<(), Memory>
+    ensures { OnOk result (TakesPaths (NetworkOffers index.now (map.from_entries preferred.now.entries) (map.from_entries forwards.now.entries) network) best.old best.new) }
+{
+    let mut keys = Vec::new(alloc);
+    index.push_keys(Group::To(Dest::Net(network)), &mut keys)?;
+    offer_keys(best, index, preferred, forwards, keys.as_slice())
+}
+
+// Offers what is advertised under each of these keys.
+fn offer_keys(
+    best: &mut Best<ExternalKey, Path>,
+    index: &OfferIndex,
+    preferred: &ResultMap<u32, Preferred>,
+    forwards: &ResultMap<u32, Forward>,
+    keys: &[Key],
+) -> Result<(), Memory>
+    ensures { OnOk result (TakesPaths (OfferedBySome keys.now (KeyOffers index.now.routes (map.from_entries preferred.now.entries) (map.from_entries forwards.now.entries))) best.old best.new) }
+{
+    for key in keys {
+        offer_key(best, index, preferred, forwards, *key)?;
+    }
+    Ok(())
+}
+
+// Offers what is advertised under the key, if its AS boundary router has an entry.
+fn offer_key(
+    best: &mut Best<ExternalKey, Path>,
+    index: &OfferIndex,
+    preferred: &ResultMap<u32, Preferred>,
+    forwards: &ResultMap<u32, Forward>,
+    key: Key,
+) -> Result<(), Memory>
+    ensures { OnOk result (TakesPaths (KeyOffers index.now.routes (map.from_entries preferred.now.entries) (map.from_entries forwards.now.entries) key) best.old best.new) }
+{
+    let Some(route) = index.route(key) else {
+        return Ok(());
+    };
+    match preferred.get(key.router) {
+        Some(entry) => offer_route(best, key, *route, entry, forwards),
+        None => Ok(()),
+    }
+}
+
+// Offers the route of an AS boundary router with this entry.
+fn offer_route(
+    best: &mut Best<ExternalKey, Path>,
+    key: Key,
+    route: Advertised,
+    entry: &Preferred,
+    forwards: &ResultMap<u32, Forward>,
+) -> Result<(), Memory>
+    ensures { OnOk result (TakesPaths (AdvertisedOffers (Some entry.now) (map.get (map.from_entries {R = nat_cmp} forwards.now.entries) route.forwarding) key route) best.old best.new) }
+{
+    if route.forwarding() == 0 {
+        let at = ExternalKey::of(route, entry.class(), entry.cost());
+        return offer_hops(best, at, key.router, entry.hops());
+    }
+    match forwards.get(route.forwarding()) {
+        Some(forward) => offer_forward(best, key.router, route, forward),
+        None => Ok(()),
+    }
+}
+
+// Offers the route of the router over the way to its forwarding address, if there is one.
+fn offer_forward(
+    best: &mut Best<ExternalKey, Path>,
+    router: u32,
+    route: Advertised,
+    forward: &Forward,
+) -> Result<(), Memory>
+    ensures { OnOk result (TakesPaths (LeadsOffer (ForwardLeads (Some forward.now)) router route) best.old best.new) }
+{
+    match forward.way() {
+        Some(way) => offer_way(best, router, route, way),
+        None => Ok(()),
+    }
+}
+
+// Offers the route of the router over the way to its forwarding address.
+fn offer_way(
+    best: &mut Best<ExternalKey, Path>,
+    router: u32,
+    route: Advertised,
+    way: &Way,
+) -> Result<(), Memory>
+    ensures { OnOk result (TakesPaths (LeadsOffer (WayOffers (Some way.now)) router route) best.old best.new) }
+{
+    let at = ExternalKey::of(route, way.class(), way.cost());
+    offer_hops(best, at, router, way.hops())
+}
+
+// Offers a path by the router over each of these next hops.
+fn offer_hops(
+    best: &mut Best<ExternalKey, Path>,
+    at: ExternalKey,
+    router: u32,
+    hops: &[NextHop],
+) -> Result<(), Memory>
+    ensures { OnOk result (TakesPaths (PathsOffer hops.now router at) best.old best.new) }
+{
+    for hop in hops {
+        offer_hop(best, at, router, *hop)?;
+    }
+    Ok(())
+}
+
+// Offers a path by the router over the next hop.
+fn offer_hop(
+    best: &mut Best<ExternalKey, Path>,
+    at: ExternalKey,
+    router: u32,
+    hop: NextHop,
+) -> Result<(), Memory>
+    ensures { OnOk result (TakesPaths (OnlyOffer at (through router hop)) best.old best.new) }
+{
+    let path = Path {
+        hop,
+        advertiser: Some(router),
+    };
+    best.offer(at, path)
+}

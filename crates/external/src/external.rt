@@ -1,0 +1,263 @@
+ghost use Rattle.std.specs.Prelude.{ℕ, ◌≡◌, ◌↔◌, List, Contains, IsSome, IfOk, OnOk, OnErr, false, option_copied};
+ghost use Rattle.std.specs.FinMap as map;
+ghost use Rattle.std.specs.List.Sorted.{IsStrictlySortedBy};
+ghost use Rattle.ospf_types.specs.declared.hop.NextHop.{NextHop as HopValue};
+ghost use Rattle.ospf_types.specs.declared.key.Dest.{Dest as DestValue};
+ghost use Rattle.ospf_types.specs.declared.key.Dest.TheVariants as dest_value;
+ghost use Rattle.ospf_types.specs.declared.prefix.Prefix.{Prefix as PrefixValue};
+ghost use Rattle.ospf_types.specs.Boundary.{Preference};
+ghost use Rattle.ospf_types.specs.Inputs.{Inputs as Definitions};
+ghost use Rattle.ospf_types.specs.Keys.{dest_cmp};
+ghost use Rattle.external.specs.Inputs.{ExternalInputsValue};
+ghost use Rattle.external.specs.Preferred.{RouterOffers};
+ghost use Rattle.external.specs.Externals.{IsExternalOf, spent_routes};
+ghost use Rattle.external.specs.Changes.{InputsDifferAmong, DiffersAt};
+ghost use Rattle.external.specs.Renewing.{StandsBut};
+ghost use Rattle.external.specs.Right.{AreInputsOf, IsRightFor};
+
+use crate::forward::Forward;
+use crate::inputs::ExternalInputs;
+use crate::preferred::Preferred;
+use crate::renew::{
+    Choosing, Forwarding, add_routers, push_by, push_forwarded, push_routers, renew_entries,
+    renew_forwards, renew_preferred,
+};
+use intra::Dirty;
+use offer_index::{Affected, OfferIndex};
+use ospf_types::entry::Entry;
+use ospf_types::key::{Dest, Scope};
+use ospf_types::memory::Memory;
+use ospf_types::prefix::Prefix;
+use result_map::ResultMap;
+use std::alloc::Global;
+use std::hash::RandomState;
+use std::marker::Model;
+
+/// The external routes of a router: the entry of each network outside the AS, and the preferred entry of each AS boundary
+/// router.
+#[derive(Drop)]
+#[derive_where(Debug)]
+pub struct External {
+    #[derive_where(skip)]
+    hashing: RandomState,
+    index: OfferIndex,
+    preferred: ResultMap<u32, Preferred>,
+    forwards: ResultMap<u32, Forward>,
+    entries: ResultMap<Prefix, Entry>,
+    spent: bool,
+}
+
+impl Model for External {
+    ghost use Rattle.std.specs.FinMap as map;
+    ghost use Rattle.std.specs.Coded.{Coded, codes, coded_ℕ};
+    ghost use Rattle.ospf_types.specs.Network.{network_code};
+    ghost use Rattle.ospf_types.specs.contracts.entry.Entry as entry;
+    ghost use Rattle.intra.specs.Intras.{EntriesByPrefix};
+    ghost use Rattle.offer_index.specs.contracts.index.OfferIndex as kept_index;
+    ghost use Rattle.external.specs.Preferred.{PreferredByRouter};
+    ghost use Rattle.external.specs.Forwards.{ForwardsByAddress};
+    ghost use Rattle.external.specs.Externals.{ExternalValue};
+    ghost use Rattle.external.specs.contracts.preferred.Preferred as kept_entry;
+    ghost use Rattle.external.specs.contracts.forward.Forward as kept_forward;
+
+    ghost Value = { ExternalValue };
+
+    ghost coded = { let preferred : Coded PreferredByRouter = map.code coded_ℕ kept_entry.the_row.coded in
+        let forwards : Coded ForwardsByAddress = map.code coded_ℕ kept_forward.the_row.coded in
+        let entries : Coded EntriesByPrefix = map.code network_code (Prim.hlevel (codes, entry.the_row.coded)) in
+        Prim.hlevel (codes, kept_index.the_row.coded, preferred, forwards, entries) };
+
+    ghost view = { λ e. record { index = e.index; preferred = map.from_entries e.preferred.entries; forwards = map.from_entries e.forwards.entries; entries = map.from_entries e.entries.entries; spent = e.spent } };
+}
+
+impl External {
+    /// The routes of these inputs, from scratch.
+    pub fn build(
+        alloc: Global,
+        inputs: &ExternalInputs<'_>,
+        hashing: RandomState,
+    ) -> Result<External, Memory>
+        ensures kept { IfOk result (IsExternalOf inputs.now) }
+        ensures right { IfOk result (λ external. (s : Definitions) → AreInputsOf s inputs.now → IsRightFor s external) }
+    {
+        let mut external = External::blank(alloc, hashing);
+        let affected = external.follow_all(alloc, inputs)?;
+        let routers = boundary_routers(alloc, inputs)?;
+        external.renew(alloc, inputs, routers.as_slice(), affected)?;
+        Ok(external)
+    }
+
+    /// Works out again what may differ, and answers the destinations whose result does: networks, and AS boundary routers
+    /// with another preferred entry; ascending, each once. Where memory is refused, all is spent: nothing is answered any
+    /// more, and only `build` makes another.
+    pub fn update(
+        &mut self,
+        alloc: Global,
+        inputs: &ExternalInputs<'_>,
+        dirty: &Dirty,
+    ) -> Result<Vec<Dest>, Memory>
+        requires before { (before : ExternalInputsValue) × IsExternalOf before self.old × InputsDifferAmong dirty.now.keys.items dirty.now.dests.items before inputs.now }
+        ensures kept { OnOk result (IsExternalOf inputs.now self.new) }
+        ensures right { OnOk result ((s : Definitions) → AreInputsOf s inputs.now → IsRightFor s self.new) }
+        ensures in_order { IfOk result (λ dests. IsStrictlySortedBy dest_cmp dests.items) }
+        ensures exact { IfOk result (λ dests. (d : DestValue) → Contains dests.items d ↔ DiffersAt self.old self.new d) }
+        ensures spent { OnErr result (self.new ≡ spent_routes) }
+    {
+        let dests = self.update_parts(alloc, inputs, dirty);
+        if dests.is_err() {
+            self.spend(alloc);
+        }
+        dests
+    }
+
+    /// The entry of a network; none where it has none, or where all is spent.
+    pub fn get(&self, network: Prefix) -> Option<&Entry>
+        ensures { option_copied result ≡ map.get self.now.entries network }
+    {
+        self.entries.get(network)
+    }
+
+    /// The networks that have an entry, in no stated order, each once.
+    pub fn networks(&self, alloc: Global) -> Result<Vec<Prefix>, Memory>
+        ensures { IfOk result (λ networks. (p : PrefixValue) → Contains networks.items p ↔ IsSome (map.get self.now.entries p)) }
+    {
+        self.entries.keys(alloc)
+    }
+
+    /// The preferred entry of an AS boundary router; none where it is not reached, or where all is spent.
+    pub fn preferred(&self, router: u32) -> Option<&Preferred>
+        ensures { option_copied result ≡ map.get self.now.preferred router }
+    {
+        self.preferred.get(router)
+    }
+
+    /// Whether an update was refused memory.
+    pub fn spent(&self) -> bool
+        ensures { result ≡ self.now.spent }
+    {
+        self.spent
+    }
+}
+
+impl External {
+    // The routes where nothing is advertised.
+    fn blank(alloc: Global, hashing: RandomState) -> External
+        ensures { result ≡ record { index = record { routes = map.empty }; preferred = map.empty; forwards = map.empty; entries = map.empty; spent = false } }
+    {
+        External {
+            hashing,
+            index: OfferIndex::new(alloc, hashing),
+            preferred: ResultMap::new(alloc, hashing),
+            forwards: ResultMap::new(alloc, hashing),
+            entries: ResultMap::new(alloc, hashing),
+            spent: false,
+        }
+    }
+
+    // The same; after an error some parts followed and others did not.
+    fn update_parts(
+        &mut self,
+        alloc: Global,
+        inputs: &ExternalInputs<'_>,
+        dirty: &Dirty,
+    ) -> Result<Vec<Dest>, Memory>
+        requires before { (before : ExternalInputsValue) × IsExternalOf before self.old × InputsDifferAmong dirty.now.keys.items dirty.now.dests.items before inputs.now }
+        ensures kept { OnOk result (IsExternalOf inputs.now self.new) }
+        ensures in_order { IfOk result (λ dests. IsStrictlySortedBy dest_cmp dests.items) }
+        ensures exact { IfOk result (λ dests. (d : DestValue) → Contains dests.items d ↔ DiffersAt self.old self.new d) }
+    {
+        let affected = self.follow(alloc, inputs, dirty)?;
+        self.renew(alloc, inputs, dirty.dests.as_slice(), affected)
+    }
+
+    // The index follows. The answer is what may differ for it.
+    fn follow(
+        &mut self,
+        alloc: Global,
+        inputs: &ExternalInputs<'_>,
+        dirty: &Dirty,
+    ) -> Result<Affected, Memory>
+        requires before { (before : ExternalInputsValue) × IsExternalOf before self.old × InputsDifferAmong dirty.now.keys.items dirty.now.dests.items before inputs.now }
+        ensures preferred { OnOk result (self.new.preferred ≡ self.old.preferred) }
+        ensures entries { OnOk result (self.new.entries ≡ self.old.entries) }
+        ensures stands { IfOk result (λ affected. StandsBut inputs.now dirty.now.dests.items affected self.new) }
+    {
+        let mut affected = Affected::none(alloc);
+        self.index.follow(
+            inputs.root,
+            Scope::As,
+            inputs.database,
+            dirty.keys.as_slice(),
+            &mut affected,
+        )?;
+        Ok(affected)
+    }
+
+    // The same from nothing: all may differ.
+    fn follow_all(&mut self, alloc: Global, inputs: &ExternalInputs<'_>) -> Result<Affected, Memory>
+        requires { self.old ≡ record { index = record { routes = map.empty }; preferred = map.empty; forwards = map.empty; entries = map.empty; spent = false } }
+        ensures { IfOk result (λ affected. (dests : List DestValue) → ((r : ℕ) (preference : Preference) (h : HopValue) → RouterOffers inputs.now r preference h → Contains dests (dest_value.Router r)) → StandsBut inputs.now dests affected self.new) }
+    {
+        let mut affected = Affected::none(alloc);
+        self.index
+            .follow_all(inputs.root, Scope::As, inputs.database, &mut affected)?;
+        Ok(affected)
+    }
+
+    // Works out again what is named and affected. The answer is the destinations with another result, ascending, each once.
+    fn renew(
+        &mut self,
+        alloc: Global,
+        inputs: &ExternalInputs<'_>,
+        dests: &[Dest],
+        affected: Affected,
+    ) -> Result<Vec<Dest>, Memory>
+        requires { StandsBut inputs.now dests.now affected self.old }
+        ensures kept { OnOk result (IsExternalOf inputs.now self.new) }
+        ensures in_order { IfOk result (λ named. IsStrictlySortedBy dest_cmp named.items) }
+        ensures exact { IfOk result (λ named. (d : DestValue) → Contains named.items d ↔ DiffersAt self.old self.new d) }
+    {
+        let Affected {
+            dests: mut leading,
+            addresses,
+        } = affected;
+        let index = &self.index;
+        let routers = renew_preferred(alloc, inputs, dests, &mut self.preferred)?;
+        let forwarding = Forwarding { inputs, index };
+        let moved = renew_forwards(alloc, &forwarding, dests, addresses, &mut self.forwards)?;
+        push_by(index, routers.as_slice(), &mut leading)?;
+        push_forwarded(index, moved.as_slice(), &mut leading)?;
+        leading.extend_from_slice(dests)?;
+        let choosing = Choosing {
+            inputs,
+            index,
+            preferred: &self.preferred,
+            forwards: &self.forwards,
+        };
+        let mut named = renew_entries(alloc, &choosing, leading.as_slice(), &mut self.entries)?;
+        add_routers(routers.as_slice(), &mut named)?;
+        Ok(named)
+    }
+
+    fn spend(&mut self, alloc: Global)
+        ensures { self.new ≡ spent_routes }
+    {
+        self.index = OfferIndex::new(alloc, self.hashing);
+        self.preferred.clear();
+        self.forwards.clear();
+        self.entries.clear();
+        self.spent = true;
+    }
+}
+
+// The AS boundary routers to which something leads.
+fn boundary_routers(alloc: Global, inputs: &ExternalInputs<'_>) -> Result<Vec<Dest>, Memory>
+    ensures { IfOk result (λ dests. (r : ℕ) (preference : Preference) (h : HopValue) → RouterOffers inputs.now r preference h → Contains dests.items (dest_value.Router r)) }
+{
+    let mut routers = inputs.intra.routers(alloc)?;
+    let others = inputs.inter.dests(alloc)?;
+    push_routers(others.as_slice(), &mut routers)?;
+    let mut dests = Vec::new(alloc);
+    add_routers(routers.as_slice(), &mut dests)?;
+    Ok(dests)
+}

@@ -1,0 +1,221 @@
+//! Where a forwarding address leads (RFC 2328, 16.4).
+ghost use Rattle.std.specs.Prelude.{ℕ, ◌≡◌, ◌↔◌, ◌<◌, Some, IfOk, IfSome, IsSome, IsTrue, map as list_map, option_copied};
+ghost use Rattle.ospf_types.specs.declared.hop.NextHop.{NextHop as HopValue};
+ghost use Rattle.ospf_types.specs.External.{toward};
+ghost use Rattle.inter.specs.Inters.{most_cost};
+ghost use Rattle.external.specs.Forwards.{IsForwardOf, IsMatchOf, LeadsBy, Matches, WayOffers, class_at, internal_entry};
+
+use crate::inputs::ExternalInputs;
+use crate::preferred::intra_class;
+use ospf_types::entry::Entry;
+use ospf_types::hop::{NextHop, Path};
+use ospf_types::key::Dest;
+use ospf_types::memory::Memory;
+use ospf_types::prefix::Prefix;
+use result_map::{Same, are_same};
+use std::alloc::Global;
+use std::marker::Model;
+
+/// A way to a forwarding address: its class, its cost, and its next hops, each toward the address.
+#[derive(Debug, Drop)]
+pub(crate) struct Way {
+    class: u8,
+    cost: u32,
+    hops: Vec<NextHop>,
+}
+
+impl Model for Way {
+    ghost use Rattle.std.specs.Prelude.{◌<◌};
+    ghost use Rattle.inter.specs.Inters.{most_cost};
+    ghost use Rattle.external.specs.Forwards.{WayValue};
+
+    ghost Value = { WayValue };
+
+    ghost view = { λ w. record { class = w.class; cost = w.cost; hops = w.hops.items } };
+
+    ghost invariant = { λ w. w.cost < most_cost };
+}
+
+impl Way {
+    pub(crate) fn class(&self) -> u8
+        ensures { result ≡ self.now.class }
+    {
+        self.class
+    }
+
+    /// The cost, a sum of metrics.
+    pub(crate) fn cost(&self) -> u32
+        ensures value { result ≡ self.now.cost }
+        ensures bounded { self.now.cost < most_cost }
+    {
+        self.cost
+    }
+
+    /// The next hops, in the order of the entry's paths.
+    pub(crate) fn hops(&self) -> &[NextHop]
+        ensures { result.now ≡ self.now.hops }
+    {
+        self.hops.as_slice()
+    }
+
+    // Whether class and cost are equal.
+    fn has_numbers_of(&self, other: &Way) -> bool
+        ensures { IsTrue result ↔ ((self.now.class ≡ other.now.class) × (self.now.cost ≡ other.now.cost)) }
+    {
+        self.class == other.class && self.cost == other.cost
+    }
+}
+
+impl Same for Way {
+    fn is_same(&self, other: &Way) -> bool {
+        self.has_numbers_of(other) && self.hops == other.hops
+    }
+}
+
+/// The longest match of a forwarding address, and the way there; none where the match is a discard.
+#[derive(Debug, Drop)]
+pub(crate) struct Forward {
+    matched: Option<Prefix>,
+    way: Option<Way>,
+}
+
+impl Model for Forward {
+    ghost use Rattle.external.specs.Forwards.{ForwardValue};
+
+    ghost Value = { ForwardValue };
+
+    ghost view = { λ f. record { matched = f.matched; way = f.way } };
+}
+
+impl Forward {
+    /// The longest match of the address; none where nothing contains it.
+    pub(crate) fn matched(&self) -> Option<Prefix>
+        ensures { result ≡ self.now.matched }
+    {
+        self.matched
+    }
+
+    /// The way there; none where nothing matches, and where the match is a discard.
+    pub(crate) fn way(&self) -> Option<&Way>
+        ensures { option_copied result ≡ self.now.way }
+    {
+        self.way.as_ref()
+    }
+}
+
+impl Same for Forward {
+    fn is_same(&self, other: &Forward) -> bool {
+        self.matched == other.matched && are_same(self.way.as_ref(), other.way.as_ref())
+    }
+}
+
+/// The longest match among the networks with an intra-area or inter-area entry and the active ranges.
+pub(crate) fn look_up(
+    alloc: Global,
+    inputs: &ExternalInputs<'_>,
+    address: u32,
+) -> Result<Forward, Memory>
+    ensures { IfOk result (IsForwardOf inputs.now address) }
+{
+    match longest_match(inputs, address) {
+        Some(network) => Ok(Forward {
+            matched: Some(network),
+            way: way_by(alloc, inputs, network, address)?,
+        }),
+        None => Ok(Forward {
+            matched: None,
+            way: None,
+        }),
+    }
+}
+
+/// Whether the network has an intra-area or inter-area entry.
+pub(crate) fn has_internal(inputs: &ExternalInputs<'_>, network: Prefix) -> bool
+    ensures { IsTrue result ↔ IsSome (internal_entry inputs.now network) }
+{
+    internal(inputs, network).is_some()
+}
+
+// The intra-area entry of the network, else its inter-area one.
+fn internal<'a>(inputs: &ExternalInputs<'a>, network: Prefix) -> Option<&'a Entry>
+    ensures value { option_copied result ≡ internal_entry inputs.now network }
+    ensures bounded { IfSome result (λ e. e.now.cost < most_cost) }
+{
+    match inputs.intra.get(network) {
+        Some(entry) => Some(entry),
+        None => inputs.inter.get(Dest::Net(network)),
+    }
+}
+
+// The longest match of the address; none where nothing contains it.
+fn longest_match(inputs: &ExternalInputs<'_>, address: u32) -> Option<Prefix>
+    ensures { IsMatchOf inputs.now address result }
+{
+    for length in (0..33).rev() {
+        let network = match Prefix::new(address, length) {
+            Some(network) => network,
+            None => unreachable!(),
+        };
+        if is_match(inputs, network) {
+            return Some(network);
+        }
+    }
+    None
+}
+
+// Whether the network has an internal entry, or is the prefix of an active range.
+fn is_match(inputs: &ExternalInputs<'_>, network: Prefix) -> bool
+    ensures { IsTrue result ↔ Matches inputs.now network }
+{
+    has_internal(inputs, network) || inputs.active.contains(network)
+}
+
+// The way to the address by the network's entry; none where it has none.
+fn way_by(
+    alloc: Global,
+    inputs: &ExternalInputs<'_>,
+    network: Prefix,
+    address: u32,
+) -> Result<Option<Way>, Memory>
+    ensures { IfOk result (λ way. (class cost : ℕ) (h : HopValue) → WayOffers way class cost h ↔ LeadsBy inputs.now address (Some network) class cost h) }
+{
+    match internal(inputs, network) {
+        Some(entry) => Ok(Some(Way {
+            class: class_at(inputs, network, entry.area),
+            cost: entry.cost,
+            hops: hops_toward(alloc, address, entry.paths.as_slice())?,
+        })),
+        None => Ok(None),
+    }
+}
+
+// The class of the network's entry, which is in this area.
+fn class_at(inputs: &ExternalInputs<'_>, network: Prefix, area: Option<u32>) -> u8
+    ensures { result ≡ class_at inputs.now network area }
+{
+    match (inputs.intra.get(network), area) {
+        (Some(_), Some(area)) => intra_class(area),
+        _ => 1,
+    }
+}
+
+// The next hops of the paths, each toward the address.
+fn hops_toward(alloc: Global, address: u32, paths: &[Path]) -> Result<Vec<NextHop>, Memory>
+    ensures { IfOk result (λ hops. hops.items ≡ list_map (λ path. toward address path.hop) paths.now) }
+{
+    let mut hops = Vec::with_capacity(alloc, paths.len())?;
+    for path in paths {
+        hops.push(toward(address, path.hop))?;
+    }
+    Ok(hops)
+}
+
+// The next hop toward the address: on a network of the root that is the address itself.
+fn toward(address: u32, hop: NextHop) -> NextHop
+    ensures { result ≡ toward address hop }
+{
+    match hop {
+        NextHop::Direct(id) => NextHop::Router(id, address),
+        _ => hop,
+    }
+}

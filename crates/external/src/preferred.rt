@@ -1,0 +1,281 @@
+//! The preferred entry of an AS boundary router (RFC 2328, 16.4 and 16.4.1).
+ghost use Rattle.std.specs.Prelude.{◌≡◌, ◌↔◌, ◌<◌, Some, IfOk, OnOk, IsTrue};
+ghost use Rattle.std.specs.FinMap as map;
+ghost use Rattle.ospf_types.specs.declared.key.Dest.TheVariants as dest_value;
+ghost use Rattle.ospf_types.specs.Boundary.{intra_class};
+ghost use Rattle.intra.specs.Takes.{OnlyOffer, OfferedBySome};
+ghost use Rattle.inter.specs.Inters.{most_cost};
+ghost use Rattle.external.specs.Choosing.{TakesHops, HopsOffer, AreaOffers};
+ghost use Rattle.external.specs.Preferred.{RouterOffers, ReachedOffers, EntryOffers, IsPreferredFor};
+
+use crate::inputs::ExternalInputs;
+use intra::{Best, Choice, ExactOrd, Reached};
+use ospf_types::entry::Entry;
+use ospf_types::hop::{NextHop, Path};
+use ospf_types::key::Dest;
+use ospf_types::memory::Memory;
+use result_map::Same;
+use std::alloc::Global;
+use std::cmp::Reverse;
+use std::marker::Model;
+
+/// The preferred entry of an AS boundary router: an intra-area path through another area than the backbone before all
+/// others, then the lesser cost, then the greater Area ID.
+#[derive(Debug, Drop)]
+pub struct Preferred {
+    class: u8,
+    cost: u32,
+    area: u32,
+    hops: Vec<NextHop>,
+}
+
+impl Model for Preferred {
+    ghost use Rattle.std.specs.Prelude.{◌<◌};
+    ghost use Rattle.inter.specs.Inters.{most_cost};
+    ghost use Rattle.external.specs.Preferred.{PreferredValue};
+
+    ghost Value = { PreferredValue };
+
+    ghost view = { λ p. record { preference = record { class = p.class; cost = p.cost; area = p.area }; hops = p.hops.items } };
+
+    ghost invariant = { λ p. p.cost < most_cost };
+}
+
+// What entries of one router are compared by: the lesser class, then the lesser cost, then the greater area.
+#[derive(Clone, Copy, Debug, PartialEq, Eq, PartialOrd, Ord)]
+struct PreferenceKey {
+    class: u8,
+    cost: u32,
+    area: Reverse<u32>,
+}
+
+impl Model for PreferenceKey {
+    ghost use Rattle.std.specs.Prelude.{◌<◌};
+    ghost use Rattle.ospf_types.specs.Boundary.{Preference};
+    ghost use Rattle.inter.specs.Inters.{most_cost};
+
+    ghost Value = { Preference };
+
+    ghost view = { λ k. record { class = k.class; cost = k.cost; area = k.area.0 } };
+
+    ghost invariant = { λ k. k.cost < most_cost };
+
+    ghost inverse = { λ p. record { class = p.class; cost = p.cost; area = record { 0 = p.area } } };
+}
+
+impl ExactOrd for PreferenceKey {
+    ghost use Rattle.std.specs.Prelude.{ℕ};
+    ghost use Rattle.std.specs.Ordering.{nat_cmp};
+    ghost use Rattle.std.proofs.Common.{ap};
+    ghost use Rattle.std.proofs.lemmas.Map.Lookups.{exact_pairs, exact_unsigned};
+    ghost use Rattle.ospf_types.specs.Boundary.{Preference};
+    ghost use Rattle.ospf_types.specs.Intra.{area_cost_cmp};
+    ghost use Rattle.ospf_types.proofs.Orders.{area_cost_exact};
+
+    ghost exact = { λ a b h.
+        ap (λ (t : ℕ × (ℕ × ℕ)). let p : Preference = record { class = t.0; cost = t.1.0; area = t.1.1 } in p)
+        (exact_pairs nat_cmp area_cost_cmp exact_unsigned area_cost_exact (a.class, (a.cost, a.area)) (b.class, (b.cost, b.area)) h) };
+}
+
+impl PreferenceKey {
+    fn new(class: u8, cost: u32, area: u32) -> PreferenceKey
+        requires { cost < most_cost }
+        ensures { result ≡ record { class = class; cost = cost; area = area } }
+    {
+        PreferenceKey {
+            class,
+            cost,
+            area: Reverse(area),
+        }
+    }
+}
+
+impl Preferred {
+    /// The cost, a sum of metrics.
+    pub fn cost(&self) -> u32
+        ensures value { result ≡ self.now.preference.cost }
+        ensures bounded { self.now.preference.cost < most_cost }
+    {
+        self.cost
+    }
+
+    /// The Area ID of the area that the entry is associated with.
+    pub fn area(&self) -> u32
+        ensures { result ≡ self.now.preference.area }
+    {
+        self.area
+    }
+
+    /// The next hops, ascending, each once.
+    pub fn hops(&self) -> &[NextHop]
+        ensures { result.now ≡ self.now.hops }
+    {
+        self.hops.as_slice()
+    }
+
+    // 0 where the entry is an intra-area path through another area than the backbone, and else 1.
+    pub(crate) fn class(&self) -> u8
+        ensures { result ≡ self.now.preference.class }
+    {
+        self.class
+    }
+
+    // Whether class, cost and area are equal.
+    fn has_preference_of(&self, other: &Preferred) -> bool
+        ensures { IsTrue result ↔ (self.now.preference ≡ other.now.preference) }
+    {
+        self.class == other.class && self.cost == other.cost && self.area == other.area
+    }
+}
+
+impl Same for Preferred {
+    fn is_same(&self, other: &Preferred) -> bool {
+        self.has_preference_of(other) && self.hops == other.hops
+    }
+}
+
+/// The preferred entry of the router; none where it has no entry.
+pub(crate) fn choose_preferred(
+    alloc: Global,
+    inputs: &ExternalInputs<'_>,
+    router: u32,
+) -> Result<Option<Preferred>, Memory>
+    ensures { IfOk result (IsPreferredFor (RouterOffers inputs.now router)) }
+{
+    let mut best = Best::new(alloc);
+    offer_areas(&mut best, inputs, router)?;
+    offer_entry(&mut best, inputs, router)?;
+    match best.into_choice() {
+        Some(choice) => Ok(Some(from_choice(choice))),
+        None => Ok(None),
+    }
+}
+
+/// The class of an intra-area entry: a path through another area than the backbone is preferred to all others.
+pub(crate) fn intra_class(area: u32) -> u8
+    ensures { result ≡ intra_class area }
+{
+    if area == 0 { 1 } else { 0 }
+}
+
+// The preferred entry of a choice.
+fn from_choice(choice: Choice<PreferenceKey, NextHop>) -> Preferred
+    ensures { result ≡ record { preference = choice.key; hops = choice.items } }
+{
+    let (key, hops) = choice.into_parts();
+    Preferred {
+        class: key.class,
+        cost: key.cost,
+        area: key.area.0,
+        hops,
+    }
+}
+
+// Offers each area where the router is reached as AS boundary router.
+fn offer_areas(
+    best: &mut Best<PreferenceKey, NextHop>,
+    inputs: &ExternalInputs<'_>,
+    router: u32,
+) -> Result<(), Memory>
+    ensures { OnOk result (TakesHops (OfferedBySome inputs.now.areas (ReachedOffers inputs.now router)) best.old best.new) }
+{
+    for area in inputs.areas {
+        offer_area(best, inputs, *area, router)?;
+    }
+    Ok(())
+}
+
+// Offers the area, if the router is reached there as AS boundary router.
+fn offer_area(
+    best: &mut Best<PreferenceKey, NextHop>,
+    inputs: &ExternalInputs<'_>,
+    area: u32,
+    router: u32,
+) -> Result<(), Memory>
+    ensures { OnOk result (TakesHops (ReachedOffers inputs.now router area) best.old best.new) }
+{
+    match inputs.intra.router(area, router) {
+        Some(reached) => offer_reached(best, area, reached),
+        None => Ok(()),
+    }
+}
+
+// Offers the area with a router that is reached there, if that is an AS boundary router.
+fn offer_reached(
+    best: &mut Best<PreferenceKey, NextHop>,
+    area: u32,
+    reached: &Reached,
+) -> Result<(), Memory>
+    ensures { OnOk result (TakesHops (AreaOffers area (Some reached.now)) best.old best.new) }
+{
+    if !reached.is_boundary() {
+        return Ok(());
+    }
+    let key = PreferenceKey::new(intra_class(area), reached.distance(), area);
+    offer_hops(best, key, reached.hops())
+}
+
+// Offers the router's inter-area entry.
+fn offer_entry(
+    best: &mut Best<PreferenceKey, NextHop>,
+    inputs: &ExternalInputs<'_>,
+    router: u32,
+) -> Result<(), Memory>
+    ensures { OnOk result (TakesHops (EntryOffers (map.get inputs.now.inter.entries (dest_value.Router router))) best.old best.new) }
+{
+    match inputs.inter.get(Dest::Router(router)) {
+        Some(entry) => offer_inter(best, entry),
+        None => Ok(()),
+    }
+}
+
+// Offers the entry over the next hop of each of its paths.
+fn offer_inter(best: &mut Best<PreferenceKey, NextHop>, entry: &Entry) -> Result<(), Memory>
+    requires { entry.now.cost < most_cost }
+    ensures { OnOk result (TakesHops (EntryOffers (Some entry.now)) best.old best.new) }
+{
+    let Some(area) = entry.area else {
+        return Ok(());
+    };
+    let key = PreferenceKey::new(1, entry.cost, area);
+    offer_paths(best, key, entry.paths.as_slice())
+}
+
+// Offers the next hop of each path.
+fn offer_paths(
+    best: &mut Best<PreferenceKey, NextHop>,
+    key: PreferenceKey,
+    paths: &[Path],
+) -> Result<(), Memory>
+    ensures { OnOk result (TakesHops (OfferedBySome paths.now (λ path. OnlyOffer key path.hop)) best.old best.new) }
+{
+    for path in paths {
+        offer_hop(best, key, path.hop)?;
+    }
+    Ok(())
+}
+
+// Offers each of these next hops.
+fn offer_hops(
+    best: &mut Best<PreferenceKey, NextHop>,
+    key: PreferenceKey,
+    hops: &[NextHop],
+) -> Result<(), Memory>
+    ensures { OnOk result (TakesHops (HopsOffer hops.now key) best.old best.new) }
+{
+    for hop in hops {
+        offer_hop(best, key, *hop)?;
+    }
+    Ok(())
+}
+
+// Offers the next hop.
+fn offer_hop(
+    best: &mut Best<PreferenceKey, NextHop>,
+    key: PreferenceKey,
+    hop: NextHop,
+) -> Result<(), Memory>
+    ensures { OnOk result (TakesHops (OnlyOffer key hop) best.old best.new) }
+{
+    best.offer(key, hop)
+}

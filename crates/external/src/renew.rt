@@ -1,0 +1,373 @@
+//! What is worked out again where something may differ: preferred entries, then where forwarding addresses lead, then networks.
+ghost use Rattle.std.specs.Prelude.{ℕ, ◌≡◌, ◌≢◌, ◌↔◌, ◌⊎◌, ◌++◌, List, Contains, IfOk, OnOk, IsTrue, map as list_map, option_copied};
+ghost use Rattle.std.specs.FinMap as map;
+ghost use Rattle.std.specs.List.Sorted.{IsStrictlySortedBy};
+ghost use Rattle.std.specs.Ordering.{nat_cmp};
+ghost use Rattle.ospf_types.specs.declared.key.Dest.{Dest as DestValue};
+ghost use Rattle.ospf_types.specs.declared.key.Dest.TheVariants as dest_value;
+ghost use Rattle.ospf_types.specs.declared.prefix.Prefix.{Prefix as PrefixValue};
+ghost use Rattle.ospf_types.specs.Keys.{dest_cmp};
+ghost use Rattle.ospf_types.specs.Network.{network_cmp};
+ghost use Rattle.offer_index.specs.declared.group.Group.TheVariants as group_value;
+ghost use Rattle.external.specs.Renewing.{AreEntriesRenewed, AreForwardsRenewed, AreLed, ArePreferredRenewed, IsAddressDue, IsNoShorter, IsNoShorterThan, IsReachedBy};
+
+use crate::choose::choose;
+use crate::forward::{Forward, look_up};
+use crate::inputs::ExternalInputs;
+use crate::preferred::{Preferred, choose_preferred};
+use offer_index::{Group, OfferIndex};
+use ospf_types::entry::Entry;
+use ospf_types::key::Dest;
+use ospf_types::memory::Memory;
+use ospf_types::prefix::Prefix;
+use result_map::{Renewal, ResultMap};
+use std::alloc::Global;
+
+// ---- what results are chosen by
+
+/// What preferred entries are chosen by.
+#[derive(Drop)]
+pub(crate) struct Preferring<'a> {
+    pub(crate) inputs: &'a ExternalInputs<'a>,
+}
+
+impl<'a> Renewal<u32, Preferred, u32> for Preferring<'a> {
+    ghost use Rattle.external.specs.Preferred.{RouterOffers, IsPreferredFor};
+
+    ghost IsChosen = { λ by router fresh. IsPreferredFor (RouterOffers by.inputs.now router) fresh };
+
+    ghost named_as = { λ router. router };
+
+    fn choose(&self, alloc: Global, key: u32) -> Result<Option<Preferred>, Memory> {
+        choose_preferred(alloc, self.inputs, key)
+    }
+
+    fn name(&self, key: u32) -> u32 {
+        key
+    }
+}
+
+/// What forwarding addresses are looked up by.
+#[derive(Drop)]
+pub(crate) struct Forwarding<'a> {
+    pub(crate) inputs: &'a ExternalInputs<'a>,
+    pub(crate) index: &'a OfferIndex,
+}
+
+impl<'a> Renewal<u32, Forward, u32> for Forwarding<'a> {
+    ghost use Rattle.external.specs.Externals.{IsForwardIn};
+
+    ghost IsChosen = { λ by address fresh. IsForwardIn by.inputs.now by.index.now address fresh };
+
+    ghost named_as = { λ address. address };
+
+    fn choose(&self, alloc: Global, key: u32) -> Result<Option<Forward>, Memory> {
+        if !self.index.has_address(key) {
+            return Ok(None);
+        }
+        let forward = look_up(alloc, self.inputs, key)?;
+        Ok(Some(forward))
+    }
+
+    fn name(&self, key: u32) -> u32 {
+        key
+    }
+}
+
+/// What the entries of networks are chosen by.
+#[derive(Drop)]
+pub(crate) struct Choosing<'a> {
+    pub(crate) inputs: &'a ExternalInputs<'a>,
+    pub(crate) index: &'a OfferIndex,
+    pub(crate) preferred: &'a ResultMap<u32, Preferred>,
+    pub(crate) forwards: &'a ResultMap<u32, Forward>,
+}
+
+impl<'a> Renewal<Prefix, Entry, Dest> for Choosing<'a> {
+    ghost use Rattle.std.specs.FinMap as map;
+    ghost use Rattle.ospf_types.specs.declared.key.Dest.TheVariants.{Net};
+    ghost use Rattle.external.specs.Renewing.{IsEntryBy};
+
+    ghost IsChosen = { λ by network fresh. IsEntryBy by.inputs.now by.index.now (map.from_entries by.preferred.now.entries) (map.from_entries by.forwards.now.entries) network fresh };
+
+    ghost named_as = { Net };
+
+    fn choose(&self, alloc: Global, key: Prefix) -> Result<Option<Entry>, Memory> {
+        choose(
+            alloc,
+            self.inputs,
+            self.index,
+            self.preferred,
+            self.forwards,
+            key,
+        )
+    }
+
+    fn name(&self, key: Prefix) -> Dest {
+        Dest::Net(key)
+    }
+}
+
+// ---- AS boundary routers
+
+/// Chooses the preferred entries of the named AS boundary routers anew. The answer is those with another, ascending, each
+/// once.
+pub(crate) fn renew_preferred(
+    alloc: Global,
+    inputs: &ExternalInputs<'_>,
+    dests: &[Dest],
+    preferred: &mut ResultMap<u32, Preferred>,
+) -> Result<Vec<u32>, Memory>
+    ensures in_order { IfOk result (λ routers. IsStrictlySortedBy nat_cmp routers.items) }
+    ensures exact { IfOk result (λ routers. (r : ℕ) → Contains routers.items r ↔ (map.get (map.from_entries {R = nat_cmp} preferred.new.entries) r ≢ map.get (map.from_entries {R = nat_cmp} preferred.old.entries) r)) }
+    ensures renewed { OnOk result (ArePreferredRenewed inputs.now dests.now (map.from_entries preferred.old.entries) (map.from_entries preferred.new.entries)) }
+{
+    let mut routers = Vec::new(alloc);
+    push_routers(dests, &mut routers)?;
+    routers.sort_unstable();
+    routers.dedup();
+    let mut changed = Vec::new(alloc);
+    preferred.renew_all(
+        alloc,
+        routers.as_slice(),
+        &Preferring { inputs },
+        &mut changed,
+    )?;
+    Ok(changed)
+}
+
+/// Adds the routers among the destinations.
+pub(crate) fn push_routers(dests: &[Dest], routers: &mut Vec<u32>) -> Result<(), Memory>
+    ensures kept { OnOk result ((r : ℕ) → Contains routers.old.items r → Contains routers.new.items r) }
+    ensures all { OnOk result ((r : ℕ) → Contains dests.now (dest_value.Router r) → Contains routers.new.items r) }
+{
+    for dest in dests {
+        push_router(*dest, routers)?;
+    }
+    Ok(())
+}
+
+// Adds the destination if it is a router.
+fn push_router(dest: Dest, routers: &mut Vec<u32>) -> Result<(), Memory>
+    ensures { OnOk result ((r : ℕ) → Contains routers.old.items r ⊎ (dest_value.Router r ≡ dest) → Contains routers.new.items r) }
+{
+    match dest {
+        Dest::Router(router) => Ok(routers.push(router)?),
+        Dest::Net(_) => Ok(()),
+    }
+}
+
+/// Adds the routers as destinations.
+pub(crate) fn add_routers(routers: &[u32], dests: &mut Vec<Dest>) -> Result<(), Memory>
+    ensures { OnOk result (dests.new.items ≡ dests.old.items ++ list_map dest_value.Router routers.now) }
+{
+    for router in routers {
+        dests.push(Dest::Router(*router))?;
+    }
+    Ok(())
+}
+
+// ---- forwarding addresses
+
+/// Looks up again where the affected addresses lead, and those in a named network that is no shorter than their match. The
+/// answer is those that lead elsewhere now, ascending, each once.
+pub(crate) fn renew_forwards(
+    alloc: Global,
+    by: &Forwarding<'_>,
+    dests: &[Dest],
+    addresses: Vec<u32>,
+    forwards: &mut ResultMap<u32, Forward>,
+) -> Result<Vec<u32>, Memory>
+    ensures exact { IfOk result (λ moved. (a : ℕ) → Contains moved.items a ↔ (map.get (map.from_entries {R = nat_cmp} forwards.new.entries) a ≢ map.get (map.from_entries {R = nat_cmp} forwards.old.entries) a)) }
+    ensures renewed { OnOk result (AreForwardsRenewed by.now.inputs.now by.now.index.now dests.now addresses.items (map.from_entries forwards.old.entries) (map.from_entries forwards.new.entries)) }
+{
+    let due = due_addresses(alloc, by.index, forwards, dests, addresses)?;
+    let mut moved = Vec::new(alloc);
+    forwards.renew_all(alloc, due.as_slice(), by, &mut moved)?;
+    Ok(moved)
+}
+
+// The affected addresses, and those in a named network that is no shorter than their match, ascending, each once.
+fn due_addresses(
+    alloc: Global,
+    index: &OfferIndex,
+    forwards: &ResultMap<u32, Forward>,
+    dests: &[Dest],
+    addresses: Vec<u32>,
+) -> Result<Vec<u32>, Memory>
+    ensures in_order { IfOk result (λ due. IsStrictlySortedBy nat_cmp due.items) }
+    ensures all { IfOk result (λ due. (a : ℕ) → IsAddressDue dests.now addresses.items index.now (map.from_entries forwards.now.entries) a → Contains due.items a) }
+{
+    let mut due = addresses;
+    push_reached(alloc, index, forwards, dests, &mut due)?;
+    due.sort_unstable();
+    due.dedup();
+    Ok(due)
+}
+
+// Adds the addresses in a named network that is no shorter than their match.
+fn push_reached(
+    alloc: Global,
+    index: &OfferIndex,
+    forwards: &ResultMap<u32, Forward>,
+    dests: &[Dest],
+    due: &mut Vec<u32>,
+) -> Result<(), Memory>
+    ensures { OnOk result ((a : ℕ) → IsAddressDue dests.now due.old.items index.now (map.from_entries forwards.now.entries) a → Contains due.new.items a) }
+{
+    for dest in dests {
+        push_in_dest(alloc, index, forwards, *dest, due)?;
+    }
+    Ok(())
+}
+
+// The same of one destination, where that is a network.
+fn push_in_dest(
+    alloc: Global,
+    index: &OfferIndex,
+    forwards: &ResultMap<u32, Forward>,
+    dest: Dest,
+    due: &mut Vec<u32>,
+) -> Result<(), Memory>
+    ensures { OnOk result ((a : ℕ) → Contains due.old.items a ⊎ ((p : PrefixValue) × (dest_value.Net p ≡ dest) × IsReachedBy index.now (map.from_entries forwards.now.entries) p a) → Contains due.new.items a) }
+{
+    match dest {
+        Dest::Net(network) => push_in_network(alloc, index, forwards, network, due),
+        Dest::Router(_) => Ok(()),
+    }
+}
+
+// The same of one network.
+fn push_in_network(
+    alloc: Global,
+    index: &OfferIndex,
+    forwards: &ResultMap<u32, Forward>,
+    network: Prefix,
+    due: &mut Vec<u32>,
+) -> Result<(), Memory>
+    ensures { OnOk result ((a : ℕ) → Contains due.old.items a ⊎ IsReachedBy index.now (map.from_entries forwards.now.entries) network a → Contains due.new.items a) }
+{
+    let mut inside = Vec::new(alloc);
+    index.push_addresses(network, &mut inside)?;
+    push_no_longer(forwards, network, inside.as_slice(), due)
+}
+
+// Adds those of the addresses whose match is no longer than the network.
+fn push_no_longer(
+    forwards: &ResultMap<u32, Forward>,
+    network: Prefix,
+    addresses: &[u32],
+    due: &mut Vec<u32>,
+) -> Result<(), Memory>
+    ensures { OnOk result ((a : ℕ) → Contains due.old.items a ⊎ (Contains addresses.now a × IsNoShorter (map.get (map.from_entries {R = nat_cmp} forwards.now.entries) a) network) → Contains due.new.items a) }
+{
+    for address in addresses {
+        push_if_no_longer(forwards, network, *address, due)?;
+    }
+    Ok(())
+}
+
+// Adds the address if its match is no longer than the network.
+fn push_if_no_longer(
+    forwards: &ResultMap<u32, Forward>,
+    network: Prefix,
+    address: u32,
+    due: &mut Vec<u32>,
+) -> Result<(), Memory>
+    ensures kept { OnOk result ((a : ℕ) → Contains due.old.items a → Contains due.new.items a) }
+    ensures added { OnOk result (IsNoShorter (map.get (map.from_entries {R = nat_cmp} forwards.now.entries) address) network → Contains due.new.items address) }
+{
+    if is_no_shorter(forwards.get(address), network) {
+        due.push(address)?;
+    }
+    Ok(())
+}
+
+// Whether the network is as long as the match that is kept, or longer.
+fn is_no_shorter(kept: Option<&Forward>, network: Prefix) -> bool
+    ensures { IsTrue result ↔ IsNoShorter (option_copied kept.entry) network }
+{
+    match kept {
+        Some(forward) => is_no_shorter_than(forward.matched(), network),
+        None => true,
+    }
+}
+
+fn is_no_shorter_than(matched: Option<Prefix>, network: Prefix) -> bool
+    ensures { IsTrue result ↔ IsNoShorterThan matched network }
+{
+    match matched {
+        Some(matched) => matched.length() <= network.length(),
+        None => true,
+    }
+}
+
+// ---- networks
+
+/// Adds the destinations that the routers' LSAs lead to.
+pub(crate) fn push_by(
+    index: &OfferIndex,
+    routers: &[u32],
+    dests: &mut Vec<Dest>,
+) -> Result<(), Memory>
+    ensures { OnOk result (AreLed index.now group_value.By routers.now dests.old.items dests.new.items) }
+{
+    for router in routers {
+        index.push_dests(Group::By(*router), dests)?;
+    }
+    Ok(())
+}
+
+/// Adds the destinations to which LSAs with these forwarding addresses lead.
+pub(crate) fn push_forwarded(
+    index: &OfferIndex,
+    addresses: &[u32],
+    dests: &mut Vec<Dest>,
+) -> Result<(), Memory>
+    ensures { OnOk result (AreLed index.now group_value.Forwarded addresses.now dests.old.items dests.new.items) }
+{
+    for address in addresses {
+        index.push_dests(Group::Forwarded(*address), dests)?;
+    }
+    Ok(())
+}
+
+/// Chooses the entries of the networks among the destinations anew. The answer is those with another, ascending, each once.
+pub(crate) fn renew_entries(
+    alloc: Global,
+    by: &Choosing<'_>,
+    dests: &[Dest],
+    entries: &mut ResultMap<Prefix, Entry>,
+) -> Result<Vec<Dest>, Memory>
+    ensures in_order { IfOk result (λ named. (routers : List ℕ) → IsStrictlySortedBy nat_cmp routers → IsStrictlySortedBy dest_cmp (named.items ++ list_map dest_value.Router routers)) }
+    ensures exact { IfOk result (λ named. (d : DestValue) → Contains named.items d ↔ ((p : PrefixValue) × (d ≡ dest_value.Net p) × (map.get (map.from_entries {R = network_cmp} entries.new.entries) p ≢ map.get (map.from_entries {R = network_cmp} entries.old.entries) p))) }
+    ensures renewed { OnOk result (AreEntriesRenewed by.now.inputs.now by.now.index.now (map.from_entries by.now.preferred.now.entries) (map.from_entries by.now.forwards.now.entries) dests.now (map.from_entries entries.old.entries) (map.from_entries entries.new.entries)) }
+{
+    let mut networks = Vec::new(alloc);
+    push_networks(dests, &mut networks)?;
+    networks.sort_unstable();
+    networks.dedup();
+    let mut named = Vec::new(alloc);
+    entries.renew_all(alloc, networks.as_slice(), by, &mut named)?;
+    Ok(named)
+}
+
+// Adds the networks among the destinations.
+fn push_networks(dests: &[Dest], networks: &mut Vec<Prefix>) -> Result<(), Memory>
+    ensures { OnOk result ((p : PrefixValue) → Contains dests.now (dest_value.Net p) → Contains networks.new.items p) }
+{
+    for dest in dests {
+        push_network(*dest, networks)?;
+    }
+    Ok(())
+}
+
+// Adds the destination if it is a network.
+fn push_network(dest: Dest, networks: &mut Vec<Prefix>) -> Result<(), Memory>
+    ensures { OnOk result ((p : PrefixValue) → Contains networks.old.items p ⊎ (dest_value.Net p ≡ dest) → Contains networks.new.items p) }
+{
+    match dest {
+        Dest::Net(network) => Ok(networks.push(network)?),
+        Dest::Router(_) => Ok(()),
+    }
+}

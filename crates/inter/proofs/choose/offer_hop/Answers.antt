@@ -1,0 +1,11 @@
+use Rattle.std.proofs.Common.{OnOk, Ordering, subst}
+use Rattle.std.specs.Ordering.{nat_cmp}
+use Rattle.ospf_types.specs.Inter.{through}
+use Rattle.ospf_types.specs.declared.hop.Path.{Path}
+use Rattle.ospf_types.proofs.Paths.{path_cmp_is}
+use Rattle.intra.specs.Takes.{Takes, OnlyOffer}
+use Rattle.inter.proofs.choose.offer_hop.Goals as goal
+
+pub returns : goal.returns
+returns c =
+    subst (λ (S : Path → Path → Ordering). OnOk c.offer.result (Takes nat_cmp S (OnlyOffer c.args.cost (through c.args.advertiser c.args.hop)) c.args.best.now c.offer.new.self)) path_cmp_is c.offer.ensures.ok

@@ -1,0 +1,11 @@
+use Rattle.std.proofs.Common.{ℕ, drop, Option}
+use Rattle.ospf_types.specs.declared.hop.Path.{Path}
+use Rattle.intra.specs.Choices.{Chosen}
+use Rattle.intra.specs.Takes.{OfferedBySome}
+use Rattle.inter.specs.Choosing.{TakesPaths, KeyOffers}
+use Rattle.inter.proofs.choose.offer_keys.Given as goal
+
+-- who takes what is advertised under the keys that are left has taken it all
+abbrev pub invariant-loop-key : goal.invariant-loop-key
+invariant-loop-key l =
+    (new : Option (Chosen ℕ Path)) → TakesPaths (OfferedBySome (drop l.key-index l.keys) (KeyOffers l.intra.areas l.area l.index)) l.best new → TakesPaths (OfferedBySome l.keys (KeyOffers l.intra.areas l.area l.index)) l.initial.best new

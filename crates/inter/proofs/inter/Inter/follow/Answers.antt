@@ -1,0 +1,32 @@
+-- What was gathered, sorted, each once.
+use Rattle.std.proofs.Common.{ℕ, List, Option, Ordering, ap, subst}
+use Rattle.std.specs.List.Sorted.{IsSorted}
+use Rattle.ospf_types.specs.declared.key.Dest.{Dest}
+use Rattle.ospf_types.proofs.DerivedOrders.{dest_cmp_is}
+use Rattle.ospf_types.proofs.Orders.{dest_total, dest_exact}
+use Rattle.intra.proofs.SortedOnce.{strictly, same_items}
+use Rattle.offer_index.specs.Indexes.{AffectedValue, OfferIndexValue}
+use Rattle.inter.specs.Following.{AreLed, ArePushed, area_of}
+use Rattle.inter.specs.Inters.{InterValue}
+use Rattle.inter.proofs.DestOrder.{dests_order}
+use Rattle.inter.proofs.Following.{followed_from}
+use Rattle.inter.proofs.inter.Inter.follow.Goals as goal
+
+pub returns-clause-in_order : goal.returns-clause-in_order
+returns-clause-in_order c =
+    strictly dest_total dest_exact dests_order c.push_named.new.dests.items c.sort_unstable.new.self.items c.dedup.new.self.items c.sort_unstable.ensures.permutation
+    (subst (λ (R : Dest → Dest → Ordering). IsSorted R c.sort_unstable.new.self.items) dest_cmp_is c.sort_unstable.ensures.sorted) c.dedup.ensures.filtered
+
+pub returns-clause-followed : goal.returns-clause-followed
+returns-clause-followed c =
+    let v = c.args.inputs.now in
+    let old = c.args.self.now in
+    let new = c.follow_examined.new.index in
+    let affected = c.follow_examined.new.affected.dests in
+    let same = same_items dest_total dest_exact dests_order c.push_named.new.dests.items c.sort_unstable.new.self.items c.dedup.new.self.items c.sort_unstable.ensures.permutation
+    (subst (λ (R : Dest → Dest → Ordering). IsSorted R c.sort_unstable.new.self.items) dest_cmp_is c.sort_unstable.ensures.sorted) c.dedup.ensures.filtered in
+    let led = subst (λ (area : Option ℕ). AreLed area (area_of v.examined) old.index new affected) (ap (λ (w : InterValue). w.examined) c.self.view_is)
+    (subst (λ (i : OfferIndexValue). AreLed c.self.inside.examined (area_of v.examined) i new affected) (ap (λ (w : InterValue). w.index) c.self.view_is) c.in_ok-follow_examined.ensures.led) in
+    let pushed = subst (λ (ds : List Dest). ArePushed new c.args.dirty.now.dests.items ds c.push_named.new.dests.items) (ap (λ (a : AffectedValue). a.dests) c.affected.view_is)
+    (subst (λ (ds : List Dest). ArePushed new ds c.affected.inside.dests.items c.push_named.new.dests.items) c.deref-2.ensures.value c.in_ok-push_named.ensures) in
+    followed_from c.args.dirty.now.dests.items v old.examined old.index new affected c.push_named.new.dests.items c.dedup.new.self.items c.in_ok-follow_examined.ensures.index led pushed same

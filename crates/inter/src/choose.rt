@@ -1,0 +1,181 @@
+//! The entry of a destination: the best of what the summaries for it offer (RFC 2328, 16.2).
+ghost use Rattle.std.specs.Prelude.{◌≡◌, ◌↔◌, ◌^◌, ◌<◌, ℕ, Some, IfOk, OnOk, IsTrue, IsSome};
+ghost use Rattle.std.specs.List.Sorted.{IsStrictlySortedBy};
+ghost use Rattle.ospf_types.specs.declared.hop.NextHop.{NextHop as HopValue};
+ghost use Rattle.ospf_types.specs.Hops.{path_cmp};
+ghost use Rattle.ospf_types.specs.Inter.{through};
+ghost use Rattle.ospf_types.specs.Intra.{E};
+ghost use Rattle.ospf_types.specs.Routes.{entry_of};
+ghost use Rattle.intra.specs.Intras.{reached_at};
+ghost use Rattle.intra.specs.Reached.{HandsOut};
+ghost use Rattle.intra.specs.Takes.{OnlyOffer, OfferedBySome};
+ghost use Rattle.inter.specs.Choosing.{IsChosenIn, TakesPaths, KeyOffers, HopsOffer};
+ghost use Rattle.inter.specs.Offers.{IsTakenBelow};
+
+use crate::cost::{InterEntry, SummaryCost};
+use crate::inputs::InterInputs;
+use intra::{Best, Choice, Intra};
+use offer_index::{Group, OfferIndex};
+use ospf_types::entry::{Entry, PathType, Paths};
+use ospf_types::hop::{NextHop, Path};
+use ospf_types::key::{Dest, Key};
+use ospf_types::memory::Memory;
+use result_map::Renewal;
+use std::alloc::Global;
+
+/// What entries are chosen by.
+#[derive(Drop)]
+pub(crate) struct Choosing<'a> {
+    pub(crate) inputs: &'a InterInputs<'a>,
+    pub(crate) index: &'a OfferIndex,
+}
+
+impl<'a> Renewal<Dest, InterEntry, Dest> for Choosing<'a> {
+    ghost use Rattle.inter.specs.Choosing.{IsChosenFor};
+
+    ghost IsChosen = { λ c d e. IsChosenFor c.inputs.now c.index.now d e };
+
+    ghost named_as = { λ d. d };
+
+    fn choose(&self, alloc: Global, key: Dest) -> Result<Option<InterEntry>, Memory> {
+        match self.inputs.area() {
+            Some(area) => choose_in(alloc, self.inputs, area, self.index, &key),
+            None => Ok(None),
+        }
+    }
+
+    fn name(&self, key: Dest) -> Dest {
+        key
+    }
+}
+
+// The entry of the destination by the summaries of the area; none where another route is preferred to them.
+fn choose_in(
+    alloc: Global,
+    inputs: &InterInputs<'_>,
+    area: u32,
+    index: &OfferIndex,
+    dest: &Dest,
+) -> Result<Option<InterEntry>, Memory>
+    ensures { IfOk result (IsChosenIn inputs.now area index.now dest.now) }
+{
+    if is_taken_below(inputs, area, dest) {
+        return Ok(None);
+    }
+    let mut keys = Vec::new(alloc);
+    index.push_keys(Group::To(*dest), &mut keys)?;
+    let mut best = Best::new(alloc);
+    offer_keys(&mut best, inputs.intra, area, index, keys.as_slice())?;
+    match best.into_choice() {
+        Some(choice) => Ok(Some(entry(area, choice))),
+        None => Ok(None),
+    }
+}
+
+// The inter-area entry of a choice.
+fn entry(area: u32, choice: Choice<SummaryCost, Path>) -> InterEntry
+    requires { IsStrictlySortedBy path_cmp choice.items }
+    ensures { result ≡ entry_of PathType.Inter (Some area) choice.key 0 choice.items }
+{
+    let (key, paths) = choice.into_parts();
+    InterEntry::new(Entry {
+        kind: PathType::Inter,
+        area: Some(area),
+        cost: key.cost(),
+        cost2: 0,
+        paths: Paths::new(paths),
+    })
+}
+
+// Whether another route is preferred to summaries: for a network an intra-area route, or an active range with its prefix;
+// for a router one that is reached in the area as an AS boundary router.
+fn is_taken_below(inputs: &InterInputs<'_>, area: u32, dest: &Dest) -> bool
+    ensures { IsTrue result ↔ IsTakenBelow inputs.now area dest.now }
+{
+    match *dest {
+        Dest::Net(network) => {
+            inputs.intra.get(network).is_some() || inputs.active.contains(network)
+        }
+        Dest::Router(router) => is_boundary(inputs.intra, area, router),
+    }
+}
+
+// Whether the router is reached in the area as an AS boundary router.
+fn is_boundary(intra: &Intra, area: u32, router: u32) -> bool
+    ensures { IsTrue result ↔ ((distance : ℕ) × (h : HopValue) × HandsOut E (reached_at intra.now.areas area router) distance h) }
+{
+    match intra.router(area, router) {
+        Some(reached) => reached.is_boundary() && !reached.hops().is_empty(),
+        None => false,
+    }
+}
+
+// Offers what is advertised under each of these keys.
+fn offer_keys(
+    best: &mut Best<SummaryCost, Path>,
+    intra: &Intra,
+    area: u32,
+    index: &OfferIndex,
+    keys: &[Key],
+) -> Result<(), Memory>
+    ensures { OnOk result (TakesPaths (OfferedBySome keys.now (KeyOffers intra.now.areas area index.now)) best.old best.new) }
+{
+    for key in keys {
+        offer_key(best, intra, area, index, *key)?;
+    }
+    Ok(())
+}
+
+// Offers what is advertised under the key, where its border router is reached.
+fn offer_key(
+    best: &mut Best<SummaryCost, Path>,
+    intra: &Intra,
+    area: u32,
+    index: &OfferIndex,
+    key: Key,
+) -> Result<(), Memory>
+    ensures { OnOk result (TakesPaths (KeyOffers intra.now.areas area index.now key) best.old best.new) }
+{
+    let Some(route) = index.route(key) else {
+        return Ok(());
+    };
+    let Some(border) = intra.router(area, key.router) else {
+        return Ok(());
+    };
+    if !border.is_border() {
+        return Ok(());
+    }
+    let cost = SummaryCost::new(border.distance(), route.metric());
+    offer_hops(best, cost, key.router, border.hops())
+}
+
+// Offers a path over each of these next hops.
+fn offer_hops(
+    best: &mut Best<SummaryCost, Path>,
+    cost: SummaryCost,
+    advertiser: u32,
+    hops: &[NextHop],
+) -> Result<(), Memory>
+    ensures { OnOk result (TakesPaths (HopsOffer hops.now advertiser cost) best.old best.new) }
+{
+    for hop in hops {
+        offer_hop(best, cost, advertiser, *hop)?;
+    }
+    Ok(())
+}
+
+// Offers a path over the next hop.
+fn offer_hop(
+    best: &mut Best<SummaryCost, Path>,
+    cost: SummaryCost,
+    advertiser: u32,
+    hop: NextHop,
+) -> Result<(), Memory>
+    ensures { OnOk result (TakesPaths (OnlyOffer cost (through advertiser hop)) best.old best.new) }
+{
+    let path = Path {
+        hop,
+        advertiser: Some(advertiser),
+    };
+    best.offer(cost, path)
+}

@@ -1,0 +1,106 @@
+//! How the index follows the LSAs of the examined area, and which destinations may get another entry.
+ghost use Rattle.std.specs.Prelude.{◌≡◌, ℕ, Contains, OnOk};
+ghost use Rattle.std.specs.FinMap as map;
+ghost use Rattle.ospf_types.specs.declared.key.Dest.{Dest as DestValue};
+ghost use Rattle.ospf_types.specs.declared.key.Dest.TheVariants as dest_value;
+ghost use Rattle.offer_index.specs.declared.group.Group.TheVariants as group_value;
+ghost use Rattle.offer_index.specs.Indexes.{AreTouched, GroupLeadsTo};
+ghost use Rattle.inter.specs.Following.{IsIndexBefore, IsIndexSince, AreLed, IsPushed, ArePushed};
+ghost use Rattle.inter.specs.Inputs.{examined_area};
+ghost use Rattle.inter.specs.Inters.{IsIndexFor};
+
+use crate::inputs::InterInputs;
+use offer_index::{Affected, Group, OfferIndex};
+use ospf_types::key::{Dest, Key, Scope};
+use ospf_types::memory::Memory;
+
+/// The index takes what the LSAs of the examined area say now. It was that of this area, of another or of none.
+pub(crate) fn follow_examined(
+    area: Option<u32>,
+    index: &mut OfferIndex,
+    inputs: &InterInputs<'_>,
+    keys: &[(Scope, Key)],
+    affected: &mut Affected,
+) -> Result<(), Memory>
+    requires { IsIndexBefore inputs.now.root keys.now inputs.now.examined area index.old }
+    ensures index { OnOk result (IsIndexFor inputs.now.root inputs.now.examined index.new) }
+    ensures led { OnOk result (AreLed area (examined_area inputs.now) index.old index.new affected.new.dests) }
+{
+    if area == inputs.area() {
+        return follow_named(index, inputs, keys, affected);
+    }
+    index.clear(affected)?;
+    follow_all(index, inputs, affected)
+}
+
+// The same where this area was examined before.
+fn follow_named(
+    index: &mut OfferIndex,
+    inputs: &InterInputs<'_>,
+    keys: &[(Scope, Key)],
+    affected: &mut Affected,
+) -> Result<(), Memory>
+    requires { IsIndexSince inputs.now.root keys.now inputs.now.examined index.old }
+    ensures index { OnOk result (IsIndexFor inputs.now.root inputs.now.examined index.new) }
+    ensures touched { OnOk result (AreTouched index.old index.new affected.old affected.new) }
+{
+    match &inputs.examined {
+        Some(examined) => {
+            let scope = Scope::Area(examined.area);
+            index.follow(inputs.root, scope, examined.database, keys, affected)
+        }
+        None => Ok(()),
+    }
+}
+
+// The same where the index has nothing.
+fn follow_all(
+    index: &mut OfferIndex,
+    inputs: &InterInputs<'_>,
+    affected: &mut Affected,
+) -> Result<(), Memory>
+    requires { index.old ≡ record { routes = map.empty } }
+    ensures index { OnOk result (IsIndexFor inputs.now.root inputs.now.examined index.new) }
+    ensures touched { OnOk result (AreTouched index.old index.new affected.old affected.new) }
+{
+    match &inputs.examined {
+        Some(examined) => {
+            let scope = Scope::Area(examined.area);
+            index.follow_all(inputs.root, scope, examined.database, affected)
+        }
+        None => Ok(()),
+    }
+}
+
+/// Adds the named destinations, and what the summaries of named routers lead to.
+pub(crate) fn push_named(
+    index: &OfferIndex,
+    named: &[Dest],
+    dests: &mut Vec<Dest>,
+) -> Result<(), Memory>
+    ensures { OnOk result (ArePushed index.now named.now dests.old.items dests.new.items) }
+{
+    for dest in named {
+        push_dest(index, dest, dests)?;
+    }
+    Ok(())
+}
+
+// Adds the destination, and what the router's summaries lead to where it is a router.
+fn push_dest(index: &OfferIndex, dest: &Dest, dests: &mut Vec<Dest>) -> Result<(), Memory>
+    ensures { OnOk result (IsPushed index.now dest.now dests.old.items dests.new.items) }
+{
+    dests.push(*dest)?;
+    push_behind(index, dest, dests)
+}
+
+// Adds what the router's summaries lead to, where the destination is a router.
+fn push_behind(index: &OfferIndex, dest: &Dest, dests: &mut Vec<Dest>) -> Result<(), Memory>
+    ensures kept { OnOk result ((d : DestValue) → Contains dests.old.items d → Contains dests.new.items d) }
+    ensures behind { OnOk result ((router : ℕ) (d : DestValue) → dest.now ≡ dest_value.Router router → GroupLeadsTo index.now (group_value.By router) d → Contains dests.new.items d) }
+{
+    match *dest {
+        Dest::Router(router) => index.push_dests(Group::By(router), dests),
+        Dest::Net(_) => Ok(()),
+    }
+}

@@ -1,0 +1,201 @@
+ghost use Rattle.std.specs.Prelude.{◌≡◌, ◌≢◌, ◌↔◌, ◌<◌, Contains, IsSome, IfOk, IfSome, OnOk, OnErr, None, false, option_copied};
+ghost use Rattle.std.specs.FinMap as map;
+ghost use Rattle.std.specs.List.{AllPairs};
+ghost use Rattle.std.specs.List.Sorted.{IsStrictlySortedBy};
+ghost use Rattle.ospf_types.specs.declared.key.Dest.{Dest as DestValue};
+ghost use Rattle.ospf_types.specs.Inputs.{Inputs as Definitions};
+ghost use Rattle.ospf_types.specs.Keys.{dest_cmp};
+ghost use Rattle.inter.specs.Inputs.{InterInputsValue, examined_area};
+ghost use Rattle.inter.specs.Inters.{IsInterOf, most_cost, spent_routes};
+ghost use Rattle.inter.specs.Changes.{InputsDifferAmong, DiffersAt};
+ghost use Rattle.inter.specs.Following.{IsIndexBefore, IsFollowed};
+ghost use Rattle.inter.specs.Right.{AreInputsOf, IsRightFor};
+
+use crate::choose::Choosing;
+use crate::cost::InterEntry;
+use crate::follow::{follow_examined, push_named};
+use crate::inputs::InterInputs;
+use intra::Dirty;
+use offer_index::{Affected, OfferIndex};
+use ospf_types::entry::Entry;
+use ospf_types::key::Dest;
+use ospf_types::memory::Memory;
+use result_map::ResultMap;
+use std::alloc::Global;
+use std::hash::RandomState;
+use std::marker::Model;
+
+/// The inter-area routes of a router: the entry of each network, and of each AS boundary router that is not reached in the
+/// examined area.
+#[derive(Debug, Drop)]
+pub struct Inter {
+    hashing: RandomState,
+    examined: Option<u32>,
+    index: OfferIndex,
+    entries: ResultMap<Dest, InterEntry>,
+    spent: bool,
+}
+
+impl Model for Inter {
+    ghost use Rattle.std.specs.FinMap as map;
+    ghost use Rattle.std.specs.Coded.{Coded, codes};
+    ghost use Rattle.ospf_types.specs.contracts.entry.Entry as entry;
+    ghost use Rattle.ospf_types.specs.contracts.key.Dest as dest;
+    ghost use Rattle.offer_index.specs.contracts.index.OfferIndex as kept_index;
+    ghost use Rattle.inter.specs.Inters.{InterValue, EntriesByDest};
+
+    ghost Value = { InterValue };
+
+    ghost coded = { let entries : Coded EntriesByDest = map.code dest.the_row.coded (Prim.hlevel (codes, entry.the_row.coded)) in
+        Prim.hlevel (codes, kept_index.the_row.coded, entries) };
+
+    ghost view = { λ i. record { examined = i.examined; index = i.index; entries = map.from_entries i.entries.entries; spent = i.spent } };
+}
+
+impl Inter {
+    /// The routes of these inputs, from scratch.
+    pub fn build(
+        alloc: Global,
+        inputs: &InterInputs<'_>,
+        hashing: RandomState,
+    ) -> Result<Inter, Memory>
+        ensures kept { IfOk result (IsInterOf inputs.now) }
+        ensures right { IfOk result (λ inter. (s : Definitions) → AreInputsOf s inputs.now → IsRightFor s inter) }
+    {
+        let mut inter = Inter::blank(alloc, hashing);
+        let dirty = Dirty {
+            vertices: Vec::new(alloc),
+            keys: Vec::new(alloc),
+            interfaces: Vec::new(alloc),
+            dests: Vec::new(alloc),
+        };
+        inter.update(alloc, inputs, &dirty)?;
+        Ok(inter)
+    }
+
+    /// Works out again what may differ, and answers the destinations whose entry does, ascending, each once. Where memory
+    /// is refused, all is spent: nothing is answered any more, and only `build` makes another.
+    pub fn update(
+        &mut self,
+        alloc: Global,
+        inputs: &InterInputs<'_>,
+        dirty: &Dirty,
+    ) -> Result<Vec<Dest>, Memory>
+        requires before { (before : InterInputsValue) × IsInterOf before self.old × InputsDifferAmong dirty.now.keys.items dirty.now.dests.items before inputs.now }
+        ensures kept { OnOk result (IsInterOf inputs.now self.new) }
+        ensures right { OnOk result ((s : Definitions) → AreInputsOf s inputs.now → IsRightFor s self.new) }
+        ensures in_order { IfOk result (λ dests. IsStrictlySortedBy dest_cmp dests.items) }
+        ensures exact { IfOk result (λ dests. (d : DestValue) → Contains dests.items d ↔ DiffersAt self.old self.new d) }
+        ensures spent { OnErr result (self.new ≡ spent_routes) }
+    {
+        let dests = self.update_parts(alloc, inputs, dirty);
+        if dests.is_err() {
+            self.spend(alloc);
+        }
+        dests
+    }
+
+    /// The entry of a network or of an AS boundary router; none where it has none, or where all is spent.
+    pub fn get(&self, dest: Dest) -> Option<&Entry>
+        ensures value { option_copied result ≡ map.get self.now.entries dest }
+        ensures bounded { IfSome result (λ e. e.now.cost < most_cost) }
+    {
+        match self.entries.get(dest) {
+            Some(kept) => Some(kept.entry()),
+            None => None,
+        }
+    }
+
+    /// The destinations that have an entry, in no stated order, each once.
+    pub fn dests(&self, alloc: Global) -> Result<Vec<Dest>, Memory>
+        ensures exact { IfOk result (λ dests. (d : DestValue) → Contains dests.items d ↔ IsSome (map.get self.now.entries d)) }
+        ensures each_once { IfOk result (λ dests. AllPairs (λ c d. c ≢ d) dests.items) }
+    {
+        self.entries.keys(alloc)
+    }
+
+    /// Whether an update was refused memory.
+    pub fn spent(&self) -> bool
+        ensures { result ≡ self.now.spent }
+    {
+        self.spent
+    }
+}
+
+impl Inter {
+    // The routes where no area is examined.
+    fn blank(alloc: Global, hashing: RandomState) -> Inter
+        ensures { result ≡ record { examined = None; index = record { routes = map.empty }; entries = map.empty; spent = false } }
+    {
+        Inter {
+            hashing,
+            examined: None,
+            index: OfferIndex::new(alloc, hashing),
+            entries: ResultMap::new(alloc, hashing),
+            spent: false,
+        }
+    }
+
+    // The same; after an error some parts followed and others did not.
+    fn update_parts(
+        &mut self,
+        alloc: Global,
+        inputs: &InterInputs<'_>,
+        dirty: &Dirty,
+    ) -> Result<Vec<Dest>, Memory>
+        requires before { (before : InterInputsValue) × IsInterOf before self.old × InputsDifferAmong dirty.now.keys.items dirty.now.dests.items before inputs.now }
+        ensures kept { OnOk result (IsInterOf inputs.now self.new) }
+        ensures in_order { IfOk result (λ dests. IsStrictlySortedBy dest_cmp dests.items) }
+        ensures exact { IfOk result (λ dests. (d : DestValue) → Contains dests.items d ↔ DiffersAt self.old self.new d) }
+    {
+        let dests = self.follow(alloc, inputs, dirty)?;
+        let index = &self.index;
+        let mut named = Vec::new(alloc);
+        self.entries.renew_all(
+            alloc,
+            dests.as_slice(),
+            &Choosing { inputs, index },
+            &mut named,
+        )?;
+        Ok(named)
+    }
+
+    // The index follows. The answer is the destinations that may get another entry, ascending, each once.
+    fn follow(
+        &mut self,
+        alloc: Global,
+        inputs: &InterInputs<'_>,
+        dirty: &Dirty,
+    ) -> Result<Vec<Dest>, Memory>
+        requires { IsIndexBefore inputs.now.root dirty.now.keys.items inputs.now.examined self.old.examined self.old.index }
+        ensures examined { OnOk result (self.new.examined ≡ examined_area inputs.now) }
+        ensures entries { OnOk result (self.new.entries ≡ self.old.entries) }
+        ensures spent { OnOk result (self.new.spent ≡ self.old.spent) }
+        ensures in_order { IfOk result (λ dests. IsStrictlySortedBy dest_cmp dests.items) }
+        ensures followed { IfOk result (λ dests. IsFollowed dirty.now.dests.items inputs.now self.old.examined self.old.index self.new.index dests.items) }
+    {
+        let mut affected = Affected::none(alloc);
+        follow_examined(
+            self.examined,
+            &mut self.index,
+            inputs,
+            &dirty.keys,
+            &mut affected,
+        )?;
+        self.examined = inputs.area();
+        let mut dests = affected.dests;
+        push_named(&self.index, &dirty.dests, &mut dests)?;
+        dests.sort_unstable();
+        dests.dedup();
+        Ok(dests)
+    }
+
+    fn spend(&mut self, alloc: Global)
+        ensures { self.new ≡ spent_routes }
+    {
+        self.examined = None;
+        self.index = OfferIndex::new(alloc, self.hashing);
+        self.entries.clear();
+        self.spent = true;
+    }
+}

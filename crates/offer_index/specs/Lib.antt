@@ -1,0 +1,4 @@
+pub mod Advertised
+pub mod Indexes
+pub mod Affected
+pub mod Members

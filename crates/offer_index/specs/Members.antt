@@ -1,0 +1,41 @@
+-- Groups of keys, and which of them a route is listed in.
+use Rattle.std.specs.Prelude.{◌≡◌, ◌<◌, ◌^◌, List, Contains, Some, IsTrue}
+use Rattle.std.specs.FinMap.{get}
+use Rattle.std.specs.Ordering.{nat_cmp, is_le}
+use Rattle.std.specs.declared.cmp.Ordering.{Ordering}
+use Rattle.std.specs.declared.cmp.Ordering.TheVariants.{Less, Greater}
+use Rattle.ospf_types.specs.declared.key.Key.{Key}
+use Rattle.ospf_types.specs.Keys.{dest_cmp}
+use Rattle.offer_index.specs.Advertised.{AdvertisedValue}
+use Rattle.offer_index.specs.Indexes.{AdvertisedByKey, IsOfGroup}
+use Rattle.offer_index.specs.declared.group.Group.{Group}
+use Rattle.offer_index.specs.declared.group.Group.TheVariants.{To, By, Forwarded}
+
+-- each kind of group in its order
+abbrev pub group_cmp : Group → Group → Ordering
+group_cmp (To d) (To e) = dest_cmp d e
+group_cmp (To d) (By r) = Less
+group_cmp (To d) (Forwarded a) = Less
+group_cmp (By r) (To d) = Greater
+group_cmp (By r) (By s) = nat_cmp r s
+group_cmp (By r) (Forwarded a) = Less
+group_cmp (Forwarded a) (To d) = Greater
+group_cmp (Forwarded a) (By r) = Greater
+group_cmp (Forwarded a) (Forwarded b) = nat_cmp a b
+
+abbrev pub IsNotAfter : Group → Group → Type 0
+IsNotAfter g h = IsTrue (is_le (group_cmp g h))
+
+-- the parts of a key are numbers of their types
+abbrev pub IsSmall : Key → Type 0
+IsSmall k = (k.kind < 2 ^ 8) × (k.id < 2 ^ 32) × (k.router < 2 ^ 32)
+
+abbrev pub HasSmallKey : Group × Key → Type 0
+HasSmallKey m = IsSmall m.1
+
+-- the key stands in each group that the route is of
+abbrev pub IsListed : List (Group × Key) → Key → AdvertisedValue → Type 0
+IsListed members k a = (g : Group) → IsOfGroup g k a → Contains members (g, k)
+
+abbrev pub AreListed : AdvertisedByKey → List (Group × Key) → Type 0
+AreListed routes members = (k : Key) (a : AdvertisedValue) → get routes k ≡ Some a → IsListed members k a

@@ -1,0 +1,3 @@
+pub mod KeyedMaps
+pub mod KeyLaws
+pub mod Renewing

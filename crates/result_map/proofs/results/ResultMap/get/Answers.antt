@@ -1,0 +1,14 @@
+use Rattle.std.proofs.Common.{ap, ◌∙◌}
+use Rattle.result_map.specs.Results.{Results, result_at}
+use Rattle.result_map.proofs.KeyedMaps.{looked_up}
+use Rattle.result_map.proofs.KeyLaws.{key_order}
+use Rattle.result_map.proofs.results.ResultMap.get.Goals as goal
+
+pub returns : goal.returns
+returns g c =
+    let keys = key_order g.met.K.ResultKey.ordered g.met.K.Ord.total g.met.K.ResultKey.exact g.met.K.Ord.matches_eq in
+    record {
+      value =
+          c.get.ensures.value ∙ looked_up keys.total keys.exact keys.ties c.self.inside.entries.entries c.args.key
+          ∙ ap (λ (r : Results g.row.K.Denot g.row.V.Denot). result_at g.K.ResultKey.order r c.args.key) c.self.view_is;
+    }

@@ -1,0 +1,8 @@
+-- So far those of the destinations up to here are added.
+use Rattle.std.proofs.Common.{[], take}
+use Rattle.spf.specs.HandedOn.{IsOfSome}
+use Rattle.summaries.specs.Following.{HasMore, IsNamedBy}
+use Rattle.summaries.proofs.named.named_members.Given as goal
+
+abbrev pub invariant-loop-dest : goal.invariant-loop-dest
+invariant-loop-dest l = HasMore (IsOfSome (take l.dest-index l.dests) (IsNamedBy l.areas)) [] l.members.items

@@ -1,0 +1,63 @@
+-- How active ranges follow the routes: the members that named networks may be, and the prefixes that they touch.
+use Rattle.std.specs.Prelude.{ℕ, ◌≡◌, ◌⊎◌, ◌↔◌, ◌++◌, List, [], ◌∷◌, Contains, Option, Some, IsTrue}
+use Rattle.std.specs.FinMap.{get}
+use Rattle.ospf_types.specs.declared.config.AreaConfig.{AreaConfig}
+use Rattle.ospf_types.specs.declared.config.Range.{Range}
+use Rattle.ospf_types.specs.declared.entry.Entry.{Entry}
+use Rattle.ospf_types.specs.declared.key.Dest.{Dest}
+use Rattle.ospf_types.specs.declared.key.Dest.TheVariants.{Net}
+use Rattle.ospf_types.specs.declared.prefix.Prefix.{Prefix}
+use Rattle.ospf_types.specs.Address.{Covers}
+use Rattle.intra.specs.Intras.{EntriesByPrefix}
+use Rattle.summaries.specs.Active.{ActiveValue, IsActiveIn, IsConfigured}
+use Rattle.summaries.specs.declared.active.Noted.{Noted}
+use Rattle.summaries.specs.declared.member.Member.{Member}
+
+-- ---- the members that networks may be
+
+-- the network may be this one, by the configuration
+abbrev pub IsNamed : List AreaConfig → List Dest → Member → Type 0
+IsNamed areas dests m = Contains dests (Net m.network) × IsConfigured areas m.area m.range × Covers m.range m.network
+
+-- of one destination
+abbrev pub IsNamedBy : List AreaConfig → Dest → Member → Type 0
+IsNamedBy areas dest m = (dest ≡ Net m.network) × IsConfigured areas m.area m.range × Covers m.range m.network
+
+-- of one network in one area
+abbrev pub IsNamedIn : AreaConfig → Prefix → Member → Type 0
+IsNamedIn a network m = (network ≡ m.network) × (a.id ≡ m.area) × ((r : Range) × Contains a.ranges r × (r.prefix ≡ m.range)) × Covers m.range m.network
+
+-- the list has what it had and, beside it, just these
+abbrev pub HasMore : {A : Type 0} → (A → Type 0) → List A → List A → Type 0
+HasMore {A} more before after = (x : A) → Contains after x ↔ (Contains before x ⊎ more x)
+
+-- ---- their costs
+
+-- the entry is one through the area at this cost
+abbrev pub IsCostIn : Option Entry → ℕ → ℕ → Type 0
+IsCostIn entry area cost = (e : Entry) × (entry ≡ Some e) × (e.area ≡ Some area) × (e.cost ≡ cost)
+
+-- these members have the costs of the entries, and the others what they had
+pub record AreFollowed (entries : EntriesByPrefix) (named : List Member) (old new : ActiveValue) : Type 0 where
+  pub spent : new.spent ≡ old.spent
+  pub here : (m : Member) → Contains named m → (cost : ℕ) → (get new.members m ≡ Some cost) ↔ IsCostIn (get entries m.network) m.area cost
+  pub others : (m : Member) → (Contains named m → ⊥) → get new.members m ≡ get old.members m
+
+-- ---- which ranges are active
+
+-- what was noted of the range is so
+abbrev pub IsNotedOf : ActiveValue → Noted → Type 0
+IsNotedOf v n = IsTrue n.active ↔ IsActiveIn v n.prefix
+
+-- and what was noted is no longer so
+abbrev pub HasTurned : ActiveValue → Noted → Type 0
+HasTurned v n = (IsTrue n.active × (IsActiveIn v n.prefix → ⊥)) ⊎ ((IsTrue n.active → ⊥) × IsActiveIn v n.prefix)
+
+-- the prefix is added where that is so
+abbrev pub IsTold : ActiveValue → Noted → List Prefix → List Prefix → Type 0
+IsTold v n before after = ((after ≡ before) × (HasTurned v n → ⊥)) ⊎ ((after ≡ before ++ n.prefix ∷ []) × HasTurned v n)
+
+-- the prefix comes at the end, unless it stands there
+abbrev pub IsOnceMore : List Prefix → Prefix → List Prefix → Type 0
+IsOnceMore before p after = ((after ≡ before) × (front : List Prefix) × (before ≡ front ++ p ∷ []))
+    ⊎ ((after ≡ before ++ p ∷ []) × ((front : List Prefix) → before ≡ front ++ p ∷ [] → ⊥))

@@ -1,0 +1,3 @@
+pub mod Active
+pub mod Following
+pub mod Right

@@ -1,0 +1,280 @@
+//! Active ranges: those that have a member.
+ghost use Rattle.std.specs.Prelude.{◌≡◌, ◌≢◌, ◌↔◌, ℕ, Some, Contains, IsTrue, IfOk, OnOk, OnErr, option_copied, map as list_map};
+ghost use Rattle.std.specs.FinMap as map;
+ghost use Rattle.std.specs.List.Sorted.{IsStrictlySortedBy};
+ghost use Rattle.ospf_types.specs.declared.key.Dest.TheVariants as dest_value;
+ghost use Rattle.ospf_types.specs.declared.prefix.Prefix.{Prefix as PrefixValue};
+ghost use Rattle.ospf_types.specs.Inputs.{Inputs as Definitions};
+ghost use Rattle.ospf_types.specs.Network.{network_cmp};
+ghost use Rattle.intra.specs.Intras.{EntriesByPrefix};
+ghost use Rattle.intra.specs.Right.{IsRightFor as IsIntraRight};
+ghost use Rattle.summaries.specs.declared.active.Noted.{Noted as NotedValue};
+ghost use Rattle.summaries.specs.declared.member.Member.{Member as MemberValue};
+ghost use Rattle.summaries.specs.Active.{AreRangesOf, EntriesDifferAmong, DiffersAt, IsActiveIn, spent_ranges};
+ghost use Rattle.summaries.specs.Following.{AreFollowed, IsCostIn, IsNamed, IsNotedOf, IsOnceMore, IsTold, HasTurned};
+ghost use Rattle.summaries.specs.Right.{AreConfigured, IsRightFor};
+
+use crate::member::Member;
+use crate::named::named_members;
+use intra::Intra;
+use ospf_types::config::AreaConfig;
+use ospf_types::entry::Entry;
+use ospf_types::key::Dest;
+use ospf_types::memory::Memory;
+use ospf_types::prefix::Prefix;
+use std::alloc::Global;
+use std::collections::BTreeMap;
+use std::marker::Model;
+
+/// The ranges of the areas that are active: each with the networks that it has, at the cost of their entries.
+#[derive(Debug, Drop)]
+pub struct ActiveRanges {
+    members: BTreeMap<Member, u32>,
+    spent: bool,
+}
+
+impl Model for ActiveRanges {
+    ghost use Rattle.std.specs.FinMap as map;
+    ghost use Rattle.std.specs.Coded.{Coded, codes};
+    ghost use Rattle.summaries.specs.Active.{ActiveValue, CostsByMember, member_code};
+
+    ghost Value = { ActiveValue };
+
+    ghost coded = { let members : Coded CostsByMember = map.code member_code (Prim.hlevel codes) in Prim.hlevel (codes, members) };
+
+    ghost view = { λ a. record { members = map.from_entries a.members.entries; spent = a.spent } };
+}
+
+// The prefix of a range, and whether a range with it was active.
+#[derive(Clone, Copy, Debug, PartialEq, Eq)]
+struct Noted {
+    prefix: Prefix,
+    active: bool,
+}
+
+impl ActiveRanges {
+    /// The active ranges by these routes, from scratch.
+    pub fn build(alloc: Global, areas: &[AreaConfig], intra: &Intra) -> Result<ActiveRanges, Memory>
+        ensures kept { IfOk result (AreRangesOf areas.now intra.now.entries) }
+        ensures right { IfOk result (λ active. (s : Definitions) → AreConfigured s.areas areas.now → IsIntraRight s intra.now → IsRightFor s active) }
+    {
+        let mut active = ActiveRanges {
+            members: BTreeMap::new(alloc),
+            spent: false,
+        };
+        let networks = intra.networks(alloc)?;
+        let dests = as_dests(alloc, networks.as_slice())?;
+        active.update(alloc, areas, intra, dests.as_slice())?;
+        Ok(active)
+    }
+
+    /// Follows the routes, of which those of the named networks may differ. The answer is the prefixes of ranges that
+    /// became active, or no longer are, ascending, each once. Where memory is refused, all is spent, and only `build`
+    /// makes another.
+    pub fn update(
+        &mut self,
+        alloc: Global,
+        areas: &[AreaConfig],
+        intra: &Intra,
+        dests: &[Dest],
+    ) -> Result<Vec<Prefix>, Memory>
+        requires before { (before : EntriesByPrefix) × AreRangesOf areas.now before self.old × EntriesDifferAmong dests.now before intra.now.entries }
+        ensures kept { OnOk result (AreRangesOf areas.now intra.now.entries self.new) }
+        ensures right { OnOk result ((s : Definitions) → AreConfigured s.areas areas.now → IsIntraRight s intra.now → IsRightFor s self.new) }
+        ensures in_order { IfOk result (λ prefixes. IsStrictlySortedBy network_cmp prefixes.items) }
+        ensures exact { IfOk result (λ prefixes. (p : PrefixValue) → Contains prefixes.items p ↔ DiffersAt self.old self.new p) }
+        ensures spent { OnErr result (self.new ≡ spent_ranges) }
+    {
+        let prefixes = self.update_parts(alloc, areas, intra, dests);
+        if prefixes.is_err() {
+            self.spend();
+        }
+        prefixes
+    }
+
+    /// Whether the prefix is that of an active range of some area.
+    pub fn contains(&self, prefix: Prefix) -> bool
+        ensures { IsTrue result ↔ IsActiveIn self.now prefix }
+    {
+        match self.members.range(Member::least_of(prefix)..).next() {
+            Some((member, _)) => member.range == prefix,
+            None => false,
+        }
+    }
+
+    /// The prefixes of active ranges, ascending, each once.
+    pub fn prefixes(&self, alloc: Global) -> Result<Vec<Prefix>, Memory>
+        ensures in_order { IfOk result (λ prefixes. IsStrictlySortedBy network_cmp prefixes.items) }
+        ensures exact { IfOk result (λ prefixes. (p : PrefixValue) → Contains prefixes.items p ↔ IsActiveIn self.now p) }
+    {
+        let mut prefixes = Vec::new(alloc);
+        for member in self.members.keys() {
+            push_once(member.range, &mut prefixes)?;
+        }
+        Ok(prefixes)
+    }
+
+    /// Whether an update was refused memory.
+    pub fn spent(&self) -> bool
+        ensures { result ≡ self.now.spent }
+    {
+        self.spent
+    }
+}
+
+impl ActiveRanges {
+    // The same; after an error some members followed and others did not.
+    fn update_parts(
+        &mut self,
+        alloc: Global,
+        areas: &[AreaConfig],
+        intra: &Intra,
+        dests: &[Dest],
+    ) -> Result<Vec<Prefix>, Memory>
+        requires before { (before : EntriesByPrefix) × AreRangesOf areas.now before self.old × EntriesDifferAmong dests.now before intra.now.entries }
+        ensures kept { OnOk result (AreRangesOf areas.now intra.now.entries self.new) }
+        ensures in_order { IfOk result (λ prefixes. IsStrictlySortedBy network_cmp prefixes.items) }
+        ensures exact { IfOk result (λ prefixes. (p : PrefixValue) → Contains prefixes.items p ↔ DiffersAt self.old self.new p) }
+    {
+        let named = named_members(alloc, areas, dests)?;
+        let touched = ranges_of(alloc, named.as_slice())?;
+        let noted = self.noted(alloc, touched.as_slice())?;
+        self.follow(intra, named.as_slice())?;
+        let turned = self.turned(alloc, noted.as_slice())?;
+        Ok(turned)
+    }
+
+    // Whether ranges with the prefixes are active now.
+    fn noted(&self, alloc: Global, prefixes: &[Prefix]) -> Result<Vec<Noted>, Memory>
+        ensures listed { IfOk result (λ noted. list_map (λ n. n.prefix) noted.items ≡ prefixes.now) }
+        ensures exact { IfOk result (λ noted. (n : NotedValue) → Contains noted.items n → IsNotedOf self.now n) }
+    {
+        let mut noted = Vec::new(alloc);
+        for prefix in prefixes {
+            noted.push(Noted {
+                prefix: *prefix,
+                active: self.contains(*prefix),
+            })?;
+        }
+        Ok(noted)
+    }
+
+    // The prefixes of which what was noted is no longer so.
+    fn turned(&self, alloc: Global, noted: &[Noted]) -> Result<Vec<Prefix>, Memory>
+        requires { IsStrictlySortedBy network_cmp (list_map (λ n. n.prefix) noted.now) }
+        ensures in_order { IfOk result (λ prefixes. IsStrictlySortedBy network_cmp prefixes.items) }
+        ensures exact { IfOk result (λ prefixes. (p : PrefixValue) → Contains prefixes.items p ↔ ((n : NotedValue) × Contains noted.now n × (n.prefix ≡ p) × HasTurned self.now n)) }
+    {
+        let mut prefixes = Vec::new(alloc);
+        for note in noted {
+            self.push_turned(*note, &mut prefixes)?;
+        }
+        Ok(prefixes)
+    }
+
+    // Adds the prefix, where what was noted of it is no longer so.
+    fn push_turned(&self, note: Noted, prefixes: &mut Vec<Prefix>) -> Result<(), Memory>
+        ensures { OnOk result (IsTold self.now note prefixes.old.items prefixes.new.items) }
+    {
+        if note.active == self.contains(note.prefix) {
+            return Ok(());
+        }
+        prefixes.push(note.prefix)?;
+        Ok(())
+    }
+
+    // The members take the costs of the entries.
+    fn follow(&mut self, intra: &Intra, named: &[Member]) -> Result<(), Memory>
+        ensures { OnOk result (AreFollowed intra.now.entries named.now self.old self.new) }
+    {
+        for member in named {
+            self.follow_member(intra, *member)?;
+        }
+        Ok(())
+    }
+
+    // The member takes the cost of its network's entry, where that is one through the member's area.
+    fn follow_member(&mut self, intra: &Intra, member: Member) -> Result<(), Memory>
+        ensures spent { OnOk result (self.new.spent ≡ self.old.spent) }
+        ensures here { OnOk result ((cost : ℕ) → (map.get self.new.members member ≡ Some cost) ↔ IsCostIn (map.get intra.now.entries member.network) member.area cost) }
+        ensures others { OnOk result ((m : MemberValue) → m ≢ member → map.get self.new.members m ≡ map.get self.old.members m) }
+    {
+        let cost = cost_in(intra.get(member.network), member.area);
+        self.put(member, cost)
+    }
+
+    // The member has this cost.
+    fn put(&mut self, member: Member, cost: Option<u32>) -> Result<(), Memory>
+        ensures spent { OnOk result (self.new.spent ≡ self.old.spent) }
+        ensures here { OnOk result (map.get self.new.members member ≡ cost) }
+        ensures others { OnOk result ((m : MemberValue) → m ≢ member → map.get self.new.members m ≡ map.get self.old.members m) }
+    {
+        match cost {
+            Some(cost) => {
+                self.members.insert(member, cost)?;
+            }
+            None => {
+                self.members.remove(&member);
+            }
+        }
+        Ok(())
+    }
+
+    fn spend(&mut self)
+        ensures { self.new ≡ spent_ranges }
+    {
+        self.members.clear();
+        self.spent = true;
+    }
+}
+
+// The prefixes of the members' ranges, ascending, each once.
+fn ranges_of(alloc: Global, members: &[Member]) -> Result<Vec<Prefix>, Memory>
+    ensures in_order { IfOk result (λ prefixes. IsStrictlySortedBy network_cmp prefixes.items) }
+    ensures exact { IfOk result (λ prefixes. (p : PrefixValue) → Contains prefixes.items p ↔ Contains (list_map (λ m. m.range) members.now) p) }
+{
+    let mut prefixes = each_range(alloc, members)?;
+    prefixes.sort_unstable();
+    prefixes.dedup();
+    Ok(prefixes)
+}
+
+// The prefix of each member's range.
+fn each_range(alloc: Global, members: &[Member]) -> Result<Vec<Prefix>, Memory>
+    ensures { IfOk result (λ prefixes. prefixes.items ≡ list_map (λ m. m.range) members.now) }
+{
+    let prefixes = members.iter().map(|member| member.range).collect(alloc)?;
+    Ok(prefixes)
+}
+
+// The networks as destinations.
+fn as_dests(alloc: Global, networks: &[Prefix]) -> Result<Vec<Dest>, Memory>
+    ensures { IfOk result (λ dests. dests.items ≡ list_map dest_value.Net networks.now) }
+{
+    let dests = networks
+        .iter()
+        .map(|network| Dest::Net(*network))
+        .collect(alloc)?;
+    Ok(dests)
+}
+
+// The cost of an entry that is one through the area.
+fn cost_in(entry: Option<&Entry>, area: u32) -> Option<u32>
+    ensures { (cost : ℕ) → (result ≡ Some cost) ↔ IsCostIn (option_copied entry.entry) area cost }
+{
+    match entry {
+        Some(entry) if entry.area == Some(area) => Some(entry.cost),
+        _ => None,
+    }
+}
+
+// Adds the prefix, unless it is the last.
+fn push_once(prefix: Prefix, prefixes: &mut Vec<Prefix>) -> Result<(), Memory>
+    ensures { OnOk result (IsOnceMore prefixes.old.items prefix prefixes.new.items) }
+{
+    if prefixes.last() == Some(&prefix) {
+        return Ok(());
+    }
+    prefixes.push(prefix)?;
+    Ok(())
+}
