@@ -32,6 +32,8 @@ use Rattle.route_table.specs.declared.table.Item.TheVariants.{Route, Discard}
 use Rattle.event_state.specs.States.{State}
 use Rattle.calculation.specs.Due.{RoutesDifferAmong}
 use Rattle.calculation.specs.Calculations.{CalculationValue, IsCalculationOf, StatesDifferAmong, AreTreesOf, AreItemsKept, IsExaminedOf, IsItem, entry_else, entry_at, inputs_with, inter_inputs, external_inputs}
+use Rattle.calculation.specs.Followed.{routers_in}
+use Rattle.calculation.proofs.Networks.{routers_within}
 use Rattle.calculation.proofs.Above.{kept_ids, inter_differ, external_differ}
 use Rattle.calculation.proofs.Staying.{networks_stay, routers_stay, ranges_stay, inter_stays, external_stays, preferred_stays}
 
@@ -91,32 +93,35 @@ module _ (s t : State) (keys : List (Scope × Key)) (ids : List ℕ) (differ : S
         external_differ s t keys ids differ more c.intra intra c.active active (λ p not. networks p (lower (Net p) not)) (λ p not. ranges p (lower (Net p) not)) (λ r not. routers r (lower (Router r) not)) c.inter inter between,
       )
 
-      module _ (external : ExternalValue) (last : List Dest) (renewed : (d : Dest) → Contains last d ↔ ExternalDiffers c.external external d) (all : List Dest) (all_is : all ≡ more ++ last) where
+      module _ (external : ExternalValue) (last : List Dest) (renewed : (d : Dest) → Contains last d ↔ ExternalDiffers c.external external d) (over : List Dest) (over_is : over ≡ more ++ routers_in last) where
         abbrev now : CalculationValue
         now = record { trees = trees; intra = intra; active = active; inter = inter; external = external }
 
         -- what is not named at last was not named before
-        not_more : (d : Dest) → (Contains all d → ⊥) → Contains more d → ⊥
-        not_more d not named = not (subst (λ (list : List Dest). Contains list d) (sym all_is) (Contains-append_left more last d named))
+        not_more : (d : Dest) → (Contains over d → ⊥) → Contains more d → ⊥
+        not_more d not named = not (subst (λ (list : List Dest). Contains list d) (sym over_is) (Contains-append_left more (routers_in last) d named))
 
-        not_last : (d : Dest) → (Contains all d → ⊥) → Contains last d → ⊥
-        not_last d not named = not (subst (λ (list : List Dest). Contains list d) (sym all_is) (Contains-append_right more last d named))
+        not_last : (r : ℕ) → (Contains over (Router r) → ⊥) → Contains last (Router r) → ⊥
+        not_last r not named = not (subst (λ (list : List Dest). Contains list (Router r)) (sym over_is) (Contains-append_right more (routers_in last) (Router r) (routers_within last r named)))
 
-        pub items_kept : AreItemsKept all c now
-        items_kept p item not =
-            let not_below = lower (Net p) (not_more (Net p) not) in
+        pub items_kept : (all : List Dest) → all ≡ last ++ over → (listed : List Prefix) → ((p : Prefix) → Contains listed p ↔ Contains all (Net p)) → AreItemsKept listed c now
+        items_kept all all_is listed same p item not =
+            let not_all : Contains all (Net p) → ⊥ = λ named. not ((same p).1 named) in
+            let not_first : Contains last (Net p) → ⊥ = λ named. not_all (subst (λ (list : List Dest). Contains list (Net p)) (sym all_is) (Contains-append_left last over (Net p) named)) in
+            let not_over : Contains over (Net p) → ⊥ = λ named. not_all (subst (λ (list : List Dest). Contains list (Net p)) (sym all_is) (Contains-append_right last over (Net p) named)) in
+            let not_below = lower (Net p) (not_more (Net p) not_over) in
             let first = networks p not_below in
-            let second = between (Net p) (not_more (Net p) not) in
-            let third = external_stays c.external external last renewed p (not_last (Net p) not) in
+            let second = between (Net p) (not_more (Net p) not_over) in
+            let third = external_stays c.external external last renewed p not_first in
             let both = ranges p not_below in
             item_same (entry_at c p) (entry_at now p) (IsActiveIn c.active p) (IsActiveIn active p) (λ i. entry_else (first i) (entry_else (second i) (third i))) both.1 both.0 item
 
-        pub routes_kept : AreRangesOf t.config.areas intra.entries active → RoutesDifferAmong all c now
+        pub routes_kept : AreRangesOf t.config.areas intra.entries active → RoutesDifferAmong over c now
         routes_kept are =
             let before = ranges_before in
             record {
               intra = λ p not. networks p (lower (Net p) (not_more (Net p) not));
-              members = members_stay t.config.areas all before.0 intra.entries c.active active before.1 are (λ p not. networks p (lower (Net p) (not_more (Net p) not)));
+              members = members_stay t.config.areas over before.0 intra.entries c.active active before.1 are (λ p not. networks p (lower (Net p) (not_more (Net p) not)));
               inter = λ p not. between (Net p) (not_more (Net p) not);
-              preferred = λ r not. preferred_stays c.external external last renewed r (not_last (Router r) not);
+              preferred = λ r not. preferred_stays c.external external last renewed r (not_last r not);
             }

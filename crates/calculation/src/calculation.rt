@@ -18,7 +18,7 @@ ghost use Rattle.event_state.specs.Held.{AreFit};
 ghost use Rattle.event_state.specs.States.{State as StateValue, inputs_of};
 ghost use Rattle.calculation.specs.Calculations.{CalculationValue, IsCalculationOf, StatesDifferAmong, IsItemOf, IsTableOf, AreTreesOf, AreItemsKept, entry_at, inputs_with};
 ghost use Rattle.calculation.specs.Due.{AreDuesFor, RoutesDifferAmong, due_inputs};
-ghost use Rattle.calculation.specs.Followed.{AreLayersBehind};
+ghost use Rattle.calculation.specs.Followed.{AreLayersBehind, routers_in};
 ghost use Rattle.calculation.specs.Totals.{IsEventWork, AreWorksForAll, IsTotal};
 
 use crate::inputs::{area_inputs, interfaces};
@@ -40,6 +40,17 @@ use std::alloc::Global;
 use std::hash::RandomState;
 use std::marker::Model;
 use summaries::ActiveRanges;
+
+/// What differs in a calculation that has followed an event.
+#[derive(Debug, Drop)]
+pub struct Followed {
+    /// Networks, ascending, each once: the table has another item for these alone, if for all.
+    pub networks: Vec<Prefix>,
+    /// Destinations: what is due to others rests on the same routes as before.
+    pub dests: Vec<Dest>,
+    /// The work of repairing the trees.
+    pub work: Touched,
+}
 
 /// What is kept of a state: the trees of its areas, and its routes, each layer by those below it.
 #[derive(Debug, Drop)]
@@ -93,22 +104,22 @@ impl Calculation {
         Ok((calculation, work))
     }
 
-    /// Follows the state, which differs from the one before in these LSAs or in these interfaces. The answer is destinations:
-    /// the table has another item for their networks alone, if for all, and what is due to others rests on the same routes
-    /// as before. With it goes the work of repairing the trees. After an error what is kept is of no use any more.
+    /// Follows the state, which differs from the one before in these LSAs or in these interfaces. After an error what is
+    /// kept is of no use any more.
     pub fn follow(
         &mut self,
         alloc: Global,
         state: &State,
         keys: Vec<(Scope, Key)>,
         ids: Vec<u8>,
-    ) -> Result<(Vec<Dest>, Touched), Memory>
+    ) -> Result<Followed, Memory>
         requires few { state.now.limits.area_lsas ≤ most_routers }
         requires before { (before : StateValue) × IsCalculationOf before self.old × StatesDifferAmong keys.items ids.items before state.now }
         ensures right { OnOk result (IsCalculationOf state.now self.new) }
-        ensures items { IfOk result (λ answer. AreItemsKept answer.0.items self.old self.new) }
-        ensures routes { IfOk result (λ answer. RoutesDifferAmong answer.0.items self.old self.new) }
-        ensures work { IfOk result (λ answer. (before : StateValue) → IsCalculationOf before self.old → StatesDifferAmong keys.items ids.items before state.now → IsEventWork before state.now answer.1) }
+        ensures in_order { IfOk result (λ told. IsStrictlySortedBy network_cmp told.networks.items) }
+        ensures items { IfOk result (λ told. AreItemsKept told.networks.items self.old self.new) }
+        ensures routes { IfOk result (λ told. RoutesDifferAmong told.dests.items self.old self.new) }
+        ensures work { IfOk result (λ told. (before : StateValue) → IsCalculationOf before self.old → StatesDifferAmong keys.items ids.items before state.now → IsEventWork before state.now told.work) }
     {
         let mut vertices = Vec::new(alloc);
         let work = follow_trees(alloc, &mut self.trees, state, &keys, &ids, &mut vertices)?;
@@ -118,8 +129,13 @@ impl Calculation {
             interfaces: ids,
             dests: Vec::new(alloc),
         };
-        self.follow_layers(alloc, state, &mut dirty)?;
-        Ok((dirty.dests, work))
+        let networks = self.follow_layers(alloc, state, &mut dirty)?;
+        let dests = dirty.dests;
+        Ok(Followed {
+            networks,
+            dests,
+            work,
+        })
     }
 
     /// What is due in the areas (RFC 2328, 12.4.3), from scratch.
@@ -178,18 +194,20 @@ impl Calculation {
 }
 
 impl Calculation {
-    // The layers of routes follow the state and the trees, from below. The destinations whose result differs in one of them
-    // are added to those that are dirty.
+    // The layers of routes follow the state and the trees, from below. The answer is the networks for which one of them has
+    // another result. The destinations for which that may matter to what is due stay as those that are dirty: no summary
+    // tells of an external route, but one tells of an AS boundary router.
     fn follow_layers(
         &mut self,
         alloc: Global,
         state: &State,
         dirty: &mut Dirty,
-    ) -> Result<(), Memory>
+    ) -> Result<Vec<Prefix>, Memory>
         requires trees { AreTreesOf state.now state.now.config.areas self.old.trees }
         requires before { AreLayersBehind state.now dirty.old self.old }
         ensures right { OnOk result (IsCalculationOf state.now self.new) }
-        ensures items { OnOk result (AreItemsKept dirty.new.dests.items self.old self.new) }
+        ensures in_order { IfOk result (λ networks. IsStrictlySortedBy network_cmp networks.items) }
+        ensures items { IfOk result (λ networks. AreItemsKept networks.items self.old self.new) }
         ensures routes { OnOk result (RoutesDifferAmong dirty.new.dests.items self.old self.new) }
     {
         let areas = state.config().areas.as_slice();
@@ -202,9 +220,11 @@ impl Calculation {
         dirty.dests.extend_from_slice(&dests)?;
         let external = &mut self.external;
         let (intra, active, inter) = (&self.intra, &self.active, &self.inter);
-        let dests = follow_external(alloc, external, state, intra, active, inter, dirty)?;
-        dirty.dests.extend_from_slice(&dests)?;
-        Ok(())
+        let mut all = follow_external(alloc, external, state, intra, active, inter, dirty)?;
+        push_routers(&all, &mut dirty.dests)?;
+        all.extend_from_slice(&dirty.dests)?;
+        let networks = networks_of(alloc, &all)?;
+        Ok(networks)
     }
 
     // What is due rests on this.
@@ -306,8 +326,20 @@ fn push_networks(networks: &[Prefix], dests: &mut Vec<Dest>) -> Result<(), Memor
     Ok(())
 }
 
-/// The networks among the destinations, ascending, each once.
-pub fn networks_of(alloc: Global, dests: &[Dest]) -> Result<Vec<Prefix>, Memory>
+// Adds the routers among the others.
+fn push_routers(among: &[Dest], dests: &mut Vec<Dest>) -> Result<(), Memory>
+    ensures { OnOk result (dests.new.items ≡ dests.old.items ++ routers_in among.now) }
+{
+    for dest in among {
+        if let Dest::Router(router) = *dest {
+            dests.push(Dest::Router(router))?;
+        }
+    }
+    Ok(())
+}
+
+// The networks among the destinations, ascending, each once.
+fn networks_of(alloc: Global, dests: &[Dest]) -> Result<Vec<Prefix>, Memory>
     ensures in_order { IfOk result (λ networks. IsStrictlySortedBy network_cmp networks.items) }
     ensures exact { IfOk result (λ networks. (p : PrefixValue) → Contains networks.items p ↔ Contains dests.now (dest_value.Net p)) }
 {

@@ -13,7 +13,7 @@ ghost use Rattle.calculation.specs.Totals.{IsBuildWork, IsEventWork};
 ghost use Rattle.event_core.specs.Following.{AreRoutesOf, AreChanges, AreOtherItems, IsOneMore, no_work};
 
 use crate::named::Named;
-use calculation::{Calculation, networks_of};
+use calculation::Calculation;
 use dues::Dues;
 use event_state::State;
 use ospf_types::memory::Memory;
@@ -204,14 +204,15 @@ impl Routes {
         ensures changes { OnErr result (self.new.changes ≡ self.old.changes) }
     {
         let Named { keys, interfaces } = named;
-        let (dests, work) = self.calculation.follow(alloc, state, keys, interfaces)?;
-        let networks = networks_of(alloc, &dests)?;
-        let items = other_items(alloc, &self.calculation, &self.table, &networks)?;
-        let changes = changed_networks(alloc, &items)?;
-        let plan = self.calculation.plan_dues(alloc, state, &mut self.dues, &dests)?;
+        let told = self.calculation.follow(alloc, state, keys, interfaces)?;
+        let items = other_items(alloc, &self.calculation, &self.table, &told.networks)?;
+        let changes = networks_of(alloc, &items)?;
+        let plan = self
+            .calculation
+            .plan_dues(alloc, state, &mut self.dues, &told.dests)?;
         self.table.change(alloc, items)?;
         self.dues.carry_out(plan);
-        self.work = work;
+        self.work = told.work;
         self.changes = changes;
         Ok(())
     }
@@ -284,10 +285,7 @@ fn are_same(a: Option<&Item>, b: Option<&Item>) -> bool
 }
 
 // The networks of the items.
-fn changed_networks(
-    alloc: Global,
-    items: &[(Prefix, Option<Item>)],
-) -> Result<Vec<Prefix>, Memory>
+fn networks_of(alloc: Global, items: &[(Prefix, Option<Item>)]) -> Result<Vec<Prefix>, Memory>
     ensures { IfOk result (λ networks. networks.items ≡ keys_of items.now) }
 {
     let mut networks = Vec::with_capacity(alloc, items.len())?;

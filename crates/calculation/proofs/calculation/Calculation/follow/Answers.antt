@@ -46,14 +46,14 @@ follow_layers-requires-clause-before c =
     )
 
 pub returns-clause-items : goal.returns-clause-items
-returns-clause-items c = λ p item not is. c.in_ok-follow_layers.ensures.items p item not (subst (λ (k : CalculationValue). IsItemOf k p item) (sym c.self.view_is) is)
+returns-clause-items c = λ p item not is. c.in_ok-networks.ensures.items p item not (subst (λ (k : CalculationValue). IsItemOf k p item) (sym c.self.view_is) is)
 
 pub returns-clause-routes : goal.returns-clause-routes
-returns-clause-routes c = subst (λ (k : CalculationValue). RoutesDifferAmong c.follow_layers.new.dirty.dests.items k c.follow_layers.new.self) c.self.view_is c.in_ok-follow_layers.ensures.routes
+returns-clause-routes c = subst (λ (k : CalculationValue). RoutesDifferAmong c.follow_layers.new.dirty.dests.items k c.follow_layers.new.self) c.self.view_is c.in_ok-networks.ensures.routes
 
 pub returns-clause-work : goal.returns-clause-work
 returns-clause-work c =
     let old : c.args.self.now.trees ≡ c.deref_mut.result.now = ap (λ (k : CalculationValue). k.trees) (sym c.self.view_is) ∙ sym c.deref_mut.ensures.value in
     λ before is differ.
     followed_work before c.args.state.now c.args.keys.items c.args.ids.items differ c.deref_mut.result.now c.follow_trees.new.trees c.follow_trees.new.vertices.items c.in_ok-work.work c.in_ok-work.ensures
-    is.fit c.in_ok-follow_layers.ensures.right.fit (subst (λ (trees : List AreaTreeValue). AreTreesOf before before.config.areas trees) old is.trees)
+    is.fit c.in_ok-networks.ensures.right.fit (subst (λ (trees : List AreaTreeValue). AreTreesOf before before.config.areas trees) old is.trees)

@@ -1,12 +1,8 @@
 use Rattle.std.proofs.Common.{List, sym, ap, subst, ◌∙◌}
-use Rattle.std.specs.Prelude.{◌↔◌, Option}
-use Rattle.std.specs.List.{Contains}
 use Rattle.std.specs.Map.{keys_of}
 use Rattle.ospf_types.specs.declared.key.Dest.{Dest}
-use Rattle.ospf_types.specs.declared.key.Dest.TheVariants.{Net}
 use Rattle.ospf_types.specs.declared.prefix.Prefix.{Prefix}
-use Rattle.route_table.specs.declared.table.Item.{Item}
-use Rattle.calculation.specs.Calculations.{IsCalculationOf, IsItemOf, IsTableOf}
+use Rattle.calculation.specs.Calculations.{IsCalculationOf, IsTableOf}
 use Rattle.calculation.specs.Due.{AreDuesFor, RoutesDifferAmong}
 use Rattle.event_core.specs.Following.{RoutesValue, AreChanges, AreOtherItems}
 use Rattle.event_core.proofs.Followed.{items_followed, changes_followed}
@@ -22,7 +18,7 @@ plan_dues-requires c =
     let b = c.requires.before in
     let old = c.self.inside in
     let due = subst (λ (r : RoutesValue). AreDuesFor b.0 r.calculation r.dues) (sym c.self.view_is) b.1.dues in
-    let routes = subst (λ (ds : List Dest). RoutesDifferAmong ds old.calculation c.follow.new.self) (sym c.deref-4.ensures.value) c.in_ok-dests.ensures.routes in
+    let routes = subst (λ (ds : List Dest). RoutesDifferAmong ds old.calculation c.follow.new.self) (sym c.deref-3.ensures.value) c.in_ok-told.ensures.routes in
     record { before = (b.0, old.calculation, due, b.2.config, routes) }
 
 pub change-requires : goal.change-requires
@@ -33,14 +29,11 @@ followed : (c : goal.In_ok-change) → IsTableOf c.follow.new.self c.change.new.
 followed c =
     let old = c.self.inside in
     let new = c.follow.new.self in
-    let networks : List Prefix = c.in_ok-networks.networks.items in
-    let named : (p : Prefix) → Contains networks p ↔ Contains c.in_ok-dests.dests.items (Net p) = λ p.
-    subst (λ (ds : List Dest). Contains networks p ↔ Contains ds (Net p)) c.deref.ensures.value (c.in_ok-networks.ensures.exact p) in
-    let enough : (p : Prefix) (o : Option Item) → (Contains networks p → ⊥) → IsItemOf old.calculation p o → IsItemOf new p o = λ p o not is. c.in_ok-dests.ensures.items p o (λ h. not ((named p).1 h)) is in
-    let others = subst (λ (ps : List Prefix). AreOtherItems new old.table.items ps c.in_ok-items.items.items) c.deref-2.ensures.value c.in_ok-items.ensures in
+    let networks : List Prefix = c.in_ok-told.told.networks.items in
+    let others = subst (λ (ps : List Prefix). AreOtherItems new old.table.items ps c.in_ok-items.items.items) c.deref.ensures.value c.in_ok-items.ensures in
     let table = subst (λ (r : RoutesValue). IsTableOf r.calculation r.table.items) (sym c.self.view_is) c.requires.before.1.table in (
-      items_followed old.calculation new old.table.items c.change.new.self.items networks c.in_ok-items.items.items enough others table c.in_ok-change.ensures.changed,
-      changes_followed old.calculation new old.table.items c.change.new.self.items networks c.in_ok-items.items.items enough others table c.in_ok-change.ensures.changed,
+      items_followed old.calculation new old.table.items c.change.new.self.items networks c.in_ok-items.items.items c.in_ok-told.ensures.items others table c.in_ok-change.ensures.changed,
+      changes_followed old.calculation new old.table.items c.change.new.self.items networks c.in_ok-items.items.items c.in_ok-told.ensures.items others table c.in_ok-change.ensures.changed,
     )
 
 pub returns-clause-items : goal.returns-clause-items
@@ -52,4 +45,4 @@ returns-clause-dues c = c.in_ok-plan.ensures.kept c.carry_out.new.self c.carry_o
 pub returns-clause-exact : goal.returns-clause-exact
 returns-clause-exact c =
     subst (λ (r : RoutesValue). AreChanges r.table.items c.change.new.self.items c.in_ok-changes.changes.items) c.self.view_is
-    (subst (AreChanges c.self.inside.table.items c.change.new.self.items) (sym (c.in_ok-changes.ensures ∙ ap keys_of c.deref-3.ensures.value)) (followed c).1)
+    (subst (AreChanges c.self.inside.table.items c.change.new.self.items) (sym (c.in_ok-changes.ensures ∙ ap keys_of c.deref-2.ensures.value)) (followed c).1)
