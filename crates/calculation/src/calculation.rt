@@ -41,9 +41,9 @@ use std::hash::RandomState;
 use std::marker::Model;
 use summaries::ActiveRanges;
 
-/// What differs in a calculation that has followed an event.
+/// What may differ since an event, by a calculation that has followed it.
 #[derive(Debug, Drop)]
-pub struct Followed {
+pub struct Changed {
     /// Networks, ascending, each once: the table has another item for these alone, if for all.
     pub networks: Vec<Prefix>,
     /// Destinations: what is due to others rests on the same routes as before.
@@ -112,7 +112,7 @@ impl Calculation {
         state: &State,
         keys: Vec<(Scope, Key)>,
         ids: Vec<u8>,
-    ) -> Result<Followed, Memory>
+    ) -> Result<Changed, Memory>
         requires few { state.now.limits.area_lsas ≤ most_routers }
         requires before { (before : StateValue) × IsCalculationOf before self.old × StatesDifferAmong keys.items ids.items before state.now }
         ensures right { OnOk result (IsCalculationOf state.now self.new) }
@@ -131,7 +131,7 @@ impl Calculation {
         };
         let networks = self.follow_layers(alloc, state, &mut dirty)?;
         let dests = dirty.dests;
-        Ok(Followed {
+        Ok(Changed {
             networks,
             dests,
             work,

@@ -1,5 +1,7 @@
-use super::*;
+//! Replays over readers and writers that fail.
+
 use recording::{Fault, LineFault};
+use replay::{ReplayFault, Show, replay_one};
 use std::alloc::Global;
 use std::hash::RandomState;
 use std::io;

@@ -1,5 +1,6 @@
-use crate::command_line::job;
-use crate::running::run;
+//! Commands over writers that fail.
+
+use abr_cli::{job, run};
 use std::alloc::Global;
 use std::hash::RandomState;
 use std::io;

@@ -1,4 +1,6 @@
-use super::*;
+//! Recordings are read, and printed as they were.
+
+use recording::{Recording, parse, print};
 use std::test::Fail;
 
 // Each form of a line, and each LS type.
