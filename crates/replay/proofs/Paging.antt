@@ -103,6 +103,10 @@ adding_cut a b c before page all rest lines more h next cut =
     let here = part_more a b c before page h.text lines h.adds cut in
     subst (λ l. AddsPart a c (before ++ l)) (append_assoc h.text lines more ∙ ap (λ l. h.text ++ l) (sym next) ∙ sym h.left) (part_longer a c before (h.text ++ lines) more here)
 
+-- all of it is printed
+pub adding_whole : (a b : Option (List ℕ)) (before page all rest : List ℕ) → Adding a b before page all rest → rest ≡ [] → Adds a b before page all
+adding_whole a b before page all rest h none = subst (λ l. Adds a b before page l) (sym (h.left ∙ ap (λ l. h.text ++ l) none ∙ append-nil h.text)) h.adds
+
 -- ---- a list of which each item has a line
 
 pub line_next : {A : Type 0} (line : A → List ℕ) (items : List A) (i : ℕ) (x : A) → i < length items → x ≡ get_or items i x
