@@ -158,8 +158,8 @@ fn of_a_hundred_networks_one_changes(rt: HostRuntime) -> Result<(), Fail> {
 }
 
 // Two areas are active. The peer 10.0.0.2 in the backbone is a border router and an AS boundary router, and has a stub
-// link to 10.4.0.0/16, for which a range is active. It tells of 10.1.0.0/16, and of three external networks: one whose forwarding address no route leads to, one
-// that is a second before MaxAge, and one at MaxAge.
+// link to 10.4.0.0/16, for which a range is active. It tells of 10.1.0.0/16, and of three external networks: one whose
+// forwarding address no route leads to, one that is a second before MaxAge, and one at MaxAge.
 const BORDER: &str = "abr 1\n\
 router 10.0.0.1\n\
 area 0.0.0.0 normal\n\

@@ -149,8 +149,8 @@ impl Core {
         })
     }
 
-    /// Builds table and due summaries anew, where they are behind; databases and journal stay as they are, and so does what `changes`
-    /// and `work` tell of the last event.
+    /// Builds table and due summaries anew, where they are behind; databases and journal stay as they are, and so does
+    /// what `changes` and `work` tell of the last event.
     pub fn catch_up(&mut self) -> Standing
         ensures journal { self.new.journal ≡ self.old.journal }
         ensures config { self.new.config ≡ self.old.config }
