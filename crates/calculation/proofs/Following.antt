@@ -118,10 +118,10 @@ module _ (s t : State) (keys : List (Scope × Key)) (ids : List ℕ) (differ : S
 
         pub routes_kept : AreRangesOf t.config.areas intra.entries active → RoutesDifferAmong over c now
         routes_kept are =
-            let before = ranges_before in
+            let before : AreRangesOf t.config.areas c.intra.entries c.active = subst (λ (areas : List AreaConfig). AreRangesOf areas c.intra.entries c.active) (sym areas_same) is.active in
             record {
               intra = λ p not. networks p (lower (Net p) (not_more (Net p) not));
-              members = members_stay t.config.areas over before.0 intra.entries c.active active before.1 are (λ p not. networks p (lower (Net p) (not_more (Net p) not)));
+              members = members_stay t.config.areas over c.intra.entries intra.entries c.active active before are (λ p not. networks p (lower (Net p) (not_more (Net p) not)));
               inter = λ p not. between (Net p) (not_more (Net p) not);
               preferred = λ r not. preferred_stays c.external external last renewed r (not_last r not);
             }

@@ -105,11 +105,11 @@ returns-clause-right c =
     }
 
 -- what is kept at the end
-now : goal.In_ok-networks_of → CalculationValue
+abbrev now : goal.After-drop-ranges-2 → CalculationValue
 now c = record { trees = c.self.inside.trees.items; intra = c.follow_intra.new.intra; active = c.update.new.self; inter = c.follow_inter.new.inter; external = c.follow_external.new.external }
 
 -- a network that no layer named has its item still, and what is due rests on the same routes
-layers_kept : (c : goal.In_ok-networks_of) → AreItemsKept c.in_ok-networks_of.networks.items c.args.self.now (now c) × RoutesDifferAmong c.push_routers.new.dests.items c.args.self.now (now c)
+layers_kept : (c : goal.After-drop-ranges-2) → AreItemsKept c.in_ok-networks.networks.items c.args.self.now (now c) × RoutesDifferAmong c.push_routers.new.dests.items c.args.self.now (now c)
 layers_kept c =
     let s = c.args.state.now in
     let k : CalculationValue = record { trees = c.self.inside.trees.items; intra = c.self.inside.intra; active = c.self.inside.active; inter = c.self.inside.inter; external = c.self.inside.external } in
@@ -126,11 +126,12 @@ layers_kept c =
     let all : c.extend_from_slice-2.new.self.items ≡ last ++ c.push_routers.new.dests.items = c.in_ok-extend_from_slice-2.ensures.items ∙ ap (λ (ds : List Dest). last ++ ds) c.deref-6.ensures.value in
     let listed : c.as_slice-areas.result.now ≡ s.config.areas = c.as_slice-areas.ensures ∙ ap (λ (x : Config). x.areas) c.config.ensures.value in
     let ranges : AreRangesOf s.config.areas intra.entries c.update.new.self = subst (λ (areas : List AreaConfig). AreRangesOf areas intra.entries c.update.new.self) listed c.in_ok-ranges.ensures.kept in
-    let exact : (p : Prefix) → Contains c.in_ok-networks_of.networks.items p ↔ Contains c.extend_from_slice-2.new.self.items (Net p) = λ p.
-    subst (λ (ds : List Dest). Contains c.in_ok-networks_of.networks.items p ↔ Contains ds (Net p)) c.deref-7.ensures.value (c.in_ok-networks_of.ensures.exact p) in
-    subst (λ (v : CalculationValue). AreItemsKept c.in_ok-networks_of.networks.items v (now c) × RoutesDifferAmong c.push_routers.new.dests.items v (now c)) c.self.view_is (
-      items_kept b.0 s c.args.dirty.now.keys.items c.args.dirty.now.interfaces.items b.3 old b.2 k.trees grown intra kept dests c.in_ok-dests.ensures.exact c.update.new.self c.in_ok-ranges.ranges.items c.in_ok-ranges.ensures.exact c.push_networks.new.dests.items below c.follow_inter.new.inter c.in_ok-dests-2.dests.items c.in_ok-dests-2.ensures.exact c.extend_from_slice.new.self.items more c.follow_external.new.external last c.in_ok-all.ensures.exact c.push_routers.new.dests.items over c.extend_from_slice-2.new.self.items all c.in_ok-networks_of.networks.items exact,
-      routes_kept b.0 s c.args.dirty.now.keys.items c.args.dirty.now.interfaces.items b.3 old b.2 k.trees grown intra kept dests c.in_ok-dests.ensures.exact c.update.new.self c.in_ok-ranges.ranges.items c.in_ok-ranges.ensures.exact c.push_networks.new.dests.items below c.follow_inter.new.inter c.in_ok-dests-2.dests.items c.in_ok-dests-2.ensures.exact c.extend_from_slice.new.self.items more c.follow_external.new.external last c.in_ok-all.ensures.exact c.push_routers.new.dests.items over ranges,
+    let exact : (p : Prefix) → Contains c.in_ok-networks.networks.items p ↔ Contains c.extend_from_slice-2.new.self.items (Net p) = λ p.
+    subst (λ (ds : List Dest). Contains c.in_ok-networks.networks.items p ↔ Contains ds (Net p)) c.deref-7.ensures.value (c.in_ok-networks.ensures.exact p) in
+    let routes = routes_kept b.0 s c.args.dirty.now.keys.items c.args.dirty.now.interfaces.items b.3 old b.2 k.trees grown intra kept dests c.in_ok-dests.ensures.exact c.update.new.self c.in_ok-ranges.ranges.items c.in_ok-ranges.ensures.exact c.push_networks.new.dests.items below c.follow_inter.new.inter c.in_ok-dests-2.dests.items c.in_ok-dests-2.ensures.exact c.extend_from_slice.new.self.items more c.follow_external.new.external last c.in_ok-all.ensures.exact c.push_routers.new.dests.items over ranges in
+    subst (λ (v : CalculationValue). AreItemsKept c.in_ok-networks.networks.items v (now c) × RoutesDifferAmong c.push_routers.new.dests.items v (now c)) c.self.view_is (
+      items_kept b.0 s c.args.dirty.now.keys.items c.args.dirty.now.interfaces.items b.3 old b.2 k.trees grown intra kept dests c.in_ok-dests.ensures.exact c.update.new.self c.in_ok-ranges.ranges.items c.in_ok-ranges.ensures.exact c.push_networks.new.dests.items below c.follow_inter.new.inter c.in_ok-dests-2.dests.items c.in_ok-dests-2.ensures.exact c.extend_from_slice.new.self.items more c.follow_external.new.external last c.in_ok-all.ensures.exact c.push_routers.new.dests.items over c.extend_from_slice-2.new.self.items all c.in_ok-networks.networks.items exact,
+      record { intra = routes.intra; members = routes.members; inter = routes.inter; preferred = routes.preferred },
     )
 
 pub returns-clause-items : goal.returns-clause-items
