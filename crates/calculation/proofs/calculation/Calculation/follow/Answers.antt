@@ -49,7 +49,10 @@ pub returns-clause-items : goal.returns-clause-items
 returns-clause-items c = λ p item not is. c.in_ok-networks.ensures.items p item not (subst (λ (k : CalculationValue). IsItemOf k p item) (sym c.self.view_is) is)
 
 pub returns-clause-routes : goal.returns-clause-routes
-returns-clause-routes c = subst (λ (k : CalculationValue). RoutesDifferAmong c.follow_layers.new.dirty.dests.items k c.follow_layers.new.self) c.self.view_is c.in_ok-networks.ensures.routes
+returns-clause-routes c =
+    let routes = c.in_ok-networks.ensures.routes in
+    subst (λ (k : CalculationValue). RoutesDifferAmong c.follow_layers.new.dirty.dests.items k c.follow_layers.new.self) c.self.view_is
+    (record { intra = routes.intra; members = routes.members; inter = routes.inter; preferred = routes.preferred })
 
 pub returns-clause-work : goal.returns-clause-work
 returns-clause-work c =
