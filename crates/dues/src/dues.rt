@@ -17,7 +17,7 @@ use crate::giving::metric;
 use crate::inputs::DueInputs;
 use crate::list::AreaDues;
 use crate::plan::AreaPlan;
-use crate::touched::{all, touched};
+use crate::touched::{all, ascending, touched};
 use ospf_types::config::AreaConfig;
 use ospf_types::key::Dest;
 use ospf_types::memory::Memory;
@@ -198,16 +198,6 @@ fn push_dests(list: &[Due], dests: &mut Vec<Dest>) -> Result<(), Memory>
         dests.push(due.dest)?;
     }
     Ok(())
-}
-
-// The same, ascending, each once.
-fn ascending(mut dests: Vec<Dest>) -> Vec<Dest>
-    ensures in_order { IsStrictlySortedBy dest_cmp result.items }
-    ensures same { (d : DestValue) → Contains result.items d ↔ Contains dests.items d }
-{
-    dests.sort_unstable();
-    dests.dedup();
-    dests
 }
 
 // What is to change in each of the lists, to these destinations. Those that are due otherwise in an area are added.

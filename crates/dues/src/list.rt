@@ -88,6 +88,7 @@ impl AreaDues {
         for (dest, metric) in metrics {
             self.put(*dest, *metric);
         }
+        // (the type keeps the order of its list, and a look at the list brings that into the proof)
         let _ = self.list.len();
     }
 

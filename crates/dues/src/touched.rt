@@ -1,5 +1,5 @@
 //! The destinations whose summaries may differ.
-ghost use Rattle.std.specs.Prelude.{◌≡◌, ℕ, Contains, IfOk, OnOk};
+ghost use Rattle.std.specs.Prelude.{◌≡◌, ◌↔◌, ℕ, Contains, IfOk, OnOk};
 ghost use Rattle.std.specs.List.Sorted.{IsStrictlySortedBy};
 ghost use Rattle.ospf_types.specs.declared.config.AreaConfig.{AreaConfig as AreaConfigValue};
 ghost use Rattle.ospf_types.specs.declared.key.Dest.{Dest as DestValue};
@@ -28,9 +28,17 @@ pub(crate) fn touched(
     for dest in dests {
         push_ranges_over(areas, dest, &mut found)?;
     }
-    found.sort_unstable();
-    found.dedup();
-    Ok(found)
+    Ok(ascending(found))
+}
+
+/// The destinations, ascending, each once.
+pub(crate) fn ascending(mut dests: Vec<Dest>) -> Vec<Dest>
+    ensures in_order { IsStrictlySortedBy dest_cmp result.items }
+    ensures same { (d : DestValue) → Contains result.items d ↔ Contains dests.items d }
+{
+    dests.sort_unstable();
+    dests.dedup();
+    dests
 }
 
 // Adds the prefixes of the ranges that have the destination, where that is a network.

@@ -1,11 +1,6 @@
--- One destination more; then all are sorted, each once.
-use Rattle.std.proofs.Common.{List, Ordering, subst}
-use Rattle.std.specs.List.Sorted.{IsSorted}
+-- One destination more; then all are there.
+use Rattle.std.proofs.Common.{List, subst}
 use Rattle.ospf_types.specs.declared.key.Dest.{Dest}
-use Rattle.ospf_types.proofs.DerivedOrders.{dest_cmp_is}
-use Rattle.ospf_types.proofs.Orders.{dest_total, dest_exact}
-use Rattle.intra.proofs.SortedOnce.{strictly, same_items}
-use Rattle.inter.proofs.DestOrder.{dests_order}
 use Rattle.dues.specs.Touched.{HasAlso, IsOverDest}
 use Rattle.dues.proofs.Adding.{IsOfSome, also_next, also_all, all_touched}
 use Rattle.dues.proofs.touched.touched.Goals as goal
@@ -15,17 +10,10 @@ loop-dest-preserved c =
     also_next (IsOverDest c.args.areas.now) c.args.dests.now c.loop-dest.dest-index c.dest-item.result c.in_ok-found.found.items c.loop-dest.found.items c.push_ranges_over.new.found.items
     c.loop-dest-test.true c.dest-item.is c.loop-dest.invariant c.in_ok-push_ranges_over.ensures
 
-pub returns-clause-in_order : goal.returns-clause-in_order
-returns-clause-in_order c =
-    strictly dest_total dest_exact dests_order c.loop-dest.found.items c.sort_unstable.new.self.items c.dedup.new.self.items c.sort_unstable.ensures.permutation
-    (subst (λ (R : Dest → Dest → Ordering). IsSorted R c.sort_unstable.new.self.items) dest_cmp_is c.sort_unstable.ensures.sorted) c.dedup.ensures.filtered
-
 pub returns-clause-enough : goal.returns-clause-enough
 returns-clause-enough c = λ d touched.
     let areas = c.args.areas.now in
     let dests = c.args.dests.now in
     let found = c.loop-dest.found.items in
-    let same = same_items dest_total dest_exact dests_order found c.sort_unstable.new.self.items c.dedup.new.self.items c.sort_unstable.ensures.permutation
-    (subst (λ (R : Dest → Dest → Ordering). IsSorted R c.sort_unstable.new.self.items) dest_cmp_is c.sort_unstable.ensures.sorted) c.dedup.ensures.filtered in
     let also = also_all (IsOverDest areas) dests c.loop-dest.dest-index c.in_ok-found.found.items found c.loop-dest-test.false c.loop-dest.invariant in
-    (same d).1 (all_touched areas dests found (subst (λ (ds : List Dest). HasAlso (IsOfSome (IsOverDest areas) dests) ds found) c.in_ok-found.ensures.items also) d touched)
+    (c.ascending.ensures.same d).1 (all_touched areas dests found (subst (λ (ds : List Dest). HasAlso (IsOfSome (IsOverDest areas) dests) ds found) c.in_ok-found.ensures.items also) d touched)

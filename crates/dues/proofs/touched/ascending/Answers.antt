@@ -5,7 +5,7 @@ use Rattle.ospf_types.proofs.DerivedOrders.{dest_cmp_is}
 use Rattle.ospf_types.proofs.Orders.{dest_total, dest_exact}
 use Rattle.intra.proofs.SortedOnce.{strictly, same_items}
 use Rattle.inter.proofs.DestOrder.{dests_order}
-use Rattle.dues.proofs.dues.ascending.Goals as goal
+use Rattle.dues.proofs.touched.ascending.Goals as goal
 
 pub returns-clause-in_order : goal.returns-clause-in_order
 returns-clause-in_order c =
