@@ -24,25 +24,23 @@ plan_dues-requires c =
 pub change-requires : goal.change-requires
 change-requires c = c.in_ok-items.ensures.in_order
 
--- the items of the table have followed, and those that are given are those that differ
-followed : (c : goal.In_ok-change) → IsTableOf c.follow.new.self c.change.new.self.items × AreChanges c.self.inside.table.items c.change.new.self.items (keys_of c.in_ok-items.items.items)
-followed c =
-    let old = c.self.inside in
-    let new = c.follow.new.self in
-    let networks : List Prefix = c.in_ok-told.told.networks.items in
-    let others = subst (λ (ps : List Prefix). AreOtherItems new old.table.items ps c.in_ok-items.items.items) c.deref.ensures.value c.in_ok-items.ensures in
-    let table = subst (λ (r : RoutesValue). IsTableOf r.calculation r.table.items) (sym c.self.view_is) c.requires.before.1.table in (
-      items_followed old.calculation new old.table.items c.change.new.self.items networks c.in_ok-items.items.items c.in_ok-told.ensures.items others table c.in_ok-change.ensures.changed,
-      changes_followed old.calculation new old.table.items c.change.new.self.items networks c.in_ok-items.items.items c.in_ok-told.ensures.items others table c.in_ok-change.ensures.changed,
-    )
-
 pub returns-clause-items : goal.returns-clause-items
-returns-clause-items c = (followed c).0
+returns-clause-items c =
+    let old = c.self.inside in
+    let networks : List Prefix = c.in_ok-told.told.networks.items in
+    let others = subst (λ (ps : List Prefix). AreOtherItems c.follow.new.self old.table.items ps c.in_ok-items.items.items) c.deref.ensures.value c.in_ok-items.ensures in
+    let table = subst (λ (r : RoutesValue). IsTableOf r.calculation r.table.items) (sym c.self.view_is) c.requires.before.1.table in
+    items_followed old.calculation c.follow.new.self old.table.items c.change.new.self.items networks c.in_ok-items.items.items c.in_ok-told.ensures.items others table c.in_ok-change.ensures.changed
 
 pub returns-clause-dues : goal.returns-clause-dues
 returns-clause-dues c = c.in_ok-plan.ensures.kept c.carry_out.new.self c.carry_out.ensures
 
 pub returns-clause-exact : goal.returns-clause-exact
 returns-clause-exact c =
+    let old = c.self.inside in
+    let networks : List Prefix = c.in_ok-told.told.networks.items in
+    let others = subst (λ (ps : List Prefix). AreOtherItems c.follow.new.self old.table.items ps c.in_ok-items.items.items) c.deref.ensures.value c.in_ok-items.ensures in
+    let table = subst (λ (r : RoutesValue). IsTableOf r.calculation r.table.items) (sym c.self.view_is) c.requires.before.1.table in
+    let changes = changes_followed old.calculation c.follow.new.self old.table.items c.change.new.self.items networks c.in_ok-items.items.items c.in_ok-told.ensures.items others table c.in_ok-change.ensures.changed in
     subst (λ (r : RoutesValue). AreChanges r.table.items c.change.new.self.items c.in_ok-changes.changes.items) c.self.view_is
-    (subst (AreChanges c.self.inside.table.items c.change.new.self.items) (sym (c.in_ok-changes.ensures ∙ ap keys_of c.deref-2.ensures.value)) (followed c).1)
+    (subst (AreChanges old.table.items c.change.new.self.items) (sym (c.in_ok-changes.ensures ∙ ap keys_of c.deref-2.ensures.value)) changes)
