@@ -103,6 +103,10 @@ adding_cut a b c before page all rest lines more h next cut =
     let here = part_more a b c before page h.text lines h.adds cut in
     subst (λ l. AddsPart a c (before ++ l)) (append_assoc h.text lines more ∙ ap (λ l. h.text ++ l) (sym next) ∙ sym h.left) (part_longer a c before (h.text ++ lines) more here)
 
+-- the text is the same as another
+pub adding_as : (a b : Option (List ℕ)) (before page all other rest : List ℕ) → Adding a b before page all rest → all ≡ other → Adding a b before page other rest
+adding_as a b before page all other rest h same = record { text = h.text; adds = h.adds; left = sym same ∙ h.left }
+
 -- all of it is printed
 pub adding_whole : (a b : Option (List ℕ)) (before page all rest : List ℕ) → Adding a b before page all rest → rest ≡ [] → Adds a b before page all
 adding_whole a b before page all rest h none = subst (λ l. Adds a b before page l) (sym (h.left ∙ ap (λ l. h.text ++ l) none ∙ append-nil h.text)) h.adds
