@@ -1,4 +1,5 @@
-use crate::HopSet;
+//! Sets of more next hops than stand inline.
+use hop_sets::HopSet;
 use ospf_types::hop::NextHop;
 use ospf_types::memory::Memory;
 use std::alloc::Global;

@@ -1,6 +1,7 @@
+//! The state of a router through events: those that it takes, and those that it refuses.
 ghost use Rattle.std.specs.Prelude.{◌≡◌};
 
-use super::*;
+use event_state::{Event, Limits, Refusal, State};
 use lsa_codec::{read, sum_of};
 use lsdb::Database;
 use ospf_types::config::{AreaConfig, Areas, Config, Ranges};

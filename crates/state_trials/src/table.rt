@@ -1,11 +1,12 @@
+//! The routing table: its longest matches, as they are printed, and its changes (RFC 2328, 11.1).
 ghost use Rattle.std.specs.Prelude.{◌≡◌, IfOk};
 ghost use Rattle.ospf_types.specs.Masks.{masked};
 
-use crate::*;
 use ospf_types::entry::{Entry, PathType, Paths};
 use ospf_types::hop::{NextHop, Path};
 use ospf_types::memory::Memory;
 use ospf_types::prefix::Prefix;
+use route_table::{Item, Match, Table};
 use std::alloc::Global;
 use std::test::Fail;
 

@@ -1,5 +1,5 @@
 use Rattle.std.specs.List.Sorted.{IsStrictlySortedBy}
-use Rattle.route_table.proofs.tests.item.Goals as goal
+use Rattle.state_trials.proofs.table.item.Goals as goal
 
 pub new-requires : goal.new-requires
 unfolding IsStrictlySortedBy

@@ -3,7 +3,7 @@ use Rattle.std.specs.List.Sorted.{IsStrictlySortedBy}
 use Rattle.std.specs.Map.{keys_of}
 use Rattle.ospf_types.specs.Masks.{masked}
 use Rattle.ospf_types.specs.Network.{Network, network_cmp}
-use Rattle.route_table.proofs.tests.a_change_adds_replaces_and_removes.Goals as goal
+use Rattle.state_trials.proofs.table.a_change_adds_replaces_and_removes.Goals as goal
 
 abbrev at : ℕ → ℕ → Network
 at address length = record { address = masked address length; length = length }
