@@ -6,7 +6,7 @@ use Rattle.clap.specs.Kinds.{HasKind, IsAmong, Kinds}
 use Rattle.clap.specs.declared.error.Error.{Error}
 use Rattle.clap.specs.declared.error.kind.ErrorKind.TheVariants.{OutOfMemory}
 use Rattle.replay.specs.declared.show.Show.{Show}
-use Rattle.replay.specs.declared.show.Show.TheVariants.{Routes, Lsdb, Journal}
+use Rattle.replay.specs.declared.show.Show.TheVariants.{Routes, Due, Lsdb, Journal}
 use Rattle.abr_cli.specs.Command.{HasOne, HasDecode, HasReplay, HasWords, IsJob, IsMistake, IsOne, IsDecode, IsReplay, OneTexts, program, show_name, texts_of}
 use Rattle.abr_cli.specs.declared.command.Job.{Job}
 use Rattle.abr_cli.specs.declared.command.Job.TheVariants.{One, Decode, Replay}
@@ -41,12 +41,19 @@ decode_unique s a b h k =
 
 show_unique : (a b : Show) → show_name a ≡ show_name b → a ≡ b
 show_unique Routes Routes e = refl
+show_unique Routes Due e = absurd (first_differs (show_name Routes) (show_name Due) (show_name Routes) (lit< tt) e refl)
 show_unique Routes Lsdb e = absurd (first_differs (show_name Routes) (show_name Lsdb) (show_name Routes) (lit< tt) e refl)
 show_unique Routes Journal e = absurd (first_differs (show_name Routes) (show_name Journal) (show_name Routes) (lit< tt) e refl)
+show_unique Due Routes e = absurd (first_differs (show_name Due) (show_name Due) (show_name Routes) (lit< tt) refl e)
+show_unique Due Due e = refl
+show_unique Due Lsdb e = absurd (first_differs (show_name Due) (show_name Due) (show_name Lsdb) (lit< tt) refl e)
+show_unique Due Journal e = absurd (first_differs (show_name Due) (show_name Due) (show_name Journal) (lit< tt) refl e)
 show_unique Lsdb Routes e = absurd (first_differs (show_name Lsdb) (show_name Lsdb) (show_name Routes) (lit< tt) refl e)
+show_unique Lsdb Due e = absurd (first_differs (show_name Lsdb) (show_name Due) (show_name Lsdb) (lit< tt) e refl)
 show_unique Lsdb Lsdb e = refl
 show_unique Lsdb Journal e = absurd (first_differs (show_name Lsdb) (show_name Journal) (show_name Lsdb) (lit< tt) e refl)
 show_unique Journal Routes e = absurd (first_differs (show_name Journal) (show_name Journal) (show_name Routes) (lit< tt) refl e)
+show_unique Journal Due e = absurd (first_differs (show_name Journal) (show_name Due) (show_name Journal) (lit< tt) e refl)
 show_unique Journal Lsdb e = absurd (first_differs (show_name Journal) (show_name Journal) (show_name Lsdb) (lit< tt) refl e)
 show_unique Journal Journal e = refl
 

@@ -9,7 +9,7 @@ use Rattle.clap.specs.Faults.{check_fault, defaults_fault, entered_fault, fault_
 use Rattle.clap.specs.Kinds.{Kinds, or_else}
 use Rattle.clap.proofs.OnLiterals.{clap_on_literals}
 use Rattle.replay.specs.declared.show.Show.{Show}
-use Rattle.replay.specs.declared.show.Show.TheVariants.{Routes, Lsdb, Journal}
+use Rattle.replay.specs.declared.show.Show.TheVariants.{Routes, Due, Lsdb, Journal}
 use Rattle.abr_cli.specs.Command.{ArePlain, HasOne, HasDecode, HasReplay, HasWords, IsFileWord, IsPlainWord, OneTexts, one_command, decode_command, replay_command, one_line, decode_line, replay_line, show_line, show_name, show_names, program, reference}
 
 -- the walk goes on with the positional at its place
@@ -244,12 +244,14 @@ show_stop_is name file show = refl
 file_kept : (file : Text) (show : Show) → first_of (codes "FILE") (replay_rows file (show_words show)) ≡ Some file
 unfolding clap_on_literals
 file_kept file Routes = refl
+file_kept file Due = refl
 file_kept file Lsdb = refl
 file_kept file Journal = refl
 
 show_kept : (file : Text) (show : Show) → first_of (codes "show") (replay_rows file (show_words show)) ≡ Some (show_name show)
 unfolding clap_on_literals
 show_kept file Routes = refl
+show_kept file Due = refl
 show_kept file Lsdb = refl
 show_kept file Journal = refl
 
@@ -303,12 +305,14 @@ replay_ends file = refl
 show_walks : (file : Text) (show : Show) → walk_fault replay_sub [] (replay_walk file) (show_words show) ≡ []
 unfolding clap_on_literals
 show_walks file Routes = refl
+show_walks file Due = refl
 show_walks file Lsdb = refl
 show_walks file Journal = refl
 
 show_ends : (file : Text) (show : Show) → end_fault (walk_on file (show_words show)) ≡ []
 unfolding clap_on_literals
 show_ends file Routes = refl
+show_ends file Due = refl
 show_ends file Lsdb = refl
 show_ends file Journal = refl
 

@@ -6,7 +6,7 @@ use Rattle.clap.specs.Lexer.{strip_byte}
 use Rattle.clap.specs.declared.builder.value_parser.ValueParser.TheVariants.{Names}
 use Rattle.clap.specs.declared.error.kind.ErrorKind.TheVariants.{MissingRequiredArgument}
 use Rattle.replay.specs.declared.show.Show.{Show}
-use Rattle.replay.specs.declared.show.Show.TheVariants.{Routes, Lsdb, Journal}
+use Rattle.replay.specs.declared.show.Show.TheVariants.{Routes, Due, Lsdb, Journal}
 use Rattle.abr_cli.specs.declared.command.OneWords.{OneWords}
 use Rattle.abr_cli.specs.declared.command.Job.{Job}
 use Rattle.abr_cli.specs.declared.command.Job.TheVariants.{One, Decode, Replay}
@@ -27,12 +27,13 @@ decode_command = with_rule (new_app (codes "decode")) (required_word (codes "HEX
 -- the name of what is shown
 abbrev pub show_name : Show → Text
 show_name Routes = codes "routes"
+show_name Due = codes "due"
 show_name Lsdb = codes "lsdb"
 show_name Journal = codes "journal"
 
 -- the names that `--show` takes
 abbrev pub show_names : List Text
-show_names = show_name Routes ∷ show_name Lsdb ∷ show_name Journal ∷ []
+show_names = show_name Routes ∷ show_name Due ∷ show_name Lsdb ∷ show_name Journal ∷ []
 
 -- a reference to references to names
 abbrev pub References : Type 0

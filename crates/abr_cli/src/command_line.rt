@@ -16,7 +16,7 @@ use std::alloc::{AllocError, Global};
 const VERSION: &str = "0.1.0";
 
 // What `--show` takes.
-const SHOW_NAMES: &[&str] = &["routes", "lsdb", "journal"];
+const SHOW_NAMES: &[&str] = &["routes", "due", "lsdb", "journal"];
 
 /// The job that the words name, the first of them the program's name.
 pub fn job<'a>(alloc: Global, words: &'a [&'a str]) -> Result<Job<'a>, Usage>
@@ -97,6 +97,8 @@ fn show_of(name: &str) -> Option<Show>
 {
     if name == "routes" {
         Some(Show::Routes)
+    } else if name == "due" {
+        Some(Show::Due)
     } else if name == "lsdb" {
         Some(Show::Lsdb)
     } else if name == "journal" {

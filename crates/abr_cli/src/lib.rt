@@ -11,8 +11,6 @@ mod one_lookup;
 mod replaying;
 mod running;
 mod telling;
-#[cfg(test)]
-mod tests;
 mod usage;
 mod words;
 

@@ -14,13 +14,14 @@ use std::{fs, io};
 use trial::is_as_wanted;
 
 // The files of rows.
-const FILES: [&str; 7] = [
+const FILES: [&str; 8] = [
     "commands.rows",
     "recordings.rows",
     "events.rows",
     "routes.rows",
     "summaries.rows",
     "externals.rows",
+    "dues.rows",
     "updates.rows",
 ];
 

@@ -4,7 +4,6 @@ pub mod Following
 pub mod Handed
 pub mod AreaGraphs
 pub mod AreaTrees
-pub mod Ageing
 pub mod Held
 pub mod Standing
 pub mod Leading

@@ -5,8 +5,6 @@
 mod area_graph;
 mod area_tree;
 mod networks;
-#[cfg(test)]
-mod tests;
 mod vertices;
 
 pub use area_tree::AreaTree;

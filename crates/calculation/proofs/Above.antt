@@ -1,5 +1,6 @@
 -- What the layers above intra-area routes are calculated from: that the definitions speak of it, and what differs in it.
 --   configured: the areas of the definitions are those that are configured
+--   apart_areas: no two of them have one Area ID
 --   inter_are, external_are: what inter-area and external routes are calculated from is what the definitions speak of
 --   inter_made, external_made: inputs of the same root, areas and LSAs are the same
 --   examined_there: the examined area has a database
@@ -53,7 +54,7 @@ ids_of : (s : State) (areas : List AreaConfig) → map (λ (a : AreaConfig). a.i
 ids_of s [] = refl
 ids_of s (a ∷ areas) = ap (λ (ids : List ℕ). a.id ∷ ids) (ids_of s areas)
 
-apart_areas : (s : State) (areas : List AreaConfig) → AreApart areas → AllPairs (λ (a b : Area). a.id ≢ b.id) (map (area_of s) areas)
+pub apart_areas : (s : State) (areas : List AreaConfig) → AreApart areas → AllPairs (λ (a b : Area). a.id ≢ b.id) (map (area_of s) areas)
 apart_areas s areas apart i j d lt within same =
     let below = subst (λ (n : ℕ). j < n) (length-map areas (area_of s)) within in
     let first = ap (λ (a : Area). a.id) (get_or-map (area_of s) areas i no_area d (omega (arith, lt, below))) in

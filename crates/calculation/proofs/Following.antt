@@ -1,6 +1,7 @@
 -- The layers of routes follow a state, each by what those below it answered.
 --   ranges_before, inter_before, external_before: what each layer was calculated from differs in no more than was answered
 --   items_kept: a network that no layer named has its item still
+--   routes_kept: and what is due rests on the same routes, where no layer named them
 use Rattle.std.proofs.Common.{◌≡◌, ℕ, List, ◌++◌, map, Option, Some, None, sym, ap, subst, ◌∙◌}
 use Rattle.std.specs.Prelude.{◌↔◌}
 use Rattle.std.specs.FinMap.{get}
@@ -18,6 +19,7 @@ use Rattle.ospf_types.proofs.Elements.{mapped_element}
 use Rattle.area_trees.specs.Areas.{AreaTreeValue}
 use Rattle.intra.specs.Changes.{DiffersAt}
 use Rattle.intra.specs.Intras.{AreaIntraValue, IntraValue, EntriesByPrefix, IsIntraOf, reached_at}
+use Rattle.dues.proofs.Frame.{members_stay}
 use Rattle.summaries.specs.Active.{ActiveValue, AreRangesOf, EntriesDifferAmong, IsActiveIn, DiffersAt as RangeDiffers}
 use Rattle.inter.specs.Changes.{InputsDifferAmong as InterInputsDiffer, DiffersAt as InterDiffers}
 use Rattle.inter.specs.Inputs.{ExaminedValue, InterInputsValue}
@@ -28,9 +30,12 @@ use Rattle.external.specs.Externals.{ExternalValue, IsExternalOf}
 use Rattle.route_table.specs.declared.table.Item.{Item}
 use Rattle.route_table.specs.declared.table.Item.TheVariants.{Route, Discard}
 use Rattle.event_state.specs.States.{State}
+use Rattle.calculation.specs.Due.{RoutesDifferAmong}
 use Rattle.calculation.specs.Calculations.{CalculationValue, IsCalculationOf, StatesDifferAmong, AreTreesOf, AreItemsKept, IsExaminedOf, IsItem, entry_else, entry_at, inputs_with, inter_inputs, external_inputs}
+use Rattle.calculation.specs.Followed.{routers_in}
+use Rattle.calculation.proofs.Networks.{routers_within}
 use Rattle.calculation.proofs.Above.{kept_ids, inter_differ, external_differ}
-use Rattle.calculation.proofs.Staying.{networks_stay, routers_stay, ranges_stay, inter_stays, external_stays}
+use Rattle.calculation.proofs.Staying.{networks_stay, routers_stay, ranges_stay, inter_stays, external_stays, preferred_stays}
 
 -- an item is that of the same entry, and of what is active alike
 item_same : (entry other : Option Entry) (active also : Type 0) → other ≡ entry → (active → also) → (also → active) → (item : Option Item) → IsItem entry active item → IsItem other also item
@@ -88,16 +93,35 @@ module _ (s t : State) (keys : List (Scope × Key)) (ids : List ℕ) (differ : S
         external_differ s t keys ids differ more c.intra intra c.active active (λ p not. networks p (lower (Net p) not)) (λ p not. ranges p (lower (Net p) not)) (λ r not. routers r (lower (Router r) not)) c.inter inter between,
       )
 
-      module _ (external : ExternalValue) (last : List Dest) (renewed : (d : Dest) → Contains last d ↔ ExternalDiffers c.external external d) (all : List Dest) (all_is : all ≡ more ++ last) where
+      module _ (external : ExternalValue) (last : List Dest) (renewed : (d : Dest) → Contains last d ↔ ExternalDiffers c.external external d) (over : List Dest) (over_is : over ≡ more ++ routers_in last) where
         abbrev now : CalculationValue
         now = record { trees = trees; intra = intra; active = active; inter = inter; external = external }
 
-        pub items_kept : AreItemsKept all c now
-        items_kept p item not =
-            let not_more = λ (named : Contains more (Net p)). not (subst (λ (list : List Dest). Contains list (Net p)) (sym all_is) (Contains-append_left more last (Net p) named)) in
-            let not_below = lower (Net p) not_more in
+        -- what is not named at last was not named before
+        not_more : (d : Dest) → (Contains over d → ⊥) → Contains more d → ⊥
+        not_more d not named = not (subst (λ (list : List Dest). Contains list d) (sym over_is) (Contains-append_left more (routers_in last) d named))
+
+        not_last : (r : ℕ) → (Contains over (Router r) → ⊥) → Contains last (Router r) → ⊥
+        not_last r not named = not (subst (λ (list : List Dest). Contains list (Router r)) (sym over_is) (Contains-append_right more (routers_in last) (Router r) (routers_within last r named)))
+
+        pub items_kept : (all : List Dest) → all ≡ last ++ over → (listed : List Prefix) → ((p : Prefix) → Contains listed p ↔ Contains all (Net p)) → AreItemsKept listed c now
+        items_kept all all_is listed same p item not =
+            let not_all : Contains all (Net p) → ⊥ = λ named. not ((same p).1 named) in
+            let not_first : Contains last (Net p) → ⊥ = λ named. not_all (subst (λ (list : List Dest). Contains list (Net p)) (sym all_is) (Contains-append_left last over (Net p) named)) in
+            let not_over : Contains over (Net p) → ⊥ = λ named. not_all (subst (λ (list : List Dest). Contains list (Net p)) (sym all_is) (Contains-append_right last over (Net p) named)) in
+            let not_below = lower (Net p) (not_more (Net p) not_over) in
             let first = networks p not_below in
-            let second = between (Net p) not_more in
-            let third = external_stays c.external external last renewed p (λ named. not (subst (λ (list : List Dest). Contains list (Net p)) (sym all_is) (Contains-append_right more last (Net p) named))) in
+            let second = between (Net p) (not_more (Net p) not_over) in
+            let third = external_stays c.external external last renewed p not_first in
             let both = ranges p not_below in
             item_same (entry_at c p) (entry_at now p) (IsActiveIn c.active p) (IsActiveIn active p) (λ i. entry_else (first i) (entry_else (second i) (third i))) both.1 both.0 item
+
+        pub routes_kept : AreRangesOf t.config.areas intra.entries active → RoutesDifferAmong over c now
+        routes_kept are =
+            let before : AreRangesOf t.config.areas c.intra.entries c.active = subst (λ (areas : List AreaConfig). AreRangesOf areas c.intra.entries c.active) (sym areas_same) is.active in
+            record {
+              intra = λ p not. networks p (lower (Net p) (not_more (Net p) not));
+              members = members_stay t.config.areas over c.intra.entries intra.entries c.active active before are (λ p not. networks p (lower (Net p) (not_more (Net p) not)));
+              inter = λ p not. between (Net p) (not_more (Net p) not);
+              preferred = λ r not. preferred_stays c.external external last renewed r (not_last r not);
+            }

@@ -16,5 +16,6 @@ pub mod Above
 pub mod AlikeAbove
 pub mod Alike
 pub mod Following
+pub mod Due
 pub mod Filling
 pub mod Followed

@@ -1,5 +1,6 @@
 -- The networks among some destinations, and all those that a table may have something for.
---   one_more: one destination more
+--   one_more, one_router_more: one destination more
+--   routers_within: a router that is one of the destinations is one of the routers
 --   networks_exact: a network is one of the networks just where it is one of the destinations
 --   once_in_order, once_exact: so it is of those that were sorted, and of which each is kept once
 --   nothing_else: a network that no layer lists has no item
@@ -21,6 +22,7 @@ use Rattle.ospf_types.proofs.Orders.{network_total, network_exact}
 use Rattle.intra.proofs.SortedOnce.{strictly, same_items}
 use Rattle.summaries.specs.Active.{IsActiveIn}
 use Rattle.calculation.specs.Calculations.{CalculationValue, IsItemOf, entry_else}
+use Rattle.calculation.specs.Followed.{routers_in}
 
 abbrev pub networks_in : List Dest → List Prefix
 networks_in [] = []
@@ -35,6 +37,25 @@ networks_more (Router r ∷ dests) d = networks_more dests d
 
 pub one_more : (dests : List Dest) (i : ℕ) (d : Dest) → i < length dests → d ≡ get_or dests i d → networks_in (take (i + 1) dests) ≡ networks_in (take i dests) ++ networks_in (d ∷ [])
 one_more dests i d lt here = ap networks_in (take_more dests i d lt ∙ ap (λ (e : Dest). take i dests ++ e ∷ []) (sym here)) ∙ networks_more (take i dests) d
+
+routers_more : (dests : List Dest) (d : Dest) → routers_in (dests ++ d ∷ []) ≡ routers_in dests ++ routers_in (d ∷ [])
+routers_more [] (Net p) = refl
+routers_more [] (Router r) = refl
+routers_more (Net p ∷ dests) d = routers_more dests d
+routers_more (Router r ∷ dests) d = ap (λ ds. Router r ∷ ds) (routers_more dests d)
+
+pub one_router_more : (dests : List Dest) (i : ℕ) (d : Dest) → i < length dests → d ≡ get_or dests i d → routers_in (take (i + 1) dests) ≡ routers_in (take i dests) ++ routers_in (d ∷ [])
+one_router_more dests i d lt here = ap routers_in (take_more dests i d lt ∙ ap (λ (e : Dest). take i dests ++ e ∷ []) (sym here)) ∙ routers_more (take i dests) d
+
+-- a router that is one of the destinations is one of the routers
+pub routers_within : (dests : List Dest) (r : ℕ) → Contains dests (Router r) → Contains (routers_in dests) (Router r)
+routers_within [] r c = absurd (no_element (Router r) c)
+routers_within (Net p ∷ dests) r c = ⊎_elim (λ (e : Router r ≡ Net p). absurd cc) (λ (later : Contains dests (Router r)). routers_within dests r later) (first_or_later (Net p) (Router r) dests c)
+routers_within (Router q ∷ dests) r c =
+    ⊎_elim
+    (λ (e : Router r ≡ Router q). subst (λ (d : Dest). Contains (Router q ∷ routers_in dests) d) (sym e) (first_element (Router q) (routers_in dests)))
+    (λ (later : Contains dests (Router r)). later_element (Router q) (Router r) (routers_in dests) (routers_within dests r later))
+    (first_or_later (Router q) (Router r) dests c)
 
 -- a network is one of the networks just where it is one of the destinations
 pub networks_exact : (dests : List Dest) (p : Prefix) → Contains (networks_in dests) p ↔ Contains dests (Net p)

@@ -2,6 +2,7 @@
 --   networks_stay, routers_stay: intra-area routes
 --   ranges_stay: active ranges
 --   inter_stays, external_stays: inter-area and external routes
+--   preferred_stays: the preferred entries of AS boundary routers
 use Rattle.std.proofs.Common.{◌≡◌, ◌==◌, ℕ, List, [], ◌∷◌, map, refl, inl, inr}
 use Rattle.std.specs.Prelude.{◌↔◌, Option, if◌then◌else◌}
 use Rattle.std.specs.Coded.{Coded, codes}
@@ -20,11 +21,16 @@ use Rattle.inter.specs.Changes.{DiffersAt as InterDiffers}
 use Rattle.inter.specs.Inters.{InterValue}
 use Rattle.external.specs.Changes.{DiffersAt as ExternalDiffers}
 use Rattle.external.specs.Externals.{ExternalValue}
+use Rattle.external.specs.Preferred.{PreferredValue}
+use Rattle.external.specs.contracts.preferred.Preferred as preferred_row
 use Rattle.calculation.proofs.Activity.{active_or_not}
 use Rattle.calculation.proofs.Stable.{same_value}
 
 entry_code : Coded (Option Entry)
 entry_code = Prim.hlevel (codes, entry_row.the_row.coded)
+
+preferred_code : Coded (Option PreferredValue)
+preferred_code = Prim.hlevel (codes, preferred_row.the_row.coded)
 
 reached_code : Coded (Option ReachedValue)
 reached_code = Prim.hlevel codes
@@ -64,3 +70,6 @@ inter_stays old new dests exact d not = same_value entry_code (get new.entries d
 
 pub external_stays : (old new : ExternalValue) (dests : List Dest) → ((d : Dest) → Contains dests d ↔ ExternalDiffers old new d) → (p : Prefix) → (Contains dests (Net p) → ⊥) → get new.entries p ≡ get old.entries p
 external_stays old new dests exact p not = same_value entry_code (get new.entries p) (get old.entries p) (λ other. not ((exact (Net p)).1 other))
+
+pub preferred_stays : (old new : ExternalValue) (dests : List Dest) → ((d : Dest) → Contains dests d ↔ ExternalDiffers old new d) → (r : ℕ) → (Contains dests (Router r) → ⊥) → get new.preferred r ≡ get old.preferred r
+preferred_stays old new dests exact r not = same_value preferred_code (get new.preferred r) (get old.preferred r) (λ other. not ((exact (Router r)).1 other))

@@ -6,7 +6,6 @@ use Rattle.ospf_types.specs.declared.config.AreaConfig.{AreaConfig}
 use Rattle.ospf_types.specs.declared.config.Interface.{Interface}
 use Rattle.ospf_types.specs.declared.key.Key.{Key}
 use Rattle.ospf_types.specs.declared.key.Scope.{Scope}
-use Rattle.ospf_types.specs.declared.key.Dest.{Dest}
 use Rattle.ospf_types.specs.declared.key.Dest.TheVariants.{Net}
 use Rattle.ospf_types.specs.declared.entry.Entry.{Entry}
 use Rattle.ospf_types.specs.declared.key.Scope.TheVariants.{Area, As}
@@ -139,8 +138,8 @@ abbrev pub IsItemOf : CalculationValue → Prefix → Option Item → Type 0
 IsItemOf c p item = IsItem (entry_at c p) (IsActiveIn c.active p) item
 
 -- what the one has for a network, the other has too, but for the networks that are named
-abbrev pub AreItemsKept : List Dest → CalculationValue → CalculationValue → Type 0
-AreItemsKept dests old new = (p : Prefix) (item : Option Item) → (Contains dests (Net p) → ⊥) → IsItemOf old p item → IsItemOf new p item
+abbrev pub AreItemsKept : List Prefix → CalculationValue → CalculationValue → Type 0
+AreItemsKept networks old new = (p : Prefix) (item : Option Item) → (Contains networks p → ⊥) → IsItemOf old p item → IsItemOf new p item
 
 -- the table is that of what is kept
 abbrev pub IsTableOf : CalculationValue → map.FinMap network_cmp Item → Type 0

@@ -3,6 +3,8 @@ use Rattle.std.specs.Prelude.{ℕ, ◌≡◌, List, [], ◌∷◌, Contains, map
 use Rattle.std.specs.FinMap.{get}
 use Rattle.ospf_types.specs.declared.config.AreaConfig.{AreaConfig}
 use Rattle.ospf_types.specs.declared.entry.Vertex.{Vertex}
+use Rattle.ospf_types.specs.declared.key.Dest.{Dest}
+use Rattle.ospf_types.specs.declared.key.Dest.TheVariants.{Net, Router}
 use Rattle.spf.specs.declared.touched.Touched.{Touched}
 use Rattle.spf.specs.TreeValues.{IsWorkDone, listed_hops}
 use Rattle.area_trees.specs.Areas.{AreaTreeValue, IsWorkBounded}
@@ -60,3 +62,9 @@ pub record AreFollowedTo (s : State) (areas : List AreaConfig) (old new : List A
 abbrev pub AreLayersBehind : State → Dirty → CalculationValue → Type 0
 AreLayersBehind t dirty c = (s : State) × (trees : List AreaTreeValue) × IsCalculationOf s (record c { trees = trees }) × StatesDifferAmong dirty.keys.items dirty.interfaces.items s t
     × InputsDifferAmong dirty.keys.items dirty.vertices.items dirty.interfaces.items (inputs_with s trees) (inputs_with t c.trees)
+
+-- the routers among the destinations
+abbrev pub routers_in : List Dest → List Dest
+routers_in [] = []
+routers_in (Net p ∷ dests) = routers_in dests
+routers_in (Router r ∷ dests) = Router r ∷ routers_in dests

@@ -1,3 +1,4 @@
 pub mod Calculations
 pub mod Totals
+pub mod Due
 pub mod Followed

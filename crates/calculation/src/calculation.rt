@@ -11,17 +11,21 @@ ghost use Rattle.intra.specs.Changes.{InputsDifferAmong, DiffersAt};
 ghost use Rattle.intra.specs.Inputs.{InputsValue};
 ghost use Rattle.intra.specs.Intras.{IsIntraOf};
 ghost use Rattle.intra.specs.Right.{IsRightFor};
+ghost use Rattle.dues.specs.Carrying.{IsCarriedOut, IsReady};
+ghost use Rattle.dues.specs.Dues.{DuesValue, lists_of};
 ghost use Rattle.route_table.specs.declared.table.Item.{Item as ItemValue};
 ghost use Rattle.event_state.specs.Held.{AreFit};
 ghost use Rattle.event_state.specs.States.{State as StateValue, inputs_of};
-ghost use Rattle.calculation.specs.Calculations.{IsCalculationOf, StatesDifferAmong, IsItemOf, IsTableOf, AreTreesOf, AreItemsKept, entry_at, inputs_with};
-ghost use Rattle.calculation.specs.Followed.{AreLayersBehind};
+ghost use Rattle.calculation.specs.Calculations.{CalculationValue, IsCalculationOf, StatesDifferAmong, IsItemOf, IsTableOf, AreTreesOf, AreItemsKept, entry_at, inputs_with};
+ghost use Rattle.calculation.specs.Due.{AreDuesFor, RoutesDifferAmong, due_inputs};
+ghost use Rattle.calculation.specs.Followed.{AreLayersBehind, routers_in};
 ghost use Rattle.calculation.specs.Totals.{IsEventWork, AreWorksForAll, IsTotal};
 
 use crate::inputs::{area_inputs, interfaces};
-use crate::layers::{build_external, build_inter, follow_external, follow_inter};
+use crate::layers::{active_areas, build_external, build_inter, follow_external, follow_inter};
 use crate::trees::{build_trees, follow_trees};
 use area_trees::AreaTree;
+use dues::{DueInputs, Dues, Plan};
 use event_state::State;
 use external::External;
 use inter::Inter;
@@ -36,6 +40,17 @@ use std::alloc::Global;
 use std::hash::RandomState;
 use std::marker::Model;
 use summaries::ActiveRanges;
+
+/// What may differ since an event, by a calculation that has followed it.
+#[derive(Debug, Drop)]
+pub struct Changed {
+    /// Networks, ascending, each once: the table has another item for these alone, if for all.
+    pub networks: Vec<Prefix>,
+    /// Destinations: what is due to others rests on the same routes as before.
+    pub dests: Vec<Dest>,
+    /// The work of repairing the trees.
+    pub work: Touched,
+}
 
 /// What is kept of a state: the trees of its areas, and its routes, each layer by those below it.
 #[derive(Debug, Drop)]
@@ -89,22 +104,22 @@ impl Calculation {
         Ok((calculation, work))
     }
 
-    /// Follows the state, which differs from the one before in these LSAs or in these interfaces. The answer is networks,
-    /// ascending, each once, and the work of repairing the trees: the table has another item for these alone, if for
-    /// all. After an error what is kept is of no use any more.
+    /// Follows the state, which differs from the one before in these LSAs or in these interfaces. After an error what is
+    /// kept is of no use any more.
     pub fn follow(
         &mut self,
         alloc: Global,
         state: &State,
         keys: Vec<(Scope, Key)>,
         ids: Vec<u8>,
-    ) -> Result<(Vec<Prefix>, Touched), Memory>
+    ) -> Result<Changed, Memory>
         requires few { state.now.limits.area_lsas ≤ most_routers }
         requires before { (before : StateValue) × IsCalculationOf before self.old × StatesDifferAmong keys.items ids.items before state.now }
         ensures right { OnOk result (IsCalculationOf state.now self.new) }
-        ensures in_order { IfOk result (λ answer. IsStrictlySortedBy network_cmp answer.0.items) }
-        ensures enough { IfOk result (λ answer. (p : PrefixValue) (item : Option ItemValue) → (Contains answer.0.items p → ⊥) → IsItemOf self.old p item → IsItemOf self.new p item) }
-        ensures work { IfOk result (λ answer. (before : StateValue) → IsCalculationOf before self.old → StatesDifferAmong keys.items ids.items before state.now → IsEventWork before state.now answer.1) }
+        ensures in_order { IfOk result (λ told. IsStrictlySortedBy network_cmp told.networks.items) }
+        ensures items { IfOk result (λ told. AreItemsKept told.networks.items self.old self.new) }
+        ensures routes { IfOk result (λ told. RoutesDifferAmong told.dests.items self.old self.new) }
+        ensures work { IfOk result (λ told. (before : StateValue) → IsCalculationOf before self.old → StatesDifferAmong keys.items ids.items before state.now → IsEventWork before state.now told.work) }
     {
         let mut vertices = Vec::new(alloc);
         let work = follow_trees(alloc, &mut self.trees, state, &keys, &ids, &mut vertices)?;
@@ -114,8 +129,40 @@ impl Calculation {
             interfaces: ids,
             dests: Vec::new(alloc),
         };
-        self.follow_layers(alloc, state, &mut dirty)?;
-        Ok((networks_of(alloc, &dirty.dests)?, work))
+        let networks = self.follow_layers(alloc, state, &mut dirty)?;
+        let dests = dirty.dests;
+        Ok(Changed {
+            networks,
+            dests,
+            work,
+        })
+    }
+
+    /// What is due in the areas (RFC 2328, 12.4.3), from scratch.
+    pub fn dues(&self, alloc: Global, state: &State) -> Result<Dues, Memory>
+        ensures { IfOk result (AreDuesFor state.now self.now) }
+    {
+        let active = active_areas(alloc, state)?;
+        Dues::build(alloc, &self.due_inputs(state, &active))
+    }
+
+    /// What is to change in due summaries that were those of the same configuration and of routes that differ in no more
+    /// than these destinations name. Their lists stay, and get room for it.
+    pub fn plan_dues(
+        &self,
+        alloc: Global,
+        state: &State,
+        dues: &mut Dues,
+        dests: &[Dest],
+    ) -> Result<Plan, Memory>
+        requires before { (before : StateValue) × (old : CalculationValue) × AreDuesFor before old dues.old × (state.now.config ≡ before.config) × RoutesDifferAmong dests.now old self.now }
+        ensures unchanged { lists_of dues.new ≡ lists_of dues.old }
+        ensures ready { IfOk result (λ plan. IsReady plan dues.new) }
+        ensures kept { IfOk result (λ plan. (after : DuesValue) → IsCarriedOut plan dues.new after → AreDuesFor state.now self.now after) }
+    {
+        let active = active_areas(alloc, state)?;
+        let (plan, _) = dues.plan(alloc, &self.due_inputs(state, &active), dests)?;
+        Ok(plan)
     }
 
     /// What the routing table has for the network.
@@ -147,18 +194,21 @@ impl Calculation {
 }
 
 impl Calculation {
-    // The layers of routes follow the state and the trees, from below. The destinations whose result differs in one of them
-    // are added to those that are dirty.
+    // The layers of routes follow the state and the trees, from below. The answer is the networks for which one of them has
+    // another result. The destinations for which that may matter to what is due stay as those that are dirty: no summary
+    // tells of an external route, but one tells of an AS boundary router.
     fn follow_layers(
         &mut self,
         alloc: Global,
         state: &State,
         dirty: &mut Dirty,
-    ) -> Result<(), Memory>
+    ) -> Result<Vec<Prefix>, Memory>
         requires trees { AreTreesOf state.now state.now.config.areas self.old.trees }
         requires before { AreLayersBehind state.now dirty.old self.old }
         ensures right { OnOk result (IsCalculationOf state.now self.new) }
-        ensures enough { OnOk result (AreItemsKept dirty.new.dests.items self.old self.new) }
+        ensures in_order { IfOk result (λ networks. IsStrictlySortedBy network_cmp networks.items) }
+        ensures items { IfOk result (λ networks. AreItemsKept networks.items self.old self.new) }
+        ensures routes { OnOk result (RoutesDifferAmong dirty.new.dests.items self.old self.new) }
     {
         let areas = state.config().areas.as_slice();
         let dests = follow_intra(alloc, &mut self.intra, state, &self.trees, dirty)?;
@@ -170,9 +220,25 @@ impl Calculation {
         dirty.dests.extend_from_slice(&dests)?;
         let external = &mut self.external;
         let (intra, active, inter) = (&self.intra, &self.active, &self.inter);
-        let dests = follow_external(alloc, external, state, intra, active, inter, dirty)?;
-        dirty.dests.extend_from_slice(&dests)?;
-        Ok(())
+        let mut all = follow_external(alloc, external, state, intra, active, inter, dirty)?;
+        push_routers(&all, &mut dirty.dests)?;
+        all.extend_from_slice(&dirty.dests)?;
+        let networks = networks_of(alloc, &all)?;
+        Ok(networks)
+    }
+
+    // What is due rests on this.
+    fn due_inputs<'a>(&'a self, state: &'a State, active: &'a [u32]) -> DueInputs<'a>
+        ensures { result ≡ due_inputs state.now active.now self.now }
+    {
+        DueInputs {
+            areas: state.config().areas.as_slice(),
+            active,
+            intra: &self.intra,
+            ranges: &self.active,
+            inter: &self.inter,
+            external: &self.external,
+        }
     }
 
     // The network's entry: intra-area, else inter-area, else external (RFC 2328, 11).
@@ -256,6 +322,18 @@ fn push_networks(networks: &[Prefix], dests: &mut Vec<Dest>) -> Result<(), Memor
 {
     for network in networks {
         dests.push(Dest::Net(*network))?;
+    }
+    Ok(())
+}
+
+// Adds the routers among the others.
+fn push_routers(among: &[Dest], dests: &mut Vec<Dest>) -> Result<(), Memory>
+    ensures { OnOk result (dests.new.items ≡ dests.old.items ++ routers_in among.now) }
+{
+    for dest in among {
+        if let Dest::Router(router) = *dest {
+            dests.push(Dest::Router(router))?;
+        }
     }
     Ok(())
 }

@@ -19,6 +19,7 @@ ghost use Rattle.external.specs.Changes.{DiffersAt as ExternalDiffersAt, InputsD
 ghost use Rattle.external.specs.Inputs.{ExternalInputsValue};
 ghost use Rattle.external.specs.Externals.{IsExternalOf};
 ghost use Rattle.external.specs.Right.{IsRightFor as IsExternalRight};
+ghost use Rattle.calculation.specs.Due.{AreActive};
 ghost use Rattle.calculation.specs.Calculations.{IsExaminedOf, IsUpIn, inter_inputs, external_inputs, lsas_in};
 
 use crate::inputs::is_up_in;
@@ -168,6 +169,19 @@ fn area_ids(alloc: Global, state: &State) -> Result<Vec<u32>, Memory>
         ids.push(area.id)?;
     }
     Ok(ids)
+}
+
+/// The Area IDs of the active areas, in the order of the configuration.
+pub(crate) fn active_areas(alloc: Global, state: &State) -> Result<Vec<u32>, Memory>
+    ensures { IfOk result (λ active. AreActive state.now active.items) }
+{
+    let mut active = Vec::new(alloc);
+    for area in state.config().areas.as_slice() {
+        if is_active(state, area.id) {
+            active.push(area.id)?;
+        }
+    }
+    Ok(active)
 }
 
 // The area whose summaries are examined (RFC 2328, 16.2): the backbone where two areas or more have an interface that is

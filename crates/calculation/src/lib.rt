@@ -7,4 +7,4 @@ mod inputs;
 mod layers;
 mod trees;
 
-pub use calculation::Calculation;
+pub use calculation::{Calculation, Changed};

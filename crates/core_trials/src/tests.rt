@@ -157,14 +157,16 @@ fn of_a_hundred_networks_one_changes(rt: HostRuntime) -> Result<(), Fail> {
     Ok(())
 }
 
-// The peer 10.0.0.2 is a border router and an AS boundary router, and has a stub link to 10.4.0.0/16, for which a range is
-// active. It tells of 10.1.0.0/16, and of three external networks: one whose forwarding address no route leads to, one
-// that is a second before MaxAge, and one at MaxAge.
+// Two areas are active. The peer 10.0.0.2 in the backbone is a border router and an AS boundary router, and has a stub
+// link to 10.4.0.0/16, for which a range is active. It tells of 10.1.0.0/16, and of three external networks: one whose
+// forwarding address no route leads to, one that is a second before MaxAge, and one at MaxAge.
 const BORDER: &str = "abr 1\n\
 router 10.0.0.1\n\
 area 0.0.0.0 normal\n\
 range 0.0.0.0 10.4.0.0/14 advertise\n\
+area 0.0.0.1 normal\n\
 interface 1 0.0.0.0 198.51.100.1 198.51.100.2 up\n\
+interface 2 0.0.0.1 198.51.100.5 198.51.100.6 up\n\
 install 0.0.0.0 000102010a0000010a00000180000001e6e20024000000010a000002c63364010100000a\n\
 install 0.0.0.0 000102010a0000020a00000280000001ddd00030030000020a000001c6336402010000010a040000ffff000003000001\n\
 install 0.0.0.0 000102030a0100000a00000280000001a898001cffff000000000005\n\
@@ -176,8 +178,8 @@ install as 0e1002050a0200000a0000028000000190a50024ffff0000000000050000000000000
 // Whether the answer fits what the table then has: the old routes after a refusal and where it is behind, else the new.
 fn fits(core: &Core, answer: Result<Reply, Refusal>, is_old: bool, is_new: bool) -> bool {
     match answer {
-        Err(refusal) => refusal == Refusal::Memory && is_old && core.journal().len() == 8,
-        Ok(reply) if reply.state == Standing::Behind => is_old && core.built() == 8,
+        Err(refusal) => refusal == Refusal::Memory && is_old && core.journal().len() == 9,
+        Ok(reply) if reply.state == Standing::Behind => is_old && core.built() == 9,
         Ok(_) => is_new,
     }
 }
@@ -214,7 +216,7 @@ fn catches_up(
     Ok(core.catch_up() == Standing::Current)
 }
 
-// The items of a core after the event, with ample memory.
+// What a core tells after the event, with ample memory.
 fn fresh_items(rt: &HostRuntime, event: &str) -> Result<String, Fail> {
     let mut fresh = follows(rt, BORDER, event)?;
     fresh.catch_up();
@@ -231,7 +233,7 @@ fn event_of(rt: &HostRuntime, line: &str) -> Result<Event, Fail> {
 }
 
 // One more event where memory may be refused: it is refused and nothing has changed, or taken and the table is
-// behind, or all is as it is with ample memory. In the end the table is that of a fresh core.
+// behind, or all is as it is with ample memory. In the end table and due summaries are those of a fresh core.
 fn withstands(rt: &HostRuntime, line: &str) -> Result<bool, Fail> {
     let mut core = follows(rt, BORDER, "")?;
     let old = items(rt.alloc(), &core)?;
@@ -251,7 +253,7 @@ fn goes_on(
     let right = is_as_answered(rt, core, answer, old, new)?;
     let caught_up = catches_up(rt, core, answer.is_err(), line)?;
     let last = has_items(rt, core, new)?;
-    Ok(right && caught_up && last && core.built() == 9)
+    Ok(right && caught_up && last && core.built() == 10)
 }
 
 // The peer's last network goes, and with it the active range.

@@ -1,6 +1,7 @@
 use event_core::table::Item;
-use event_core::{Core, Event};
+use event_core::{Core, Due, Event};
 use ospf_types::config::Config;
+use ospf_types::key::Dest;
 use ospf_types::prefix::Prefix;
 use recording::{Line, parse};
 use std::alloc::Global;
@@ -32,14 +33,29 @@ pub fn applied(alloc: Global, hashing: RandomState, text: &str) -> Result<Core, 
     Ok(core)
 }
 
-/// The items of the core's table, printed.
+/// The items of the core's table, and what is due in its areas, printed.
 pub fn items(alloc: Global, core: &Core) -> Result<String, Fail> {
     let mut text = String::new(alloc);
     for (network, item) in core.table().items() {
         let line = printed(alloc, network, item)?;
         text.push_str(line.as_str())?;
     }
+    for area in core.dues().areas() {
+        for due in area.as_slice() {
+            let line = printed_due(alloc, area.area(), due)?;
+            text.push_str(line.as_str())?;
+        }
+    }
     Ok(text)
+}
+
+fn printed_due(alloc: Global, area: u32, due: &Due) -> Result<String, Fail> {
+    let (kind, metric) = (due.kind, due.metric);
+    let line = match due.dest {
+        Dest::Net(network) => format!(in alloc; "due {} {} {} {}\n", area, kind, network, metric)?,
+        Dest::Router(router) => format!(in alloc; "due {} {} {} {}\n", area, kind, router, metric)?,
+    };
+    Ok(line)
 }
 
 fn printed(alloc: Global, network: Prefix, item: &Item) -> Result<String, Fail> {

@@ -6,6 +6,7 @@ pub mod Neighbours
 pub mod Naming
 pub mod Followed
 pub mod RoutesRight
+pub mod DueRight
 pub mod Settled
 pub mod NoWork
 pub mod OtherItems

@@ -13,7 +13,9 @@ use Rattle.event_state.specs.States.{State, LooksAlike, place_of, changed_at_pla
 use Rattle.event_state.specs.Steps.{opening, step, refusal_of, run_from, run_of, AreTaken}
 use Rattle.vertex_graph.specs.Graphs.{most_routers}
 use Rattle.route_table.specs.Tables.{TableValue}
-use Rattle.event_core.specs.Right.{IsRight}
+use Rattle.dues.specs.Dues.{lists_of}
+use Rattle.dues.specs.declared.due.Due.{Due}
+use Rattle.event_core.specs.Right.{IsRight, AreDue}
 use Rattle.event_core.specs.declared.reply.Reply.{Reply}
 use Rattle.event_core.specs.declared.reply.Standing.{Standing}
 use Rattle.event_core.specs.declared.reply.Standing.TheVariants.{Current, Behind}
@@ -24,6 +26,7 @@ use Rattle.ospf_types.specs.declared.memory.Memory.{Memory}
 use Rattle.calculation.specs.Totals.{IsBuildWork, IsEventWork}
 use Rattle.event_core.specs.Following.{RoutesValue, AreRoutesOf, AreChanges, no_work}
 use Rattle.event_state.specs.Held.{AreFit}
+use Rattle.event_core.proofs.DueRight.{routes_due}
 use Rattle.event_core.proofs.RoutesRight.{routes_right}
 
 -- what no event changes
@@ -69,54 +72,60 @@ kept_open config limits s r is sound few are =
     let first_are = subst (λ (v : State). AreRoutesOf v r) is are in
     subst (λ (v : State). IsCoherent v r 0) (sym is) (record {
       run = refl;
-      core = record { sound = sound; legal = tt; within = omega arith; right = routes_right first r first_are };
+      core = record { sound = sound; legal = tt; within = omega arith; right = routes_right first r first_are; due = routes_due first r first_are };
       fresh = λ _. first_are;
       few = few;
     })
 
--- an event more, and the table is as it was, whatever else is kept
-pub kept_behind : (s : State) (r new : RoutesValue) (built : ℕ) (e : Event) → IsCoherent s r built → refusal_of s e ≡ None → new.table ≡ r.table → IsCoherent (step s e) new built
-kept_behind s r new built e kept accepted table =
+-- an event more, and table and due summaries are as they were, whatever else is kept
+pub kept_behind : (s : State) (r new : RoutesValue) (built : ℕ) (e : Event) → IsCoherent s r built → refusal_of s e ≡ None → new.table ≡ r.table → lists_of new.dues ≡ lists_of r.dues → IsCoherent (step s e) new built
+kept_behind s r new built e kept accepted table dues =
     let setting = step_setting s e in
     let runs : (config : Config) (limits : Limits) → config ≡ s.config → limits ≡ s.limits → step s e ≡ run_of config limits (s.journal ++ e ∷ []) = λ config limits p q. step_runs s e kept.run ∙ sym (λ i. run_of (p i) (q i) (s.journal ++ e ∷ [])) in
     let front : take built (s.journal ++ e ∷ []) ≡ take built s.journal = take-append-le built s.journal (e ∷ []) kept.core.within in
-    let core : IsCore (record { config = s.config; limits = s.limits; journal = s.journal ++ e ∷ []; built = built; table = new.table; work = new.work; changes = new.changes }) = record {
+    let core : IsCore (record { config = s.config; limits = s.limits; journal = s.journal ++ e ∷ []; built = built; table = new.table; dues = lists_of new.dues; work = new.work; changes = new.changes }) = record {
       sound = kept.core.sound;
       legal = taken_push _ s.journal e kept.core.legal (ap (λ (u : State). refusal_of u e) (sym kept.run) ∙ accepted);
       within = omega (arith, kept.core.within, length-append s.journal (e ∷ []));
       right = subst (λ (t : TableValue). IsRight (run_of s.config s.limits (take built (s.journal ++ e ∷ []))) t) (sym table)
           (subst (λ (events : List Event). IsRight (run_of s.config s.limits events) r.table) (sym front) kept.core.right);
+      due = subst (AreDue (run_of s.config s.limits (take built (s.journal ++ e ∷ [])))) (sym dues)
+          (subst (λ (events : List Event). AreDue (run_of s.config s.limits events) (lists_of r.dues)) (sym front) kept.core.due);
     } in
     record {
       run = runs (step s e).config (step s e).limits setting.config setting.limits;
-      core = subst (λ (c : CoreValue). IsCore c) (λ i. record { config = sym setting.config i; limits = sym setting.limits i; journal = s.journal ++ e ∷ []; built = built; table = new.table; work = new.work; changes = new.changes }) core;
+      core = subst (λ (c : CoreValue). IsCore c) (λ i. record { config = sym setting.config i; limits = sym setting.limits i; journal = s.journal ++ e ∷ []; built = built; table = new.table; dues = lists_of new.dues; work = new.work; changes = new.changes }) core;
       fresh = λ all. absurd (omega (arith, all, kept.core.within, length-append s.journal (e ∷ [])));
       few = subst (λ (limits : Limits). limits.area_lsas ≤ most_routers) (sym setting.limits) kept.few;
     }
 
 pub kept_step : (s : State) (r : RoutesValue) (built : ℕ) (e : Event) → IsCoherent s r built → refusal_of s e ≡ None → IsCoherent (step s e) r built
-kept_step s r built e kept accepted = kept_behind s r r built e kept accepted refl
+kept_step s r built e kept accepted = kept_behind s r r built e kept accepted refl refl
 
--- a table that is current
+-- table and due summaries that are current
 pub current_right : (c : CoreValue) → IsCore c → c.built ≡ length c.journal → IsRight (state_of c) c.table
 current_right c core all = subst (λ (events : List Event). IsRight (run_of c.config c.limits events) c.table) (take_all c.built c.journal (omega arith)) core.right
+
+pub current_due : (c : CoreValue) → IsCore c → c.built ≡ length c.journal → AreDue (state_of c) c.dues
+current_due c core all = subst (λ (events : List Event). AreDue (run_of c.config c.limits events) c.dues) (take_all c.built c.journal (omega arith)) core.due
 
 -- routes that are the state's make a core that is current
 pub kept_current : (s : State) (r new : RoutesValue) (built now : ℕ) → IsCoherent s r built → now ≡ length s.journal → AreRoutesOf s new → IsCoherent s new now
 kept_current s r new built now kept all are =
     let right = routes_right s new are in
+    let due = routes_due s new are in
     let whole : take now s.journal ≡ s.journal = take_all now s.journal (omega arith) in
     let is : s ≡ run_of s.config s.limits (take now s.journal) = kept.run ∙ ap (run_of s.config s.limits) (sym whole) in
     record {
       run = kept.run;
-      core = record { sound = kept.core.sound; legal = kept.core.legal; within = omega arith; right = subst (λ (v : State). IsRight v new.table) is right };
+      core = record { sound = kept.core.sound; legal = kept.core.legal; within = omega arith; right = subst (λ (v : State). IsRight v new.table) is right; due = subst (λ (v : State). AreDue v (lists_of new.dues)) is due };
       fresh = λ _. are;
       few = kept.few;
     }
 
 -- and so stand
 pub stands_current : (s : State) (new : RoutesValue) (now : ℕ) (old : CoreValue) → IsCoherent s new now → now ≡ length s.journal → Stands old Current (core_of s new now)
-stands_current s new now old kept all = (all, current_right (core_of s new now) kept.core all)
+stands_current s new now old kept all = (all, current_right (core_of s new now) kept.core all, current_due (core_of s new now) kept.core all)
 
 stands_same : (s u : State) (r : RoutesValue) (built : ℕ) (standing : Standing) (new : CoreValue) → Stands (core_of u r built) standing new → Stands (core_of s r built) standing new
 stands_same s u r built Current new h = h
@@ -149,6 +158,7 @@ pub record IsSettled (s u : State) (r : RoutesValue) (built : ℕ) (result : Res
   pub anew : OnOk result ((built ≡ length s.journal → ⊥) → IsBuildWork u new.work)
   pub unnamed : OnOk result ((built ≡ length s.journal → ⊥) → new.changes ≡ [])
   pub unchanged : OnErr result (new.table ≡ r.table)
+  pub due : OnErr result (lists_of new.dues ≡ lists_of r.dues)
   pub work : OnErr result (new.work ≡ no_work)
   pub changes : OnErr result (new.changes ≡ [])
 
@@ -156,8 +166,8 @@ module _ (s u : State) (r new : RoutesValue) (built : ℕ) (e : Event) (kept : I
   settled_ok : (now : ℕ) → now ≡ length u.journal → AreRoutesOf u new → IsCoherent u new now
   settled_ok now all are = kept_current u r new built now (subst (λ (v : State). IsCoherent v r built) (sym is) (kept_step s r built e kept accepted)) all are
 
-  settled_err : new.table ≡ r.table → IsCoherent u new built
-  settled_err table = subst (λ (v : State). IsCoherent v new built) (sym is) (kept_behind s r new built e kept accepted table)
+  settled_err : new.table ≡ r.table → lists_of new.dues ≡ lists_of r.dues → IsCoherent u new built
+  settled_err table dues = subst (λ (v : State). IsCoherent v new built) (sym is) (kept_behind s r new built e kept accepted table dues)
 
   -- where the routes settle, the core is current
   pub coherent_ok : (result : Result (Unit {0}) Memory) (now : ℕ) → now ≡ length u.journal → result ≡ Ok tt → IsSettled s u r built result new → IsCoherent u new now
@@ -167,7 +177,7 @@ module _ (s u : State) (r new : RoutesValue) (built : ℕ) (e : Event) (kept : I
   -- and where they don't, it is behind
   pub coherent_err : (result : Result (Unit {0}) Memory) (m : Memory) → result ≡ Err m → IsSettled s u r built result new → IsCoherent u new built
   coherent_err (Ok x) m err h = absurd cc
-  coherent_err (Err x) m err h = settled_err h.unchanged
+  coherent_err (Err x) m err h = settled_err h.unchanged h.due
 
   pub taken_ok : (result : Result (Unit {0}) Memory) (now : ℕ) (reply : Reply) → now ≡ length u.journal → result ≡ Ok tt → IsSettled s u r built result new
       → (reply.changed ≡ false) ↔ LooksAlike s u → reply.state ≡ Current → reply.serial ≡ now → IsTaken (core_of s r built) e reply (core_of u new now)
@@ -182,7 +192,7 @@ module _ (s u : State) (r new : RoutesValue) (built : ℕ) (e : Event) (kept : I
   taken_err (Err x) m reply err h changed behind serial =
       let longer : built < length u.journal = omega (arith, kept.core.within, length-append s.journal (e ∷ []), ap (λ (v : State). length v.journal) is) in
       takes s u r built e reply (core_of u new built) kept is accepted changed refl refl refl
-      (subst (λ (standing : Standing). Stands (core_of u r built) standing (core_of u new built)) (sym behind) (refl, h.unchanged, longer)) serial
+      (subst (λ (standing : Standing). Stands (core_of u r built) standing (core_of u new built)) (sym behind) (refl, h.unchanged, h.due, longer)) serial
 
   pub bounded_ok : (result : Result (Unit {0}) Memory) (now : ℕ) → now ≡ length u.journal → result ≡ Ok tt → IsSettled s u r built result new → HasBoundedWork (core_of s r built) Current (core_of u new now)
   bounded_ok (Ok x) now all ok h =

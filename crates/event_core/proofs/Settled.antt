@@ -1,4 +1,4 @@
--- Routes after an event: what is kept and the items of the table have followed, or nothing that is calculated from differs.
+-- Routes after an event: what is kept, the items of the table and what is due have followed, or nothing that is calculated from differs.
 use Rattle.std.proofs.Common.{◌≡◌, ℕ, Bool, false, List, [], length, refl, sym, subst}
 use Rattle.ospf_types.specs.declared.key.Key.{Key}
 use Rattle.ospf_types.specs.declared.key.Scope.{Scope}
@@ -6,9 +6,11 @@ use Rattle.route_table.specs.Tables.{TableValue}
 use Rattle.event_state.specs.Held.{AreFit}
 use Rattle.event_state.specs.States.{State, LooksAlike}
 use Rattle.calculation.specs.Calculations.{IsCalculationOf, IsTableOf, StatesDifferAmong}
+use Rattle.calculation.specs.Due.{AreDuesFor}
 use Rattle.calculation.specs.Totals.{IsEventWork}
 use Rattle.event_core.specs.Following.{RoutesValue, AreRoutesOf, AreChanges, no_work}
 use Rattle.calculation.proofs.Alike.{calculation_alike}
+use Rattle.calculation.proofs.Due.{due_alike}
 use Rattle.event_core.proofs.Followed.{nothing_changes}
 use Rattle.event_core.proofs.NoWork.{no_event_work}
 
@@ -26,21 +28,23 @@ pub record GoesOn (keys : List (Scope × Key)) (ids : List ℕ) (changed : Bool)
 pub record HasFollowed (t : State) (keys : List (Scope × Key)) (ids : List ℕ) (changed : Bool) (old new : RoutesValue) : Type 0 where
   pub calculation : IsCalculationOf t new.calculation
   pub items : IsTableOf new.calculation new.table.items
+  pub dues : AreDuesFor t new.calculation new.dues
   pub exact : AreChanges old.table.items new.table.items new.changes
   pub bounded : (before : State) → GoesOn keys ids changed before t → AreRoutesOf before old → IsEventWork before t new.work
 
 forgotten_routes : (s : State) (r : RoutesValue) → AreRoutesOf s r → AreRoutesOf s (forgotten r)
-forgotten_routes s r are = record { calculation = are.calculation; table = are.table; serial = are.serial }
+forgotten_routes s r are = record { calculation = are.calculation; table = are.table; serial = are.serial; dues = are.dues }
 
 pub still_routes : (s : State) (old mid : RoutesValue) → mid ≡ forgotten old → AreRoutesOf s old → AreRoutesOf s mid
 still_routes s old mid is are = subst (AreRoutesOf s) (sym is) (forgotten_routes s old are)
 
 module _ (t : State) (keys : List (Scope × Key)) (ids : List ℕ) (changed : Bool) (old mid : RoutesValue) (is : mid ≡ forgotten old) where
-  pub followed : (new : RoutesValue) → IsCalculationOf t new.calculation → IsTableOf new.calculation new.table.items → AreChanges mid.table.items new.table.items new.changes
+  pub followed : (new : RoutesValue) → IsCalculationOf t new.calculation → IsTableOf new.calculation new.table.items → AreDuesFor t new.calculation new.dues → AreChanges mid.table.items new.table.items new.changes
       → ((before : State) → AreRoutesOf before mid → StatesDifferAmong keys ids before t → IsEventWork before t new.work) → HasFollowed t keys ids changed old new
-  followed new calculation items exact bounded = record {
+  followed new calculation items dues exact bounded = record {
     calculation = calculation;
     items = items;
+    dues = dues;
     exact = subst (λ (r : RoutesValue). AreChanges r.table.items new.table.items new.changes) is exact;
     bounded = λ before goes are. bounded before (still_routes before old mid is are) goes.differ;
   }
@@ -51,11 +55,13 @@ module _ (t : State) (keys : List (Scope × Key)) (ids : List ℕ) (changed : Bo
       subst (HasFollowed t keys ids changed old) (sym is) (record {
         calculation = alike;
         items = are.table;
+        dues = due_alike before t old.calculation old.dues (goes.alike same) goes.differ.config are.dues;
         exact = nothing_changes old.table.items;
         bounded = λ other on others. no_event_work other t old.calculation on.fit fit on.differ.config others.calculation alike;
       })
 
 -- with the serial of the state, the routes are those of the state
-pub with_serial : (t : State) (new : RoutesValue) (table : TableValue) → IsCalculationOf t new.calculation → IsTableOf new.calculation new.table.items → table ≡ record new.table { serial = length t.journal } → AreRoutesOf t (record new { table = table })
-with_serial t new table calculation items is =
-    subst (λ (v : TableValue). AreRoutesOf t (record new { table = v })) (sym is) (record { calculation = calculation; table = items; serial = refl })
+pub with_serial : (t : State) (new : RoutesValue) (table : TableValue) → IsCalculationOf t new.calculation → IsTableOf new.calculation new.table.items → AreDuesFor t new.calculation new.dues → table ≡ record new.table { serial = length t.journal }
+    → AreRoutesOf t (record new { table = table })
+with_serial t new table calculation items dues is =
+    subst (λ (v : TableValue). AreRoutesOf t (record new { table = v })) (sym is) (record { calculation = calculation; table = items; serial = refl; dues = dues })

@@ -1,4 +1,4 @@
--- The core as its callers see it: the configuration, the events that were taken, and a table that is right for the first of them.
+-- The core as its callers see it: the configuration, the events that were taken, and a table and due summaries that are right for the first of them.
 use Rattle.std.specs.Prelude.{ℕ, ◌≡◌, ◌≤◌, ◌<◌, ◌↔◌, ◌⊎◌, false, List, [], ◌∷◌, ◌++◌, take, length, Some, None, Result, Ok, Err}
 use Rattle.ospf_types.specs.declared.config.Config.{Config}
 use Rattle.event_state.specs.declared.event.Event.{Event}
@@ -14,7 +14,8 @@ use Rattle.event_state.specs.States.{State, LooksAlike}
 use Rattle.event_state.specs.Steps.{run_of, refusal_of, IsLegalList}
 use Rattle.event_state.specs.Refusals.{IsRefusalOf}
 use Rattle.route_table.specs.Tables.{TableValue}
-use Rattle.event_core.specs.Right.{IsRight}
+use Rattle.dues.specs.declared.due.Due.{Due}
+use Rattle.event_core.specs.Right.{IsRight, AreDue}
 use Rattle.ospf_types.specs.declared.prefix.Prefix.{Prefix}
 use Rattle.spf.specs.declared.touched.Touched.{Touched}
 use Rattle.calculation.specs.Totals.{IsBuildWork, IsEventWork}
@@ -24,8 +25,9 @@ pub record CoreValue : Type 0 where
   pub config : Config
   pub limits : Limits
   pub journal : List Event  -- the events that were taken
-  pub built : ℕ  -- the table is that of so many of them
+  pub built : ℕ  -- table and due summaries are those of so many of them
   pub table : TableValue
+  pub dues : List (ℕ × List Due)  -- each area with what is due in it, in the order of the configuration
   pub work : Touched  -- that of the last event
   pub changes : List Prefix  -- the networks whose item the last event changed
 
@@ -33,21 +35,22 @@ pub record CoreValue : Type 0 where
 abbrev pub state_of : CoreValue → State
 state_of c = run_of c.config c.limits c.journal
 
--- those that the table is of
+-- those that table and due summaries are of
 abbrev pub built_state : CoreValue → State
 built_state c = run_of c.config c.limits (take c.built c.journal)
 
--- what holds of every core: its configuration has no fault, each event of the journal is taken in its turn, and the table is right for the first `built`
+-- what holds of every core: its configuration has no fault, each event of the journal is taken in its turn, and table and due summaries are right for the first `built`
 pub record IsCore (c : CoreValue) : Type 0 where
   pub sound : config_fault_of c.config ≡ None
   pub legal : IsLegalList c.config c.limits c.journal
   pub within : c.built ≤ length c.journal
   pub right : IsRight (built_state c) c.table
+  pub due : AreDue (built_state c) c.dues
 
--- the table is that of the whole journal, or the one of before, where events were taken since
+-- table and due summaries are those of the whole journal, or those of before, where events were taken since
 abbrev pub Stands : CoreValue → Standing → CoreValue → Type 0
-Stands old Current new = (new.built ≡ length new.journal) × IsRight (state_of new) new.table
-Stands old Behind new = (new.built ≡ old.built) × (new.table ≡ old.table) × (new.built < length new.journal)
+Stands old Current new = (new.built ≡ length new.journal) × IsRight (state_of new) new.table × AreDue (state_of new) new.dues
+Stands old Behind new = (new.built ≡ old.built) × (new.table ≡ old.table) × (new.dues ≡ old.dues) × (new.built < length new.journal)
 
 -- the event is taken, with this reply
 pub record IsTaken (old : CoreValue) (e : Event) (r : Reply) (new : CoreValue) : Type 0 where

@@ -1,4 +1,4 @@
--- The routes that a core keeps, and what an event changes of them.
+-- The routes and due summaries that a core keeps, and what an event changes of them.
 use Rattle.std.specs.Prelude.{◌≡◌, ◌≢◌, ◌⊎◌, ◌↔◌, ◌++◌, List, [], ◌∷◌, length, Contains, Option}
 use Rattle.std.specs.FinMap as map
 use Rattle.std.specs.List.Sorted.{IsStrictlySortedBy}
@@ -8,20 +8,24 @@ use Rattle.ospf_types.specs.Network.{network_cmp}
 use Rattle.spf.specs.declared.touched.Touched.{Touched}
 use Rattle.route_table.specs.declared.table.Item.{Item}
 use Rattle.route_table.specs.Tables.{TableValue}
+use Rattle.dues.specs.Dues.{DuesValue}
 use Rattle.event_state.specs.States.{State}
 use Rattle.calculation.specs.Calculations.{CalculationValue, IsCalculationOf, IsItemOf, IsTableOf}
+use Rattle.calculation.specs.Due.{AreDuesFor}
 
 pub record RoutesValue : Type 0 where
   pub calculation : CalculationValue
   pub table : TableValue
+  pub dues : DuesValue
   pub work : Touched
   pub changes : List Prefix
 
--- what is kept is that of the state, and the table follows its events
+-- what is kept is that of the state, the table follows its events, and what is due is due by what is kept
 pub record AreRoutesOf (s : State) (r : RoutesValue) : Type 0 where
   pub calculation : IsCalculationOf s r.calculation
   pub table : IsTableOf r.calculation r.table.items
   pub serial : r.table.serial ≡ length s.journal
+  pub dues : AreDuesFor s r.calculation r.dues
 
 -- the networks whose item differs, ascending, each once
 pub record AreChanges (old new : map.FinMap network_cmp Item) (networks : List Prefix) : Type 0 where

@@ -1,9 +1,13 @@
--- When a routing table is right for a state (RFC 2328, 11 and 16).
-use Rattle.std.specs.Prelude.{◌≡◌, ◌↔◌, Some, length}
+-- When a routing table and due summaries are right for a state (RFC 2328, 11, 12.4.3 and 16).
+use Rattle.std.specs.Prelude.{ℕ, ◌≡◌, ◌≢◌, ◌↔◌, List, [], ◌∷◌, Contains, Option, Some, None, length, if◌then◌else◌, ◌==◌}
 use Rattle.std.specs.FinMap.{get}
 use Rattle.ospf_types.specs.declared.prefix.Prefix.{Prefix}
 use Rattle.ospf_types.specs.declared.entry.Entry.{Entry}
+use Rattle.ospf_types.specs.Inputs.{Inputs, Area}
 use Rattle.ospf_types.specs.Routes.{IsEntry, IsDiscard}
+use Rattle.ospf_types.specs.Summaries.{IsDue}
+use Rattle.dues.specs.declared.due.Due.{Due}
+use Rattle.dues.specs.Lists.{AreInOrder, kind_of}
 use Rattle.route_table.specs.declared.table.Item.TheVariants.{Route, Discard}
 use Rattle.event_state.specs.States.{State, inputs_of}
 use Rattle.route_table.specs.Tables.{TableValue}
@@ -13,3 +17,33 @@ pub record IsRight (s : State) (t : TableValue) : Type 0 where
   pub routes : (p : Prefix) (e : Entry) → (get t.items p ≡ Some (Route e)) ↔ IsEntry (inputs_of s) p e
   pub discards : (p : Prefix) → (get t.items p ≡ Some Discard) ↔ IsDiscard (inputs_of s) p
   pub serial : t.serial ≡ length s.journal
+
+-- the list is what is due in the area, ascending by LS type and destination
+pub record IsListDue (s : Inputs) (a : Area) (list : List Due) : Type 0 where
+  pub in_order : AreInOrder list
+  pub exact : (due : Due) → Contains list due ↔ (IsDue s a due.dest due.metric × (due.kind ≡ kind_of due.dest))
+
+-- each of these areas has its list, under its Area ID
+abbrev pub AreListsDue : Inputs → List Area → List (ℕ × List Due) → Type 0
+AreListsDue s [] [] = Unit {0}
+AreListsDue s (a ∷ areas) (e ∷ lists) = ((e.0 ≡ a.id) × IsListDue s a e.1) × AreListsDue s areas lists
+AreListsDue s [] (e ∷ lists) = ⊥
+AreListsDue s (a ∷ areas) [] = ⊥
+
+-- the lists are what is due in the configured areas, in their order
+abbrev pub AreDue : State → List (ℕ × List Due) → Type 0
+AreDue s lists = AreListsDue (inputs_of s) (inputs_of s).areas lists
+
+-- what is due in one of these areas, that with the Area ID; none where none of them has it
+abbrev pub IsDueAmong : Inputs → List Area → ℕ → Option (List Due) → Type 0
+IsDueAmong s areas id None = (a : Area) → Contains areas a → a.id ≢ id
+IsDueAmong s areas id (Some list) = (a : Area) × Contains areas a × (a.id ≡ id) × IsListDue s a list
+
+-- what is due in the area with the Area ID
+abbrev pub IsDueIn : State → ℕ → Option (List Due) → Type 0
+IsDueIn s id list = IsDueAmong (inputs_of s) (inputs_of s).areas id list
+
+-- the first of the lists that is under the Area ID
+abbrev pub list_under : List (ℕ × List Due) → ℕ → Option (List Due)
+list_under [] id = None
+list_under (e ∷ lists) id = if e.0 == id then Some e.1 else list_under lists id

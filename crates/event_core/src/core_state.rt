@@ -1,7 +1,9 @@
-ghost use Rattle.std.specs.Prelude.{◌≡◌, ◌≤◌, None, IfErr, IfOk, OnErr};
+ghost use Rattle.std.specs.Prelude.{◌≡◌, ◌≤◌, None, IfErr, IfOk, OnErr, option_map};
 ghost use Rattle.vertex_graph.specs.Graphs.{most_routers};
 ghost use Rattle.event_core.specs.Configs.{config_fault_of};
-ghost use Rattle.event_core.specs.Cores.{IsCore, IsOpening, IsFaultOf, Applies, NamesChanges, HasBoundedWork, Stands, Runs, state_of};
+ghost use Rattle.dues.specs.Dues.{lists_of};
+ghost use Rattle.event_core.specs.Right.{IsDueIn, list_under};
+ghost use Rattle.event_core.specs.Cores.{IsCore, IsOpening, IsFaultOf, Applies, NamesChanges, HasBoundedWork, Stands, Runs, built_state, state_of};
 ghost use Rattle.event_state.specs.Steps.{standard_limits};
 ghost use Rattle.event_core.specs.Listings.{AreLsas};
 
@@ -11,6 +13,7 @@ use crate::listing::lsas;
 use crate::named::named_by;
 use crate::reply::{Reply, Standing};
 use crate::routes::Routes;
+use dues::{Due, Dues};
 use event_state::{Event, Limits, Refusal, State};
 use lsa_codec::Checked;
 use ospf_types::config::Config;
@@ -23,8 +26,8 @@ use std::alloc::Global;
 use std::hash::RandomState;
 use std::marker::Model;
 
-/// The databases and interfaces of an area border router, the journal of the events that made them,
-/// and the routing table that they give (RFC 2328, 16).
+/// The databases and interfaces of an area border router, the journal of the events that made them, and the routing table
+/// and the summary-LSAs due in each area that they give (RFC 2328, 16 and 12.4.3).
 pub struct Core {
     alloc: Global,
     hashing: RandomState,
@@ -115,9 +118,9 @@ impl Core {
         })
     }
 
-    /// Takes the event, and brings the table up to the state then; or refuses it, and leaves
-    /// everything as it was. The work follows what the event touches; where the table was behind, all
-    /// is built anew.
+    /// Takes the event, and brings table and due summaries up to the state then; or refuses it, and leaves everything as it
+    /// was. The work follows what the event touches; where they were behind, all is built anew. Where memory is refused,
+    /// both stay as they were.
     pub fn apply(&mut self, event: Event) -> Result<Reply, Refusal>
         ensures applied { Applies self.old event result self.new }
         ensures changes { IfOk result (λ reply. NamesChanges self.old reply.state self.new) }
@@ -146,8 +149,8 @@ impl Core {
         })
     }
 
-    /// Builds the table anew, where it is behind; databases and journal stay as they are, and so does what `changes`
-    /// and `work` tell of the last event.
+    /// Builds table and due summaries anew, where they are behind; databases and journal stay as they are, and so does
+    /// what `changes` and `work` tell of the last event.
     pub fn catch_up(&mut self) -> Standing
         ensures journal { self.new.journal ≡ self.old.journal }
         ensures config { self.new.config ≡ self.old.config }
@@ -192,6 +195,24 @@ impl Core {
         self.routes.table()
     }
 
+    /// The summary-LSAs that are due in the area (RFC 2328, 12.4.3), ascending by LS type and destination: of the same
+    /// events as the table. `None` where no such area is configured.
+    pub fn due(&self, area: u32) -> Option<&[Due]>
+        ensures value { option_map (λ list. list.now) result ≡ list_under self.now.dues area }
+        ensures right { IsDueIn (built_state self.now) area (option_map (λ list. list.now) result) }
+        ensures kept { IsCore self.now }
+    {
+        self.routes.dues().get(area)
+    }
+
+    /// What is due in all areas.
+    pub fn dues(&self) -> &Dues
+        ensures value { lists_of result.now ≡ self.now.dues }
+        ensures kept { IsCore self.now }
+    {
+        self.routes.dues()
+    }
+
     /// The networks whose item in the table the last taken event changed, ascending, each once. None is named where that
     /// event found the table behind (all of it is built anew then), or left it behind.
     pub fn changes(&self) -> &[Prefix]
@@ -217,7 +238,7 @@ impl Core {
         self.state.journal()
     }
 
-    /// The table is that of so many events of the journal.
+    /// Table and due summaries are those of so many events of the journal.
     pub fn built(&self) -> u64
         ensures value { result ≡ self.now.built }
         ensures kept { IsCore self.now }

@@ -1,4 +1,4 @@
-//! The routing table, and what is kept to follow events (RFC 2328, 16).
+//! The routing table and due summaries, and what is kept to follow events (RFC 2328, 16 and 12.4.3).
 ghost use Rattle.std.specs.Prelude.{◌≡◌, ◌↔◌, ◌≤◌, [], false, length, IfOk, IsTrue, OnOk, OnErr, option_copied};
 ghost use Rattle.std.specs.List.Sorted.{IsStrictlySortedBy};
 ghost use Rattle.std.specs.Map.{keys_of};
@@ -6,12 +6,15 @@ ghost use Rattle.ospf_types.specs.Network.{network_cmp};
 ghost use Rattle.vertex_graph.specs.Graphs.{most_routers};
 ghost use Rattle.event_state.specs.Held.{AreFit};
 ghost use Rattle.event_state.specs.States.{State as StateValue, LooksAlike};
+ghost use Rattle.dues.specs.Dues.{lists_of};
 ghost use Rattle.calculation.specs.Calculations.{IsCalculationOf, IsTableOf, StatesDifferAmong};
+ghost use Rattle.calculation.specs.Due.{AreDuesFor};
 ghost use Rattle.calculation.specs.Totals.{IsBuildWork, IsEventWork};
 ghost use Rattle.event_core.specs.Following.{AreRoutesOf, AreChanges, AreOtherItems, IsOneMore, no_work};
 
 use crate::named::Named;
 use calculation::Calculation;
+use dues::Dues;
 use event_state::State;
 use ospf_types::memory::Memory;
 use ospf_types::prefix::Prefix;
@@ -21,11 +24,13 @@ use std::alloc::Global;
 use std::hash::RandomState;
 use std::marker::Model;
 
-/// The routing table of a state, what it is calculated from, and what the last event changed.
+/// The routing table of a state and what is due in its areas, what both are calculated from, and what the last event
+/// changed.
 #[derive(Debug, Drop)]
 pub(crate) struct Routes {
     calculation: Calculation,
     table: Table,
+    dues: Dues,
     work: Touched,
     changes: Vec<Prefix>,
     // How often all was built; read by tests alone.
@@ -35,14 +40,15 @@ pub(crate) struct Routes {
 impl Model for Routes {
     ghost use Rattle.std.specs.Coded.{Coded, codes};
     ghost use Rattle.calculation.specs.contracts.calculation.Calculation as kept;
+    ghost use Rattle.dues.specs.contracts.dues.Dues as kept_dues;
     ghost use Rattle.route_table.specs.Tables.{TableValue, table_code};
     ghost use Rattle.event_core.specs.Following.{RoutesValue};
 
     ghost Value = { RoutesValue };
 
-    ghost coded = { let table : Coded TableValue = table_code in Prim.hlevel (codes, kept.the_row.coded, table) };
+    ghost coded = { let table : Coded TableValue = table_code in Prim.hlevel (codes, kept.the_row.coded, kept_dues.the_row.coded, table) };
 
-    ghost view = { λ r. record { calculation = r.calculation; table = r.table; work = r.work; changes = r.changes.items } };
+    ghost view = { λ r. record { calculation = r.calculation; table = r.table; dues = r.dues; work = r.work; changes = r.changes.items } };
 }
 
 impl Routes {
@@ -57,10 +63,11 @@ impl Routes {
         ensures work { IfOk result (λ routes. routes.work ≡ no_work) }
         ensures changes { IfOk result (λ routes. routes.changes ≡ []) }
     {
-        let (calculation, table, _) = from_scratch(alloc, state, hashing)?;
+        let (calculation, table, dues, _) = from_scratch(alloc, state, hashing)?;
         Ok(Routes {
             calculation,
             table,
+            dues,
             work: Touched::none(),
             changes: Vec::new(alloc),
             builds: 1,
@@ -80,12 +87,14 @@ impl Routes {
         ensures fit { OnOk result (AreFit state.now.config.areas state.now.databases) }
         ensures built { IfOk result (IsBuildWork state.now) }
         ensures unchanged { OnErr result (self.new.table ≡ self.old.table) }
+        ensures due { OnErr result (lists_of self.new.dues ≡ lists_of self.old.dues) }
         ensures work { self.new.work ≡ self.old.work }
         ensures changes { self.new.changes ≡ self.old.changes }
     {
-        let (calculation, table, work) = from_scratch(alloc, state, hashing)?;
+        let (calculation, table, dues, work) = from_scratch(alloc, state, hashing)?;
         self.calculation = calculation;
         self.table = table;
+        self.dues = dues;
         self.builds = self.builds.wrapping_add(1);
         Ok(work)
     }
@@ -102,6 +111,7 @@ impl Routes {
         ensures fit { OnOk result (AreFit state.now.config.areas state.now.databases) }
         ensures built { OnOk result (IsBuildWork state.now self.new.work) }
         ensures unchanged { OnErr result (self.new.table ≡ self.old.table) }
+        ensures due { OnErr result (lists_of self.new.dues ≡ lists_of self.old.dues) }
         ensures work { OnErr result (self.new.work ≡ no_work) }
         ensures changes { self.new.changes ≡ [] }
     {
@@ -110,8 +120,8 @@ impl Routes {
         Ok(())
     }
 
-    /// Follows the state, which differs from the one before in what is named. Where memory is refused, the table is as
-    /// it was, and what is kept beside it is of no use any more.
+    /// Follows the state, which differs from the one before in what is named. Where memory is refused, the table and what
+    /// is due are as they were, and what is kept beside them is of no use any more.
     pub(crate) fn settle(
         &mut self,
         alloc: Global,
@@ -126,6 +136,7 @@ impl Routes {
         ensures exact { OnOk result (AreChanges self.old.table.items self.new.table.items self.new.changes) }
         ensures bounded { OnOk result ((before : StateValue) → AreFit before.config.areas before.databases → AreRoutesOf before self.old → StatesDifferAmong named.keys.items named.interfaces.items before state.now → (changed ≡ false → LooksAlike before state.now) → IsEventWork before state.now self.new.work) }
         ensures unchanged { OnErr result (self.new.table ≡ self.old.table) }
+        ensures due { OnErr result (lists_of self.new.dues ≡ lists_of self.old.dues) }
         ensures work { OnErr result (self.new.work ≡ no_work) }
         ensures changes { OnErr result (self.new.changes ≡ []) }
     {
@@ -141,6 +152,12 @@ impl Routes {
         ensures { result.now ≡ self.now.table }
     {
         &self.table
+    }
+
+    pub(crate) fn dues(&self) -> &Dues
+        ensures { result.now ≡ self.now.dues }
+    {
+        &self.dues
     }
 
     pub(crate) fn changes(&self) -> &[Prefix]
@@ -171,45 +188,54 @@ impl Routes {
         self.changes.clear();
     }
 
-    // What is kept and the items of the table follow the state.
+    // What is kept, the items of the table and what is due follow the state. The change of the table is the last that may
+    // be refused memory; due summaries have room for theirs by then.
     fn follow(&mut self, alloc: Global, state: &State, named: Named) -> Result<(), Memory>
         requires few { state.now.limits.area_lsas ≤ most_routers }
         requires before { (before : StateValue) × AreRoutesOf before self.old × StatesDifferAmong named.keys.items named.interfaces.items before state.now }
         ensures calculation { OnOk result (IsCalculationOf state.now self.new.calculation) }
         ensures items { OnOk result (IsTableOf self.new.calculation self.new.table.items) }
+        ensures dues { OnOk result (AreDuesFor state.now self.new.calculation self.new.dues) }
         ensures exact { OnOk result (AreChanges self.old.table.items self.new.table.items self.new.changes) }
         ensures bounded { OnOk result ((before : StateValue) → AreRoutesOf before self.old → StatesDifferAmong named.keys.items named.interfaces.items before state.now → IsEventWork before state.now self.new.work) }
         ensures unchanged { OnErr result (self.new.table ≡ self.old.table) }
+        ensures due { OnErr result (lists_of self.new.dues ≡ lists_of self.old.dues) }
         ensures work { OnErr result (self.new.work ≡ self.old.work) }
         ensures changes { OnErr result (self.new.changes ≡ self.old.changes) }
     {
         let Named { keys, interfaces } = named;
-        let (networks, work) = self.calculation.follow(alloc, state, keys, interfaces)?;
-        let items = other_items(alloc, &self.calculation, &self.table, &networks)?;
+        let told = self.calculation.follow(alloc, state, keys, interfaces)?;
+        let items = other_items(alloc, &self.calculation, &self.table, &told.networks)?;
         let changes = networks_of(alloc, &items)?;
+        let plan = self
+            .calculation
+            .plan_dues(alloc, state, &mut self.dues, &told.dests)?;
         self.table.change(alloc, items)?;
-        self.work = work;
+        self.dues.carry_out(plan);
+        self.work = told.work;
         self.changes = changes;
         Ok(())
     }
 }
 
-// What is kept of the state, its table, and the work of building its trees.
+// What is kept of the state, its table, what is due in its areas, and the work of building its trees.
 fn from_scratch(
     alloc: Global,
     state: &State,
     hashing: RandomState,
-) -> Result<(Calculation, Table, Touched), Memory>
+) -> Result<(Calculation, Table, Dues, Touched), Memory>
     requires few { state.now.limits.area_lsas ≤ most_routers }
     ensures calculation { IfOk result (λ built. IsCalculationOf state.now built.0) }
     ensures items { IfOk result (λ built. IsTableOf built.0 built.1.items) }
     ensures serial { IfOk result (λ built. built.1.serial ≡ length state.now.journal) }
+    ensures dues { IfOk result (λ built. AreDuesFor state.now built.0 built.2) }
     ensures fit { IfOk result (λ built. AreFit state.now.config.areas state.now.databases) }
-    ensures work { IfOk result (λ built. IsBuildWork state.now built.2) }
+    ensures work { IfOk result (λ built. IsBuildWork state.now built.3) }
 {
     let (calculation, work) = Calculation::build(alloc, state, hashing)?;
     let table = calculation.table(alloc, state.journal().len() as u64)?;
-    Ok((calculation, table, work))
+    let dues = calculation.dues(alloc, state)?;
+    Ok((calculation, table, dues, work))
 }
 
 // Those of the networks for which the table has to have another item, each with that item.

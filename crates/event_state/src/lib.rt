@@ -14,6 +14,3 @@ pub use event::Event;
 pub use limits::Limits;
 pub use refusal::Refusal;
 pub use state::State;
-
-#[cfg(test)]
-mod tests;

@@ -131,6 +131,13 @@ impl External {
         self.preferred.get(router)
     }
 
+    /// The AS boundary routers that have a preferred entry, in no stated order, each once.
+    pub fn routers(&self, alloc: Global) -> Result<Vec<u32>, Memory>
+        ensures { IfOk result (λ routers. (r : ℕ) → Contains routers.items r ↔ IsSome (map.get self.now.preferred r)) }
+    {
+        self.preferred.keys(alloc)
+    }
+
     /// Whether an update was refused memory.
     pub fn spent(&self) -> bool
         ensures { result ≡ self.now.spent }

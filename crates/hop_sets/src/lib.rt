@@ -5,6 +5,3 @@
 mod set;
 
 pub use set::HopSet;
-
-#[cfg(test)]
-mod tests;

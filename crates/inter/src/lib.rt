@@ -10,6 +10,3 @@ mod inter;
 
 pub use inputs::{Examined, InterInputs};
 pub use inter::Inter;
-
-#[cfg(test)]
-mod tests;

@@ -8,6 +8,3 @@ mod rows;
 
 pub use ages::second;
 pub use rows::{rows_at, rows_of};
-
-#[cfg(test)]
-mod tests;

@@ -25,6 +25,3 @@ pub use ospf_types::prefix::Prefix;
 pub use reading::read;
 pub use routers::Routers;
 pub use writing::write;
-
-#[cfg(test)]
-mod tests;

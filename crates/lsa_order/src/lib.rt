@@ -8,6 +8,3 @@ mod order;
 pub use contents::contents_differ;
 pub use order::newer;
 pub use ospf_types::lsa::{Header, Newer};
-
-#[cfg(test)]
-mod tests;

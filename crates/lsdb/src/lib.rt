@@ -8,6 +8,3 @@ mod refusal;
 
 pub use database::Database;
 pub use refusal::{InstallRefusal, NoLsa, PurgeRefusal};
-
-#[cfg(test)]
-mod tests;

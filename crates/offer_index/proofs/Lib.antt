@@ -6,4 +6,3 @@ pub mod LastAddresses
 pub mod Gathering
 pub mod Following
 pub mod Clearing
-pub mod FirstLsas

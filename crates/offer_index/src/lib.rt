@@ -12,6 +12,3 @@ pub use advertised::Advertised;
 pub use affected::Affected;
 pub use group::Group;
 pub use index::OfferIndex;
-
-#[cfg(test)]
-mod tests;

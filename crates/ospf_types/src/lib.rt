@@ -13,6 +13,4 @@ pub mod listed;
 pub mod lsa;
 pub mod memory;
 pub mod prefix;
-#[cfg(test)]
-mod tests;
 mod text;

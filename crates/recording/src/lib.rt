@@ -11,8 +11,6 @@ mod parsing;
 mod printing;
 mod reader;
 mod recording;
-#[cfg(test)]
-mod tests;
 mod words;
 
 pub use fault::{Fault, LineFault};

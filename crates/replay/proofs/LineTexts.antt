@@ -12,7 +12,8 @@ use Rattle.ospf_types.specs.declared.lsa.Header.{Header}
 use Rattle.ospf_types.specs.Text.{address_text}
 use Rattle.route_table.specs.declared.table.Match.{Match}
 use Rattle.route_table.specs.Texts.{match_text}
-use Rattle.replay.specs.Lines.{lookup_line, header_text}
+use Rattle.dues.specs.declared.due.Due.{Due}
+use Rattle.replay.specs.Lines.{lookup_line, due_line, dest_text, header_text}
 
 pub lookup_printed : (old new : List ℕ) (number address serial other : ℕ) (found : Match)
     → new ≡ old ++ (decimal number ++ (codes " lookup " ++ (address_text address ++ (codes " " ++ (decimal serial ++ (codes " " ++ (match_text found ++ codes "\n")))))))
@@ -38,3 +39,8 @@ pub header_printed : (old front first space second new seq sum : List ℕ) (h : 
     → front ≡ old ++ (decimal h.kind ++ (codes " " ++ (address_text h.id ++ (codes " " ++ (address_text h.router ++ codes " "))))) → first ≡ front ++ encode_lower seq → seq ≡ to_be_bytes w32 h.seq
     → space ≡ first ++ codes " " → second ≡ space ++ encode_lower sum → sum ≡ to_be_bytes w16 h.sum → new ≡ second ++ (codes " " ++ decimal h.age) → new ≡ old ++ header_text h
 header_printed old front first space second new seq sum h p q seq_is r s sum_is t = t ∙ rw (s, r, q, p, seq_is, sum_is) (simp append_assoc)
+
+-- the parts of the line of a summary
+pub due_printed : (old front dest new : List ℕ) (area : ℕ) (due : Due) → front ≡ old ++ (codes "due " ++ (address_text area ++ (codes " " ++ (decimal due.kind ++ codes " "))))
+    → dest ≡ front ++ dest_text due.dest → new ≡ dest ++ (codes " " ++ (decimal due.metric ++ codes "\n")) → new ≡ old ++ due_line area due
+due_printed old front dest new area due p q r = r ∙ rw (q, p) (simp append_assoc)

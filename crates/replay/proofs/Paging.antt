@@ -2,6 +2,9 @@
 use Rattle.std.proofs.Common.{◌≡◌, ℕ, suc, ◌<◌, ◌+◌, List, length, get_or, drop, add-one, drop-cons, [], ◌∷◌, ◌++◌, Option, refl, sym, ap, subst, ◌∙◌, append_assoc, append-nil}
 use Rattle.std.specs.List.{flat_map}
 use Rattle.std.specs.Io.KnownBytes.{Appends}
+use Rattle.dues.specs.Dues.{listed}
+use Rattle.dues.specs.Lists.{AreaDuesValue}
+use Rattle.replay.specs.Lines.{area_lines}
 use Rattle.replay.specs.Outputs.{IsBeginning}
 use Rattle.replay.specs.Pages.{Adds, AddsPart}
 use Rattle.replay.proofs.Written.{appends_none, appends_more}
@@ -84,8 +87,41 @@ adding_stopped a b c before page put all rest line more h next is stopped =
     let here = part_moved a b c before put (h.text ++ line) (adds_put a b before page h.text put line h.adds is) stopped in
     subst (λ l. AddsPart a c (before ++ l)) (append_assoc h.text line more ∙ ap (λ l. h.text ++ l) (sym next) ∙ sym h.left) (part_longer a c before (h.text ++ line) more here)
 
+-- lines are printed behind the page
+pub adding_lines : (a b c : Option (List ℕ)) (before page moved all rest lines more : List ℕ) → Adding a b before page all rest → rest ≡ lines ++ more → Adds b c page moved lines
+    → Adding a c before moved all more
+adding_lines a b c before page moved all rest lines more h next added = record {
+  text = h.text ++ lines;
+  adds = adds_more a b c before page moved h.text lines h.adds added;
+  left = h.left ∙ ap (λ l. h.text ++ l) next ∙ sym (append_assoc h.text lines more);
+}
+
+-- and only a part of them could be
+pub adding_cut : (a b c : Option (List ℕ)) (before page all rest lines more : List ℕ) → Adding a b before page all rest → rest ≡ lines ++ more → AddsPart b c (page ++ lines)
+    → AddsPart a c (before ++ all)
+adding_cut a b c before page all rest lines more h next cut =
+    let here = part_more a b c before page h.text lines h.adds cut in
+    subst (λ l. AddsPart a c (before ++ l)) (append_assoc h.text lines more ∙ ap (λ l. h.text ++ l) (sym next) ∙ sym h.left) (part_longer a c before (h.text ++ lines) more here)
+
+-- the text is the same as another
+pub adding_as : (a b : Option (List ℕ)) (before page all other rest : List ℕ) → Adding a b before page all rest → all ≡ other → Adding a b before page other rest
+adding_as a b before page all other rest h same = record { text = h.text; adds = h.adds; left = sym same ∙ h.left }
+
+-- all of it is printed
+pub adding_whole : (a b : Option (List ℕ)) (before page all rest : List ℕ) → Adding a b before page all rest → rest ≡ [] → Adds a b before page all
+adding_whole a b before page all rest h none = subst (λ l. Adds a b before page l) (sym (h.left ∙ ap (λ l. h.text ++ l) none ∙ append-nil h.text)) h.adds
+
 -- ---- a list of which each item has a line
 
 pub line_next : {A : Type 0} (line : A → List ℕ) (items : List A) (i : ℕ) (x : A) → i < length items → x ≡ get_or items i x
     → flat_map line (drop i items) ≡ line x ++ flat_map line (drop (i + 1) items)
 line_next line items i x within is = rw add-one (ap (flat_map line) (drop-cons items i x within ∙ ap (λ y. y ∷ drop (suc i) items) (sym is)))
+
+-- ---- the areas, each with the lines of what is due in it
+
+abbrev pub lines_in : AreaDuesValue → List ℕ
+lines_in w = area_lines (w.area, w.list)
+
+pub lines_listed : (areas : List AreaDuesValue) → flat_map lines_in areas ≡ flat_map area_lines (listed areas)
+lines_listed [] = refl
+lines_listed (w ∷ areas) = ap (λ rest. lines_in w ++ rest) (lines_listed areas)

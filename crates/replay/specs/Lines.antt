@@ -3,11 +3,15 @@ use Rattle.std.specs.Prelude.{ℕ, ◌+◌, ◌++◌, List, length, Result, Ok, 
 use Rattle.std.specs.Int.{w16, w32, to_be_bytes}
 use Rattle.hex.specs.Hex.{encode_lower}
 use Rattle.ospf_types.specs.declared.config.Config.{Config}
+use Rattle.ospf_types.specs.declared.key.Dest.{Dest}
+use Rattle.ospf_types.specs.declared.key.Dest.TheVariants.{Net, Router}
 use Rattle.ospf_types.specs.declared.key.Scope.{Scope}
 use Rattle.ospf_types.specs.declared.lsa.Header.{Header}
 use Rattle.ospf_types.specs.Lsa.{Lsa}
 use Rattle.ospf_types.specs.Network.{Network}
 use Rattle.ospf_types.specs.Text.{address_text, prefix_text, entry_text}
+use Rattle.std.specs.List.{flat_map}
+use Rattle.dues.specs.declared.due.Due.{Due}
 use Rattle.event_state.specs.declared.refusal.Refusal.{Refusal}
 use Rattle.event_state.specs.Texts.{refusal_text}
 use Rattle.route_table.specs.declared.table.Item.{Item}
@@ -55,6 +59,19 @@ serial_line c = codes "serial " ++ decimal (length c.journal) ++ codes " built "
 abbrev pub item_line : Network × Item → List ℕ
 item_line (p, item.Route entry) = codes "route " ++ prefix_text p ++ codes " " ++ entry_text entry ++ codes "\n"
 item_line (p, item.Discard) = codes "discard " ++ prefix_text p ++ codes "\n"
+
+-- a network, or an AS boundary router
+abbrev pub dest_text : Dest → List ℕ
+dest_text (Net p) = prefix_text p
+dest_text (Router router) = address_text router
+
+-- a summary that is due in the area
+abbrev pub due_line : ℕ → Due → List ℕ
+due_line area due = codes "due " ++ address_text area ++ codes " " ++ decimal due.kind ++ codes " " ++ dest_text due.dest ++ codes " " ++ decimal due.metric ++ codes "\n"
+
+-- what is due in an area
+abbrev pub area_lines : ℕ × List Due → List ℕ
+area_lines e = flat_map (due_line e.0) e.1
 
 -- the key, and what tells an instance from another: sequence number, checksum and present age
 abbrev pub header_text : Header → List ℕ

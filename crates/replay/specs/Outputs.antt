@@ -13,7 +13,7 @@ use Rattle.recording.specs.declared.line.Line.TheVariants as line
 use Rattle.recording.specs.Recordings.{RecordingValue, IsText, text_of}
 use Rattle.replay.specs.declared.show.Show.{Show}
 use Rattle.replay.specs.declared.show.Show.TheVariants as show
-use Rattle.replay.specs.Lines.{first_number, serial_line, item_line, lsa_line}
+use Rattle.replay.specs.Lines.{first_number, serial_line, item_line, area_lines, lsa_line}
 use Rattle.replay.specs.Runs.{Answers, Prints, IsOpened}
 
 -- the recording was run with these answers to its events, and its lines printed this
@@ -26,9 +26,11 @@ pub record IsRun (r : RecordingValue) (answers : Answers) (printed : List ℕ) (
 abbrev pub journal_of : CoreValue → RecordingValue
 journal_of c = record { config = c.config; lines = map line.Event c.journal }
 
--- The text after the run: the lines of the run, how far it came, and what is shown. The journal is shown alone.
+-- The text after the run: the lines of the run, how far it came, and what is shown. What is due is shown in the order of the areas, which ascend in a
+-- recording. The journal is shown alone.
 abbrev pub IsShown : Show → (printed : List ℕ) → CoreValue → (text : List ℕ) → Type 0
 IsShown show.Routes printed c text = text ≡ printed ++ serial_line c ++ flat_map item_line (entries c.table.items)
+IsShown show.Due printed c text = text ≡ printed ++ serial_line c ++ flat_map area_lines c.dues
 IsShown show.Lsdb printed c text = (lsas : List (Scope × Lsa)) × AreLsas (state_of c) lsas × (text ≡ printed ++ serial_line c ++ flat_map lsa_line lsas)
 IsShown show.Journal printed c text = text ≡ text_of (journal_of c)
 
@@ -48,6 +50,7 @@ pub record IsBeginning (text whole : List ℕ) : Type 0 where
 -- the lines of the run are printed with this show
 abbrev pub PrintsRun : Show → Type 0
 PrintsRun show.Routes = Unit {0}
+PrintsRun show.Due = Unit {0}
 PrintsRun show.Lsdb = Unit {0}
 PrintsRun show.Journal = ⊥
 

@@ -9,8 +9,6 @@ mod replaying;
 mod running;
 mod show;
 mod showing;
-#[cfg(test)]
-mod tests;
 mod writing;
 
 pub use fault::ReplayFault;

@@ -5,12 +5,12 @@ ghost use Rattle.hex.specs.Hex.{encode_lower};
 ghost use Rattle.recording.specs.Forms.{scope_text};
 ghost use Rattle.route_table.specs.declared.table.Match.{Match};
 ghost use Rattle.route_table.specs.Tables.{IsMatch};
-ghost use Rattle.replay.specs.Lines.{lookup_line, answer_line, serial_line, item_line, header_text, lsa_line};
+ghost use Rattle.replay.specs.Lines.{lookup_line, answer_line, serial_line, item_line, due_line, dest_text, header_text, lsa_line};
 
-use event_core::{Core, Refusal, Reply, Standing};
+use event_core::{Core, Due, Refusal, Reply, Standing};
 use lsa_codec::{Checked, Header};
 use ospf_types::address::Address;
-use ospf_types::key::Scope;
+use ospf_types::key::{Dest, Scope};
 use ospf_types::memory::Memory;
 use ospf_types::prefix::Prefix;
 use route_table::{Item, Table};
@@ -65,6 +65,30 @@ pub(crate) fn put_item(prefix: Prefix, item: &Item, text: &mut String) -> Result
     match item {
         Item::Route(entry) => writeln!(text, "route {prefix} {entry}")?,
         Item::Discard => writeln!(text, "discard {prefix}")?,
+    }
+    Ok(())
+}
+
+/// A summary that is due in the area.
+pub(crate) fn put_due(area: u32, due: Due, text: &mut String) -> Result<(), Memory>
+    ensures { OnOk result (string_bytes text.new ≡ string_bytes text.old ++ due_line area due) }
+{
+    let (area, kind, metric) = (Address(area), due.kind, due.metric);
+    write!(text, "due {area} {kind} ")?;
+    put_dest(due.dest, text)?;
+    writeln!(text, " {metric}")?;
+    Ok(())
+}
+
+fn put_dest(dest: Dest, text: &mut String) -> Result<(), Memory>
+    ensures { OnOk result (string_bytes text.new ≡ string_bytes text.old ++ dest_text dest) }
+{
+    match dest {
+        Dest::Net(network) => write!(text, "{network}")?,
+        Dest::Router(router) => {
+            let router = Address(router);
+            write!(text, "{router}")?;
+        }
     }
     Ok(())
 }

@@ -8,7 +8,7 @@ ghost use Rattle.replay.specs.declared.show.Show.TheVariants as show;
 use crate::lines::put_serial;
 use crate::page::{Stop, empty_page, write_page};
 use crate::running::{run_lines, run_silently};
-use crate::showing::{show_events, show_items, show_lsas};
+use crate::showing::{show_dues, show_events, show_items, show_lsas};
 use event_core::Core;
 use recording::{Line, append_header};
 use std::alloc::Global;
@@ -30,6 +30,26 @@ pub(crate) fn print_routes<W: io::Write>(
     run_lines(core, lines, out, &mut page)?;
     put_serial(core, &mut page)?;
     show_items(core.table(), out, &mut page)?;
+    write_page(out, &mut page)?;
+    Ok(())
+}
+
+/// The same, with what is due in each area.
+pub(crate) fn print_due<W: io::Write>(
+    alloc: Global,
+    core: &mut Core,
+    lines: Vec<Line>,
+    out: &mut W,
+) -> Result<(), Stop>
+    requires opened { IsOpened core.old.config core.old }
+    requires few { first_number core.old.config + length lines.items < 2 ^ 64 }
+    ensures ok { OnOk result (WritesOutput (record { config = core.old.config; lines = lines.items }) show.Due (W.contents out.old) (W.contents out.new)) }
+    ensures err { OnErr result (WritesPart (record { config = core.old.config; lines = lines.items }) show.Due (W.contents out.old) (W.contents out.new)) }
+{
+    let mut page = empty_page(alloc)?;
+    run_lines(core, lines, out, &mut page)?;
+    put_serial(core, &mut page)?;
+    show_dues(core.dues(), out, &mut page)?;
     write_page(out, &mut page)?;
     Ok(())
 }

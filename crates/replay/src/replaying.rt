@@ -11,7 +11,7 @@ ghost use Rattle.replay.specs.Outputs.{Replays, ReplaysPart};
 ghost use Rattle.replay.specs.Parts.{IsRead, IsReadFault, WritesOutput, WritesPart};
 
 use crate::fault::ReplayFault;
-use crate::output::{print_journal, print_lsdb, print_routes};
+use crate::output::{print_due, print_journal, print_lsdb, print_routes};
 use crate::page::Stop;
 use crate::show::Show;
 use event_core::{ConfigFault, Core};
@@ -109,6 +109,7 @@ fn print_replay<W: io::Write>(
 {
     match show {
         Show::Routes => print_routes(alloc, &mut core, lines, out),
+        Show::Due => print_due(alloc, &mut core, lines, out),
         Show::Lsdb => print_lsdb(alloc, &mut core, lines, out),
         Show::Journal => print_journal(alloc, &mut core, lines, out),
     }

@@ -3,6 +3,8 @@
 pub enum Show {
     /// The routing table.
     Routes,
+    /// The summary-LSAs that are due in each area.
+    Due,
     /// All LSAs at their present age.
     Lsdb,
     /// The events that were taken, as a recording, and nothing else.

@@ -2,12 +2,13 @@
 ghost use Rattle.std.specs.Prelude.{◌++◌, OnOk, OnErr, string_bytes};
 ghost use Rattle.std.specs.List.{flat_map};
 ghost use Rattle.std.specs.FinMap.{entries};
-ghost use Rattle.replay.specs.Lines.{item_line, lsa_line, event_line};
+ghost use Rattle.dues.specs.Dues.{lists_of};
+ghost use Rattle.replay.specs.Lines.{area_lines, due_line, item_line, lsa_line, event_line};
 ghost use Rattle.replay.specs.Pages.{Adds, AddsPart};
 
-use crate::lines::{put_item, put_lsa};
+use crate::lines::{put_due, put_item, put_lsa};
 use crate::page::{Stop, spill};
-use event_core::Event;
+use event_core::{Due, Dues, Event};
 use lsa_codec::Checked;
 use ospf_types::key::Scope;
 use recording::append_event;
@@ -26,6 +27,38 @@ pub(crate) fn show_items<W: io::Write>(
 {
     for (prefix, item) in table.items() {
         put_item(prefix, item, page)?;
+        spill(out, page)?;
+    }
+    Ok(())
+}
+
+/// What is due in each area.
+pub(crate) fn show_dues<W: io::Write>(
+    dues: &Dues,
+    out: &mut W,
+    page: &mut String,
+) -> Result<(), Stop>
+    ensures ok { OnOk result (Adds (W.contents out.old) (W.contents out.new) (string_bytes page.old) (string_bytes page.new) (flat_map area_lines (lists_of dues.now))) }
+    ensures err { OnErr result (AddsPart (W.contents out.old) (W.contents out.new) (string_bytes page.old ++ flat_map area_lines (lists_of dues.now))) }
+{
+    for area in dues.areas() {
+        show_area(area.area(), area.as_slice(), out, page)?;
+    }
+    Ok(())
+}
+
+// What is due in an area.
+fn show_area<W: io::Write>(
+    area: u32,
+    list: &[Due],
+    out: &mut W,
+    page: &mut String,
+) -> Result<(), Stop>
+    ensures ok { OnOk result (Adds (W.contents out.old) (W.contents out.new) (string_bytes page.old) (string_bytes page.new) (area_lines (area, list.now))) }
+    ensures err { OnErr result (AddsPart (W.contents out.old) (W.contents out.new) (string_bytes page.old ++ area_lines (area, list.now))) }
+{
+    for due in list {
+        put_due(area, *due, page)?;
         spill(out, page)?;
     }
     Ok(())

@@ -11,6 +11,3 @@ pub use keys::ResultKey;
 pub use renewal::Renewal;
 pub use results::ResultMap;
 pub use same::{Same, are_same};
-
-#[cfg(test)]
-mod tests;

@@ -7,6 +7,3 @@ mod table;
 mod text;
 
 pub use table::{Item, Items, Match, Table};
-
-#[cfg(test)]
-mod tests;

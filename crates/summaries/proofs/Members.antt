@@ -52,12 +52,12 @@ module _ {K X : Type 0} {R : K → K → Ordering} (total : IsTotalOrder R) (exa
 abbrev pub least_of : Prefix → Member
 least_of p = record { range = p; area = 0; network = record { address = 0; length = 0 } }
 
-not_greater : (a b : Ordering) → is_gt a ≡ false → is_gt b ≡ false → is_gt (ordering_then a b) ≡ false
+pub not_greater : (a b : Ordering) → is_gt a ≡ false → is_gt b ≡ false → is_gt (ordering_then a b) ≡ false
 not_greater Less b first second = refl
 not_greater Equal b first second = second
 not_greater Greater b first second = first
 
-zero_least : (n : ℕ) → is_gt (nat_cmp 0 n) ≡ false
+pub zero_least : (n : ℕ) → is_gt (nat_cmp 0 n) ≡ false
 zero_least n = grind arith
 
 -- none of them is below the least
@@ -68,15 +68,15 @@ least_is_least p m is =
     (not_greater (nat_cmp 0 m.network.address) (nat_cmp 0 m.network.length) (zero_least m.network.address) (zero_least m.network.length)))
 
 -- what stands first in an order decides
-not_first : (a b : Ordering) → is_gt (ordering_then a b) ≡ false → a ≢ Greater
+pub not_first : (a b : Ordering) → is_gt (ordering_then a b) ≡ false → a ≢ Greater
 not_first a b is greater = let e : is_gt (ordering_then Greater b) ≡ false = subst (λ (o : Ordering). is_gt (ordering_then o b) ≡ false) greater is in cc
 
--- networks that are no greater than each other are one
-same_network : (p q : Prefix) → network_cmp p q ≢ Greater → network_cmp q p ≢ Greater → q ≡ p
-same_network p q low high =
-    elim (network_cmp p q) as (λ o. network_cmp p q ≡ o → q ≡ p) [
-      | Less ↦ λ e. absurd (high (network_total.antisymm q p ∙ ap ordering_reverse e))
-      | Equal ↦ λ e. sym (network_exact p q e)
+-- what is no greater than each other is one
+pub same_one : {K : Type 0} {R : K → K → Ordering} → IsTotalOrder R → CmpEqualImpliesEq R → (p q : K) → R p q ≢ Greater → R q p ≢ Greater → q ≡ p
+same_one {R = R} total exact p q low high =
+    elim (R p q) as (λ o. R p q ≡ o → q ≡ p) [
+      | Less ↦ λ e. absurd (high (total.antisymm q p ∙ ap ordering_reverse e))
+      | Equal ↦ λ e. sym (exact p q e)
       | Greater ↦ λ e. absurd (low e)
     ] refl
 
@@ -84,7 +84,7 @@ same_network p q low high =
 pub between : (p : Prefix) (x m : Member) → m.range ≡ p → IsLeBy member_cmp (least_of p) x → IsLeBy member_cmp x m → x.range ≡ p
 between p x m is low high =
     let after : Member → Member → Ordering = λ a b. ordering_then (nat_cmp a.area b.area) (network_cmp a.network b.network) in
-    same_network p x.range (not_first (network_cmp p x.range) (after (least_of p) x) low) (subst (λ (q : Prefix). network_cmp x.range q ≢ Greater) is (not_first (network_cmp x.range m.range) (after x m) high))
+    same_one network_total network_exact p x.range (not_first (network_cmp p x.range) (after (least_of p) x) low) (subst (λ (q : Prefix). network_cmp x.range q ≢ Greater) is (not_first (network_cmp x.range m.range) (after x m) high))
 
 -- a member before another has no greater prefix
 pub in_order : (x y : Member) → member_cmp x y ≡ Less → network_cmp x.range y.range ≢ Greater

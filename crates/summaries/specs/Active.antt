@@ -51,6 +51,10 @@ pub record AreRangesOf (areas : List AreaConfig) (entries : EntriesByPrefix) (v 
 abbrev pub IsActiveIn : ActiveValue → Prefix → Type 0
 IsActiveIn v p = (m : Member) × (cost : ℕ) × (get v.members m ≡ Some cost) × (m.range ≡ p)
 
+-- the area's range with this prefix has a network at this cost
+abbrev pub HasCost : ActiveValue → Prefix → ℕ → ℕ → Type 0
+HasCost v range area cost = (network : Prefix) × (get v.members (record { range = range; area = area; network = network }) ≡ Some cost)
+
 -- it is that of an active range before or after, and not both
 abbrev pub DiffersAt : ActiveValue → ActiveValue → Prefix → Type 0
 DiffersAt old new p = (IsActiveIn old p × (IsActiveIn new p → ⊥)) ⊎ ((IsActiveIn old p → ⊥) × IsActiveIn new p)

@@ -1,16 +1,17 @@
 //! Active ranges: those that have a member.
-ghost use Rattle.std.specs.Prelude.{◌≡◌, ◌≢◌, ◌↔◌, ℕ, Some, Contains, IsTrue, IfOk, OnOk, OnErr, option_copied, map as list_map};
+ghost use Rattle.std.specs.Prelude.{◌≡◌, ◌≢◌, ◌↔◌, ◌<◌, ℕ, Some, Contains, IsTrue, IfOk, OnOk, OnErr, option_copied, map as list_map};
 ghost use Rattle.std.specs.FinMap as map;
 ghost use Rattle.std.specs.List.Sorted.{IsStrictlySortedBy};
 ghost use Rattle.ospf_types.specs.declared.key.Dest.TheVariants as dest_value;
 ghost use Rattle.ospf_types.specs.declared.prefix.Prefix.{Prefix as PrefixValue};
 ghost use Rattle.ospf_types.specs.Inputs.{Inputs as Definitions};
 ghost use Rattle.ospf_types.specs.Network.{network_cmp};
+ghost use Rattle.ospf_types.specs.Summaries.{IsGreatest};
 ghost use Rattle.intra.specs.Intras.{EntriesByPrefix};
 ghost use Rattle.intra.specs.Right.{IsRightFor as IsIntraRight};
 ghost use Rattle.summaries.specs.declared.active.Noted.{Noted as NotedValue};
 ghost use Rattle.summaries.specs.declared.member.Member.{Member as MemberValue};
-ghost use Rattle.summaries.specs.Active.{AreRangesOf, EntriesDifferAmong, DiffersAt, IsActiveIn, spent_ranges};
+ghost use Rattle.summaries.specs.Active.{AreRangesOf, EntriesDifferAmong, DiffersAt, HasCost, IsActiveIn, spent_ranges};
 ghost use Rattle.summaries.specs.Following.{AreFollowed, IsCostIn, IsNamed, IsNotedOf, IsOnceMore, IsTold, HasTurned};
 ghost use Rattle.summaries.specs.Right.{AreConfigured, IsRightFor};
 
@@ -100,6 +101,22 @@ impl ActiveRanges {
             Some((member, _)) => member.range == prefix,
             None => false,
         }
+    }
+
+    /// The greatest cost below the limit that a network of the area's range with this prefix has.
+    pub fn costliest(&self, range: Prefix, area: u32, limit: u32) -> Option<u32>
+        ensures { (cost : ℕ) → (result ≡ Some cost) ↔ IsGreatest (λ c. HasCost self.now range area c × (c < limit)) cost }
+    {
+        let mut most = None;
+        for (member, cost) in self.members.range(Member::least_in(range, area)..) {
+            if member.range != range || member.area != area {
+                return most;
+            }
+            if *cost < limit {
+                most = most.max(Some(*cost));
+            }
+        }
+        most
     }
 
     /// The prefixes of active ranges, ascending, each once.

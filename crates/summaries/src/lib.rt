@@ -8,6 +8,3 @@ mod named;
 
 pub use active::ActiveRanges;
 pub use member::Member;
-
-#[cfg(test)]
-mod tests;

@@ -17,9 +17,16 @@ impl Member {
     pub(crate) fn least_of(range: Prefix) -> Member
         ensures { result ≡ record { range = range; area = 0; network = record { address = 0; length = 0 } } }
     {
+        Member::least_in(range, 0)
+    }
+
+    /// The least that a range of this prefix can have in the area.
+    pub(crate) fn least_in(range: Prefix, area: u32) -> Member
+        ensures { result ≡ record { range = range; area = area; network = record { address = 0; length = 0 } } }
+    {
         Member {
             range,
-            area: 0,
+            area,
             network: Prefix::of_mask(0, 0),
         }
     }

@@ -1,17 +1,17 @@
 -- After some were handed in there are no more routers than there were vertices, and those that were handed in.
-use Rattle.std.proofs.Common.{◌≡◌, ◌≢◌, ℕ, ◌+◌, ◌<◌, ◌≤◌, List, [], ◌∷◌, length, map, get_or, ◌++◌, Option, Some, None, refl, sym, subst, ◌∙◌, ⊎_elim, arith}
-use Rattle.std.specs.Prelude.{IsSome}
+use Rattle.std.proofs.Common.{◌≡◌, ℕ, ◌+◌, ◌<◌, ◌≤◌, List, length, map, get_or, ◌++◌, Option, Some, None, Bor, refl, sym, subst, ◌∙◌, ⊎_elim, arith}
+use Rattle.std.specs.Prelude.{IsSome, option_map}
 use Rattle.std.specs.FinMap.{get, keys, len, entries, len-entries}
 use Rattle.std.specs.List.{Contains}
 use Rattle.std.proofs.lemmas.List.{length-map, length-append, get_or-map}
 use Rattle.std.proofs.lemmas.List.Elements.{Contains-append_left, Contains-append_right}
-use Rattle.std.proofs.lemmas.List.Quantifiers.{all_pairs_push}
 use Rattle.std.proofs.lemmas.Map.Entries.{length-keys_of}
+use Rattle.lsa_codec.specs.declared.checked.Checked.{Checked}
 use Rattle.ospf_types.specs.declared.entry.Vertex.{Vertex}
 use Rattle.ospf_types.specs.declared.entry.Vertex.TheVariants.{Router}
 use Rattle.ospf_types.specs.Lsa.{Body}
 use Rattle.ospf_types.proofs.Elements.{mapped_element, mapped_from}
-use Rattle.vertex_graph.specs.Graphs.{GraphValue, Handed, IsThereAfter, AreApartHanded, AreFewAfter}
+use Rattle.vertex_graph.specs.Graphs.{GraphValue, Handed, IsThereAfter, AreFewAfter, handed_of}
 use Rattle.spf.specs.Loops.{HasNoDoubles}
 use Rattle.spf.proofs.Counting.{no_longer}
 use Rattle.spf.proofs.VertexMaps.{key_there}
@@ -53,10 +53,6 @@ module _ (g : GraphValue) (handed : List Handed) where
       named_after v (subst (IsThereAfter g handed) at.2 (there at.0 at.1))) in
       omega (arith, fits, most, length-map routers Router, length-append (keys g.ends) (map (λ (h : Handed). h.0) handed), length-map handed (λ (h : Handed). h.0), length-keys_of (entries g.ends), len-entries g.ends)
 
--- two that are handed in are apart where their vertices are two
-pub two_apart : (x y : Handed) → x.0 ≢ y.0 → AreApartHanded (x ∷ y ∷ [])
-two_apart x y other =
-    let one : AreApartHanded (x ∷ []) = λ i j d less within. absurd (omega (arith, less, within)) in
-    all_pairs_push (λ (a b : Handed). a.0 ≢ b.0) (x ∷ []) y one (λ k d within.
-    let first : 0 ≡ k = omega (arith, within) in
-    subst (λ n. (get_or (x ∷ []) n d).0 ≢ y.0) first other)
+-- as many are handed in as there are LSAs
+pub handed_length : (lsas : List (Vertex × Option (Bor Checked))) → length (handed_of lsas) ≡ length lsas
+handed_length lsas = length-map lsas (λ (p : Vertex × Option (Bor Checked)). (p.0, option_map (λ (l : Bor Checked). l.now.body) p.1))

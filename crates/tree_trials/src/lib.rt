@@ -4,10 +4,20 @@
 //! came by them. The tests take a broadcast network and a point-to-point link over which two paths cost
 //! the same, parallel links, a link that only one end has, one LSA in the place of another, and a repair
 //! that is refused memory. A walk of 400 changes compares each repaired tree with the one that is built.
+//! What a tree stands on has small tests too: sets of next hops, the queue of a search, the links of a
+//! graph alone; and so has the tree of an area that follows its database.
 #![tactic(auto)]
 
 #[cfg(test)]
+mod areas;
+#[cfg(test)]
+mod hops;
+#[cfg(test)]
+mod links;
+#[cfg(test)]
 mod network;
+#[cfg(test)]
+mod queue;
 #[cfg(test)]
 mod tests;
 #[cfg(test)]

@@ -1,11 +1,14 @@
 //! Trees of small networks, built and repaired (RFC 2328, 16.1 and 16.1.1).
-use crate::network::{Way, link, network, router, up};
+use crate::network::{Way, network, router};
 use crate::trial::Trial;
 use ospf_types::entry::Vertex;
 use ospf_types::hop::NextHop;
+use ospf_types::memory::Memory;
 use spf::{Touched, Tree};
+use std::alloc::Global;
 use std::hash::RandomState;
 use std::test::Fail;
+use vertex_graph::{Graph, Up};
 
 const ROOT: Vertex = Vertex::Router(1);
 
@@ -23,173 +26,324 @@ const BY_N: NextHop = NextHop::Direct(1);
 
 const BY_PEER: NextHop = NextHop::Peer(2);
 
-// The next hop with this address on N.
-fn at(address: u32) -> NextHop {
-    NextHop::Router(1, address)
-}
+// The next hops at the addresses of the leaf and of the peer on N.
+const AT_LEAF: NextHop = NextHop::Router(1, 0xc000_0202);
+
+const AT_PEER: NextHop = NextHop::Router(1, 0xc000_0203);
+
+// The root's two interfaces, on N and to the peer.
+const UPS: [Up; 2] = [
+    Up {
+        id: 1,
+        address: 0xc000_0201,
+    },
+    Up {
+        id: 2,
+        address: 0xc633_6401,
+    },
+];
+
+// The links of the root, of the leaf and of the peer.
+const OF_ROOT: [Way; 2] = [(N, 0xc000_0201, 10), (PEER, 0xc633_6401, 5)];
+
+const OF_LEAF: [Way; 1] = [(N, 0xc000_0202, 1)];
+
+const OF_PEER: [Way; 2] = [(ROOT, 0xc633_6402, 5), (N, 0xc000_0203, 5)];
 
 // The root reaches the broadcast network N at 10 over interface 1, and the peer at 5 over interface 2,
 // which is point-to-point; the peer reaches N at 5, and the leaf lies on N.
-fn net(rt: &HostRuntime) -> Result<Trial, Fail> {
-    let alloc = rt.alloc();
-    let ways = [link(N, 0xc000_0201, 10), link(PEER, 0xc633_6401, 5)];
-    let root = router(alloc, 1, &ways)?;
-    let leaf = router(alloc, 2, &[link(N, 0xc000_0202, 1)])?;
-    let ways = [link(ROOT, 0xc633_6402, 5), link(N, 0xc000_0203, 5)];
-    let peer = router(alloc, 3, &ways)?;
-    let n = network(alloc, LAN, &[2, 1, 3])?;
-    let ups = [up(1, 0xc000_0201), up(2, 0xc633_6401)];
-    let trial = Trial::new(alloc, 1, RandomState::new(rt)?)?;
-    let (trial, _) = trial.interfaces(alloc, &ups)?;
-    let (trial, _) = trial.replace_both(alloc, (ROOT, &root), (LEAF, &leaf))?;
-    let (trial, _) = trial.replace_both(alloc, (PEER, &peer), (N, &n))?;
-    Ok(trial)
+fn connect(alloc: Global, trial: &mut Trial) -> Result<(), Fail> {
+    trial.interfaces(alloc, &UPS)?;
+    put(alloc, trial, 1, &OF_ROOT)?;
+    put(alloc, trial, 2, &OF_LEAF)?;
+    put(alloc, trial, 3, &OF_PEER)?;
+    list(alloc, trial, &[2, 1, 3])
 }
 
-// The network once the router has these links, and the work of the repair.
-fn changed(rt: &HostRuntime, id: u32, ways: &[Way]) -> Result<(Trial, Touched), Fail> {
-    let lsa = router(rt.alloc(), id, ways)?;
-    net(rt)?.replace(rt.alloc(), Vertex::Router(id), Some(&lsa))
+// Hands in the router's LSA with these links, and answers the work of the repair.
+fn put(alloc: Global, trial: &mut Trial, id: u32, ways: &[Way]) -> Result<Touched, Fail> {
+    let lsa = router(alloc, id, ways)?;
+    Ok(trial.replace(alloc, &[(Vertex::Router(id), Some(&lsa))])?)
 }
 
-// Whether the vertex is reached at the distance with the next hops.
-fn has(tree: &Tree, vertex: Vertex, distance: u32, hops: &[NextHop]) -> bool {
+// Hands in N's LSA by the first of these routers.
+fn list(alloc: Global, trial: &mut Trial, routers: &[u32]) -> Result<(), Fail> {
+    let lsa = network(alloc, LAN, routers)?;
+    trial.replace(alloc, &[(N, Some(&lsa))])?;
+    Ok(())
+}
+
+// A vertex that is reached, its distance and its next hops.
+type Reached = (Vertex, u32, &'static [NextHop]);
+
+fn has(tree: &Tree, (vertex, distance, hops): Reached) -> bool {
     tree.distance(vertex) == Some(distance) && tree.hops(vertex) == hops
+}
+
+fn has_all(tree: &Tree, reached: &[Reached]) -> bool {
+    let mut all = true;
+    for vertex in reached {
+        all &= has(tree, *vertex);
+    }
+    all
 }
 
 // Whether the work is within the bound: twice the vertices that differ between the links before and those
 // that stay, those that differ between these and the links after, and the heads of the links that went or
 // came; and once the links out of the vertices that differ.
-fn is_within(touched: Touched, vertices: usize, links: usize) -> bool {
+fn is_within(touched: Touched, (vertices, links): (usize, usize)) -> bool {
     let most = vertices.saturating_mul(2).saturating_add(links);
     touched.taken <= most && touched.hop_sets <= most
 }
 
+// Links that a router gets in the network, what is reached then, the vertices that differ, and the bound of the work.
+#[derive(Drop)]
+struct Change<'a> {
+    router: u32,
+    ways: &'a [Way],
+    reached: &'a [Reached],
+    differ: &'a [Vertex],
+    bound: (usize, usize),
+}
+
+// How many sets of next hops are written by the change, where all is as it says.
+fn hop_sets(rt: &HostRuntime, change: &Change<'_>) -> Result<Option<usize>, Fail> {
+    let mut trial = Trial::new(rt.alloc(), 1, RandomState::new(rt)?)?;
+    written(rt.alloc(), &mut trial, change)
+}
+
+fn written(alloc: Global, trial: &mut Trial, change: &Change<'_>) -> Result<Option<usize>, Fail> {
+    connect(alloc, trial)?;
+    let touched = put(alloc, trial, change.router, change.ways)?;
+    let right = is_right(trial.tree(), change) && is_within(touched, change.bound);
+    Ok(right.then_some(touched.hop_sets))
+}
+
+fn is_right(tree: &Tree, change: &Change<'_>) -> bool {
+    has_all(tree, change.reached) && tree.changed() == change.differ
+}
+
 // N costs as much directly as by the peer, and so does the leaf, which lies on it.
+const AT_FIRST: [Reached; 4] = [
+    (N, 10, &[BY_N, BY_PEER]),
+    (LEAF, 10, &[BY_PEER, AT_LEAF]),
+    (PEER, 5, &[BY_PEER]),
+    (ROOT, 0, &[]),
+];
+
+fn unites(alloc: Global, trial: &mut Trial) -> Result<bool, Fail> {
+    connect(alloc, trial)?;
+    Ok(has_all(trial.tree(), &AT_FIRST))
+}
+
+fn paths_unite(rt: &HostRuntime) -> Result<bool, Fail> {
+    let mut trial = Trial::new(rt.alloc(), 1, RandomState::new(rt)?)?;
+    unites(rt.alloc(), &mut trial)
+}
+
 #[test]
 fn equal_cost_paths_unite(rt: HostRuntime) -> Result<(), Fail> {
-    let trial = net(&rt)?;
-    let tree = trial.tree();
-    let n = has(tree, N, 10, &[BY_N, BY_PEER]);
-    let leaf = has(tree, LEAF, 10, &[BY_PEER, at(0xc000_0202)]);
-    assert!(rt; n && leaf && has(tree, PEER, 5, &[BY_PEER]) && has(tree, ROOT, 0, &[]));
+    assert!(rt; paths_unite(&rt)?);
     Ok(())
 }
 
 // Without the peer's link to N the next hops of N and the leaf differ, and the new link changes no more. N is
 // the head of both, and four links lead out of N and the leaf.
+const DEARER: Change<'static> = Change {
+    router: 3,
+    ways: &[(ROOT, 0xc633_6402, 5), (N, 0xc000_0203, 6)],
+    reached: &[
+        (N, 10, &[BY_N]),
+        (LEAF, 10, &[AT_LEAF]),
+        (PEER, 5, &[BY_PEER]),
+    ],
+    differ: &[LEAF, N],
+    bound: (3, 4),
+};
+
 #[test]
 fn a_dearer_link_takes_a_path_away(rt: HostRuntime) -> Result<(), Fail> {
-    let ways = [link(ROOT, 0xc633_6402, 5), link(N, 0xc000_0203, 6)];
-    let (trial, touched) = changed(&rt, 3, &ways)?;
-    let tree = trial.tree();
-    let n = has(tree, N, 10, &[BY_N]);
-    let leaf = has(tree, LEAF, 10, &[at(0xc000_0202)]);
-    let differ = tree.changed() == [LEAF, N].as_slice() && has(tree, PEER, 5, &[BY_PEER]);
-    assert!(rt; n && leaf && differ && is_within(touched, 3, 4) && touched.hop_sets >= 2);
+    assert!(rt; hop_sets(&rt, &DEARER)? >= Some(2));
     Ok(())
 }
 
 // The leaf is the head of the link with its old address and of that with the new one, and is not reached
 // without them; one link leads out of it, both times.
+const MOVED: Change<'static> = Change {
+    router: 2,
+    ways: &[(N, 0xc000_0204, 1)],
+    reached: &[(LEAF, 10, &[BY_PEER, NextHop::Router(1, 0xc000_0204)])],
+    differ: &[LEAF],
+    bound: (3, 2),
+};
+
 #[test]
 fn another_address_is_another_hop(rt: HostRuntime) -> Result<(), Fail> {
-    let (trial, touched) = changed(&rt, 2, &[link(N, 0xc000_0204, 1)])?;
-    let tree = trial.tree();
-    let leaf = has(tree, LEAF, 10, &[BY_PEER, at(0xc000_0204)]);
-    let differ = tree.changed() == [LEAF].as_slice();
-    assert!(rt; leaf && differ && is_within(touched, 3, 2));
+    assert!(rt; hop_sets(&rt, &MOVED)?.is_some());
     Ok(())
 }
 
 // The links between the root and the peer go, both ways. N, the leaf and the peer differ, and five links lead
 // out of them.
+const CUT: Change<'static> = Change {
+    router: 3,
+    ways: &[(N, 0xc000_0203, 5)],
+    reached: &[
+        (N, 10, &[BY_N]),
+        (LEAF, 10, &[AT_LEAF]),
+        (PEER, 10, &[AT_PEER]),
+    ],
+    differ: &[LEAF, PEER, N],
+    bound: (5, 5),
+};
+
 #[test]
 fn a_link_that_goes_leaves_the_longer_way(rt: HostRuntime) -> Result<(), Fail> {
-    let (trial, touched) = changed(&rt, 3, &[link(N, 0xc000_0203, 5)])?;
-    let tree = trial.tree();
-    let n = has(tree, N, 10, &[BY_N]);
-    let leaf = has(tree, LEAF, 10, &[at(0xc000_0202)]);
-    let peer = has(tree, PEER, 10, &[at(0xc000_0203)]);
-    let differ = tree.changed() == [LEAF, PEER, N].as_slice();
-    assert!(rt; n && leaf && peer && differ && is_within(touched, 5, 5));
+    assert!(rt; hop_sets(&rt, &CUT)?.is_some());
     Ok(())
 }
 
 // N and the leaf differ without the peer's link to N, and once more by the new one. N is the head of both,
 // and four links lead out of N and the leaf, both times.
+const CHEAPER: Change<'static> = Change {
+    router: 3,
+    ways: &[(ROOT, 0xc633_6402, 5), (N, 0xc000_0203, 4)],
+    reached: &[
+        (N, 9, &[BY_PEER]),
+        (LEAF, 9, &[BY_PEER]),
+        (PEER, 5, &[BY_PEER]),
+    ],
+    differ: &[LEAF, N],
+    bound: (5, 8),
+};
+
 #[test]
 fn a_cheaper_link_takes_all(rt: HostRuntime) -> Result<(), Fail> {
-    let ways = [link(ROOT, 0xc633_6402, 5), link(N, 0xc000_0203, 4)];
-    let (trial, touched) = changed(&rt, 3, &ways)?;
-    let tree = trial.tree();
-    let both = has(tree, N, 9, &[BY_PEER]) && has(tree, LEAF, 9, &[BY_PEER]);
-    let differ = tree.changed() == [LEAF, N].as_slice() && has(tree, PEER, 5, &[BY_PEER]);
-    assert!(rt; both && differ && is_within(touched, 5, 8));
+    assert!(rt; hop_sets(&rt, &CHEAPER)?.is_some());
     Ok(())
 }
 
+const PAIR_UPS: [Up; 2] = [Up { id: 1, address: 7 }, Up { id: 2, address: 8 }];
+
 // The root and the peer, where these are the links of the two.
-fn pair(rt: &HostRuntime, ways: &[Way], back: &[Way]) -> Result<Trial, Fail> {
-    let alloc = rt.alloc();
-    let (root, peer) = (router(alloc, 1, ways)?, router(alloc, 3, back)?);
-    let trial = Trial::new(alloc, 1, RandomState::new(rt)?)?;
-    let (trial, _) = trial.interfaces(alloc, &[up(1, 7), up(2, 8)])?;
-    let (trial, _) = trial.replace(alloc, ROOT, Some(&root))?;
-    let (trial, _) = trial.replace(alloc, PEER, Some(&peer))?;
-    Ok(trial)
+fn join(alloc: Global, trial: &mut Trial, ways: &[Way], back: &[Way]) -> Result<(), Fail> {
+    trial.interfaces(alloc, &PAIR_UPS)?;
+    put(alloc, trial, 1, ways)?;
+    put(alloc, trial, 3, back)?;
+    Ok(())
+}
+
+// The distance of the peer with these links back, and how many links lead out of it.
+fn with_links_back(rt: &HostRuntime, back: &[Way]) -> Result<(Option<u32>, usize), Fail> {
+    let mut trial = Trial::new(rt.alloc(), 1, RandomState::new(rt)?)?;
+    joined(rt.alloc(), &mut trial, back)
+}
+
+fn joined(alloc: Global, trial: &mut Trial, back: &[Way]) -> Result<(Option<u32>, usize), Fail> {
+    join(alloc, trial, &[(PEER, 7, 5)], back)?;
+    let links = trial.graph().links_from(PEER).len();
+    Ok((trial.tree().distance(PEER), links))
 }
 
 // The link back counts at any metric; at metric 0 it leads nowhere itself.
 #[test]
 fn a_link_counts_with_its_link_back(rt: HostRuntime) -> Result<(), Fail> {
-    let alone = pair(&rt, &[link(PEER, 7, 5)], &[])?;
-    let free = pair(&rt, &[link(PEER, 7, 5)], &[link(ROOT, 9, 0)])?;
-    let away = alone.tree().distance(PEER).is_none();
-    let reached = free.tree().distance(PEER) == Some(5);
-    assert!(rt; away && reached && free.graph().links_from(PEER).is_empty());
+    let (away, _) = with_links_back(&rt, &[])?;
+    let free = with_links_back(&rt, &[(ROOT, 9, 0)])?;
+    assert!(rt; away.is_none() && free == (Some(5), 0));
     Ok(())
+}
+
+const PARALLEL: Reached = (PEER, 5, &[NextHop::Peer(1), NextHop::Peer(2)]);
+
+// Whether a tree that is built of the graph has the peers, and one set of next hops was written for it.
+fn has_built(rt: &HostRuntime, graph: &Graph) -> Result<bool, Fail> {
+    let (tree, touched) = Tree::build(rt.alloc(), graph, RandomState::new(rt)?)?;
+    let work = touched.taken >= 1 && touched.hop_sets == 1;
+    Ok(work && has(&tree, PARALLEL) && !tree.spent())
+}
+
+// Whether both trees have the peers.
+fn are_peers(rt: &HostRuntime, trial: &mut Trial) -> Result<bool, Fail> {
+    let ways = [(PEER, 7, 5), (PEER, 8, 5)];
+    join(rt.alloc(), trial, &ways, &[(ROOT, 9, 65535)])?;
+    Ok(has_built(rt, trial.graph())? && has(trial.tree(), PARALLEL))
+}
+
+fn links_are_peers(rt: &HostRuntime) -> Result<bool, Fail> {
+    let mut trial = Trial::new(rt.alloc(), 1, RandomState::new(rt)?)?;
+    are_peers(rt, &mut trial)
 }
 
 #[test]
 fn parallel_links_are_two_peers(rt: HostRuntime) -> Result<(), Fail> {
-    let ways = [link(PEER, 7, 5), link(PEER, 8, 5)];
-    let trial = pair(&rt, &ways, &[link(ROOT, 9, 65535)])?;
-    let (tree, touched) = Tree::build(rt.alloc(), trial.graph(), RandomState::new(&rt)?)?;
-    let peers = [NextHop::Peer(1), NextHop::Peer(2)];
-    let both = has(trial.tree(), PEER, 5, &peers) && has(&tree, PEER, 5, &peers);
-    assert!(rt; both && touched.taken >= 1 && touched.hop_sets == 1 && !tree.spent());
+    assert!(rt; links_are_peers(&rt)?);
     Ok(())
+}
+
+const WITH_LEAF: Reached = (LEAF, 10, &[BY_PEER, AT_LEAF]);
+
+// Whether the leaf goes with another network-LSA, and comes again with the first one.
+fn goes_and_comes(alloc: Global, trial: &mut Trial) -> Result<bool, Fail> {
+    connect(alloc, trial)?;
+    list(alloc, trial, &[3, 1])?;
+    let away = trial.tree().distance(LEAF).is_none();
+    list(alloc, trial, &[2, 1, 3])?;
+    let changed = trial.tree().changed() == [LEAF].as_slice();
+    Ok(away && changed && has(trial.tree(), WITH_LEAF))
+}
+
+fn leaf_goes_and_comes(rt: &HostRuntime) -> Result<bool, Fail> {
+    let mut trial = Trial::new(rt.alloc(), 1, RandomState::new(rt)?)?;
+    goes_and_comes(rt.alloc(), &mut trial)
 }
 
 // Another router's network-LSA comes to stand for N, and does not list the leaf; then the first one does
 // again.
 #[test]
 fn another_network_lsa_stands_for_a_network(rt: HostRuntime) -> Result<(), Fail> {
-    let alloc = rt.alloc();
-    let (greater, lesser) = (
-        network(alloc, LAN, &[3, 1])?,
-        network(alloc, LAN, &[2, 1, 3])?,
-    );
-    let (trial, _) = net(&rt)?.replace(alloc, N, Some(&greater))?;
-    let away = trial.tree().distance(LEAF).is_none();
-    let (trial, _) = trial.replace(alloc, N, Some(&lesser))?;
-    let differ = trial.tree().changed() == [LEAF].as_slice();
-    assert!(rt; away && differ && has(trial.tree(), LEAF, 10, &[BY_PEER, at(0xc000_0202)]));
+    assert!(rt; leaf_goes_and_comes(&rt)?);
     Ok(())
+}
+
+const LONGER: Reached = (PEER, 10, &[AT_PEER]);
+
+// Whether the tree is spent and answers nothing, and a build makes another.
+fn is_rebuilt(rt: &HostRuntime, trial: &Trial) -> Result<bool, Fail> {
+    let tree = trial.tree();
+    let blank = tree.distance(N).is_none() && tree.hops(LEAF).is_empty();
+    let blank = blank && tree.changed().is_empty() && tree.spent();
+    let (built, _) = Tree::build(rt.alloc(), trial.graph(), RandomState::new(rt)?)?;
+    Ok(blank && has(&built, LONGER) && !built.spent())
+}
+
+// The peer's link to the root goes.
+fn cut(alloc: Global, trial: &mut Trial) -> Result<Result<Touched, Memory>, Fail> {
+    let lsa = router(alloc, 3, CUT.ways)?;
+    Ok(trial.replace(alloc, &[(PEER, Some(&lsa))]))
+}
+
+// Whether the tree is that of the longer way, or is spent. A graph that is refused memory stays as it was.
+fn is_cut(rt: &HostRuntime, trial: &mut Trial) -> Result<bool, Fail> {
+    connect(rt.alloc(), trial)?;
+    let touched = cut(rt.alloc(), trial)?;
+    if trial.graph().links_from(PEER).len() == 2 {
+        touched?;
+    }
+    match touched {
+        Ok(_) => Ok(has(trial.tree(), LONGER) && !trial.tree().spent()),
+        Err(_) => is_rebuilt(rt, trial),
+    }
+}
+
+fn link_is_cut(rt: &HostRuntime) -> Result<bool, Fail> {
+    let mut trial = Trial::new(rt.alloc(), 1, RandomState::new(rt)?)?;
+    is_cut(rt, &mut trial)
 }
 
 // A repair that is refused memory leaves a spent tree, which answers nothing; a build makes another.
 #[test]
 fn a_refused_repair_spends_the_tree(rt: HostRuntime) -> Result<(), Fail> {
-    let alloc = rt.alloc();
-    let peer = router(alloc, 3, &[link(N, 0xc000_0203, 5)])?;
-    let (graph, mut tree, touched) = net(&rt)?.replace_apart(alloc, PEER, Some(&peer))?;
-    if touched.is_err() {
-        let blank = tree.distance(N).is_none() && tree.hops(LEAF).is_empty();
-        assert!(rt; tree.spent() && blank && tree.changed().is_empty());
-        tree = Tree::build(alloc, &graph, RandomState::new(&rt)?)?.0;
-    }
-    assert!(rt; has(&tree, PEER, 10, &[at(0xc000_0203)]) && !tree.spent());
+    assert!(rt; link_is_cut(&rt)?);
     Ok(())
 }

@@ -1,9 +1,8 @@
 //! A graph and its tree, which stay together through each change.
-ghost use Rattle.std.specs.Prelude.{◌<◌, IfOk, OnOk};
+ghost use Rattle.std.specs.Prelude.{◌≡◌, ◌<◌, IfOk, OnOk, OnErr};
 ghost use Rattle.std.specs.FinMap as map;
-ghost use Rattle.vertex_graph.specs.Graphs.{HasEnds};
-ghost use Rattle.spf.specs.TreeValues.{IsTreeOf};
-ghost use Rattle.tree_trials.specs.Changes.{AreChangesTo};
+ghost use Rattle.vertex_graph.specs.Graphs.{HasEnds, AreApartHanded, AreFewAfter, handed_of};
+ghost use Rattle.tree_trials.specs.Changes.{AreTogether, AreChangesOf, AreChangesTo};
 
 use lsa_codec::Checked;
 use ospf_types::entry::Vertex;
@@ -12,7 +11,6 @@ use spf::{Touched, Tree};
 use std::alloc::Global;
 use std::hash::RandomState;
 use std::marker::Model;
-use std::test::Fail;
 use vertex_graph::{Graph, LinkChanges, Up};
 
 /// A graph and the tree of its links.
@@ -24,18 +22,18 @@ pub(crate) struct Trial {
 
 impl Model for Trial {
     ghost use Rattle.std.specs.Prelude.{ℕ};
-    ghost use Rattle.spf.specs.TreeValues.{IsTreeOf};
+    ghost use Rattle.tree_trials.specs.Changes.{AreTogether};
 
     ghost Value = { ℕ };
 
     ghost view = { λ t. t.graph.root };
 
-    ghost invariant = { λ t. IsTreeOf t.graph t.tree };
+    ghost invariant = { λ t. AreTogether t.graph t.tree };
 }
 
 impl Trial {
     /// The trial of a router, with no vertex and no interface.
-    pub(crate) fn new(alloc: Global, root: u32, hashing: RandomState) -> Result<Trial, Fail> {
+    pub(crate) fn new(alloc: Global, root: u32, hashing: RandomState) -> Result<Trial, Memory> {
         let graph = Graph::new(alloc, root, hashing);
         let (tree, _) = Tree::build(alloc, &graph, hashing)?;
         Ok(Trial { graph, tree })
@@ -49,76 +47,90 @@ impl Trial {
         &self.tree
     }
 
-    /// The trial after another LSA of one vertex, or none, and the work of the repair.
+    /// Hands in another LSA of one vertex or of two, or none, and answers the work of the repair. Where the graph is
+    /// refused memory it stays as it was; where the repair is, the tree is spent. A graph of a thousand vertices gets none.
     pub(crate) fn replace(
-        self,
+        &mut self,
         alloc: Global,
-        vertex: Vertex,
-        lsa: Option<&Checked>,
-    ) -> Result<(Trial, Touched), Fail> {
-        let (graph, tree, touched) = self.replace_apart(alloc, vertex, lsa)?;
-        let touched = touched?;
-        Ok((Trial { graph, tree }, touched))
+        lsas: &[(Vertex, Option<&Checked>)],
+    ) -> Result<Touched, Memory> {
+        replace(alloc, &mut self.graph, &mut self.tree, lsas)
     }
 
-    /// The same, where the repair may be refused memory: then the tree is spent.
-    pub(crate) fn replace_apart(
-        self,
-        alloc: Global,
-        vertex: Vertex,
-        lsa: Option<&Checked>,
-    ) -> Result<(Graph, Tree, Result<Touched, Memory>), Fail>
-        ensures { IfOk result (λ parts. OnOk parts.2 (IsTreeOf parts.0 parts.1)) }
-    {
-        let (mut graph, mut tree) = (self.graph, self.tree);
-        test_size(&graph)?;
-        let changes = graph.replace(vertex, lsa)?;
-        let touched = repair(alloc, &graph, &mut tree, &changes);
-        Ok((graph, tree, touched))
-    }
-
-    /// The trial after other LSAs of two vertices at once.
-    pub(crate) fn replace_both(
-        self,
-        alloc: Global,
-        first: (Vertex, &Checked),
-        second: (Vertex, &Checked),
-    ) -> Result<(Trial, Touched), Fail> {
-        if first.0 == second.0 {
-            return Err(Fail::from("one vertex"));
-        }
-        let (mut graph, mut tree) = (self.graph, self.tree);
-        test_size(&graph)?;
-        let lsas = [(first.0, Some(first.1)), (second.0, Some(second.1))];
-        let changes = graph.replace_all(&lsas)?;
-        let touched = repair(alloc, &graph, &mut tree, &changes)?;
-        Ok((Trial { graph, tree }, touched))
-    }
-
-    /// The trial with these interfaces, and the work of the repair.
-    pub(crate) fn interfaces(
-        self,
-        alloc: Global,
-        interfaces: &[Up],
-    ) -> Result<(Trial, Touched), Fail> {
-        let (mut graph, mut tree) = (self.graph, self.tree);
-        test_size(&graph)?;
-        let changes = graph.interfaces(interfaces)?;
-        let touched = repair(alloc, &graph, &mut tree, &changes)?;
-        Ok((Trial { graph, tree }, touched))
+    /// Takes these as the interfaces that are up.
+    pub(crate) fn interfaces(&mut self, alloc: Global, ups: &[Up]) -> Result<Touched, Memory> {
+        interfaces(alloc, &mut self.graph, &mut self.tree, ups)
     }
 }
 
-// That the graph is a small one.
-fn test_size(graph: &Graph) -> Result<(), Fail>
-    ensures few { OnOk result (map.len graph.now.ends < 1000) }
+fn replace(
+    alloc: Global,
+    graph: &mut Graph,
+    tree: &mut Tree,
+    lsas: &[(Vertex, Option<&Checked>)],
+) -> Result<Touched, Memory>
+    requires { AreTogether graph.old tree.old }
+    ensures { AreTogether graph.new tree.new }
+{
+    let changes = hand_in(graph, lsas)?;
+    repair(alloc, graph, tree, &changes)
+}
+
+fn interfaces(
+    alloc: Global,
+    graph: &mut Graph,
+    tree: &mut Tree,
+    ups: &[Up],
+) -> Result<Touched, Memory>
+    requires { AreTogether graph.old tree.old }
+    ensures { AreTogether graph.new tree.new }
+{
+    let changes = put_up(graph, ups)?;
+    repair(alloc, graph, tree, &changes)
+}
+
+/// Hands in LSAs of one or two vertices of a small graph.
+pub(crate) fn hand_in(
+    graph: &mut Graph,
+    lsas: &[(Vertex, Option<&Checked>)],
+) -> Result<LinkChanges, Memory>
+    ensures changes { IfOk result (λ changes. AreChangesOf graph.old graph.new changes.gone.items changes.came.items) }
+    ensures unchanged { OnErr result (graph.new ≡ graph.old) }
+{
+    test_apart(lsas)?;
+    test_size(graph, lsas)?;
+    graph.replace_all(lsas)
+}
+
+fn put_up(graph: &mut Graph, ups: &[Up]) -> Result<LinkChanges, Memory>
+    ensures changes { IfOk result (λ changes. AreChangesOf graph.old graph.new changes.gone.items changes.came.items) }
+    ensures unchanged { OnErr result (graph.new ≡ graph.old) }
+{
+    let _ = graph.root();
+    graph.interfaces(ups)
+}
+
+// Memory for LSAs of one vertex or of two.
+fn test_apart(lsas: &[(Vertex, Option<&Checked>)]) -> Result<(), Memory>
+    ensures { OnOk result (AreApartHanded (handed_of lsas.now)) }
+{
+    match lsas {
+        [_] => Ok(()),
+        [first, second] if first.0 != second.0 => Ok(()),
+        _ => Err(Memory),
+    }
+}
+
+// Memory for a small graph.
+pub(crate) fn test_size(graph: &Graph, lsas: &[(Vertex, Option<&Checked>)]) -> Result<(), Memory>
+    ensures few { OnOk result (AreFewAfter graph.now (handed_of lsas.now)) }
     ensures ends { OnOk result (HasEnds graph.now) }
 {
     let _ = graph.root();
-    if graph.len() < 1000 {
+    if graph.len() < 1000 && lsas.len() < 1000 {
         return Ok(());
     }
-    Err(Fail::from("a thousand vertices"))
+    Err(Memory)
 }
 
 fn repair(
@@ -128,8 +140,11 @@ fn repair(
     changes: &LinkChanges,
 ) -> Result<Touched, Memory>
     requires { AreChangesTo graph.now changes.now.gone.items changes.now.came.items tree.old }
-    ensures { OnOk result (IsTreeOf graph.now tree.new) }
+    ensures { AreTogether graph.now tree.new }
 {
     let _ = graph.root();
+    if tree.spent() {
+        return Err(Memory);
+    }
     tree.repair(alloc, graph, changes)
 }

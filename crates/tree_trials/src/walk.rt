@@ -1,6 +1,6 @@
 //! A graph and a tree through many changes at random: LSAs come, change and go, interfaces come up and go
 //! down. After each change the repaired tree is the one that is built.
-use crate::network::{Way, link, network, router, up};
+use crate::network::{Way, network, router};
 use crate::trial::Trial;
 use lsa_codec::Checked;
 use ospf_types::entry::Vertex;
@@ -8,6 +8,7 @@ use spf::Tree;
 use std::alloc::Global;
 use std::hash::RandomState;
 use std::test::Fail;
+use vertex_graph::Up;
 
 // Numbers that look random (xorshift).
 #[derive(Drop)]
@@ -52,7 +53,7 @@ fn address(router: u32, place: u32) -> u32 {
 // A link at a metric from 0 to 3.
 fn link_from(numbers: &mut Numbers, id: u32, place: u32) -> Way {
     let metric = u16::try_from(numbers.below(4)).unwrap_or(1);
-    link(vertex_at(place), address(id, place), metric)
+    (vertex_at(place), address(id, place), metric)
 }
 
 fn router_lsa(alloc: Global, numbers: &mut Numbers, id: u32) -> Result<Checked, Fail> {
@@ -77,7 +78,7 @@ fn network_lsa(alloc: Global, numbers: &mut Numbers, id: u32) -> Result<Checked,
 }
 
 // One or two vertices get another LSA, or one gets none, or the interfaces change.
-fn change(alloc: Global, numbers: &mut Numbers, trial: Trial) -> Result<Trial, Fail> {
+fn change(alloc: Global, numbers: &mut Numbers, trial: &mut Trial) -> Result<(), Fail> {
     if numbers.one_in(8) {
         interfaces(alloc, numbers, trial)
     } else if numbers.one_in(2) {
@@ -87,33 +88,34 @@ fn change(alloc: Global, numbers: &mut Numbers, trial: Trial) -> Result<Trial, F
     }
 }
 
-fn replace(alloc: Global, numbers: &mut Numbers, trial: Trial) -> Result<Trial, Fail> {
+fn replace(alloc: Global, numbers: &mut Numbers, trial: &mut Trial) -> Result<(), Fail> {
     let vertex = vertex_at(numbers.below(10));
     let lsa = lsa(alloc, numbers, vertex)?;
     let lsa = (!numbers.one_in(4)).then_some(&lsa);
-    let (trial, _) = trial.replace(alloc, vertex, lsa)?;
-    Ok(trial)
+    trial.replace(alloc, &[(vertex, lsa)])?;
+    Ok(())
 }
 
-fn replace_both(alloc: Global, numbers: &mut Numbers, trial: Trial) -> Result<Trial, Fail> {
+fn replace_both(alloc: Global, numbers: &mut Numbers, trial: &mut Trial) -> Result<(), Fail> {
     let place = numbers.below(10);
     let other = place.wrapping_add(numbers.below(9)).wrapping_add(1) % 10;
     let (first, second) = (vertex_at(place), vertex_at(other));
-    let first_lsa = lsa(alloc, numbers, first)?;
-    let second_lsa = lsa(alloc, numbers, second)?;
-    let (trial, _) = trial.replace_both(alloc, (first, &first_lsa), (second, &second_lsa))?;
-    Ok(trial)
+    let (one, two) = (lsa(alloc, numbers, first)?, lsa(alloc, numbers, second)?);
+    trial.replace(alloc, &[(first, Some(&one)), (second, Some(&two))])?;
+    Ok(())
 }
 
 // Most interfaces of the root are up, each with the place of the neighbour that it leads to.
-fn interfaces(alloc: Global, numbers: &mut Numbers, trial: Trial) -> Result<Trial, Fail> {
+fn interfaces(alloc: Global, numbers: &mut Numbers, trial: &mut Trial) -> Result<(), Fail> {
     let mut ups = Vec::new(alloc);
     for id in 0..10 {
         if !numbers.one_in(5) {
-            ups.push(up(id, address(1, u32::from(id))))?;
+            let address = address(1, u32::from(id));
+            ups.push(Up { id, address })?;
         }
     }
-    Ok(trial.interfaces(alloc, &ups)?.0)
+    trial.interfaces(alloc, &ups)?;
+    Ok(())
 }
 
 // Whether both trees have the same distance and next hops for the vertex.
@@ -136,64 +138,65 @@ fn is_right(alloc: Global, repaired: &Tree, built: &Tree, before: &Tree) -> Resu
     Ok(all && repaired.changed() == differ.as_slice())
 }
 
-// The tree that is built of the graph, where the repaired one is right.
-fn rebuilt(
+// How many vertices a change changed, where the tree that is built then is the repaired one.
+fn changed(
     alloc: Global,
     hashing: RandomState,
     trial: &Trial,
     before: &Tree,
-) -> Result<Tree, Fail> {
+) -> Result<usize, Fail> {
     let (built, _) = Tree::build(alloc, trial.graph(), hashing)?;
-    if is_right(alloc, trial.tree(), &built, before)? {
-        return Ok(built);
+    differing(alloc, trial.tree(), &built, before)
+}
+
+fn differing(alloc: Global, repaired: &Tree, built: &Tree, before: &Tree) -> Result<usize, Fail> {
+    if is_right(alloc, repaired, built, before)? {
+        return Ok(repaired.changed().len());
     }
     Err(Fail::from("another tree"))
 }
 
-// A trial, the tree that is built of its graph, and how often a vertex differed so far.
-#[derive(Drop)]
-struct Walk {
-    numbers: Numbers,
-    trial: Trial,
-    built: Tree,
-    differed: usize,
+// A step of the walk, from the tree that is built before it.
+fn step(
+    alloc: Global,
+    hashing: RandomState,
+    numbers: &mut Numbers,
+    trial: &mut Trial,
+) -> Result<usize, Fail> {
+    let (before, _) = Tree::build(alloc, trial.graph(), hashing)?;
+    step_from(alloc, hashing, numbers, trial, &before)
 }
 
-impl Walk {
-    fn new(alloc: Global, hashing: RandomState) -> Result<Walk, Fail> {
-        let trial = Trial::new(alloc, 1, hashing)?;
-        let (built, _) = Tree::build(alloc, trial.graph(), hashing)?;
-        let numbers = Numbers(0x9e37_79b9_7f4a_7c15);
-        let differed = 0;
-        Ok(Walk {
-            numbers,
-            trial,
-            built,
-            differed,
-        })
-    }
+fn step_from(
+    alloc: Global,
+    hashing: RandomState,
+    numbers: &mut Numbers,
+    trial: &mut Trial,
+    before: &Tree,
+) -> Result<usize, Fail> {
+    change(alloc, numbers, trial)?;
+    changed(alloc, hashing, trial, before)
+}
 
-    fn step(self, alloc: Global, hashing: RandomState) -> Result<Walk, Fail> {
-        let (mut numbers, before) = (self.numbers, self.built);
-        let trial = change(alloc, &mut numbers, self.trial)?;
-        let built = rebuilt(alloc, hashing, &trial, &before)?;
-        let differed = self.differed.wrapping_add(trial.tree().changed().len());
-        Ok(Walk {
-            numbers,
-            trial,
-            built,
-            differed,
-        })
+// How often a vertex differs in 400 steps.
+fn walk(alloc: Global, hashing: RandomState, trial: &mut Trial) -> Result<usize, Fail> {
+    let mut numbers = Numbers(0x9e37_79b9_7f4a_7c15);
+    let mut differed = 0usize;
+    for _ in 0..400 {
+        let changed = step(alloc, hashing, &mut numbers, trial)?;
+        differed = differed.wrapping_add(changed);
     }
+    Ok(differed)
+}
+
+fn walk_from_nothing(rt: &HostRuntime) -> Result<usize, Fail> {
+    let hashing = RandomState::new(rt)?;
+    let mut trial = Trial::new(rt.alloc(), 1, hashing)?;
+    walk(rt.alloc(), hashing, &mut trial)
 }
 
 #[test]
 fn a_repaired_tree_is_the_one_that_is_built(rt: HostRuntime) -> Result<(), Fail> {
-    let (alloc, hashing) = (rt.alloc(), RandomState::new(&rt)?);
-    let mut walk = Walk::new(alloc, hashing)?;
-    for _ in 0..400 {
-        walk = walk.step(alloc, hashing)?;
-    }
-    assert!(rt; walk.differed > 400);
+    assert!(rt; walk_from_nothing(&rt)? > 400);
     Ok(())
 }

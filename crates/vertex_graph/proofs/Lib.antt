@@ -19,4 +19,3 @@ pub mod Details
 pub mod Pairing
 pub mod Deciding
 pub mod GraphViews
-pub mod Counting

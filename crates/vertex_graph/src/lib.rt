@@ -19,6 +19,3 @@ mod staging;
 pub use end::End;
 pub use graph::Graph;
 pub use link::{Link, LinkChanges, Up};
-
-#[cfg(test)]
-mod tests;

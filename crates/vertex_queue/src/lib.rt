@@ -6,6 +6,3 @@ mod queue;
 mod waiting;
 
 pub use queue::Queue;
-
-#[cfg(test)]
-mod tests;

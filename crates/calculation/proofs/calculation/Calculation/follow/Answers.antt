@@ -1,13 +1,11 @@
 use Rattle.std.proofs.Common.{◌≡◌, ℕ, List, length, sym, ap, subst, ◌∙◌}
-use Rattle.std.specs.Prelude.{◌↔◌, Contains}
-use Rattle.ospf_types.specs.declared.key.Dest.{Dest}
-use Rattle.ospf_types.specs.declared.key.Dest.TheVariants.{Net}
 use Rattle.ospf_types.specs.declared.key.Key.{Key}
 use Rattle.ospf_types.specs.declared.key.Scope.{Scope}
 use Rattle.area_trees.specs.Areas.{AreaTreeValue}
 use Rattle.intra.specs.Changes.{InputsDifferAmong}
 use Rattle.event_state.proofs.InPlace.{items_of_slice}
 use Rattle.calculation.specs.Calculations.{CalculationValue, IsCalculationOf, IsItemOf, inputs_with, AreTreesOf, StatesDifferAmong}
+use Rattle.calculation.specs.Due.{RoutesDifferAmong}
 use Rattle.calculation.proofs.Followed.{followed_long, followed_trees, followed_inputs, followed_work}
 use Rattle.calculation.proofs.calculation.Calculation.follow.Goals as goal
 
@@ -47,16 +45,18 @@ follow_layers-requires-clause-before c =
           (subst (λ (trees : List AreaTreeValue). InputsDifferAmong c.args.keys.items vertices c.args.ids.items (inputs_with b.0 trees) (inputs_with s new)) c.deref_mut.ensures.value differ),
     )
 
-pub returns-clause-enough : goal.returns-clause-enough
-returns-clause-enough c =
-    let networks = c.in_ok-networks_of.field-0.items in
-    λ p item not is.
-    let among = subst (λ (dests : List Dest). Contains networks p ↔ Contains dests (Net p)) c.deref-3.ensures.value (c.in_ok-networks_of.ensures.exact p) in
-    c.in_ok-follow_layers.ensures.enough p item (λ named. not (among.1 named)) (subst (λ (k : CalculationValue). IsItemOf k p item) (sym c.self.view_is) is)
+pub returns-clause-items : goal.returns-clause-items
+returns-clause-items c = λ p item not is. c.in_ok-networks.ensures.items p item not (subst (λ (k : CalculationValue). IsItemOf k p item) (sym c.self.view_is) is)
+
+pub returns-clause-routes : goal.returns-clause-routes
+returns-clause-routes c =
+    let routes = c.in_ok-networks.ensures.routes in
+    subst (λ (k : CalculationValue). RoutesDifferAmong c.follow_layers.new.dirty.dests.items k c.follow_layers.new.self) c.self.view_is
+    (record { intra = routes.intra; members = routes.members; inter = routes.inter; preferred = routes.preferred })
 
 pub returns-clause-work : goal.returns-clause-work
 returns-clause-work c =
     let old : c.args.self.now.trees ≡ c.deref_mut.result.now = ap (λ (k : CalculationValue). k.trees) (sym c.self.view_is) ∙ sym c.deref_mut.ensures.value in
     λ before is differ.
     followed_work before c.args.state.now c.args.keys.items c.args.ids.items differ c.deref_mut.result.now c.follow_trees.new.trees c.follow_trees.new.vertices.items c.in_ok-work.work c.in_ok-work.ensures
-    is.fit c.in_ok-follow_layers.ensures.right.fit (subst (λ (trees : List AreaTreeValue). AreTreesOf before before.config.areas trees) old is.trees)
+    is.fit c.in_ok-networks.ensures.right.fit (subst (λ (trees : List AreaTreeValue). AreTreesOf before before.config.areas trees) old is.trees)

@@ -1,4 +1,6 @@
 use Rattle.std.proofs.Common.{◌≡◌, ◌++◌, List, map, sym, ap, subst, ◌∙◌}
+use Rattle.std.specs.Prelude.{◌↔◌}
+use Rattle.std.specs.List.{Contains}
 use Rattle.ospf_types.specs.declared.config.AreaConfig.{AreaConfig}
 use Rattle.ospf_types.specs.declared.config.Config.{Config}
 use Rattle.ospf_types.specs.declared.key.Dest.{Dest}
@@ -10,9 +12,10 @@ use Rattle.summaries.specs.Active.{AreRangesOf, EntriesDifferAmong}
 use Rattle.summaries.specs.Right.{AreConfigured}
 use Rattle.event_state.specs.States.{inputs_of}
 use Rattle.calculation.specs.Calculations.{CalculationValue, AreItemsKept, AreTreesOf, inputs_with}
-use Rattle.calculation.specs.Followed.{AreLayersBehind}
+use Rattle.calculation.specs.Due.{RoutesDifferAmong}
+use Rattle.calculation.specs.Followed.{AreLayersBehind, routers_in}
 use Rattle.calculation.proofs.Above.{configured}
-use Rattle.calculation.proofs.Following.{ranges_before, inter_before, external_before, items_kept}
+use Rattle.calculation.proofs.Following.{ranges_before, inter_before, external_before, items_kept, routes_kept}
 use Rattle.calculation.proofs.calculation.Calculation.follow_layers.Goals as goal
 
 pub update-requires : goal.update-requires
@@ -97,12 +100,17 @@ returns-clause-right c =
       examined_is = inter.1;
       inter = inter.2;
       between = c.in_ok-dests-2.ensures.right;
-      external = c.in_ok-dests-3.ensures.kept;
-      outside = c.in_ok-dests-3.ensures.right;
+      external = c.in_ok-all.ensures.kept;
+      outside = c.in_ok-all.ensures.right;
     }
 
-pub returns-clause-enough : goal.returns-clause-enough
-returns-clause-enough c =
+-- what is kept at the end
+abbrev now : goal.After-drop-ranges-2 → CalculationValue
+now c = record { trees = c.self.inside.trees.items; intra = c.follow_intra.new.intra; active = c.update.new.self; inter = c.follow_inter.new.inter; external = c.follow_external.new.external }
+
+-- a network that no layer named has its item still, and what is due rests on the same routes
+layers_kept : (c : goal.After-drop-ranges-2) → AreItemsKept c.in_ok-networks.networks.items c.args.self.now (now c) × RoutesDifferAmong c.push_routers.new.dests.items c.args.self.now (now c)
+layers_kept c =
     let s = c.args.state.now in
     let k : CalculationValue = record { trees = c.self.inside.trees.items; intra = c.self.inside.intra; active = c.self.inside.active; inter = c.self.inside.inter; external = c.self.inside.external } in
     let b : AreLayersBehind s c.args.dirty.now k = subst (AreLayersBehind s c.args.dirty.now) (sym c.self.view_is) c.requires.before in
@@ -113,7 +121,21 @@ returns-clause-enough c =
     let dests : List Dest = c.in_ok-dests.dests.items in
     let below : c.push_networks.new.dests.items ≡ dests ++ map Net c.in_ok-ranges.ranges.items = c.in_ok-push_networks.ensures ∙ ap (λ (ps : List Prefix). dests ++ map Net ps) c.deref-3.ensures.value in
     let more : c.extend_from_slice.new.self.items ≡ c.push_networks.new.dests.items ++ c.in_ok-dests-2.dests.items = c.in_ok-extend_from_slice.ensures.items ∙ ap (λ (ds : List Dest). c.push_networks.new.dests.items ++ ds) c.deref-4.ensures.value in
-    let last : c.extend_from_slice-2.new.self.items ≡ c.extend_from_slice.new.self.items ++ c.in_ok-dests-3.dests.items = c.in_ok-extend_from_slice-2.ensures.items ∙ ap (λ (ds : List Dest). c.extend_from_slice.new.self.items ++ ds) c.deref-5.ensures.value in
-    let now : CalculationValue = record { trees = k.trees; intra = intra; active = c.update.new.self; inter = c.follow_inter.new.inter; external = c.follow_external.new.external } in
-    subst (λ (v : CalculationValue). AreItemsKept c.extend_from_slice-2.new.self.items v now) c.self.view_is
-    (items_kept b.0 s c.args.dirty.now.keys.items c.args.dirty.now.interfaces.items b.3 old b.2 k.trees grown intra kept dests c.in_ok-dests.ensures.exact c.update.new.self c.in_ok-ranges.ranges.items c.in_ok-ranges.ensures.exact c.push_networks.new.dests.items below c.follow_inter.new.inter c.in_ok-dests-2.dests.items c.in_ok-dests-2.ensures.exact c.extend_from_slice.new.self.items more c.follow_external.new.external c.in_ok-dests-3.dests.items c.in_ok-dests-3.ensures.exact c.extend_from_slice-2.new.self.items last)
+    let last : List Dest = c.in_ok-all.all.items in
+    let over : c.push_routers.new.dests.items ≡ c.extend_from_slice.new.self.items ++ routers_in last = c.in_ok-push_routers.ensures ∙ ap (λ (ds : List Dest). c.extend_from_slice.new.self.items ++ routers_in ds) c.deref-5.ensures.value in
+    let all : c.extend_from_slice-2.new.self.items ≡ last ++ c.push_routers.new.dests.items = c.in_ok-extend_from_slice-2.ensures.items ∙ ap (λ (ds : List Dest). last ++ ds) c.deref-6.ensures.value in
+    let listed : c.as_slice-areas.result.now ≡ s.config.areas = c.as_slice-areas.ensures ∙ ap (λ (x : Config). x.areas) c.config.ensures.value in
+    let ranges : AreRangesOf s.config.areas intra.entries c.update.new.self = subst (λ (areas : List AreaConfig). AreRangesOf areas intra.entries c.update.new.self) listed c.in_ok-ranges.ensures.kept in
+    let exact : (p : Prefix) → Contains c.in_ok-networks.networks.items p ↔ Contains c.extend_from_slice-2.new.self.items (Net p) = λ p.
+    subst (λ (ds : List Dest). Contains c.in_ok-networks.networks.items p ↔ Contains ds (Net p)) c.deref-7.ensures.value (c.in_ok-networks.ensures.exact p) in
+    let routes = routes_kept b.0 s c.args.dirty.now.keys.items c.args.dirty.now.interfaces.items b.3 old b.2 k.trees grown intra kept dests c.in_ok-dests.ensures.exact c.update.new.self c.in_ok-ranges.ranges.items c.in_ok-ranges.ensures.exact c.push_networks.new.dests.items below c.follow_inter.new.inter c.in_ok-dests-2.dests.items c.in_ok-dests-2.ensures.exact c.extend_from_slice.new.self.items more c.follow_external.new.external last c.in_ok-all.ensures.exact c.push_routers.new.dests.items over ranges in
+    subst (λ (v : CalculationValue). AreItemsKept c.in_ok-networks.networks.items v (now c) × RoutesDifferAmong c.push_routers.new.dests.items v (now c)) c.self.view_is (
+      items_kept b.0 s c.args.dirty.now.keys.items c.args.dirty.now.interfaces.items b.3 old b.2 k.trees grown intra kept dests c.in_ok-dests.ensures.exact c.update.new.self c.in_ok-ranges.ranges.items c.in_ok-ranges.ensures.exact c.push_networks.new.dests.items below c.follow_inter.new.inter c.in_ok-dests-2.dests.items c.in_ok-dests-2.ensures.exact c.extend_from_slice.new.self.items more c.follow_external.new.external last c.in_ok-all.ensures.exact c.push_routers.new.dests.items over c.extend_from_slice-2.new.self.items all c.in_ok-networks.networks.items exact,
+      record { intra = routes.intra; members = routes.members; inter = routes.inter; preferred = routes.preferred },
+    )
+
+pub returns-clause-items : goal.returns-clause-items
+returns-clause-items c = (layers_kept c).0
+
+pub returns-clause-routes : goal.returns-clause-routes
+returns-clause-routes c = (layers_kept c).1

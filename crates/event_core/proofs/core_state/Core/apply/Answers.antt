@@ -43,6 +43,7 @@ outcome c =
             anew = on_ok_weaker result (λ right. λ behind. absurd (behind (w.if-is_current.true ∙ serial))) did.right;
             unnamed = on_ok_weaker result (λ right. λ behind. absurd (behind (w.if-is_current.true ∙ serial))) did.right;
             unchanged = did.unchanged;
+            due = did.due;
             work = did.work;
             changes = did.changes;
           } in
@@ -62,6 +63,7 @@ outcome c =
             anew = on_ok_weaker result (λ built. λ behind. built) did.built;
             unnamed = on_ok_weaker result (λ right. λ behind. did.changes) did.right;
             unchanged = did.unchanged;
+            due = did.due;
             work = did.work;
             changes = on_err_weaker result (λ work. did.changes) did.work;
           } in

@@ -1,7 +1,9 @@
 use Rattle.std.proofs.Common.{List, sym, ap, subst, ◌∙◌}
 use Rattle.std.specs.Map.{keys_of}
+use Rattle.ospf_types.specs.declared.key.Dest.{Dest}
 use Rattle.ospf_types.specs.declared.prefix.Prefix.{Prefix}
 use Rattle.calculation.specs.Calculations.{IsCalculationOf, IsTableOf}
+use Rattle.calculation.specs.Due.{AreDuesFor, RoutesDifferAmong}
 use Rattle.event_core.specs.Following.{RoutesValue, AreChanges, AreOtherItems}
 use Rattle.event_core.proofs.Followed.{items_followed, changes_followed}
 use Rattle.event_core.proofs.routes.Routes.follow.Goals as goal
@@ -11,23 +13,34 @@ follow-requires-clause-before c =
     let before = c.requires.before in
     (before.0, subst (λ (r : RoutesValue). IsCalculationOf before.0 r.calculation) (sym c.self.view_is) before.1.calculation, before.2)
 
+pub plan_dues-requires : goal.plan_dues-requires
+plan_dues-requires c =
+    let b = c.requires.before in
+    let old = c.self.inside in
+    let due = subst (λ (r : RoutesValue). AreDuesFor b.0 r.calculation r.dues) (sym c.self.view_is) b.1.dues in
+    let routes = subst (λ (ds : List Dest). RoutesDifferAmong ds old.calculation c.follow.new.self) (sym c.deref-3.ensures.value) c.in_ok-told.ensures.routes in
+    record { before = (b.0, old.calculation, due, b.2.config, routes) }
+
 pub change-requires : goal.change-requires
 change-requires c = c.in_ok-items.ensures.in_order
 
 pub returns-clause-items : goal.returns-clause-items
 returns-clause-items c =
-    let told = c.in_ok-networks in
     let old = c.self.inside in
+    let networks : List Prefix = c.in_ok-told.told.networks.items in
     let others = subst (λ (ps : List Prefix). AreOtherItems c.follow.new.self old.table.items ps c.in_ok-items.items.items) c.deref.ensures.value c.in_ok-items.ensures in
     let table = subst (λ (r : RoutesValue). IsTableOf r.calculation r.table.items) (sym c.self.view_is) c.requires.before.1.table in
-    items_followed old.calculation c.follow.new.self old.table.items c.change.new.self.items told.networks.items c.in_ok-items.items.items told.ensures.enough others table c.in_ok-change.ensures.changed
+    items_followed old.calculation c.follow.new.self old.table.items c.change.new.self.items networks c.in_ok-items.items.items c.in_ok-told.ensures.items others table c.in_ok-change.ensures.changed
+
+pub returns-clause-dues : goal.returns-clause-dues
+returns-clause-dues c = c.in_ok-plan.ensures.kept c.carry_out.new.self c.carry_out.ensures
 
 pub returns-clause-exact : goal.returns-clause-exact
 returns-clause-exact c =
-    let told = c.in_ok-networks in
     let old = c.self.inside in
+    let networks : List Prefix = c.in_ok-told.told.networks.items in
     let others = subst (λ (ps : List Prefix). AreOtherItems c.follow.new.self old.table.items ps c.in_ok-items.items.items) c.deref.ensures.value c.in_ok-items.ensures in
     let table = subst (λ (r : RoutesValue). IsTableOf r.calculation r.table.items) (sym c.self.view_is) c.requires.before.1.table in
-    let changes = changes_followed old.calculation c.follow.new.self old.table.items c.change.new.self.items told.networks.items c.in_ok-items.items.items told.ensures.enough others table c.in_ok-change.ensures.changed in
+    let changes = changes_followed old.calculation c.follow.new.self old.table.items c.change.new.self.items networks c.in_ok-items.items.items c.in_ok-told.ensures.items others table c.in_ok-change.ensures.changed in
     subst (λ (r : RoutesValue). AreChanges r.table.items c.change.new.self.items c.in_ok-changes.changes.items) c.self.view_is
     (subst (AreChanges old.table.items c.change.new.self.items) (sym (c.in_ok-changes.ensures ∙ ap keys_of c.deref-2.ensures.value)) changes)

@@ -1,0 +1,123 @@
+-- What is due by what is kept of a state.
+--   none_active, one_active, one_idle: the active areas, one by one
+--   due_right: it is what the definitions say
+--   due_alike: it is that of a state that looks alike
+--   due_before: what it rests on differs in no more than is named
+use Rattle.std.proofs.Common.{◌≡◌, ◌≢◌, ℕ, ◌<◌, ◌+◌, List, [], ◌∷◌, ◌++◌, map, get_or, take, length, Some, refl, sym, ap, subst, ◌∙◌, inl, inr, ⊎_elim}
+use Rattle.std.specs.Prelude.{◌↔◌, IsTrue}
+use Rattle.std.specs.Cmp.{nat_cmp_total}
+use Rattle.std.specs.FinMap.{FinMap, entries}
+use Rattle.std.specs.List.{Contains}
+use Rattle.std.proofs.lemmas.List.Elements.{Contains-append_left, Contains-append_right, Contains-push_cases}
+use Rattle.ospf_types.specs.declared.config.AreaConfig.{AreaConfig}
+use Rattle.ospf_types.specs.declared.config.Config.{Config}
+use Rattle.ospf_types.specs.declared.config.Interface.{Interface}
+use Rattle.ospf_types.specs.declared.key.Dest.{Dest}
+use Rattle.ospf_types.specs.Inputs.{Area, IsActive}
+use Rattle.ospf_types.proofs.Elements.{no_element, first_element}
+use Rattle.spf.proofs.OfSome.{contains_more}
+use Rattle.dues.specs.Changes.{InputsDifferAmong}
+use Rattle.dues.specs.Dues.{DuesValue, AreDuesOf}
+use Rattle.dues.specs.Inputs.{DueInputsValue}
+use Rattle.dues.specs.Right.{AreConfigured, AreInputsOf, IsRightFor}
+use Rattle.dues.proofs.Right.{dues_right}
+use Rattle.event_state.specs.States.{State, LooksAlike, inputs_of}
+use Rattle.calculation.specs.Calculations.{CalculationValue, IsCalculationOf, IsUpIn}
+use Rattle.calculation.specs.Due.{AreActiveIn, AreActive, AreDuesFor, RoutesDifferAmong, due_inputs}
+use Rattle.calculation.specs.Totals.{area_of}
+use Rattle.calculation.proofs.Above.{apart_areas}
+use Rattle.calculation.proofs.Examining.{active_in, active_from}
+use Rattle.calculation.proofs.Places.{value_from}
+
+-- ---- the active areas, one by one
+
+pub none_active : (s : State) (active : List ℕ) → active ≡ [] → AreActiveIn s [] active
+none_active s active none area = (λ c. absurd (no_element area (subst (λ (list : List ℕ). Contains list area) none c)), λ w. absurd (no_element w.0 w.1))
+
+module _ (s : State) (areas : List AreaConfig) (i : ℕ) (a : AreaConfig) (lt : i < length areas) (here : a ≡ get_or areas i a) (active : List ℕ) (are : AreActiveIn s (take i areas) active) where
+  pub one_active : IsUpIn s a.id → AreActiveIn s (take (i + 1) areas) (active ++ a.id ∷ [])
+  one_active up area = (
+    λ c. ⊎_elim
+        (λ (before : Contains active area). let w = (are area).0 before in (w.0, (contains_more areas i a w.0 lt here).1 (inl w.1), w.2, w.3))
+        (λ (now : a.id ≡ area). (a, (contains_more areas i a a lt here).1 (inr refl), now, up))
+        (Contains-push_cases active a.id area c),
+    λ w. elim ((contains_more areas i a w.0 lt here).0 w.1) [
+      | inl before ↦ Contains-append_left active (a.id ∷ []) area ((are area).1 (w.0, before, w.2, w.3))
+      | inr now ↦ Contains-append_right active (a.id ∷ []) area (subst (Contains (a.id ∷ [])) (ap (λ (x : AreaConfig). x.id) (sym now) ∙ w.2) (first_element a.id []))
+    ],
+  )
+
+  pub one_idle : (IsUpIn s a.id → ⊥) → AreActiveIn s (take (i + 1) areas) active
+  one_idle not area = (
+    λ c. let w = (are area).0 c in (w.0, (contains_more areas i a w.0 lt here).1 (inl w.1), w.2, w.3),
+    λ w. elim ((contains_more areas i a w.0 lt here).0 w.1) [
+      | inl before ↦ (are area).1 (w.0, before, w.2, w.3)
+      | inr now ↦ absurd (not (subst (λ (x : AreaConfig). IsUpIn s x.id) now w.3))
+    ],
+  )
+
+-- ---- what is due
+
+due_configured : (s : State) (areas : List AreaConfig) → AreConfigured (map (area_of s) areas) areas
+due_configured s [] = tt
+due_configured s (a ∷ areas) = (refl, refl, refl, due_configured s areas)
+
+module _ (s : State) (active : List ℕ) (are : AreActive s active) (c : CalculationValue) (is : IsCalculationOf s c) where
+  areas_active : (area : ℕ) → Contains active area ↔ ((a : Area) × IsActive (inputs_of s) a × (a.id ≡ area))
+  areas_active area = (
+    λ h. let w = (are area).0 h in (area_of s w.0, active_in s w.0 w.1 w.3, w.2),
+    λ w. let b = active_from s w.0 w.1 in (are area).1 (b.0, b.1, b.2 ∙ w.2, b.3),
+  )
+
+  one_interface : (id : ℕ) (i j : Interface) → Contains (entries s.interfaces) (id, i) → Contains (entries s.interfaces) (id, j) → i ≡ j
+  one_interface id i j first second =
+      let same : Some i ≡ Some j = sym (value_from s.interfaces id i nat_cmp_total first) ∙ value_from s.interfaces id j nat_cmp_total second in
+      cc
+
+  due_are : AreInputsOf (inputs_of s) (due_inputs s active c)
+  due_are = record {
+    areas = due_configured s s.config.areas;
+    apart = apart_areas s s.config.areas is.fit.apart;
+    interfaces = one_interface;
+    active = areas_active;
+    intra = is.routed;
+    ranges = is.active;
+    inter = is.between;
+    external = is.outside;
+  }
+
+-- it is what the definitions say
+pub due_right : (s : State) (c : CalculationValue) (w : DuesValue) → IsCalculationOf s c → AreDuesFor s c w → IsRightFor (inputs_of s) w
+due_right s c w is due = dues_right (inputs_of s) (due_inputs s due.0 c) w (due_are s due.0 due.1 c is) due.2
+
+-- it rests on the configuration, the interfaces and what is kept alone
+pub due_alike : (s t : State) (c : CalculationValue) (w : DuesValue) → LooksAlike s t → t.config ≡ s.config → AreDuesFor s c w → AreDuesFor t c w
+due_alike s t c w looks config due =
+    let areas : s.config.areas ≡ t.config.areas = ap (λ (k : Config). k.areas) (sym config) in
+    let there : (area : ℕ) → IsUpIn s area → IsUpIn t area = λ area up.
+    subst (λ (list : List (ℕ × Interface)). (id : ℕ) × (i : Interface) × Contains list (id, i) × (i.area ≡ area) × IsTrue i.up) (ap entries looks.interfaces) up in
+    let back : (area : ℕ) → IsUpIn t area → IsUpIn s area = λ area up.
+    subst (λ (list : List (ℕ × Interface)). (id : ℕ) × (i : Interface) × Contains list (id, i) × (i.area ≡ area) × IsTrue i.up) (sym (ap entries looks.interfaces)) up in
+    let active : AreActiveIn t s.config.areas due.0 = λ area. (
+      λ h. let x = (due.1 area).0 h in (x.0, x.1, x.2, there x.0.id x.3),
+      λ x. (due.1 area).1 (x.0, x.1, x.2, back x.0.id x.3),
+    ) in (
+      due.0,
+      subst (λ (list : List AreaConfig). AreActiveIn t list due.0) areas active,
+      subst (λ (list : List AreaConfig). AreDuesOf (record { areas = list; active = due.0; intra = c.intra; ranges = c.active; inter = c.inter; external = c.external }) w) areas due.2,
+    )
+
+-- what it rests on differs in no more than is named
+pub due_before : (s t : State) (dests : List Dest) (old new : CalculationValue) (w : DuesValue) (active : List ℕ) → AreDuesFor s old w → t.config ≡ s.config → RoutesDifferAmong dests old new
+    → (before : DueInputsValue) × AreDuesOf before w × InputsDifferAmong dests before (due_inputs t active new)
+due_before s t dests old new w active due config routes = (
+  due_inputs s due.0 old,
+  due.2,
+  record {
+    areas = ap (λ (k : Config). k.areas) config;
+    intra = routes.intra;
+    members = routes.members;
+    inter = routes.inter;
+    preferred = routes.preferred;
+  },
+)

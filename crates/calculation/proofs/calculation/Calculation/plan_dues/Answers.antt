@@ -1,0 +1,21 @@
+use Rattle.std.proofs.Common.{List, ℕ, sym, subst, ap, ◌∙◌}
+use Rattle.std.specs.Prelude.{◌≡◌}
+use Rattle.ospf_types.specs.declared.key.Dest.{Dest}
+use Rattle.dues.specs.Changes.{InputsDifferAmong}
+use Rattle.dues.specs.Dues.{DuesValue, AreDuesOf}
+use Rattle.dues.specs.Inputs.{DueInputsValue}
+use Rattle.calculation.specs.Due.{AreDuesFor, AreActive, due_inputs}
+use Rattle.calculation.proofs.Due.{due_before}
+use Rattle.calculation.proofs.calculation.Calculation.plan_dues.Goals as goal
+
+pub plan-requires : goal.plan-requires
+plan-requires c =
+    let b = c.requires.before in
+    let v = due_before b.0 c.args.state.now c.args.dests.now b.1 c.args.self.now c.args.dues.now c.deref.result.now b.2 b.3 b.4 in
+    record { before = (v.0, v.1, subst (InputsDifferAmong c.args.dests.now v.0) (sym c.due_inputs.ensures) v.2) }
+
+pub returns-clause-kept : goal.returns-clause-kept
+returns-clause-kept c after carried =
+    let s = c.args.state.now in
+    let due = subst (λ (v : DueInputsValue). AreDuesOf v after) c.due_inputs.ensures (c.in_ok-plan.ensures.kept after carried) in
+    (c.deref.result.now, subst (AreActive s) (sym c.deref.ensures.value) c.in_ok-active.ensures, due)

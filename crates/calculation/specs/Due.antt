@@ -1,0 +1,36 @@
+-- What is due in the areas, by what is kept of a state.
+use Rattle.std.specs.Prelude.{ℕ, ◌≡◌, ◌↔◌, List, Contains}
+use Rattle.std.specs.FinMap.{get}
+use Rattle.ospf_types.specs.Address.{Covers}
+use Rattle.ospf_types.specs.declared.config.AreaConfig.{AreaConfig}
+use Rattle.ospf_types.specs.declared.key.Dest.{Dest}
+use Rattle.ospf_types.specs.declared.key.Dest.TheVariants.{Net, Router}
+use Rattle.ospf_types.specs.declared.prefix.Prefix.{Prefix}
+use Rattle.summaries.specs.declared.member.Member.{Member}
+use Rattle.dues.specs.Dues.{DuesValue, AreDuesOf}
+use Rattle.dues.specs.Inputs.{DueInputsValue}
+use Rattle.event_state.specs.States.{State}
+use Rattle.calculation.specs.Calculations.{CalculationValue, IsUpIn}
+
+-- the Area IDs of those of the areas that have an interface that is up
+abbrev pub AreActiveIn : State → List AreaConfig → List ℕ → Type 0
+AreActiveIn s areas active = (area : ℕ) → Contains active area ↔ ((a : AreaConfig) × Contains areas a × (a.id ≡ area) × IsUpIn s a.id)
+
+-- of all areas
+abbrev pub AreActive : State → List ℕ → Type 0
+AreActive s active = AreActiveIn s s.config.areas active
+
+-- what is due is calculated from this
+abbrev pub due_inputs : State → List ℕ → CalculationValue → DueInputsValue
+due_inputs s active c = record { areas = s.config.areas; active = active; intra = c.intra; ranges = c.active; inter = c.inter; external = c.external }
+
+-- it is what is due by what is kept
+abbrev pub AreDuesFor : State → CalculationValue → DuesValue → Type 0
+AreDuesFor s c w = (active : List ℕ) × AreActive s active × AreDuesOf (due_inputs s active c) w
+
+-- the routes that summaries tell of differ in no more than is named
+pub record RoutesDifferAmong (dests : List Dest) (old new : CalculationValue) : Type 0 where
+  pub intra : (p : Prefix) → (Contains dests (Net p) → ⊥) → get new.intra.entries p ≡ get old.intra.entries p
+  pub members : (m : Member) → (Contains dests (Net m.network) → Covers m.range m.network → ⊥) → get new.active.members m ≡ get old.active.members m
+  pub inter : (p : Prefix) → (Contains dests (Net p) → ⊥) → get new.inter.entries (Net p) ≡ get old.inter.entries (Net p)
+  pub preferred : (r : ℕ) → (Contains dests (Router r) → ⊥) → get new.external.preferred r ≡ get old.external.preferred r

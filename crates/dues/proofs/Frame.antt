@@ -1,0 +1,136 @@
+-- What is due to a destination that is not touched stays due, where the routes differ in no more than is named.
+--   due_stays: it is due at a metric now just where it was
+--   members_stay: active ranges by the routes on both sides differ in no more members
+use Rattle.std.proofs.Common.{◌≡◌, ℕ, List, Option, Some, None, refl, sym, subst, ◌∙◌, inl, inr}
+use Rattle.std.specs.Prelude.{◌↔◌, Contains}
+use Rattle.std.specs.FinMap.{get}
+use Rattle.ospf_types.specs.declared.config.AreaConfig.{AreaConfig}
+use Rattle.ospf_types.specs.declared.config.Stub.{Stub}
+use Rattle.ospf_types.specs.declared.key.Dest.{Dest}
+use Rattle.ospf_types.specs.declared.key.Dest.TheVariants.{Net, Router}
+use Rattle.ospf_types.specs.declared.prefix.Prefix.{Prefix}
+use Rattle.ospf_types.specs.Address.{Covers}
+use Rattle.ospf_types.specs.Summaries.{IsGreatest}
+use Rattle.external.specs.Preferred.{PreferredValue}
+use Rattle.intra.specs.Intras.{EntriesByPrefix}
+use Rattle.summaries.specs.Active.{ActiveValue, AreRangesOf, EntriesDifferAmong, IsMember}
+use Rattle.summaries.specs.declared.member.Member.{Member}
+use Rattle.dues.specs.Changes.{InputsDifferAmong}
+use Rattle.dues.specs.Giving.{GivesIn, IsAdvertised, IsComponentIn, IsDueIn, IsDueTo, IsNetworkDueIn, IsOutside, IsRouterDueIn, IsServed, PreferredGives}
+use Rattle.dues.specs.Inputs.{DueInputsValue}
+use Rattle.dues.specs.Touched.{IsRangeOver, IsTouchedBy}
+
+-- ---- what two sides share, in either direction
+
+record AreAlike (dests : List Dest) (a b : DueInputsValue) : Type 0 where
+  pub areas : b.areas ≡ a.areas
+  pub active : b.active ≡ a.active
+  pub intra : (p : Prefix) → (Contains dests (Net p) → ⊥) → get b.intra.entries p ≡ get a.intra.entries p
+  pub members : (m : Member) → (Contains dests (Net m.network) → Covers m.range m.network → ⊥) → get b.ranges.members m ≡ get a.ranges.members m
+  pub inter : (p : Prefix) → (Contains dests (Net p) → ⊥) → get b.inter.entries (Net p) ≡ get a.inter.entries (Net p)
+  pub preferred : (r : ℕ) → (Contains dests (Router r) → ⊥) → get b.external.preferred r ≡ get a.external.preferred r
+
+turned : (dests : List Dest) (a b : DueInputsValue) → AreAlike dests a b → AreAlike dests b a
+turned dests a b alike = record {
+  areas = sym alike.areas;
+  active = sym alike.active;
+  intra = λ p absent. sym (alike.intra p absent);
+  members = λ m absent. sym (alike.members m absent);
+  inter = λ p absent. sym (alike.inter p absent);
+  preferred = λ r absent. sym (alike.preferred r absent);
+}
+
+greatest_same : (P Q : ℕ → Type 0) → ((n : ℕ) → P n → Q n) → ((n : ℕ) → Q n → P n) → (n : ℕ) → IsGreatest P n → IsGreatest Q n
+greatest_same P Q there back n is = record { holds = there n is.holds; greatest = λ m q. is.greatest m (back m q) }
+
+-- ---- networks
+
+-- the ranges with the prefix have no named network
+abbrev IsQuiet : List Dest → Prefix → Type 0
+IsQuiet dests p = (network : Prefix) → Contains dests (Net network) → Covers p network → ⊥
+
+-- where the prefix is that of a range, and is not touched
+quiet : (areas : List AreaConfig) (dests : List Dest) (p : Prefix) (through : ℕ) → (IsTouchedBy areas dests (Net p) → ⊥) → IsAdvertised areas through p → IsQuiet dests p
+quiet areas dests p through untouched range network named covers =
+    let over : IsRangeOver areas dests p = (range.0, range.1, network, range.2, range.4, range.5, named, covers) in
+    untouched (inr (p, refl, over))
+
+module _ (dests : List Dest) (a b : DueInputsValue) (alike : AreAlike dests a b) (p : Prefix) where
+  component_stays : (through cost : ℕ) → IsQuiet dests p → IsComponentIn a through p cost → IsComponentIn b through p cost
+  component_stays through cost none is =
+      let had = is.0 in
+      let m : Member = record { range = p; area = through; network = had.0 } in
+      ((had.0, alike.members m (none had.0) ∙ had.1), is.1)
+
+module _ (dests : List Dest) (a b : DueInputsValue) (alike : AreAlike dests a b) (p : Prefix) (untouched : IsTouchedBy a.areas dests (Net p) → ⊥) where
+  gives_stays : (area m : ℕ) → GivesIn a area p m → GivesIn b area p m
+  gives_stays area m gives =
+      let unnamed : Contains dests (Net p) → ⊥ = λ named. untouched (inl named) in
+      elim gives [
+        | inl own ↦ inl (own.0, own.1, alike.intra p unnamed ∙ own.2, own.3, subst (λ (areas : List AreaConfig). IsOutside areas own.1 p) (sym alike.areas) own.4, own.5)
+        | inr (inl far) ↦ inr (inl (far.0, far.1, alike.inter p unnamed ∙ far.2, far.3, far.4))
+        | inr (inr range) ↦
+            let through = range.0 in
+            let none = quiet a.areas dests p through untouched range.1 in
+            inr (inr (
+              through,
+              subst (λ (areas : List AreaConfig). IsAdvertised areas through p) (sym alike.areas) range.1,
+              range.2,
+              greatest_same (IsComponentIn a through p) (IsComponentIn b through p) (λ n is. component_stays dests a b alike p through n none is) (λ n is. component_stays dests b a (turned dests a b alike) p through n none is) m range.3,
+            ))
+      ]
+
+-- ---- all destinations
+
+module _ (dests : List Dest) (a b : DueInputsValue) (alike : AreAlike dests a b) where
+  network_stays : (p : Prefix) → (IsTouchedBy a.areas dests (Net p) → ⊥) → (area : ℕ) (stub : Option Stub) (m : ℕ) → IsNetworkDueIn a area stub p m → IsNetworkDueIn b area stub p m
+  network_stays p untouched area stub m due =
+      let other : IsTouchedBy b.areas dests (Net p) → ⊥ = subst (λ (areas : List AreaConfig). IsTouchedBy areas dests (Net p) → ⊥) (sym alike.areas) untouched in
+      let greatest = greatest_same (GivesIn a area p) (GivesIn b area p) (λ n is. gives_stays dests a b alike p untouched area n is) (λ n is. gives_stays dests b a (turned dests a b alike) p other area n is) m in
+      go stub greatest due
+    where
+      go : (stub : Option Stub) → (IsGreatest (GivesIn a area p) m → IsGreatest (GivesIn b area p) m) → IsNetworkDueIn a area stub p m → IsNetworkDueIn b area stub p m
+      go None greatest due = greatest due
+      go (Some stub) greatest due = elim due [ inl own ↦ inl own | inr told ↦ inr (told.0, told.1, greatest told.2) ]
+
+  router_stays : (r : ℕ) → (Contains dests (Router r) → ⊥) → (area : ℕ) (stub : Option Stub) (m : ℕ) → IsRouterDueIn a area stub r m → IsRouterDueIn b area stub r m
+  router_stays r unnamed area None m due = subst (λ (o : Option PreferredValue). PreferredGives o area m) (sym (alike.preferred r unnamed)) due
+  router_stays r unnamed area (Some stub) m due = due
+
+  to_stays : (d : Dest) → (IsTouchedBy a.areas dests d → ⊥) → (x : AreaConfig) (m : ℕ) → IsDueTo a x d m → IsDueTo b x d m
+  to_stays (Net p) untouched x m due = network_stays p untouched x.id x.stub m due
+  to_stays (Router r) untouched x m due = router_stays r (λ named. untouched (inl named)) x.id x.stub m due
+
+  one_way : (d : Dest) → (IsTouchedBy a.areas dests d → ⊥) → (x : AreaConfig) (m : ℕ) → IsDueIn a x d m → IsDueIn b x d m
+  one_way d untouched x m due = record { served = subst (λ (active : List ℕ). IsServed active x.id) (sym alike.active) due.served; due = to_stays d untouched x m due.due }
+
+module _ (dests : List Dest) (old new : DueInputsValue) (differ : InputsDifferAmong dests old new) (active : new.active ≡ old.active) where
+  alike : AreAlike dests old new
+  alike = record { areas = differ.areas; active = active; intra = differ.intra; members = differ.members; inter = differ.inter; preferred = differ.preferred }
+
+  pub due_stays : (d : Dest) → (IsTouchedBy new.areas dests d → ⊥) → (x : AreaConfig) (m : ℕ) → IsDueIn old x d m ↔ IsDueIn new x d m
+  due_stays d untouched x m = (
+    one_way dests old new alike d (subst (λ (areas : List AreaConfig). IsTouchedBy areas dests d → ⊥) differ.areas untouched) x m,
+    one_way dests new old (turned dests old new alike) d untouched x m,
+  )
+
+-- ---- the members of active ranges
+
+same_option : (o p : Option ℕ) → ((n : ℕ) → o ≡ Some n → p ≡ Some n) → ((n : ℕ) → p ≡ Some n → o ≡ Some n) → p ≡ o
+same_option (Some n) p there back = there n refl
+same_option None (Some n) there back = sym (back n refl)
+same_option None None there back = refl
+
+-- they differ only where the network is named and lies in the range
+pub members_stay : (areas : List AreaConfig) (dests : List Dest) (before after : EntriesByPrefix) (old new : ActiveValue) → AreRangesOf areas before old → AreRangesOf areas after new → EntriesDifferAmong dests before after
+    → (m : Member) → (Contains dests (Net m.network) → Covers m.range m.network → ⊥) → get new.members m ≡ get old.members m
+members_stay areas dests before after old new are_old are_new differ m absent =
+    same_option (get old.members m) (get new.members m)
+    (λ cost is.
+    let w : IsMember areas before m cost = (are_old.members m cost).0 is in
+    let entry = differ m.network (λ named. absent named w.5) in
+    (are_new.members m cost).1 (w.0, entry ∙ w.1, w.2, w.3, w.4, w.5))
+    (λ cost is.
+    let w : IsMember areas after m cost = (are_new.members m cost).0 is in
+    let entry = differ m.network (λ named. absent named w.5) in
+    (are_old.members m cost).1 (w.0, sym entry ∙ w.1, w.2, w.3, w.4, w.5))

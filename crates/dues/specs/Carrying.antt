@@ -1,0 +1,34 @@
+-- What is to change in due summaries, area by area, and what comes of it.
+use Rattle.std.specs.Prelude.{ℕ, ◌≡◌, List, [], ◌∷◌}
+use Rattle.dues.specs.declared.plan.AreaPlan.{AreaPlan}
+use Rattle.dues.specs.Lists.{AreaDuesValue}
+use Rattle.dues.specs.Dues.{DuesValue}
+use Rattle.dues.specs.Plans.{Fits, Leads}
+
+abbrev pub AllFit : List AreaPlan → List AreaDuesValue → Type 0
+AllFit [] [] = Unit {0}
+AllFit (p ∷ plans) (w ∷ areas) = Fits p w × AllFit plans areas
+AllFit [] (w ∷ areas) = ⊥
+AllFit (p ∷ plans) [] = ⊥
+
+abbrev pub AllLead : List AreaPlan → List AreaDuesValue → List AreaDuesValue → Type 0
+AllLead [] [] [] = Unit {0}
+AllLead (p ∷ plans) (w ∷ old) (x ∷ new) = Leads p w x × AllLead plans old new
+AllLead [] [] (x ∷ new) = ⊥
+AllLead [] (w ∷ old) new = ⊥
+AllLead (p ∷ plans) [] new = ⊥
+AllLead (p ∷ plans) (w ∷ old) [] = ⊥
+
+-- what is to change in each area, and the areas that are active then
+pub record PlanValue : Type 0 where
+  pub areas : List AreaPlan
+  pub active : List ℕ
+
+-- the plan may be carried out
+abbrev pub IsReady : PlanValue → DuesValue → Type 0
+IsReady plan w = AllFit plan.areas w.areas
+
+-- it makes the one of the other
+pub record IsCarriedOut (plan : PlanValue) (old new : DuesValue) : Type 0 where
+  pub active : new.active ≡ plan.active
+  pub lists : AllLead plan.areas old.areas new.areas

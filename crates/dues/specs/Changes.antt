@@ -1,0 +1,52 @@
+-- What differs in the inputs of due summaries, and what is named of it.
+use Rattle.std.specs.Prelude.{ℕ, ◌≡◌, ◌⊎◌, ◌↔◌, List, [], ◌∷◌, ◌++◌, Contains, Option, Some}
+use Rattle.std.specs.Map.{keys_of}
+use Rattle.ospf_types.specs.declared.config.AreaConfig.{AreaConfig}
+use Rattle.std.specs.FinMap.{get}
+use Rattle.ospf_types.specs.declared.key.Dest.{Dest}
+use Rattle.ospf_types.specs.declared.key.Dest.TheVariants.{Net, Router}
+use Rattle.ospf_types.specs.declared.prefix.Prefix.{Prefix}
+use Rattle.ospf_types.specs.Address.{Covers}
+use Rattle.summaries.specs.declared.member.Member.{Member}
+use Rattle.dues.specs.declared.due.Due.{Due}
+use Rattle.dues.specs.Inputs.{DueInputsValue}
+use Rattle.dues.specs.Giving.{IsDueIn}
+use Rattle.dues.specs.Lists.{AreaDuesValue, Metrics, AreMetricsInOrder, IsMetricIn, due_for}
+use Rattle.dues.specs.Dues.{DuesValue}
+
+-- the routes differ in no more than is named; of other active areas nothing need be named
+pub record InputsDifferAmong (dests : List Dest) (old new : DueInputsValue) : Type 0 where
+  pub areas : new.areas ≡ old.areas
+  pub intra : (p : Prefix) → (Contains dests (Net p) → ⊥) → get new.intra.entries p ≡ get old.intra.entries p
+  pub members : (m : Member) → (Contains dests (Net m.network) → Covers m.range m.network → ⊥) → get new.ranges.members m ≡ get old.ranges.members m
+  pub inter : (p : Prefix) → (Contains dests (Net p) → ⊥) → get new.inter.entries (Net p) ≡ get old.inter.entries (Net p)
+  pub preferred : (r : ℕ) → (Contains dests (Router r) → ⊥) → get new.external.preferred r ≡ get old.external.preferred r
+
+-- no other destination is due in an area otherwise than before
+abbrev pub AreDueAlikeBut : List Dest → DueInputsValue → DueInputsValue → Type 0
+AreDueAlikeBut dests old new = (a : AreaConfig) (d : Dest) → Contains new.areas a → (Contains dests d → ⊥) → (m : ℕ) → IsDueIn old a d m ↔ IsDueIn new a d m
+
+-- what is due to the destination in the area differs
+abbrev pub DiffersIn : List Due → List Due → Dest → Type 0
+DiffersIn old new d = ((due : Due) → due.dest ≡ d → Contains new due ↔ Contains old due) → ⊥
+
+-- in one of the areas, which are the same ones in one order
+abbrev pub DifferAt : List AreaDuesValue → List AreaDuesValue → Dest → Type 0
+DifferAt [] [] d = ⊥
+DifferAt (a ∷ old) (b ∷ new) d = DiffersIn a.list b.list d ⊎ DifferAt old new d
+DifferAt [] (b ∷ new) d = ⊥
+DifferAt (a ∷ old) [] d = ⊥
+
+abbrev pub DiffersAt : DuesValue → DuesValue → Dest → Type 0
+DiffersAt old new d = DifferAt old.areas new.areas d
+
+-- just those of the destinations that are due at another metric than the list has, in their order, each at that metric
+pub record AreChangesIn (v : DueInputsValue) (a : AreaConfig) (list : List Due) (dests : List Dest) (metrics : Metrics) : Type 0 where
+  pub in_order : AreMetricsInOrder metrics
+  pub named : (d : Dest) → Contains (keys_of metrics) d → Contains dests d × (((m : ℕ) → IsDueIn v a d m ↔ Contains list (due_for d m)) → ⊥)
+  pub here : (d : Dest) (metric : Option ℕ) → Contains metrics (d, metric) → (m : ℕ) → (metric ≡ Some m) ↔ IsDueIn v a d m
+  pub others : (d : Dest) → Contains dests d → (Contains (keys_of metrics) d → ⊥) → (m : ℕ) → IsDueIn v a d m ↔ Contains list (due_for d m)
+
+-- the destination is added at this metric, unless the list has it so
+abbrev pub IsChangeAdded : List Due → Dest → Option ℕ → Metrics → Metrics → Type 0
+IsChangeAdded list d metric before after = ((after ≡ before) × IsMetricIn list d metric) ⊎ ((after ≡ before ++ (d, metric) ∷ []) × (IsMetricIn list d metric → ⊥))

@@ -1,0 +1,11 @@
+pub mod Inputs
+pub mod Giving
+pub mod Lists
+pub mod Places
+pub mod Plans
+pub mod Dues
+pub mod Carrying
+pub mod Touched
+pub mod Changes
+pub mod Planning
+pub mod Right

@@ -1,0 +1,296 @@
+ghost use Rattle.std.specs.Prelude.{◌≡◌, ◌↔◌, ◌++◌, [], length, map as list_map, Contains, IfOk, OnOk, OnErr, option_map};
+ghost use Rattle.std.specs.List.{flat_map};
+ghost use Rattle.std.specs.Map.{keys_of};
+ghost use Rattle.std.specs.List.Sorted.{IsStrictlySortedBy};
+ghost use Rattle.ospf_types.specs.declared.key.Dest.{Dest as DestValue};
+ghost use Rattle.ospf_types.specs.Inputs.{Inputs as Definitions};
+ghost use Rattle.ospf_types.specs.Keys.{dest_cmp};
+ghost use Rattle.dues.specs.Inputs.{DueInputsValue};
+ghost use Rattle.dues.specs.Dues.{AreDuesOf, DuesValue, dests_of, list_in, listed, lists_of};
+ghost use Rattle.dues.specs.Changes.{InputsDifferAmong, AreDueAlikeBut, DiffersAt, AreChangesIn, IsChangeAdded};
+ghost use Rattle.dues.specs.Carrying.{AllFit, AllLead, IsReady, IsCarriedOut};
+ghost use Rattle.dues.specs.Planning.{ArePlanned, IsPlannedIn};
+ghost use Rattle.dues.specs.Right.{AreInputsOf, IsRightFor};
+
+use crate::due::Due;
+use crate::giving::metric;
+use crate::inputs::DueInputs;
+use crate::list::AreaDues;
+use crate::plan::AreaPlan;
+use crate::touched::{all, ascending, touched};
+use ospf_types::config::AreaConfig;
+use ospf_types::key::Dest;
+use ospf_types::memory::Memory;
+use std::alloc::Global;
+use std::marker::Model;
+
+/// What is to change in due summaries, with room for it.
+#[derive(Debug, Drop)]
+pub struct Plan {
+    areas: Vec<AreaPlan>,
+    active: Vec<u32>,
+}
+
+impl Model for Plan {
+    ghost use Rattle.std.specs.Coded.{codes};
+    ghost use Rattle.dues.specs.contracts.plan.AreaPlan as area_plan;
+    ghost use Rattle.dues.specs.Carrying.{PlanValue};
+
+    ghost Value = { PlanValue };
+
+    ghost coded = { Prim.hlevel (codes, area_plan.the_row.coded) };
+
+    ghost view = { λ p. record { areas = p.areas.items; active = p.active.items } };
+}
+
+/// The summaries that an area border router is to send into its areas (RFC 2328, 12.4.3).
+#[derive(Debug, Drop)]
+pub struct Dues {
+    areas: Vec<AreaDues>,
+    active: Vec<u32>,
+}
+
+impl Model for Dues {
+    ghost use Rattle.std.specs.Coded.{codes};
+    ghost use Rattle.dues.specs.contracts.list.AreaDues as area_dues;
+    ghost use Rattle.dues.specs.Dues.{DuesValue};
+
+    ghost Value = { DuesValue };
+
+    ghost coded = { Prim.hlevel (codes, area_dues.the_row.coded) };
+
+    ghost view = { λ d. record { areas = d.areas.items; active = d.active.items } };
+}
+
+impl Dues {
+    /// What is due by these inputs, from scratch.
+    pub fn build(alloc: Global, inputs: &DueInputs<'_>) -> Result<Dues, Memory>
+        ensures kept { IfOk result (AreDuesOf inputs.now) }
+        ensures right { IfOk result (λ dues. (s : Definitions) → AreInputsOf s inputs.now → IsRightFor s dues) }
+    {
+        let mut dues = Dues::none(alloc, inputs.areas)?;
+        dues.update(alloc, inputs, &[])?;
+        Ok(dues)
+    }
+
+    /// Follows the inputs, of which the routes to the named destinations may differ. The answer is the destinations that
+    /// are due in some area at another metric than before, or are no longer due there, or now are; ascending, each once.
+    /// Where memory is refused, all is as it was.
+    pub fn update(
+        &mut self,
+        alloc: Global,
+        inputs: &DueInputs<'_>,
+        dests: &[Dest],
+    ) -> Result<Vec<Dest>, Memory>
+        requires before { (before : DueInputsValue) × AreDuesOf before self.old × InputsDifferAmong dests.now before inputs.now }
+        ensures kept { OnOk result (AreDuesOf inputs.now self.new) }
+        ensures right { OnOk result ((s : Definitions) → AreInputsOf s inputs.now → IsRightFor s self.new) }
+        ensures in_order { IfOk result (λ named. IsStrictlySortedBy dest_cmp named.items) }
+        ensures exact { IfOk result (λ named. (d : DestValue) → Contains named.items d ↔ DiffersAt self.old self.new d) }
+        ensures unchanged { OnErr result (lists_of self.new ≡ lists_of self.old) }
+    {
+        let (plan, named) = self.plan(alloc, inputs, dests)?;
+        self.carry_out(plan);
+        Ok(named)
+    }
+
+    /// What `update` would change, and its answer: the lists stay, and get room for it.
+    pub fn plan(
+        &mut self,
+        alloc: Global,
+        inputs: &DueInputs<'_>,
+        dests: &[Dest],
+    ) -> Result<(Plan, Vec<Dest>), Memory>
+        requires before { (before : DueInputsValue) × AreDuesOf before self.old × InputsDifferAmong dests.now before inputs.now }
+        ensures unchanged { lists_of self.new ≡ lists_of self.old }
+        ensures active { self.new.active ≡ self.old.active }
+        ensures ready { IfOk result (λ made. IsReady made.0 self.new) }
+        ensures kept { IfOk result (λ made. (after : DuesValue) → IsCarriedOut made.0 self.new after → AreDuesOf inputs.now after) }
+        ensures in_order { IfOk result (λ made. IsStrictlySortedBy dest_cmp made.1.items) }
+        ensures exact { IfOk result (λ made. (after : DuesValue) (d : DestValue) → IsCarriedOut made.0 self.new after → Contains made.1.items d ↔ DiffersAt self.old after d) }
+    {
+        let touched = self.touched(alloc, inputs, dests)?;
+        let mut named = Vec::new(alloc);
+        let areas = plan_areas(alloc, inputs, &mut self.areas, &touched, &mut named)?;
+        let active = Vec::from_slice(alloc, inputs.active)?;
+        Ok((Plan { areas, active }, ascending(named)))
+    }
+
+    /// Makes the changes of a plan. It takes no memory.
+    pub fn carry_out(&mut self, plan: Plan)
+        requires { IsReady plan self.old }
+        ensures { IsCarriedOut plan self.old self.new }
+    {
+        let Plan { areas, active } = plan;
+        carry_out_areas(areas, &mut self.areas);
+        self.active = active;
+    }
+
+    /// What is due in each area, in the order of the configuration.
+    pub fn areas(&self) -> &[AreaDues]
+        ensures { result.now ≡ self.now.areas }
+    {
+        self.areas.as_slice()
+    }
+
+    /// What is due in the area, ascending by LS type and destination; `None` where no such area is configured.
+    pub fn get(&self, area: u32) -> Option<&[Due]>
+        ensures { option_map (λ list. list.now) result ≡ list_in self.now.areas area }
+    {
+        for dues in &self.areas {
+            if dues.area() == area {
+                return Some(dues.as_slice());
+            }
+        }
+        None
+    }
+}
+
+impl Dues {
+    // Nothing is due in any area.
+    fn none(alloc: Global, areas: &[AreaConfig]) -> Result<Dues, Memory>
+        ensures { IfOk result (λ dues. (v : DueInputsValue) → v.areas ≡ areas.now → v.active ≡ [] → AreDuesOf v dues) }
+    {
+        let mut lists = Vec::with_capacity(alloc, areas.len())?;
+        for area in areas {
+            lists.push(AreaDues::none(alloc, area.id))?;
+        }
+        Ok(Dues {
+            areas: lists,
+            active: Vec::new(alloc),
+        })
+    }
+
+    // The destinations whose summaries may differ, ascending, each once: all where other areas are active than before.
+    fn touched(
+        &self,
+        alloc: Global,
+        inputs: &DueInputs<'_>,
+        dests: &[Dest],
+    ) -> Result<Vec<Dest>, Memory>
+        ensures in_order { IfOk result (λ found. IsStrictlySortedBy dest_cmp found.items) }
+        ensures enough { IfOk result (λ found. (before : DueInputsValue) → AreDuesOf before self.now → InputsDifferAmong dests.now before inputs.now → AreDueAlikeBut found.items before inputs.now) }
+    {
+        if self.active.as_slice() == inputs.active {
+            return touched(alloc, inputs.areas, dests);
+        }
+        let mut found = all(alloc, inputs)?;
+        self.push_own(&mut found)?;
+        Ok(ascending(found))
+    }
+
+    // Adds what is due in an area.
+    fn push_own(&self, dests: &mut Vec<Dest>) -> Result<(), Memory>
+        ensures { OnOk result (dests.new.items ≡ dests.old.items ++ flat_map dests_of self.now.areas) }
+    {
+        for dues in &self.areas {
+            push_dests(dues.as_slice(), dests)?;
+        }
+        Ok(())
+    }
+}
+
+// Adds the destinations.
+fn push_dests(list: &[Due], dests: &mut Vec<Dest>) -> Result<(), Memory>
+    ensures { OnOk result (dests.new.items ≡ dests.old.items ++ list_map (λ due. due.dest) list.now) }
+{
+    for due in list {
+        dests.push(due.dest)?;
+    }
+    Ok(())
+}
+
+// What is to change in each of the lists, to these destinations. Those that are due otherwise in an area are added.
+fn plan_areas(
+    alloc: Global,
+    inputs: &DueInputs<'_>,
+    lists: &mut [AreaDues],
+    dests: &[Dest],
+    named: &mut Vec<Dest>,
+) -> Result<Vec<AreaPlan>, Memory>
+    requires long { length lists.old ≡ length inputs.now.areas }
+    requires in_order { IsStrictlySortedBy dest_cmp dests.now }
+    ensures same { listed lists.new ≡ listed lists.old }
+    ensures planned { IfOk result (λ plans. ArePlanned inputs.now dests.now inputs.now.areas lists.old lists.new plans.items named.old.items named.new.items) }
+{
+    let mut plans = Vec::with_capacity(alloc, lists.len())?;
+    for (place, area) in inputs.areas.iter().enumerate() {
+        let plan = plan_area(alloc, inputs, area, &mut lists[place], dests, named)?;
+        plans.push(plan)?;
+    }
+    Ok(plans)
+}
+
+// The same of one area.
+fn plan_area(
+    alloc: Global,
+    inputs: &DueInputs<'_>,
+    area: &AreaConfig,
+    dues: &mut AreaDues,
+    dests: &[Dest],
+    named: &mut Vec<Dest>,
+) -> Result<AreaPlan, Memory>
+    requires { IsStrictlySortedBy dest_cmp dests.now }
+    ensures area { dues.new.area ≡ dues.old.area }
+    ensures list { dues.new.list ≡ dues.old.list }
+    ensures planned { IfOk result (λ plan. IsPlannedIn inputs.now dests.now area.now dues.old dues.new plan named.old.items named.new.items) }
+{
+    let metrics = changes(alloc, inputs, area, dues, dests)?;
+    push_named(&metrics, named)?;
+    let plan = AreaPlan::of(alloc, metrics, dues)?;
+    Ok(plan)
+}
+
+// Makes the changes, each in its list. It takes no memory.
+fn carry_out_areas(plans: Vec<AreaPlan>, lists: &mut [AreaDues])
+    requires { AllFit plans.items lists.old }
+    ensures { AllLead plans.items lists.old lists.new }
+{
+    for (place, plan) in plans.into_iter().enumerate() {
+        plan.carry_out(&mut lists[place]);
+    }
+}
+
+// Of these destinations those that are due at another metric than the list has, with that metric.
+fn changes(
+    alloc: Global,
+    inputs: &DueInputs<'_>,
+    area: &AreaConfig,
+    dues: &AreaDues,
+    dests: &[Dest],
+) -> Result<Vec<(Dest, Option<u32>)>, Memory>
+    requires { IsStrictlySortedBy dest_cmp dests.now }
+    ensures { IfOk result (λ metrics. AreChangesIn inputs.now area.now dues.now.list dests.now metrics.items) }
+{
+    let mut metrics = Vec::new(alloc);
+    for dest in dests {
+        push_change(dest, metric(inputs, area, *dest), dues, &mut metrics)?;
+    }
+    Ok(metrics)
+}
+
+// Adds the destination at this metric, unless the list has it so.
+fn push_change(
+    dest: &Dest,
+    metric: Option<u32>,
+    dues: &AreaDues,
+    metrics: &mut Vec<(Dest, Option<u32>)>,
+) -> Result<(), Memory>
+    ensures { OnOk result (IsChangeAdded dues.now.list dest.now metric metrics.old.items metrics.new.items) }
+{
+    if metric == dues.metric(*dest) {
+        return Ok(());
+    }
+    metrics.push((*dest, metric))?;
+    Ok(())
+}
+
+// Adds the destinations.
+fn push_named(metrics: &[(Dest, Option<u32>)], named: &mut Vec<Dest>) -> Result<(), Memory>
+    ensures { OnOk result (named.new.items ≡ named.old.items ++ keys_of metrics.now) }
+{
+    for (dest, _) in metrics {
+        named.push(*dest)?;
+    }
+    Ok(())
+}

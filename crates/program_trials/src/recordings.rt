@@ -1,0 +1,44 @@
+//! Recordings are read, and printed as they were.
+
+use recording::{Recording, parse, print};
+use std::test::Fail;
+
+// Each form of a line, and each LS type.
+const TEXT: &str = "abr 1
+router 10.0.0.1
+area 0.0.0.0 normal
+range 0.0.0.0 10.0.0.0/8 hide
+range 0.0.0.0 11.0.0.0/8 advertise
+area 0.0.0.1 stub 16777214 all
+area 255.255.255.255 stub 0 default
+interface 0 0.0.0.0 192.0.2.1 0.0.0.0 up
+interface 255 0.0.0.1 198.51.100.1 198.51.100.2 down
+install 0.0.0.0 000102010a0000010a00000180000001e986002400000001c0000200ffffff000300000a
+install 0.0.0.0 00010202c00002020a0000028000000102700020ffffff000a0000010a000002
+install 0.0.0.9 000102030a0100000a00000280000001da61001cffff00000000000a
+install 0.0.0.0 000102040a0000030a000002800000019c9f001c0000000000000007
+install as 00010205cb0071000a000002800000010c690024ffffff00800000140000000000000000
+flush 0.0.0.0 1 10.0.0.1 10.0.0.1
+purge as 5 203.0.113.0 10.0.0.2
+second
+lookup 255.255.255.255
+";
+
+// What is printed of the recording behind what is there already.
+fn printed(rt: &HostRuntime, recording: &Recording) -> Result<bool, Fail> {
+    let mut out = Vec::from_slice(rt.alloc(), b"> ")?;
+    print(rt.alloc(), recording, &mut out)?;
+    Ok(out.as_slice().strip_prefix(b"> ".as_slice()) == Some(TEXT.as_bytes()))
+}
+
+#[test]
+fn a_text_is_read_and_printed(rt: HostRuntime) -> Result<(), Fail> {
+    let read = parse(rt.alloc(), TEXT.as_bytes())?;
+    let same = printed(&rt, &read)?
+        && read.lines().len() == 11
+        && read.config().router == 0x0a00_0001;
+    let (config, lines) = read.into_parts();
+    let again = Recording::of(config, lines).ok_or("a recording")?;
+    assert!(rt; same && printed(&rt, &again)?);
+    Ok(())
+}

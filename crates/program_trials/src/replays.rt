@@ -1,0 +1,132 @@
+//! Replays over readers and writers that fail.
+
+use recording::{Fault, LineFault};
+use replay::{ReplayFault, Show, replay_one};
+use std::alloc::Global;
+use std::hash::RandomState;
+use std::io;
+use std::test::Fail;
+
+const RECORDING: &str = "abr 1
+router 10.0.0.1
+area 0.0.0.0 normal
+interface 1 0.0.0.0 192.0.2.1 0.0.0.0 up
+install 0.0.0.0 000102010a0000010a00000180000001e986002400000001c0000200ffffff000300000a
+lookup 192.0.2.77
+flush 0.0.0.1 1 10.0.0.1 10.0.0.1
+";
+
+const ROUTES: &str = "6 lookup 192.0.2.77 2 route 192.0.2.0/24 intra 0.0.0.0 10 0 direct:1
+7 refused 20 NoArea
+serial 2 built 2
+route 192.0.2.0/24 intra 0.0.0.0 10 0 direct:1
+";
+
+// A device that gives or takes at most sixteen bytes at a call, and does so for some calls.
+#[derive(Drop)]
+struct Device<'a> {
+    left: &'a [u8],
+    taken: Vec<u8>,
+    calls: u8,
+    // What it does then: it fails, or takes nothing.
+    fails: bool,
+}
+
+impl Device<'_> {
+    fn is_over(&mut self) -> bool {
+        let is_over = self.calls == 0;
+        self.calls = self.calls.saturating_sub(1);
+        is_over
+    }
+}
+
+impl io::Read for Device<'_> {
+    fn read(&mut self, buf: &mut [u8]) -> io::Result<usize> {
+        if self.is_over() {
+            return Err(io::Error::from(io::ErrorKind::ConnectionReset));
+        }
+        let most = buf.len().min(16);
+        self.left.read(&mut buf[..most])
+    }
+}
+
+impl io::Write for Device<'_> {
+    fn write(&mut self, buf: &[u8]) -> io::Result<usize> {
+        if !self.is_over() {
+            return self.taken.write(&buf[..buf.len().min(16)]);
+        }
+        if self.fails {
+            return Err(io::Error::from(io::ErrorKind::StorageFull));
+        }
+        Ok(0)
+    }
+
+    fn flush(&mut self) -> io::Result<()> {
+        Ok(())
+    }
+}
+
+fn some_device(alloc: Global, text: &str, calls: u8, fails: bool) -> Device<'_> {
+    let (left, taken) = (text.as_bytes(), Vec::new(alloc));
+    Device {
+        left,
+        taken,
+        calls,
+        fails,
+    }
+}
+
+// What a replay with so many reads and writes answers, and whether what it wrote is a beginning of the
+// routes, and all of them.
+fn replays(
+    alloc: Global,
+    hashing: RandomState,
+    text: &str,
+    calls: (u8, u8),
+    fails: bool,
+) -> (Result<(), ReplayFault>, bool, bool) {
+    let mut input = some_device(alloc, text, calls.0, true);
+    let mut out = some_device(alloc, "", calls.1, fails);
+    let answer = replay_one(alloc, hashing, &mut input, &mut out, Show::Routes);
+    let written = out.taken.as_slice();
+    let begins = ROUTES.as_bytes().starts_with(written);
+    (answer, begins, written.len() == ROUTES.len())
+}
+
+// The recording is read in fifteen calls, the last of which gives nothing.
+#[test]
+fn a_reader_that_fails(rt: HostRuntime) -> Result<(), Fail> {
+    let hashing = RandomState::new(&rt)?;
+    let mut all = true;
+    for calls in 0..15 {
+        let (answer, begins, _) = replays(rt.alloc(), hashing, RECORDING, (calls, 255), true);
+        all &= answer == Err(ReplayFault::Read) && begins;
+    }
+    let whole = replays(rt.alloc(), hashing, RECORDING, (255, 255), true);
+    assert!(rt; all && whole == (Ok(()), true, true));
+    Ok(())
+}
+
+#[test]
+fn a_writer_that_fails_or_takes_nothing(rt: HostRuntime) -> Result<(), Fail> {
+    let hashing = RandomState::new(&rt)?;
+    let mut all = true;
+    for calls in 0..10 {
+        for fails in [true, false] {
+            let found = replays(rt.alloc(), hashing, RECORDING, (255, calls), fails);
+            all &= found == (Err(ReplayFault::Write), true, false);
+        }
+    }
+    assert!(rt; all);
+    Ok(())
+}
+
+#[test]
+fn a_fault_of_the_input_writes_nothing(rt: HostRuntime) -> Result<(), Fail> {
+    let hashing = RandomState::new(&rt)?;
+    let (line, fault) = (2, Fault::Truncated);
+    let line_fault = ReplayFault::Line(LineFault { line, fault });
+    let found = replays(rt.alloc(), hashing, "abr 1\n", (255, 0), true);
+    assert!(rt; found.0 == Err(line_fault));
+    Ok(())
+}

@@ -1,0 +1,37 @@
+use Rattle.std.proofs.Common.{◌≡◌, ◌++◌, ◌+◌, List, ℕ, [], drop, refl, sym, ap, ◌∙◌}
+use Rattle.std.specs.List.{flat_map}
+use Rattle.std.proofs.lemmas.List.{drop_all}
+use Rattle.dues.specs.Dues.{listed}
+use Rattle.dues.specs.Lists.{AreaDuesValue}
+use Rattle.replay.specs.Lines.{area_lines}
+use Rattle.replay.proofs.Written.{on_err}
+use Rattle.replay.proofs.Paging.{adding_none, adding_lines, adding_as, adding_whole, adding_cut, line_next, lines_in, lines_listed}
+use Rattle.replay.proofs.showing.show_dues.Goals as goal
+
+pub loop-area-init : goal.loop-area-init
+loop-area-init g c = adding_none _ _ _ _ refl
+
+pub loop-area-preserved : goal.loop-area-preserved
+loop-area-preserved g c =
+    let w : AreaDuesValue = c.area-item.result in
+    let items : List AreaDuesValue = c.areas-area-items.result.now in
+    let i = c.loop-area.area-index in
+    let printed : area_lines (c.area.result, c.as_slice.result.now) ≡ lines_in w = λ j. area_lines (c.area.ensures j, c.as_slice.ensures.value j) in
+    let next = line_next lines_in items i w c.loop-area-test.true c.area-item.is ∙ ap (λ l. l ++ flat_map lines_in (drop (i + 1) items)) (sym printed) in
+    adding_lines _ _ _ _ _ _ _ _ _ _ c.loop-area.invariant next c.in_ok-show_area.ensures.ok
+
+pub returns-in_err-show_area-clause-err : goal.returns-in_err-show_area-clause-err
+returns-in_err-show_area-clause-err g c =
+    let w : AreaDuesValue = c.area-item.result in
+    let items : List AreaDuesValue = c.areas-area-items.result.now in
+    let i = c.loop-area.area-index in
+    let printed : area_lines (c.area.result, c.as_slice.result.now) ≡ lines_in w = λ j. area_lines (c.area.ensures j, c.as_slice.ensures.value j) in
+    let next = line_next lines_in items i w c.loop-area-test.true c.area-item.is ∙ ap (λ l. l ++ flat_map lines_in (drop (i + 1) items)) (sym printed) in
+    let all : flat_map lines_in items ≡ flat_map area_lines (listed c.args.dues.now.areas) = lines_listed items ∙ ap (λ (areas : List AreaDuesValue). flat_map area_lines (listed areas)) c.areas-area-items.ensures in
+    on_err c.from_residual.result (adding_cut _ _ _ _ _ _ _ _ _ (adding_as _ _ _ _ _ _ _ c.loop-area.invariant all) next c.in_err-show_area.ensures.err)
+
+pub returns-clause-ok : goal.returns-clause-ok
+returns-clause-ok g c =
+    let items : List AreaDuesValue = c.areas-area-items.result.now in
+    let all : flat_map lines_in items ≡ flat_map area_lines (listed c.args.dues.now.areas) = lines_listed items ∙ ap (λ (areas : List AreaDuesValue). flat_map area_lines (listed areas)) c.areas-area-items.ensures in
+    adding_whole _ _ _ _ _ _ (adding_as _ _ _ _ _ _ _ c.loop-area.invariant all) (ap (flat_map lines_in) (drop_all c.loop-area.area-index items c.loop-area-test.false))

@@ -1,0 +1,52 @@
+//! The backbone of a small network, and the routes inside it (RFC 2328, 16.1).
+ghost use Rattle.std.specs.Prelude.{◌≡◌, OnOk};
+
+use area_trees::AreaTree;
+use intra::{AreaInputs, Inputs, Intra};
+use lsdb::Database;
+use ospf_types::config::Interface;
+use std::alloc::Global;
+use std::hash::RandomState;
+use std::test::Fail;
+use vertex_graph::Up;
+
+pub(crate) const ROOT: u32 = 0x0a00_0001;
+
+pub(crate) fn install(alloc: Global, database: &mut Database, bytes: &[u8]) -> Result<(), Fail>
+    ensures { OnOk result (database.new.limit ≡ database.old.limit) }
+{
+    let lsa = lsa_codec::read(alloc, bytes)?;
+    database.install(lsa).ok().ok_or("installed")?;
+    Ok(())
+}
+
+/// The routes of the root inside the backbone, with interface 1 up at the address.
+pub(crate) fn inside(
+    alloc: Global,
+    hashing: RandomState,
+    database: &Database,
+    address: u32,
+    peer: u32,
+) -> Result<Intra, Fail>
+    requires { database.now.limit ≡ 3 }
+{
+    let ups = [Up { id: 1, address }];
+    let (tree, _) = AreaTree::build(alloc, ROOT, database, &ups, hashing)?;
+    let areas = [AreaInputs {
+        id: 0,
+        database,
+        tree: &tree,
+    }];
+    let interface = Interface {
+        area: 0,
+        address,
+        peer,
+        up: true,
+    };
+    let inputs = Inputs {
+        root: ROOT,
+        areas: &areas,
+        interfaces: &[(1, interface)],
+    };
+    Ok(Intra::build(alloc, &inputs, hashing)?)
+}

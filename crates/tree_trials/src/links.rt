@@ -1,0 +1,70 @@
+//! The links of a graph come with LSAs and interfaces, and go.
+use crate::network::{network, router};
+use crate::trial::{hand_in, test_size};
+use ospf_types::entry::Vertex;
+use ospf_types::label::Label;
+use std::alloc::Global;
+use std::hash::RandomState;
+use std::test::Fail;
+use vertex_graph::{Graph, Link, Up};
+
+const ROUTER: u32 = 0x0a00_0001;
+
+const ADDRESS: u32 = 0xc000_0201;
+
+const ROOT: Vertex = Vertex::Router(ROUTER);
+
+const N: Vertex = Vertex::Network(ADDRESS);
+
+// Whether there is one link, and it leads over that interface or to those addresses.
+fn is_one(links: &[Link], interface: u8, addresses: &[u32]) -> bool {
+    match links {
+        [link] => match &link.label {
+            Label::Over(id) => *id == interface,
+            Label::At(at) => at.as_slice() == addresses,
+            Label::Plain => false,
+        },
+        _ => false,
+    }
+}
+
+// Whether the links come: 10.0.0.1 lies on the transit network 192.0.2.1 at metric 10, its address there 192.0.2.1.
+fn comes(alloc: Global, graph: &mut Graph) -> Result<bool, Fail> {
+    let own = router(alloc, ROUTER, &[(N, ADDRESS, 10)])?;
+    let other = network(alloc, ADDRESS, &[ROUTER])?;
+    let changes = hand_in(graph, &[(ROOT, Some(&own)), (N, Some(&other))])?;
+    Ok(changes.gone.is_empty() && is_one(&changes.came, 0, &[ADDRESS]))
+}
+
+// Whether the link to the network leads over the interface once that is up.
+fn goes_over(graph: &mut Graph) -> Result<bool, Fail> {
+    let changes = graph.interfaces(&[Up {
+        id: 7,
+        address: ADDRESS,
+    }])?;
+    let links = is_one(graph.links_from(ROOT), 7, &[]);
+    let back = is_one(graph.links_to(ROOT), 0, &[ADDRESS]);
+    Ok(changes.gone.is_empty() && is_one(&changes.came, 7, &[]) && links && back)
+}
+
+// Whether both links go with the network.
+fn goes(graph: &mut Graph) -> Result<bool, Fail> {
+    test_size(graph, &[(N, None)])?;
+    let changes = graph.replace(N, None)?;
+    Ok(changes.came.is_empty() && changes.gone.len() == 2 && graph.len() == 1)
+}
+
+fn come_and_go(alloc: Global, graph: &mut Graph) -> Result<bool, Fail> {
+    let came = comes(alloc, graph)?;
+    let moved = goes_over(graph)?;
+    let gone = goes(graph)?;
+    Ok(came && moved && gone && graph.has_root() && graph.root() == ROUTER)
+}
+
+#[test]
+fn links_come_and_go(rt: HostRuntime) -> Result<(), Fail> {
+    let hashing = RandomState::new(&rt)?;
+    let mut graph = Graph::new(rt.alloc(), ROUTER, hashing);
+    assert!(rt; come_and_go(rt.alloc(), &mut graph)?);
+    Ok(())
+}
