@@ -26,6 +26,7 @@ pub enum Item {
 /// The networks with their items, and how many events the table follows.
 #[derive(Debug, Drop)]
 pub struct Table {
+    alloc: Global,
     items: BTreeMap<Prefix, Item>,
     serial: u64,
 }
@@ -96,6 +97,7 @@ impl Table {
         ensures { result ≡ record { items = map.empty; serial = serial } }
     {
         Table {
+            alloc,
             items: BTreeMap::new(alloc),
             serial,
         }
@@ -159,6 +161,18 @@ impl Table {
         ensures { self.new ≡ record self.old { serial = serial } }
     {
         self.serial = serial;
+    }
+
+    // No network has an item any more.
+    pub(crate) fn clear(&mut self)
+        ensures { self.new ≡ record self.old { items = map.empty } }
+    {
+        self.items.clear();
+    }
+
+    // What the table's memory comes from.
+    pub(crate) fn alloc(&self) -> Global {
+        self.alloc
     }
 
     // Takes the network's item out.
