@@ -57,7 +57,7 @@ abbrev no_items : Items
 no_items = empty
 
 -- all items lead from nothing to them
-nothing_leads : (items : Items) → Lead no_items items (all_of items)
+pub nothing_leads : (items : Items) → Lead no_items items (all_of items)
 nothing_leads items = record { given = given; others = λ p. others p (get items p) refl }
   where
     given : (p : Network) (o : Option Item) → Contains (all_of items) (p, o) → get items p ≡ o

@@ -12,7 +12,7 @@ mod writing;
 
 pub use forwarder::{Forwarder, Seen};
 pub use history::{Author, Front};
-pub use rule::ShownWriter;
+pub use rule::{Named, ShownWriter};
 pub use setting::Setting;
 pub use shown::{Shown, Tag};
 pub use told::Told;

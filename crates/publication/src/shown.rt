@@ -1,12 +1,14 @@
 //! What readers are shown: the table, and the list of events that it is right for.
-ghost use Rattle.std.specs.Prelude.{◌≡◌};
+ghost use Rattle.std.specs.Prelude.{◌≡◌, IfOk};
+ghost use Rattle.publication.specs.Updates.{face_of};
 
 use crate::history::{Front, Token};
 use crate::setting::Setting;
 use left_right::Absorb;
 use ospf_types::config::Config;
+use ospf_types::memory::Memory;
 use route_table::{Change, Table};
-use std::alloc::AllocError;
+use std::alloc::{AllocError, Global};
 use std::marker::Model;
 
 /// The name of an engine, for contracts alone. It has no bytes.
@@ -41,6 +43,29 @@ pub struct Shown {
     pub table: Table,
     pub front: Front,
     pub config: Setting,
+}
+
+impl Shown {
+    /// A copy of the table, with the list that it is right for and the engine's configuration.
+    pub fn of(alloc: Global, table: &Table, front: &Front, config: &Config) -> Result<Shown, Memory>
+        ensures { IfOk result (λ shown. face_of shown ≡ record { table = table.now; front = front.now; config = config.now }) }
+    {
+        Ok(Shown {
+            table: copy_of(alloc, table)?,
+            front: front.again(),
+            config: Setting::of(config),
+        })
+    }
+}
+
+fn copy_of(alloc: Global, table: &Table) -> Result<Table, Memory>
+    ensures { IfOk result (λ copy. copy ≡ table.now) }
+{
+    let mut copy = Table::new(alloc, table.serial());
+    for (prefix, item) in table.items() {
+        copy.set(prefix, item.copy(alloc)?)?;
+    }
+    Ok(copy)
 }
 
 #[derive(Drop)]

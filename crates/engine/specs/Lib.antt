@@ -1,0 +1,5 @@
+pub mod Answers
+pub mod Desks
+pub mod Rooms
+pub mod Opens
+pub mod Texts
