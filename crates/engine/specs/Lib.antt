@@ -1,4 +1,5 @@
 pub mod Answers
+pub mod Bytes
 pub mod Desks
 pub mod Rooms
 pub mod Opens

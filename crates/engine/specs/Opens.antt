@@ -5,7 +5,7 @@ use Rattle.event_core.specs.declared.fault.ConfigFault.{ConfigFault}
 use Rattle.event_core.specs.declared.fault.ConfigFault.TheVariants.{Memory}
 use Rattle.event_core.specs.Configs.{config_fault_of}
 use Rattle.engine.specs.declared.open_fault.OpenFault.{OpenFault}
-use Rattle.engine.specs.declared.open_fault.OpenFault.TheVariants as open
+use Rattle.engine.specs.declared.open_fault.OpenFault.TheVariants as opens
 
 -- as many readers as there may be
 abbrev pub AreReaders : ℕ → Type 0
@@ -13,6 +13,6 @@ AreReaders n = (0 < n) × (n ≤ 64)
 
 -- a fault of the configuration before all others, then the number of readers, then what only a refused growth or place can cause
 abbrev pub IsOpenFaultOf : Config → ℕ → OpenFault → Type 0
-IsOpenFaultOf config readers (open.Config f) = (config_fault_of config ≡ Some f) ⊎ ((f ≡ Memory) × (config_fault_of config ≡ None) × AreReaders readers)
-IsOpenFaultOf config readers open.Readers = (config_fault_of config ≡ None) × ((readers ≡ 0) ⊎ (64 < readers))
-IsOpenFaultOf config readers open.Place = (config_fault_of config ≡ None) × AreReaders readers
+IsOpenFaultOf config readers (opens.Config f) = (config_fault_of config ≡ Some f) ⊎ ((f ≡ Memory) × (config_fault_of config ≡ None) × AreReaders readers)
+IsOpenFaultOf config readers opens.Readers = (config_fault_of config ≡ None) × ((readers ≡ 0) ⊎ (64 < readers))
+IsOpenFaultOf config readers opens.Place = (config_fault_of config ≡ None) × AreReaders readers

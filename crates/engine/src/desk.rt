@@ -1,12 +1,8 @@
 //! What lies under the lock: the core, and the writer of what is published.
 ghost use Rattle.std.specs.Prelude.{◌≡◌, ◌⊎◌, ◌↔◌, ◌≤◌, ◌<◌, ◌^◌, [], ◌∷◌, ◌++◌, length, take, drop, false, IsTrue, IfOk, IfErr, IfNone, MatchOption, MatchResult, IfSome};
 ghost use mathlib.Core.List.{IsPrefix};
-ghost use Rattle.std.specs.FinMap.{empty};
 ghost use Rattle.left_right.specs.Sides.{view as known_to};
-ghost use Rattle.event_core.specs.Configs.{config_fault_of};
-ghost use Rattle.event_core.specs.Cores.{IsCore};
 ghost use Rattle.event_state.specs.Steps.{standard_limits};
-ghost use Rattle.publication.specs.Updates.{face_of};
 ghost use Rattle.engine.specs.Answers.{Answers, Refusals, Dues, HasArea};
 ghost use Rattle.engine.specs.Desks.{IsKept, CanFollow};
 ghost use Rattle.engine.specs.Opens.{AreReaders};
@@ -15,11 +11,9 @@ ghost use Rattle.event_core.specs.declared.reply.Standing.TheVariants.{Current, 
 
 use crate::answer::{Answer, DueList, Refused};
 use crate::gate::Gate;
-use event_core::table::Table;
 use event_core::{Core, Event, Refusal, Reply, Standing};
-use ospf_types::config::Config;
 use ospf_types::memory::Memory;
-use publication::{Author, Forwarder, Front, Named, Setting, Shown, ShownWriter, Tag, Told, show, show_changes};
+use publication::{Author, Forwarder, Named, Setting, Shown, ShownWriter, Tag, Told, show, show_changes};
 use std::alloc::{AllocError, Global};
 use std::marker::Model;
 use std::sync::Wait;
@@ -37,13 +31,14 @@ pub struct Desk {
 impl Model for Desk {
     ghost use Rattle.std.specs.Prelude.{drop};
     ghost use Rattle.left_right.specs.Sides.{view as known_to};
+    ghost use Rattle.event_core.specs.Cores.{IsCore};
     ghost use Rattle.engine.specs.Desks.{Held, IsKept, IsFresh};
 
     ghost Value = { Held };
 
     ghost view = { λ d. record { name = record { book = d.author.book; config = d.core.config }; journal = d.core.journal; built = d.core.built; published = d.writer.desk.shown.value.front.list } };
 
-    ghost invariant = { λ d. IsKept d.core d.author d.writer.desk.shown.value (known_to d.writer.desk.place) × IsFresh d.stale d.core d.writer.desk.shown.value (drop d.writer.behind d.writer.log.items) };
+    ghost invariant = { λ d. IsCore d.core × IsKept d.core d.author d.writer.desk.shown.value (known_to d.writer.desk.place) × IsFresh d.stale d.core d.writer.desk.shown.value (drop d.writer.behind d.writer.log.items) };
 }
 
 #[tactic(auto, using(publication::proofs::Prefixes::prefix_take, publication::proofs::Prefixes::take_prefix))]
@@ -235,20 +230,20 @@ impl Desk {
         alloc: Global,
         core: Core,
         readers: usize,
-    ) -> Result<Desk, AllocError>
+    ) -> Result<Desk, Memory>
         requires readers { AreReaders readers }
         requires journal { core.journal ≡ [] }
         requires limits { core.limits ≡ standard_limits }
         ensures { IfOk result (λ d. (d.name.config ≡ core.config) × (d.journal ≡ []) × (d.published ≡ [])) }
     {
         let author = Author::open();
-        let first = opening(alloc, &author.front(), core.config());
-        let second = opening(alloc, &author.front(), core.config());
+        let first = Shown::of(alloc, core.table(), &author.front(), core.config())?;
+        let second = Shown::of(alloc, core.table(), &author.front(), core.config())?;
         let writer = ShownWriter::new(alloc, first, second, readers)?;
         let (writer, done) = show(rt, alloc, writer, core.table(), &author.front());
         if !done {
             drop(writer.take(rt));
-            return Err(AllocError);
+            return Err(Memory);
         }
         Ok(Desk {
             alloc,
@@ -313,17 +308,5 @@ fn answer(reply: Reply, told: Option<Told>) -> Answer
     Answer {
         reply: Reply { state, ..reply },
         told,
-    }
-}
-
-// What is shown before any event.
-fn opening(alloc: Global, front: &Front, config: &Config) -> Shown
-    requires { front.now.list ≡ [] }
-    ensures shown { face_of result ≡ record { table = record { items = empty; serial = 0 }; front = front.now; config = config.now } }
-{
-    Shown {
-        table: Table::new(alloc, 0),
-        front: front.again(),
-        config: Setting::of(config),
     }
 }

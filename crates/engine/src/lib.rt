@@ -3,6 +3,7 @@
 #![tactic(auto)]
 
 mod answer;
+mod bytes;
 mod desk;
 mod engine_state;
 mod gate;

@@ -3,8 +3,8 @@ ghost use Rattle.std.specs.Prelude.{◌≡◌, IfOk, IfSome};
 ghost use Rattle.engine.specs.Rooms.{Fits};
 
 use crate::desk::Desk;
-use crate::shown::Tag;
 use atomic_table::{Play, Table, TableRule};
+use publication::Tag;
 use std::alloc::{AllocError, Global};
 use std::marker::Model;
 use std::sync::Wait;

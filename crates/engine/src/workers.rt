@@ -4,10 +4,10 @@ ghost use Rattle.std.specs.List.{AllZip};
 ghost use Rattle.engine.specs.Answers.{AreAnswered};
 ghost use Rattle.event_state.specs.declared.refusal.Refusal.TheVariants.{Memory, Spawn, Workers};
 
-use crate::engine::Engine;
-use crate::event::{Event, Refusal};
+use crate::answer::{Answer, Refused};
+use crate::engine_state::Engine;
 use crate::gate::Gate;
-use crate::token::{Answer, Refused};
+use event_core::{Event, Refusal};
 use std::alloc::{AllocError, Global};
 use std::snapshot::Snapshot;
 use std::sync::Wait;
