@@ -1,5 +1,5 @@
 //! The items of the networks, and how they are found.
-ghost use Rattle.std.specs.Prelude.{◌≡◌, ◌<◌, ◌≤◌, ℕ, OnOk, OnErr, IfOk, IfSome, IfNone, option_copied};
+ghost use Rattle.std.specs.Prelude.{◌≡◌, ◌<◌, ◌≤◌, ℕ, OnOk, OnErr, IfOk, IsSome, IfSome, IfNone, option_copied};
 ghost use Rattle.std.specs.FinMap as map;
 ghost use Rattle.std.specs.BTreeMap.Range.{IsLeBy};
 ghost use Rattle.std.specs.List.Sorted.{IsStrictlySortedBy};
@@ -139,7 +139,7 @@ impl Table {
         let mut length = 32;
         while let Some((prefix, item)) = self.last_up_to(network_around(address, length)) {
             if prefix.contains(address) {
-                return match_of(prefix, item);
+                return match_of(*prefix, item);
             }
             length = shorter(address, length, prefix.address());
         }
@@ -185,12 +185,12 @@ impl Table {
     }
 
     // The last network of the table up to that one, in their order, with its item.
-    fn last_up_to(&self, bound: Prefix) -> Option<(Prefix, &Item)>
-        ensures found { IfSome result (λ e. IsLastUpTo self.now.items bound e.0 e.1.now) }
+    fn last_up_to(&self, bound: Prefix) -> Option<(&Prefix, &Item)>
+        ensures found { IfSome result (λ e. IsLastUpTo self.now.items bound e.0.now e.1.now) }
         ensures absent { IfNone result ((q : Network) → IsLeBy network_cmp q bound → map.get self.now.items q ≡ None) }
+        ensures within { (q : Network) → IsSome (map.get self.now.items q) → q.length ≤ 32 }
     {
-        let (prefix, item) = self.items.range(..=bound).next_back()?;
-        Some((*prefix, item))
+        self.items.range(..=bound).next_back()
     }
 }
 
