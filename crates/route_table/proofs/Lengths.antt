@@ -1,5 +1,5 @@
 -- Networks around one address: the longer begins no earlier.
-use Rattle.std.proofs.Common.{◌≡◌, ℕ, ◌+◌, ◌-◌, ◌*◌, ◌/◌, ◌^◌, ◌<◌, ◌≤◌, List, Bool, true, false, inl, inr, sym, ap, subst, ◌∙◌, refl, arith}
+use Rattle.std.proofs.Common.{◌≡◌, ℕ, ◌+◌, ◌-◌, ◌*◌, ◌/◌, ◌^◌, ◌≤◌, false, inl, inr, sym, subst, ◌∙◌, arith}
 use Rattle.std.specs.BTreeMap.Range.{IsLeBy}
 use Rattle.std.specs.Ordering.{is_lt}
 use Rattle.std.proofs.Math.Nat.{mul_assoc, mul_comm, mul-le-mul_right, div-mul-le_self}
@@ -61,15 +61,3 @@ same_network p q low high =
     let address : p.address ≡ q.address = omega (arith, address_le p q low, address_le q p high) in
     let length : p.length ≡ q.length = omega (arith, length_le p q address low, length_le q p (sym address) high) in
     λ i. record { address = address i; length = length i }
-
--- the network of no bits has each address
-pub some_length : (p : Network) (address length : ℕ) → address < 2 ^ 32 → IsLeBy network_cmp p (around address length) → (HasAddress p address → ⊥) → 0 < length
-some_length p address length small le outside = elim (cases_lt 0 length) [
-  | inl lt ↦ lt
-  | inr none ↦
-      let zero : length ≡ 0 = omega (arith, none) in
-      let whole : masked address 0 ≡ 0 = omega (arith, small) in
-      let first : around address length ≡ record { address = 0; length = 0 } = ap (around address) zero ∙ (λ i. record { address = whole i; length = 0 }) in
-      let here : p ≡ record { address = 0; length = 0 } = same_network p (record { address = 0; length = 0 }) (subst (IsLeBy network_cmp p) first le) (le_from (record { address = 0; length = 0 }) p (omega arith) (omega arith)) in
-      absurd (outside (subst (λ (n : Network). HasAddress n address) (sym here) whole))
-]

@@ -1,5 +1,5 @@
 -- The longest match, found by going down the networks around the address.
-use Rattle.std.proofs.Common.{◌≡◌, ℕ, ◌+◌, ◌<◌, ◌≤◌, List, Some, None, inl, inr, sym, ap, subst, ◌∙◌, refl, arith}
+use Rattle.std.proofs.Common.{◌≡◌, ℕ, ◌<◌, ◌≤◌, Some, None, inl, inr, sym, ap, subst, ◌∙◌, refl, arith}
 use Rattle.std.specs.Prelude.{Option, IsSome}
 use Rattle.std.specs.FinMap as map
 use Rattle.std.specs.BTreeMap.Range.{IsLeBy}
@@ -58,8 +58,10 @@ module _ (items : map.FinMap network_cmp Item) (address length : ℕ) (within : 
       where
         up_to : q.length ≤ length → IsLeBy network_cmp q (around address length)
         up_to short = around_le q address length has short
+
         before : q.length ≤ length → IsSome (map.get items q) → IsLeBy network_cmp q p
         before short some = last.last q some (up_to short)
+
         none : q.length ≤ length → (o : Option Item) → map.get items q ≡ o → o ≡ None
         none short None is = refl
         none short (Some j) is =
