@@ -1,13 +1,13 @@
-use Rattle.std.proofs.Common.{◌≡◌, length, sym, ap, ◌∙◌, subst, arith}
+use Rattle.std.proofs.Common.{◌≡◌, length, ap, ◌∙◌, subst, arith}
 use Rattle.event_state.specs.declared.limits.Limits.{Limits}
 use Rattle.event_state.specs.Refusals.{IsRefusalOf}
 use Rattle.event_state.specs.States.{State}
 use Rattle.event_state.specs.Steps.{run_of}
-use Rattle.event_core.specs.Cores.{CoreValue, Stands, NamesChanges, state_of}
+use Rattle.event_core.specs.Cores.{CoreValue, Stands, NamesChanges}
 use Rattle.event_core.specs.declared.reply.Standing.{Standing}
 use Rattle.event_core.specs.declared.reply.Standing.TheVariants.{Current}
 use Rattle.publication.specs.Names.{Name}
-use Rattle.engine.specs.Answers.{Answers, after}
+use Rattle.engine.specs.Answers.{Answers}
 use Rattle.engine.specs.Desks.{Held}
 use Rattle.engine.proofs.Following.{follows}
 use Rattle.engine.proofs.Runs.{legal_core}
@@ -36,7 +36,7 @@ returns-in-Err-clause-answer g c =
     let kept = c.self.invariant.1 in
     let name = ap (λ (h : Held). h.name) c.self.view_is in
     let journal = ap (λ (v : CoreValue). v.journal) same in
-    let count = c.len.ensures ∙ ap length (c.journal.ensures.value ∙ journal) in
+    let count = ap length (c.journal.ensures.value ∙ journal) in
     let told = c.told-told-in-Err in
     let first = subst (λ (t : State). IsRefusalOf t c.args.event c.in-Err.refusal) (ap (λ (l : Limits). run_of core.config l core.journal) kept.limits) refused.first in (
       core.journal,
