@@ -5,4 +5,5 @@ pub mod Rooming
 pub mod Zips
 pub mod Replying
 pub mod Duing
+pub mod Keeping
 pub mod Working

@@ -4,7 +4,8 @@ ghost use mathlib.Core.List.{IsPrefix};
 ghost use Rattle.left_right.specs.Sides.{view as known_to};
 ghost use Rattle.event_state.specs.Steps.{standard_limits};
 ghost use Rattle.engine.specs.Answers.{Answers, Refusals, Dues, HasArea};
-ghost use Rattle.engine.specs.Desks.{IsKept, CanFollow};
+ghost use Rattle.event_core.specs.Cores.{IsCore};
+ghost use Rattle.engine.specs.Desks.{IsKept, IsBegun, CanFollow};
 ghost use Rattle.engine.specs.Opens.{AreReaders};
 ghost use Rattle.event_state.specs.declared.refusal.Refusal.TheVariants.{Memory as NoMemory, NoArea};
 ghost use Rattle.event_core.specs.declared.reply.Standing.TheVariants.{Current, Behind};
@@ -60,6 +61,21 @@ fn follow(author: &mut Author, journal: &[Event]) -> bool
     true
 }
 
+// Adds what the history lacks of the journal, where all of it was built. The answer is false where it was not, or where
+// another had added to the history.
+fn follow_built(author: &mut Author, core: &Core) -> bool
+    requires written { IsBegun author.old.list core.now }
+    ensures kept { IsCore core.now }
+    ensures book { author.new.book ≡ author.old.book }
+    ensures written { IsBegun author.new.list core.now }
+    ensures whole { IsTrue result → (author.new.list ≡ core.now.journal) × (core.now.built ≡ length core.now.journal) }
+{
+    if core.built() < core.journal().len() as u64 {
+        return false;
+    }
+    follow(author, core.journal())
+}
+
 // Publishes the table of the whole journal, where it was built. It may be refused.
 fn publish_whole<R: Wait>(
     rt: &R,
@@ -72,7 +88,7 @@ fn publish_whole<R: Wait>(
     ensures { (result.name ≡ record { book = author.book; config = core.config }) × (result.journal ≡ core.journal) × (result.built ≡ core.built) }
 {
     let mut author = author;
-    if core.built() < core.journal().len() as u64 || !follow(&mut author, core.journal()) {
+    if !follow_built(&mut author, &core) {
         return Desk {
             alloc,
             core,
@@ -104,7 +120,7 @@ fn publish_changes<R: Wait>(
     ensures { (result.name ≡ record { book = author.book; config = core.config }) × (result.journal ≡ core.journal) × (result.built ≡ core.built) }
 {
     let mut author = author;
-    if !follow(&mut author, core.journal()) {
+    if !follow_built(&mut author, &core) {
         return Desk {
             alloc,
             core,

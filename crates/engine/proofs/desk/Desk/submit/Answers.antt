@@ -1,4 +1,4 @@
-use Rattle.std.proofs.Common.{◌≡◌, length, ap, ◌∙◌, subst, arith}
+use Rattle.std.proofs.Common.{◌≡◌, length, ap, ◌∙◌, subst, arith, [], ◌∷◌, sym}
 use Rattle.event_state.specs.declared.limits.Limits.{Limits}
 use Rattle.event_state.specs.Refusals.{IsRefusalOf}
 use Rattle.event_state.specs.States.{State}
@@ -10,6 +10,7 @@ use Rattle.publication.specs.Names.{Name}
 use Rattle.engine.specs.Answers.{Answers}
 use Rattle.engine.specs.Desks.{Held}
 use Rattle.engine.proofs.Following.{follows}
+use Rattle.engine.proofs.Keeping.{core_kept}
 use Rattle.engine.proofs.Runs.{legal_core}
 use Rattle.engine.proofs.Replying.{answers, replied, tells_beside, taken_whole}
 use Rattle.engine.proofs.desk.Desk.submit.Goals as goal
@@ -67,3 +68,8 @@ publish-desk-requires-clause-follows g c alone =
       stands.0,
       follows core now shown c.self.invariant.0 kept.limits kept.right config fresh.1 built (named.0 built),
     )
+
+pub publish-desk-requires-clause-kept : goal.publish-desk-requires-clause-kept
+publish-desk-requires-clause-kept g c =
+    let taken = c.in-Ok.ensures.applied in
+    core_kept c.self.inside.core c.apply.new.self c.in-Ok.reply.state _ _ _ taken.config taken.limits (c.args.event ∷ [], sym taken.joins) taken.stands c.self.invariant.1
