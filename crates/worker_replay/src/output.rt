@@ -1,0 +1,68 @@
+//! The output, written: what the lines printed, and what is shown behind it.
+
+use event_core::Core;
+use lsa_codec::Checked;
+use ospf_types::key::Scope;
+use recording::append_header;
+use replay::{Show, Stop, put_serial, show_dues, show_events, show_items, show_lsas, write_page};
+use std::alloc::Global;
+use std::io;
+
+/// Writes what `show` names of a core, and before it what was printed of the lines.
+pub(crate) fn write_output<W: io::Write>(
+    alloc: Global,
+    core: &Core,
+    printed: String,
+    out: &mut W,
+    show: Show,
+) -> Result<(), Stop> {
+    let mut page = printed;
+    match show {
+        Show::Routes => write_routes(core, &mut page, out),
+        Show::Due => write_due(core, &mut page, out),
+        Show::Lsdb => write_lsdb(core, core.lsas()?, &mut page, out),
+        Show::Journal => {
+            page.clear();
+            write_journal(alloc, core, &mut page, out)
+        }
+    }
+}
+
+fn write_routes<W: io::Write>(core: &Core, page: &mut String, out: &mut W) -> Result<(), Stop> {
+    put_serial(core, page)?;
+    show_items(core.table(), out, page)?;
+    write_page(out, page)?;
+    Ok(())
+}
+
+fn write_due<W: io::Write>(core: &Core, page: &mut String, out: &mut W) -> Result<(), Stop> {
+    put_serial(core, page)?;
+    show_dues(core.dues(), out, page)?;
+    write_page(out, page)?;
+    Ok(())
+}
+
+fn write_lsdb<W: io::Write>(
+    core: &Core,
+    lsas: Vec<(Scope, Checked)>,
+    page: &mut String,
+    out: &mut W,
+) -> Result<(), Stop> {
+    put_serial(core, page)?;
+    show_lsas(lsas, out, page)?;
+    write_page(out, page)?;
+    Ok(())
+}
+
+// On an empty page.
+fn write_journal<W: io::Write>(
+    alloc: Global,
+    core: &Core,
+    page: &mut String,
+    out: &mut W,
+) -> Result<(), Stop> {
+    append_header(core.config(), page)?;
+    show_events(alloc, core.journal(), out, page)?;
+    write_page(out, page)?;
+    Ok(())
+}
