@@ -3,7 +3,7 @@
 ghost use Rattle.std.specs.Prelude.{◌≡◌, ◌≤◌, ◌++◌, OnOk, codes, length, string_bytes};
 ghost use Rattle.hex.specs.Hex.{encode_lower};
 ghost use Rattle.recording.specs.Forms.{scope_text};
-ghost use Rattle.route_table.specs.declared.table.Match.{Match as MatchValue};
+ghost use Rattle.route_table.specs.declared.table.Match.{Match};
 ghost use Rattle.route_table.specs.Tables.{IsMatch};
 ghost use Rattle.replay.specs.Lines.{lookup_line, answer_line, serial_line, item_line, due_line, dest_text, header_text, lsa_line};
 
@@ -13,7 +13,7 @@ use ospf_types::address::Address;
 use ospf_types::key::{Dest, Scope};
 use ospf_types::memory::Memory;
 use ospf_types::prefix::Prefix;
-use route_table::{Item, Match, Table};
+use route_table::{Item, Table};
 
 /// The match of the address in the table.
 pub(crate) fn put_lookup(
@@ -22,22 +22,10 @@ pub(crate) fn put_lookup(
     table: &Table,
     text: &mut String,
 ) -> Result<(), Memory>
-    ensures { OnOk result ((found : MatchValue) × IsMatch table.now.items address found
+    ensures { OnOk result ((found : Match) × IsMatch table.now.items address found
         × (string_bytes text.new ≡ string_bytes text.old ++ lookup_line number address table.now.serial found)) }
 {
-    put_found(number, address, table.serial(), table.lookup(address), text)
-}
-
-/// The match of the address (host order) in a table that follows so many events.
-pub fn put_found(
-    number: usize,
-    address: u32,
-    serial: u64,
-    found: Match<'_>,
-    text: &mut String,
-) -> Result<(), Memory>
-    ensures { OnOk result (string_bytes text.new ≡ string_bytes text.old ++ lookup_line number address serial found) }
-{
+    let (serial, found) = (table.serial(), table.lookup(address));
     let address = Address(address);
     writeln!(text, "{number} lookup {address} {serial} {found}")?;
     Ok(())

@@ -1,9 +1,9 @@
 //! Events are dealt to lists in turn, and their answers are collected again.
-ghost use Rattle.std.specs.Prelude.{◌≡◌, ◌<◌, ◌+◌, ℕ, List, length, map, reverse, vec_len, IfOk, OnOk};
+ghost use Rattle.std.specs.Prelude.{◌≡◌, ◌++◌, ◌<◌, List, [], ◌∷◌, length, map, reverse, option_to_list, IsNone, IfOk, OnOk};
 ghost use Rattle.event_state.specs.declared.event.Event.{Event as EventValue};
 ghost use Rattle.publication.specs.Names.{Name};
 ghost use Rattle.engine.specs.Answers.{AreAnswered};
-ghost use Rattle.worker_replay.specs.Dealing.{IsDealt, AreDealtTo, backwards, items_of};
+ghost use Rattle.worker_replay.specs.Dealing.{IsDealt, AreAnsweredDealt, AreTaken};
 
 use engine::{Answer, Refused};
 use event_core::Event;
@@ -33,7 +33,7 @@ pub(crate) fn deal(
 }
 
 fn empty_lists(alloc: Global, count: usize) -> Result<Vec<Vec<Event>>, Memory>
-    ensures empty { IfOk result (λ lists. IsDealt [] (map backwards lists.items)) }
+    ensures empty { IfOk result (λ lists. IsDealt [] (map (λ list. reverse list.items) lists.items)) }
     ensures count { IfOk result (λ lists. length lists.items ≡ count) }
 {
     let mut lists = Vec::with_capacity(alloc, count)?;
@@ -47,7 +47,7 @@ fn empty_lists(alloc: Global, count: usize) -> Result<Vec<Vec<Event>>, Memory>
 // Each list is kept backwards.
 fn deal_before(lists: &mut Vec<Vec<Event>>, event: Event) -> Result<(), Memory>
     requires { 0 < length lists.old.items }
-    ensures dealt { (events : List EventValue) → IsDealt events (map backwards lists.old.items) → OnOk result (IsDealt (event ∷ events) (map backwards lists.new.items)) }
+    ensures dealt { (events : List EventValue) → IsDealt events (map (λ list. reverse list.items) lists.old.items) → OnOk result (IsDealt (event ∷ events) (map (λ list. reverse list.items) lists.new.items)) }
     ensures count { length lists.new.items ≡ length lists.old.items }
 {
     lists.rotate_right(1);
@@ -57,7 +57,7 @@ fn deal_before(lists: &mut Vec<Vec<Event>>, event: Event) -> Result<(), Memory>
 
 /// The answers to so many events, in the order of the events, whose lists had been dealt in turn.
 pub(crate) fn collect(alloc: Global, lists: Vec<Answers>, count: usize) -> Result<Answers, Memory>
-    ensures { (name : Name) (events : List EventValue) → length events ≡ count → AreDealtTo name events (map (λ list. list.items) lists.items) → IfOk result (λ answers. AreAnswered name events answers.items) }
+    ensures { (name : Name) (events : List EventValue) → length events ≡ count → AreAnsweredDealt name events (map (λ list. list.items) lists.items) → IfOk result (λ answers. AreAnswered name events answers.items) }
 {
     let mut lists = lists;
     let mut answers = Vec::with_capacity(alloc, count)?;
@@ -72,7 +72,9 @@ pub(crate) fn collect(alloc: Global, lists: Vec<Answers>, count: usize) -> Resul
 }
 
 // Takes the first answer of the first list, which is the last list then. Each list is kept backwards.
-fn take_next(lists: &mut Vec<Answers>) -> Option<Result<Answer, Refused>> {
+fn take_next(lists: &mut Vec<Answers>) -> Option<Result<Answer, Refused>>
+    ensures { (name : Name) (events : List EventValue) → AreAnsweredDealt name events (map (λ list. reverse list.items) lists.old.items) → AreTaken name events result (map (λ list. reverse list.items) lists.new.items) }
+{
     if lists.is_empty() {
         return None;
     }
@@ -82,7 +84,9 @@ fn take_next(lists: &mut Vec<Answers>) -> Option<Result<Answer, Refused>> {
 }
 
 fn reverse_each<T>(lists: &mut Vec<Vec<T>>)
-    ensures { map (λ list. list.items) lists.new.items ≡ map backwards lists.old.items }
+    ensures items { map (λ list. list.items) lists.new.items ≡ map (λ list. reverse list.items) lists.old.items }
+    ensures backwards { map (λ list. reverse list.items) lists.new.items ≡ map (λ list. list.items) lists.old.items }
+    ensures count { length lists.new.items ≡ length lists.old.items }
 {
     for list in lists.iter_mut() {
         reverse_one(list);

@@ -1,7 +1,8 @@
 //! A forwarder learns the tokens that came with answers.
 ghost use Rattle.std.specs.Prelude.{◌≡◌, All, IfOk, IfSome, map};
 ghost use mathlib.Core.List.{IsPrefix};
-ghost use Rattle.worker_replay.specs.Runs.{IsOf, IsAfter, reply_of, told_of};
+ghost use Rattle.worker_replay.specs.Runs.{IsAfter, reply_of, told_of};
+ghost use Rattle.worker_replay.specs.Parts.{IsOf};
 
 use crate::dealing::Answers;
 use engine::{Answer, Forwarder, Refused, Told};

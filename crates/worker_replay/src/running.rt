@@ -1,10 +1,9 @@
 //! A recording is run over an engine.
-ghost use Rattle.std.specs.Prelude.{◌≡◌, ◌×◌, ◌<◌, ◌≤◌, ◌+◌, ◌^◌, length, IfOk, IfErr, None, string_bytes};
-ghost use Rattle.std.specs.List.{AllZip};
+ghost use Rattle.std.specs.Prelude.{◌≡◌, ◌<◌, ◌≤◌, ◌+◌, ◌^◌, [], length, IfOk, IfErr, None, string_bytes};
 ghost use Rattle.event_core.specs.Configs.{config_fault_of};
 ghost use Rattle.engine.specs.Answers.{AreAnswered};
 ghost use Rattle.replay.specs.Lines.{first_number};
-ghost use Rattle.worker_replay.specs.Parts.{HasRun, HasPrinted, IsRunFault};
+ghost use Rattle.worker_replay.specs.Parts.{AreWorkers, HasRun, HasPrinted, HasAllReplies, Looks, IsRunFault};
 
 use crate::asking::set_all_apart;
 use crate::dealing::{Answers, collect, deal};
@@ -29,7 +28,12 @@ pub(crate) fn run_recording<S: Threads + Wait + Sync>(
     hashing: RandomState,
     recording: Recording,
     workers: usize,
-) -> Result<(String, Core), ManyFault> {
+) -> Result<(String, Core), ManyFault>
+    requires workers { AreWorkers workers }
+    requires few { first_number recording.config + length recording.lines < 2 ^ 64 }
+    ensures run { IfOk result (λ r. HasRun recording (string_bytes r.0) r.1) }
+    ensures fault { IfErr result IsRunFault }
+{
     let (config, lines) = recording.into_parts();
     let first = number_of_first(&config);
     let (engine, forwarder) = open_engine(rt, alloc, config, hashing)?;
@@ -44,7 +48,12 @@ fn open_engine<S: Wait>(
     alloc: Global,
     config: Config,
     hashing: RandomState,
-) -> Result<(Engine, Forwarder), ManyFault> {
+) -> Result<(Engine, Forwarder), ManyFault>
+    requires { config_fault_of config ≡ None }
+    ensures config { IfOk result (λ r. r.0.config ≡ config) }
+    ensures forwarder { IfOk result (λ r. r.1.name ≡ r.0) }
+    ensures fault { IfErr result IsRunFault }
+{
     match Engine::open(rt, alloc, config, 1, hashing) {
         Ok((engine, mut forwarders)) => {
             let Some(forwarder) = forwarders.pop() else {
@@ -67,7 +76,13 @@ fn run_lines<S: Threads + Wait + Sync>(
     lines: Vec<Line>,
     first: usize,
     workers: usize,
-) -> Result<String, ManyFault> {
+) -> Result<String, ManyFault>
+    requires workers { AreWorkers workers }
+    requires named { forwarder.name ≡ engine.now }
+    requires few { first + length lines.items < 2 ^ 64 }
+    ensures printed { IfOk result (λ text. HasPrinted engine.now lines.items first (string_bytes text)) }
+    ensures fault { IfErr result IsRunFault }
+{
     let (events, lookups) = set_all_apart(alloc, lines)?;
     let answers = submit(rt, alloc, engine, events, workers)?;
     let (forwarder, replies) = learn_all(alloc, forwarder, answers)?;
@@ -81,7 +96,11 @@ fn submit<S: Threads + Wait + Sync>(
     engine: &Engine,
     events: Vec<Event>,
     workers: usize,
-) -> Result<Answers, ManyFault> {
+) -> Result<Answers, ManyFault>
+    requires { AreWorkers workers }
+    ensures answered { IfOk result (λ answers. AreAnswered engine.now events.items answers.items) }
+    ensures fault { IfErr result IsRunFault }
+{
     let count = events.len();
     let lists = deal(alloc, events, workers)?;
     match engine.submit_all(rt, alloc, lists, &Open) {
@@ -99,7 +118,12 @@ fn look(
     lookups: Vec<Option<u32>>,
     replies: Replies,
     first: usize,
-) -> Result<String, ManyFault> {
+) -> Result<String, ManyFault>
+    requires replies { HasAllReplies lookups.items replies.items }
+    requires few { first + length lookups.items < 2 ^ 64 }
+    ensures looks { IfOk result (λ text. Looks forwarder first lookups.items replies.items (string_bytes text)) }
+    ensures fault { IfErr result IsRunFault }
+{
     let mut text = String::new(alloc);
     let Ok(seen) = forwarder.lookup(0) else {
         return Err(ManyFault::NoEntry);
