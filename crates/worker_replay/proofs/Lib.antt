@@ -1,1 +1,4 @@
+pub mod Apart
 pub mod Turns
+pub mod Tokens
+pub mod Printed

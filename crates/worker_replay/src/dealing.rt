@@ -1,5 +1,5 @@
 //! Events are dealt to lists in turn, and their answers are collected again.
-ghost use Rattle.std.specs.Prelude.{◌≡◌, ◌++◌, ◌<◌, List, [], ◌∷◌, length, map, reverse, option_to_list, IsNone, IfOk, OnOk};
+ghost use Rattle.std.specs.Prelude.{◌≡◌, ◌<◌, List, [], ◌∷◌, length, map, reverse, IfOk, OnOk};
 ghost use Rattle.event_state.specs.declared.event.Event.{Event as EventValue};
 ghost use Rattle.publication.specs.Names.{Name};
 ghost use Rattle.engine.specs.Answers.{AreAnswered};
@@ -28,8 +28,7 @@ pub(crate) fn deal(
     while let Some(event) = events.pop() {
         deal_before(&mut lists, event)?;
     }
-    reverse_each(&mut lists);
-    Ok(lists)
+    each_reversed(alloc, lists)
 }
 
 fn empty_lists(alloc: Global, count: usize) -> Result<Vec<Vec<Event>>, Memory>
@@ -59,9 +58,8 @@ fn deal_before(lists: &mut Vec<Vec<Event>>, event: Event) -> Result<(), Memory>
 pub(crate) fn collect(alloc: Global, lists: Vec<Answers>, count: usize) -> Result<Answers, Memory>
     ensures { (name : Name) (events : List EventValue) → length events ≡ count → AreAnsweredDealt name events (map (λ list. list.items) lists.items) → IfOk result (λ answers. AreAnswered name events answers.items) }
 {
-    let mut lists = lists;
+    let mut lists = each_reversed(alloc, lists)?;
     let mut answers = Vec::with_capacity(alloc, count)?;
-    reverse_each(&mut lists);
     for _ in 0..count {
         let Some(answer) = take_next(&mut lists) else {
             return Ok(answers);
@@ -83,18 +81,22 @@ fn take_next(lists: &mut Vec<Answers>) -> Option<Result<Answer, Refused>>
     answer
 }
 
-fn reverse_each<T>(lists: &mut Vec<Vec<T>>)
-    ensures items { map (λ list. list.items) lists.new.items ≡ map (λ list. reverse list.items) lists.old.items }
-    ensures backwards { map (λ list. reverse list.items) lists.new.items ≡ map (λ list. list.items) lists.old.items }
-    ensures count { length lists.new.items ≡ length lists.old.items }
+fn each_reversed<T: Drop>(alloc: Global, lists: Vec<Vec<T>>) -> Result<Vec<Vec<T>>, Memory>
+    ensures items { IfOk result (λ now. map (λ list. list.items) now.items ≡ map (λ list. reverse list.items) lists.items) }
+    ensures backwards { IfOk result (λ now. map (λ list. reverse list.items) now.items ≡ map (λ list. list.items) lists.items) }
+    ensures count { IfOk result (λ now. length now.items ≡ length lists.items) }
 {
-    for list in lists.iter_mut() {
-        reverse_one(list);
+    let mut now = Vec::with_capacity(alloc, lists.len())?;
+    for list in lists {
+        now.push(reversed(list))?;
     }
+    Ok(now)
 }
 
-fn reverse_one<T>(list: &mut Vec<T>)
-    ensures { list.new.items ≡ reverse list.old.items }
+fn reversed<T>(list: Vec<T>) -> Vec<T>
+    ensures { result.items ≡ reverse list.items }
 {
+    let mut list = list;
     list.reverse();
+    list
 }

@@ -16,7 +16,7 @@ pub(crate) type Replies = Vec<Result<Reply, Refusal>>;
 /// Learns the tokens of the answers, and keeps what is printed of them.
 pub(crate) fn learn_all(
     alloc: Global,
-    forwarder: Forwarder,
+    mut forwarder: Forwarder,
     answers: Answers,
 ) -> Result<(Forwarder, Replies), Memory>
     requires { All (IsOf forwarder.name) answers.items }
@@ -25,7 +25,6 @@ pub(crate) fn learn_all(
     ensures replies { IfOk result (λ r. r.1.items ≡ map reply_of answers.items) }
 {
     let mut replies = Vec::with_capacity(alloc, answers.len())?;
-    let mut forwarder = forwarder;
     for answer in answers {
         let (told, reply) = parts(answer);
         replies.push(reply)?;
