@@ -56,7 +56,7 @@ fn deal_before(lists: &mut Vec<Vec<Event>>, event: Event) -> Result<(), Memory>
 
 /// The answers to so many events, in the order of the events, whose lists had been dealt in turn.
 pub(crate) fn collect(alloc: Global, lists: Vec<Answers>, count: usize) -> Result<Answers, Memory>
-    ensures { (name : Name) (events : List EventValue) → length events ≡ count → AreAnsweredDealt name events (map (λ list. list.items) lists.items) → IfOk result (λ answers. AreAnswered name events answers.items) }
+    ensures { IfOk result (λ answers. (name : Name) (events : List EventValue) → length events ≡ count → AreAnsweredDealt name events (map (λ list. list.items) lists.items) → AreAnswered name events answers.items) }
 {
     let mut lists = each_reversed(alloc, lists)?;
     let mut answers = Vec::with_capacity(alloc, count)?;

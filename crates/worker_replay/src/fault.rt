@@ -35,6 +35,12 @@ impl fmt::Display for ManyFault {
 impl Error for ManyFault {}
 
 impl From<Memory> for ManyFault {
+    ghost use Rattle.std.specs.Prelude.{◌≡◌};
+    ghost use Rattle.replay.specs.declared.fault.ReplayFault.TheVariants as replay_fault;
+    ghost use Rattle.worker_replay.specs.declared.fault.ManyFault.TheVariants.{Replay};
+
+    ghost from_gives = { λ _ given. given ≡ Replay replay_fault.Memory };
+
     fn from(_e: Memory) -> ManyFault {
         ManyFault::Replay(ReplayFault::Memory)
     }

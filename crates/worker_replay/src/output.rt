@@ -9,6 +9,7 @@ ghost use Rattle.worker_replay.specs.Parts.{Writes, WritesPart};
 use event_core::Core;
 use lsa_codec::Checked;
 use ospf_types::key::Scope;
+use ospf_types::memory::Memory;
 use recording::append_header;
 use replay::{Show, Stop, put_serial, show_dues, show_events, show_items, show_lsas, write_page};
 use std::alloc::Global;
@@ -30,7 +31,10 @@ pub(crate) fn write_output<W: io::Write>(
     match show {
         Show::Routes => write_routes(core, &mut page, out),
         Show::Due => write_due(core, &mut page, out),
-        Show::Lsdb => write_lsdb(core, core.lsas()?, &mut page, out),
+        Show::Lsdb => match core.lsas() {
+            Ok(lsas) => write_lsdb(core, lsas, &mut page, out),
+            Err(Memory) => Err(Stop::Memory),
+        },
         Show::Journal => {
             page.clear();
             write_journal(alloc, core, &mut page, out)

@@ -39,6 +39,8 @@ pub(crate) fn run_recording<S: Threads + Wait + Sync>(
     let (engine, forwarder) = open_engine(rt, alloc, config, hashing)?;
     let printed = run_lines(rt, alloc, &engine, forwarder, lines, first, workers);
     let core = engine.close(rt);
+    // What is known of every core.
+    let _ = core.built();
     Ok((printed?, core))
 }
 
