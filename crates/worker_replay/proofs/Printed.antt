@@ -1,11 +1,8 @@
 -- The lines of a run are printed one behind the other.
-use Rattle.std.proofs.Common.{◌≡◌, ℕ, suc, ◌<◌, ◌≤◌, ◌+◌, List, [], ◌∷◌, ◌++◌, length, map, Option, Some, None, refl, sym, ap, subst, ◌∙◌, append_assoc, append-nil, arith}
+use Rattle.std.proofs.Common.{◌≡◌, ℕ, ◌≤◌, ◌+◌, List, [], ◌∷◌, ◌++◌, length, map, Option, Some, None, refl, sym, ap, subst, ◌∙◌, append_assoc, append-nil, arith}
 use Rattle.std.specs.Prelude.{Result}
-use Rattle.std.specs.List.{AllZip}
-use Rattle.event_state.specs.declared.event.Event.{Event}
 use Rattle.event_state.specs.declared.refusal.Refusal.{Refusal}
-use Rattle.route_table.specs.declared.table.Match.{Match}
-use Rattle.route_table.specs.Tables.{TableValue, IsMatch}
+use Rattle.route_table.specs.Tables.{TableValue}
 use Rattle.event_core.specs.declared.reply.Reply.{Reply}
 use Rattle.publication.specs.Names.{Name}
 use Rattle.engine.specs.Answers.{AreAnswered}

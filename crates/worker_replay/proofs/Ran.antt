@@ -1,10 +1,8 @@
 -- A recording was run.
-use Rattle.std.proofs.Common.{◌≡◌, ℕ, ◌+◌, ◌<◌, ◌^◌, List, [], ◌∷◌, ◌++◌, length, map, All, Option, refl, sym, ap, subst, ◌∙◌, arith}
+use Rattle.std.proofs.Common.{◌≡◌, ℕ, List, [], ◌∷◌, ◌++◌, length, map, All, Option, sym, ap, subst, ◌∙◌}
 use Rattle.std.specs.Prelude.{Result}
-use Rattle.std.specs.Global.{Vec}
 use Rattle.std.specs.List.{AllZip}
 use Rattle.std.proofs.lemmas.List.{length-map}
-use mathlib.Core.List.{IsPrefix}
 use Rattle.ospf_types.specs.declared.config.Config.{Config}
 use Rattle.event_state.specs.declared.event.Event.{Event}
 use Rattle.event_state.specs.declared.refusal.Refusal.{Refusal}
@@ -15,12 +13,10 @@ use Rattle.publication.specs.Forwarders.{Looker, Sighted, Sights}
 use Rattle.publication.specs.Names.{Name}
 use Rattle.publication.specs.Published.{IsTableFor}
 use Rattle.engine.specs.Answers.{AreAnswered}
-use Rattle.engine.specs.declared.answer.Answer.{Answer}
-use Rattle.engine.specs.declared.answer.Refused.{Refused}
 use Rattle.recording.specs.declared.line.Line.{Line}
 use Rattle.recording.specs.Recordings.{RecordingValue}
 use Rattle.replay.specs.Lines.{first_number}
-use Rattle.worker_replay.specs.Runs.{Answers, IsAfter, IsPrinted, IsRun, events_of, lookup_in, reply_of}
+use Rattle.worker_replay.specs.Runs.{Answers, IsAfter, IsPrinted, events_of, lookup_in, reply_of}
 use Rattle.worker_replay.specs.Dealing.{IsDealt, AreAnsweredDealt}
 use Rattle.worker_replay.specs.Parts.{HasAllReplies, PrintsAll, AppendsAll, Looks, HasPrinted, HasRun, IsOf}
 use Rattle.worker_replay.proofs.Tokens.{all_longer, all_own}

@@ -1,12 +1,12 @@
 -- Dealing to lists in turn, and taking in turn.
-use Rattle.std.proofs.Common.{◌≡◌, ℕ, zero, suc, ◌<◌, ◌≤◌, ◌+◌, List, [], ◌∷◌, ◌++◌, length, map, take, drop, reverse, All, Option, Some, None, option_to_list, IsSome, slice_index_or, slice_set, refl, sym, ap, subst, ◌∙◌, arith, append_assoc, append-nil, length-append, take-append-drop}
+use Rattle.std.proofs.Common.{◌≡◌, ℕ, zero, suc, ◌<◌, ◌≤◌, ◌+◌, List, [], ◌∷◌, ◌++◌, length, map, take, drop, reverse, All, Option, Some, None, option_to_list, IsSome, slice_index_or, slice_set, refl, sym, ap, subst, ◌∙◌, arith, append_assoc, append-nil, take-append-drop}
 use Rattle.std.specs.Prelude.{Result}
 use Rattle.std.specs.List.{AllZip}
 use Rattle.std.proofs.lemmas.List.{reverse-append, reverse-reverse, map-append, nil_from_length}
-use Rattle.std.proofs.lemmas.List.Elements.{All-nil, All-cons, All-head, All-push}
+use Rattle.std.proofs.lemmas.List.Elements.{All-head}
 use Rattle.event_state.specs.declared.event.Event.{Event}
 use Rattle.publication.specs.Names.{Name}
-use Rattle.engine.specs.Answers.{AreAnswered, IsAnswered}
+use Rattle.engine.specs.Answers.{AreAnswered}
 use Rattle.engine.specs.declared.answer.Answer.{Answer}
 use Rattle.engine.specs.declared.answer.Refused.{Refused}
 use Rattle.worker_replay.specs.Runs.{Answers}

@@ -1,4 +1,4 @@
-use Rattle.std.proofs.Common.{◌≡◌, List, length, map, reverse}
+use Rattle.std.proofs.Common.{List, map, reverse}
 use Rattle.event_state.specs.declared.event.Event.{Event}
 use Rattle.publication.specs.Names.{Name}
 use Rattle.worker_replay.specs.Dealing.{AreAnsweredDealt}

@@ -1,4 +1,4 @@
-use Rattle.std.proofs.Common.{◌≡◌, ◌+◌, ◌-◌, List, length, reverse, ap, ◌∙◌, arith, vec_len}
+use Rattle.std.proofs.Common.{◌≡◌, ◌+◌, ◌-◌, length, reverse, ap, ◌∙◌, arith, vec_len}
 use Rattle.std.specs.Global.{Vec}
 use Rattle.event_state.specs.declared.event.Event.{Event}
 use Rattle.worker_replay.proofs.Turns.{turned_and_dealt, backwards_more}

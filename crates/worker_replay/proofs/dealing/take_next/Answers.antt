@@ -1,4 +1,4 @@
-use Rattle.std.proofs.Common.{◌≡◌, ◌<◌, ◌++◌, List, length, map, take, drop, reverse, slice_set, subst, sym, arith, rules}
+use Rattle.std.proofs.Common.{◌<◌, List, length, map, reverse, subst, sym, arith, rules}
 use Rattle.std.specs.Prelude.{Result}
 use Rattle.std.specs.Global.{Vec}
 use Rattle.engine.specs.declared.answer.Answer.{Answer}

@@ -1,4 +1,4 @@
-use Rattle.std.proofs.Common.{ℕ, List, [], ◌++◌, ap, refl, string_bytes}
+use Rattle.std.proofs.Common.{ℕ, List, ◌++◌, ap, refl, string_bytes}
 use Rattle.std.specs.List.{flat_map}
 use Rattle.dues.specs.declared.due.Due.{Due}
 use Rattle.replay.specs.Lines.{serial_line, area_lines}

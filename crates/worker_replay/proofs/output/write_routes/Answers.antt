@@ -1,4 +1,4 @@
-use Rattle.std.proofs.Common.{[], ◌++◌, ap, refl, string_bytes}
+use Rattle.std.proofs.Common.{◌++◌, ap, refl, string_bytes}
 use Rattle.std.specs.List.{flat_map}
 use Rattle.std.specs.FinMap.{entries}
 use Rattle.route_table.specs.Tables.{TableValue}

@@ -1,4 +1,3 @@
-use Rattle.std.proofs.Common.{refl}
 use Rattle.replay.proofs.LineTexts.{lookup_printed}
 use Rattle.worker_replay.proofs.printing.put_lookup.Goals as goal
 
