@@ -1,5 +1,5 @@
 -- The changes of an event lead from the published table to the new one, where the published list was the whole journal.
-use Rattle.std.proofs.Common.{◌≡◌, List, length, sym, ap, ◌∙◌, subst}
+use Rattle.std.proofs.Common.{◌≡◌, List, length, subst}
 use Rattle.std.specs.FinMap.{FinMap}
 use Rattle.ospf_types.specs.declared.config.Config.{Config}
 use Rattle.ospf_types.specs.Network.{network_cmp}
@@ -10,7 +10,7 @@ use Rattle.event_core.specs.Cores.{CoreValue, IsCore}
 use Rattle.event_core.specs.Following.{AreChanges}
 use Rattle.route_table.specs.declared.table.Item.{Item}
 use Rattle.route_table.specs.Deltas.{Lead}
-use Rattle.publication.specs.Published.{IsShownRight, IsTableFor, name_of}
+use Rattle.publication.specs.Published.{IsShownRight, IsTableFor}
 use Rattle.publication.specs.Updates.{those_of}
 use Rattle.publication.specs.declared.shown.Shown.{Shown}
 use Rattle.engine.proofs.Runs.{table_whole}

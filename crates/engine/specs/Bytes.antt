@@ -2,7 +2,6 @@
 use Rattle.std.specs.Prelude.{ℕ, ◌≡◌, ◌⊎◌, List, Some, None}
 use Rattle.ospf_types.specs.declared.key.Scope.{Scope}
 use Rattle.ospf_types.specs.Lsa.{Lsa}
-use Rattle.lsa_codec.specs.declared.fault.WireFault.{WireFault}
 use Rattle.lsa_codec.specs.declared.fault.WireFault.TheVariants as wire
 use Rattle.lsa_codec.specs.Faults.{fault_of}
 use Rattle.lsa_codec.specs.Spelling.{Spells}

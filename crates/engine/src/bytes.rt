@@ -11,7 +11,12 @@ use std::sync::Wait;
 
 impl Engine {
     /// Reads the bytes of one LSA (RFC 2328, A.4), and submits its install in the scope.
-    pub fn submit_bytes<R: Wait>(&self, rt: &R, scope: Scope, bytes: &[u8]) -> Result<Answer, BytesFault>
+    pub fn submit_bytes<R: Wait>(
+        &self,
+        rt: &R,
+        scope: Scope,
+        bytes: &[u8],
+    ) -> Result<Answer, BytesFault>
         ensures { MatchResult result (AreInstalled self.now scope bytes.now) (AreRefused self.now scope bytes.now) }
     {
         let lsa = match read(self.alloc(), bytes) {

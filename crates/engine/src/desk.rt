@@ -13,7 +13,9 @@ use crate::answer::{Answer, DueList, Refused};
 use crate::gate::Gate;
 use event_core::{Core, Event, Refusal, Reply, Standing};
 use ospf_types::memory::Memory;
-use publication::{Author, Forwarder, Named, Setting, Shown, ShownWriter, Tag, Told, show, show_changes};
+use publication::{
+    Author, Forwarder, Named, Setting, Shown, ShownWriter, Tag, Told, show, show_changes,
+};
 use std::alloc::{AllocError, Global};
 use std::marker::Model;
 use std::sync::Wait;
@@ -59,7 +61,13 @@ fn follow(author: &mut Author, journal: &[Event]) -> bool
 }
 
 // Publishes the table of the whole journal, where it was built. It may be refused.
-fn publish_whole<R: Wait>(rt: &R, alloc: Global, core: Core, author: Author, writer: ShownWriter) -> Desk
+fn publish_whole<R: Wait>(
+    rt: &R,
+    alloc: Global,
+    core: Core,
+    author: Author,
+    writer: ShownWriter,
+) -> Desk
     requires { IsKept core author writer.desk.shown.value (known_to writer.desk.place) }
     ensures { (result.name ≡ record { book = author.book; config = core.config }) × (result.journal ≡ core.journal) × (result.built ≡ core.built) }
 {
@@ -84,7 +92,13 @@ fn publish_whole<R: Wait>(rt: &R, alloc: Global, core: Core, author: Author, wri
 }
 
 // Publishes what changed of the table. It may be refused.
-fn publish_changes<R: Wait>(rt: &R, alloc: Global, core: Core, author: Author, writer: ShownWriter) -> Desk
+fn publish_changes<R: Wait>(
+    rt: &R,
+    alloc: Global,
+    core: Core,
+    author: Author,
+    writer: ShownWriter,
+) -> Desk
     requires kept { IsKept core author writer.desk.shown.value (known_to writer.desk.place) }
     requires follows { CanFollow core writer.desk.shown.value (drop writer.behind writer.log.items) }
     ensures { (result.name ≡ record { book = author.book; config = core.config }) × (result.journal ≡ core.journal) × (result.built ≡ core.built) }
@@ -110,7 +124,14 @@ fn publish_changes<R: Wait>(rt: &R, alloc: Global, core: Core, author: Author, w
 }
 
 // Publishes what changed, or the whole table.
-fn publish<R: Wait>(rt: &R, alloc: Global, core: Core, author: Author, writer: ShownWriter, whole: bool) -> Desk
+fn publish<R: Wait>(
+    rt: &R,
+    alloc: Global,
+    core: Core,
+    author: Author,
+    writer: ShownWriter,
+    whole: bool,
+) -> Desk
     requires kept { IsKept core author writer.desk.shown.value (known_to writer.desk.place) }
     requires follows { whole ≡ false → CanFollow core writer.desk.shown.value (drop writer.behind writer.log.items) }
     ensures { (result.name ≡ record { book = author.book; config = core.config }) × (result.journal ≡ core.journal) × (result.built ≡ core.built) }
@@ -225,12 +246,7 @@ impl Desk {
     }
 
     /// Begins with this core, whose journal is empty, and with room for so many readers.
-    pub fn open<R: Wait>(
-        rt: &R,
-        alloc: Global,
-        core: Core,
-        readers: usize,
-    ) -> Result<Desk, Memory>
+    pub fn open<R: Wait>(rt: &R, alloc: Global, core: Core, readers: usize) -> Result<Desk, Memory>
         requires readers { AreReaders readers }
         requires journal { core.journal ≡ [] }
         requires limits { core.limits ≡ standard_limits }
