@@ -10,6 +10,8 @@ use std::alloc::{AllocError, Global};
 use std::hash::RandomState;
 use std::random::RandomSource;
 use std::rt::Files;
+use std::sync::Wait;
+use std::thread::Threads;
 use std::{fs, io};
 use trial::is_as_wanted;
 
@@ -42,7 +44,7 @@ fn main(rt: HostRuntime) -> io::Result<()> {
 }
 
 // Runs the rows of a file, and prints those that differ.
-fn run_file<R: Files + AllocGlobal + RandomSource + Print>(
+fn run_file<R: Files + AllocGlobal + RandomSource + Print + Threads + Wait + Sync>(
     rt: &R,
     file: &str,
     count: Count,
@@ -54,7 +56,7 @@ fn run_file<R: Files + AllocGlobal + RandomSource + Print>(
         Ok(rows) => {
             for row in rows.as_slice() {
                 count.ran = count.ran.saturating_add(1);
-                if !is_as_wanted(rt.alloc(), hashing, row)? {
+                if !is_as_wanted(rt, rt.alloc(), hashing, row)? {
                     count.differ = count.differ.saturating_add(1);
                     let line = row.line;
                     println!(rt; "{file}:{line} differs")?;
