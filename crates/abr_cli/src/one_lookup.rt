@@ -1,11 +1,11 @@
 //! The command `one`.
-ghost use Rattle.std.specs.Prelude.{◌≡◌, ◌++◌, [], ◌∷◌, length, MatchResult, None, IfOk, IfErr, string_bytes};
+ghost use Rattle.std.specs.Prelude.{◌≡◌, ◌⊎◌, ◌<◌, ◌++◌, [], ◌∷◌, length, None, IfOk, IfErr, string_bytes};
 ghost use Rattle.event_state.specs.Steps.{refusal_of};
 ghost use Rattle.event_core.specs.Configs.{config_fault_of};
 ghost use Rattle.engine.specs.Answers.{after};
 ghost use Rattle.abr_cli.specs.Answers.{Tells, value_of};
 ghost use Rattle.abr_cli.specs.Command.{texts_of};
-ghost use Rattle.abr_cli.specs.One.{Answer as HasLine, IsFault, IsEngineFault, IsOpenFault, IsSightOf, IsStepFault, IsOneAnswer, Prints, Say, both_events, config_of, given_by, one_area};
+ghost use Rattle.abr_cli.specs.One.{Answer as HasLine, IsFault, IsEngineFault, IsOpenFault, IsStepFault, IsOneAnswer, Prints, PrintsSeen, Say, both_events, config_of, given_by, one_area};
 
 use crate::answer::{Answer, answer_fault};
 use crate::command::OneWords;
@@ -96,14 +96,14 @@ fn look<S: Wait>(
     ensures fault { IfErr result (IsEngineFault (given_by input.now lsa)) }
 {
     let config = one_area(alloc, input.router, input.area)?;
-    let (engine, forwarder) = open(rt, alloc, hashing, config)?;
+    let (engine, forwarder) = open_engine(rt, alloc, hashing, config)?;
     let line = look_in(rt, alloc, &engine, forwarder, input, lsa);
     drop(engine.close(rt));
     line
 }
 
 // An engine, and its one forwarder.
-fn open<S: Wait>(
+fn open_engine<S: Wait>(
     rt: &S,
     alloc: Global,
     hashing: RandomState,
@@ -176,14 +176,14 @@ fn take_both<S: Wait>(
         peer: 0,
         up: true,
     };
-    let forwarder = take(rt, engine, forwarder, event, 0)?;
+    let forwarder = submit(rt, engine, forwarder, event, 0)?;
     let scope = Scope::Area(area);
-    take(rt, engine, forwarder, Event::Install { scope, lsa }, 1)
+    submit(rt, engine, forwarder, Event::Install { scope, lsa }, 1)
 }
 
-// Submits an event to an engine whose events so far the forwarder knows, this many. It knows the event too
-// then.
-fn take<S: Wait>(
+// Submits an event to an engine of whose events the forwarder knows this many. It knows this one too then.
+// What the engine tells counts only where it tells of no other events.
+fn submit<S: Wait>(
     rt: &S,
     engine: &Engine,
     forwarder: Forwarder,
@@ -192,6 +192,7 @@ fn take<S: Wait>(
 ) -> Result<Forwarder, CommandFault<'static>>
     requires name { forwarder.name ≡ engine.now }
     requires count { length forwarder.known ≡ count }
+    requires few { count < 2 }
     ensures known { IfOk result (λ f. (f.name ≡ engine.now) × (f.known ≡ forwarder.known ++ event ∷ [])) }
     ensures accepted { IfOk result (λ _. refusal_of (after engine.now.config forwarder.known) event ≡ None) }
     ensures fault { IfErr result (IsStepFault (after engine.now.config forwarder.known) event) }
@@ -212,14 +213,17 @@ fn take<S: Wait>(
     }
 }
 
-// The line of what was seen, where that is both events and no other.
-fn line_of(alloc: Global, seen: &Seen, lookup: u32) -> Result<String, CommandFault<'static>>
+// The line of what was seen of this address, where that follows two events.
+fn line_of(alloc: Global, seen: &Seen, address: u32) -> Result<String, CommandFault<'static>>
+    requires { seen.now.address ≡ address }
+    ensures line { IfOk result (λ line. PrintsSeen seen.now (string_bytes line)) }
+    ensures fault { IfErr result (λ f. (f ≡ CommandFault.NoEntry) ⊎ (f ≡ CommandFault.Memory)) }
 {
     let serial = seen.serial();
     if serial != 2 {
         return Err(CommandFault::NoEntry);
     }
-    let (address, found) = (Address(lookup), seen.find(lookup));
+    let (address, found) = (Address(address), seen.found());
     Ok(format!(in alloc; "lookup {address} {serial} {found}\n")?)
 }
 

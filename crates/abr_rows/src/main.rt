@@ -16,7 +16,7 @@ use std::{fs, io};
 use trial::is_as_wanted;
 
 // The files of rows.
-const FILES: [&str; 8] = [
+const FILES: [&str; 9] = [
     "commands.rows",
     "recordings.rows",
     "events.rows",
@@ -25,6 +25,7 @@ const FILES: [&str; 8] = [
     "externals.rows",
     "dues.rows",
     "updates.rows",
+    "workers.rows",
 ];
 
 /// How many rows ran, and how many of them differ.

@@ -1,0 +1,109 @@
+-- What a forwarder learns of two events, and what it sees then.
+use Rattle.std.proofs.Common.{ℕ, ◌≡◌, ◌⊎◌, ◌+◌, ◌++◌, ◌∙◌, List, [], ◌∷◌, None, length, length-append, ap, sym, subst, refl, arith, inl, inr}
+use mathlib.Core.List.{IsPrefix}
+use Rattle.ospf_types.specs.declared.config.Config.{Config}
+use Rattle.ospf_types.specs.Text.{address_text}
+use Rattle.event_state.specs.declared.event.Event.{Event}
+use Rattle.event_state.specs.States.{State}
+use Rattle.event_state.specs.Steps.{refusal_of}
+use Rattle.event_core.specs.Configs.{config_fault_of}
+use Rattle.event_core.specs.declared.fault.ConfigFault.{ConfigFault}
+use Rattle.engine.specs.Answers.{after}
+use Rattle.engine.specs.Opens.{IsOpenFaultOf}
+use Rattle.engine.specs.declared.open_fault.OpenFault.TheVariants as opens
+use Rattle.route_table.specs.Tables.{IsMatch}
+use Rattle.publication.specs.Forwarders.{Looker, Sighted, Sights}
+use Rattle.publication.specs.Published.{IsTableFor}
+use Rattle.publication.proofs.Prefixes.{prefix_length, prefix_shorter, prefix_trans, prefix_whole}
+use Rattle.abr_cli.specs.declared.command_fault.CommandFault.{CommandFault}
+use Rattle.abr_cli.specs.declared.command_fault.CommandFault.TheVariants as fault
+use Rattle.abr_cli.specs.One.{Given, IsEngineFault, IsOpenFault, IsStepFault, Prints, PrintsSeen, both_events, config_of, interface_event, install_event, lookup_line, state_after}
+
+-- two beginnings of one list that are of one length
+pub same_beginning : {A : Type 0} (xs ys zs : List A) → IsPrefix xs zs → IsPrefix ys zs → length xs ≡ length ys → xs ≡ ys
+same_beginning xs ys zs p q same = prefix_whole xs ys (prefix_shorter xs ys zs p q (omega (arith, same))) (omega (arith, same))
+
+-- what is learned is what was told where that is longer than what was known
+longer_is : {A : Type 0} (known told now : List A) → IsPrefix told now → (now ≡ known) ⊎ (now ≡ told) → length told ≡ length known + 1 → now ≡ told
+longer_is known told now p (inr same) more = same
+longer_is known told now p (inl same) more =
+    let short = prefix_length told known (subst (IsPrefix told) same p) in
+    absurd (omega (arith, short, more))
+
+-- of a list and an event that were told, the list was known
+pub known_before : {A : Type 0} (known told now before : List A) (e : A) → IsPrefix known now → IsPrefix told now → told ≡ before ++ e ∷ [] → length told ≡ length known + 1 → before ≡ known
+known_before known told now before e p q is more =
+    let within = prefix_trans before told now (e ∷ [], sym is) q in
+    let count = ap length is ∙ length-append before (e ∷ []) in
+    same_beginning before known now within p (omega (arith, count, more))
+
+pub known_more : {A : Type 0} (known told now before : List A) (e : A) → IsPrefix known now → IsPrefix told now → (now ≡ known) ⊎ (now ≡ told) → told ≡ before ++ e ∷ []
+    → length told ≡ length known + 1 → now ≡ known ++ e ∷ []
+known_more known told now before e p q one is more =
+    longer_is known told now q one more ∙ is ∙ ap (λ xs. xs ++ e ∷ []) (known_before known told now before e p q is more)
+
+-- ---- faults
+
+pub open_fault : (config : Config) (f : ConfigFault) → IsOpenFaultOf config 1 (opens.Config f) → IsOpenFault config (fault.Config f)
+open_fault config f (inl is) = inl is
+open_fault config f (inr h) = inr (h.0, h.1)
+
+pub one_reader : (config : Config) → IsOpenFaultOf config 1 opens.Readers → ⊥
+one_reader config (none, inl is) = absurd (omega (arith, is))
+one_reader config (none, inr less) = absurd (omega (arith, less))
+
+pub not_opened : (g : Given) (f : CommandFault) → IsOpenFault (config_of g) f → IsEngineFault g f
+not_opened g (fault.Word f) h = absurd h
+not_opened g (fault.Wire f) h = absurd h
+not_opened g (fault.Config f) h = h
+not_opened g (fault.Refused r) h = absurd h
+not_opened g (fault.Read file) h = absurd h
+not_opened g (fault.Line f) h = absurd h
+not_opened g fault.Memory h = absurd h
+not_opened g fault.Write h = absurd h
+not_opened g fault.Spawn h = absurd h
+not_opened g fault.Place h = h
+not_opened g fault.NoEntry h = absurd h
+
+by_step : (g : Given) (s : State) (e : Event) (f : CommandFault) → config_fault_of (config_of g) ≡ None → IsStepFault s e f
+    → ((r : _) → IsStepFault s e (fault.Refused r) → IsEngineFault g (fault.Refused r)) → IsEngineFault g f
+by_step g s e (fault.Word f) sound h refused = absurd h
+by_step g s e (fault.Wire f) sound h refused = absurd h
+by_step g s e (fault.Config f) sound h refused = absurd h
+by_step g s e (fault.Refused r) sound h refused = refused r h
+by_step g s e (fault.Read file) sound h refused = absurd h
+by_step g s e (fault.Line f) sound h refused = absurd h
+by_step g s e fault.Memory sound h refused = tt
+by_step g s e fault.Write sound h refused = absurd h
+by_step g s e fault.Spawn sound h refused = absurd h
+by_step g s e fault.Place sound h refused = absurd h
+by_step g s e fault.NoEntry sound h refused = sound
+
+pub first_refused : (g : Given) (config : Config) (known : List Event) (f : CommandFault) → config ≡ config_of g → known ≡ [] → config_fault_of (config_of g) ≡ None
+    → IsStepFault (after config known) (interface_event g) f → IsEngineFault g f
+first_refused g config known f is none sound h =
+    by_step g (state_after g []) (interface_event g) f sound (subst (λ s. IsStepFault s (interface_event g) f) (λ i. after (is i) (none i)) h) (λ r no. (sound, inl no))
+
+pub second_refused : (g : Given) (config : Config) (known : List Event) (f : CommandFault) → config ≡ config_of g → known ≡ interface_event g ∷ [] → config_fault_of (config_of g) ≡ None
+    → refusal_of (state_after g []) (interface_event g) ≡ None → IsStepFault (after config known) (install_event g) f → IsEngineFault g f
+second_refused g config known f is one sound taken h =
+    by_step g (state_after g (interface_event g ∷ [])) (install_event g) f sound (subst (λ s. IsStepFault s (install_event g) f) (λ i. after (is i) (one i)) h) (λ r no. (sound, inr (taken, no)))
+
+pub no_line : (g : Given) (f : CommandFault) → config_fault_of (config_of g) ≡ None → (f ≡ fault.NoEntry) ⊎ (f ≡ fault.Memory) → IsEngineFault g f
+no_line g f sound (inl is) = subst (IsEngineFault g) (sym is) sound
+no_line g f sound (inr is) = subst (IsEngineFault g) (sym is) tt
+
+-- ---- what was seen
+
+pub seen_prints : (g : Given) (f : Looker) (s : Sighted) (line : List ℕ) → f.name.config ≡ config_of g → f.known ≡ both_events g → Sights f g.lookup s → PrintsSeen s line → Prints g line
+seen_prints g f s line config known sights h =
+    let begun : IsPrefix (both_events g) s.list = subst (λ xs. IsPrefix xs s.list) known sights.2 in
+    let whole : both_events g ≡ s.list = prefix_whole (both_events g) s.list begun (omega (arith, h.both)) in
+    let right : IsTableFor (config_of g) (both_events g) s.table = subst (λ (z : Config × List Event). IsTableFor z.0 z.1 s.table) (λ i. ((ap (λ n. n.config) sights.0 ∙ config) i, sym whole i)) h.right in
+    record {
+      table = s.table;
+      right = record { legal = right.0; right = right.1 };
+      found = h.found;
+      matched = subst (λ (a : ℕ). IsMatch s.table.items a h.found) sights.1 h.matched;
+      printed = h.printed ∙ ap (λ (a : ℕ). lookup_line (address_text a) s.table h.found) sights.1;
+    }
