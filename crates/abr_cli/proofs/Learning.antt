@@ -1,23 +1,28 @@
 -- What a forwarder learns of two events, and what it sees then.
-use Rattle.std.proofs.Common.{ℕ, ◌≡◌, ◌⊎◌, ◌+◌, ◌++◌, ◌∙◌, List, [], ◌∷◌, None, length, length-append, ap, sym, subst, refl, arith, inl, inr}
+use Rattle.std.proofs.Common.{ℕ, ◌≡◌, ◌⊎◌, ◌+◌, ◌++◌, ◌∙◌, List, [], ◌∷◌, Some, None, Result, Ok, Err, IfOk, length, length-append, ap, sym, subst, refl, arith, inl, inr}
 use mathlib.Core.List.{IsPrefix}
 use Rattle.ospf_types.specs.declared.config.Config.{Config}
 use Rattle.ospf_types.specs.Text.{address_text}
 use Rattle.event_state.specs.declared.event.Event.{Event}
+use Rattle.event_state.specs.Refusals.{IsRefusalOf}
 use Rattle.event_state.specs.States.{State}
 use Rattle.event_state.specs.Steps.{refusal_of}
 use Rattle.event_core.specs.Configs.{config_fault_of}
 use Rattle.event_core.specs.declared.fault.ConfigFault.{ConfigFault}
-use Rattle.engine.specs.Answers.{after}
+use Rattle.engine.specs.Answers.{Answers, Refusals, after}
+use Rattle.engine.specs.declared.answer.Answer.{Answer}
+use Rattle.engine.specs.declared.answer.Refused.{Refused}
 use Rattle.engine.specs.Opens.{IsOpenFaultOf}
 use Rattle.engine.specs.declared.open_fault.OpenFault.TheVariants as opens
 use Rattle.route_table.specs.Tables.{IsMatch}
 use Rattle.publication.specs.Forwarders.{Looker, Sighted, Sights}
+use Rattle.publication.specs.Names.{Name}
 use Rattle.publication.specs.Published.{IsTableFor}
+use Rattle.publication.specs.Told.{Heard}
 use Rattle.publication.proofs.Prefixes.{prefix_length, prefix_shorter, prefix_trans, prefix_whole}
 use Rattle.abr_cli.specs.declared.command_fault.CommandFault.{CommandFault}
 use Rattle.abr_cli.specs.declared.command_fault.CommandFault.TheVariants as fault
-use Rattle.abr_cli.specs.One.{Given, IsEngineFault, IsOpenFault, IsStepFault, Prints, PrintsSeen, both_events, config_of, interface_event, install_event, lookup_line, state_after}
+use Rattle.abr_cli.specs.One.{Given, HasLearned, IsEngineFault, IsOpenFault, IsStepFault, Prints, PrintsSeen, both_events, config_of, interface_event, install_event, lookup_line, state_after}
 
 -- two beginnings of one list that are of one length
 pub same_beginning : {A : Type 0} (xs ys zs : List A) → IsPrefix xs zs → IsPrefix ys zs → length xs ≡ length ys → xs ≡ ys
@@ -41,6 +46,39 @@ pub known_more : {A : Type 0} (known told now before : List A) (e : A) → IsPre
     → length told ≡ length known + 1 → now ≡ known ++ e ∷ []
 known_more known told now before e p q one is more =
     longer_is known told now q one more ∙ is ∙ ap (λ xs. xs ++ e ∷ []) (known_before known told now before e p q is more)
+
+-- ---- what an engine tells
+
+-- an answer with a token
+told_answer : (name : Name) (e : Event) (a : Answer) (t : Heard) → Answers name e a → a.told ≡ Some t
+    → (before : List Event) × (refusal_of (after name.config before) e ≡ None) × (t.list ≡ before ++ e ∷ [])
+told_answer name e a t h is = (h.0, h.1.accepted, (rw is at h.2).2)
+
+pub taken : (name : Name) (e : Event) (a : Answer) (t : Heard) (f : Looker) (count : ℕ) (r : Result Looker CommandFault) → Answers name e a → a.told ≡ Some t → f.name ≡ name
+    → length f.known ≡ count → IfOk r (λ x. x.name ≡ f.name) → IfOk r (λ x. HasLearned f.known t.list x.known) → IfOk r (λ _. length t.list ≡ count + 1)
+    → IfOk r (λ x. (x.name ≡ name) × (x.known ≡ f.known ++ e ∷ []))
+taken name e a t f count (Err x) h told same len named learned longer = tt
+taken name e a t f count (Ok x) h told same len named learned longer =
+    let of = told_answer name e a t h told in (
+      named ∙ same,
+      known_more f.known t.list x.known of.0 e learned.before learned.told_too learned.one of.2 (omega (arith, longer, len)),
+    )
+
+pub accepted : (name : Name) (e : Event) (a : Answer) (t : Heard) (f : Looker) (count : ℕ) (r : Result Looker CommandFault) → Answers name e a → a.told ≡ Some t
+    → length f.known ≡ count → IfOk r (λ x. HasLearned f.known t.list x.known) → IfOk r (λ _. length t.list ≡ count + 1)
+    → IfOk r (λ _. refusal_of (after name.config f.known) e ≡ None)
+accepted name e a t f count (Err x) h told len learned longer = tt
+accepted name e a t f count (Ok x) h told len learned longer =
+    let of = told_answer name e a t h told in
+    let same = known_before f.known t.list x.known of.0 e learned.before learned.told_too of.2 (omega (arith, longer, len)) in
+    subst (λ (list : List Event). refusal_of (after name.config list) e ≡ None) same of.1
+
+pub refused_so : (name : Name) (e : Event) (a : Refused) (t : Heard) (known now : List Event) (count : ℕ) → Refusals name e a → a.told ≡ Some t
+    → length known ≡ count → HasLearned known t.list now → length t.list ≡ count → IsRefusalOf (after name.config known) e a.refusal
+refused_so name e a t known now count h told len learned same =
+    let list : t.list ≡ h.0 = (rw told at h.3).1 in
+    let whole = same_beginning t.list known now learned.told_too learned.before (omega (arith, len, same)) in
+    subst (λ (xs : List Event). IsRefusalOf (after name.config xs) e a.refusal) (sym list ∙ whole) h.2
 
 -- ---- faults
 

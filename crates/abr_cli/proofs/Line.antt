@@ -418,7 +418,7 @@ pub workers_has : (name file number : Text) (count : ℕ) → IsFileWord file �
 workers_has name file number count p writes = (
   rows_given file number,
   ap (entered (built program)) (workers_stop_is name file number)
-  ∙ ap (λ (r : List Row). Some (codes "replay", r)) (rows_given_are file number p (plain_number number writes.numeral)),
+      ∙ ap (λ (r : List Row). Some (codes "replay", r)) (rows_given_are file number p (plain_number number writes.numeral)),
   rows_given_have file number count writes,
 )
 

@@ -1,5 +1,6 @@
 -- What `abr one` answers: the longest match of an address (RFC 2328, 11.1) in the table that one LSA gives a router with one area and one interface.
 use Rattle.std.specs.Prelude.{ℕ, ◌≡◌, ◌⊎◌, ◌++◌, List, [], ◌∷◌, None, codes, decimal, length, true}
+use mathlib.Core.List.{IsPrefix}
 use Rattle.ospf_types.specs.declared.config.Config.{Config}
 use Rattle.ospf_types.specs.declared.key.Scope.TheVariants as scope
 use Rattle.ospf_types.specs.Lsa.{Lsa}
@@ -107,6 +108,12 @@ pub record Answer (words : OneTexts) (line : List ℕ) : Type 0 where
 abbrev pub IsRefused : Given → Refusal → Type 0
 IsRefused g r = IsRefusalOf (state_after g []) (interface_event g) r
     ⊎ ((refusal_of (state_after g []) (interface_event g) ≡ None) × IsRefusalOf (state_after g (interface_event g ∷ [])) (install_event g) r)
+
+-- what was known begins the list that is known now, and so does what was told; it is one of the two
+pub record HasLearned (known told now : List Event) : Type 0 where
+  pub before : IsPrefix known now
+  pub told_too : IsPrefix told now
+  pub one : (now ≡ known) ⊎ (now ≡ told)
 
 -- why an engine does not take an event in this state, or why it is not known to have taken it
 abbrev pub IsStepFault : State → Event → CommandFault → Type 0

@@ -17,6 +17,7 @@ const VERSION: &str = "0.1.0";
 
 // How many workers there may be.
 const FEWEST_WORKERS: usize = 1;
+
 const MOST_WORKERS: usize = 16;
 
 // What `--show` takes.

@@ -5,14 +5,14 @@ ghost use Rattle.event_core.specs.Configs.{config_fault_of};
 ghost use Rattle.engine.specs.Answers.{after};
 ghost use Rattle.abr_cli.specs.Answers.{Tells, value_of};
 ghost use Rattle.abr_cli.specs.Command.{texts_of};
-ghost use Rattle.abr_cli.specs.One.{Answer as HasLine, IsFault, IsEngineFault, IsOpenFault, IsStepFault, IsOneAnswer, Prints, PrintsSeen, Say, both_events, config_of, given_by, one_area};
+ghost use Rattle.abr_cli.specs.One.{Answer as HasLine, HasLearned, IsFault, IsEngineFault, IsOpenFault, IsStepFault, IsOneAnswer, Prints, PrintsSeen, Say, both_events, config_of, given_by, one_area};
 
 use crate::answer::{Answer, answer_fault};
 use crate::command::OneWords;
 use crate::command_fault::CommandFault;
 use crate::telling::tell;
 use crate::words::{OneInput, read_one};
-use engine::{Engine, Forwarder, OpenFault, Seen};
+use engine::{Answer as Taken, Engine, Forwarder, OpenFault, Refused, Seen, Told};
 use event_core::Event;
 use lsa_codec::Checked;
 use ospf_types::address::Address;
@@ -198,19 +198,32 @@ fn submit<S: Wait>(
     ensures fault { IfErr result (IsStepFault (after engine.now.config forwarder.known) event) }
 {
     match engine.submit(rt, event) {
-        Ok(answer) => match answer.told {
-            Some(told) if told.serial() == count + 1 => Ok(forwarder.learn(told)),
-            Some(_) => Err(CommandFault::NoEntry),
+        Ok(Taken { reply: _, told }) => match told {
+            Some(told) => learn(forwarder, told, count + 1),
             None => Err(CommandFault::Memory),
         },
-        Err(refused) => match refused.told {
-            Some(told) if told.serial() == count => {
-                drop(forwarder.learn(told));
-                Err(CommandFault::Refused(refused.refusal))
+        Err(Refused { refusal, told }) => match told {
+            Some(told) => {
+                drop(learn(forwarder, told, count)?);
+                Err(CommandFault::Refused(refusal))
             }
-            _ => Err(CommandFault::NoEntry),
+            None => Err(CommandFault::NoEntry),
         },
     }
+}
+
+// The forwarder learns a token that is for so many events.
+fn learn(forwarder: Forwarder, told: Told, count: u64) -> Result<Forwarder, CommandFault<'static>>
+    requires { told.name ≡ forwarder.name }
+    ensures name { IfOk result (λ f. f.name ≡ forwarder.name) }
+    ensures learned { IfOk result (λ f. HasLearned forwarder.known told.list f.known) }
+    ensures count { IfOk result (λ _. length told.list ≡ count) }
+    ensures fault { IfErr result (λ f. f ≡ CommandFault.NoEntry) }
+{
+    if told.serial() != count {
+        return Err(CommandFault::NoEntry);
+    }
+    Ok(forwarder.learn(told))
 }
 
 // The line of what was seen of this address, where that follows two events.

@@ -39,4 +39,3 @@ returns-in_ok-get_str-clause-some c = (
   met_is _ (codes "decode") _ (ap Some (sym (same_text _ _ (sym c.eq-else-eq.ensures ∙ c.if-eq-2.true))) ∙ (c.in_ok-name.ensures.name ∙ name_in_rows _)) c.in_ok-name.ensures.rows,
   word_given (found_of c.in_ok-name.words.now) (codes "HEX") c.get_str.result _ c.get_str.ensures c.in_ok-get_str.was,
 )
-
