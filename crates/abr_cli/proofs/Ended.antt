@@ -1,5 +1,5 @@
 -- How a replay ended.
-use Rattle.std.proofs.Common.{◌≡◌, ◌≢◌, ◌⊎◌, ◌<◌, ℕ, List, Option, Result, Ok, Err, inl, inr, refl}
+use Rattle.std.proofs.Common.{◌≡◌, ◌≢◌, ◌⊎◌, ◌<◌, ℕ, List, Option, Result, Ok, Err, OnOk, ap, inl, inr, refl}
 use Rattle.std.specs.Borrow.{Bor}
 use Rattle.std.specs.Io.KnownBytes.{Consumes}
 use Rattle.recording.specs.declared.fault.LineFault.{LineFault}
@@ -9,7 +9,8 @@ use Rattle.replay.specs.declared.fault.ReplayFault.TheVariants.{Read, Write, Mem
 use Rattle.replay.specs.declared.show.Show.{Show}
 use Rattle.worker_replay.specs.declared.fault.ManyFault.{ManyFault}
 use Rattle.worker_replay.specs.declared.fault.ManyFault.TheVariants.{Replay, Spawn, Place, NoEntry}
-use Rattle.abr_cli.specs.Replaying.{EndsEarly, IsEndSaid, IsReplayTold, IsReplayedPart}
+use Rattle.worker_replay.specs.Outputs as many
+use Rattle.abr_cli.specs.Replaying.{EndsBy, EndsEarly, IsEndSaid, IsReplayTold, IsReplayedPart}
 
 -- a replay may end for want of memory wherever it may end
 memory_ends : (workers : ℕ) (e : ManyFault) (s : Show) (i i' o o' : Option (List ℕ)) → EndsEarly workers e s i i' o o' → EndsEarly workers (Replay Memory) s i i' o o'
@@ -34,3 +35,24 @@ by_fault workers Read s i i' o o' read line write memory = read refl
 by_fault workers Write s i i' o o' read line write memory = write refl
 by_fault workers Memory s i i' o o' read line write memory = memory refl
 by_fault workers (Line f) s i i' o o' read line write memory = line f refl
+
+-- a replay by several workers, by its clauses
+pub many_ends : {X : Type 0} (held : X → Option (List ℕ)) (workers : ℕ) (r : Result (Unit {0}) ManyFault) (s : Show) (i i' : Option (List ℕ)) (old new : X) → 1 < workers
+    → OnOk r (many.Replays s i i' (held old) (held new)) → (r ≡ Err (Replay Read) → new ≡ old)
+    → ((f : LineFault) → r ≡ Err (Replay (Line f)) → (new ≡ old) × ((bytes : List ℕ) × Consumes i i' bytes × IsFaultOf bytes f))
+    → (r ≡ Err Spawn → new ≡ old) → (r ≡ Err Place → new ≡ old) → (r ≡ Err NoEntry → new ≡ old)
+    → (r ≡ Err (Replay Write) → many.ReplaysPart s i i' (held old) (held new))
+    → (r ≡ Err (Replay Memory) → (new ≡ old) ⊎ many.ReplaysPart s i i' (held old) (held new)) → EndsBy workers s r i i' (held old) (held new)
+many_ends held workers (Ok u) s i i' old new several ok read line spawn place entry write memory = inr (several, ok)
+many_ends held workers (Err (Replay Read)) s i i' old new several ok read line spawn place entry write memory = ap held (read refl)
+many_ends held workers (Err (Replay Write)) s i i' old new several ok read line spawn place entry write memory = inr (several, write refl)
+many_ends held workers (Err (Replay Memory)) s i i' old new several ok read line spawn place entry write memory = go (memory refl)
+  where
+    go : (new ≡ old) ⊎ many.ReplaysPart s i i' (held old) (held new) → (held new ≡ held old) ⊎ IsReplayedPart workers s i i' (held old) (held new)
+    go (inl same) = inl (ap held same)
+    go (inr part) = inr (inr (several, part))
+many_ends held workers (Err (Replay (Line f))) s i i' old new several ok read line spawn place entry write memory =
+    let h = line f refl in (ap held h.0, h.1)
+many_ends held workers (Err Spawn) s i i' old new several ok read line spawn place entry write memory = (several, ap held (spawn refl))
+many_ends held workers (Err Place) s i i' old new several ok read line spawn place entry write memory = (several, ap held (place refl))
+many_ends held workers (Err NoEntry) s i i' old new several ok read line spawn place entry write memory = (several, ap held (entry refl))

@@ -80,57 +80,6 @@ refused_so name e a t known now count h told len learned same =
     let whole = same_beginning t.list known now learned.told_too learned.before (omega (arith, len, same)) in
     subst (λ (xs : List Event). IsRefusalOf (after name.config xs) e a.refusal) (sym list ∙ whole) h.2
 
--- ---- faults
-
-pub open_fault : (config : Config) (f : ConfigFault) → IsOpenFaultOf config 1 (opens.Config f) → IsOpenFault config (fault.Config f)
-open_fault config f (inl is) = inl is
-open_fault config f (inr h) = inr (h.0, h.1)
-
-pub one_reader : (config : Config) → IsOpenFaultOf config 1 opens.Readers → ⊥
-one_reader config (none, inl is) = absurd (omega (arith, is))
-one_reader config (none, inr less) = absurd (omega (arith, less))
-
-pub not_opened : (g : Given) (f : CommandFault) → IsOpenFault (config_of g) f → IsEngineFault g f
-not_opened g (fault.Word f) h = absurd h
-not_opened g (fault.Wire f) h = absurd h
-not_opened g (fault.Config f) h = h
-not_opened g (fault.Refused r) h = absurd h
-not_opened g (fault.Read file) h = absurd h
-not_opened g (fault.Line f) h = absurd h
-not_opened g fault.Memory h = absurd h
-not_opened g fault.Write h = absurd h
-not_opened g fault.Spawn h = absurd h
-not_opened g fault.Place h = h
-not_opened g fault.NoEntry h = absurd h
-
-by_step : (g : Given) (s : State) (e : Event) (f : CommandFault) → config_fault_of (config_of g) ≡ None → IsStepFault s e f
-    → ((r : _) → IsStepFault s e (fault.Refused r) → IsEngineFault g (fault.Refused r)) → IsEngineFault g f
-by_step g s e (fault.Word f) sound h refused = absurd h
-by_step g s e (fault.Wire f) sound h refused = absurd h
-by_step g s e (fault.Config f) sound h refused = absurd h
-by_step g s e (fault.Refused r) sound h refused = refused r h
-by_step g s e (fault.Read file) sound h refused = absurd h
-by_step g s e (fault.Line f) sound h refused = absurd h
-by_step g s e fault.Memory sound h refused = tt
-by_step g s e fault.Write sound h refused = absurd h
-by_step g s e fault.Spawn sound h refused = absurd h
-by_step g s e fault.Place sound h refused = absurd h
-by_step g s e fault.NoEntry sound h refused = sound
-
-pub first_refused : (g : Given) (config : Config) (known : List Event) (f : CommandFault) → config ≡ config_of g → known ≡ [] → config_fault_of (config_of g) ≡ None
-    → IsStepFault (after config known) (interface_event g) f → IsEngineFault g f
-first_refused g config known f is none sound h =
-    by_step g (state_after g []) (interface_event g) f sound (subst (λ s. IsStepFault s (interface_event g) f) (λ i. after (is i) (none i)) h) (λ r no. (sound, inl no))
-
-pub second_refused : (g : Given) (config : Config) (known : List Event) (f : CommandFault) → config ≡ config_of g → known ≡ interface_event g ∷ [] → config_fault_of (config_of g) ≡ None
-    → refusal_of (state_after g []) (interface_event g) ≡ None → IsStepFault (after config known) (install_event g) f → IsEngineFault g f
-second_refused g config known f is one sound taken h =
-    by_step g (state_after g (interface_event g ∷ [])) (install_event g) f sound (subst (λ s. IsStepFault s (install_event g) f) (λ i. after (is i) (one i)) h) (λ r no. (sound, inr (taken, no)))
-
-pub no_line : (g : Given) (f : CommandFault) → config_fault_of (config_of g) ≡ None → (f ≡ fault.NoEntry) ⊎ (f ≡ fault.Memory) → IsEngineFault g f
-no_line g f sound (inl is) = subst (IsEngineFault g) (sym is) sound
-no_line g f sound (inr is) = subst (IsEngineFault g) (sym is) tt
-
 -- ---- what was seen
 
 pub seen_prints : (g : Given) (f : Looker) (s : Sighted) (line : List ℕ) → f.name.config ≡ config_of g → f.known ≡ both_events g → Sights f g.lookup s → PrintsSeen s line → Prints g line
