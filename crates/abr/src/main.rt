@@ -35,13 +35,5 @@ fn status<S: Threads + Wait + Sync>(rt: &HostRuntime, threads: &S) -> io::Result
     let hashing = RandomState::new(rt)?;
     let mut input = Source::of(rt, &job);
     let (out, faults) = (&mut rt.stdout(), &mut rt.stderr());
-    Ok(run(
-        threads,
-        rt.alloc(),
-        hashing,
-        job,
-        &mut input,
-        out,
-        faults,
-    ))
+    Ok(run(threads, rt.alloc(), hashing, job, &mut input, out, faults))
 }

@@ -1,5 +1,5 @@
 -- How a replay ended.
-use Rattle.std.proofs.Common.{◌≡◌, ◌≢◌, ◌⊎◌, ◌<◌, ℕ, List, Option, Result, Ok, Err, OnOk, ap, inl, inr, refl}
+use Rattle.std.proofs.Common.{◌≡◌, ◌≢◌, ◌⊎◌, ◌<◌, ℕ, List, Option, Result, Ok, Err, OnOk, ap, sym, subst, inl, inr, refl}
 use Rattle.std.specs.Borrow.{Bor}
 use Rattle.std.specs.Io.KnownBytes.{Consumes}
 use Rattle.recording.specs.declared.fault.LineFault.{LineFault}
@@ -10,6 +10,10 @@ use Rattle.replay.specs.declared.show.Show.{Show}
 use Rattle.worker_replay.specs.declared.fault.ManyFault.{ManyFault}
 use Rattle.worker_replay.specs.declared.fault.ManyFault.TheVariants.{Replay, Spawn, Place, NoEntry}
 use Rattle.worker_replay.specs.Outputs as many
+use Rattle.abr_cli.specs.declared.command_fault.CommandFault.TheVariants as fault
+use Rattle.abr_cli.specs.Faults.{command_fault_text, fault_line}
+use Rattle.abr_cli.specs.Answers.{IsSaid}
+use Rattle.abr_cli.proofs.Said.{said_of}
 use Rattle.abr_cli.specs.Replaying.{EndsBy, EndsEarly, IsEndSaid, IsReplayTold, IsReplayedPart}
 
 -- a replay may end for want of memory wherever it may end
@@ -56,3 +60,7 @@ many_ends held workers (Err (Replay (Line f))) s i i' old new several ok read li
 many_ends held workers (Err Spawn) s i i' old new several ok read line spawn place entry write memory = (several, ap held (spawn refl))
 many_ends held workers (Err Place) s i i' old new several ok read line spawn place entry write memory = (several, ap held (place refl))
 many_ends held workers (Err NoEntry) s i i' old new several ok read line spawn place entry write memory = (several, ap held (entry refl))
+
+-- the line of a failed write
+pub write_said : (file : Bor (List ℕ)) (e : ManyFault) (status : ℕ) (f f' : Option (List ℕ)) → e ≡ Replay Write → IsSaid (fault_line (command_fault_text fault.Write)) 1 status f f' → IsEndSaid file e status f f'
+write_said file e status f f' is said = subst (λ (x : ManyFault). IsEndSaid file x status f f') (sym is) (inl (said_of fault.Write status f f' said))

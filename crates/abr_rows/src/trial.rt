@@ -22,15 +22,7 @@ pub fn is_as_wanted<S: Threads + Wait + Sync>(
     };
     let (mut out, mut faults) = (Vec::new(alloc), Vec::new(alloc));
     let asked = job(alloc, row.words.as_slice());
-    let status = run(
-        rt,
-        alloc,
-        hashing,
-        asked,
-        &mut input,
-        &mut out,
-        &mut faults,
-    );
+    let status = run(rt, alloc, hashing, asked, &mut input, &mut out, &mut faults);
     let is_text = row.is_any_text
         || (out.as_slice() == row.output.as_slice() && faults.as_slice() == row.faults.as_slice());
     Ok(status == row.status && is_text)

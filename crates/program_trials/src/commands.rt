@@ -84,9 +84,19 @@ fn writers_that_fail_give_status_1(rt: HostRuntime) -> Result<(), Fail> {
     let fail = cannot_print(&rt, rt.alloc(), hashing, &ONE)
         && cannot_print(&rt, rt.alloc(), hashing, &["abr", "decode", STUB])
         && cannot_print(&rt, rt.alloc(), hashing, &["abr", "replay", "-"])
-        && cannot_print(&rt, rt.alloc(), hashing, &["abr", "replay", "-", "--workers", "2"])
+        && cannot_print(
+            &rt,
+            rt.alloc(),
+            hashing,
+            &["abr", "replay", "-", "--workers", "2"],
+        )
         && cannot_print(&rt, rt.alloc(), hashing, &["abr", "--help"])
-        && cannot_tell_the_fault(&rt, rt.alloc(), hashing, &["abr", "one", "", "", "", "", ""])
+        && cannot_tell_the_fault(
+            &rt,
+            rt.alloc(),
+            hashing,
+            &["abr", "one", "", "", "", "", ""],
+        )
         && cannot_tell_the_fault(&rt, rt.alloc(), hashing, &["abr", "decode", "0"])
         && cannot_tell_the_fault(&rt, rt.alloc(), hashing, &["abr", "two"]);
     assert!(rt; fail);
