@@ -106,7 +106,7 @@ pub fn address_of(worker: u8, number: u8) -> u32 {
 fn own(alloc: Global, number: u8) -> Option<Event> {
     let mut bytes = [
         0, 1, 2, 1, 10, 0, 0, 1, 10, 0, 0, 1, 0x80, 0, 1, number, 0, 0, 0, 36, 0, 0, 0, 1, 10, 0, 0,
-        2, 198, 51, 100, 1, 1, 0, 0, 11 + number % 3,
+        2, 198, 51, 100, 1, 1, 0, 0, 11 + number / 100,
     ];
     install(alloc, &mut bytes)
 }
