@@ -4,4 +4,5 @@ pub mod Following
 pub mod Rooming
 pub mod Zips
 pub mod Replying
+pub mod Duing
 pub mod Working
