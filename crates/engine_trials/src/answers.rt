@@ -14,17 +14,19 @@ use std::test::Fail;
 
 // The root's router-LSA with its link to the border router at 10.
 const OWN: [u8; 36] = [
-    0, 1, 2, 1, 10, 0, 0, 1, 10, 0, 0, 1, 0x80, 0, 0, 1, 0xe6, 0xe2, 0, 36, 0, 0, 0, 1, 10, 0, 0, 2,
-    198, 51, 100, 1, 1, 0, 0, 10,
+    0, 1, 2, 1, 10, 0, 0, 1, 10, 0, 0, 1, 0x80, 0, 0, 1, 0xe6, 0xe2, 0, 36, 0, 0, 0, 1, 10, 0, 0,
+    2, 198, 51, 100, 1, 1, 0, 0, 10,
 ];
 
 // Whether the answer is current, and reply and token have this serial.
 fn is_current<E: Drop>(answer: Result<Answer, E>, serial: u64) -> bool {
     match answer {
-        Ok(Answer {
-            reply,
-            told: Some(told),
-        }) => {
+        Ok(
+            Answer {
+                reply,
+                told: Some(told),
+            },
+        ) => {
             reply.state == Standing::Current && reply.serial == serial && told.serial() == serial
         }
         _ => false,

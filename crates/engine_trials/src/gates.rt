@@ -182,12 +182,7 @@ fn is_answered<R: Wait + Clock>(
 }
 
 // Submits an event that waits under the lock.
-fn submits<R: Wait + Clock + Sync>(
-    rt: &R,
-    engine: &Engine,
-    flags: &Flags,
-    event: Event,
-) -> bool {
+fn submits<R: Wait + Clock + Sync>(rt: &R, engine: &Engine, flags: &Flags, event: Event) -> bool {
     let gate = Locked { rt, flags };
     match engine.submit_gated(rt, event, &gate, 0, 0) {
         Ok(answer) => answer.told.is_some(),

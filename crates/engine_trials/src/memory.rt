@@ -60,7 +60,10 @@ fn sees(forwarder: Forwarder, known: &mut Known) -> (Forwarder, bool) {
     let fits = known.seen <= seen && seen <= known.taken;
     let is_all = seen == known.taken;
     known.seen = seen;
-    (forwarder, fits && is_all == known.is_published && (is_route || seen < 5))
+    (
+        forwarder,
+        fits && is_all == known.is_published && (is_route || seen < 5),
+    )
 }
 
 // Whether the due list follows no more than was taken, with a token exactly where the table that was seen follows as many.

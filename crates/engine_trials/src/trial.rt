@@ -29,8 +29,8 @@ install 0.0.0.0 000102010a0000020a00000280000001dde80024010000010a000001c6336402
 
 /// The border router's summary-LSA for 10.1.0.0/16 at 10.
 pub const SUMMARY: [u8; 28] = [
-    0, 1, 2, 3, 10, 1, 0, 0, 10, 0, 0, 2, 0x80, 0, 0, 1, 0xda, 0x61, 0, 28, 255, 255, 0, 0, 0, 0, 0,
-    10,
+    0, 1, 2, 3, 10, 1, 0, 0, 10, 0, 0, 2, 0x80, 0, 0, 1, 0xda, 0x61, 0, 28, 255, 255, 0, 0, 0, 0,
+    0, 10,
 ];
 
 /// The engine of a recording, which was handed its events, and its forwarders.
@@ -105,8 +105,42 @@ pub fn address_of(worker: u8, number: u8) -> u32 {
 // The root's own router-LSA, with its link at 11, 12 or 13 (RFC 2328, A.4.2).
 fn own(alloc: Global, number: u8) -> Option<Event> {
     let mut bytes = [
-        0, 1, 2, 1, 10, 0, 0, 1, 10, 0, 0, 1, 0x80, 0, 1, number, 0, 0, 0, 36, 0, 0, 0, 1, 10, 0, 0,
-        2, 198, 51, 100, 1, 1, 0, 0, 11 + number / 100,
+        0,
+        1,
+        2,
+        1,
+        10,
+        0,
+        0,
+        1,
+        10,
+        0,
+        0,
+        1,
+        0x80,
+        0,
+        1,
+        number,
+        0,
+        0,
+        0,
+        36,
+        0,
+        0,
+        0,
+        1,
+        10,
+        0,
+        0,
+        2,
+        198,
+        51,
+        100,
+        1,
+        1,
+        0,
+        0,
+        11 + number / 100,
     ];
     install(alloc, &mut bytes)
 }
@@ -114,8 +148,8 @@ fn own(alloc: Global, number: u8) -> Option<Event> {
 // A summary-LSA at 10 (A.4.4).
 fn summary(alloc: Global, worker: u8, number: u8) -> Option<Event> {
     let mut bytes = [
-        0, 1, 2, 3, 20, worker, number, 0, 10, 0, 0, 2, 0x80, 0, 0, 1, 0, 0, 0, 28, 255, 255, 255, 0,
-        0, 0, 0, 10,
+        0, 1, 2, 3, 20, worker, number, 0, 10, 0, 0, 2, 0x80, 0, 0, 1, 0, 0, 0, 28, 255, 255, 255,
+        0, 0, 0, 0, 10,
     ];
     install(alloc, &mut bytes)
 }

@@ -100,15 +100,15 @@ fn two_watch<R: Threads + Wait + Sync>(
     rt: &R,
     alloc: Global,
     engine: &Engine,
-    forwarders: (Forwarder, Forwarder),
+    one: Forwarder,
+    two: Forwarder,
     workers: (u8, u8),
     count: u8,
 ) -> (Option<Watch>, Option<Watch>)
-    requires { (forwarders.0.name ≡ engine.now) × (forwarders.1.name ≡ engine.now) }
+    requires { (one.name ≡ engine.now) × (two.name ≡ engine.now) }
     ensures one { IfSome result.0 (λ w. w.forwarder.name ≡ engine.now) }
     ensures two { IfSome result.1 (λ w. w.forwarder.name ≡ engine.now) }
 {
-    let (one, two) = forwarders;
     join(
         rt,
         move || watches(rt, alloc, engine, one, workers.0, count),
@@ -134,17 +134,22 @@ fn two_tell<R: Threads + Wait + Sync>(
     )
 }
 
-// Whether two watches, which were told a hundred serials each, were told each of 1 to 200.
-fn told_all(watches: (Option<Watch>, Option<Watch>)) -> bool {
-    let (Some(one), Some(two)) = watches else {
-        return false;
-    };
+fn are_told(one: Watch, two: Watch) -> bool {
     let mut all = one.told;
     if all.extend_from_slice(&two.told).is_err() {
         return false;
     }
     all.sort_unstable();
     all.iter().copied().eq(1..=200)
+}
+
+// Whether two watches were told each of the serials 1 to 200 once.
+fn told_all(watches: (Option<Watch>, Option<Watch>)) -> bool {
+    let (one, two) = watches;
+    match (one, two) {
+        (Some(one), Some(two)) => are_told(one, two),
+        _ => false,
+    }
 }
 
 fn hundred_each<R: Threads + Wait + Sync>(
@@ -157,9 +162,7 @@ fn hundred_each<R: Threads + Wait + Sync>(
 {
     let mut forwarders = forwarders;
     match (forwarders.pop(), forwarders.pop()) {
-        (Some(one), Some(two)) => {
-            told_all(two_watch(rt, alloc, engine, (one, two), (3, 4), 100))
-        }
+        (Some(one), Some(two)) => { told_all(two_watch(rt, alloc, engine, one, two, (3, 4), 100)) }
         _ => false,
     }
 }
@@ -192,13 +195,16 @@ fn thousand<R: Threads + Wait + Sync>(
     rt: &R,
     alloc: Global,
     engine: &Engine,
-    forwarders: (Forwarder, Forwarder),
+    one: Forwarder,
+    two: Forwarder,
 ) -> bool
-    requires { (forwarders.0.name ≡ engine.now) × (forwarders.1.name ≡ engine.now) }
+    requires { (one.name ≡ engine.now) × (two.name ≡ engine.now) }
 {
     let (watches, tokens) = join(
         rt,
-        move || two_watch(rt, alloc, engine, forwarders, (1, 2), 250),
+        move ||
+            requires { (one.name ≡ engine.now) × (two.name ≡ engine.now) }
+        { two_watch(rt, alloc, engine, one, two, (1, 2), 250) },
         move || two_tell(rt, alloc, engine, (0, 3), 250),
     );
     meets(engine, watches.0, tokens.0, 0) && meets(engine, watches.1, tokens.1, 3)
@@ -214,7 +220,7 @@ fn thousand_among<R: Threads + Wait + Sync>(
 {
     let mut forwarders = forwarders;
     match (forwarders.pop(), forwarders.pop()) {
-        (Some(one), Some(two)) => thousand(rt, alloc, engine, (one, two)),
+        (Some(one), Some(two)) => thousand(rt, alloc, engine, one, two),
         _ => false,
     }
 }
