@@ -1,25 +1,26 @@
 //! Gates: that lists run side by side, and that neither a look nor the reading of bytes waits for the lock.
 
-use crate::trial::{BACKBONE, ROOT, SUMMARY, address_of, install_of, look, opened, taken};
+use crate::trial::{BACKBONE, ROOT, SUMMARY, install_of, look, opened, taken};
 use engine::{BytesFault, Engine, Forwarder, Gate, Open};
 use event_core::{Event, Refusal};
 use lsa_codec::WireFault;
 use std::alloc::Global;
-use std::hash::RandomState;
 use std::sync::Wait;
-use std::sync::atomic::{AtomicBool, Ordering};
+use std::sync::atomic::{AtomicBool, AtomicU64, Ordering};
 use std::test::Fail;
 use std::thread;
 use std::thread::{Threads, join};
 use std::time::{Clock, Duration};
 
-// Two flags, and whether the one who raised each saw the other one in time.
+// The lists are shorter.
+const UNDER_THE_LOCK: usize = 99;
+
+// Two flags, and how many who raised one saw the other in time.
 #[derive(Drop)]
 struct Flags {
     one: AtomicBool,
     two: AtomicBool,
-    one_met: AtomicBool,
-    two_met: AtomicBool,
+    met: AtomicU64,
 }
 
 impl Flags {
@@ -27,13 +28,20 @@ impl Flags {
         Flags {
             one: AtomicBool::new(false),
             two: AtomicBool::new(false),
-            one_met: AtomicBool::new(false),
-            two_met: AtomicBool::new(false),
+            met: AtomicU64::new(0),
         }
     }
 
-    fn all_met(&self) -> bool {
-        self.one_met.load(Ordering::SeqCst) && self.two_met.load(Ordering::SeqCst)
+    // Raises a flag and waits for the other.
+    fn meet<R: Clock>(&self, rt: &R, mine: &AtomicBool, other: &AtomicBool) {
+        mine.store(true, Ordering::SeqCst);
+        if waits(rt, other) {
+            self.met.fetch_add(1, Ordering::SeqCst);
+        }
+    }
+
+    fn have_met(&self) -> bool {
+        self.met.load(Ordering::SeqCst) == 2
     }
 }
 
@@ -48,17 +56,7 @@ fn waits<R: Clock>(rt: &R, flag: &AtomicBool) -> bool {
     false
 }
 
-fn raises_one<R: Clock>(rt: &R, flags: &Flags) {
-    flags.one.store(true, Ordering::SeqCst);
-    flags.one_met.store(waits(rt, &flags.two), Ordering::SeqCst);
-}
-
-fn raises_two<R: Clock>(rt: &R, flags: &Flags) {
-    flags.two.store(true, Ordering::SeqCst);
-    flags.two_met.store(waits(rt, &flags.one), Ordering::SeqCst);
-}
-
-// Before its first event each of the first two workers waits for the other.
+// Before its first event each of the first two workers waits for the other. At one place a worker waits under the lock.
 #[derive(Drop)]
 struct Meeting<'a, R: Clock> {
     rt: &'a R,
@@ -67,30 +65,19 @@ struct Meeting<'a, R: Clock> {
 
 impl<'a, R: Clock + Sync> Gate for Meeting<'a, R> {
     fn before(&self, worker: usize, place: usize) {
+        let flags = self.flags;
         match (worker, place) {
-            (0, 0) => raises_one(self.rt, self.flags),
-            (1, 0) => raises_two(self.rt, self.flags),
+            (0, 0) => flags.meet(self.rt, &flags.one, &flags.two),
+            (1, 0) => flags.meet(self.rt, &flags.two, &flags.one),
             _ => {}
         }
     }
 
-    fn inside(&self, _worker: usize, _place: usize) {}
-
-    fn after(&self, _worker: usize, _place: usize) {}
-}
-
-// Under the lock it waits until another thread was answered.
-#[derive(Drop)]
-struct Locked<'a, R: Clock> {
-    rt: &'a R,
-    flags: &'a Flags,
-}
-
-impl<'a, R: Clock + Sync> Gate for Locked<'a, R> {
-    fn before(&self, _worker: usize, _place: usize) {}
-
-    fn inside(&self, _worker: usize, _place: usize) {
-        raises_one(self.rt, self.flags);
+    fn inside(&self, _worker: usize, place: usize) {
+        let flags = self.flags;
+        if place == UNDER_THE_LOCK {
+            flags.meet(self.rt, &flags.one, &flags.two);
+        }
     }
 
     fn after(&self, _worker: usize, _place: usize) {}
@@ -113,24 +100,6 @@ fn lists_of(alloc: Global, workers: u8, count: u8) -> Option<Vec<Vec<Event>>> {
     Some(lists)
 }
 
-// Submits the lists, and counts the answers with a token.
-fn submits_all<R: Threads + Wait + Sync, G: Gate>(
-    rt: &R,
-    alloc: Global,
-    engine: &Engine,
-    lists: Vec<Vec<Event>>,
-    gate: &G,
-) -> Result<usize, Refusal> {
-    let mut count = 0usize;
-    for answers in &engine.submit_all(rt, alloc, lists, gate)? {
-        for answer in answers {
-            let is_told = matches!(answer, Ok(taken) if taken.told.is_some());
-            count = count.saturating_add(usize::from(is_told));
-        }
-    }
-    Ok(count)
-}
-
 #[test]
 fn lists_run_side_by_side(rt: HostRuntime) -> Result<(), Fail> {
     let flags = Flags::new();
@@ -139,25 +108,25 @@ fn lists_run_side_by_side(rt: HostRuntime) -> Result<(), Fail> {
         flags: &flags,
     };
     let lists = lists_of(rt.alloc(), 4, 25).ok_or("lists")?;
-    let (engine, _all) = opened(&rt, rt.alloc(), RandomState::new(&rt)?, ROOT, 1)?;
-    let told = submits_all(&rt, rt.alloc(), &engine, lists, &gate);
+    let (engine, _one, _two) = opened(&rt, ROOT)?;
+    let is_answered = engine.submit_all(&rt, rt.alloc(), lists, &gate).is_ok();
     let count = taken(&rt, engine);
-    assert!(rt; flags.all_met() && told == Ok(100) && count == 100);
+    assert!(rt; flags.have_met() && is_answered && count == 100);
     Ok(())
 }
 
 #[test]
 fn seventeen_lists_are_too_many(rt: HostRuntime) -> Result<(), Fail> {
     let lists = lists_of(rt.alloc(), 17, 1).ok_or("lists")?;
-    let (engine, _all) = opened(&rt, rt.alloc(), RandomState::new(&rt)?, ROOT, 1)?;
-    let told = submits_all(&rt, rt.alloc(), &engine, lists, &Open);
+    let (engine, _one, _two) = opened(&rt, ROOT)?;
+    let refusal = engine.submit_all(&rt, rt.alloc(), lists, &Open).err();
     let count = taken(&rt, engine);
-    assert!(rt; told == Err(Refusal::Workers) && count == 0);
+    assert!(rt; refusal == Some(Refusal::Workers) && count == 0);
     Ok(())
 }
 
 // The summary-LSA with another metric and the old checksum.
-fn are_unsound<R: Wait>(rt: &R, engine: &Engine) -> bool {
+fn is_unsound<R: Wait>(rt: &R, engine: &Engine) -> bool {
     let mut bytes = SUMMARY;
     bytes[27] = 11;
     match engine.submit_bytes(rt, BACKBONE, &bytes) {
@@ -166,7 +135,7 @@ fn are_unsound<R: Wait>(rt: &R, engine: &Engine) -> bool {
     }
 }
 
-// While the other thread has the lock it looks, and submits unsound bytes.
+// While another thread has the lock it looks, and submits unsound bytes.
 fn is_answered<R: Wait + Clock>(
     rt: &R,
     engine: &Engine,
@@ -174,47 +143,41 @@ fn is_answered<R: Wait + Clock>(
     forwarder: Forwarder,
 ) -> bool {
     let is_locked = waits(rt, &flags.one);
-    let (forwarder, looked) = look(forwarder, address_of(1, 0));
-    drop(forwarder);
-    let unsound = are_unsound(rt, engine);
-    raises_two(rt, flags);
-    is_locked && looked == Some((0, false)) && unsound
+    let (_forwarder, seen) = look(forwarder);
+    let is_refused = is_unsound(rt, engine);
+    flags.meet(rt, &flags.two, &flags.one);
+    is_locked && seen == Some(0) && is_refused
 }
 
-// Submits an event that waits under the lock.
-fn submits<R: Wait + Clock + Sync>(rt: &R, engine: &Engine, flags: &Flags, event: Event) -> bool {
-    let gate = Locked { rt, flags };
-    match engine.submit_gated(rt, event, &gate, 0, 0) {
-        Ok(answer) => answer.told.is_some(),
-        Err(_) => false,
-    }
+// Submits an event, which waits under the lock.
+fn is_taken<R: Wait + Clock + Sync>(rt: &R, engine: &Engine, flags: &Flags, event: Event) -> bool {
+    let gate = Meeting { rt, flags };
+    engine
+        .submit_gated(rt, event, &gate, 0, UNDER_THE_LOCK)
+        .is_ok()
 }
 
-fn both<R: Threads + Wait + Clock + Sync>(
+fn beside<R: Threads + Wait + Clock + Sync>(
     rt: &R,
     engine: &Engine,
     flags: &Flags,
     event: Event,
     forwarder: Forwarder,
-) -> bool {
-    let (told, answered) = join(
+) -> (bool, bool) {
+    join(
         rt,
-        move || submits(rt, engine, flags, event),
+        move || is_taken(rt, engine, flags, event),
         move || is_answered(rt, engine, flags, forwarder),
-    );
-    told && answered
+    )
 }
 
 #[test]
 fn looks_and_readings_wait_for_no_lock(rt: HostRuntime) -> Result<(), Fail> {
     let flags = Flags::new();
     let event = install_of(rt.alloc(), 1, 0).ok_or("an event")?;
-    let (engine, mut all) = opened(&rt, rt.alloc(), RandomState::new(&rt)?, ROOT, 1)?;
-    let right = match all.pop() {
-        Some(forwarder) => both(&rt, &engine, &flags, event, forwarder),
-        None => false,
-    };
+    let (engine, one, _two) = opened(&rt, ROOT)?;
+    let answers = beside(&rt, &engine, &flags, event, one);
     let count = taken(&rt, engine);
-    assert!(rt; right && flags.all_met() && count == 1);
+    assert!(rt; answers == (true, true) && flags.have_met() && count == 1);
     Ok(())
 }

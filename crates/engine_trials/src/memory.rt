@@ -1,19 +1,17 @@
-//! What is told and seen where memory may be refused: each growth in turn, one in a run.
+//! What is told and seen where one growth may be refused.
 
 use crate::trial::{BACKBONE, BORDER, SUMMARY, look, opened, taken};
 use core_trials::events_of;
 use engine::{Engine, Forwarder};
 use event_core::{Event, Refusal, Standing};
 use lsa_codec::read;
-use ospf_types::config::Config;
 use ospf_types::key::Key;
-use std::alloc::Global;
 use std::hash::RandomState;
 use std::sync::Wait;
 use std::test::Fail;
 
-// What is known of an engine with one worker: how many events it took, how many it refused for want of memory, whether the
-// table of all that it took is published, and the serial that was seen last.
+// What is known of an engine with one worker: how many events it took and how many it refused, whether the table of all that
+// it took is published, and the serial that was seen last.
 #[derive(Drop)]
 struct Known {
     taken: u64,
@@ -51,18 +49,17 @@ fn refuses<R: Wait>(rt: &R, engine: &Engine, known: &Known) -> bool {
 }
 
 // Whether a look sees the table of all that was taken exactly where it is published, else an earlier one, and none older
-// than was seen before. After all five events there is a route.
+// than was seen before.
 fn sees(forwarder: Forwarder, known: &mut Known) -> (Forwarder, bool) {
-    let (forwarder, looked) = look(forwarder, 0x0a01_0001);
-    let Some((seen, is_route)) = looked else {
+    let (forwarder, seen) = look(forwarder);
+    let Some(seen) = seen else {
         return (forwarder, false);
     };
     let fits = known.seen <= seen && seen <= known.taken;
-    let is_all = seen == known.taken;
     known.seen = seen;
     (
         forwarder,
-        fits && is_all == known.is_published && (is_route || seen < 5),
+        fits && (seen == known.taken) == known.is_published,
     )
 }
 
@@ -72,6 +69,21 @@ fn tells_due<R: Wait>(rt: &R, engine: &Engine, known: &Known) -> bool {
         Ok(due) => due.serial <= known.taken && due.told.is_some() == (due.serial == known.seen),
         Err(refusal) => refusal == Refusal::Memory,
     }
+}
+
+// A refused event, a look and a due list.
+fn stands<R: Wait>(
+    rt: &R,
+    engine: &Engine,
+    forwarder: Forwarder,
+    known: &mut Known,
+) -> (Forwarder, bool) {
+    let is_refused = refuses(rt, engine, known);
+    let (forwarder, is_seen) = sees(forwarder, known);
+    (
+        forwarder,
+        is_refused && is_seen && tells_due(rt, engine, known),
+    )
 }
 
 // Catches up, at most twice, since one growth at most is refused.
@@ -85,19 +97,7 @@ fn catches_up<R: Wait>(rt: &R, engine: &Engine, known: &mut Known) -> bool {
     false
 }
 
-// A refused event, a look and a due list.
-fn stands<R: Wait>(
-    rt: &R,
-    engine: &Engine,
-    forwarder: Forwarder,
-    known: &mut Known,
-) -> (Forwarder, bool) {
-    let refused = refuses(rt, engine, known);
-    let (forwarder, seen) = sees(forwarder, known);
-    (forwarder, refused && seen && tells_due(rt, engine, known))
-}
-
-// Submits the events, and catches up after the third and the last one.
+// Submits the events and catches up.
 fn withstands<R: Wait>(rt: &R, engine: &Engine, forwarder: Forwarder, events: Vec<Event>) -> bool {
     let mut known = Known {
         taken: 0,
@@ -107,34 +107,23 @@ fn withstands<R: Wait>(rt: &R, engine: &Engine, forwarder: Forwarder, events: Ve
     };
     let mut forwarder = forwarder;
     let mut all = true;
-    for (number, event) in events.into_iter().enumerate() {
-        all &= submits(rt, engine, event, &mut known);
-        let (next, right) = stands(rt, engine, forwarder, &mut known);
+    for event in events {
+        let is_right = submits(rt, engine, event, &mut known);
+        let (next, holds) = stands(rt, engine, forwarder, &mut known);
         forwarder = next;
-        all &= right;
-        if number == 2 || number == 4 {
-            all &= catches_up(rt, engine, &mut known);
-            let (next, right) = stands(rt, engine, forwarder, &mut known);
-            forwarder = next;
-            all &= right;
-        }
+        all &= is_right && holds;
     }
-    drop(forwarder);
-    all && known.taken.saturating_add(known.refused) == 5
-}
-
-fn events_with_summary(alloc: Global) -> Result<(Config, Vec<Event>), Fail> {
-    let (config, mut events) = events_of(alloc, BORDER)?;
-    let (scope, lsa) = (BACKBONE, read(alloc, &SUMMARY)?);
-    events.push(Event::Install { scope, lsa })?;
-    Ok((config, events))
+    let is_right = catches_up(rt, engine, &mut known);
+    let (_forwarder, holds) = stands(rt, engine, forwarder, &mut known);
+    all && is_right && holds && known.taken.saturating_add(known.refused) == 5
 }
 
 #[test]
-fn where_memory_may_be_refused(rt: HostRuntime) -> Result<(), Fail> {
-    let hashing = RandomState::new(&rt)?;
-    let (config, events) = events_with_summary(rt.alloc())?;
-    let (engine, mut all) = Engine::open(&rt, rt.alloc(), config, 1, hashing)?;
+fn where_a_growth_may_be_refused(rt: HostRuntime) -> Result<(), Fail> {
+    let (config, mut events) = events_of(rt.alloc(), BORDER)?;
+    let (scope, lsa) = (BACKBONE, read(rt.alloc(), &SUMMARY)?);
+    events.push(Event::Install { scope, lsa })?;
+    let (engine, mut all) = Engine::open(&rt, rt.alloc(), config, 1, RandomState::new(&rt)?)?;
     let right = match all.pop() {
         Some(forwarder) => withstands(&rt, &engine, forwarder, events),
         None => false,
