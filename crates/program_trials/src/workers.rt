@@ -30,7 +30,15 @@ fn look_ups_see_all_events_that_were_taken(rt: HostRuntime) -> Result<(), Fail> 
     let hashing = RandomState::new(&rt)?;
     let mut input = RECORDING.as_bytes();
     let mut out = Vec::new(rt.alloc());
-    replay_many(&rt, rt.alloc(), hashing, &mut input, &mut out, Show::Routes, 2)?;
+    replay_many(
+        &rt,
+        rt.alloc(),
+        hashing,
+        &mut input,
+        &mut out,
+        Show::Routes,
+        2,
+    )?;
     assert!(rt; out.as_slice() == ROUTES.as_bytes());
     Ok(())
 }
