@@ -17,6 +17,6 @@ returns-clause-printed g c =
     IfOk-weaker c.look.result (λ text. Looks c.in_ok-forwarder.forwarder c.args.first c.in_ok-events.lookups.items c.in_ok-forwarder.replies.items (string_bytes text))
     (λ text. HasPrinted c.args.engine.now c.args.lines.items c.args.first (string_bytes text))
     (λ text looks. has_printed c.args.engine.now c.args.lines.items c.in_ok-events.events.items c.in_ok-events.lookups.items c.in_ok-answers.answers.items c.args.forwarder c.in_ok-forwarder.forwarder c.in_ok-forwarder.replies.items
-        c.args.first (string_bytes text) c.in_ok-events.ensures.events c.in_ok-events.ensures.lookups c.in_ok-answers.ensures.answered c.requires.named c.in_ok-forwarder.ensures.name c.in_ok-forwarder.ensures.learned
-        c.in_ok-forwarder.ensures.replies looks)
+    c.args.first (string_bytes text) c.in_ok-events.ensures.events c.in_ok-events.ensures.lookups c.in_ok-answers.ensures.answered c.requires.named c.in_ok-forwarder.ensures.name c.in_ok-forwarder.ensures.learned
+    c.in_ok-forwarder.ensures.replies looks)
     c.look.ensures.looks
