@@ -4,3 +4,4 @@ pub mod Tokens
 pub mod Printed
 pub mod Ran
 pub mod Shown
+pub mod Whole
