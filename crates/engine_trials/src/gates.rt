@@ -100,6 +100,20 @@ fn lists_of(alloc: Global, workers: u8, count: u8) -> Option<Vec<Vec<Event>>> {
     Some(lists)
 }
 
+// Submits a list of installs for each of so many workers.
+fn refusal_of<R: Threads + Wait + Sync + AllocGlobal, G: Gate>(
+    rt: &R,
+    engine: &Engine,
+    workers: u8,
+    count: u8,
+    gate: &G,
+) -> Option<Refusal> {
+    match lists_of(rt.alloc(), workers, count) {
+        Some(lists) => engine.submit_all(rt, rt.alloc(), lists, gate).err(),
+        None => Some(Refusal::Memory),
+    }
+}
+
 #[test]
 fn lists_run_side_by_side(rt: HostRuntime) -> Result<(), Fail> {
     let flags = Flags::new();
@@ -107,19 +121,17 @@ fn lists_run_side_by_side(rt: HostRuntime) -> Result<(), Fail> {
         rt: &rt,
         flags: &flags,
     };
-    let lists = lists_of(rt.alloc(), 4, 25).ok_or("lists")?;
     let (engine, _one, _two) = opened(&rt, ROOT)?;
-    let is_answered = engine.submit_all(&rt, rt.alloc(), lists, &gate).is_ok();
+    let refusal = refusal_of(&rt, &engine, 4, 25, &gate);
     let count = taken(&rt, engine);
-    assert!(rt; flags.have_met() && is_answered && count == 100);
+    assert!(rt; flags.have_met() && refusal.is_none() && count == 100);
     Ok(())
 }
 
 #[test]
 fn seventeen_lists_are_too_many(rt: HostRuntime) -> Result<(), Fail> {
-    let lists = lists_of(rt.alloc(), 17, 1).ok_or("lists")?;
     let (engine, _one, _two) = opened(&rt, ROOT)?;
-    let refusal = engine.submit_all(&rt, rt.alloc(), lists, &Open).err();
+    let refusal = refusal_of(&rt, &engine, 17, 1, &Open);
     let count = taken(&rt, engine);
     assert!(rt; refusal == Some(Refusal::Workers) && count == 0);
     Ok(())
@@ -149,24 +161,26 @@ fn is_answered<R: Wait + Clock>(
     is_locked && seen == Some(0) && is_refused
 }
 
-// Submits an event, which waits under the lock.
-fn is_taken<R: Wait + Clock + Sync>(rt: &R, engine: &Engine, flags: &Flags, event: Event) -> bool {
+// Submits an install, which waits under the lock.
+fn is_taken<R: Wait + Clock + Sync + AllocGlobal>(rt: &R, engine: &Engine, flags: &Flags) -> bool {
     let gate = Meeting { rt, flags };
-    engine
-        .submit_gated(rt, event, &gate, 0, UNDER_THE_LOCK)
-        .is_ok()
+    match install_of(rt.alloc(), 1, 0) {
+        Some(event) => engine
+            .submit_gated(rt, event, &gate, 0, UNDER_THE_LOCK)
+            .is_ok(),
+        None => false,
+    }
 }
 
-fn beside<R: Threads + Wait + Clock + Sync>(
+fn beside<R: Threads + Wait + Clock + Sync + AllocGlobal>(
     rt: &R,
     engine: &Engine,
     flags: &Flags,
-    event: Event,
     forwarder: Forwarder,
 ) -> (bool, bool) {
     join(
         rt,
-        move || is_taken(rt, engine, flags, event),
+        move || is_taken(rt, engine, flags),
         move || is_answered(rt, engine, flags, forwarder),
     )
 }
@@ -174,9 +188,8 @@ fn beside<R: Threads + Wait + Clock + Sync>(
 #[test]
 fn looks_and_readings_wait_for_no_lock(rt: HostRuntime) -> Result<(), Fail> {
     let flags = Flags::new();
-    let event = install_of(rt.alloc(), 1, 0).ok_or("an event")?;
     let (engine, one, _two) = opened(&rt, ROOT)?;
-    let answers = beside(&rt, &engine, &flags, event, one);
+    let answers = beside(&rt, &engine, &flags, one);
     let count = taken(&rt, engine);
     assert!(rt; answers == (true, true) && flags.have_met() && count == 1);
     Ok(())

@@ -117,12 +117,19 @@ fn two_tell<R: Threads + Wait + Sync + AllocGlobal>(
     )
 }
 
-// Whether two watches were told each of the serials 1 to 200 once.
-fn are_told_all(one: Option<Watch>, two: Option<Watch>) -> Option<bool> {
-    let mut all = one?.told;
-    all.extend_from_slice(&two?.told).ok()?;
-    all.sort_unstable();
-    Some(all.iter().copied().eq(1..=200))
+// Whether these are the serials 1 to 200, each once.
+fn are_all(serials: &mut Vec<u64>) -> bool {
+    serials.sort_unstable();
+    let mut all = serials.len() == 200;
+    for (place, serial) in serials.iter().enumerate() {
+        all &= *serial == place as u64 + 1;
+    }
+    all
+}
+
+fn are_told_all(one: Watch, two: Watch) -> bool {
+    let mut serials = one.told;
+    serials.extend_from_slice(&two.told).is_ok() && are_all(&mut serials)
 }
 
 #[test]
@@ -130,8 +137,24 @@ fn two_workers_are_told_each_serial_once(rt: HostRuntime) -> Result<(), Fail> {
     let (engine, one, two) = opened(&rt, ROOT)?;
     let (one, two) = two_watch(&rt, &engine, one, two, 100);
     let count = taken(&rt, engine);
-    assert!(rt; are_told_all(one, two) == Some(true) && count == 200);
+    let right = match (one, two) {
+        (Some(one), Some(two)) => are_told_all(one, two),
+        _ => false,
+    };
+    assert!(rt; right && count == 200);
     Ok(())
+}
+
+// Whether the forwarder then sees what the token tells.
+fn learns(engine: &Engine, watch: Option<Watch>, token: Option<Told>) -> bool
+    requires watch { IfSome watch (λ w. w.forwarder.name ≡ engine.now) }
+    requires token { IfSome token (λ t. t.name ≡ engine.now) }
+{
+    let _engine = engine;
+    match (watch, token) {
+        (Some(watch), Some(token)) => watch.learn(token).is_some(),
+        _ => false,
+    }
 }
 
 // Four workers submit 250 installs each. Then each forwarder learns the last token of a worker that has none.
@@ -140,7 +163,7 @@ fn thousand<R: Threads + Wait + Sync + AllocGlobal>(
     engine: &Engine,
     one: Forwarder,
     two: Forwarder,
-) -> Option<(Watch, Watch)>
+) -> bool
     requires { (one.name ≡ engine.now) × (two.name ≡ engine.now) }
 {
     let (watches, tokens) = join(
@@ -150,9 +173,7 @@ fn thousand<R: Threads + Wait + Sync + AllocGlobal>(
         { two_watch(rt, engine, one, two, 250) },
         move || two_tell(rt, engine),
     );
-    let (one, two) = watches;
-    let (first, second) = tokens;
-    Some((one?.learn(first?)?, two?.learn(second?)?))
+    learns(engine, watches.0, tokens.0) && learns(engine, watches.1, tokens.1)
 }
 
 // A core that took the same events.
@@ -187,7 +208,7 @@ fn is_replayed(alloc: Global, hashing: RandomState, core: &Core) -> Result<bool,
 #[test]
 fn four_workers_and_their_journal_replayed(rt: HostRuntime) -> Result<(), Fail> {
     let (engine, one, two) = opened(&rt, BORDER)?;
-    let right = thousand(&rt, &engine, one, two).is_some();
+    let right = thousand(&rt, &engine, one, two);
     let core = engine.close(&rt);
     let count = core.journal().len();
     let hashing = RandomState::new(&rt)?;
