@@ -10,9 +10,11 @@ use source::Source;
 use std::hash::RandomState;
 use std::io;
 use std::process::ExitCode;
+use std::sync::Wait;
+use std::thread::Threads;
 
 fn main(rt: HostRuntime) -> io::Result<ExitCode> {
-    let status = match status(&rt) {
+    let status = match status(&rt, &rt) {
         Ok(status) => status,
         Err(error) if error.kind() == io::ErrorKind::OutOfMemory => {
             tell(&Answer::NoMemory, &mut rt.stdout(), &mut rt.stderr())
@@ -22,8 +24,8 @@ fn main(rt: HostRuntime) -> io::Result<ExitCode> {
     Ok(ExitCode::from(status))
 }
 
-// Does what the words ask for. What is returned is the status.
-fn status(rt: &HostRuntime) -> io::Result<u8> {
+// Does what the words ask for, with threads from `threads`. What is returned is the status.
+fn status<S: Threads + Wait + Sync>(rt: &HostRuntime, threads: &S) -> io::Result<u8> {
     let given: Vec<String> = std::env::args(rt)?.collect(rt.alloc())?;
     let mut words = Vec::new(rt.alloc());
     for word in given.as_slice() {
@@ -33,5 +35,5 @@ fn status(rt: &HostRuntime) -> io::Result<u8> {
     let hashing = RandomState::new(rt)?;
     let mut input = Source::of(rt, &job);
     let (out, faults) = (&mut rt.stdout(), &mut rt.stderr());
-    Ok(run(rt.alloc(), hashing, job, &mut input, out, faults))
+    Ok(run(threads, rt.alloc(), hashing, job, &mut input, out, faults))
 }

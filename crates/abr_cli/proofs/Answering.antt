@@ -3,23 +3,22 @@ use Rattle.std.proofs.Common.{◌≡◌, ◌⊎◌, ◌∙◌, ◌++◌, List, �
 use Rattle.std.specs.Prelude.{decimal}
 use Rattle.hex.specs.Hex.{decode_of}
 use Rattle.ospf_types.specs.Lsa.{Lsa}
-use Rattle.ospf_types.specs.Text.{address_text}
 use Rattle.lsa_codec.specs.Checksum.{IsSound}
 use Rattle.lsa_codec.specs.Spelling.{Spells}
 use Rattle.route_table.specs.declared.table.Match.{Match}
-use Rattle.route_table.specs.Tables.{TableValue, IsMatch}
+use Rattle.route_table.specs.Tables.{TableValue}
 use Rattle.route_table.specs.Texts.{match_text}
 use Rattle.abr_cli.specs.declared.command_fault.CommandFault.{CommandFault}
 use Rattle.abr_cli.specs.declared.command_fault.CommandFault.TheVariants as fault
 use Rattle.abr_cli.specs.Command.{OneTexts}
 use Rattle.abr_cli.specs.Words.{WritesLsa}
 use Rattle.abr_cli.specs.Answers.{AnswerValue, IsAnswer, faulty}
-use Rattle.abr_cli.specs.One.{Given, Say, IsTableOf, Answer, IsCoreFault, IsFault, lookup_line}
+use Rattle.abr_cli.specs.One.{Given, Say, Prints, Answer, IsEngineFault, IsFault, lookup_line}
 
 pub writes_lsa : (word read bytes : List ℕ) (lsa : Lsa) → decode_of word ≡ Ok read → bytes ≡ read → IsSound bytes → Spells bytes lsa → WritesLsa word lsa
 writes_lsa word read bytes lsa given same sound spelled = record { bytes = bytes; given = given ∙ ap Ok (sym same); sound = sound; spelled = spelled }
 
-pub fault_widens : (words : OneTexts) (g : Given) (f : CommandFault) → Say words g → IsCoreFault g f → IsFault words f
+pub fault_widens : (words : OneTexts) (g : Given) (f : CommandFault) → Say words g → IsEngineFault g f → IsFault words f
 fault_widens words g (fault.Word f) say h = absurd h
 fault_widens words g (fault.Wire f) say h = absurd h
 fault_widens words g (fault.Config f) say h = (g, say, h)
@@ -28,17 +27,19 @@ fault_widens words g (fault.Read file) say h = absurd h
 fault_widens words g (fault.Line f) say h = absurd h
 fault_widens words g fault.Memory say h = tt
 fault_widens words g fault.Write say h = absurd h
+fault_widens words g fault.Spawn say h = absurd h
+fault_widens words g fault.Place say h = (g, say, h)
+fault_widens words g fault.NoEntry say h = (g, say, h)
 
-pub answers : (words : OneTexts) (g : Given) (core table : TableValue) (found : Match) (line : List ℕ) → Say words g → IsTableOf g core → table ≡ core → IsMatch table.items g.lookup found
-    → line ≡ lookup_line (address_text g.lookup) table found → Answer words line
-answers words g core table found line say right same matched printed = record {
+pub answers : (words : OneTexts) (g : Given) (line : List ℕ) → Say words g → Prints g line → Answer words line
+answers words g line say h = record {
   given = g;
   say = say;
-  table = table;
-  right = subst (λ (t : TableValue). IsTableOf g t) (sym same) right;
-  found = found;
-  matched = matched;
-  printed = printed ∙ ap (λ (w : List ℕ). lookup_line w table found) (sym say.lookup.spelled);
+  table = h.table;
+  right = h.right;
+  found = h.found;
+  matched = h.matched;
+  printed = h.printed ∙ ap (λ (w : List ℕ). lookup_line w h.table h.found) (sym say.lookup.spelled);
 }
 
 -- the pieces of the format, as they are written one behind the other

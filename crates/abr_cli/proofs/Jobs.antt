@@ -1,5 +1,5 @@
 -- The job is the command that was met.
-use Rattle.std.proofs.Common.{◌≡◌, ◌≢◌, ◌⊎◌, ◌∙◌, sym, ap, subst, refl, inl, inr, lit<, List, [], Option, Some, codes}
+use Rattle.std.proofs.Common.{ℕ, ◌≡◌, ◌≢◌, ◌⊎◌, ◌∙◌, sym, ap, subst, refl, inl, inr, lit<, List, [], Option, Some, codes}
 use Rattle.clap.specs.Words.{Row, Text, first_of, kind_of}
 use Rattle.clap.specs.Faults.{fault_of}
 use Rattle.clap.specs.Kinds.{HasKind, IsAmong, Kinds}
@@ -7,7 +7,7 @@ use Rattle.clap.specs.declared.error.Error.{Error}
 use Rattle.clap.specs.declared.error.kind.ErrorKind.TheVariants.{OutOfMemory}
 use Rattle.replay.specs.declared.show.Show.{Show}
 use Rattle.replay.specs.declared.show.Show.TheVariants.{Routes, Due, Lsdb, Journal}
-use Rattle.abr_cli.specs.Command.{HasOne, HasDecode, HasReplay, HasWords, IsJob, IsMistake, IsOne, IsDecode, IsReplay, OneTexts, program, show_name, texts_of}
+use Rattle.abr_cli.specs.Command.{HasOne, HasDecode, HasReplay, HasReplayWords, HasWords, IsFit, IsJob, IsMistake, IsOne, IsDecode, IsReplay, OneTexts, WritesWorkers, program, show_name, texts_of}
 use Rattle.abr_cli.specs.declared.command.Job.{Job}
 use Rattle.abr_cli.specs.declared.command.Job.TheVariants.{One, Decode, Replay}
 use Rattle.abr_cli.specs.declared.command.Usage.{Usage}
@@ -57,36 +57,49 @@ show_unique Journal Due e = absurd (first_differs (show_name Journal) (show_name
 show_unique Journal Lsdb e = absurd (first_differs (show_name Journal) (show_name Journal) (show_name Lsdb) (lit< tt) refl e)
 show_unique Journal Journal e = refl
 
-replay_unique : (s : Option (Text × List Row)) (a b : Text) (x y : Show) → HasReplay s a x → HasReplay s b y → (a ≡ b) × (x ≡ y)
-replay_unique s a b x y h k =
-    let same : h.0 ≡ k.0 = (one_met s _ _ h.0 k.0 h.1 k.1).1 in (
-      one_given _ a b (subst (λ (r : List Row). first_of (codes "FILE") r ≡ Some a) same h.2) k.2,
-      show_unique x y (one_given _ (show_name x) (show_name y) (subst (λ (r : List Row). first_of (codes "show") r ≡ Some (show_name x)) same h.3) k.3),
-    )
+workers_unique : (word : Text) (m n : ℕ) → WritesWorkers word m → WritesWorkers word n → m ≡ n
+workers_unique word m n h k = sym h.written ∙ k.written
+
+words_of_replay : (rows : List Row) (a b : Text) (m n : ℕ) (x y : Show) → HasReplayWords rows a m x → HasReplayWords rows b n y → (a ≡ b) × (m ≡ n) × (x ≡ y)
+words_of_replay rows a b m n x y h k = (
+  one_given _ a b h.0 k.0,
+  workers_unique k.1.0 m n (subst (λ (w : Text). WritesWorkers w m) (one_given _ h.1.0 k.1.0 h.1.1 k.1.1) h.1.2) k.1.2,
+  show_unique x y (one_given _ (show_name x) (show_name y) h.2 k.2),
+)
+
+replay_unique : (s : Option (Text × List Row)) (a b : Text) (m n : ℕ) (x y : Show) → HasReplay s a m x → HasReplay s b n y → (a ≡ b) × (m ≡ n) × (x ≡ y)
+replay_unique s a b m n x y h k =
+    let same : h.0 ≡ k.0 = (one_met s _ _ h.0 k.0 h.1 k.1).1 in
+    words_of_replay k.0 a b m n x y (subst (λ (r : List Row). HasReplayWords r a m x) same h.2) k.2
 
 one_or_decode : (s : Option (Text × List Row)) (t : OneTexts) (hex : Text) → HasOne s t → HasDecode s hex → ⊥
 one_or_decode s t hex h k = one_is_no_decode (codes "one") refl (one_met s _ _ h.0 k.0 h.1 k.1).0
 
-one_or_replay : (s : Option (Text × List Row)) (t : OneTexts) (file : Text) (show : Show) → HasOne s t → HasReplay s file show → ⊥
-one_or_replay s t file show h k = one_is_no_replay (codes "one") refl (one_met s _ _ h.0 k.0 h.1 k.1).0
+one_or_replay : (s : Option (Text × List Row)) (t : OneTexts) (file : Text) (workers : ℕ) (show : Show) → HasOne s t → HasReplay s file workers show → ⊥
+one_or_replay s t file workers show h k = one_is_no_replay (codes "one") refl (one_met s _ _ h.0 k.0 h.1 k.1).0
 
-decode_or_replay : (s : Option (Text × List Row)) (hex file : Text) (show : Show) → HasDecode s hex → HasReplay s file show → ⊥
-decode_or_replay s hex file show h k = decode_is_no_replay (codes "decode") refl (one_met s _ _ h.0 k.0 h.1 k.1).0
+decode_or_replay : (s : Option (Text × List Row)) (hex file : Text) (workers : ℕ) (show : Show) → HasDecode s hex → HasReplay s file workers show → ⊥
+decode_or_replay s hex file workers show h k = decode_is_no_replay (codes "decode") refl (one_met s _ _ h.0 k.0 h.1 k.1).0
 
 pub job_is_one : (s : Option (Text × List Row)) (j : Job) (t : OneTexts) → IsJob s j → HasOne s t → IsOne t j
 job_is_one s (One w) t h k = one_unique s (texts_of w) t h k
 job_is_one s (Decode w) t h k = one_or_decode s t w.now k h
-job_is_one s (Replay file show) t h k = one_or_replay s t file.now show k h
+job_is_one s (Replay file workers show) t h k = one_or_replay s t file.now workers show k h
 
 pub job_is_decode : (s : Option (Text × List Row)) (j : Job) (hex : Text) → IsJob s j → HasDecode s hex → IsDecode hex j
 job_is_decode s (One w) hex h k = one_or_decode s (texts_of w) hex h k
 job_is_decode s (Decode w) hex h k = decode_unique s w.now hex h k
-job_is_decode s (Replay file show) hex h k = decode_or_replay s hex file.now show k h
+job_is_decode s (Replay file workers show) hex h k = decode_or_replay s hex file.now workers show k h
 
-pub job_is_replay : (s : Option (Text × List Row)) (j : Job) (word : Text) (what : Show) → IsJob s j → HasReplay s word what → IsReplay word what j
-job_is_replay s (One w) word what h k = one_or_replay s (texts_of w) word what h k
-job_is_replay s (Decode w) word what h k = decode_or_replay s w.now word what h k
-job_is_replay s (Replay file show) word what h k = replay_unique s file.now word show what h k
+pub job_is_replay : (s : Option (Text × List Row)) (j : Job) (word : Text) (count : ℕ) (what : Show) → IsJob s j → HasReplay s word count what → IsReplay word count what j
+job_is_replay s (One w) word count what h k = one_or_replay s (texts_of w) word count what h k
+job_is_replay s (Decode w) word count what h k = decode_or_replay s w.now word count what h k
+job_is_replay s (Replay file workers show) word count what h k = replay_unique s file.now word workers count show what h k
+
+pub job_is_fit : (s : Option (Text × List Row)) (j : Job) → IsJob s j → IsFit j
+job_is_fit s (One w) h = tt
+job_is_fit s (Decode w) h = tt
+job_is_fit s (Replay file workers show) h = h.2.1.2.within
 
 -- ---- where there is none
 

@@ -5,6 +5,7 @@ pub mod Names
 pub mod Line
 pub mod Jobs
 pub mod Answering
+pub mod Learning
 pub mod Decoding
 pub mod Said
 pub mod Ended

@@ -1,16 +1,19 @@
--- What the parse makes of `abr one` with five words, `abr decode` with one and `abr replay` with a file, and a name of what is shown or none. The words do not begin with a hyphen; the file may be one.
-use Rattle.std.proofs.Common.{ℕ, ◌≡◌, ◌∙◌, ◌==◌, ap, ap₂, refl, inl, inr, is_some, Bool, true, false, List, [], ◌∷◌, Option, Some, None, codes, map}
+-- What the parse makes of `abr one` with five words, `abr decode` with one and `abr replay` with a file, and a number of workers, a name of what is shown or neither. The words do not begin with a hyphen; the file may be one.
+use Rattle.std.proofs.Common.{ℕ, ◌≡◌, ◌∙◌, ◌==◌, ap, ap₂, subst, refl, arith, eqb-true, lit<, inl, inr, is_some, Bool, true, false, List, [], ◌∷◌, Option, Some, None, codes, map}
 use Rattle.std.specs.Prelude.{fold}
+use Rattle.std.specs.Str.Parse.{IsNumeral, without_leading_plus}
 use Rattle.clap.specs.Lexer.{short_of, strip_byte}
 use Rattle.clap.specs.Words.{first_of}
-use Rattle.clap.specs.Walk.{Held, Row, Rule, Text, Walk, arg_by_index, finished, idle, nothing_held, rows_after, settled, stop_after, to_positional, value, walk, walk_from, walked}
+use Rattle.clap.specs.Walk.{Held, Row, Rule, Step, Text, Walk, after_step, arg_by_index, finished, idle, nothing_held, option, plain_word, pushed, rows_after, settled, stop_after, to_positional, value, walk, walk_from, walked}
 use Rattle.clap.specs.Simple.{Shape, argument_words, built, built_leaf, entered, inherited, names_of, subcommand_of}
 use Rattle.clap.specs.Faults.{check_fault, defaults_fault, entered_fault, fault_of, level_fault, settle_fault, step_fault, turn_fault, walk_fault}
-use Rattle.clap.specs.Kinds.{Kinds, or_else}
+use Rattle.clap.specs.Kinds.{Kinds, or_else, value_kinds}
+use Rattle.clap.specs.declared.builder.value_parser.ValueParser.TheVariants.{Unsigned}
+use Rattle.clap.proofs.KindLemmas.{value_kinds-ok}
 use Rattle.clap.proofs.OnLiterals.{clap_on_literals}
 use Rattle.replay.specs.declared.show.Show.{Show}
 use Rattle.replay.specs.declared.show.Show.TheVariants.{Routes, Due, Lsdb, Journal}
-use Rattle.abr_cli.specs.Command.{ArePlain, HasOne, HasDecode, HasReplay, HasWords, IsFileWord, IsPlainWord, OneTexts, one_command, decode_command, replay_command, one_line, decode_line, replay_line, show_line, show_name, show_names, program, reference}
+use Rattle.abr_cli.specs.Command.{ArePlain, HasOne, HasDecode, HasReplay, HasReplayWords, HasWords, IsFileWord, IsPlainWord, OneTexts, one_command, decode_command, replay_command, one_line, decode_line, replay_line, show_line, show_name, show_names, workers_line, WritesWorkers, program, reference}
 
 -- the walk goes on with the positional at its place
 abbrev on_positional : List Rule → Walk → Text → Walk
@@ -255,20 +258,29 @@ show_kept file Due = refl
 show_kept file Lsdb = refl
 show_kept file Journal = refl
 
-pub replay_has : (name file : Text) → IsFileWord file → HasReplay (subcommand_of program (replay_line name file)) file Routes
+workers_kept : (file : Text) (show : Show) → first_of (codes "workers") (replay_rows file (show_words show)) ≡ Some (codes "1")
+unfolding clap_on_literals
+workers_kept file Routes = refl
+workers_kept file Due = refl
+workers_kept file Lsdb = refl
+workers_kept file Journal = refl
+
+-- where no number was given
+one_worker : WritesWorkers (codes "1") 1
+one_worker = record { numeral = (lit< tt, (lit< tt, tt)); written = refl; within = (omega arith, omega arith) }
+
+pub replay_has : (name file : Text) → IsFileWord file → HasReplay (subcommand_of program (replay_line name file)) file 1 Routes
 replay_has name file p = (
   replay_rows file [],
   ap (entered (built program)) (replay_stop_is name file) ∙ ap (λ (r : List Row). Some (codes "replay", r)) (replay_rows_are file [] p),
-  refl,
-  refl,
+  (refl, (codes "1", refl, one_worker), refl),
 )
 
-pub show_has : (name file : Text) (show : Show) → IsFileWord file → HasReplay (subcommand_of program (show_line name file show)) file show
+pub show_has : (name file : Text) (show : Show) → IsFileWord file → HasReplay (subcommand_of program (show_line name file show)) file 1 show
 show_has name file show p = (
   replay_rows file (show_words show),
   ap (entered (built program)) (show_stop_is name file show) ∙ ap (λ (r : List Row). Some (codes "replay", r)) (replay_rows_are file (show_words show) p),
-  file_kept file show,
-  show_kept file show,
+  (file_kept file show, (codes "1", workers_kept file show, one_worker), show_kept file show),
 )
 
 replay_top_faultless : (name file : Text)
@@ -324,3 +336,119 @@ pub show_faultless : (name file : Text) (show : Show) → IsFileWord file → fa
 show_faultless name file show p =
     faultless (show_line name file show) _ (show_stop_is name file show)
     (replay_sub_faultless file (show_words show) p (show_walks file show) (show_ends file show)) (show_top_faultless name file show)
+
+-- ---- the number of workers
+
+-- an option waits for its value
+abbrev waiting_at : Held → ℕ → Text → Walk
+waiting_at h position id = record { held = h; waiting = option id; position = position; is_trailing = false; stopped = None }
+
+abbrev to_option : List Rule → Text → Text → Held → Held × Step
+to_option c id word h = plain_word c (option id) word h
+
+option_step : (c : List Rule) (h : Held) (position : ℕ) (id word : Text) → IsPlainWord word
+    → walked c [] (waiting_at h position id) word ≡ after_step c word (waiting_at h position id) (to_option c id word h).0 (to_option c id word h).1
+unfolding walked
+option_step c h position id [] p = refl
+option_step c h position id (x ∷ xs) p = go (x == 45) refl
+  where
+    go : (b : Bool) → (x == 45) ≡ b
+        → walked c [] (waiting_at h position id) (x ∷ xs) ≡ after_step c (x ∷ xs) (waiting_at h position id) (to_option c id (x ∷ xs) h).0 (to_option c id (x ∷ xs) h).1
+    go true e = let bad : strip_byte 45 (x ∷ xs) ≡ Some xs = rw e refl in cc
+    go false e = let none : short_of (x ∷ xs) ≡ None = rw e refl in rw (e, none) refl
+
+option_fault : (s : Shape) (h : Held) (position : ℕ) (id word : Text) → IsPlainWord word → turn_fault s [] (waiting_at h position id) word ≡ []
+option_fault s h position id [] p = refl
+option_fault s h position id (x ∷ xs) p = go (x == 45) refl
+  where
+    go : (b : Bool) → (x == 45) ≡ b → turn_fault s [] (waiting_at h position id) (x ∷ xs) ≡ []
+    go true e = let bad : strip_byte 45 (x ∷ xs) ≡ Some xs = rw e refl in cc
+    go false e = let none : short_of (x ∷ xs) ≡ None = rw e refl in rw (e, none) refl
+
+abbrev workers_words : Text → List Text
+workers_words number = codes "--workers" ∷ number ∷ []
+
+abbrev held_waiting : Text → Held
+held_waiting file = record (settled replay_sub.rules (replay_walk file).held) { pending = Some (codes "workers", []) }
+
+abbrev walk_waiting : Text → Walk
+walk_waiting file = waiting_at (held_waiting file) 2 (codes "workers")
+
+waits_is : (file : Text) → walked replay_sub.rules [] (replay_walk file) (codes "--workers") ≡ walk_waiting file
+unfolding clap_on_literals
+waits_is file = refl
+
+-- the value was given
+abbrev walk_given : Text → Text → Walk
+walk_given file number = at_rest (pushed (codes "workers") number (held_waiting file)) 2
+
+number_step : (file number : Text) → IsPlainWord number → walked replay_sub.rules [] (walk_waiting file) number ≡ walk_given file number
+number_step file number p = option_step replay_sub.rules (held_waiting file) 2 (codes "workers") number p
+
+walk_given_is : (file number : Text) → IsPlainWord number → walk_on file (workers_words number) ≡ walk_given file number
+walk_given_is file number p = ap (λ (w : Walk). walked replay_sub.rules [] w number) (waits_is file) ∙ number_step file number p
+
+abbrev rows_given : Text → Text → List Row
+rows_given file number = finished replay_sub.rules (walk_given file number).held
+
+rows_given_are : (file number : Text) → IsFileWord file → IsPlainWord number → rows_after replay_sub.rules [] (file ∷ workers_words number) ≡ rows_given file number
+rows_given_are file number p q = replay_rows_are file (workers_words number) p ∙ ap (λ (w : Walk). finished replay_sub.rules w.held) (walk_given_is file number q)
+
+workers_stop_is : (name file number : Text)
+    → stop_after (built program).top.rules (names_of (built program)) (argument_words program (workers_line name file number)) ≡ Some (codes "replay", file ∷ workers_words number)
+unfolding clap_on_literals
+workers_stop_is name file number = refl
+
+-- what writes a number does not begin with a hyphen
+plain_number : (word : Text) → IsNumeral 10 (without_leading_plus word) → IsPlainWord word
+plain_number [] h = refl
+plain_number (x ∷ xs) h = go (x == 45) refl
+  where
+    go : (b : Bool) → (x == 45) ≡ b → strip_byte 45 (x ∷ xs) ≡ None
+    go false e = rw e refl
+    go true e =
+        let digits : IsNumeral 10 (45 ∷ xs) = subst (λ (y : ℕ). IsNumeral 10 (without_leading_plus (y ∷ xs))) (eqb-true x 45 e) h in
+        let less = digits.1.0 in absurd (omega arith)
+
+rows_given_have : (file number : Text) (count : ℕ) → WritesWorkers number count → HasReplayWords (rows_given file number) file count Routes
+rows_given_have file number count writes = (refl, (number, refl, writes), refl)
+
+pub workers_has : (name file number : Text) (count : ℕ) → IsFileWord file → WritesWorkers number count
+    → HasReplay (subcommand_of program (workers_line name file number)) file count Routes
+workers_has name file number count p writes = (
+  rows_given file number,
+  ap (entered (built program)) (workers_stop_is name file number)
+      ∙ ap (λ (r : List Row). Some (codes "replay", r)) (rows_given_are file number p (plain_number number writes.numeral)),
+  rows_given_have file number count writes,
+)
+
+workers_top_faultless : (name file number : Text)
+    → level_fault (built program).top (names_of (built program)) nothing_held (argument_words program (workers_line name file number)) true [] ≡ []
+unfolding clap_on_literals
+workers_top_faultless name file number = refl
+
+waits_fault : (file : Text) → turn_fault replay_sub [] (replay_walk file) (codes "--workers") ≡ []
+unfolding clap_on_literals
+waits_fault file = refl
+
+workers_walks : (file number : Text) → IsPlainWord number → walk_fault replay_sub [] (replay_walk file) (workers_words number) ≡ []
+unfolding walk_fault
+workers_walks file number p =
+    faultless_cons replay_sub _ _ (codes "--workers") (number ∷ []) (waits_fault file) (waits_is file)
+    (faultless_cons replay_sub _ _ number [] (option_fault replay_sub (held_waiting file) 2 (codes "workers") number p) (number_step file number p) refl)
+
+accepted : (number : Text) (count : ℕ) → WritesWorkers number count → value_kinds false (Unsigned 1 16) number ≡ []
+accepted number count h =
+    let same = h.written in
+    value_kinds-ok false (Unsigned 1 16) number (h.numeral, omega (arith, h.within), omega (arith, h.within), omega (arith, h.within))
+
+workers_ends : (file number : Text) → value_kinds false (Unsigned 1 16) number ≡ [] → end_fault (walk_given file number) ≡ []
+unfolding clap_on_literals
+workers_ends file number ok = ap (λ (k : Kinds). or_else (or_else k []) []) ok
+
+pub workers_faultless : (name file number : Text) (count : ℕ) → IsFileWord file → WritesWorkers number count → fault_of program (workers_line name file number) ≡ []
+workers_faultless name file number count p writes =
+    let q = plain_number number writes.numeral in
+    faultless (workers_line name file number) _ (workers_stop_is name file number)
+    (replay_sub_faultless file (workers_words number) p (workers_walks file number q) (ap end_fault (walk_given_is file number q) ∙ workers_ends file number (accepted number count writes)))
+    (workers_top_faultless name file number)

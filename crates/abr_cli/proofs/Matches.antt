@@ -11,7 +11,9 @@ use Rattle.clap.specs.declared.parser.matches.SubCommand.{SubCommand}
 use Rattle.clap.specs.declared.parser.matches.ArgMatches.TheViews.{out-SubCommand}
 use Rattle.clap.proofs.WalkLemmas.{first_value-rows}
 use Rattle.replay.specs.declared.show.Show.{Show}
-use Rattle.abr_cli.specs.Command.{OneTexts, HasJob, HasWords, show_name}
+use Rattle.abr_cli.specs.Command.{OneTexts, HasJob, HasReplayWords, HasWords, IsJob, IsReplayOf}
+use Rattle.abr_cli.specs.declared.command.Job.{Job}
+use Rattle.abr_cli.specs.declared.command.Job.TheVariants.{One, Decode, Replay}
 
 pub same_text : (xs ys : List ℕ) → bytes_eq xs ys ≡ true → xs ≡ ys
 same_text xs ys e = (bytes_eq-Decides xs ys).0 e
@@ -61,7 +63,7 @@ abbrev NoDecode : List Row → Type 0
 NoDecode rows = (hex : Text) → first_of (codes "HEX") rows ≡ Some hex → ⊥
 
 abbrev NoReplay : List Row → Type 0
-NoReplay rows = (file : Text) (show : Show) → first_of (codes "FILE") rows ≡ Some file → first_of (codes "show") rows ≡ Some (show_name show) → ⊥
+NoReplay rows = (file : Text) (workers : ℕ) (show : Show) → HasReplayWords rows file workers show → ⊥
 
 -- a command that was met without some of its words is no job
 pub no_job : (s : Option (Text × List Row)) (name : Text) (rows : List Row) → Some name ≡ option_map (λ p. p.0) s → Some rows ≡ option_map (λ p. p.1) s
@@ -73,10 +75,15 @@ no_job s name rows named given one decode replay (inr (inl h)) =
     let words = h.1 in
     decode (same_name s name _ words.0 named words.1) h.0 (subst (λ (x : List Row). first_of (codes "HEX") x ≡ Some h.0) (same_rows s rows words.0 _ given words.1) words.2)
 no_job s name rows named given one decode replay (inr (inr h)) =
-    let words = h.2 in
+    let words = h.3 in
     let same : words.0 ≡ rows = same_rows s rows words.0 _ given words.1 in
-    replay (same_name s name _ words.0 named words.1) h.0 h.1
-    (subst (λ (x : List Row). first_of (codes "FILE") x ≡ Some h.0) same words.2) (subst (λ (x : List Row). first_of (codes "show") x ≡ Some (show_name h.1)) same words.3)
+    replay (same_name s name _ words.0 named words.1) h.0 h.1 h.2 (subst (λ (x : List Row). HasReplayWords x h.0 h.1 h.2) same words.2)
+
+-- a job that has the words of a replay, where `replay` was met
+pub replay_met : (s : Option (Text × List Row)) (rows : List Row) (j : Job) → s ≡ Some (codes "replay", rows) → IsReplayOf rows j → IsJob s j
+replay_met s rows (One w) e h = absurd h
+replay_met s rows (Decode hex) e h = absurd h
+replay_met s rows (Replay file workers show) e h = (rows, e, h)
 
 pub first_differs : (name other next : Text) → slice_index other 0 < slice_index next 0 → name ≡ other → name ≡ next → ⊥
 first_differs name other next less e f =

@@ -1,9 +1,10 @@
--- The command line: `abr one ROUTER AREA ADDRESS HEX LOOKUP`, `abr decode HEX` and `abr replay FILE [--show NAME]`.
-use Rattle.std.specs.Prelude.{◌≡◌, ◌⊎◌, true, List, [], ◌∷◌, Option, Some, None, codes, map}
+-- The command line: `abr one ROUTER AREA ADDRESS HEX LOOKUP`, `abr decode HEX` and `abr replay FILE [--workers N] [--show NAME]`.
+use Rattle.std.specs.Prelude.{ℕ, ◌≡◌, ◌⊎◌, ◌≤◌, true, List, [], ◌∷◌, Option, Some, None, codes, map}
 use Rattle.std.specs.Borrow.{Bor}
+use Rattle.std.specs.Str.Parse.{IsNumeral, digits_value, without_leading_plus}
 use Rattle.clap.specs.Words.{App, Row, Rule, Text, IsAmong, fault_of, first_of, kind_of, new_app, new_rule, subcommand_of, with_rule, with_subcommand}
 use Rattle.clap.specs.Lexer.{strip_byte}
-use Rattle.clap.specs.declared.builder.value_parser.ValueParser.TheVariants.{Names}
+use Rattle.clap.specs.declared.builder.value_parser.ValueParser.TheVariants.{Names, Unsigned}
 use Rattle.clap.specs.declared.error.kind.ErrorKind.TheVariants.{MissingRequiredArgument}
 use Rattle.replay.specs.declared.show.Show.{Show}
 use Rattle.replay.specs.declared.show.Show.TheVariants.{Routes, Due, Lsdb, Journal}
@@ -52,8 +53,18 @@ show_option names = record (new_rule (codes "show")) {
   defaults = show_name Routes ∷ [];
 }
 
+-- `--workers N`, by default 1
+abbrev pub workers_option : Rule
+workers_option = record (new_rule (codes "workers")) {
+  long = Some (codes "workers");
+  value_names = 1;
+  parser = Some (Unsigned 1 16);
+  defaults = codes "1" ∷ [];
+}
+
 abbrev pub replay_command : References → App
-replay_command names = with_rule (with_rule (new_app (codes "replay")) (required_word (codes "FILE"))) (show_option names)
+replay_command names =
+    with_rule (with_rule (with_rule (new_app (codes "replay")) (required_word (codes "FILE"))) workers_option) (show_option names)
 
 -- what follows the program's name is one of its commands, or asks for its version
 abbrev pub program_with : References → App
@@ -107,21 +118,47 @@ HasOne met t = (rows : List Row) × (met ≡ Some (codes "one", rows)) × HasWor
 abbrev pub HasDecode : Option (Text × List Row) → Text → Type 0
 HasDecode met hex = (rows : List Row) × (met ≡ Some (codes "decode", rows)) × (first_of (codes "HEX") rows ≡ Some hex)
 
--- `replay` was met, and this file and the name of what is shown were given for it; where no name was given, the matches have `routes`
-abbrev pub HasReplay : Option (Text × List Row) → Text → Show → Type 0
-HasReplay met file show = (rows : List Row) × (met ≡ Some (codes "replay", rows))
-    × (first_of (codes "FILE") rows ≡ Some file)
+-- there may be so many workers
+abbrev pub AreWorkers : ℕ → Type 0
+AreWorkers n = (1 ≤ n) × (n ≤ 16)
+
+-- the word writes so many workers: decimal digits, and a plus sign may stand before them
+pub record WritesWorkers (word : Text) (n : ℕ) : Type 0 where
+  pub numeral : IsNumeral 10 (without_leading_plus word)
+  pub written : digits_value 10 (without_leading_plus word) ≡ n
+  pub within : AreWorkers n
+
+-- this file, so many workers and the name of what is shown were given; where no number was given, the matches have 1, and where no name was, `routes`
+abbrev pub HasReplayWords : List Row → Text → ℕ → Show → Type 0
+HasReplayWords rows file workers show = (first_of (codes "FILE") rows ≡ Some file)
+    × ((word : Text) × (first_of (codes "workers") rows ≡ Some word) × WritesWorkers word workers)
     × (first_of (codes "show") rows ≡ Some (show_name show))
+
+-- `replay` was met, and these were given for it
+abbrev pub HasReplay : Option (Text × List Row) → Text → ℕ → Show → Type 0
+HasReplay met file workers show = (rows : List Row) × (met ≡ Some (codes "replay", rows)) × HasReplayWords rows file workers show
+
+-- the job is a replay with the words that were given
+abbrev pub IsReplayOf : List Row → Job → Type 0
+IsReplayOf rows (One w) = ⊥
+IsReplayOf rows (Decode hex) = ⊥
+IsReplayOf rows (Replay file workers show) = HasReplayWords rows file.now workers show
 
 -- a command was met, and its words were given
 abbrev pub HasJob : Option (Text × List Row) → Type 0
-HasJob met = ((t : OneTexts) × HasOne met t) ⊎ ((hex : Text) × HasDecode met hex) ⊎ ((file : Text) × (show : Show) × HasReplay met file show)
+HasJob met = ((t : OneTexts) × HasOne met t) ⊎ ((hex : Text) × HasDecode met hex) ⊎ ((file : Text) × (workers : ℕ) × (show : Show) × HasReplay met file workers show)
 
 -- the job is the command that was met, with the words that were given for it
 abbrev pub IsJob : Option (Text × List Row) → Job → Type 0
 IsJob met (One w) = HasOne met (texts_of w)
 IsJob met (Decode hex) = HasDecode met hex.now
-IsJob met (Replay file show) = HasReplay met file.now show
+IsJob met (Replay file workers show) = HasReplay met file.now workers show
+
+-- the job can be done: where it is a replay, there may be so many workers
+abbrev pub IsFit : Job → Type 0
+IsFit (One w) = Unit {0}
+IsFit (Decode hex) = Unit {0}
+IsFit (Replay file workers show) = AreWorkers workers
 
 -- A mistake is one that the command line has. Where no mistake is found and there is no job, a word is missing.
 abbrev pub IsMistake : List Text → Usage → Type 0
@@ -148,7 +185,7 @@ pub record ArePlain (t : OneTexts) : Type 0 where
 abbrev pub IsOne : OneTexts → Job → Type 0
 IsOne t (One w) = texts_of w ≡ t
 IsOne t (Decode hex) = ⊥
-IsOne t (Replay file show) = ⊥
+IsOne t (Replay file workers show) = ⊥
 
 -- the command line `abr decode` with this word, whatever the program is called
 abbrev pub decode_line : Text → Text → List Text
@@ -158,7 +195,7 @@ decode_line name hex = name ∷ codes "decode" ∷ hex ∷ []
 abbrev pub IsDecode : Text → Job → Type 0
 IsDecode word (One w) = ⊥
 IsDecode word (Decode hex) = hex.now ≡ word
-IsDecode word (Replay file show) = ⊥
+IsDecode word (Replay file workers show) = ⊥
 
 -- the word does not begin with a hyphen, or is one
 abbrev pub IsFileWord : Text → Type 0
@@ -172,8 +209,12 @@ replay_line name file = name ∷ codes "replay" ∷ file ∷ []
 abbrev pub show_line : Text → Text → Show → List Text
 show_line name file show = name ∷ codes "replay" ∷ file ∷ codes "--show" ∷ show_name show ∷ []
 
--- the job is `replay` of this file, to show this
-abbrev pub IsReplay : Text → Show → Job → Type 0
-IsReplay word what (One w) = ⊥
-IsReplay word what (Decode hex) = ⊥
-IsReplay word what (Replay file show) = (file.now ≡ word) × (show ≡ what)
+-- the same with `--workers` and a number
+abbrev pub workers_line : Text → Text → Text → List Text
+workers_line name file number = name ∷ codes "replay" ∷ file ∷ codes "--workers" ∷ number ∷ []
+
+-- the job is `replay` of this file by so many workers, to show this
+abbrev pub IsReplay : Text → ℕ → Show → Job → Type 0
+IsReplay word count what (One w) = ⊥
+IsReplay word count what (Decode hex) = ⊥
+IsReplay word count what (Replay file workers show) = (file.now ≡ word) × (workers ≡ count) × (show ≡ what)

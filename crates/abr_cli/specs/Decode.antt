@@ -42,12 +42,8 @@ IsDecodeFault word (fault.Word NotAnAddress) = ⊥
 IsDecodeFault word (fault.Word NotHexadecimal) = ¬ IsHexadecimal word
 IsDecodeFault word (fault.Word Memory) = Unit {0}
 IsDecodeFault word (fault.Wire f) = HasWireFault word f
-IsDecodeFault word (fault.Config f) = ⊥
-IsDecodeFault word (fault.Refused f) = ⊥
-IsDecodeFault word (fault.Read file) = ⊥
-IsDecodeFault word (fault.Line f) = ⊥
 IsDecodeFault word fault.Memory = Unit {0}
-IsDecodeFault word fault.Write = ⊥
+IsDecodeFault word _ = ⊥
 
 -- the answer of `abr decode` with this word
 abbrev pub IsDecodeAnswer : List ℕ → AnswerValue → Type 0

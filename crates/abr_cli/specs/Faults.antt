@@ -5,7 +5,7 @@ use Rattle.lsa_codec.specs.Text.{wire_fault_text}
 use Rattle.event_core.specs.Texts.{config_fault_text}
 use Rattle.event_state.specs.Texts.{refusal_text}
 use Rattle.recording.specs.Texts.{line_fault_text}
-use Rattle.abr_cli.specs.declared.words.WordFault.TheVariants.{NotAnAddress, NotHexadecimal, Memory}
+use Rattle.abr_cli.specs.declared.words.WordFault.TheVariants.{NotAnAddress, NotHexadecimal}
 use Rattle.abr_cli.specs.declared.command_fault.CommandFault.{CommandFault}
 use Rattle.abr_cli.specs.declared.command_fault.CommandFault.TheVariants as fault
 use Rattle.abr_cli.specs.Words.{fault_text}
@@ -20,19 +20,15 @@ command_fault_text (fault.Read file) = codes "cannot read " ++ file.now
 command_fault_text (fault.Line f) = line_fault_text f
 command_fault_text fault.Memory = memory_text
 command_fault_text fault.Write = codes "cannot write"
+command_fault_text fault.Spawn = codes "31 Spawn"
+command_fault_text fault.Place = codes "46 Place"
+command_fault_text fault.NoEntry = codes "no entry"
 
 -- 2 for a word that cannot be read, and else 1
 abbrev pub status_of : CommandFault → ℕ
 status_of (fault.Word NotAnAddress) = 2
 status_of (fault.Word NotHexadecimal) = 2
-status_of (fault.Word Memory) = 1
-status_of (fault.Wire f) = 1
-status_of (fault.Config f) = 1
-status_of (fault.Refused f) = 1
-status_of (fault.Read file) = 1
-status_of (fault.Line f) = 1
-status_of fault.Memory = 1
-status_of fault.Write = 1
+status_of _ = 1
 
 abbrev pub fault_line : List ℕ → List ℕ
 fault_line text = codes "abr: " ++ text ++ codes "\n"

@@ -14,7 +14,7 @@ use Rattle.abr_cli.specs.Usage.{IsUsageAnswer}
 abbrev pub IsDone : Job → (status : ℕ) (i i' o o' f f' : Option (List ℕ)) → Type 0
 IsDone (job.One words) status i i' o o' f f' = (i' ≡ i) × Tells (IsOneAnswer (texts_of words)) status o o' f f'
 IsDone (job.Decode hex) status i i' o o' f f' = (i' ≡ i) × Tells (IsDecodeAnswer hex.now) status o o' f f'
-IsDone (job.Replay file show) status i i' o o' f f' = IsReplayTold file show status i i' o o' f f'
+IsDone (job.Replay file workers show) status i i' o o' f f' = IsReplayTold file workers show status i i' o o' f f'
 
 -- the job was done, or it was said why there is none
 abbrev pub IsJobTold : Result Job Usage → (status : ℕ) (i i' o o' f f' : Option (List ℕ)) → Type 0

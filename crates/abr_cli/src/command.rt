@@ -22,8 +22,13 @@ pub enum Job<'a> {
     One(OneWords<'a>),
     /// `abr decode`, with its word.
     Decode(&'a str),
-    /// `abr replay`, with its file (`-` is standard input) and what is shown.
-    Replay { file: &'a str, show: Show },
+    /// `abr replay`, with its file (`-` is standard input), how many workers there are, 1 to 16, and
+    /// what is shown.
+    Replay {
+        file: &'a str,
+        workers: usize,
+        show: Show,
+    },
 }
 
 /// Why there is no job.

@@ -29,6 +29,12 @@ pub enum CommandFault<'a> {
     Memory,
     /// What there is to print could not be written.
     Write,
+    /// A worker's thread could not be started.
+    Spawn,
+    /// There was no place for a reader of the published table.
+    Place,
+    /// A look-up got no entry to the published table, or one to another table than that of the events.
+    NoEntry,
 }
 
 impl CommandFault<'_> {
@@ -56,6 +62,9 @@ impl fmt::Display for CommandFault<'_> {
             CommandFault::Line(fault) => fault.fmt(f),
             CommandFault::Memory => Memory.fmt(f),
             CommandFault::Write => f.write_str("cannot write"),
+            CommandFault::Spawn => f.write_str("31 Spawn"),
+            CommandFault::Place => f.write_str("46 Place"),
+            CommandFault::NoEntry => f.write_str("no entry"),
         }
     }
 }

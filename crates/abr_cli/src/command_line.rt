@@ -1,9 +1,9 @@
 //! What the command line asks for.
-ghost use Rattle.std.specs.Prelude.{◌≡◌, ◌≢◌, ◌⊎◌, IfOk, IfErr, IfSome, IsNone, MatchResult, false, map};
+ghost use Rattle.std.specs.Prelude.{ℕ, ◌≡◌, ◌≢◌, ◌⊎◌, IfOk, IfErr, IfSome, IsNone, MatchResult, false, map};
 ghost use Rattle.clap.specs.Words.{Text, app_of, rows_of, found_of, rule_of, subcommand_of, subcommand_rows_of, kind_of};
 ghost use Rattle.clap.specs.declared.builder.command.Command.TheViews.{out-Command};
 ghost use Rattle.replay.specs.declared.show.Show.{Show};
-ghost use Rattle.abr_cli.specs.Command.{one_command, decode_command, replay_command, program, required_word, show_option, show_name, References, AreShowNames, OneTexts, texts_of, HasWords, HasJob, IsJob, IsMistake, one_line, ArePlain, IsOne, decode_line, IsPlainWord, IsDecode, IsProgram, replay_line, show_line, IsFileWord, IsReplay};
+ghost use Rattle.abr_cli.specs.Command.{one_command, decode_command, replay_command, program, required_word, show_option, show_name, References, AreShowNames, OneTexts, texts_of, HasWords, HasJob, IsJob, IsMistake, one_line, ArePlain, IsOne, decode_line, IsPlainWord, IsDecode, IsProgram, replay_line, show_line, workers_line, IsFileWord, IsReplay, HasReplayWords, IsFit, IsReplayOf, WritesWorkers, workers_option};
 
 use crate::command::{Job, OneWords, Usage};
 use clap::builder::ValueParser;
@@ -15,21 +15,29 @@ use std::alloc::{AllocError, Global};
 // What `--version` says.
 const VERSION: &str = "0.1.0";
 
+// How many workers there may be.
+const FEWEST_WORKERS: usize = 1;
+
+const MOST_WORKERS: usize = 16;
+
 // What `--show` takes.
 const SHOW_NAMES: &[&str] = &["routes", "due", "lsdb", "journal"];
 
 /// The job that the words name, the first of them the program's name.
 pub fn job<'a>(alloc: Global, words: &'a [&'a str]) -> Result<Job<'a>, Usage>
     ensures job { IfOk result (IsJob (subcommand_of program (map (λ w. w.now) words.entry.now))) }
+    ensures fit { IfOk result IsFit }
     ensures mistake { IfErr result (IsMistake (map (λ w. w.now) words.entry.now)) }
     ensures one { (name : Text) (t : OneTexts) → map (λ w. w.now) words.entry.now ≡ one_line name t
         → ArePlain t → MatchResult result (IsOne t) (λ u. u ≡ Usage.Memory) }
     ensures decode { (name hex : Text) → map (λ w. w.now) words.entry.now ≡ decode_line name hex
         → IsPlainWord hex → MatchResult result (IsDecode hex) (λ u. u ≡ Usage.Memory) }
     ensures replay { (name file : Text) → map (λ w. w.now) words.entry.now ≡ replay_line name file
-        → IsFileWord file → MatchResult result (IsReplay file Show.Routes) (λ u. u ≡ Usage.Memory) }
+        → IsFileWord file → MatchResult result (IsReplay file 1 Show.Routes) (λ u. u ≡ Usage.Memory) }
+    ensures workers { (name file number : Text) (count : ℕ) → map (λ w. w.now) words.entry.now ≡ workers_line name file number
+        → IsFileWord file → WritesWorkers number count → MatchResult result (IsReplay file count Show.Routes) (λ u. u ≡ Usage.Memory) }
     ensures show { (name file : Text) (show : Show) → map (λ w. w.now) words.entry.now ≡ show_line name file show
-        → IsFileWord file → MatchResult result (IsReplay file show) (λ u. u ≡ Usage.Memory) }
+        → IsFileWord file → MatchResult result (IsReplay file 1 show) (λ u. u ≡ Usage.Memory) }
 {
     let command = program_command(alloc)?;
     match command.try_get_matches_from(words) {
@@ -70,12 +78,22 @@ fn job_in<'a>(matches: &ArgMatches<'a>) -> Option<Job<'a>>
     } else if name == "decode" {
         Some(Job::Decode(words.get_str("HEX")?))
     } else if name == "replay" {
-        let file = words.get_str("FILE")?;
-        let show = show_of(words.get_str("show")?)?;
-        Some(Job::Replay { file, show })
+        replay_job(words)
     } else {
         None
     }
+}
+
+fn replay_job<'a>(words: &ArgMatches<'a>) -> Option<Job<'a>>
+    ensures some { IfSome result (IsReplayOf (rows_of (found_of words.now))) }
+    ensures none { IsNone result → (file : Text) (workers : ℕ) (show : Show)
+        → ¬ HasReplayWords (rows_of (found_of words.now)) file workers show }
+{
+    Some(Job::Replay {
+        file: words.get_str("FILE")?,
+        workers: workers_of(words.get_str("workers")?)?,
+        show: show_of(words.get_str("show")?)?,
+    })
 }
 
 fn one_words<'a>(matches: &ArgMatches<'a>) -> Option<OneWords<'a>>
@@ -89,6 +107,17 @@ fn one_words<'a>(matches: &ArgMatches<'a>) -> Option<OneWords<'a>>
         lsa: matches.get_str("HEX")?,
         lookup: matches.get_str("LOOKUP")?,
     })
+}
+
+// The number that the word writes, where there may be so many workers.
+fn workers_of(word: &str) -> Option<usize>
+    ensures some { IfSome result (WritesWorkers word.now) }
+    ensures none { IsNone result → (n : ℕ) → ¬ WritesWorkers word.now n }
+{
+    match word.parse() {
+        Ok(number) if FEWEST_WORKERS <= number && number <= MOST_WORKERS => Some(number),
+        _ => None,
+    }
 }
 
 fn show_of(name: &str) -> Option<Show>
@@ -150,7 +179,20 @@ fn replay<'a>(alloc: Global) -> Result<Command<'a>, AllocError>
     Command::new(alloc, "replay")
         .about("Runs a recording and shows what came of it")
         .arg(word(alloc, "FILE", "The recording, or - for standard input"))?
+        .arg(workers_option(alloc))?
         .arg(show_option(alloc))
+}
+
+fn workers_option<'a>(alloc: Global) -> Arg<'a>
+    ensures rule { rule_of result ≡ workers_option }
+    ensures local { result.global ≡ false }
+{
+    Arg::new(alloc, "workers")
+        .long("workers")
+        .value_name("N")
+        .value_parser(ValueParser::unsigned(FEWEST_WORKERS as u64, MOST_WORKERS as u64))
+        .default_value("1")
+        .help("How many threads take the events, 1 to 16")
 }
 
 fn show_option<'a>(alloc: Global) -> Arg<'a>

@@ -25,3 +25,4 @@ pub use replaying::replay;
 pub use running::run;
 pub use telling::tell;
 pub use usage::answer_usage;
+pub use worker_replay::{ManyFault, replay_many};

@@ -10,11 +10,13 @@ use std::alloc::{AllocError, Global};
 use std::hash::RandomState;
 use std::random::RandomSource;
 use std::rt::Files;
+use std::sync::Wait;
+use std::thread::Threads;
 use std::{fs, io};
 use trial::is_as_wanted;
 
 // The files of rows.
-const FILES: [&str; 8] = [
+const FILES: [&str; 9] = [
     "commands.rows",
     "recordings.rows",
     "events.rows",
@@ -23,6 +25,7 @@ const FILES: [&str; 8] = [
     "externals.rows",
     "dues.rows",
     "updates.rows",
+    "workers.rows",
 ];
 
 /// How many rows ran, and how many of them differ.
@@ -42,7 +45,7 @@ fn main(rt: HostRuntime) -> io::Result<()> {
 }
 
 // Runs the rows of a file, and prints those that differ.
-fn run_file<R: Files + AllocGlobal + RandomSource + Print>(
+fn run_file<R: Files + AllocGlobal + RandomSource + Print + Threads + Wait + Sync>(
     rt: &R,
     file: &str,
     count: Count,
@@ -54,7 +57,7 @@ fn run_file<R: Files + AllocGlobal + RandomSource + Print>(
         Ok(rows) => {
             for row in rows.as_slice() {
                 count.ran = count.ran.saturating_add(1);
-                if !is_as_wanted(rt.alloc(), hashing, row)? {
+                if !is_as_wanted(rt, rt.alloc(), hashing, row)? {
                     count.differ = count.differ.saturating_add(1);
                     let line = row.line;
                     println!(rt; "{file}:{line} differs")?;

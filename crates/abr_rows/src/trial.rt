@@ -5,9 +5,12 @@ use crate::row::Row;
 use abr_cli::{job, run};
 use std::alloc::{AllocError, Global};
 use std::hash::RandomState;
+use std::sync::Wait;
+use std::thread::Threads;
 
 /// Whether the command answers what the row wants.
-pub fn is_as_wanted(
+pub fn is_as_wanted<S: Threads + Wait + Sync>(
+    rt: &S,
     alloc: Global,
     hashing: RandomState,
     row: &Row<'_>,
@@ -19,7 +22,7 @@ pub fn is_as_wanted(
     };
     let (mut out, mut faults) = (Vec::new(alloc), Vec::new(alloc));
     let asked = job(alloc, row.words.as_slice());
-    let status = run(alloc, hashing, asked, &mut input, &mut out, &mut faults);
+    let status = run(rt, alloc, hashing, asked, &mut input, &mut out, &mut faults);
     let is_text = row.is_any_text
         || (out.as_slice() == row.output.as_slice() && faults.as_slice() == row.faults.as_slice());
     Ok(status == row.status && is_text)

@@ -8,7 +8,7 @@ use Rattle.ospf_types.proofs.Elements.{no_element, first_element, later_element,
 use Rattle.summaries.specs.Active.{ActiveValue, IsActiveIn}
 use Rattle.summaries.specs.declared.member.Member.{Member}
 use Rattle.summaries.proofs.Members.{member_total, member_exact}
-use Rattle.calculation.proofs.Places.{value_at, value_from}
+use Rattle.event_state.proofs.Sorted.{value_at, value_from}
 
 same_network : (p q : Prefix) → (p ≡ q) ⊎ (p ≢ q)
 same_network p q = elim (cases_eq p.address q.address) [

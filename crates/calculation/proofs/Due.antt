@@ -27,7 +27,7 @@ use Rattle.calculation.specs.Due.{AreActiveIn, AreActive, AreDuesFor, RoutesDiff
 use Rattle.calculation.specs.Totals.{area_of}
 use Rattle.calculation.proofs.Above.{apart_areas}
 use Rattle.calculation.proofs.Examining.{active_in, active_from}
-use Rattle.calculation.proofs.Places.{value_from}
+use Rattle.event_state.proofs.Sorted.{value_from}
 
 -- ---- the active areas, one by one
 

@@ -3,17 +3,14 @@
 --   lsas_there: what a database gives its scope is what the scope has
 --   body_used: what is used of a scope's LSAs is what is used of those that it has
 --   fit_lsas: they are fit
---   value_at, value_from: a key with a value is among the entries of a map just where it finds the value
 --   interface_at, interface_from: an interface is among the entries just where its id finds it
 use Rattle.std.proofs.Common.{◌≡◌, ℕ, ◌<◌, true, false, List, [], ◌∷◌, ◌++◌, length, get_or, Option, Some, None, Ordering, refl, sym, ap, subst, ◌∙◌, ◌⊎◌, ⊎_elim}
 use Rattle.std.specs.Prelude.{IsSome, is_some, option_map, option_and_then}
 use Rattle.std.specs.Ordering.{nat_cmp}
-use Rattle.std.specs.Cmp.{IsTotalOrder, nat_cmp_total}
+use Rattle.std.specs.Cmp.{nat_cmp_total}
 use Rattle.std.specs.List.{Contains}
-use Rattle.std.specs.FinMap.{FinMap, IsAntisymmetric, get, entries, empty, get-entries, get-empty, entries_sorted, nat_cmp-IsAntisymmetric}
+use Rattle.std.specs.FinMap.{FinMap, get, entries, empty, get-empty, nat_cmp-IsAntisymmetric}
 use Rattle.std.proofs.lemmas.List.{append-nil}
-use Rattle.std.proofs.lemmas.Cmp.{tied_itself}
-use Rattle.std.proofs.lemmas.Map.Views.{Contains-from_lookup, tells_apart}
 use Rattle.ospf_types.specs.declared.config.AreaConfig.{AreaConfig}
 use Rattle.ospf_types.specs.declared.config.Interface.{Interface}
 use Rattle.ospf_types.specs.declared.key.Key.{Key}
@@ -21,7 +18,6 @@ use Rattle.ospf_types.specs.declared.key.Scope.{Scope}
 use Rattle.ospf_types.specs.declared.key.Scope.TheVariants as scope
 use Rattle.ospf_types.specs.Keys.{key_cmp}
 use Rattle.ospf_types.specs.Lsa.{Body}
-use Rattle.ospf_types.proofs.Maps.{find-lookup}
 use Rattle.lsdb.specs.Databases.{Database}
 use Rattle.lsdb.specs.Contents.{used_at, contents_of}
 use Rattle.area_trees.specs.Areas.{AreaTreeValue, body_at}
@@ -30,7 +26,7 @@ use Rattle.event_state.specs.States.{State, AreApart, place_of, database_of, usa
 use Rattle.event_state.specs.Held.{IsFit, AreFit}
 use Rattle.event_state.proofs.HeldStates.{fit_empty}
 use Rattle.event_state.proofs.Places.{place_at}
-use Rattle.event_state.proofs.Sorted.{find_at}
+use Rattle.event_state.proofs.Sorted.{value_at, value_from}
 use Rattle.calculation.specs.Calculations.{lsas_in, areas_with}
 
 -- a configured area has a database
@@ -65,17 +61,6 @@ fit_lsas s fit at = of (place_of s.config.areas at) refl
     of : (o : Option ℕ) → place_of s.config.areas at ≡ o → IsFit at (lsas_in (option_map (λ k. get_or s.databases k empty) o))
     of None e = fit_empty at
     of (Some k) e = fit.fit at k e
-
--- a key with a value is among the entries of a map just where it finds the value
-module _ {K V : Type 0} {R : K → K → Ordering} (m : FinMap R V) (k : K) (v : V) where
-  pub value_at : IsAntisymmetric R → get m k ≡ Some v → Contains (entries m) (k, v)
-  value_at exact e = Contains-from_lookup (tells_apart exact) k v (entries m) (sym (find-lookup R k (entries m)) ∙ sym (get-entries m k) ∙ e)
-
-  pub value_from : IsTotalOrder R → Contains (entries m) (k, v) → get m k ≡ Some v
-  value_from total c =
-      let e : K × V = get_or (entries m) c.0 (k, v) in
-      let is : e ≡ (k, v) = c.2 in
-      get-entries m k ∙ find_at R total (entries m) c.0 k (k, v) (entries_sorted m) c.1 (ap (λ (x : K × V). R k x.0) is ∙ tied_itself total k) ∙ ap (λ (x : K × V). Some x.1) is
 
 -- an interface is among the entries just where its id finds it
 pub interface_at : (m : FinMap nat_cmp Interface) (id : ℕ) (i : Interface) → get m id ≡ Some i → Contains (entries m) (id, i)

@@ -1,22 +1,16 @@
 -- When a routing table and due summaries are right for a state (RFC 2328, 11, 12.4.3 and 16).
 use Rattle.std.specs.Prelude.{ℕ, ◌≡◌, ◌≢◌, ◌↔◌, List, [], ◌∷◌, Contains, Option, Some, None, length, if◌then◌else◌, ◌==◌}
-use Rattle.std.specs.FinMap.{get}
-use Rattle.ospf_types.specs.declared.prefix.Prefix.{Prefix}
-use Rattle.ospf_types.specs.declared.entry.Entry.{Entry}
 use Rattle.ospf_types.specs.Inputs.{Inputs, Area}
-use Rattle.ospf_types.specs.Routes.{IsEntry, IsDiscard}
 use Rattle.ospf_types.specs.Summaries.{IsDue}
 use Rattle.dues.specs.declared.due.Due.{Due}
 use Rattle.dues.specs.Lists.{AreInOrder, kind_of}
-use Rattle.route_table.specs.declared.table.Item.TheVariants.{Route, Discard}
 use Rattle.event_state.specs.States.{State, inputs_of}
 use Rattle.route_table.specs.Tables.{TableValue}
+use Rattle.route_table.specs.Right.{IsRoutingTable}
 
--- The table has a route exactly where the network has that entry, and a discard exactly where one is due; its serial counts the events.
-pub record IsRight (s : State) (t : TableValue) : Type 0 where
-  pub routes : (p : Prefix) (e : Entry) → (get t.items p ≡ Some (Route e)) ↔ IsEntry (inputs_of s) p e
-  pub discards : (p : Prefix) → (get t.items p ≡ Some Discard) ↔ IsDiscard (inputs_of s) p
-  pub serial : t.serial ≡ length s.journal
+-- the table is that of the state's databases and interfaces, and counts its events
+abbrev pub IsRight : State → TableValue → Type 0
+IsRight s t = IsRoutingTable (inputs_of s) (length s.journal) t
 
 -- the list is what is due in the area, ascending by LS type and destination
 pub record IsListDue (s : Inputs) (a : Area) (list : List Due) : Type 0 where

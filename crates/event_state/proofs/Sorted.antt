@@ -1,11 +1,15 @@
 -- What a list in the order of its keys has at a place.
-use Rattle.std.proofs.Common.{◌≡◌, ℕ, zero, suc, ◌<◌, Bool, true, false, T, List, [], ◌∷◌, length, get_or, Some, Ordering, refl, ap, ◌∙◌, arith}
+use Rattle.std.proofs.Common.{◌≡◌, ℕ, zero, suc, ◌<◌, Bool, true, false, T, List, [], ◌∷◌, length, get_or, Some, Ordering, refl, sym, ap, ◌∙◌, arith}
 use Rattle.std.specs.Prelude.{◌&&◌}
 use Rattle.std.specs.declared.cmp.Ordering.TheVariants.{Less, Equal, Greater}
 use Rattle.std.specs.Ordering.{is_lt, ordering_reverse}
 use Rattle.std.specs.Cmp.{IsTotalOrder}
-use Rattle.std.specs.FinMap.{find, is_sorted}
+use Rattle.std.specs.List.{Contains}
+use Rattle.std.specs.FinMap.{FinMap, IsAntisymmetric, find, get, entries, get-entries, entries_sorted, is_sorted}
 use Rattle.std.specs.FinMap.Entries.{below_all}
+use Rattle.std.proofs.lemmas.Cmp.{tied_itself}
+use Rattle.std.proofs.lemmas.Map.Views.{Contains-from_lookup, tells_apart}
+use Rattle.ospf_types.proofs.Maps.{find-lookup}
 
 front : (a b : Bool) → T (a && b) → T a
 front true b p = tt
@@ -39,3 +43,14 @@ module _ {K X : Type 0} (R : K → K → Ordering) where
     find_at [] i q d h lt tie = absurd (omega arith)
     find_at (e ∷ es) zero q d h lt tie = rw tie refl
     find_at (e ∷ es) (suc i) q d h lt tie = rw (later e es i q d (front _ _ h) (omega arith) tie) (find_at es i q d (rest _ _ h) (omega arith) tie)
+
+-- a key with a value is among the entries of a map just where it finds the value
+module _ {K V : Type 0} {R : K → K → Ordering} (m : FinMap R V) (k : K) (v : V) where
+  pub value_at : IsAntisymmetric R → get m k ≡ Some v → Contains (entries m) (k, v)
+  value_at exact e = Contains-from_lookup (tells_apart exact) k v (entries m) (sym (find-lookup R k (entries m)) ∙ sym (get-entries m k) ∙ e)
+
+  pub value_from : IsTotalOrder R → Contains (entries m) (k, v) → get m k ≡ Some v
+  value_from total c =
+      let e : K × V = get_or (entries m) c.0 (k, v) in
+      let is : e ≡ (k, v) = c.2 in
+      get-entries m k ∙ find_at R total (entries m) c.0 k (k, v) (entries_sorted m) c.1 (ap (λ (x : K × V). R k x.0) is ∙ tied_itself total k) ∙ ap (λ (x : K × V). Some x.1) is

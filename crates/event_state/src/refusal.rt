@@ -7,7 +7,7 @@ use std::error::Error;
 use std::fmt;
 
 /// Why an event was not taken: the first of these, in this order, that holds. It left everything as it
-/// was.
+/// was. The last two are refusals of several workers at once, never of an event.
 #[derive(Clone, Copy, Debug, PartialEq, Eq)]
 pub enum Refusal {
     /// The area of the scope or of the interface is not configured.
@@ -32,6 +32,10 @@ pub enum Refusal {
     AddressTaken,
     /// A growth was refused.
     Memory,
+    /// A worker's thread could not be started: of several workers alone.
+    Spawn,
+    /// More lists than there may be workers: of several workers alone.
+    Workers,
 }
 
 impl Refusal {
@@ -65,6 +69,8 @@ impl fmt::Display for Refusal {
             Refusal::JournalFull => "28 JournalFull",
             Refusal::AddressTaken => "29 AddressTaken",
             Refusal::Memory => "30 Memory",
+            Refusal::Spawn => "31 Spawn",
+            Refusal::Workers => "32 Workers",
         })
     }
 }

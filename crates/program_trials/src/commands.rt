@@ -4,7 +4,9 @@ use abr_cli::{job, run};
 use std::alloc::Global;
 use std::hash::RandomState;
 use std::io;
+use std::sync::Wait;
 use std::test::Fail;
+use std::thread::Threads;
 
 // The router-LSA of 10.0.0.1 with one stub link, 192.0.2.0/24 at metric 10.
 const STUB: &str = "000102010a0000010a00000180000001e986002400000001c0000200ffffff000300000a";
@@ -21,7 +23,8 @@ const ONE: [&str; 7] = [
 ];
 
 // The status that the words give, with a recording at hand.
-fn status<W: io::Write, F: io::Write>(
+fn status<S: Threads + Wait + Sync, W: io::Write, F: io::Write>(
+    rt: &S,
     alloc: Global,
     hashing: RandomState,
     words: &[&str],
@@ -29,7 +32,15 @@ fn status<W: io::Write, F: io::Write>(
     faults: &mut F,
 ) -> u8 {
     let mut input: &[u8] = b"abr 1\nrouter 1.2.3.4\narea 0.0.0.0 normal\n";
-    run(alloc, hashing, job(alloc, words), &mut input, out, faults)
+    run(
+        rt,
+        alloc,
+        hashing,
+        job(alloc, words),
+        &mut input,
+        out,
+        faults,
+    )
 }
 
 // A device that takes nothing.
@@ -46,27 +57,48 @@ impl io::Write for Full {
     }
 }
 
-fn cannot_print(alloc: Global, hashing: RandomState, words: &[&str]) -> bool {
+fn cannot_print<S: Threads + Wait + Sync>(
+    rt: &S,
+    alloc: Global,
+    hashing: RandomState,
+    words: &[&str],
+) -> bool {
     let mut faults = Vec::new(alloc);
-    status(alloc, hashing, words, &mut Full, &mut faults) == 1
+    status(rt, alloc, hashing, words, &mut Full, &mut faults) == 1
         && faults.as_slice() == b"abr: cannot write\n".as_slice()
 }
 
-fn cannot_tell_the_fault(alloc: Global, hashing: RandomState, words: &[&str]) -> bool {
+fn cannot_tell_the_fault<S: Threads + Wait + Sync>(
+    rt: &S,
+    alloc: Global,
+    hashing: RandomState,
+    words: &[&str],
+) -> bool {
     let mut out = Vec::new(alloc);
-    status(alloc, hashing, words, &mut out, &mut Full) == 1 && out.is_empty()
+    status(rt, alloc, hashing, words, &mut out, &mut Full) == 1 && out.is_empty()
 }
 
 #[test]
 fn writers_that_fail_give_status_1(rt: HostRuntime) -> Result<(), Fail> {
     let hashing = RandomState::new(&rt)?;
-    let fail = cannot_print(rt.alloc(), hashing, &ONE)
-        && cannot_print(rt.alloc(), hashing, &["abr", "decode", STUB])
-        && cannot_print(rt.alloc(), hashing, &["abr", "replay", "-"])
-        && cannot_print(rt.alloc(), hashing, &["abr", "--help"])
-        && cannot_tell_the_fault(rt.alloc(), hashing, &["abr", "one", "", "", "", "", ""])
-        && cannot_tell_the_fault(rt.alloc(), hashing, &["abr", "decode", "0"])
-        && cannot_tell_the_fault(rt.alloc(), hashing, &["abr", "two"]);
+    let fail = cannot_print(&rt, rt.alloc(), hashing, &ONE)
+        && cannot_print(&rt, rt.alloc(), hashing, &["abr", "decode", STUB])
+        && cannot_print(&rt, rt.alloc(), hashing, &["abr", "replay", "-"])
+        && cannot_print(
+            &rt,
+            rt.alloc(),
+            hashing,
+            &["abr", "replay", "-", "--workers", "2"],
+        )
+        && cannot_print(&rt, rt.alloc(), hashing, &["abr", "--help"])
+        && cannot_tell_the_fault(
+            &rt,
+            rt.alloc(),
+            hashing,
+            &["abr", "one", "", "", "", "", ""],
+        )
+        && cannot_tell_the_fault(&rt, rt.alloc(), hashing, &["abr", "decode", "0"])
+        && cannot_tell_the_fault(&rt, rt.alloc(), hashing, &["abr", "two"]);
     assert!(rt; fail);
     Ok(())
 }

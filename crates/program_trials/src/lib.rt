@@ -8,3 +8,5 @@ mod commands;
 mod recordings;
 #[cfg(test)]
 mod replays;
+#[cfg(test)]
+mod workers;

@@ -93,7 +93,7 @@ event_lines : (events : List Event) → flat_map ended (map form_of (map line.Ev
 event_lines [] = refl
 event_lines (e ∷ events) = ap (λ l. event_line e ++ l) (event_lines events)
 
-journal_text : (c : CoreValue) → text_of (journal_of c) ≡ text_of_forms (header_forms c.config) ++ flat_map event_line c.journal
+pub journal_text : (c : CoreValue) → text_of (journal_of c) ≡ text_of_forms (header_forms c.config) ++ flat_map event_line c.journal
 journal_text c = flat_map-append ended (header_forms c.config) (map form_of (map line.Event c.journal)) ∙ ap (λ l. text_of_forms (header_forms c.config) ++ l) (event_lines c.journal)
 
 module _ (old new : CoreValue) (lines : List Line) (a b : Option (List ℕ)) (before put : List ℕ) (config : Config) (events : List Event) (opening : IsOpened old.config old) (none : before ≡ [])

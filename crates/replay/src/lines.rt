@@ -32,7 +32,7 @@ pub(crate) fn put_lookup(
 }
 
 /// The answer to an event: nothing where the event was taken and the table is that of the state now.
-pub(crate) fn put_answer(
+pub fn put_answer(
     number: usize,
     answer: Result<Reply, Refusal>,
     text: &mut String,
@@ -50,7 +50,7 @@ pub(crate) fn put_answer(
 }
 
 /// How many events were taken, and of how many the table is.
-pub(crate) fn put_serial(core: &Core, text: &mut String) -> Result<(), Memory>
+pub fn put_serial(core: &Core, text: &mut String) -> Result<(), Memory>
     ensures { OnOk result (string_bytes text.new ≡ string_bytes text.old ++ serial_line core.now) }
 {
     let (serial, built) = (core.journal().len(), core.built());

@@ -9,7 +9,7 @@ use std::io;
 
 /// Why nothing more is printed.
 #[derive(Clone, Copy)]
-pub(crate) enum Stop {
+pub enum Stop {
     /// The output could not be written.
     Write,
     /// A growth was refused.
@@ -32,14 +32,14 @@ impl From<Memory> for Stop {
 const LENGTH: usize = 8192;
 
 /// A page with nothing on it, and with room for a line that stands behind the last of its bytes.
-pub(crate) fn empty_page(alloc: Global) -> Result<String, Memory>
+pub fn empty_page(alloc: Global) -> Result<String, Memory>
     ensures { IfOk result (λ page. string_bytes page ≡ []) }
 {
     Ok(String::with_capacity(alloc, 2 * LENGTH)?)
 }
 
 /// Writes the page where it has become long.
-pub(crate) fn spill<W: io::Write>(out: &mut W, page: &mut String) -> Result<(), CannotWrite>
+pub fn spill<W: io::Write>(out: &mut W, page: &mut String) -> Result<(), CannotWrite>
     ensures ok { OnOk result (Adds (W.contents out.old) (W.contents out.new) (string_bytes page.old) (string_bytes page.new) []) }
     ensures err { OnErr result (AddsPart (W.contents out.old) (W.contents out.new) (string_bytes page.old)) }
 {
@@ -50,7 +50,7 @@ pub(crate) fn spill<W: io::Write>(out: &mut W, page: &mut String) -> Result<(), 
 }
 
 /// Writes what is on the page, and empties it.
-pub(crate) fn write_page<W: io::Write>(out: &mut W, page: &mut String) -> Result<(), CannotWrite>
+pub fn write_page<W: io::Write>(out: &mut W, page: &mut String) -> Result<(), CannotWrite>
     ensures ok { OnOk result (Adds (W.contents out.old) (W.contents out.new) (string_bytes page.old) (string_bytes page.new) []) }
     ensures empty { OnOk result (string_bytes page.new ≡ []) }
     ensures err { OnErr result (AddsPart (W.contents out.old) (W.contents out.new) (string_bytes page.old)) }

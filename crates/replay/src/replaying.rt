@@ -47,8 +47,8 @@ pub fn replay_one<R: io::Read, W: io::Write>(
     }
 }
 
-// Reads to the end, and takes what was read for a recording.
-fn read_recording<R: io::Read>(alloc: Global, input: &mut R) -> Result<Recording, ReplayFault>
+/// Reads to the end, and takes what was read for a recording.
+pub fn read_recording<R: io::Read>(alloc: Global, input: &mut R) -> Result<Recording, ReplayFault>
     ensures recording { IfOk result (IsRead (R.remaining input.old) (R.remaining input.new)) }
     ensures fault { IfErr result (IsReadFault (R.remaining input.old) (R.remaining input.new)) }
 {

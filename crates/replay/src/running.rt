@@ -31,9 +31,9 @@ pub(crate) fn run_lines<W: io::Write>(
     Ok(())
 }
 
-// The number of the first line behind the header, which has a line for the version, one for the router,
-// and one for each area and each range.
-fn number_of_first(config: &Config) -> usize
+/// The number of the first line behind the header, which has a line for the version, one for the router,
+/// and one for each area and each range.
+pub fn number_of_first(config: &Config) -> usize
     requires { first_number config.now < 2 ^ 64 }
     ensures { result ≡ first_number config.now }
 {

@@ -17,11 +17,7 @@ use std::alloc::Global;
 use std::io;
 
 /// The items of the table.
-pub(crate) fn show_items<W: io::Write>(
-    table: &Table,
-    out: &mut W,
-    page: &mut String,
-) -> Result<(), Stop>
+pub fn show_items<W: io::Write>(table: &Table, out: &mut W, page: &mut String) -> Result<(), Stop>
     ensures ok { OnOk result (Adds (W.contents out.old) (W.contents out.new) (string_bytes page.old) (string_bytes page.new) (flat_map item_line (entries table.now.items))) }
     ensures err { OnErr result (AddsPart (W.contents out.old) (W.contents out.new) (string_bytes page.old ++ flat_map item_line (entries table.now.items))) }
 {
@@ -33,11 +29,7 @@ pub(crate) fn show_items<W: io::Write>(
 }
 
 /// What is due in each area.
-pub(crate) fn show_dues<W: io::Write>(
-    dues: &Dues,
-    out: &mut W,
-    page: &mut String,
-) -> Result<(), Stop>
+pub fn show_dues<W: io::Write>(dues: &Dues, out: &mut W, page: &mut String) -> Result<(), Stop>
     ensures ok { OnOk result (Adds (W.contents out.old) (W.contents out.new) (string_bytes page.old) (string_bytes page.new) (flat_map area_lines (lists_of dues.now))) }
     ensures err { OnErr result (AddsPart (W.contents out.old) (W.contents out.new) (string_bytes page.old ++ flat_map area_lines (lists_of dues.now))) }
 {
@@ -65,7 +57,7 @@ fn show_area<W: io::Write>(
 }
 
 /// The LSAs, each with its scope.
-pub(crate) fn show_lsas<W: io::Write>(
+pub fn show_lsas<W: io::Write>(
     lsas: Vec<(Scope, Checked)>,
     out: &mut W,
     page: &mut String,
@@ -81,7 +73,7 @@ pub(crate) fn show_lsas<W: io::Write>(
 }
 
 /// The events, as lines of a recording.
-pub(crate) fn show_events<W: io::Write>(
+pub fn show_events<W: io::Write>(
     alloc: Global,
     events: &[Event],
     out: &mut W,

@@ -1,6 +1,7 @@
 -- The routing table as a value, and its longest match (RFC 2328, 11 and 11.1).
 use Rattle.std.specs.Prelude.{ℕ, ◌≡◌, ◌≤◌, List, Contains, Option, Some, None, IsSome, refl}
 use Rattle.std.specs.FinMap as map
+use Rattle.std.specs.BTreeMap.Range.{IsLeBy}
 use Rattle.std.specs.Coded.{Coded, code_by, coded×, coded_ℕ}
 use Rattle.ospf_types.specs.Network.{Network, network_cmp, network_code}
 use Rattle.ospf_types.specs.Masks.{masked}
@@ -37,11 +38,17 @@ IsMatch items address (found.Route p entry) = IsLongest items address p (item.Ro
 IsMatch items address (found.Discard p) = IsLongest items address p item.Discard
 IsMatch items address found.None = (q : Network) → HasAddress q address → map.get items q ≡ None
 
--- the match is the network's item
-abbrev pub StandsAs : map.FinMap network_cmp Item → Network → Match → Type 0
-StandsAs items p (found.Route q entry) = (q ≡ p) × (map.get items p ≡ Some (item.Route entry.now))
-StandsAs items p (found.Discard q) = (q ≡ p) × (map.get items p ≡ Some item.Discard)
-StandsAs items p found.None = ⊥
+-- the last network of the table up to that one, in the order of networks, and its item
+pub record IsLastUpTo (items : map.FinMap network_cmp Item) (bound p : Network) (i : Item) : Type 0 where
+  pub stands : map.get items p ≡ Some i
+  pub within : IsLeBy network_cmp p bound
+  pub last : (q : Network) → IsSome (map.get items q) → IsLeBy network_cmp q bound → IsLeBy network_cmp q p
+
+-- the match is that network with that item
+abbrev pub StandsAs : Network → Item → Match → Type 0
+StandsAs p i (found.Route q entry) = (q ≡ p) × (i ≡ item.Route entry.now)
+StandsAs p i (found.Discard q) = (q ≡ p) × (i ≡ item.Discard)
+StandsAs p i found.None = ⊥
 
 -- each network of the changes has its new item, or none, and every other network what it had
 pub record IsChanged (old new : map.FinMap network_cmp Item) (changes : List (Network × Option Item)) : Type 0 where

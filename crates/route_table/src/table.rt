@@ -1,10 +1,12 @@
 //! The items of the networks, and how they are found.
-ghost use Rattle.std.specs.Prelude.{◌≡◌, ◌≤◌, OnOk, OnErr, IfOk, IfSome, IfNone, option_copied};
+ghost use Rattle.std.specs.Prelude.{◌≡◌, ◌<◌, ◌≤◌, ℕ, OnOk, OnErr, IfOk, IsSome, IfSome, IfNone, option_copied};
 ghost use Rattle.std.specs.FinMap as map;
+ghost use Rattle.std.specs.BTreeMap.Range.{IsLeBy};
 ghost use Rattle.std.specs.List.Sorted.{IsStrictlySortedBy};
 ghost use Rattle.std.specs.Map.{keys_of};
-ghost use Rattle.ospf_types.specs.Network.{network_cmp};
-ghost use Rattle.route_table.specs.Tables.{IsMatch, StandsAs, around};
+ghost use Rattle.ospf_types.specs.Masks.{masked};
+ghost use Rattle.ospf_types.specs.Network.{Network, network_cmp};
+ghost use Rattle.route_table.specs.Tables.{IsMatch, IsLastUpTo, StandsAs, around};
 
 use ospf_types::entry::Entry;
 use ospf_types::memory::Memory;
@@ -26,6 +28,7 @@ pub enum Item {
 /// The networks with their items, and how many events the table follows.
 #[derive(Debug, Drop)]
 pub struct Table {
+    alloc: Global,
     items: BTreeMap<Prefix, Item>,
     serial: u64,
 }
@@ -96,6 +99,7 @@ impl Table {
         ensures { result ≡ record { items = map.empty; serial = serial } }
     {
         Table {
+            alloc,
             items: BTreeMap::new(alloc),
             serial,
         }
@@ -131,13 +135,13 @@ impl Table {
     pub fn lookup(&self, address: u32) -> Match<'_>
         ensures { IsMatch self.now.items address result }
     {
-        if self.items.is_empty() {
-            return Match::None;
-        }
-        for length in (0..33).rev() {
-            if let Some(found) = self.match_at(address, length) {
-                return found;
+        // No network of the table that contains the address is longer.
+        let mut length = 32;
+        while let Some((prefix, item)) = self.last_up_to(network_around(address, length)) {
+            if prefix.contains(address) {
+                return match_of(*prefix, item);
             }
+            length = shorter(address, length, prefix.address());
         }
         Match::None
     }
@@ -161,6 +165,18 @@ impl Table {
         self.serial = serial;
     }
 
+    // No network has an item any more.
+    pub(crate) fn clear(&mut self)
+        ensures { self.new ≡ record self.old { items = map.empty } }
+    {
+        self.items.clear();
+    }
+
+    // What the table's memory comes from.
+    pub(crate) fn alloc(&self) -> Global {
+        self.alloc
+    }
+
     // Takes the network's item out.
     pub(crate) fn remove(&mut self, prefix: Prefix)
         ensures { self.new ≡ record self.old { items = map.remove self.old.items prefix } }
@@ -168,16 +184,50 @@ impl Table {
         self.items.remove(&prefix);
     }
 
-    // The network of that length around the address, with its item, if it has one.
-    fn match_at(&self, address: u32, length: u8) -> Option<Match<'_>>
-        requires { length ≤ 32 }
-        ensures found { IfSome result (StandsAs self.now.items (around address length)) }
-        ensures absent { IfNone result (map.get self.now.items (around address length) ≡ None) }
+    // The last network of the table up to that one, in their order, with its item.
+    fn last_up_to(&self, bound: Prefix) -> Option<(&Prefix, &Item)>
+        ensures found { IfSome result (λ e. IsLastUpTo self.now.items bound e.0.now e.1.now) }
+        ensures absent { IfNone result ((q : Network) → IsLeBy network_cmp q bound → map.get self.now.items q ≡ None) }
+        ensures within { (q : Network) → IsSome (map.get self.now.items q) → q.length ≤ 32 }
     {
-        let prefix = Prefix::new(address, length)?;
-        match self.get(prefix)? {
-            Item::Route(entry) => Some(Match::Route(prefix, entry)),
-            Item::Discard => Some(Match::Discard(prefix)),
+        self.items.range(..=bound).next_back()
+    }
+}
+
+// The network of that length around the address.
+fn network_around(address: u32, length: u8) -> Prefix
+    requires { length ≤ 32 }
+    ensures { result ≡ around address length }
+{
+    match Prefix::new(address, length) {
+        Some(network) => network,
+        None => unreachable!(),
+    }
+}
+
+// The match that answers a network with its item.
+fn match_of(prefix: Prefix, item: &Item) -> Match<'_>
+    ensures { StandsAs prefix item.now result }
+{
+    match item {
+        Item::Route(entry) => Match::Route(prefix, entry),
+        Item::Discard => Match::Discard(prefix),
+    }
+}
+
+// The greatest length below that one at which the network around the address begins no later than
+// the bound, or 0.
+fn shorter(address: u32, length: u8, bound: u32) -> u8
+    requires some { 0 < length }
+    requires within { length ≤ 32 }
+    ensures shorter { result < length }
+    ensures skipped { (n : ℕ) → result < n → n < length → bound < masked address n }
+{
+    for less in (1..length).rev() {
+        let host = 32 - u32::from(less);
+        if (address >> host) << host <= bound {
+            return less;
         }
     }
+    0
 }

@@ -2,8 +2,8 @@ use Rattle.std.proofs.Common.{◌∙◌, sym, ap, map, subst, inl, inr, refl}
 use Rattle.clap.specs.Words.{subcommand_of}
 use Rattle.replay.specs.declared.show.Show.TheVariants.{Routes}
 use Rattle.abr_cli.specs.Command.{HasOne, HasDecode, HasReplay, HasJob, IsJob, program}
-use Rattle.abr_cli.proofs.Jobs.{job_is_one, job_is_decode, job_is_replay, mistake_is, only_memory}
-use Rattle.abr_cli.proofs.Line.{one_has, one_faultless, decode_has, decode_faultless, replay_has, replay_faultless, show_has, show_faultless}
+use Rattle.abr_cli.proofs.Jobs.{job_is_one, job_is_decode, job_is_fit, job_is_replay, mistake_is, only_memory}
+use Rattle.abr_cli.proofs.Line.{one_has, one_faultless, decode_has, decode_faultless, replay_has, replay_faultless, show_has, show_faultless, workers_has, workers_faultless}
 use Rattle.abr_cli.proofs.Names.{met_as_given, fails_as_given}
 use Rattle.abr_cli.proofs.command_line.job.Goals as goal
 
@@ -11,6 +11,9 @@ pub returns-in-Some-clause-job : goal.returns-in-Some-clause-job
 returns-in-Some-clause-job c =
     let given = met_as_given _ c.in-Ok.matches _ c.in_ok-command.ensures c.in-Ok.ensures.matches in
     subst (λ s. IsJob s c.in-Some.job) given c.in-Some.ensures.some
+
+pub returns-in-Some-clause-fit : goal.returns-in-Some-clause-fit
+returns-in-Some-clause-fit c = job_is_fit _ c.in-Some.job c.in-Some.ensures.some
 
 pub returns-in-Some-clause-one : goal.returns-in-Some-clause-one
 returns-in-Some-clause-one c name t is plain =
@@ -25,12 +28,17 @@ returns-in-Some-clause-decode c name hex is plain =
 pub returns-in-Some-clause-replay : goal.returns-in-Some-clause-replay
 returns-in-Some-clause-replay c name file is plain =
     let given = met_as_given _ c.in-Ok.matches _ c.in_ok-command.ensures c.in-Ok.ensures.matches ∙ ap (subcommand_of program) is in
-    job_is_replay _ c.in-Some.job file Routes c.in-Some.ensures.some (subst (λ s. HasReplay s file Routes) (sym given) (replay_has name file plain))
+    job_is_replay _ c.in-Some.job file 1 Routes c.in-Some.ensures.some (subst (λ s. HasReplay s file 1 Routes) (sym given) (replay_has name file plain))
+
+pub returns-in-Some-clause-workers : goal.returns-in-Some-clause-workers
+returns-in-Some-clause-workers c name file number count is plain writes =
+    let given = met_as_given _ c.in-Ok.matches _ c.in_ok-command.ensures c.in-Ok.ensures.matches ∙ ap (subcommand_of program) is in
+    job_is_replay _ c.in-Some.job file count Routes c.in-Some.ensures.some (subst (λ s. HasReplay s file count Routes) (sym given) (workers_has name file number count plain writes))
 
 pub returns-in-Some-clause-show : goal.returns-in-Some-clause-show
 returns-in-Some-clause-show c name file show is plain =
     let given = met_as_given _ c.in-Ok.matches _ c.in_ok-command.ensures c.in-Ok.ensures.matches ∙ ap (subcommand_of program) is in
-    job_is_replay _ c.in-Some.job file show c.in-Some.ensures.some (subst (λ s. HasReplay s file show) (sym given) (show_has name file show plain))
+    job_is_replay _ c.in-Some.job file 1 show c.in-Some.ensures.some (subst (λ s. HasReplay s file 1 show) (sym given) (show_has name file show plain))
 
 pub returns-in-Ok-clause-mistake : goal.returns-in-Ok-clause-mistake
 returns-in-Ok-clause-mistake c =
@@ -50,12 +58,17 @@ returns-in-Ok-clause-decode c name hex is plain =
 pub returns-in-Ok-clause-replay : goal.returns-in-Ok-clause-replay
 returns-in-Ok-clause-replay c name file is plain =
     let given = met_as_given _ c.in-Ok.matches _ c.in_ok-command.ensures c.in-Ok.ensures.matches ∙ ap (subcommand_of program) is in
-    absurd (c.in-None.ensures.none refl (inr (inr (file, Routes, subst (λ s. HasReplay s file Routes) (sym given) (replay_has name file plain)))))
+    absurd (c.in-None.ensures.none refl (inr (inr (file, 1, Routes, subst (λ s. HasReplay s file 1 Routes) (sym given) (replay_has name file plain)))))
+
+pub returns-in-Ok-clause-workers : goal.returns-in-Ok-clause-workers
+returns-in-Ok-clause-workers c name file number count is plain writes =
+    let given = met_as_given _ c.in-Ok.matches _ c.in_ok-command.ensures c.in-Ok.ensures.matches ∙ ap (subcommand_of program) is in
+    absurd (c.in-None.ensures.none refl (inr (inr (file, count, Routes, subst (λ s. HasReplay s file count Routes) (sym given) (workers_has name file number count plain writes)))))
 
 pub returns-in-Ok-clause-show : goal.returns-in-Ok-clause-show
 returns-in-Ok-clause-show c name file show is plain =
     let given = met_as_given _ c.in-Ok.matches _ c.in_ok-command.ensures c.in-Ok.ensures.matches ∙ ap (subcommand_of program) is in
-    absurd (c.in-None.ensures.none refl (inr (inr (file, show, subst (λ s. HasReplay s file show) (sym given) (show_has name file show plain)))))
+    absurd (c.in-None.ensures.none refl (inr (inr (file, 1, show, subst (λ s. HasReplay s file 1 show) (sym given) (show_has name file show plain)))))
 
 pub returns-clause-mistake : goal.returns-clause-mistake
 returns-clause-mistake c =
@@ -76,6 +89,11 @@ pub returns-clause-replay : goal.returns-clause-replay
 returns-clause-replay c name file is plain =
     let fails = fails_as_given _ _ c.in-Err.error c.in_ok-command.ensures c.in-Err.ensures.kinds in
     only_memory _ _ c.in-Err.error _ fails c.usage_of.ensures is (replay_faultless name file plain)
+
+pub returns-clause-workers : goal.returns-clause-workers
+returns-clause-workers c name file number count is plain writes =
+    let fails = fails_as_given _ _ c.in-Err.error c.in_ok-command.ensures c.in-Err.ensures.kinds in
+    only_memory _ _ c.in-Err.error _ fails c.usage_of.ensures is (workers_faultless name file number count plain writes)
 
 pub returns-clause-show : goal.returns-clause-show
 returns-clause-show c name file show is plain =

@@ -1,14 +1,41 @@
-use Rattle.std.proofs.Common.{subst}
-use Rattle.ospf_types.proofs.Orders.{network_total}
-use Rattle.route_table.specs.Tables.{TableValue}
-use Rattle.ospf_types.proofs.Maps.{get-no_entries}
-use Rattle.route_table.proofs.Matches.{NoneFrom, none_past_32}
+use Rattle.std.proofs.Common.{◌≡◌, ◌<◌, ◌∙◌, ℕ, arith, subst, sym}
+use Rattle.std.specs.FinMap as map
+use Rattle.std.specs.BTreeMap.Range.{IsLeBy}
+use Rattle.std.specs.Prelude.{None}
+use Rattle.std.proofs.lemmas.Bool.{false≢true}
+use Rattle.ospf_types.specs.Address.{HasAddress}
+use Rattle.ospf_types.specs.Masks.{masked}
+use Rattle.ospf_types.specs.Network.{Network, network_cmp}
+use Rattle.route_table.specs.Tables.{IsLastUpTo}
+use Rattle.route_table.proofs.Matches.{is_match, none_has, none_longer}
 use Rattle.route_table.proofs.table.Table.lookup.Goals as goal
 
-pub returns-then-is_empty : goal.returns-then-is_empty
-returns-then-is_empty c =
-    λ q has. rw (← c.self.view_is) (get-no_entries network_total c.self.inside.items.entries (c.is_empty.ensures.0 c.if-is_empty.true) q)
+pub loop-prefix-init : goal.loop-prefix-init
+loop-prefix-init c = (omega arith, λ q long small has. absurd (omega (arith, long, small)))
 
-pub loop-length-init : goal.loop-length-init
-loop-length-init c =
-    subst (λ (t : TableValue). NoneFrom t.items c.args.address 33) c.self.view_is (none_past_32 c.self.inside.items.entries c.args.address c.self.invariant)
+pub returns-then-contains : goal.returns-then-contains
+returns-then-contains c =
+    let items = c.args.self.now.items in
+    let p = c.in-Some.prefix.now in
+    let i = c.in-Some.item.now in
+    let m = c.match_of.result in
+    let last = subst (λ (b : Network). IsLastUpTo items b p i) c.network_around.ensures c.in-Some.ensures.found in
+    is_match items c.args.address c.loop-prefix.length c.last_up_to.ensures.within c.loop-prefix.invariant.1 p i last m c.match_of.ensures (c.contains.ensures.0 c.if-contains.true)
+
+pub loop-prefix-preserved : goal.loop-prefix-preserved
+loop-prefix-preserved c =
+    let items = c.args.self.now.items in
+    let p = c.in-Some.prefix.now in
+    let i = c.in-Some.item.now in
+    let last = subst (λ (b : Network). IsLastUpTo items b p i) c.network_around.ensures c.in-Some.ensures.found in
+    let outside : HasAddress p c.args.address → ⊥ = λ inside. absurd (false≢true (sym c.if-contains.false ∙ c.contains.ensures.1 inside)) in (
+      omega (arith, c.shorter-length.ensures.shorter, c.loop-prefix.invariant.0),
+      none_longer items c.args.address c.loop-prefix.length c.last_up_to.ensures.within c.loop-prefix.invariant.1 p i last outside c.shorter-length.result
+          (subst (λ n. (k : ℕ) → c.shorter-length.result < k → k < c.loop-prefix.length → n < masked c.args.address k) c.address.ensures.value c.shorter-length.ensures.skipped),
+    )
+
+pub returns : goal.returns
+returns c =
+    let items = c.args.self.now.items in
+    none_has items c.args.address c.loop-prefix.length c.last_up_to.ensures.within c.loop-prefix.invariant.1
+    (subst (λ (b : Network). (q : Network) → IsLeBy network_cmp q b → map.get items q ≡ None) c.network_around.ensures c.in_default.ensures.absent)

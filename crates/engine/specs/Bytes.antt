@@ -1,0 +1,22 @@
+-- What the bytes of an LSA are answered.
+use Rattle.std.specs.Prelude.{ℕ, ◌≡◌, ◌⊎◌, List, Some, None}
+use Rattle.ospf_types.specs.declared.key.Scope.{Scope}
+use Rattle.ospf_types.specs.Lsa.{Lsa}
+use Rattle.lsa_codec.specs.declared.fault.WireFault.TheVariants as wire
+use Rattle.lsa_codec.specs.Faults.{fault_of}
+use Rattle.lsa_codec.specs.Spelling.{Spells}
+use Rattle.event_state.specs.declared.event.Event.TheVariants as event
+use Rattle.publication.specs.Names.{Name}
+use Rattle.engine.specs.Answers.{Answers, Refusals}
+use Rattle.engine.specs.declared.answer.Answer.{Answer}
+use Rattle.engine.specs.declared.answer.BytesFault.{BytesFault}
+use Rattle.engine.specs.declared.answer.BytesFault.TheVariants as bytes
+
+-- they spell an LSA, and the answer is that of its install
+abbrev pub AreInstalled : Name → Scope → List ℕ → Answer → Type 0
+AreInstalled name at given answer = (l : Lsa) × Spells given l × Answers name (event.Install at l) answer
+
+-- they have this fault as their first, or memory was refused; or they spell an LSA, and its install is refused
+abbrev pub AreRefused : Name → Scope → List ℕ → BytesFault → Type 0
+AreRefused name at given (bytes.Wire f) = (fault_of given ≡ Some f) ⊎ ((f ≡ wire.Memory) × (fault_of given ≡ None))
+AreRefused name at given (bytes.Refused r) = (l : Lsa) × Spells given l × Refusals name (event.Install at l) r

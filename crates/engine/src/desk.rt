@@ -1,0 +1,344 @@
+//! What lies under the lock: the core, and the writer of what is published.
+ghost use Rattle.std.specs.Prelude.{◌≡◌, ◌⊎◌, ◌↔◌, ◌≤◌, ◌<◌, ◌^◌, [], ◌∷◌, ◌++◌, length, take, drop, false, IsTrue, IfOk, IfErr, IfNone, MatchOption, MatchResult, IfSome};
+ghost use mathlib.Core.List.{IsPrefix};
+ghost use Rattle.left_right.specs.Sides.{view as known_to};
+ghost use Rattle.event_state.specs.Steps.{standard_limits};
+ghost use Rattle.engine.specs.Answers.{Answers, Refusals, Dues, HasArea};
+ghost use Rattle.event_core.specs.Cores.{IsCore};
+ghost use Rattle.engine.specs.Desks.{IsKept, IsBegun, CanFollow};
+ghost use Rattle.engine.specs.Opens.{AreReaders};
+ghost use Rattle.event_state.specs.declared.refusal.Refusal.TheVariants.{Memory as NoMemory, NoArea};
+ghost use Rattle.event_core.specs.declared.reply.Standing.TheVariants.{Current, Behind};
+
+use crate::answer::{Answer, DueList, Refused};
+use crate::gate::Gate;
+use event_core::{Core, Event, Refusal, Reply, Standing};
+use ospf_types::memory::Memory;
+use publication::{
+    Author, Forwarder, Named, Setting, Shown, ShownWriter, Tag, Told, show, show_changes,
+};
+use std::alloc::{AllocError, Global};
+use std::marker::Model;
+use std::sync::Wait;
+
+/// Where it is not stale, nothing is pending and the published table is that of the whole journal. Where it is, the next
+/// publication begins by emptying the table.
+pub struct Desk {
+    alloc: Global,
+    core: Core,
+    author: Author,
+    writer: ShownWriter,
+    stale: bool,
+}
+
+impl Model for Desk {
+    ghost use Rattle.std.specs.Prelude.{drop};
+    ghost use Rattle.left_right.specs.Sides.{view as known_to};
+    ghost use Rattle.event_core.specs.Cores.{IsCore};
+    ghost use Rattle.engine.specs.Desks.{Held, IsKept, IsFresh};
+
+    ghost Value = { Held };
+
+    ghost view = { λ d. record { name = record { book = d.author.book; config = d.core.config }; journal = d.core.journal; built = d.core.built; published = d.writer.desk.shown.value.front.list } };
+
+    ghost invariant = { λ d. IsCore d.core × IsKept d.core d.author d.writer.desk.shown.value (known_to d.writer.desk.place) × IsFresh d.stale d.core d.writer.desk.shown.value (drop d.writer.behind d.writer.log.items) };
+}
+
+#[tactic(auto, using(publication::proofs::Prefixes::prefix_take, publication::proofs::Prefixes::take_prefix))]
+// Adds what the history lacks of the journal. The answer is false where another had added to the history.
+fn follow(author: &mut Author, journal: &[Event]) -> bool
+    requires begun { IsPrefix author.old.list journal.now }
+    requires short { length journal.now < 2 ^ 62 }
+    ensures book { author.new.book ≡ author.old.book }
+    ensures begun { IsPrefix author.new.list journal.now }
+    ensures whole { IsTrue result → author.new.list ≡ journal.now }
+{
+    for k in author.len() as usize..journal.len() {
+        if !author.add(&journal[k]) {
+            return false;
+        }
+    }
+    true
+}
+
+// Adds what the history lacks of the journal, where all of it was built. The answer is false where it was not, or where
+// another had added to the history.
+fn follow_built(author: &mut Author, core: &Core) -> bool
+    requires written { IsBegun author.old.list core.now }
+    ensures kept { IsCore core.now }
+    ensures book { author.new.book ≡ author.old.book }
+    ensures written { IsBegun author.new.list core.now }
+    ensures whole { IsTrue result → (author.new.list ≡ core.now.journal) × (core.now.built ≡ length core.now.journal) }
+{
+    if core.built() < core.journal().len() as u64 {
+        return false;
+    }
+    follow(author, core.journal())
+}
+
+// Publishes the table of the whole journal, where it was built. It may be refused.
+fn publish_whole<R: Wait>(
+    rt: &R,
+    alloc: Global,
+    core: Core,
+    author: Author,
+    writer: ShownWriter,
+) -> Desk
+    requires { IsKept core author writer.desk.shown.value (known_to writer.desk.place) }
+    ensures { (result.name ≡ record { book = author.book; config = core.config }) × (result.journal ≡ core.journal) × (result.built ≡ core.built) }
+{
+    let mut author = author;
+    if !follow_built(&mut author, &core) {
+        return Desk {
+            alloc,
+            core,
+            author,
+            writer,
+            stale: true,
+        };
+    }
+    let (writer, done) = show(rt, alloc, writer, core.table(), &author.front());
+    Desk {
+        alloc,
+        core,
+        author,
+        writer,
+        stale: !done,
+    }
+}
+
+// Publishes what changed of the table. It may be refused.
+fn publish_changes<R: Wait>(
+    rt: &R,
+    alloc: Global,
+    core: Core,
+    author: Author,
+    writer: ShownWriter,
+) -> Desk
+    requires kept { IsKept core author writer.desk.shown.value (known_to writer.desk.place) }
+    requires follows { CanFollow core writer.desk.shown.value (drop writer.behind writer.log.items) }
+    ensures { (result.name ≡ record { book = author.book; config = core.config }) × (result.journal ≡ core.journal) × (result.built ≡ core.built) }
+{
+    let mut author = author;
+    if !follow_built(&mut author, &core) {
+        return Desk {
+            alloc,
+            core,
+            author,
+            writer,
+            stale: true,
+        };
+    }
+    let (writer, done) = show_changes(rt, writer, core.changes(), core.table(), &author.front());
+    Desk {
+        alloc,
+        core,
+        author,
+        writer,
+        stale: !done,
+    }
+}
+
+// Publishes what changed, or the whole table.
+fn publish<R: Wait>(
+    rt: &R,
+    alloc: Global,
+    core: Core,
+    author: Author,
+    writer: ShownWriter,
+    whole: bool,
+) -> Desk
+    requires kept { IsKept core author writer.desk.shown.value (known_to writer.desk.place) }
+    requires follows { whole ≡ false → CanFollow core writer.desk.shown.value (drop writer.behind writer.log.items) }
+    ensures { (result.name ≡ record { book = author.book; config = core.config }) × (result.journal ≡ core.journal) × (result.built ≡ core.built) }
+{
+    if whole {
+        publish_whole(rt, alloc, core, author, writer)
+    } else {
+        publish_changes(rt, alloc, core, author, writer)
+    }
+}
+
+impl Desk {
+    // A token for the published list, if it has this length.
+    fn told(&self, serial: u64) -> Option<Told>
+        ensures none { IfNone result (¬ (serial ≡ length self.now.published)) }
+        ensures some { IfSome result (λ t. (t.name ≡ self.now.name) × (t.list ≡ take serial self.now.journal) × (serial ≡ length t.list)) }
+        ensures published { IfSome result (λ t. t.list ≡ self.now.published) }
+    {
+        let shown = self.writer.published();
+        if shown.table.serial() != serial {
+            return None;
+        }
+        Some(Told::of(shown.front.again(), Setting::of(self.core.config())))
+    }
+
+    /// Takes an event, and publishes the table. Between the two it passes the gate.
+    pub fn submit<R: Wait, G: Gate>(
+        self,
+        rt: &R,
+        event: Event,
+        gate: &G,
+        worker: usize,
+        place: usize,
+    ) -> (Desk, Result<Answer, Refused>)
+        ensures name { result.0.name ≡ self.name }
+        ensures journal { MatchResult result.1 (λ _. result.0.journal ≡ self.journal ++ event ∷ []) (λ _. result.0.journal ≡ self.journal) }
+        ensures answer { MatchResult result.1 (Answers self.name event) (Refusals self.name event) }
+        ensures told { IfErr result.1 (λ r. MatchOption r.told (¬ (length result.0.journal ≡ length result.0.published)) (λ t. t.list ≡ result.0.published)) }
+    {
+        let Desk {
+            alloc,
+            mut core,
+            author,
+            writer,
+            stale,
+        } = self;
+        match core.apply(event) {
+            Ok(reply) => {
+                gate.inside(worker, place);
+                let whole = is_whole(stale, reply.state);
+                let desk = publish(rt, alloc, core, author, writer, whole);
+                let told = desk.told(reply.serial);
+                (desk, Ok(answer(reply, told)))
+            }
+            Err(refusal) => {
+                let desk = Desk {
+                    alloc,
+                    core,
+                    author,
+                    writer,
+                    stale,
+                };
+                let told = desk.told(desk.core.journal().len() as u64);
+                (desk, Err(Refused { refusal, told }))
+            }
+        }
+    }
+
+    // Builds and publishes what is behind.
+    fn follow_up<R: Wait>(self, rt: &R) -> Desk
+        ensures { (result.name ≡ self.name) × (result.journal ≡ self.journal) }
+    {
+        if !self.stale {
+            return self;
+        }
+        let Desk {
+            alloc,
+            mut core,
+            author,
+            writer,
+            stale: _,
+        } = self;
+        core.catch_up();
+        publish_whole(rt, alloc, core, author, writer)
+    }
+
+    /// Builds and publishes what is behind. The token is that of the whole journal.
+    pub fn catch_up<R: Wait>(self, rt: &R) -> (Desk, Option<Told>)
+        ensures same { (result.0.name ≡ self.name) × (result.0.journal ≡ self.journal) }
+        ensures told { IfSome result.1 (λ t. (t.name ≡ self.name) × (t.list ≡ self.journal)) }
+    {
+        let desk = self.follow_up(rt);
+        let told = desk.told(desk.core.journal().len() as u64);
+        (desk, told)
+    }
+
+    /// A copy of what is due in an area.
+    pub fn due(&self, area: u32) -> Result<DueList, Refusal>
+        ensures due { IfOk result (Dues self.now.name area) }
+        ensures area { MatchResult result (λ _. HasArea self.now.name.config area) (λ e. (e ≡ NoArea) ↔ (¬ (HasArea self.now.name.config area))) }
+        ensures refused { IfErr result (λ e. (e ≡ NoArea) ⊎ (e ≡ NoMemory)) }
+    {
+        let Some(due) = self.core.due(area) else {
+            return Err(Refusal::NoArea);
+        };
+        let Ok(list) = Vec::from_slice(self.alloc, due) else {
+            return Err(Refusal::Memory);
+        };
+        let serial = self.core.built();
+        let told = self.told(serial);
+        Ok(DueList { serial, list, told })
+    }
+
+    /// Begins with this core, whose journal is empty, and with room for so many readers.
+    pub fn open<R: Wait>(rt: &R, alloc: Global, core: Core, readers: usize) -> Result<Desk, Memory>
+        requires readers { AreReaders readers }
+        requires journal { core.journal ≡ [] }
+        requires limits { core.limits ≡ standard_limits }
+        ensures { IfOk result (λ d. (d.name.config ≡ core.config) × (d.journal ≡ []) × (d.published ≡ [])) }
+    {
+        let author = Author::open();
+        let first = Shown::of(alloc, core.table(), &author.front(), core.config())?;
+        let second = Shown::of(alloc, core.table(), &author.front(), core.config())?;
+        let writer = ShownWriter::new(alloc, first, second, readers)?;
+        let (writer, done) = show(rt, alloc, writer, core.table(), &author.front());
+        if !done {
+            drop(writer.take(rt));
+            return Err(Memory);
+        }
+        Ok(Desk {
+            alloc,
+            core,
+            author,
+            writer,
+            stale: false,
+        })
+    }
+
+    /// A forwarder that knows what is published.
+    pub fn forwarder(&mut self) -> Result<Forwarder, AllocError>
+        ensures same { self.new ≡ self.old }
+        ensures forwarder { IfOk result (λ f. (f.name ≡ self.old.name) × (f.known ≡ self.old.published)) }
+    {
+        let mut reader = self.writer.factory().reader()?;
+        reader.learn::<Named>(self.writer.tell::<Named>());
+        let known = self.writer.published().front.again();
+        Ok(Forwarder::of(reader, known, Setting::of(self.core.config())))
+    }
+
+    /// The name, to be kept beside the lock.
+    pub fn tag(&self) -> Tag
+        ensures { result ≡ self.now.name }
+    {
+        Tag::of(&self.author.front(), self.core.config())
+    }
+
+    /// Waits for the readers, and gives the core back.
+    pub fn end<R: Wait>(self, rt: &R) -> Core
+        ensures { (result.config ≡ self.name.config) × (result.journal ≡ self.journal) × (result.limits ≡ standard_limits) }
+    {
+        let Desk {
+            alloc: _,
+            core,
+            author: _author,
+            writer,
+            stale: _,
+        } = self;
+        drop(writer.take(rt));
+        core
+    }
+}
+
+// Whether the next publication is that of a whole table.
+fn is_whole(stale: bool, state: Standing) -> bool
+    ensures { result ≡ false → (stale ≡ false) × (state ≡ Current) }
+{
+    stale || state == Standing::Behind
+}
+
+// The reply that is due with a token, or without one.
+fn answer(reply: Reply, told: Option<Told>) -> Answer
+    ensures same { (result.reply.serial ≡ reply.serial) × (result.reply.changed ≡ reply.changed) × (result.told ≡ told) }
+    ensures state { MatchOption told (result.reply.state ≡ Behind) (λ _. result.reply.state ≡ Current) }
+{
+    let state = if told.is_some() {
+        Standing::Current
+    } else {
+        Standing::Behind
+    };
+    Answer {
+        reply: Reply { state, ..reply },
+        told,
+    }
+}

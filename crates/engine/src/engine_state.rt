@@ -1,0 +1,200 @@
+//! The engine that threads share.
+ghost use Rattle.std.specs.Prelude.{◌≡◌, ◌⊎◌, ◌↔◌, [], ◌∷◌, length, All, None, IfOk, IfErr, IfSome, MatchResult};
+ghost use Rattle.event_core.specs.Configs.{config_fault_of};
+ghost use Rattle.event_state.specs.Steps.{standard_limits};
+ghost use Rattle.publication.specs.Published.{IsLegal};
+ghost use Rattle.engine.specs.Answers.{IsAnswered, Dues, HasArea};
+ghost use Rattle.engine.specs.Opens.{AreReaders, IsOpenFaultOf};
+ghost use Rattle.engine.specs.declared.open_fault.OpenFault.TheVariants as open_value;
+ghost use Rattle.event_core.specs.declared.fault.ConfigFault.TheVariants as fault;
+ghost use Rattle.event_state.specs.declared.refusal.Refusal.TheVariants.{Memory as NoMemory, NoArea};
+
+use crate::answer::{Answer, DueList, Refused};
+use crate::desk::Desk;
+use crate::gate::{Gate, Open};
+use crate::open_fault::OpenFault;
+use crate::room::Room;
+use event_core::{ConfigFault, Core, Event, Refusal, fault_in};
+use ospf_types::config::Config;
+use publication::{Forwarder, Told};
+use std::alloc::Global;
+use std::hash::RandomState;
+use std::marker::Model;
+use std::sync::{Mutex, Wait};
+
+const MOST_READERS: usize = 64;
+
+/// The databases, the routing table and the due summaries of an area border router, for threads that share them. One event
+/// is all between taking and releasing its lock. To a contract the engine is its name: its history, and its configuration.
+/// It is not `Drop`: end it by `close`.
+pub struct Engine {
+    alloc: Global,
+    door: Mutex<()>,
+    room: Room,
+}
+
+impl Model for Engine {
+    ghost use Rattle.publication.specs.Names.{Name};
+
+    ghost Value = { Name };
+
+    ghost view = { λ e. e.room };
+}
+
+impl Engine {
+    /// Opens an engine with no interfaces and empty databases, and its forwarders, which have seen the empty list alone.
+    pub fn open<R: Wait>(
+        rt: &R,
+        alloc: Global,
+        config: Config,
+        readers: usize,
+        hashing: RandomState,
+    ) -> Result<(Engine, Vec<Forwarder>), OpenFault>
+        ensures fault { IfErr result (IsOpenFaultOf config readers) }
+        ensures sound { IfOk result (λ r. (config_fault_of config ≡ None) × AreReaders readers) }
+        ensures config { IfOk result (λ r. r.0.config ≡ config) }
+        ensures count { IfOk result (λ r. length r.1.items ≡ readers) }
+        ensures forwarders { IfOk result (λ r. All (λ f. (f.name ≡ r.0) × (f.known ≡ [])) r.1.items) }
+    {
+        if let Some(fault) = fault_in(&config) {
+            return Err(OpenFault::Config(fault));
+        }
+        if readers == 0 || readers > MOST_READERS {
+            return Err(OpenFault::Readers);
+        }
+        let core = match Core::open(alloc, config, hashing) {
+            Ok(core) => core,
+            Err(fault) => return Err(OpenFault::Config(fault)),
+        };
+        let Ok(desk) = Desk::open(rt, alloc, core, readers) else {
+            return Err(OpenFault::Config(ConfigFault::Memory));
+        };
+        begin(rt, alloc, desk, readers)
+    }
+
+    /// Takes the event, or refuses it.
+    pub fn submit<R: Wait>(&self, rt: &R, event: Event) -> Result<Answer, Refused>
+        ensures { IsAnswered self.now event result }
+    {
+        self.submit_gated(rt, event, &Open, 0, 0)
+    }
+
+    /// Takes the event, or refuses it. Before the publication of a taken event it calls `inside` of the gate, under the
+    /// lock; the other two methods are the caller's to call.
+    pub fn submit_gated<R: Wait, G: Gate>(
+        &self,
+        rt: &R,
+        event: Event,
+        gate: &G,
+        worker: usize,
+        place: usize,
+    ) -> Result<Answer, Refused>
+        ensures { IsAnswered self.now event result }
+    {
+        let door = self.door.lock(rt);
+        let desk = self.room.take(rt);
+        let (desk, answer) = desk.submit(rt, event, gate, worker, place);
+        self.room.put(rt, desk);
+        drop(door);
+        answer
+    }
+
+    /// Builds and publishes what is behind.
+    pub fn catch_up<R: Wait>(&self, rt: &R) -> Option<Told>
+        ensures { IfSome result (λ t. (t.name ≡ self.now) × IsLegal self.now.config t.list) }
+    {
+        let door = self.door.lock(rt);
+        let (desk, told) = self.room.take(rt).catch_up(rt);
+        self.room.put(rt, desk);
+        drop(door);
+        told
+    }
+
+    /// A copy of the summary-LSAs that are due in the area (RFC 2328, 12.4.3).
+    pub fn due<R: Wait>(&self, rt: &R, area: u32) -> Result<DueList, Refusal>
+        ensures due { IfOk result (Dues self.now area) }
+        ensures area { MatchResult result (λ _. HasArea self.now.config area) (λ e. (e ≡ NoArea) ↔ (¬ (HasArea self.now.config area))) }
+        ensures refused { IfErr result (λ e. (e ≡ NoArea) ⊎ (e ≡ NoMemory)) }
+    {
+        let door = self.door.lock(rt);
+        let desk = self.room.take(rt);
+        let due = desk.due(area);
+        self.room.put(rt, desk);
+        drop(door);
+        due
+    }
+
+    pub(crate) fn alloc(&self) -> Global {
+        self.alloc
+    }
+
+    /// Waits for the forwarders that look, and gives the core back.
+    pub fn close<R: Wait>(self, rt: &R) -> Core
+        ensures config { result.config ≡ self.config }
+        ensures limits { result.limits ≡ standard_limits }
+        ensures legal { IsLegal self.config result.journal }
+    {
+        let Engine {
+            alloc: _,
+            door,
+            room,
+        } = self;
+        drop(door);
+        let desk = room.take(rt);
+        room.close(rt);
+        desk.end(rt)
+    }
+}
+
+// The engine of a desk, and so many forwarders.
+fn begin<R: Wait>(
+    rt: &R,
+    alloc: Global,
+    desk: Desk,
+    readers: usize,
+) -> Result<(Engine, Vec<Forwarder>), OpenFault>
+    requires { desk.published ≡ [] }
+    ensures fault { IfErr result (λ e. (e ≡ open_value.Place) ⊎ (e ≡ open_value.Config fault.Memory)) }
+    ensures config { IfOk result (λ r. r.0 ≡ desk.name) }
+    ensures count { IfOk result (λ r. length r.1.items ≡ readers) }
+    ensures forwarders { IfOk result (λ r. All (λ f. (f.name ≡ r.0) × (f.known ≡ [])) r.1.items) }
+{
+    let mut desk = desk;
+    let all = match forwarders(&mut desk, alloc, readers) {
+        Ok(all) => all,
+        Err(fault) => {
+            drop(desk.end(rt));
+            return Err(fault);
+        }
+    };
+    let Ok(room) = Room::open(alloc, &desk.tag()) else {
+        drop(desk.end(rt));
+        return Err(OpenFault::Config(ConfigFault::Memory));
+    };
+    room.put(rt, desk);
+    let engine = Engine {
+        alloc,
+        door: Mutex::new(()),
+        room,
+    };
+    Ok((engine, all))
+}
+
+fn forwarders(desk: &mut Desk, alloc: Global, count: usize) -> Result<Vec<Forwarder>, OpenFault>
+    requires { desk.old.published ≡ [] }
+    ensures same { desk.new ≡ desk.old }
+    ensures count { IfOk result (λ v. length v.items ≡ count) }
+    ensures forwarders { IfOk result (λ v. All (λ f. (f.name ≡ desk.old.name) × (f.known ≡ [])) v.items) }
+    ensures fault { IfErr result (λ e. (e ≡ open_value.Place) ⊎ (e ≡ open_value.Config fault.Memory)) }
+{
+    let mut all = Vec::new(alloc);
+    for _ in 0..count {
+        let Ok(forwarder) = desk.forwarder() else {
+            return Err(OpenFault::Place);
+        };
+        if all.push(forwarder).is_err() {
+            return Err(OpenFault::Config(ConfigFault::Memory));
+        }
+    }
+    Ok(all)
+}

@@ -1,0 +1,18 @@
+//! The engine of an OSPF area border router (RFC 2328): any thread submits events, which take a lock; what they
+//! change of the routing table is published; and forwarders look it up with no lock.
+#![tactic(auto)]
+
+mod answer;
+mod bytes;
+mod desk;
+mod engine_state;
+mod gate;
+mod open_fault;
+mod room;
+mod workers;
+
+pub use answer::{Answer, BytesFault, DueList, Refused};
+pub use engine_state::Engine;
+pub use gate::{Gate, Open};
+pub use open_fault::OpenFault;
+pub use publication::{Forwarder, Seen, Told};

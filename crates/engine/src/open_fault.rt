@@ -1,0 +1,33 @@
+//! Why an engine was not opened.
+ghost use Rattle.std.specs.Prelude.{Some};
+ghost use Rattle.engine.specs.Texts.{open_fault_text};
+
+use event_core::ConfigFault;
+use std::error::Error;
+use std::fmt;
+
+/// Why an engine was not opened: the first of these that holds.
+#[derive(Clone, Copy, Debug, PartialEq, Eq)]
+pub enum OpenFault {
+    /// The configuration has this fault, or a growth was refused.
+    Config(ConfigFault),
+    /// No reader, or more than 64.
+    Readers,
+    /// There was no place for a reader.
+    Place,
+}
+
+/// The number and the name, as `45 Readers`.
+impl fmt::Display for OpenFault {
+    ghost output = { λ fault. Some (open_fault_text fault) };
+
+    fn fmt<W: fmt::Write>(&self, f: &mut fmt::Formatter<W>) -> fmt::Result {
+        match self {
+            OpenFault::Config(fault) => write!(f, "{fault}"),
+            OpenFault::Readers => f.write_str("45 Readers"),
+            OpenFault::Place => f.write_str("46 Place"),
+        }
+    }
+}
+
+impl Error for OpenFault {}

@@ -1,0 +1,217 @@
+//! Several workers on one engine, each with its own list of events.
+ghost use Rattle.std.specs.Prelude.{◌≡◌, ◌<◌, ◌≤◌, ◌⊎◌, [], length, vec_len, vec_capacity, IfOk, IfErr, IfSome, IsTrue};
+ghost use Rattle.std.specs.List.{AllZip};
+ghost use Rattle.engine.specs.Answers.{AreAnswered};
+ghost use Rattle.event_state.specs.declared.refusal.Refusal.TheVariants.{Memory, Spawn, Workers};
+
+use crate::answer::{Answer, Refused};
+use crate::engine_state::Engine;
+use crate::gate::Gate;
+use event_core::{Event, Refusal};
+use std::alloc::{AllocError, Global};
+use std::snapshot::Snapshot;
+use std::sync::Wait;
+use std::thread;
+use std::thread::{Promise, PromisedHandle, Scope, Threads};
+
+const MOST_WORKERS: usize = 16;
+
+pub type Answers = Vec<Result<Answer, Refused>>;
+
+/// A worker's events, and room for their answers.
+#[derive(Drop)]
+pub struct Job {
+    pub events: Vec<Event>,
+    pub answers: Answers,
+    ghost empty: { answers.items ≡ [] },
+    ghost room: { vec_len events ≤ vec_capacity answers },
+}
+
+// Makes room for the answers of a list.
+fn prepared(alloc: Global, events: Vec<Event>) -> Result<Job, AllocError>
+    ensures { IfOk result (λ j. j.events ≡ events) }
+{
+    let answers = Vec::with_capacity(alloc, events.len())?;
+    Ok(Job { events, answers })
+}
+
+// Submits a worker's events in turn.
+fn work<R: Wait, G: Gate>(rt: &R, engine: &Engine, gate: &G, worker: usize, job: Job) -> Answers
+    ensures { AreAnswered engine.now job.events.items result.items }
+{
+    let Job {
+        events,
+        mut answers,
+    } = job;
+    let mut place = 0;
+    for event in events {
+        gate.before(worker, place);
+        let answer = engine.submit_gated(rt, event, gate, worker, place);
+        gate.after(worker, place);
+        let Ok(()) = answers.push(answer) else {
+            unreachable!()
+        };
+        place += 1;
+    }
+    answers
+}
+
+/// What a worker's thread promises: the answers of its events.
+#[derive(Drop)]
+struct Answering<'a> {
+    engine: &'a Engine,
+    events: Snapshot<Vec<Event>>,
+}
+
+impl<'a> Promise<Answers> for Answering<'a> {
+    ghost use Rattle.engine.specs.Answers.{AreAnswered};
+
+    ghost kept_by = { λ p r. AreAnswered p.engine.now p.events.value.items r.items };
+}
+
+type Child<'s> = PromisedHandle<Answers, Answering<'s>>;
+
+// Starts a thread for a job.
+fn start<'s, E, R: Threads + Wait + Sync, G: Gate>(
+    scope: &'s Scope<'s, E>,
+    rt: &'s R,
+    engine: &'s Engine,
+    gate: &'s G,
+    worker: usize,
+    job: Job,
+) -> Option<Child<'s>>
+    ensures { IfSome result (λ h. (h.promise.engine.now ≡ engine.now) × (h.promise.events.value.items ≡ job.events.items)) }
+{
+    let promise = Answering {
+        engine,
+        events: Snapshot::of(&job.events),
+    };
+    scope
+        .spawn_with(promise, move || work(rt, engine, gate, worker, job))
+        .ok()
+}
+
+// Starts a thread for each job. The answer is false where one could not be started.
+fn start_all<'s, E, R: Threads + Wait + Sync, G: Gate>(
+    scope: &'s Scope<'s, E>,
+    rt: &'s R,
+    engine: &'s Engine,
+    gate: &'s G,
+    jobs: Vec<Job>,
+    children: &mut Vec<Child<'s>>,
+) -> bool
+    requires empty { children.old.items ≡ [] }
+    requires room { vec_len jobs ≤ vec_capacity children.old }
+    ensures count { vec_len children.new ≤ vec_len jobs }
+    ensures children { IsTrue result → AllZip (λ job h. (h.promise.engine.now ≡ engine.now) × (h.promise.events.value.items ≡ job.events.items)) jobs.items children.new.items }
+{
+    let mut worker = 0;
+    for job in jobs {
+        let Some(child) = start(scope, rt, engine, gate, worker, job) else {
+            return false;
+        };
+        let Ok(()) = children.push(child) else {
+            return false;
+        };
+        worker += 1;
+    }
+    true
+}
+
+// Joins each thread.
+fn join_all<'s, R: Threads>(rt: &R, children: Vec<Child<'s>>, all: Vec<Answers>) -> Vec<Answers>
+    requires empty { all.items ≡ [] }
+    requires room { vec_len children ≤ vec_capacity all }
+    ensures { AllZip (λ h answers. AreAnswered h.promise.engine.now h.promise.events.value.items answers.items) children.entry.items result.items }
+{
+    let mut all = all;
+    for child in children {
+        let Ok(()) = all.push(child.join(rt)) else {
+            unreachable!()
+        };
+    }
+    all
+}
+
+// Runs each job on a thread of its own, and joins all that were started.
+fn run_all<'s, E, R: Threads + Wait + Sync, G: Gate>(
+    scope: &'s Scope<'s, E>,
+    rt: &'s R,
+    alloc: Global,
+    engine: &'s Engine,
+    gate: &'s G,
+    jobs: Vec<Job>,
+) -> Result<Vec<Answers>, Refusal>
+    ensures answers { IfOk result (λ all. AllZip (λ job answers. AreAnswered engine.now job.events.items answers.items) jobs.items all.items) }
+    ensures causes { IfErr result (λ e. (e ≡ Spawn) ⊎ (e ≡ Memory)) }
+{
+    let count = jobs.len();
+    let Ok(all) = Vec::with_capacity(alloc, count) else {
+        return Err(Refusal::Memory);
+    };
+    let Ok(mut children) = Vec::with_capacity(alloc, count) else {
+        return Err(Refusal::Memory);
+    };
+    let started = start_all(scope, rt, engine, gate, jobs, &mut children);
+    let all = join_all(rt, children, all);
+    if started {
+        Ok(all)
+    } else {
+        Err(Refusal::Spawn)
+    }
+}
+
+// Makes room for the answers of each list.
+fn all_prepared(alloc: Global, lists: Vec<Vec<Event>>) -> Result<Vec<Job>, AllocError>
+    ensures { IfOk result (λ jobs. AllZip (λ events job. job.events ≡ events) lists.items jobs.items) }
+{
+    let mut jobs = Vec::new(alloc);
+    for events in lists {
+        jobs.push(prepared(alloc, events)?).map_err(|_| AllocError)?;
+    }
+    Ok(jobs)
+}
+
+// As `run_all`, in a scope of its own.
+fn run<R: Threads + Wait + Sync, G: Gate>(
+    rt: &R,
+    alloc: Global,
+    engine: &Engine,
+    gate: &G,
+    jobs: Vec<Job>,
+) -> Result<Vec<Answers>, Refusal>
+    ensures answers { IfOk result (λ all. AllZip (λ job answers. AreAnswered engine.now job.events.items answers.items) jobs.items all.items) }
+    ensures causes { IfErr result (λ e. (e ≡ Spawn) ⊎ (e ≡ Memory)) }
+{
+    thread::scope(
+        thread::scope_env(),
+        rt,
+        move |scope| -> Result<Vec<Answers>, Refusal>
+            ensures { IfOk result (λ all. AllZip (λ job answers. AreAnswered engine.entry.now job.events.items answers.items) jobs.items all.items) × IfErr result (λ e. (e ≡ Spawn) ⊎ (e ≡ Memory)) }
+        { run_all(scope, rt, alloc, engine, gate, jobs) },
+    )
+}
+
+impl Engine {
+    /// Submits each list on a thread of its own, and answers each event of each. Refused are more than 16 lists, with no event taken; want of memory, before any thread starts; and that a thread could not be started, where the journal tells what was taken.
+    pub fn submit_all<R: Threads + Wait + Sync, G: Gate>(
+        &self,
+        rt: &R,
+        alloc: Global,
+        lists: Vec<Vec<Event>>,
+        gate: &G,
+    ) -> Result<Vec<Answers>, Refusal>
+        ensures answers { IfOk result (λ all. AllZip (λ events answers. AreAnswered self.now events.items answers.items) lists.items all.items) }
+        ensures few { IfOk result (λ _. length lists.items ≤ 16) }
+        ensures workers { IfErr result (λ e. (e ≡ Workers → 16 < length lists.items) × (16 < length lists.items → e ≡ Workers)) }
+        ensures causes { IfErr result (λ e. (e ≡ Workers) ⊎ ((e ≡ Spawn) ⊎ (e ≡ Memory))) }
+    {
+        if lists.len() > MOST_WORKERS {
+            return Err(Refusal::Workers);
+        }
+        let Ok(jobs) = all_prepared(alloc, lists) else {
+            return Err(Refusal::Memory);
+        };
+        run(rt, alloc, self, gate, jobs)
+    }
+}

@@ -1,0 +1,44 @@
+//! A replay over two workers.
+
+use replay::Show;
+use std::hash::RandomState;
+use std::test::Fail;
+use worker_replay::replay_many;
+
+// The events that are taken are so in any order, and the flush is refused in any.
+const RECORDING: &str = "abr 1
+router 10.0.0.1
+area 0.0.0.0 normal
+lookup 10.2.0.1
+interface 1 0.0.0.0 198.51.100.1 198.51.100.2 up
+install 0.0.0.0 000102010a0000010a00000180000001e6e20024000000010a000002c63364010100000a
+install 0.0.0.0 000102010a0000020a00000280000001dde80024010000010a000001c63364020100000a
+flush 0.0.0.1 1 10.0.0.1 10.0.0.1
+lookup 10.1.2.3
+install 0.0.0.0 000102030a0100000a00000280000001da61001cffff00000000000a
+";
+
+const ROUTES: &str = "4 lookup 10.2.0.1 4 none
+8 refused 20 NoArea
+9 lookup 10.1.2.3 4 route 10.1.0.0/16 inter 0.0.0.0 20 0 peer:1@10.0.0.2
+serial 4 built 4
+route 10.1.0.0/16 inter 0.0.0.0 20 0 peer:1@10.0.0.2
+";
+
+#[test]
+fn look_ups_see_all_events_that_were_taken(rt: HostRuntime) -> Result<(), Fail> {
+    let hashing = RandomState::new(&rt)?;
+    let mut input = RECORDING.as_bytes();
+    let mut out = Vec::new(rt.alloc());
+    replay_many(
+        &rt,
+        rt.alloc(),
+        hashing,
+        &mut input,
+        &mut out,
+        Show::Routes,
+        2,
+    )?;
+    assert!(rt; out.as_slice() == ROUTES.as_bytes());
+    Ok(())
+}

@@ -1,0 +1,5 @@
+pub mod Prefixes
+pub mod Adding
+pub mod Rules
+pub mod Folds
+pub mod Shows

@@ -1,0 +1,22 @@
+-- What a forwarder knows, and what it sees.
+use Rattle.std.specs.Prelude.{ℕ, ◌≡◌, List}
+use mathlib.Core.List.{IsPrefix}
+use Rattle.event_state.specs.declared.event.Event.{Event}
+use Rattle.route_table.specs.Tables.{TableValue}
+use Rattle.publication.specs.Names.{Name}
+use Rattle.publication.specs.Published.{IsTableFor}
+
+-- the longest of the lists that the forwarder saw or learned, which begins with each of them
+pub record Looker : Type 0 where
+  pub name : Name
+  pub known : List Event
+
+pub record Sighted : Type 0 where
+  pub name : Name
+  pub list : List Event
+  pub address : ℕ
+  pub table : TableValue
+
+-- the table is right for a legal list, which begins with all that the forwarder saw or learned before
+abbrev pub Sights : Looker → ℕ → Sighted → Type 0
+Sights f address s = (s.name ≡ f.name) × (s.address ≡ address) × IsPrefix f.known s.list × IsTableFor s.name.config s.list s.table

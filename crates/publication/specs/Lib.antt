@@ -1,0 +1,8 @@
+pub mod Lines
+pub mod Law
+pub mod Names
+pub mod Settings
+pub mod Published
+pub mod Updates
+pub mod Told
+pub mod Forwarders

@@ -1,0 +1,35 @@
+-- The rule of what is published, and what its two steps tell.
+use Rattle.std.specs.Prelude.{◌≡◌, ℕ, List, length, Option, Some}
+use mathlib.Core.Option.{some}
+use lib.ListN.{get_elem?}
+use Rattle.ospf_types.specs.declared.config.Config.{Config}
+use Rattle.event_state.specs.declared.event.Event.{Event}
+use Rattle.event_state.specs.Steps.{run_of, standard_limits, IsLegalList}
+use Rattle.event_state.specs.States.{inputs_of}
+use Rattle.route_table.specs.Tables.{TableValue}
+use Rattle.route_table.specs.Right.{IsRoutingTable}
+use Rattle.publication.specs.declared.shown.Shown.{Shown}
+use Rattle.publication.specs.Names.{Name}
+
+-- each of these events could be taken where it stands
+abbrev pub IsLegal : Config → List Event → Type 0
+IsLegal config list = IsLegalList config standard_limits list
+
+-- the table is right after these events, and each of them could be taken where it stands
+abbrev pub IsTableFor : Config → List Event → TableValue → Type 0
+IsTableFor config list table = IsLegal config list × IsRoutingTable (inputs_of (run_of config standard_limits list)) (length list) table
+
+-- the table is right for the list that is shown with it
+abbrev pub IsShownRight : Shown → Type 0
+IsShownRight x = IsTableFor x.config x.front.list x.table
+
+-- whose table it is
+abbrev pub name_of : Shown → Name
+name_of x = record { book = x.front.book; config = x.config }
+
+abbrev pub Holds : Shown → List (Option Name) → Type 0
+Holds x views = IsShownRight x × ((seat : ℕ) (n : Name) → get_elem? views seat ≡ some (Some n) → n ≡ name_of x)
+
+-- what is shown after the step is right, and its name is known, and was the name before
+abbrev pub Saw : Option Name → Shown → Shown → Option Name → Type 0
+Saw v x y w = (w ≡ Some (name_of y)) × IsShownRight y × ((n : Name) → v ≡ Some n → n ≡ name_of y)

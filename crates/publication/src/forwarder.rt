@@ -1,0 +1,177 @@
+//! Forwarders look up the published table, with no lock, no wait and no memory.
+ghost use Rattle.std.specs.Prelude.{◌≡◌, ◌⊎◌, length, Some, MatchResult};
+ghost use mathlib.Core.List.{IsPrefix};
+ghost use Rattle.left_right.specs.Sides.{view};
+ghost use Rattle.route_table.specs.Tables.{IsMatch};
+ghost use Rattle.publication.specs.Published.{IsLegal, IsTableFor};
+ghost use Rattle.publication.specs.Forwarders.{Sights};
+
+use crate::history::Front;
+use crate::rule::{Sees, ShownReader, ShownReading};
+use crate::setting::Setting;
+use crate::told::Told;
+use route_table::Match;
+use std::marker::Model;
+
+/// A reader of the published table. To a contract it is its engine's name, and the longest list of events
+/// that it saw or learned, which begins with each of them.
+#[derive(Drop)]
+pub struct Forwarder {
+    reader: ShownReader,
+    known: Front,
+    config: Setting,
+}
+
+impl Model for Forwarder {
+    ghost use Rattle.std.specs.Prelude.{◌≡◌, Some};
+    ghost use Rattle.left_right.specs.Sides.{view as known_to};
+    ghost use Rattle.publication.specs.Published.{IsLegal};
+    ghost use Rattle.publication.specs.Forwarders.{Looker};
+
+    ghost Value = { Looker };
+
+    ghost view = { λ f. record { name = record { book = f.known.book; config = f.config }; known = f.known.list } };
+
+    ghost invariant = { λ f. (known_to f.reader.place ≡ Some (record { book = f.known.book; config = f.config })) × IsLegal f.config f.known.list };
+}
+
+/// A forwarder that looks at the published table. While it lives, a publication may wait for it; one that
+/// is forgotten blocks the writer for good. It is not `Drop`: end it by `leave`.
+pub struct Seen {
+    reading: ShownReading,
+    front: Front,
+    config: Setting,
+    address: u32,
+}
+
+impl Model for Seen {
+    ghost use Rattle.std.specs.Prelude.{◌≡◌, Some};
+    ghost use Rattle.left_right.specs.Sides.{view as known_to};
+    ghost use Rattle.publication.specs.Published.{IsTableFor};
+    ghost use Rattle.publication.specs.Forwarders.{Sighted};
+    ghost use Rattle.std.specs.Coded.{Coded, codes};
+    ghost use Rattle.route_table.specs.Tables.{TableValue, table_code};
+
+    ghost Value = { Sighted };
+
+    ghost coded = { let table : Coded TableValue = table_code in Prim.hlevel (codes, table) };
+
+    ghost view = { λ s. record { name = record { book = s.front.book; config = s.config }; list = s.front.list; address = s.address; table = s.reading.part.value.table } };
+
+    ghost invariant = { λ s. (known_to s.reading.place ≡ Some (record { book = s.front.book; config = s.config })) × IsTableFor s.config s.front.list s.reading.part.value.table };
+}
+
+impl Forwarder {
+    pub fn of(reader: ShownReader, known: Front, config: Setting) -> Forwarder
+        requires named { view reader.place ≡ Some (record { book = known.book; config = config }) }
+        requires legal { IsLegal config known.list }
+        ensures { result ≡ record { name = record { book = known.book; config = config }; known = known.list } }
+    {
+        Forwarder {
+            reader,
+            known,
+            config,
+        }
+    }
+
+    /// From now on it sees no less than the token's list. The token is one of its own engine.
+    pub fn learn(self, told: Told) -> Forwarder
+        requires { told.name ≡ self.name }
+        ensures name { result.name ≡ self.name }
+        ensures before { IsPrefix self.known result.known }
+        ensures told { IsPrefix told.list result.known }
+        ensures one { (result.known ≡ self.known) ⊎ (result.known ≡ told.list) }
+        ensures legal { IsLegal result.name.config result.known }
+    {
+        let Forwarder {
+            reader,
+            known,
+            config,
+        } = self;
+        let front = told.into_front();
+        Forwarder {
+            reader,
+            known: known.longer(&front),
+            config,
+        }
+    }
+
+    /// Looks an address (host order) up in the table that is published now. The forwarder comes back as it
+    /// was where there was no entry to the table.
+    pub fn lookup(self, address: u32) -> Result<Seen, Forwarder>
+        ensures { MatchResult result (Sights self address) (λ f. f ≡ self) }
+    {
+        let Forwarder {
+            reader,
+            known,
+            config,
+        } = self;
+        match reader.enter_as::<Sees>() {
+            Ok(reading) => {
+                let front = reading.get().front.again();
+                if front.len() < known.len() {
+                    // What was told was published before, so this does not happen.
+                    let reader = reading.leave();
+                    return Err(Forwarder {
+                        reader,
+                        known,
+                        config,
+                    });
+                }
+                Ok(Seen {
+                    reading,
+                    front: front.longer(&known),
+                    config,
+                    address,
+                })
+            }
+            Err(reader) => Err(Forwarder {
+                reader,
+                known,
+                config,
+            }),
+        }
+    }
+}
+
+impl Seen {
+    /// The longest match of the address that was looked up (RFC 2328, 11.1).
+    pub fn found(&self) -> Match<'_>
+        ensures found { IsMatch self.now.table.items self.now.address result }
+        ensures right { IsTableFor self.now.name.config self.now.list self.now.table }
+    {
+        self.reading.get().table.lookup(self.address)
+    }
+
+    /// The longest match of another address, in the same table.
+    pub fn find(&self, address: u32) -> Match<'_>
+        ensures found { IsMatch self.now.table.items address result }
+        ensures right { IsTableFor self.now.name.config self.now.list self.now.table }
+    {
+        self.reading.get().table.lookup(address)
+    }
+
+    /// How many events the table follows.
+    pub fn serial(&self) -> u64
+        ensures { result ≡ length self.now.list }
+    {
+        self.front.len()
+    }
+
+    /// Ends the look. What was seen is known from now on.
+    pub fn leave(self) -> Forwarder
+        ensures { result ≡ record { name = self.name; known = self.list } }
+    {
+        let Seen {
+            reading,
+            front,
+            config,
+            address: _,
+        } = self;
+        Forwarder {
+            reader: reading.leave(),
+            known: front,
+            config,
+        }
+    }
+}

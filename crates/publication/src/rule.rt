@@ -1,0 +1,52 @@
+//! The rule of what is published: it is right for its list, and each thread that was told a name was told that of its history.
+use crate::shown::{Shown, Tag, Update};
+use atomic_table::{Join, Split};
+use crossbeam_utils::rule::{Outcome, Protocol};
+use left_right::reader::{Reader, Reading};
+use left_right::writer::Writer;
+
+/// What a thread knows: the name, once it was told.
+pub type View = Option<Tag>;
+
+pub struct Published;
+
+impl Protocol<Shown, View> for Published {
+    ghost use Rattle.std.specs.Prelude.{None};
+    ghost use Rattle.publication.specs.Published.{Holds};
+
+    ghost holds = { Holds };
+
+    ghost first = { None };
+}
+
+/// The two steps, to publish and to enter.
+pub struct Sees;
+
+impl Outcome<Shown, View> for Sees {
+    ghost use Rattle.publication.specs.Published.{Saw};
+
+    ghost then = { Saw };
+}
+
+/// A reader is told what the writer knows.
+pub struct Named;
+
+impl Split<View> for Named {
+    ghost left = { λ v. v };
+
+    ghost right = { λ v. v };
+}
+
+impl Join<View> for Named {
+    ghost use Rattle.std.specs.Prelude.{None};
+
+    ghost both = { λ v w. w };
+
+    ghost spent = { None };
+}
+
+pub type ShownReader = Reader<Shown, View, Published>;
+
+pub type ShownReading = Reading<Shown, View, Published>;
+
+pub type ShownWriter = Writer<Shown, Update, View, Published>;

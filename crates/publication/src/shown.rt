@@ -1,0 +1,113 @@
+//! What readers are shown: the table, and the list of events that it is right for.
+ghost use Rattle.std.specs.Prelude.{◌≡◌, IfOk};
+ghost use Rattle.publication.specs.Updates.{face_of};
+
+use crate::history::{Front, Token};
+use crate::setting::Setting;
+use left_right::Absorb;
+use ospf_types::config::Config;
+use ospf_types::memory::Memory;
+use route_table::{Change, Table};
+use std::alloc::{AllocError, Global};
+use std::marker::Model;
+
+/// The name of an engine, for contracts alone. It has no bytes.
+#[derive(Drop)]
+pub struct Tag {
+    seen: Token,
+    config: Setting,
+}
+
+impl Model for Tag {
+    ghost use Rattle.publication.specs.Names.{Name};
+
+    ghost Value = { Name };
+
+    ghost view = { λ t. record { book = t.seen.book; config = t.config } };
+}
+
+impl Tag {
+    pub fn of(front: &Front, config: &Config) -> Tag
+        ensures { result ≡ record { book = front.now.book; config = config.now } }
+    {
+        Tag {
+            seen: front.token(),
+            config: Setting::of(config),
+        }
+    }
+}
+
+/// The list and the configuration have no bytes but the list's length.
+#[derive(Drop)]
+pub struct Shown {
+    pub table: Table,
+    pub front: Front,
+    pub config: Setting,
+}
+
+impl Shown {
+    /// A copy of the table, with the list that it is right for and the engine's configuration.
+    pub fn of(alloc: Global, table: &Table, front: &Front, config: &Config) -> Result<Shown, Memory>
+        ensures { IfOk result (λ shown. face_of shown ≡ record { table = table.now; front = front.now; config = config.now }) }
+    {
+        Ok(Shown {
+            table: copy_of(alloc, table)?,
+            front: front.again(),
+            config: Setting::of(config),
+        })
+    }
+}
+
+fn copy_of(alloc: Global, table: &Table) -> Result<Table, Memory>
+    ensures { IfOk result (λ copy. copy ≡ table.now) }
+{
+    let mut copy = Table::new(alloc, table.serial());
+    for (prefix, item) in table.items() {
+        copy.set(prefix, item.copy(alloc)?)?;
+    }
+    Ok(copy)
+}
+
+#[derive(Drop)]
+pub enum Update {
+    Change(Change),
+    List(Front),
+}
+
+/// What the two copies have in common. No value of it is made.
+pub struct Face {
+    pub table: Table,
+    pub front: Front,
+    pub config: Config,
+}
+
+impl Absorb<Update> for Shown {
+    ghost use Rattle.publication.specs.Updates.{updated, face_of};
+
+    type State = Face;
+
+    ghost state = { face_of };
+
+    ghost applied = { updated };
+
+    fn absorb_first(&mut self, operation: &Update, other: &Shown) -> Result<(), AllocError> {
+        match operation {
+            Update::Change(change) => self.table.absorb_first(change, &other.table)?,
+            Update::List(front) => self.front = front.again(),
+        }
+        Ok(())
+    }
+
+    fn absorb_second(&mut self, operation: Update, other: &Shown) -> Result<(), Update> {
+        match operation {
+            Update::Change(change) => match self.table.absorb_second(change, &other.table) {
+                Ok(()) => Ok(()),
+                Err(change) => Err(Update::Change(change)),
+            },
+            Update::List(front) => {
+                self.front = front;
+                Ok(())
+            }
+        }
+    }
+}

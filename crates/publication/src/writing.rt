@@ -1,0 +1,157 @@
+//! What the writer does: it appends a whole table or what changed of it, and publishes that in one step.
+ghost use Rattle.std.specs.Prelude.{◌≡◌, ◌++◌, [], ◌∷◌, map, drop, fold, Some, IsTrue, MatchBool};
+ghost use Rattle.std.specs.FinMap.{get};
+ghost use Rattle.left_right.specs.Sides.{view};
+ghost use Rattle.route_table.specs.Deltas.{Lead};
+ghost use Rattle.publication.specs.Updates.{gifts, all_of, those_of, ends, whole, deltas, updated, face_of, IsRightFace};
+ghost use Rattle.publication.specs.Published.{IsTableFor, IsShownRight, name_of};
+ghost use Rattle.publication.specs.declared.shown.Update.TheVariants as update;
+
+use crate::history::Front;
+use crate::rule::{Sees, ShownWriter};
+use crate::shown::Update;
+use ospf_types::prefix::Prefix;
+use route_table::{Change, Item, Table};
+use std::alloc::Global;
+use std::sync::Wait;
+
+// Appends the serial of a list, and the list.
+fn lay_end(writer: &mut ShownWriter, front: &Front) -> bool
+    ensures desk { writer.new.desk ≡ writer.old.desk }
+    ensures pending { IsTrue result → drop writer.new.behind writer.new.log.items ≡ drop writer.old.behind writer.old.log.items ++ ends front.now }
+{
+    if writer
+        .append(Update::Change(Change::Serial(front.len())))
+        .is_err()
+    {
+        return false;
+    }
+    writer.append(Update::List(front.again())).is_ok()
+}
+
+// Appends that the network has this item.
+fn lay_item(writer: &mut ShownWriter, alloc: Global, prefix: Prefix, item: &Item) -> bool
+    ensures desk { writer.new.desk ≡ writer.old.desk }
+    ensures pending { IsTrue result → drop writer.new.behind writer.new.log.items ≡ drop writer.old.behind writer.old.log.items ++ gifts ((prefix, Some item.now) ∷ []) }
+{
+    match item.change_for(alloc, prefix) {
+        Ok(change) => writer.append(Update::Change(change)).is_ok(),
+        Err(_) => false,
+    }
+}
+
+// Appends each network's item.
+fn lay_items(writer: &mut ShownWriter, alloc: Global, table: &Table) -> bool
+    ensures desk { writer.new.desk ≡ writer.old.desk }
+    ensures pending { IsTrue result → drop writer.new.behind writer.new.log.items ≡ drop writer.old.behind writer.old.log.items ++ gifts (all_of table.now.items) }
+{
+    for (prefix, item) in table.items() {
+        if !lay_item(writer, alloc, prefix, item) {
+            return false;
+        }
+    }
+    true
+}
+
+// Appends that the table is emptied and has these items, and the list that they are right for.
+fn lay_whole(writer: &mut ShownWriter, alloc: Global, table: &Table, front: &Front) -> bool
+    ensures desk { writer.new.desk ≡ writer.old.desk }
+    ensures pending { IsTrue result → drop writer.new.behind writer.new.log.items ≡ drop writer.old.behind writer.old.log.items ++ whole table.now.items front.now }
+{
+    if writer.append(Update::Change(Change::Clear)).is_err() {
+        return false;
+    }
+    lay_items(writer, alloc, table) && lay_end(writer, front)
+}
+
+// Appends what the network has in the table, or that it has nothing.
+fn lay_network(writer: &mut ShownWriter, prefix: Prefix, table: &Table) -> bool
+    ensures desk { writer.new.desk ≡ writer.old.desk }
+    ensures pending { IsTrue result → drop writer.new.behind writer.new.log.items ≡ drop writer.old.behind writer.old.log.items ++ gifts ((prefix, get table.now.items prefix) ∷ []) }
+{
+    match table.change_for(prefix) {
+        Ok(change) => writer.append(Update::Change(change)).is_ok(),
+        Err(_) => false,
+    }
+}
+
+// Appends what these networks have in the table.
+fn lay_networks(writer: &mut ShownWriter, networks: &[Prefix], table: &Table) -> bool
+    ensures desk { writer.new.desk ≡ writer.old.desk }
+    ensures pending { IsTrue result → drop writer.new.behind writer.new.log.items ≡ drop writer.old.behind writer.old.log.items ++ gifts (those_of table.now.items networks.now) }
+{
+    for network in networks {
+        if !lay_network(writer, *network, table) {
+            return false;
+        }
+    }
+    true
+}
+
+// Appends one change for each of these networks, and the list that the table is right for.
+fn lay_changes(writer: &mut ShownWriter, networks: &[Prefix], table: &Table, front: &Front) -> bool
+    ensures desk { writer.new.desk ≡ writer.old.desk }
+    ensures pending { IsTrue result → drop writer.new.behind writer.new.log.items ≡ drop writer.old.behind writer.old.log.items ++ deltas networks.now table.now.items front.now }
+{
+    lay_networks(writer, networks, table) && lay_end(writer, front)
+}
+
+// Publishes what is pending. The answer is false where it was refused, and then readers see what they saw.
+fn publish<R: Wait>(rt: &R, writer: ShownWriter, front: &Front) -> (ShownWriter, bool)
+    requires history { front.now.book ≡ writer.desk.shown.value.front.book }
+    requires laid { IsRightFace front.now writer.desk.shown.value.config (fold updated (face_of writer.desk.shown.value) (drop writer.behind writer.log.items)) }
+    ensures name { name_of result.0.desk.shown.value ≡ name_of writer.desk.shown.value }
+    ensures shown { MatchBool result.1 ((result.0.desk.shown.value.front ≡ front.now) × IsShownRight result.0.desk.shown.value) (result.0.desk.shown.value ≡ writer.desk.shown.value) }
+    ensures known { MatchBool result.1 (view result.0.desk.place ≡ Some (name_of writer.desk.shown.value)) (view result.0.desk.place ≡ view writer.desk.place) }
+    ensures pending { IsTrue result.1 → drop result.0.behind result.0.log.items ≡ [] }
+{
+    let (writer, done) = writer.publish_as::<Sees, R>(rt);
+    (writer, done.is_ok())
+}
+
+/// Publishes a whole table, whatever is pending. It is right for a list of the same history. The answer is
+/// false where it was refused, and then readers see what they saw.
+pub fn show<R: Wait>(
+    rt: &R,
+    alloc: Global,
+    writer: ShownWriter,
+    table: &Table,
+    front: &Front,
+) -> (ShownWriter, bool)
+    requires history { front.now.book ≡ writer.desk.shown.value.front.book }
+    requires right { IsTableFor writer.desk.shown.value.config front.now.list table.now }
+    ensures name { name_of result.0.desk.shown.value ≡ name_of writer.desk.shown.value }
+    ensures shown { MatchBool result.1 ((result.0.desk.shown.value.front ≡ front.now) × IsShownRight result.0.desk.shown.value) (result.0.desk.shown.value ≡ writer.desk.shown.value) }
+    ensures known { MatchBool result.1 (view result.0.desk.place ≡ Some (name_of writer.desk.shown.value)) (view result.0.desk.place ≡ view writer.desk.place) }
+    ensures pending { IsTrue result.1 → drop result.0.behind result.0.log.items ≡ [] }
+{
+    let mut writer = writer;
+    if !lay_whole(&mut writer, alloc, table, front) {
+        return (writer, false);
+    }
+    publish(rt, writer, front)
+}
+
+/// Publishes what changed of the table: these networks, and no others. Nothing may be pending.
+pub fn show_changes<R: Wait>(
+    rt: &R,
+    writer: ShownWriter,
+    networks: &[Prefix],
+    table: &Table,
+    front: &Front,
+) -> (ShownWriter, bool)
+    requires clean { drop writer.behind writer.log.items ≡ [] }
+    requires history { front.now.book ≡ writer.desk.shown.value.front.book }
+    requires right { IsTableFor writer.desk.shown.value.config front.now.list table.now }
+    requires changes { Lead writer.desk.shown.value.table.items table.now.items (those_of table.now.items networks.now) }
+    ensures name { name_of result.0.desk.shown.value ≡ name_of writer.desk.shown.value }
+    ensures shown { MatchBool result.1 ((result.0.desk.shown.value.front ≡ front.now) × IsShownRight result.0.desk.shown.value) (result.0.desk.shown.value ≡ writer.desk.shown.value) }
+    ensures known { MatchBool result.1 (view result.0.desk.place ≡ Some (name_of writer.desk.shown.value)) (view result.0.desk.place ≡ view writer.desk.place) }
+    ensures pending { IsTrue result.1 → drop result.0.behind result.0.log.items ≡ [] }
+{
+    let mut writer = writer;
+    if !lay_changes(&mut writer, networks, table, front) {
+        return (writer, false);
+    }
+    publish(rt, writer, front)
+}

@@ -1,0 +1,36 @@
+-- A whole replay.
+use Rattle.std.proofs.Common.{ℕ, List, Option, ◌⊎◌, inl, inr}
+use Rattle.event_core.specs.Cores.{CoreValue}
+use Rattle.recording.specs.Recordings.{RecordingValue}
+use Rattle.replay.specs.declared.show.Show.{Show}
+use Rattle.replay.specs.Parts.{IsRead}
+use Rattle.worker_replay.specs.Outputs.{Replays, ReplaysPart}
+use Rattle.worker_replay.specs.Parts.{HasRun, Writes, WritesPart}
+
+module _ (s : Show) (before after old new : Option (List ℕ)) (r : RecordingValue) (printed : List ℕ) (c : CoreValue) (read : IsRead before after r) (run : HasRun r printed c) where
+  pub replays : Writes s printed c old new → Replays s before after old new
+  replays h = record {
+    bytes = read.bytes;
+    read = read.read;
+    recording = r;
+    text = read.text;
+    answers = run.answers;
+    output = h.text;
+    is = record { printed = printed; closed = c; run = run.is; shown = h.shown };
+    written = h.written;
+  }
+
+  pub replays_part : WritesPart s printed c old new → ReplaysPart s before after old new
+  replays_part h = record {
+    bytes = read.bytes;
+    read = read.read;
+    recording = r;
+    text = read.text;
+    part = h.part.part;
+    is = record { answers = run.answers; whole = h.whole; output = record { printed = printed; closed = c; run = run.is; shown = h.shown }; part = h.part.beginning };
+    written = h.part.appended;
+  }
+
+pub or_else : {P A B : Type 0} → (A → B) → P ⊎ A → P ⊎ B
+or_else f (inl p) = inl p
+or_else f (inr a) = inr (f a)

@@ -1,0 +1,26 @@
+use Rattle.std.proofs.Common.{ℕ, List, ◌++◌, ap, refl, string_bytes}
+use Rattle.std.specs.List.{flat_map}
+use Rattle.dues.specs.declared.due.Due.{Due}
+use Rattle.replay.specs.Lines.{serial_line, area_lines}
+use Rattle.replay.specs.declared.show.Show.TheVariants as show
+use Rattle.replay.proofs.Written.{on_err}
+use Rattle.worker_replay.proofs.Shown.{shown_cut, end_cut, shown_whole, none_written}
+use Rattle.worker_replay.proofs.output.write_due.Goals as goal
+
+pub returns-in_err-put_serial-clause-err : goal.returns-in_err-put_serial-clause-err
+returns-in_err-put_serial-clause-err g c = on_err c.from_residual.result (none_written show.Due _ _ _ _ refl)
+
+pub returns-in_err-show_dues-clause-err : goal.returns-in_err-show_dues-clause-err
+returns-in_err-show_dues-clause-err g c =
+    on_err c.from_residual-in_err-show_dues.result (shown_cut show.Due _ _ _ _ _ _ _ c.in_ok-put_serial.ensures
+    (ap (λ (lists : List (ℕ × List Due)). (string_bytes c.args.page.now ++ serial_line c.args.core.now) ++ flat_map area_lines lists) c.dues.ensures.value) c.in_err-show_dues.ensures.err)
+
+pub returns-in_err-write_page-clause-err : goal.returns-in_err-write_page-clause-err
+returns-in_err-write_page-clause-err g c =
+    on_err c.from_residual-in_err-write_page.result (end_cut show.Due _ _ _ _ _ _ _ c.in_ok-put_serial.ensures
+    (ap (λ (lists : List (ℕ × List Due)). (string_bytes c.args.page.now ++ serial_line c.args.core.now) ++ flat_map area_lines lists) c.dues.ensures.value) _ _ c.in_ok-show_dues.ensures.ok c.in_err-write_page.ensures.err)
+
+pub returns-clause-ok : goal.returns-clause-ok
+returns-clause-ok g c =
+    shown_whole show.Due _ _ _ _ _ _ _ c.in_ok-put_serial.ensures
+    (ap (λ (lists : List (ℕ × List Due)). (string_bytes c.args.page.now ++ serial_line c.args.core.now) ++ flat_map area_lines lists) c.dues.ensures.value) _ _ _ c.in_ok-show_dues.ensures.ok c.in_ok-write_page.ensures.ok c.in_ok-write_page.ensures.empty

@@ -1,0 +1,22 @@
+use Rattle.std.proofs.Common.{string_bytes}
+use Rattle.std.proofs.lemmas.Result.{IfOk-weaker}
+use Rattle.worker_replay.specs.Parts.{Looks, HasPrinted}
+use Rattle.worker_replay.proofs.Ran.{own, enough, has_printed}
+use Rattle.worker_replay.proofs.running.run_lines.Goals as goal
+
+pub learn_all-requires : goal.learn_all-requires
+learn_all-requires g c = own c.args.engine.now c.args.forwarder c.in_ok-events.events.items c.in_ok-answers.answers.items c.requires.named c.in_ok-answers.ensures.answered
+
+pub look-requires-clause-replies : goal.look-requires-clause-replies
+look-requires-clause-replies g c =
+    enough c.args.engine.now c.args.lines.items c.in_ok-events.events.items c.in_ok-events.lookups.items c.in_ok-answers.answers.items c.in_ok-forwarder.replies.items c.in_ok-events.ensures.events c.in_ok-events.ensures.lookups
+    c.in_ok-answers.ensures.answered c.in_ok-forwarder.ensures.replies
+
+pub returns-clause-printed : goal.returns-clause-printed
+returns-clause-printed g c =
+    IfOk-weaker c.look.result (λ text. Looks c.in_ok-forwarder.forwarder c.args.first c.in_ok-events.lookups.items c.in_ok-forwarder.replies.items (string_bytes text))
+    (λ text. HasPrinted c.args.engine.now c.args.lines.items c.args.first (string_bytes text))
+    (λ text looks. has_printed c.args.engine.now c.args.lines.items c.in_ok-events.events.items c.in_ok-events.lookups.items c.in_ok-answers.answers.items c.args.forwarder c.in_ok-forwarder.forwarder c.in_ok-forwarder.replies.items
+    c.args.first (string_bytes text) c.in_ok-events.ensures.events c.in_ok-events.ensures.lookups c.in_ok-answers.ensures.answered c.requires.named c.in_ok-forwarder.ensures.name c.in_ok-forwarder.ensures.learned
+    c.in_ok-forwarder.ensures.replies looks)
+    c.look.ensures.looks

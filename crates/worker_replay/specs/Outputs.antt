@@ -1,0 +1,44 @@
+-- What a replay over several workers writes.
+use Rattle.std.specs.Prelude.{ℕ, List, Option}
+use Rattle.std.specs.Io.KnownBytes.{Appends, Consumes}
+use Rattle.event_core.specs.Cores.{CoreValue}
+use Rattle.recording.specs.Recordings.{RecordingValue, IsText}
+use Rattle.replay.specs.declared.show.Show.{Show}
+use Rattle.replay.specs.Outputs.{IsShown, IsBeginning}
+use Rattle.worker_replay.specs.Runs.{Answers, IsRun}
+
+-- The output of a recording for a show, where its events had these answers: they may have been taken in any order that keeps that of each worker's, some may have
+-- been refused for want of memory, and some answered Behind; each of these is one of the answers.
+pub record IsOutput (r : RecordingValue) (s : Show) (answers : Answers) (text : List ℕ) : Type 0 where
+  pub printed : List ℕ
+  pub closed : CoreValue
+  pub run : IsRun r answers printed closed
+  pub shown : IsShown s printed closed text
+
+-- the text is a beginning of an output
+pub record IsCutOutput (r : RecordingValue) (s : Show) (text : List ℕ) : Type 0 where
+  pub answers : Answers
+  pub whole : List ℕ
+  pub output : IsOutput r s answers whole
+  pub part : IsBeginning text whole
+
+-- the bytes that a reader had left were a recording, and a writer's known bytes grew by its output
+pub record Replays (s : Show) (before after : Option (List ℕ)) (old new : Option (List ℕ)) : Type 0 where
+  pub bytes : List ℕ
+  pub read : Consumes before after bytes
+  pub recording : RecordingValue
+  pub text : IsText bytes recording
+  pub answers : Answers
+  pub output : List ℕ
+  pub is : IsOutput recording s answers output
+  pub written : Appends old new output
+
+-- the same, and a writer's known bytes grew by a beginning of the output
+pub record ReplaysPart (s : Show) (before after : Option (List ℕ)) (old new : Option (List ℕ)) : Type 0 where
+  pub bytes : List ℕ
+  pub read : Consumes before after bytes
+  pub recording : RecordingValue
+  pub text : IsText bytes recording
+  pub part : List ℕ
+  pub is : IsCutOutput recording s part
+  pub written : Appends old new part

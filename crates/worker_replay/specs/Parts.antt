@@ -1,0 +1,103 @@
+-- The parts of a replay over several workers: a recording is run over an engine, and the output is written.
+use Rattle.std.specs.Prelude.{ℕ, ◌≡◌, ◌≤◌, ◌+◌, ◌++◌, List, [], ◌∷◌, length, Option, Some, None, IfSome, Result}
+use mathlib.Core.List.{IsPrefix}
+use Rattle.std.specs.Io.KnownBytes.{Appends}
+use Rattle.event_state.specs.declared.event.Event.{Event}
+use Rattle.event_state.specs.declared.refusal.Refusal.{Refusal}
+use Rattle.route_table.specs.declared.table.Match.{Match}
+use Rattle.route_table.specs.Tables.{TableValue, IsMatch}
+use Rattle.event_core.specs.declared.reply.Reply.{Reply}
+use Rattle.event_core.specs.Cores.{CoreValue}
+use Rattle.publication.specs.Forwarders.{Looker}
+use Rattle.publication.specs.Names.{Name}
+use Rattle.publication.specs.Published.{IsTableFor}
+use Rattle.engine.specs.declared.answer.Answer.{Answer}
+use Rattle.engine.specs.declared.answer.Refused.{Refused}
+use Rattle.recording.specs.Recordings.{RecordingValue}
+use Rattle.recording.specs.declared.line.Line.{Line}
+use Rattle.replay.specs.declared.fault.ReplayFault.TheVariants as replay_fault
+use Rattle.replay.specs.declared.show.Show.{Show}
+use Rattle.replay.specs.Lines.{lookup_line, answer_line}
+use Rattle.replay.specs.Outputs.{IsShown}
+use Rattle.replay.specs.Pages.{AddsPart}
+use Rattle.worker_replay.specs.declared.fault.ManyFault.{ManyFault}
+use Rattle.worker_replay.specs.declared.fault.ManyFault.TheVariants as fault
+use Rattle.worker_replay.specs.Runs.{Answers, IsPrinted, IsRun, told_of}
+
+-- as many workers as there may be
+abbrev pub AreWorkers : ℕ → Type 0
+AreWorkers n = (1 ≤ n) × (n ≤ 16)
+
+-- why a recording is not run
+abbrev pub IsRunFault : ManyFault → Type 0
+IsRunFault (fault.Replay f) = f ≡ replay_fault.Memory
+IsRunFault fault.Spawn = Unit {0}
+IsRunFault fault.Place = Unit {0}
+IsRunFault fault.NoEntry = Unit {0}
+
+-- the token that came with an answer is one of the engine of this name
+abbrev pub IsOf : Name → Result Answer Refused → Type 0
+IsOf name answer = IfSome (told_of answer) (λ t. t.name ≡ name)
+
+-- ---- lines, of which some look an address up, and each of the others takes the next reply
+
+-- there are as many replies as are taken, or more
+abbrev pub HasAllReplies : List (Option ℕ) → List (Result Reply Refusal) → Type 0
+HasAllReplies [] replies = Unit {0}
+HasAllReplies (Some address ∷ lookups) replies = HasAllReplies lookups replies
+HasAllReplies (None ∷ lookups) [] = ⊥
+HasAllReplies (None ∷ lookups) (reply ∷ replies) = HasAllReplies lookups replies
+
+-- numbered from here on they print this
+abbrev pub PrintsAll : TableValue → (serial number : ℕ) → List (Option ℕ) → List (Result Reply Refusal) → List ℕ → Type 0
+PrintsAll table serial number [] replies text = text ≡ []
+PrintsAll table serial number (Some address ∷ lookups) replies text =
+    (found : Match) × (rest : List ℕ) × IsMatch table.items address found × (text ≡ lookup_line number address serial found ++ rest) × PrintsAll table serial (number + 1) lookups replies rest
+PrintsAll table serial number (None ∷ lookups) [] text = ⊥
+PrintsAll table serial number (None ∷ lookups) (reply ∷ replies) text =
+    (rest : List ℕ) × (text ≡ answer_line number reply ++ rest) × PrintsAll table serial (number + 1) lookups replies rest
+
+-- what they print stands behind the text of before
+pub record AppendsAll (table : TableValue) (serial number : ℕ) (lookups : List (Option ℕ)) (replies : List (Result Reply Refusal)) (old new : List ℕ) : Type 0 where
+  pub text : List ℕ
+  pub prints : PrintsAll table serial number lookups replies text
+  pub appended : new ≡ old ++ text
+
+-- what the line prints stands behind the text of before, and these replies are left
+abbrev pub AppendsLine : TableValue → (serial number : ℕ) → Option ℕ → (replies left : List (Result Reply Refusal)) → (old new : List ℕ) → Type 0
+AppendsLine table serial number (Some address) replies left old new =
+    (found : Match) × IsMatch table.items address found × (new ≡ old ++ lookup_line number address serial found) × (left ≡ replies)
+AppendsLine table serial number None replies left old new =
+    (reply : Result Reply Refusal) × (replies ≡ reply ∷ left) × (new ≡ old ++ answer_line number reply)
+
+-- the forwarder looked once, and they printed this
+pub record Looks (f : Looker) (number : ℕ) (lookups : List (Option ℕ)) (replies : List (Result Reply Refusal)) (text : List ℕ) : Type 0 where
+  pub seen : List Event
+  pub table : TableValue
+  pub after : IsPrefix f.known seen
+  pub right : IsTableFor f.name.config seen table
+  pub prints : PrintsAll table (length seen) number lookups replies text
+
+-- ---- the parts
+
+-- the lines were run, and printed this
+pub record HasPrinted (name : Name) (lines : List Line) (number : ℕ) (printed : List ℕ) : Type 0 where
+  pub answers : Answers
+  pub is : IsPrinted name lines number answers printed
+
+-- the recording was run
+pub record HasRun (r : RecordingValue) (printed : List ℕ) (closed : CoreValue) : Type 0 where
+  pub answers : Answers
+  pub is : IsRun r answers printed closed
+
+-- a writer's known bytes grew by what is shown
+pub record Writes (s : Show) (printed : List ℕ) (c : CoreValue) (old new : Option (List ℕ)) : Type 0 where
+  pub text : List ℕ
+  pub shown : IsShown s printed c text
+  pub written : Appends old new text
+
+-- a writer's known bytes grew by a beginning of what is shown
+pub record WritesPart (s : Show) (printed : List ℕ) (c : CoreValue) (old new : Option (List ℕ)) : Type 0 where
+  pub whole : List ℕ
+  pub shown : IsShown s printed c whole
+  pub part : AddsPart old new whole

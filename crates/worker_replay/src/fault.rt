@@ -1,0 +1,47 @@
+ghost use Rattle.std.specs.Prelude.{Some};
+ghost use Rattle.worker_replay.specs.Texts.{many_fault_text};
+
+use ospf_types::memory::Memory;
+use replay::ReplayFault;
+use std::error::Error;
+use std::fmt;
+
+/// Why a replay over several workers ended early.
+#[derive(Clone, Copy, Debug, PartialEq, Eq)]
+pub enum ManyFault {
+    /// What ends a replay on one thread too.
+    Replay(ReplayFault),
+    /// A worker's thread could not be started.
+    Spawn,
+    /// There was no place for a reader of the published table.
+    Place,
+    /// A look-up got no entry to the published table.
+    NoEntry,
+}
+
+impl fmt::Display for ManyFault {
+    ghost output = { λ fault. Some (many_fault_text fault) };
+
+    fn fmt<W: fmt::Write>(&self, f: &mut fmt::Formatter<W>) -> fmt::Result {
+        match self {
+            ManyFault::Replay(fault) => fault.fmt(f),
+            ManyFault::Spawn => f.write_str("31 Spawn"),
+            ManyFault::Place => f.write_str("46 Place"),
+            ManyFault::NoEntry => f.write_str("no entry"),
+        }
+    }
+}
+
+impl Error for ManyFault {}
+
+impl From<Memory> for ManyFault {
+    ghost use Rattle.std.specs.Prelude.{◌≡◌};
+    ghost use Rattle.replay.specs.declared.fault.ReplayFault.TheVariants as replay_fault;
+    ghost use Rattle.worker_replay.specs.declared.fault.ManyFault.TheVariants.{Replay};
+
+    ghost from_gives = { λ _ given. given ≡ Replay replay_fault.Memory };
+
+    fn from(_e: Memory) -> ManyFault {
+        ManyFault::Replay(ReplayFault::Memory)
+    }
+}

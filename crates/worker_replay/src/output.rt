@@ -1,0 +1,96 @@
+//! The output, written: what the lines printed, and what is shown behind it.
+ghost use Rattle.std.specs.Prelude.{◌≡◌, ◌⊎◌, [], OnOk, OnErr, string_bytes};
+ghost use Rattle.event_core.specs.Cores.{state_of};
+ghost use Rattle.event_core.specs.Listings.{AreLsas};
+ghost use Rattle.replay.specs.declared.page.Stop.TheVariants as stop;
+ghost use Rattle.replay.specs.declared.show.Show.TheVariants as show_value;
+ghost use Rattle.worker_replay.specs.Parts.{Writes, WritesPart};
+
+use event_core::Core;
+use lsa_codec::Checked;
+use ospf_types::key::Scope;
+use ospf_types::memory::Memory;
+use recording::append_header;
+use replay::{Show, Stop, put_serial, show_dues, show_events, show_items, show_lsas, write_page};
+use std::alloc::Global;
+use std::io;
+
+/// Writes what `show` names of a core, and before it what was printed of the lines.
+pub(crate) fn write_output<W: io::Write>(
+    alloc: Global,
+    core: &Core,
+    printed: String,
+    out: &mut W,
+    show: Show,
+) -> Result<(), Stop>
+    ensures ok { OnOk result (Writes show (string_bytes printed) core.now (W.contents out.old) (W.contents out.new)) }
+    ensures write { result ≡ Err stop.Write → WritesPart show (string_bytes printed) core.now (W.contents out.old) (W.contents out.new) }
+    ensures memory { result ≡ Err stop.Memory → (out.new ≡ out.old) ⊎ WritesPart show (string_bytes printed) core.now (W.contents out.old) (W.contents out.new) }
+{
+    let mut page = printed;
+    match show {
+        Show::Routes => write_routes(core, &mut page, out),
+        Show::Due => write_due(core, &mut page, out),
+        Show::Lsdb => match core.lsas() {
+            Ok(lsas) => write_lsdb(core, lsas, &mut page, out),
+            Err(Memory) => Err(Stop::Memory),
+        },
+        Show::Journal => {
+            page.clear();
+            write_journal(alloc, core, &mut page, out)
+        }
+    }
+}
+
+fn write_routes<W: io::Write>(core: &Core, page: &mut String, out: &mut W) -> Result<(), Stop>
+    ensures ok { OnOk result (Writes show_value.Routes (string_bytes page.old) core.now (W.contents out.old) (W.contents out.new)) }
+    ensures err { OnErr result (WritesPart show_value.Routes (string_bytes page.old) core.now (W.contents out.old) (W.contents out.new)) }
+{
+    put_serial(core, page)?;
+    show_items(core.table(), out, page)?;
+    write_page(out, page)?;
+    Ok(())
+}
+
+fn write_due<W: io::Write>(core: &Core, page: &mut String, out: &mut W) -> Result<(), Stop>
+    ensures ok { OnOk result (Writes show_value.Due (string_bytes page.old) core.now (W.contents out.old) (W.contents out.new)) }
+    ensures err { OnErr result (WritesPart show_value.Due (string_bytes page.old) core.now (W.contents out.old) (W.contents out.new)) }
+{
+    put_serial(core, page)?;
+    show_dues(core.dues(), out, page)?;
+    write_page(out, page)?;
+    Ok(())
+}
+
+fn write_lsdb<W: io::Write>(
+    core: &Core,
+    lsas: Vec<(Scope, Checked)>,
+    page: &mut String,
+    out: &mut W,
+) -> Result<(), Stop>
+    requires { AreLsas (state_of core.now) lsas.items }
+    ensures ok { OnOk result (Writes show_value.Lsdb (string_bytes page.old) core.now (W.contents out.old) (W.contents out.new)) }
+    ensures err { OnErr result (WritesPart show_value.Lsdb (string_bytes page.old) core.now (W.contents out.old) (W.contents out.new)) }
+{
+    put_serial(core, page)?;
+    show_lsas(lsas, out, page)?;
+    write_page(out, page)?;
+    Ok(())
+}
+
+// On an empty page.
+fn write_journal<W: io::Write>(
+    alloc: Global,
+    core: &Core,
+    page: &mut String,
+    out: &mut W,
+) -> Result<(), Stop>
+    requires { string_bytes page.old ≡ [] }
+    ensures ok { OnOk result (Writes show_value.Journal [] core.now (W.contents out.old) (W.contents out.new)) }
+    ensures err { OnErr result (WritesPart show_value.Journal [] core.now (W.contents out.old) (W.contents out.new)) }
+{
+    append_header(core.config(), page)?;
+    show_events(alloc, core.journal(), out, page)?;
+    write_page(out, page)?;
+    Ok(())
+}

@@ -1,0 +1,56 @@
+//! A replay over several workers.
+ghost use Rattle.std.specs.Prelude.{◌≡◌, ◌≤◌, ◌⊎◌, ℕ, List, OnOk};
+ghost use Rattle.std.specs.Io.KnownBytes.{Consumes};
+ghost use Rattle.recording.specs.declared.fault.LineFault.{LineFault};
+ghost use Rattle.recording.specs.Faults.{IsFaultOf};
+ghost use Rattle.replay.specs.declared.fault.ReplayFault.TheVariants as replay_fault;
+ghost use Rattle.worker_replay.specs.declared.fault.ManyFault.TheVariants as many_fault;
+ghost use Rattle.worker_replay.specs.Outputs.{Replays, ReplaysPart};
+ghost use Rattle.worker_replay.specs.Parts.{AreWorkers};
+
+use crate::fault::ManyFault;
+use crate::output::write_output;
+use crate::running::run_recording;
+use replay::{ReplayFault, Show, Stop, read_recording};
+use std::alloc::Global;
+use std::hash::RandomState;
+use std::io;
+use std::sync::Wait;
+use std::thread::Threads;
+
+/// Reads a recording to its end, submits its events to an engine from so many threads, and writes what `show` names. The
+/// events of a thread are submitted in their order, those of two threads in any; the look-ups see all that were answered
+/// `Current`. Where it ends early nothing is written, but for a failed write, or want of memory while writing: then a
+/// beginning of the output.
+pub fn replay_many<S: Threads + Wait + Sync, R: io::Read, W: io::Write>(
+    rt: &S,
+    alloc: Global,
+    hashing: RandomState,
+    input: &mut R,
+    out: &mut W,
+    show: Show,
+    workers: usize,
+) -> Result<(), ManyFault>
+    requires { AreWorkers workers }
+    ensures ok { OnOk result (Replays show (R.remaining input.old) (R.remaining input.new) (W.contents out.old) (W.contents out.new)) }
+    ensures read { result ≡ Err (many_fault.Replay replay_fault.Read) → out.new ≡ out.old }
+    ensures line { (f : LineFault) → result ≡ Err (many_fault.Replay (replay_fault.Line f)) → (out.new ≡ out.old)
+        × ((bytes : List ℕ) × Consumes (R.remaining input.old) (R.remaining input.new) bytes × IsFaultOf bytes f) }
+    ensures spawn { result ≡ Err many_fault.Spawn → out.new ≡ out.old }
+    ensures place { result ≡ Err many_fault.Place → out.new ≡ out.old }
+    ensures no_entry { result ≡ Err many_fault.NoEntry → out.new ≡ out.old }
+    ensures write { result ≡ Err (many_fault.Replay replay_fault.Write) → ReplaysPart show (R.remaining input.old) (R.remaining input.new) (W.contents out.old) (W.contents out.new) }
+    ensures memory { result ≡ Err (many_fault.Replay replay_fault.Memory) → (out.new ≡ out.old)
+        ⊎ ReplaysPart show (R.remaining input.old) (R.remaining input.new) (W.contents out.old) (W.contents out.new) }
+{
+    let recording = match read_recording(alloc, input) {
+        Ok(recording) => recording,
+        Err(fault) => return Err(ManyFault::Replay(fault)),
+    };
+    let (printed, core) = run_recording(rt, alloc, hashing, recording, workers)?;
+    match write_output(alloc, &core, printed, out, show) {
+        Ok(()) => Ok(()),
+        Err(Stop::Write) => Err(ManyFault::Replay(ReplayFault::Write)),
+        Err(Stop::Memory) => Err(ManyFault::Replay(ReplayFault::Memory)),
+    }
+}
