@@ -238,6 +238,7 @@ impl Desk {
     pub fn catch_up<R: Wait>(self, rt: &R) -> (Desk, Option<Told>)
         ensures same { (result.0.name ≡ self.name) × (result.0.journal ≡ self.journal) }
         ensures told { IfSome result.1 (λ t. (t.name ≡ self.name) × (t.list ≡ self.journal)) }
+        ensures none { IfNone result.1 (¬ (length result.0.journal ≡ length result.0.published)) }
     {
         let desk = self.follow_up(rt);
         let told = desk.told(desk.core.journal().len() as u64);
@@ -247,6 +248,8 @@ impl Desk {
     /// A copy of what is due in an area.
     pub fn due(&self, area: u32) -> Result<DueList, Refusal>
         ensures due { IfOk result (Dues self.now.name area) }
+        ensures built { IfOk result (λ d. d.serial ≡ self.now.built) }
+        ensures told { IfOk result (λ d. MatchOption d.told (¬ (d.serial ≡ length self.now.published)) (λ t. t.list ≡ self.now.published)) }
         ensures area { MatchResult result (λ _. HasArea self.now.name.config area) (λ e. (e ≡ NoArea) ↔ (¬ (HasArea self.now.name.config area))) }
         ensures refused { IfErr result (λ e. (e ≡ NoArea) ⊎ (e ≡ NoMemory)) }
     {
