@@ -1,9 +1,19 @@
-//! Runs the commands of `abr` on the rows of `data/`, and prints which differ from what is wanted.
+//! Runs the commands of `abr` on the rows of `data/`, and prints which differ from what is wanted. Its tests have what no row
+//! can say: recordings read and printed, and replays and commands over readers and writers that fail.
 #![tactic(auto)]
 
 mod input;
 mod row;
 mod trial;
+
+#[cfg(test)]
+mod commands;
+#[cfg(test)]
+mod recordings;
+#[cfg(test)]
+mod replays;
+#[cfg(test)]
+mod workers;
 
 use row::read_rows;
 use std::alloc::{AllocError, Global};

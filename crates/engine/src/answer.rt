@@ -1,5 +1,5 @@
 //! What an engine answers.
-use dues::Due;
+use event_core::Due;
 use event_core::{Refusal, Reply};
 use lsa_codec::WireFault;
 use publication::Told;

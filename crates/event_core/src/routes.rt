@@ -33,7 +33,7 @@ pub(crate) struct Routes {
     dues: Dues,
     work: Touched,
     changes: Vec<Prefix>,
-    // How often all was built; read by tests alone.
+    // How often all was built.
     builds: u64,
 }
 
@@ -173,7 +173,6 @@ impl Routes {
     }
 
     /// How often all was built.
-    #[cfg(test)]
     pub(crate) fn builds(&self) -> u64 {
         self.builds
     }
