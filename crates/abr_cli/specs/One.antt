@@ -23,7 +23,7 @@ use Rattle.publication.specs.Published.{IsTableFor}
 use Rattle.abr_cli.specs.declared.words.OneInput.{OneInput}
 use Rattle.abr_cli.specs.declared.command_fault.CommandFault.{CommandFault}
 use Rattle.abr_cli.specs.declared.command_fault.CommandFault.TheVariants as fault
-use Rattle.abr_cli.specs.Command.{OneTexts}
+use Rattle.command_line.specs.Command.{OneTexts}
 use Rattle.abr_cli.specs.Words.{Writes, WritesLsa, HasWireFault, IsFirstFault, AreRead}
 use Rattle.abr_cli.specs.Answers.{AnswerValue, IsAnswer}
 

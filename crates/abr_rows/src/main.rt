@@ -2,16 +2,15 @@
 //! can say: recordings read and printed, and replays and commands over readers and writers that fail.
 #![tactic(auto)]
 
-mod input;
-mod row;
-mod trial;
-
 #[cfg(test)]
 mod commands;
+mod input;
 #[cfg(test)]
 mod recordings;
 #[cfg(test)]
 mod replays;
+mod row;
+mod trial;
 #[cfg(test)]
 mod workers;
 

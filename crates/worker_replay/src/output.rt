@@ -3,7 +3,7 @@ ghost use Rattle.std.specs.Prelude.{◌≡◌, ◌⊎◌, [], OnOk, OnErr, strin
 ghost use Rattle.event_core.specs.Cores.{state_of};
 ghost use Rattle.event_core.specs.Listings.{AreLsas};
 ghost use Rattle.replay.specs.declared.page.Stop.TheVariants as stop;
-ghost use Rattle.replay.specs.declared.show.Show.TheVariants as show_value;
+ghost use Rattle.recording.specs.declared.show.Show.TheVariants as show_value;
 ghost use Rattle.worker_replay.specs.Parts.{Writes, WritesPart};
 
 use event_core::Core;

@@ -2,14 +2,14 @@
 ghost use Rattle.std.specs.Prelude.{ℕ, ◌≡◌, ◌≢◌, ◌⊎◌, IfOk, IfErr, IfSome, IsNone, MatchResult, false, map};
 ghost use Rattle.clap.specs.Words.{Text, app_of, rows_of, found_of, rule_of, subcommand_of, subcommand_rows_of, kind_of};
 ghost use Rattle.clap.specs.declared.builder.command.Command.TheViews.{out-Command};
-ghost use Rattle.replay.specs.declared.show.Show.{Show};
-ghost use Rattle.abr_cli.specs.Command.{one_command, decode_command, replay_command, program, required_word, show_option, show_name, References, AreShowNames, OneTexts, texts_of, HasWords, HasJob, IsJob, IsMistake, one_line, ArePlain, IsOne, decode_line, IsPlainWord, IsDecode, IsProgram, replay_line, show_line, workers_line, IsFileWord, IsReplay, HasReplayWords, IsFit, IsReplayOf, WritesWorkers, workers_option};
+ghost use Rattle.recording.specs.declared.show.Show.{Show};
+ghost use Rattle.command_line.specs.Command.{one_command, decode_command, replay_command, program, required_word, show_option, show_name, References, AreShowNames, OneTexts, texts_of, HasWords, HasJob, IsJob, IsMistake, one_line, ArePlain, IsOne, decode_line, IsPlainWord, IsDecode, IsProgram, replay_line, show_line, workers_line, IsFileWord, IsReplay, HasReplayWords, IsFit, IsReplayOf, WritesWorkers, workers_option};
 
 use crate::command::{Job, OneWords, Usage};
 use clap::builder::ValueParser;
 use clap::error::ErrorKind;
 use clap::{Arg, ArgMatches, Command, Error};
-use replay::Show;
+use recording::Show;
 use std::alloc::{AllocError, Global};
 
 // What `--version` says.

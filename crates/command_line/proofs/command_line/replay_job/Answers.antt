@@ -1,8 +1,8 @@
 use Rattle.std.proofs.Common.{◌≡◌, ◌∙◌, Some, codes, sym, ap, subst, refl}
 use Rattle.clap.specs.Words.{Text, first_of, found_of, rows_of}
-use Rattle.abr_cli.proofs.Matches.{no_word, one_given, word_given}
-use Rattle.abr_cli.specs.Command.{WritesWorkers, show_name}
-use Rattle.abr_cli.proofs.command_line.replay_job.Goals as goal
+use Rattle.command_line.proofs.Matches.{no_word, one_given, word_given}
+use Rattle.command_line.specs.Command.{WritesWorkers, show_name}
+use Rattle.command_line.proofs.command_line.replay_job.Goals as goal
 
 pub returns-in_err-get_str-clause-none : goal.returns-in_err-get_str-clause-none
 returns-in_err-get_str-clause-none c none file workers show h = no_word (found_of c.args.words.now) (codes "FILE") c.get_str.result file c.get_str.ensures c.in_err-get_str.was h.0

@@ -11,9 +11,9 @@ use Rattle.clap.specs.Kinds.{Kinds, or_else, value_kinds}
 use Rattle.clap.specs.declared.builder.value_parser.ValueParser.TheVariants.{Unsigned}
 use Rattle.clap.proofs.KindLemmas.{value_kinds-ok}
 use Rattle.clap.proofs.OnLiterals.{clap_on_literals}
-use Rattle.replay.specs.declared.show.Show.{Show}
-use Rattle.replay.specs.declared.show.Show.TheVariants.{Routes, Due, Lsdb, Journal}
-use Rattle.abr_cli.specs.Command.{ArePlain, HasOne, HasDecode, HasReplay, HasReplayWords, HasWords, IsFileWord, IsPlainWord, OneTexts, one_command, decode_command, replay_command, one_line, decode_line, replay_line, show_line, show_name, show_names, workers_line, WritesWorkers, program, reference}
+use Rattle.recording.specs.declared.show.Show.{Show}
+use Rattle.recording.specs.declared.show.Show.TheVariants.{Routes, Due, Lsdb, Journal}
+use Rattle.command_line.specs.Command.{ArePlain, HasOne, HasDecode, HasReplay, HasReplayWords, HasWords, IsFileWord, IsPlainWord, OneTexts, one_command, decode_command, replay_command, one_line, decode_line, replay_line, show_line, show_name, show_names, workers_line, WritesWorkers, program, reference}
 
 -- the walk goes on with the positional at its place
 abbrev on_positional : List Rule → Walk → Text → Walk

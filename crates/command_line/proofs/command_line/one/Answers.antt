@@ -3,8 +3,8 @@ use Rattle.std.proofs.lemmas.Result.{IfOk-weaker}
 use Rattle.clap.specs.Words.{app_of, new_app}
 use Rattle.clap.specs.Simple.{app_of_fields}
 use Rattle.clap.specs.declared.builder.command.Command.TheViews.{out-Command}
-use Rattle.abr_cli.proofs.Building.{added_app, added_local}
-use Rattle.abr_cli.proofs.command_line.one.Goals as goal
+use Rattle.command_line.proofs.Building.{added_app, added_local}
+use Rattle.command_line.proofs.command_line.one.Goals as goal
 
 pub returns-clause-app : goal.returns-clause-app
 returns-clause-app c =

@@ -5,14 +5,14 @@ use Rattle.clap.specs.Faults.{fault_of}
 use Rattle.clap.specs.Kinds.{HasKind, IsAmong, Kinds}
 use Rattle.clap.specs.declared.error.Error.{Error}
 use Rattle.clap.specs.declared.error.kind.ErrorKind.TheVariants.{OutOfMemory}
-use Rattle.replay.specs.declared.show.Show.{Show}
-use Rattle.replay.specs.declared.show.Show.TheVariants.{Routes, Due, Lsdb, Journal}
-use Rattle.abr_cli.specs.Command.{HasOne, HasDecode, HasReplay, HasReplayWords, HasWords, IsFit, IsJob, IsMistake, IsOne, IsDecode, IsReplay, OneTexts, WritesWorkers, program, show_name, texts_of}
-use Rattle.abr_cli.specs.declared.command.Job.{Job}
-use Rattle.abr_cli.specs.declared.command.Job.TheVariants.{One, Decode, Replay}
-use Rattle.abr_cli.specs.declared.command.Usage.{Usage}
-use Rattle.abr_cli.specs.declared.command.Usage.TheVariants.{Told, Memory}
-use Rattle.abr_cli.proofs.Matches.{decode_is_no_replay, first_differs, one_given, one_is_no_decode, one_is_no_replay}
+use Rattle.recording.specs.declared.show.Show.{Show}
+use Rattle.recording.specs.declared.show.Show.TheVariants.{Routes, Due, Lsdb, Journal}
+use Rattle.command_line.specs.Command.{HasOne, HasDecode, HasReplay, HasReplayWords, HasWords, IsFit, IsJob, IsMistake, IsOne, IsDecode, IsReplay, OneTexts, WritesWorkers, program, show_name, texts_of}
+use Rattle.command_line.specs.declared.command.Job.{Job}
+use Rattle.command_line.specs.declared.command.Job.TheVariants.{One, Decode, Replay}
+use Rattle.command_line.specs.declared.command.Usage.{Usage}
+use Rattle.command_line.specs.declared.command.Usage.TheVariants.{Told, Memory}
+use Rattle.command_line.proofs.Matches.{decode_is_no_replay, first_differs, one_given, one_is_no_decode, one_is_no_replay}
 
 -- one command was met, with its rows
 one_met : (s : Option (Text × List Row)) (a b : Text) (x y : List Row) → s ≡ Some (a, x) → s ≡ Some (b, y) → (a ≡ b) × (x ≡ y)

@@ -6,13 +6,13 @@ use Rattle.clap.specs.Words.{App, Row, Rule, Text, IsAmong, fault_of, first_of, 
 use Rattle.clap.specs.Lexer.{strip_byte}
 use Rattle.clap.specs.declared.builder.value_parser.ValueParser.TheVariants.{Names, Unsigned}
 use Rattle.clap.specs.declared.error.kind.ErrorKind.TheVariants.{MissingRequiredArgument}
-use Rattle.replay.specs.declared.show.Show.{Show}
-use Rattle.replay.specs.declared.show.Show.TheVariants.{Routes, Due, Lsdb, Journal}
-use Rattle.abr_cli.specs.declared.command.OneWords.{OneWords}
-use Rattle.abr_cli.specs.declared.command.Job.{Job}
-use Rattle.abr_cli.specs.declared.command.Job.TheVariants.{One, Decode, Replay}
-use Rattle.abr_cli.specs.declared.command.Usage.{Usage}
-use Rattle.abr_cli.specs.declared.command.Usage.TheVariants.{Told, Memory}
+use Rattle.recording.specs.declared.show.Show.{Show}
+use Rattle.recording.specs.declared.show.Show.TheVariants.{Routes, Due, Lsdb, Journal}
+use Rattle.command_line.specs.declared.command.OneWords.{OneWords}
+use Rattle.command_line.specs.declared.command.Job.{Job}
+use Rattle.command_line.specs.declared.command.Job.TheVariants.{One, Decode, Replay}
+use Rattle.command_line.specs.declared.command.Usage.{Usage}
+use Rattle.command_line.specs.declared.command.Usage.TheVariants.{Told, Memory}
 
 -- a word that has to be there
 abbrev pub required_word : Text → Rule

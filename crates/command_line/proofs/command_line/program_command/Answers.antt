@@ -2,7 +2,7 @@ use Rattle.std.proofs.Common.{◌≡◌, ◌∙◌, ap, ap₂, codes, true}
 use Rattle.std.proofs.lemmas.Result.{IfOk-weaker}
 use Rattle.clap.specs.Words.{App, app_of, new_app, with_subcommand}
 use Rattle.clap.specs.Simple.{Shape, app_of_fields, on_top}
-use Rattle.abr_cli.proofs.command_line.program_command.Goals as goal
+use Rattle.command_line.proofs.command_line.program_command.Goals as goal
 
 pub returns : goal.returns
 returns c =

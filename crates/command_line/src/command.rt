@@ -2,7 +2,7 @@
 ghost use Rattle.std.specs.Prelude.{◌≡◌};
 
 use clap::Error;
-use replay::Show;
+use recording::Show;
 use std::alloc::AllocError;
 
 /// The words of `abr one`, as they were given.
@@ -42,7 +42,7 @@ pub enum Usage {
 }
 
 impl From<AllocError> for Usage {
-    ghost use Rattle.abr_cli.specs.declared.command.Usage.TheVariants.{Memory};
+    ghost use Rattle.command_line.specs.declared.command.Usage.TheVariants.{Memory};
 
     ghost from_gives = { λ _ u. u ≡ Memory };
 

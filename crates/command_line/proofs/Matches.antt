@@ -10,10 +10,10 @@ use Rattle.clap.specs.declared.parser.matches.Found.{Found}
 use Rattle.clap.specs.declared.parser.matches.SubCommand.{SubCommand}
 use Rattle.clap.specs.declared.parser.matches.ArgMatches.TheViews.{out-SubCommand}
 use Rattle.clap.proofs.WalkLemmas.{first_value-rows}
-use Rattle.replay.specs.declared.show.Show.{Show}
-use Rattle.abr_cli.specs.Command.{OneTexts, HasJob, HasReplayWords, HasWords, IsJob, IsReplayOf}
-use Rattle.abr_cli.specs.declared.command.Job.{Job}
-use Rattle.abr_cli.specs.declared.command.Job.TheVariants.{One, Decode, Replay}
+use Rattle.recording.specs.declared.show.Show.{Show}
+use Rattle.command_line.specs.Command.{OneTexts, HasJob, HasReplayWords, HasWords, IsJob, IsReplayOf}
+use Rattle.command_line.specs.declared.command.Job.{Job}
+use Rattle.command_line.specs.declared.command.Job.TheVariants.{One, Decode, Replay}
 
 pub same_text : (xs ys : List ℕ) → bytes_eq xs ys ≡ true → xs ≡ ys
 same_text xs ys e = (bytes_eq-Decides xs ys).0 e

@@ -1,7 +1,7 @@
 use Rattle.std.proofs.Common.{codes}
 use Rattle.clap.specs.Words.{found_of}
-use Rattle.abr_cli.proofs.Matches.{no_word, word_given}
-use Rattle.abr_cli.proofs.command_line.one_words.Goals as goal
+use Rattle.command_line.proofs.Matches.{no_word, word_given}
+use Rattle.command_line.proofs.command_line.one_words.Goals as goal
 
 pub returns-in_err-get_str-clause-none : goal.returns-in_err-get_str-clause-none
 returns-in_err-get_str-clause-none c none t h = no_word (found_of c.args.matches.now) (codes "ROUTER") c.get_str.result _ c.get_str.ensures c.in_err-get_str.was h.0

@@ -15,8 +15,8 @@ use Rattle.clap.specs.declared.parser.matches.ArgMatches.{ArgMatches}
 use Rattle.clap.specs.declared.error.Error.{Error}
 use Rattle.clap.specs.declared.error.kind.ErrorKind.TheVariants.{InvalidValue}
 use Rattle.clap.proofs.OnLiterals.{clap_on_literals}
-use Rattle.abr_cli.proofs.Parsers.{below, entered_fault_same, entered_same}
-use Rattle.abr_cli.specs.Command.{AreShowNames, IsProgram, References, program, program_with, reference}
+use Rattle.command_line.proofs.Parsers.{below, entered_fault_same, entered_same}
+use Rattle.command_line.specs.Command.{AreShowNames, IsProgram, References, program, program_with, reference}
 
 -- the parser with other references to its names
 abbrev moved : ValueParser → ValueParser

@@ -1,8 +1,8 @@
 use Rattle.std.proofs.Common.{◌≡◌, ◌∙◌, Some, codes, sym, ap, refl}
 use Rattle.std.proofs.lemmas.Option.{IfSome_then}
 use Rattle.clap.specs.Words.{found_of, rows_of, subcommand_rows_of}
-use Rattle.abr_cli.proofs.Matches.{no_job, one_is_no_decode, one_is_no_replay, decode_is_no_replay, no_word, word_given, met_is, replay_met, same_text, name_in_rows}
-use Rattle.abr_cli.proofs.command_line.job_in.Goals as goal
+use Rattle.command_line.proofs.Matches.{no_job, one_is_no_decode, one_is_no_replay, decode_is_no_replay, no_word, word_given, met_is, replay_met, same_text, name_in_rows}
+use Rattle.command_line.proofs.command_line.job_in.Goals as goal
 
 pub returns-in_err-one_words-clause-none : goal.returns-in_err-one_words-clause-none
 returns-in_err-one_words-clause-none c none =

@@ -1,11 +1,11 @@
 use Rattle.std.proofs.Common.{◌∙◌, sym, ap, map, subst, inl, inr, refl}
 use Rattle.clap.specs.Words.{subcommand_of}
-use Rattle.replay.specs.declared.show.Show.TheVariants.{Routes}
-use Rattle.abr_cli.specs.Command.{HasOne, HasDecode, HasReplay, HasJob, IsJob, program}
-use Rattle.abr_cli.proofs.Jobs.{job_is_one, job_is_decode, job_is_fit, job_is_replay, mistake_is, only_memory}
-use Rattle.abr_cli.proofs.Line.{one_has, one_faultless, decode_has, decode_faultless, replay_has, replay_faultless, show_has, show_faultless, workers_has, workers_faultless}
-use Rattle.abr_cli.proofs.Names.{met_as_given, fails_as_given}
-use Rattle.abr_cli.proofs.command_line.job.Goals as goal
+use Rattle.recording.specs.declared.show.Show.TheVariants.{Routes}
+use Rattle.command_line.specs.Command.{HasOne, HasDecode, HasReplay, HasJob, IsJob, program}
+use Rattle.command_line.proofs.Jobs.{job_is_one, job_is_decode, job_is_fit, job_is_replay, mistake_is, only_memory}
+use Rattle.command_line.proofs.Line.{one_has, one_faultless, decode_has, decode_faultless, replay_has, replay_faultless, show_has, show_faultless, workers_has, workers_faultless}
+use Rattle.command_line.proofs.Names.{met_as_given, fails_as_given}
+use Rattle.command_line.proofs.command_line.job.Goals as goal
 
 pub returns-in-Some-clause-job : goal.returns-in-Some-clause-job
 returns-in-Some-clause-job c =
