@@ -1,7 +1,7 @@
 -- What a replay over several workers writes.
 use Rattle.std.specs.Prelude.{ℕ, List, Option}
 use Rattle.std.specs.Io.KnownBytes.{Appends, Consumes}
-use Rattle.event_core.specs.Cores.{CoreValue}
+use Rattle.engine.specs.Cores.{CoreValue}
 use Rattle.recording.specs.Recordings.{RecordingValue, IsText}
 use Rattle.recording.specs.declared.show.Show.{Show}
 use Rattle.replay.specs.Outputs.{IsShown, IsBeginning}

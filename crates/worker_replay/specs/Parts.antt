@@ -6,8 +6,8 @@ use Rattle.event_state.specs.declared.event.Event.{Event}
 use Rattle.event_state.specs.declared.refusal.Refusal.{Refusal}
 use Rattle.route_table.specs.declared.table.Match.{Match}
 use Rattle.route_table.specs.Tables.{TableValue, IsMatch}
-use Rattle.event_core.specs.declared.reply.Reply.{Reply}
-use Rattle.event_core.specs.Cores.{CoreValue}
+use Rattle.engine.specs.Reply.{Reply}
+use Rattle.engine.specs.Cores.{CoreValue}
 use Rattle.publication.specs.Forwarders.{Looker}
 use Rattle.publication.specs.Names.{Name}
 use Rattle.publication.specs.Published.{IsTableFor}

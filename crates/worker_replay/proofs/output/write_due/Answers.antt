@@ -1,6 +1,6 @@
 use Rattle.std.proofs.Common.{ℕ, List, ◌++◌, ap, refl, string_bytes}
 use Rattle.std.specs.List.{flat_map}
-use Rattle.event_core.specs.Due.{Due}
+use Rattle.engine.specs.Due.{Due}
 use Rattle.replay.specs.Lines.{serial_line, area_lines}
 use Rattle.recording.specs.declared.show.Show.TheVariants as show
 use Rattle.replay.proofs.Written.{on_err}
