@@ -287,9 +287,6 @@ fn are_same(a: Option<&Item>, b: Option<&Item>) -> bool
 fn networks_of(alloc: Global, items: &[(Prefix, Option<Item>)]) -> Result<Vec<Prefix>, Memory>
     ensures { IfOk result (λ networks. networks.items ≡ keys_of items.now) }
 {
-    let mut networks = Vec::with_capacity(alloc, items.len())?;
-    for (network, _) in items {
-        networks.push(*network)?;
-    }
+    let networks = items.iter().map(|item| item.0).collect(alloc)?;
     Ok(networks)
 }
