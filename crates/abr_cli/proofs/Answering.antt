@@ -10,7 +10,7 @@ use Rattle.route_table.specs.Tables.{TableValue}
 use Rattle.route_table.specs.Texts.{match_text}
 use Rattle.abr_cli.specs.declared.command_fault.CommandFault.{CommandFault}
 use Rattle.abr_cli.specs.declared.command_fault.CommandFault.TheVariants as fault
-use Rattle.abr_cli.specs.Command.{OneTexts}
+use Rattle.command_line.specs.Command.{OneTexts}
 use Rattle.abr_cli.specs.Words.{WritesLsa}
 use Rattle.abr_cli.specs.Answers.{AnswerValue, IsAnswer, faulty}
 use Rattle.abr_cli.specs.One.{Given, Say, Prints, Answer, IsEngineFault, IsFault, lookup_line}

@@ -6,7 +6,7 @@ use Rattle.recording.specs.declared.fault.LineFault.{LineFault}
 use Rattle.recording.specs.Faults.{IsFaultOf}
 use Rattle.replay.specs.declared.fault.ReplayFault.{ReplayFault}
 use Rattle.replay.specs.declared.fault.ReplayFault.TheVariants.{Read, Write, Memory, Line}
-use Rattle.replay.specs.declared.show.Show.{Show}
+use Rattle.recording.specs.declared.show.Show.{Show}
 use Rattle.worker_replay.specs.declared.fault.ManyFault.{ManyFault}
 use Rattle.worker_replay.specs.declared.fault.ManyFault.TheVariants.{Replay, Spawn, Place, NoEntry}
 use Rattle.worker_replay.specs.Outputs as many

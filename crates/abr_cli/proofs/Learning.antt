@@ -7,8 +7,8 @@ use Rattle.event_state.specs.declared.event.Event.{Event}
 use Rattle.event_state.specs.Refusals.{IsRefusalOf}
 use Rattle.event_state.specs.States.{State}
 use Rattle.event_state.specs.Steps.{refusal_of}
-use Rattle.event_core.specs.Configs.{config_fault_of}
-use Rattle.event_core.specs.declared.fault.ConfigFault.{ConfigFault}
+use Rattle.config_faults.specs.Configs.{config_fault_of}
+use Rattle.config_faults.specs.declared.fault.ConfigFault.{ConfigFault}
 use Rattle.engine.specs.Answers.{Answers, Refusals, after}
 use Rattle.engine.specs.declared.answer.Answer.{Answer}
 use Rattle.engine.specs.declared.answer.Refused.{Refused}

@@ -1,9 +1,3 @@
-pub mod Building
-pub mod Matches
-pub mod Parsers
-pub mod Names
-pub mod Line
-pub mod Jobs
 pub mod Answering
 pub mod Learning
 pub mod Decoding

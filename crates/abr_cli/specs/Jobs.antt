@@ -1,9 +1,9 @@
 -- What the program wrote, whatever its words were.
 use Rattle.std.specs.Prelude.{ℕ, ◌≡◌, List, Option, Result, Ok, Err}
-use Rattle.abr_cli.specs.declared.command.Job.{Job}
-use Rattle.abr_cli.specs.declared.command.Job.TheVariants as job
-use Rattle.abr_cli.specs.declared.command.Usage.{Usage}
-use Rattle.abr_cli.specs.Command.{texts_of}
+use Rattle.command_line.specs.declared.command.Job.{Job}
+use Rattle.command_line.specs.declared.command.Job.TheVariants as job
+use Rattle.command_line.specs.declared.command.Usage.{Usage}
+use Rattle.command_line.specs.Command.{texts_of}
 use Rattle.abr_cli.specs.Answers.{Tells}
 use Rattle.abr_cli.specs.One.{IsOneAnswer}
 use Rattle.abr_cli.specs.Decode.{IsDecodeAnswer}

@@ -1,4 +1,3 @@
-pub mod Command
 pub mod Words
 pub mod Faults
 pub mod Answers

@@ -9,11 +9,11 @@ use Rattle.event_state.specs.declared.event.Event.{Event}
 use Rattle.event_state.specs.declared.event.Event.TheVariants as event
 use Rattle.route_table.specs.declared.table.Match.{Match}
 use Rattle.event_state.specs.declared.refusal.Refusal.{Refusal}
-use Rattle.event_core.specs.Configs.{config_fault_of}
-use Rattle.event_core.specs.Cores.{IsFaultOf}
+use Rattle.config_faults.specs.Configs.{config_fault_of}
+use Rattle.engine.specs.Cores.{IsFaultOf}
 use Rattle.event_state.specs.Steps.{standard_limits}
 use Rattle.event_state.specs.Refusals.{IsRefusalOf}
-use Rattle.event_core.specs.Right.{IsRight}
+use Rattle.engine.specs.Right.{IsRight}
 use Rattle.event_state.specs.States.{State}
 use Rattle.event_state.specs.Steps.{run_of, refusal_of, IsLegalList}
 use Rattle.route_table.specs.Tables.{TableValue, IsMatch}
@@ -23,7 +23,7 @@ use Rattle.publication.specs.Published.{IsTableFor}
 use Rattle.abr_cli.specs.declared.words.OneInput.{OneInput}
 use Rattle.abr_cli.specs.declared.command_fault.CommandFault.{CommandFault}
 use Rattle.abr_cli.specs.declared.command_fault.CommandFault.TheVariants as fault
-use Rattle.abr_cli.specs.Command.{OneTexts}
+use Rattle.command_line.specs.Command.{OneTexts}
 use Rattle.abr_cli.specs.Words.{Writes, WritesLsa, HasWireFault, IsFirstFault, AreRead}
 use Rattle.abr_cli.specs.Answers.{AnswerValue, IsAnswer}
 

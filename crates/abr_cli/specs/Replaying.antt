@@ -4,7 +4,7 @@ use Rattle.std.specs.Borrow.{Bor}
 use Rattle.std.specs.Io.KnownBytes.{Consumes}
 use Rattle.recording.specs.Faults.{IsFaultOf}
 use Rattle.replay.specs.declared.fault.ReplayFault.TheVariants.{Read, Write, Memory, Line}
-use Rattle.replay.specs.declared.show.Show.{Show}
+use Rattle.recording.specs.declared.show.Show.{Show}
 use Rattle.replay.specs.Outputs as one
 use Rattle.worker_replay.specs.declared.fault.ManyFault.{ManyFault}
 use Rattle.worker_replay.specs.declared.fault.ManyFault.TheVariants.{Replay, Spawn, Place, NoEntry}

@@ -4,8 +4,8 @@ use Rattle.clap.specs.Words.{kind_of}
 use Rattle.clap.specs.declared.error.Error.{Error}
 use Rattle.clap.specs.declared.error.kind.ErrorKind.{ErrorKind}
 use Rattle.clap.specs.declared.error.kind.ErrorKind.TheVariants.{DisplayHelp, DisplayVersion}
-use Rattle.abr_cli.specs.declared.command.Usage.{Usage}
-use Rattle.abr_cli.specs.declared.command.Usage.TheVariants.{Told, Memory}
+use Rattle.command_line.specs.declared.command.Usage.{Usage}
+use Rattle.command_line.specs.declared.command.Usage.TheVariants.{Told, Memory}
 use Rattle.abr_cli.specs.declared.command_fault.CommandFault.TheVariants as fault
 use Rattle.abr_cli.specs.Answers.{AnswerValue, printed, faulty}
 

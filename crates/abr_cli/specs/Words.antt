@@ -10,7 +10,7 @@ use Rattle.lsa_codec.specs.declared.fault.WireFault.{WireFault}
 use Rattle.lsa_codec.specs.declared.fault.WireFault.TheVariants as wire
 use Rattle.abr_cli.specs.declared.words.WordFault.{WordFault}
 use Rattle.abr_cli.specs.declared.words.WordFault.TheVariants.{NotAnAddress, NotHexadecimal, Memory}
-use Rattle.abr_cli.specs.Command.{OneTexts}
+use Rattle.command_line.specs.Command.{OneTexts}
 
 -- the word writes this address
 pub record Writes (word : List ℕ) (address : ℕ) : Type 0 where

@@ -2,7 +2,7 @@ ghost use Rattle.std.specs.Prelude.{◌≡◌, Some};
 ghost use Rattle.abr_cli.specs.Faults.{command_fault_text, status_of};
 
 use crate::words::WordFault;
-use event_core::{ConfigFault, Refusal};
+use engine::{ConfigFault, Refusal};
 use lsa_codec::WireFault;
 use ospf_types::memory::Memory;
 use recording::LineFault;

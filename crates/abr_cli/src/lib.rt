@@ -3,9 +3,7 @@
 #![tactic(auto)]
 
 mod answer;
-mod command;
 mod command_fault;
-mod command_line;
 mod decode_lsa;
 mod one_lookup;
 mod replaying;
@@ -15,12 +13,12 @@ mod usage;
 mod words;
 
 pub use answer::Answer;
-pub use command::{Job, OneWords, Usage};
 pub use command_fault::CommandFault;
-pub use command_line::job;
+pub use command_line::{Job, OneWords, Usage, job};
 pub use decode_lsa::{answer_decode, decode};
 pub use one_lookup::{answer_one, one};
-pub use replay::{ReplayFault, Show, replay_one};
+pub use recording::Show;
+pub use replay::{ReplayFault, replay_one};
 pub use replaying::replay;
 pub use running::run;
 pub use telling::tell;

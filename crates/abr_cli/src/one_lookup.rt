@@ -1,19 +1,18 @@
 //! The command `one`.
 ghost use Rattle.std.specs.Prelude.{◌≡◌, ◌⊎◌, ◌<◌, ◌++◌, [], ◌∷◌, length, None, IfOk, IfErr, string_bytes};
 ghost use Rattle.event_state.specs.Steps.{refusal_of};
-ghost use Rattle.event_core.specs.Configs.{config_fault_of};
+ghost use Rattle.config_faults.specs.Configs.{config_fault_of};
 ghost use Rattle.engine.specs.Answers.{after};
 ghost use Rattle.abr_cli.specs.Answers.{Tells, value_of};
-ghost use Rattle.abr_cli.specs.Command.{texts_of};
+ghost use Rattle.command_line.specs.Command.{texts_of};
 ghost use Rattle.abr_cli.specs.One.{Answer as HasLine, HasLearned, IsFault, IsEngineFault, IsOpenFault, IsStepFault, IsOneAnswer, Prints, PrintsSeen, Say, both_events, config_of, given_by, one_area};
 
 use crate::answer::{Answer, answer_fault};
-use crate::command::OneWords;
 use crate::command_fault::CommandFault;
 use crate::telling::tell;
 use crate::words::{OneInput, read_one};
-use engine::{Answer as Taken, Engine, Forwarder, OpenFault, Refused, Seen, Told};
-use event_core::Event;
+use command_line::OneWords;
+use engine::{Answer as Taken, Engine, Event, Forwarder, OpenFault, Refused, Seen, Told};
 use lsa_codec::Checked;
 use ospf_types::address::Address;
 use ospf_types::config::{AreaConfig, Areas, Config, Ranges};

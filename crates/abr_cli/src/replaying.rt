@@ -2,7 +2,7 @@
 ghost use Rattle.std.specs.Prelude.{◌≡◌, ◌⊎◌};
 ghost use Rattle.abr_cli.specs.Faults.{command_fault_text, fault_line, status_of};
 ghost use Rattle.abr_cli.specs.Answers.{IsSaid};
-ghost use Rattle.abr_cli.specs.Command.{AreWorkers};
+ghost use Rattle.command_line.specs.Command.{AreWorkers};
 ghost use Rattle.abr_cli.specs.Replaying.{fault_from as from_replay, EndsBy, IsEndSaid, IsReplayTold};
 
 use crate::answer::line_of;

@@ -1,14 +1,14 @@
 //! What the program does with its words.
 ghost use Rattle.std.specs.Prelude.{IfOk};
-ghost use Rattle.abr_cli.specs.Command.{IsFit};
+ghost use Rattle.command_line.specs.Command.{IsFit};
 ghost use Rattle.abr_cli.specs.Jobs.{IsDone, IsJobTold};
 
-use crate::command::{Job, Usage};
 use crate::decode_lsa::decode;
 use crate::one_lookup::one;
 use crate::replaying::replay;
 use crate::telling::tell;
 use crate::usage::answer_usage;
+use command_line::{Job, Usage};
 use std::alloc::Global;
 use std::hash::RandomState;
 use std::io;

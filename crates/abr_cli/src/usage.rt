@@ -4,8 +4,8 @@ ghost use Rattle.abr_cli.specs.Usage.{IsErrorAnswer, IsUsageAnswer};
 ghost use Rattle.std.specs.Prelude.{◌≡◌, ◌⊎◌};
 
 use crate::answer::Answer;
-use crate::command::Usage;
 use clap::Error;
+use command_line::Usage;
 use std::alloc::Global;
 
 /// The text of help or of a mistake, with status 0 or 2.

@@ -1,10 +1,10 @@
 //! The words of a command, read.
 ghost use Rattle.std.specs.Prelude.{◌≡◌, ◌≢◌, Ok, Some, IfOk, IfErr, OnErr, IsErrOf};
 ghost use Rattle.hex.specs.Hex.{decode_of};
-ghost use Rattle.abr_cli.specs.Command.{texts_of};
+ghost use Rattle.command_line.specs.Command.{texts_of};
 ghost use Rattle.abr_cli.specs.Words.{IsAddress, IsHexadecimal, IsFirstFault, Writes, fault_text};
 
-use crate::command::OneWords;
+use command_line::OneWords;
 use hex::FromHexError;
 use ospf_types::address::Address;
 use std::alloc::Global;

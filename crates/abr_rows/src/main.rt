@@ -1,9 +1,18 @@
-//! Runs the commands of `abr` on the rows of `data/`, and prints which differ from what is wanted.
+//! Runs the commands of `abr` on the rows of `data/`, and prints which differ from what is wanted. Its tests have what no row
+//! can say: recordings read and printed, and replays and commands over readers and writers that fail.
 #![tactic(auto)]
 
+#[cfg(test)]
+mod commands;
 mod input;
+#[cfg(test)]
+mod recordings;
+#[cfg(test)]
+mod replays;
 mod row;
 mod trial;
+#[cfg(test)]
+mod workers;
 
 use row::read_rows;
 use std::alloc::{AllocError, Global};

@@ -8,7 +8,6 @@ pub mod Turns
 pub mod Follows
 pub mod InputsAre
 pub mod Networks
-pub mod Stable
 pub mod Activity
 pub mod Staying
 pub mod Examining

@@ -24,7 +24,7 @@ use Rattle.external.specs.Externals.{ExternalValue}
 use Rattle.external.specs.Preferred.{PreferredValue}
 use Rattle.external.specs.contracts.preferred.Preferred as preferred_row
 use Rattle.calculation.proofs.Activity.{active_or_not}
-use Rattle.calculation.proofs.Stable.{same_value}
+use Rattle.ospf_types.proofs.Stable.{same_value}
 
 entry_code : Coded (Option Entry)
 entry_code = Prim.hlevel (codes, entry_row.the_row.coded)

@@ -2,3 +2,7 @@ pub mod Calculations
 pub mod Totals
 pub mod Due
 pub mod Followed
+pub use Rattle.intra.specs.Intras
+pub use Rattle.inter.specs.Right as InterRight
+pub use Rattle.external.specs.Externals
+pub use Rattle.summaries.specs.Active

@@ -175,12 +175,13 @@ install as 0e0f0205644000000a0000028000000126b40024ffc00000000000070000000000000
 install as 000102050a0200000a0000028000000190a50024ffff0000000000050000000000000000\n\
 install as 0e1002050a0200000a0000028000000190a50024ffff0000000000050000000000000000\n";
 
-// Whether the answer fits what the table then has: the old routes after a refusal and where it is behind, else the new.
+// Whether the answer fits what the table then has: the old routes after a refusal and where it is behind, else the new,
+// with nothing built anew.
 fn fits(core: &Core, answer: Result<Reply, Refusal>, is_old: bool, is_new: bool) -> bool {
     match answer {
         Err(refusal) => refusal == Refusal::Memory && is_old && core.journal().len() == 9,
         Ok(reply) if reply.state == Standing::Behind => is_old && core.built() == 9,
-        Ok(_) => is_new,
+        Ok(_) => is_new && core.builds() == 1,
     }
 }
 

@@ -14,7 +14,7 @@ use Rattle.ospf_types.specs.declared.config.AreaConfig.{AreaConfig}
 use Rattle.ospf_types.specs.declared.key.Dest.{Dest}
 use Rattle.ospf_types.proofs.Elements.{no_element, first_element, later_element, mapped_from}
 use Rattle.ospf_types.proofs.Orders.{dest_total, dest_exact}
-use Rattle.external.proofs.Renewed.{listed_or_not}
+use Rattle.result_map.proofs.KeyedMaps.{listed_or_not}
 use Rattle.dues.specs.declared.due.Due.{Due}
 use Rattle.dues.specs.declared.plan.AreaPlan.{AreaPlan}
 use Rattle.dues.specs.declared.plan.AreaPlan.TheVariants.{Put, Whole}

@@ -5,7 +5,7 @@ use Rattle.ospf_types.specs.declared.config.Config.{Config}
 use Rattle.ospf_types.specs.Inputs.{Area}
 use Rattle.ospf_types.specs.declared.key.Scope.TheVariants as scope
 use Rattle.ospf_types.proofs.Elements.{mapped_element, mapped_from}
-use Rattle.dues.specs.declared.due.Due.{Due}
+use Rattle.event_core.specs.Due.{Due}
 use Rattle.event_state.specs.declared.limits.Limits.{Limits}
 use Rattle.event_state.specs.States.{State, lsas_of, database_of}
 use Rattle.event_state.specs.Steps.{opening, run_of, standard_limits}

@@ -7,8 +7,8 @@ use Rattle.ospf_types.specs.Inputs.{Inputs}
 use Rattle.ospf_types.specs.Network.{Network, network_cmp}
 use Rattle.ospf_types.proofs.Elements.{mapped_element, mapped_from}
 use Rattle.ospf_types.proofs.Orders.{network_total, network_exact}
-use Rattle.external.proofs.Renewed.{listed_or_not}
-use Rattle.calculation.proofs.Stable.{same_value}
+use Rattle.result_map.proofs.KeyedMaps.{listed_or_not}
+use Rattle.ospf_types.proofs.Stable.{same_value}
 use Rattle.route_table.specs.declared.table.Item.{Item}
 use Rattle.route_table.specs.declared.table.Item.TheVariants as item
 use Rattle.route_table.specs.contracts.table.Item as item_contract

@@ -4,3 +4,9 @@ pub mod Desks
 pub mod Rooms
 pub mod Opens
 pub mod Texts
+pub use Rattle.event_core.specs.Cores
+pub use Rattle.event_core.specs.Right
+pub use Rattle.event_core.specs.Listings
+pub use Rattle.event_core.specs.Due
+pub use Rattle.event_core.specs.declared.reply.Reply
+pub use Rattle.event_core.specs.declared.reply.Standing

@@ -1,7 +1,7 @@
 -- The faults of opening an engine.
 use Rattle.std.specs.Prelude.{ℕ, ◌≡◌, ◌≤◌, ◌<◌, ◌⊎◌, Some, None}
 use Rattle.ospf_types.specs.declared.config.Config.{Config}
-use Rattle.event_core.specs.declared.fault.ConfigFault.TheVariants.{Memory}
+use Rattle.event_core.specs.ConfigFault.TheVariants.{Memory}
 use Rattle.event_core.specs.Configs.{config_fault_of}
 use Rattle.engine.specs.declared.open_fault.OpenFault.{OpenFault}
 use Rattle.engine.specs.declared.open_fault.OpenFault.TheVariants as opens

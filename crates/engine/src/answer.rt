@@ -1,6 +1,5 @@
 //! What an engine answers.
-use dues::Due;
-use event_core::{Refusal, Reply};
+use event_core::{Due, Refusal, Reply};
 use lsa_codec::WireFault;
 use publication::Told;
 

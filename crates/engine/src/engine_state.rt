@@ -6,7 +6,7 @@ ghost use Rattle.publication.specs.Published.{IsLegal};
 ghost use Rattle.engine.specs.Answers.{IsAnswered, Dues, HasArea};
 ghost use Rattle.engine.specs.Opens.{AreReaders, IsOpenFaultOf};
 ghost use Rattle.engine.specs.declared.open_fault.OpenFault.TheVariants as open_value;
-ghost use Rattle.event_core.specs.declared.fault.ConfigFault.TheVariants as fault;
+ghost use Rattle.event_core.specs.ConfigFault.TheVariants as fault;
 ghost use Rattle.event_state.specs.declared.refusal.Refusal.TheVariants.{Memory as NoMemory, NoArea};
 
 use crate::answer::{Answer, DueList, Refused};

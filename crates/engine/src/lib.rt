@@ -13,6 +13,7 @@ mod workers;
 
 pub use answer::{Answer, BytesFault, DueList, Refused};
 pub use engine_state::Engine;
+pub use event_core::{ConfigFault, Core, Due, Event, Refusal, Reply, Standing};
 pub use gate::{Gate, Open};
 pub use open_fault::OpenFault;
 pub use publication::{Forwarder, Seen, Told};

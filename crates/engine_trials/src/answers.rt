@@ -2,8 +2,10 @@
 
 use crate::trial::{BACKBONE, BORDER, OWN, ROOT, SUMMARY, is_told, opened, taken};
 use core_trials::events_of;
-use engine::{Answer, BytesFault, DueList, Engine, Open, OpenFault, Refused};
-use event_core::{ConfigFault, Due, Refusal, Standing};
+use engine::{
+    Answer, BytesFault, ConfigFault, Due, DueList, Engine, Open, OpenFault, Refusal, Refused,
+    Standing,
+};
 use ospf_types::config::{Areas, Config};
 use ospf_types::key::Dest;
 use ospf_types::prefix::Prefix;

@@ -1,8 +1,7 @@
 //! Gates: that lists run side by side, and that neither a look nor the reading of bytes waits for the lock.
 
 use crate::trial::{BACKBONE, ROOT, SUMMARY, install_of, look, opened, taken};
-use engine::{BytesFault, Engine, Forwarder, Gate, Open};
-use event_core::{Event, Refusal};
+use engine::{BytesFault, Engine, Event, Forwarder, Gate, Open, Refusal};
 use lsa_codec::WireFault;
 use std::alloc::Global;
 use std::sync::Wait;

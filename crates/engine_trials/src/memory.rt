@@ -2,8 +2,7 @@
 
 use crate::trial::{BACKBONE, BORDER, SUMMARY, look, taken};
 use core_trials::events_of;
-use engine::{Engine, Forwarder};
-use event_core::{Event, Refusal, Standing};
+use engine::{Engine, Event, Forwarder, Refusal, Standing};
 use lsa_codec::read;
 use ospf_types::key::Key;
 use std::hash::RandomState;

@@ -2,8 +2,7 @@
 ghost use Rattle.std.specs.Prelude.{◌≡◌, IfOk, IfSome};
 
 use core_trials::events_of;
-use engine::{Engine, Forwarder, Told};
-use event_core::Event;
+use engine::{Engine, Event, Forwarder, Told};
 use lsa_codec::{read, sum_of};
 use ospf_types::key::Scope;
 use std::alloc::Global;

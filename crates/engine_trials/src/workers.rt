@@ -3,8 +3,7 @@ ghost use Rattle.std.specs.Prelude.{◌≡◌, IfSome};
 
 use crate::trial::{BORDER, ROOT, install_of, look, opened, published, taken};
 use core_trials::items;
-use engine::{Engine, Forwarder, Told};
-use event_core::Core;
+use engine::{Core, Engine, Forwarder, Told};
 use ospf_types::memory::Memory;
 use std::alloc::Global;
 use std::hash::RandomState;

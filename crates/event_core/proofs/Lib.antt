@@ -1,8 +1,6 @@
 pub mod Configs
 pub mod Listings
 pub mod Runs
-pub mod Intervals
-pub mod Neighbours
 pub mod Naming
 pub mod Followed
 pub mod RoutesRight

@@ -22,12 +22,12 @@ use Rattle.ospf_types.proofs.OneBest.{same_key, same_items}
 use Rattle.ospf_types.proofs.Orders.{area_cost_total, area_cost_exact, external_total, external_exact, path_total, path_exact}
 use Rattle.route_table.specs.declared.table.Item.{Item}
 use Rattle.route_table.specs.declared.table.Item.TheVariants.{Route, Discard}
-use Rattle.intra.specs.Intras.{IsEntryFor as IsIntraEntry}
-use Rattle.inter.specs.Right.{IsEntryOf as IsInterEntry}
-use Rattle.external.specs.Externals.{IsEntryFor as IsExternalEntry}
+use Rattle.calculation.specs.Intras.{IsEntryFor as IsIntraEntry}
+use Rattle.calculation.specs.InterRight.{IsEntryOf as IsInterEntry}
+use Rattle.calculation.specs.Externals.{IsEntryFor as IsExternalEntry}
 use Rattle.event_state.specs.States.{State, inputs_of}
 use Rattle.calculation.specs.Calculations.{CalculationValue, IsCalculationOf, IsItem, IsItemOf, entry_else, entry_at}
-use Rattle.summaries.specs.Active.{IsActiveIn}
+use Rattle.calculation.specs.Active.{IsActiveIn}
 use Rattle.event_core.specs.Following.{RoutesValue, AreRoutesOf}
 use Rattle.event_core.specs.Right.{IsRight}
 

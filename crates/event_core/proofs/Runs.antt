@@ -21,7 +21,7 @@ use Rattle.event_core.specs.declared.reply.Standing.{Standing}
 use Rattle.event_core.specs.declared.reply.Standing.TheVariants.{Current, Behind}
 use Rattle.event_core.specs.Cores.{CoreValue, IsCore, IsTaken, Stands, HasBoundedWork, NamesChanges, state_of}
 use Rattle.event_core.specs.Kept.{core_of, IsCoherent}
-use Rattle.event_core.specs.Configs.{config_fault_of}
+use Rattle.config_faults.specs.Configs.{config_fault_of}
 use Rattle.ospf_types.specs.declared.memory.Memory.{Memory}
 use Rattle.calculation.specs.Totals.{IsBuildWork, IsEventWork}
 use Rattle.event_core.specs.Following.{RoutesValue, AreRoutesOf, AreChanges, no_work}

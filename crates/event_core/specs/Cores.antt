@@ -6,10 +6,10 @@ use Rattle.event_core.specs.declared.reply.Reply.{Reply}
 use Rattle.event_core.specs.declared.reply.Standing.{Standing}
 use Rattle.event_core.specs.declared.reply.Standing.TheVariants.{Current, Behind}
 use Rattle.event_state.specs.declared.refusal.Refusal.{Refusal}
-use Rattle.event_core.specs.declared.fault.ConfigFault.{ConfigFault}
-use Rattle.event_core.specs.declared.fault.ConfigFault.TheVariants.{Memory}
+use Rattle.config_faults.specs.declared.fault.ConfigFault.{ConfigFault}
+use Rattle.config_faults.specs.declared.fault.ConfigFault.TheVariants.{Memory}
 use Rattle.event_state.specs.declared.limits.Limits.{Limits}
-use Rattle.event_core.specs.Configs.{config_fault_of}
+use Rattle.config_faults.specs.Configs.{config_fault_of}
 use Rattle.event_state.specs.States.{State, LooksAlike}
 use Rattle.event_state.specs.Steps.{run_of, refusal_of, IsLegalList}
 use Rattle.event_state.specs.Refusals.{IsRefusalOf}

@@ -1,8 +1,11 @@
 pub mod Right
-pub mod Configs
 pub mod Cores
 pub mod Kept
 pub mod Listings
-pub mod Texts
-pub mod Neighbours
 pub mod Following
+pub use Rattle.config_faults.specs.Configs
+pub use Rattle.config_faults.specs.Texts
+pub use Rattle.config_faults.specs.declared.fault.ConfigFault
+pub use Rattle.dues.specs.Dues
+pub use Rattle.dues.specs.Lists
+pub use Rattle.dues.specs.declared.due.Due

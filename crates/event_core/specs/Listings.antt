@@ -18,9 +18,13 @@ pub record AreAreaIds (areas : List AreaConfig) (ids : List ℕ) : Type 0 where
 abbrev pub lsas_at : State → Scope → List (Scope × Lsa)
 lsas_at s at = map (λ l. (at, l)) (lsas_of (database_of s at))
 
+-- those of these areas, in their order
+abbrev pub lsas_of_areas : State → List ℕ → List (Scope × Lsa)
+lsas_of_areas s ids = flat_map (λ id. lsas_at s (scope.Area id)) ids
+
 -- those of these areas, and then those of the AS
 abbrev pub lsas_in : State → List ℕ → List (Scope × Lsa)
-lsas_in s ids = flat_map (λ id. lsas_at s (scope.Area id)) ids ++ lsas_at s scope.As
+lsas_in s ids = lsas_of_areas s ids ++ lsas_at s scope.As
 
 -- all LSAs of the state, each once, in their order
 abbrev pub AreLsas : State → List (Scope × Lsa) → Type 0

@@ -1,18 +1,17 @@
 ghost use Rattle.std.specs.Prelude.{◌≡◌, ◌≤◌, None, IfErr, IfOk, OnErr, option_map};
 ghost use Rattle.vertex_graph.specs.Graphs.{most_routers};
-ghost use Rattle.event_core.specs.Configs.{config_fault_of};
+ghost use Rattle.config_faults.specs.Configs.{config_fault_of};
 ghost use Rattle.dues.specs.Dues.{lists_of};
 ghost use Rattle.event_core.specs.Right.{IsDueIn, list_under};
 ghost use Rattle.event_core.specs.Cores.{IsCore, IsOpening, IsFaultOf, Applies, NamesChanges, HasBoundedWork, Stands, Runs, built_state, state_of};
 ghost use Rattle.event_state.specs.Steps.{standard_limits};
 ghost use Rattle.event_core.specs.Listings.{AreLsas};
 
-use crate::config_fault::fault_in;
-use crate::fault::ConfigFault;
 use crate::listing::lsas;
 use crate::named::named_by;
 use crate::reply::{Reply, Standing};
 use crate::routes::Routes;
+use config_faults::{ConfigFault, fault_in};
 use dues::{Due, Dues};
 use event_state::{Event, Limits, Refusal, State};
 use lsa_codec::Checked;
@@ -76,7 +75,7 @@ impl Core {
     }
 
     /// The same with limits of one's own.
-    pub(crate) fn open_within(
+    fn open_within(
         alloc: Global,
         config: Config,
         limits: Limits,
@@ -261,9 +260,9 @@ impl Core {
         self.state.config()
     }
 
-    /// How often all was built.
-    #[cfg(test)]
-    pub(crate) fn builds(&self) -> u64 {
+    /// How often all was built: once when the core was opened, and once more for each event that found the table behind.
+    /// No contract: for tests, and for who watches a router.
+    pub fn builds(&self) -> u64 {
         self.routes.builds()
     }
 }

@@ -1,6 +1,6 @@
 //! The LSAs of a state in the order in which they are listed.
 ghost use Rattle.std.specs.Prelude.{◌≡◌, ◌++◌, IfOk, OnOk, map as list_map};
-ghost use Rattle.event_core.specs.Listings.{AreAreaIds, AreLsas, lsas_at};
+ghost use Rattle.event_core.specs.Listings.{AreAreaIds, AreLsas, lsas_at, lsas_of_areas};
 
 use event_state::State;
 use lsa_codec::Checked;
@@ -17,11 +17,23 @@ pub(crate) fn lsas(alloc: Global, state: &State) -> Result<Vec<(Scope, Checked)>
 {
     let ids = area_ids(alloc, state.config().areas.as_slice())?;
     let mut found = Vec::new(alloc);
-    for id in &ids {
-        add_lsas(&mut found, state, Scope::Area(*id))?;
-    }
+    add_areas(&mut found, state, &ids)?;
     add_lsas(&mut found, state, Scope::As)?;
     Ok(found)
+}
+
+// Adds copies of the LSAs of these areas at the end, in the order of their Area IDs.
+fn add_areas(
+    found: &mut Vec<(Scope, Checked)>,
+    state: &State,
+    ids: &BTreeSet<u32>,
+) -> Result<(), Memory>
+    ensures { OnOk result (found.new.items ≡ found.old.items ++ lsas_of_areas state.now ids.now.keys) }
+{
+    for id in ids {
+        add_lsas(found, state, Scope::Area(*id))?;
+    }
+    Ok(())
 }
 
 // The configured Area IDs.

@@ -33,7 +33,7 @@ pub(crate) struct Routes {
     dues: Dues,
     work: Touched,
     changes: Vec<Prefix>,
-    // How often all was built; read by tests alone.
+    // How often all was built.
     builds: u64,
 }
 
@@ -173,7 +173,6 @@ impl Routes {
     }
 
     /// How often all was built.
-    #[cfg(test)]
     pub(crate) fn builds(&self) -> u64 {
         self.builds
     }
@@ -288,9 +287,6 @@ fn are_same(a: Option<&Item>, b: Option<&Item>) -> bool
 fn networks_of(alloc: Global, items: &[(Prefix, Option<Item>)]) -> Result<Vec<Prefix>, Memory>
     ensures { IfOk result (λ networks. networks.items ≡ keys_of items.now) }
 {
-    let mut networks = Vec::with_capacity(alloc, items.len())?;
-    for (network, _) in items {
-        networks.push(*network)?;
-    }
+    let networks = items.iter().map(|item| item.0).collect(alloc)?;
     Ok(networks)
 }

@@ -6,7 +6,6 @@ pub mod RightPreferred
 pub mod RightForwards
 pub mod Right
 pub mod Frame
-pub mod Stable
 pub mod Renewed
 pub mod Updating
 pub mod Led

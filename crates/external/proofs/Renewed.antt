@@ -1,5 +1,4 @@
 -- What all results say of which some were chosen anew, and what was named then.
---   listed_or_not: a key is among those of a list or not
 --   each_renewed: each result is chosen anew, or it was not due and stands
 --   others_named: just the keys are named at which another result stands
 --   names_sorted, numbers_sorted: in the order of the keys
@@ -9,20 +8,10 @@ use Rattle.std.specs.Cmp.{IsTotalOrder}
 use Rattle.std.specs.FinMap.{IsAntisymmetric, get, from_entries}
 use Rattle.std.specs.List.{Contains}
 use Rattle.std.specs.List.Sorted.{IsStrictlySortedBy}
-use Rattle.ospf_types.proofs.Elements.{no_element, first_element, later_element, first_or_later}
-use Rattle.intra.proofs.Following.{one_or_other}
+use Rattle.ospf_types.proofs.Elements.{no_element}
+use Rattle.result_map.proofs.KeyedMaps.{listed_or_not}
 use Rattle.result_map.specs.Results.{Results}
 use Rattle.result_map.specs.Renewing.{AreRenewed}
-
-pub listed_or_not : {K : Type 0} {cmp : K → K → Ordering} → IsTotalOrder cmp → IsAntisymmetric cmp → (k : K) (ks : List K) → Contains ks k ⊎ (Contains ks k → ⊥)
-listed_or_not total exact k [] = inr (λ c. no_element k c)
-listed_or_not {K = K} total exact k (q ∷ qs) = elim (one_or_other total exact q k) [
-  | inl e ↦ inl (subst (λ (x : K). Contains (q ∷ qs) x) (sym e) (first_element q qs))
-  | inr other ↦ elim (listed_or_not total exact k qs) [
-    | inl later ↦ inl (later_element q k qs later)
-    | inr absent ↦ inr (λ c. elim (first_or_later q k qs c) [ inl e ↦ other e | inr later ↦ absent later ])
-  ]
-]
 
 module _ {K V N : Type 0} (cmp : K → K → Ordering) (IsChosen : K → Option V → Type 0) (named_as : K → N) (old new : Results K V) (keys : List K) (before after : List N) (renewed : AreRenewed cmp IsChosen named_as old new keys before after) where
   -- each result is chosen anew, or it was not due and stands

@@ -27,7 +27,7 @@ use Rattle.external.specs.Renewing.{AreEntriesRenewed, AreForwardsRenewed, AreLe
 use Rattle.external.specs.contracts.forward.Forward as kept_forward
 use Rattle.external.specs.contracts.preferred.Preferred as kept_entry
 use Rattle.external.proofs.Frame.{entry_same}
-use Rattle.external.proofs.Stable.{same_value}
+use Rattle.ospf_types.proofs.Stable.{same_value}
 
 preferred_coded : Coded (Option PreferredValue)
 preferred_coded = coded_option kept_entry.the_row.coded

@@ -111,18 +111,35 @@ fn ascend(lsas: &[Checked]) -> bool {
     true
 }
 
-#[test]
-fn some_hundred_lsas(rt: HostRuntime) -> Result<(), Fail> {
-    let mut database = database(&rt, 500, &[])?;
+// Fills the database with LSAs of the routers from 300 down to 1.
+fn fill(alloc: Global, database: &mut Database) -> Result<(), Fail> {
     for router in (1..301u32).rev() {
-        let lsa = lsa(rt.alloc(), router, 5, FIRST, 10)?;
-        database.install(lsa).ok().ok_or("installed")?;
+        database
+            .install(lsa(alloc, router, 5, FIRST, 10)?)
+            .ok()
+            .ok_or("installed")?;
     }
-    let mut keys = Vec::new(rt.alloc());
+    Ok(())
+}
+
+// Whether the database lists the keys of a router and of an age, and then all LSAs in their order.
+fn lists_all(alloc: Global, database: &Database) -> Result<bool, Fail> {
+    let mut keys = Vec::new(alloc);
     database.by_router(17, &mut keys)?;
-    assert!(rt; database.len() == 300 && keys.as_slice() == [key(17)].as_slice());
+    let of_router = keys.as_slice() == [key(17)].as_slice();
     database.at_age(5, &mut keys)?;
     let lsas = database.lsas()?;
-    assert!(rt; keys.len() == 301 && lsas.len() == 300 && ascend(&lsas));
+    Ok(of_router && keys.len() == 301 && lsas.len() == 300 && ascend(&lsas))
+}
+
+fn fills(rt: &HostRuntime) -> Result<bool, Fail> {
+    let mut database = database(rt, 500, &[])?;
+    fill(rt.alloc(), &mut database)?;
+    lists_all(rt.alloc(), &database)
+}
+
+#[test]
+fn some_hundred_lsas(rt: HostRuntime) -> Result<(), Fail> {
+    assert!(rt; fills(&rt)?);
     Ok(())
 }

@@ -13,3 +13,4 @@ pub mod KeyOrders
 pub mod Boundary
 pub mod Forwards
 pub mod Examined
+pub mod Stable

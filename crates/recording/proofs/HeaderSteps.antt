@@ -5,8 +5,8 @@ use Rattle.std.proofs.lemmas.List.{length_push}
 use Rattle.std.proofs.lemmas.List.Elements.{All-nil}
 use Rattle.ospf_types.specs.declared.config.AreaConfig.{AreaConfig}
 use Rattle.ospf_types.specs.declared.config.Config.{Config}
-use Rattle.event_core.specs.Configs.{config_fault_of}
-use Rattle.event_core.specs.declared.fault.ConfigFault.{ConfigFault}
+use Rattle.config_faults.specs.Configs.{config_fault_of}
+use Rattle.config_faults.specs.declared.fault.ConfigFault.{ConfigFault}
 use Rattle.recording.specs.declared.fault.Fault.{Fault}
 use Rattle.recording.specs.declared.fault.Fault.TheVariants as fault
 use Rattle.recording.specs.Forms.{Form, VersionLine, RouterLine, AreaLine, RangeLine, InterfaceLine, InstallLine, FlushLine, PurgeLine, SecondLine, LookupLine, Says, AllSay}

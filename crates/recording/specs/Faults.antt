@@ -3,8 +3,8 @@ use Rattle.std.specs.Prelude.{ℕ, ◌≡◌, ◌≢◌, ◌<◌, ◌+◌, ◌==
 use Rattle.std.specs.List.{slice_split}
 use Rattle.ospf_types.specs.declared.key.Scope.{Scope}
 use Rattle.lsa_codec.specs.Faults.{fault_of}
-use Rattle.event_core.specs.Configs.{config_fault_of}
-use Rattle.event_core.specs.declared.fault.ConfigFault.{ConfigFault}
+use Rattle.config_faults.specs.Configs.{config_fault_of}
+use Rattle.config_faults.specs.declared.fault.ConfigFault.{ConfigFault}
 use Rattle.recording.specs.declared.fault.Fault.{Fault}
 use Rattle.recording.specs.declared.fault.Fault.TheVariants as fault
 use Rattle.recording.specs.declared.fault.LineFault.{LineFault}

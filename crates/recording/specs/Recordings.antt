@@ -12,7 +12,7 @@ use Rattle.lsa_codec.specs.Checksum.{IsSound}
 use Rattle.lsa_codec.specs.Spelling.{Spells, spelling}
 use Rattle.event_state.specs.declared.event.Event.{Event}
 use Rattle.event_state.specs.declared.event.Event.TheVariants as event
-use Rattle.event_core.specs.Configs.{config_fault_of}
+use Rattle.config_faults.specs.Configs.{config_fault_of}
 use Rattle.recording.specs.declared.line.Line.{Line}
 use Rattle.recording.specs.declared.line.Line.TheVariants as line
 use Rattle.recording.specs.Forms.{Form, VersionLine, RouterLine, AreaLine, RangeLine, InterfaceLine, InstallLine, FlushLine, PurgeLine, SecondLine, LookupLine, IsForm, IsKind, line_text}

@@ -10,7 +10,7 @@ ghost use Rattle.recording.specs.declared.line.Line.{Line};
 use crate::fault::Fault;
 use crate::form::{LineForm, read_form};
 use crate::line::Line;
-use event_core::Event;
+use event_state::Event;
 use hex::FromHexError;
 use lsa_codec::{Checked, WireFault};
 use std::alloc::Global;

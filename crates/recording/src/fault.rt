@@ -1,7 +1,7 @@
 ghost use Rattle.std.specs.Prelude.{Some};
 ghost use Rattle.recording.specs.Texts.{fault_text, line_fault_text};
 
-use event_core::ConfigFault;
+use config_faults::ConfigFault;
 use lsa_codec::WireFault;
 use ospf_types::memory::Memory;
 use std::error::Error;

@@ -11,6 +11,7 @@ mod parsing;
 mod printing;
 mod reader;
 mod recording;
+mod show;
 mod words;
 
 pub use fault::{Fault, LineFault};
@@ -18,3 +19,4 @@ pub use line::Line;
 pub use parsing::parse;
 pub use printing::{append_event, append_header, print};
 pub use recording::Recording;
+pub use show::Show;

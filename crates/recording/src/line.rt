@@ -1,4 +1,4 @@
-use event_core::Event;
+use event_state::Event;
 
 /// A line behind the header.
 #[derive(Debug, Drop)]

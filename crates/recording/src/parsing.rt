@@ -11,7 +11,7 @@ use crate::form::{LineForm, read_form};
 use crate::header::Header;
 use crate::reader::Lines;
 use crate::recording::Recording;
-use event_core::fault_in;
+use config_faults::fault_in;
 use ospf_types::config::Config;
 use ospf_types::memory::Memory;
 use std::alloc::Global;

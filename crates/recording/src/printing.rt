@@ -8,7 +8,7 @@ ghost use Rattle.recording.specs.declared.line.Line.TheVariants as line;
 
 use crate::line::Line;
 use crate::recording::Recording;
-use event_core::Event;
+use event_state::Event;
 use lsa_codec::Checked;
 use ospf_types::address::Address;
 use ospf_types::config::{AreaConfig, Config, Range, Stub};

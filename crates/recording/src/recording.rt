@@ -7,7 +7,8 @@ ghost use Rattle.recording.specs.Forms.{IsKind};
 ghost use Rattle.recording.specs.Recordings.{IsRecording, IsOrdered, HasKind};
 
 use crate::line::Line;
-use event_core::{Event, fault_in};
+use config_faults::fault_in;
+use event_state::Event;
 use ospf_types::config::{AreaConfig, Config, Range};
 use ospf_types::lsa::{AS_EXTERNAL_LSA, ROUTER_LSA};
 use std::marker::Model;

@@ -12,7 +12,7 @@ use Rattle.ospf_types.specs.declared.lsa.Header.{Header}
 use Rattle.ospf_types.specs.Text.{address_text}
 use Rattle.route_table.specs.declared.table.Match.{Match}
 use Rattle.route_table.specs.Texts.{match_text}
-use Rattle.dues.specs.declared.due.Due.{Due}
+use Rattle.event_core.specs.Due.{Due}
 use Rattle.replay.specs.Lines.{lookup_line, due_line, dest_text, header_text}
 
 pub lookup_printed : (old new : List ℕ) (number address serial other : ℕ) (found : Match)

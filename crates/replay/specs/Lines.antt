@@ -11,7 +11,7 @@ use Rattle.ospf_types.specs.Lsa.{Lsa}
 use Rattle.ospf_types.specs.Network.{Network}
 use Rattle.ospf_types.specs.Text.{address_text, prefix_text, entry_text}
 use Rattle.std.specs.List.{flat_map}
-use Rattle.dues.specs.declared.due.Due.{Due}
+use Rattle.event_core.specs.Due.{Due}
 use Rattle.event_state.specs.declared.refusal.Refusal.{Refusal}
 use Rattle.event_state.specs.Texts.{refusal_text}
 use Rattle.route_table.specs.declared.table.Item.{Item}

@@ -11,8 +11,8 @@ use Rattle.event_core.specs.Listings.{AreLsas}
 use Rattle.recording.specs.declared.line.Line.{Line}
 use Rattle.recording.specs.declared.line.Line.TheVariants as line
 use Rattle.recording.specs.Recordings.{RecordingValue, IsText, text_of}
-use Rattle.replay.specs.declared.show.Show.{Show}
-use Rattle.replay.specs.declared.show.Show.TheVariants as show
+use Rattle.recording.specs.declared.show.Show.{Show}
+use Rattle.recording.specs.declared.show.Show.TheVariants as show
 use Rattle.replay.specs.Lines.{first_number, serial_line, item_line, area_lines, lsa_line}
 use Rattle.replay.specs.Runs.{Answers, Prints, IsOpened}
 

@@ -5,7 +5,7 @@ use Rattle.recording.specs.Recordings.{RecordingValue, IsText}
 use Rattle.recording.specs.Faults.{IsFaultOf}
 use Rattle.replay.specs.declared.fault.ReplayFault.{ReplayFault}
 use Rattle.replay.specs.declared.fault.ReplayFault.TheVariants as fault
-use Rattle.replay.specs.declared.show.Show.{Show}
+use Rattle.recording.specs.declared.show.Show.{Show}
 use Rattle.replay.specs.Lines.{first_number}
 use Rattle.replay.specs.Runs.{Answers}
 use Rattle.replay.specs.Outputs.{IsOutput, IsCut}

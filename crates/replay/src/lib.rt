@@ -7,15 +7,14 @@ mod output;
 mod page;
 mod replaying;
 mod running;
-mod show;
 mod showing;
 mod writing;
 
 pub use fault::ReplayFault;
 pub use lines::{put_answer, put_serial};
 pub use page::{Stop, write_page};
+pub use recording::Show;
 pub use replaying::{read_recording, replay_one};
 pub use running::number_of_first;
-pub use show::Show;
 pub use showing::{show_dues, show_events, show_items, show_lsas};
 pub use writing::{CannotWrite, write_whole};

@@ -3,7 +3,7 @@ ghost use Rattle.std.specs.Prelude.{◌+◌, ◌^◌, ◌<◌, length, OnOk, OnE
 ghost use Rattle.replay.specs.Lines.{first_number};
 ghost use Rattle.replay.specs.Runs.{IsOpened};
 ghost use Rattle.replay.specs.Parts.{WritesOutput, WritesPart};
-ghost use Rattle.replay.specs.declared.show.Show.TheVariants as show;
+ghost use Rattle.recording.specs.declared.show.Show.TheVariants as show;
 
 use crate::lines::put_serial;
 use crate::page::{Stop, empty_page, write_page};

@@ -13,11 +13,10 @@ ghost use Rattle.replay.specs.Parts.{IsRead, IsReadFault, WritesOutput, WritesPa
 use crate::fault::ReplayFault;
 use crate::output::{print_due, print_journal, print_lsdb, print_routes};
 use crate::page::Stop;
-use crate::show::Show;
 use event_core::{ConfigFault, Core};
 use ospf_types::config::Config;
 use ospf_types::memory::Memory;
-use recording::{Line, Recording, parse};
+use recording::{Line, Recording, Show, parse};
 use std::alloc::Global;
 use std::hash::RandomState;
 use std::io;

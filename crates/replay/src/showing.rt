@@ -2,7 +2,7 @@
 ghost use Rattle.std.specs.Prelude.{◌++◌, OnOk, OnErr, string_bytes};
 ghost use Rattle.std.specs.List.{flat_map};
 ghost use Rattle.std.specs.FinMap.{entries};
-ghost use Rattle.dues.specs.Dues.{lists_of};
+ghost use Rattle.event_core.specs.Dues.{lists_of};
 ghost use Rattle.replay.specs.Lines.{area_lines, due_line, item_line, lsa_line, event_line};
 ghost use Rattle.replay.specs.Pages.{Adds, AddsPart};
 

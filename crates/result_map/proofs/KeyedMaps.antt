@@ -48,6 +48,17 @@ one_or_other {K = K} {cmp = cmp} total exact k q =
       | false ↦ λ apart. inr (λ e. true≢false (sym (subst (λ (z : K). eq_by_cmp cmp q z ≡ true) e ((eq_by_cmp_equiv total).refl q)) ∙ apart))
     ] refl
 
+-- a key is among those of a list, or it is not
+pub listed_or_not : {K : Type 0} {cmp : K → K → Ordering} → IsTotalOrder cmp → IsAntisymmetric cmp → (k : K) (ks : List K) → Contains ks k ⊎ (Contains ks k → ⊥)
+listed_or_not total exact k [] = inr (λ c. no_element k c)
+listed_or_not {K = K} total exact k (q ∷ qs) = elim (one_or_other total exact q k) [
+  | inl e ↦ inl (subst (λ (x : K). Contains (q ∷ qs) x) (sym e) (first_element q qs))
+  | inr other ↦ elim (listed_or_not total exact k qs) [
+    | inl later ↦ inl (later_element q k qs later)
+    | inr absent ↦ inr (λ c. elim (first_or_later q k qs c) [ inl e ↦ other e | inr later ↦ absent later ])
+  ]
+]
+
 module _ {K X : Type 0} {cmp : K → K → Ordering} (total : IsTotalOrder cmp) where
   -- a value that is set
   pub set_here : (m : FinMap cmp X) (k : K) (x : X) → get (insert m k x) k ≡ Some x

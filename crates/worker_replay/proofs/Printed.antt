@@ -3,7 +3,7 @@ use Rattle.std.proofs.Common.{◌≡◌, ℕ, ◌≤◌, ◌+◌, List, [], ◌�
 use Rattle.std.specs.Prelude.{Result}
 use Rattle.event_state.specs.declared.refusal.Refusal.{Refusal}
 use Rattle.route_table.specs.Tables.{TableValue}
-use Rattle.event_core.specs.declared.reply.Reply.{Reply}
+use Rattle.engine.specs.Reply.{Reply}
 use Rattle.publication.specs.Names.{Name}
 use Rattle.engine.specs.Answers.{AreAnswered}
 use Rattle.recording.specs.declared.line.Line.{Line}

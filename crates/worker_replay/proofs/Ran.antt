@@ -7,8 +7,8 @@ use Rattle.ospf_types.specs.declared.config.Config.{Config}
 use Rattle.event_state.specs.declared.event.Event.{Event}
 use Rattle.event_state.specs.declared.refusal.Refusal.{Refusal}
 use Rattle.event_state.specs.Steps.{standard_limits}
-use Rattle.event_core.specs.declared.reply.Reply.{Reply}
-use Rattle.event_core.specs.Cores.{CoreValue, IsCore}
+use Rattle.engine.specs.Reply.{Reply}
+use Rattle.engine.specs.Cores.{CoreValue, IsCore}
 use Rattle.publication.specs.Forwarders.{Looker, Sighted, Sights}
 use Rattle.publication.specs.Names.{Name}
 use Rattle.publication.specs.Published.{IsTableFor}

@@ -1,8 +1,8 @@
 -- What is shown was written, or a beginning of it.
 use Rattle.std.proofs.Common.{◌≡◌, ℕ, List, [], ◌++◌, Option, refl, sym, ap, subst, ◌∙◌, append-nil}
 use Rattle.std.specs.Io.KnownBytes.{Appends}
-use Rattle.event_core.specs.Cores.{CoreValue}
-use Rattle.replay.specs.declared.show.Show.{Show}
+use Rattle.engine.specs.Cores.{CoreValue}
+use Rattle.recording.specs.declared.show.Show.{Show}
 use Rattle.replay.specs.Outputs.{IsShown}
 use Rattle.replay.specs.Pages.{Adds, AddsPart}
 use Rattle.replay.proofs.Written.{appends_none}

@@ -1,8 +1,8 @@
 -- A whole replay.
 use Rattle.std.proofs.Common.{ℕ, List, Option, ◌⊎◌, inl, inr}
-use Rattle.event_core.specs.Cores.{CoreValue}
+use Rattle.engine.specs.Cores.{CoreValue}
 use Rattle.recording.specs.Recordings.{RecordingValue}
-use Rattle.replay.specs.declared.show.Show.{Show}
+use Rattle.recording.specs.declared.show.Show.{Show}
 use Rattle.replay.specs.Parts.{IsRead}
 use Rattle.worker_replay.specs.Outputs.{Replays, ReplaysPart}
 use Rattle.worker_replay.specs.Parts.{HasRun, Writes, WritesPart}

@@ -1,9 +1,9 @@
 -- What a replay over several workers writes.
 use Rattle.std.specs.Prelude.{ℕ, List, Option}
 use Rattle.std.specs.Io.KnownBytes.{Appends, Consumes}
-use Rattle.event_core.specs.Cores.{CoreValue}
+use Rattle.engine.specs.Cores.{CoreValue}
 use Rattle.recording.specs.Recordings.{RecordingValue, IsText}
-use Rattle.replay.specs.declared.show.Show.{Show}
+use Rattle.recording.specs.declared.show.Show.{Show}
 use Rattle.replay.specs.Outputs.{IsShown, IsBeginning}
 use Rattle.worker_replay.specs.Runs.{Answers, IsRun}
 

@@ -6,8 +6,8 @@ use Rattle.event_state.specs.declared.event.Event.{Event}
 use Rattle.event_state.specs.declared.refusal.Refusal.{Refusal}
 use Rattle.route_table.specs.declared.table.Match.{Match}
 use Rattle.route_table.specs.Tables.{TableValue, IsMatch}
-use Rattle.event_core.specs.declared.reply.Reply.{Reply}
-use Rattle.event_core.specs.Cores.{CoreValue}
+use Rattle.engine.specs.Reply.{Reply}
+use Rattle.engine.specs.Cores.{CoreValue}
 use Rattle.publication.specs.Forwarders.{Looker}
 use Rattle.publication.specs.Names.{Name}
 use Rattle.publication.specs.Published.{IsTableFor}
@@ -16,7 +16,7 @@ use Rattle.engine.specs.declared.answer.Refused.{Refused}
 use Rattle.recording.specs.Recordings.{RecordingValue}
 use Rattle.recording.specs.declared.line.Line.{Line}
 use Rattle.replay.specs.declared.fault.ReplayFault.TheVariants as replay_fault
-use Rattle.replay.specs.declared.show.Show.{Show}
+use Rattle.recording.specs.declared.show.Show.{Show}
 use Rattle.replay.specs.Lines.{lookup_line, answer_line}
 use Rattle.replay.specs.Outputs.{IsShown}
 use Rattle.replay.specs.Pages.{AddsPart}

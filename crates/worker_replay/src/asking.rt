@@ -2,7 +2,7 @@
 ghost use Rattle.std.specs.Prelude.{◌≡◌, ◌++◌, [], ◌∷◌, IfOk, OnOk, map};
 ghost use Rattle.worker_replay.specs.Runs.{events_of, lookup_in};
 
-use event_core::Event;
+use engine::Event;
 use ospf_types::memory::Memory;
 use recording::Line;
 use std::alloc::Global;

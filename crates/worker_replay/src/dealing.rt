@@ -5,8 +5,7 @@ ghost use Rattle.publication.specs.Names.{Name};
 ghost use Rattle.engine.specs.Answers.{AreAnswered};
 ghost use Rattle.worker_replay.specs.Dealing.{IsDealt, AreAnsweredDealt, AreTaken};
 
-use engine::{Answer, Refused};
-use event_core::Event;
+use engine::{Answer, Event, Refused};
 use ospf_types::memory::Memory;
 use std::alloc::Global;
 

@@ -5,8 +5,7 @@ ghost use Rattle.worker_replay.specs.Runs.{IsAfter, reply_of, told_of};
 ghost use Rattle.worker_replay.specs.Parts.{IsOf};
 
 use crate::dealing::Answers;
-use engine::{Answer, Forwarder, Refused, Told};
-use event_core::{Refusal, Reply};
+use engine::{Answer, Forwarder, Refusal, Refused, Reply, Told};
 use ospf_types::memory::Memory;
 use std::alloc::Global;
 

@@ -1,12 +1,12 @@
 //! The output, written: what the lines printed, and what is shown behind it.
 ghost use Rattle.std.specs.Prelude.{◌≡◌, ◌⊎◌, [], OnOk, OnErr, string_bytes};
-ghost use Rattle.event_core.specs.Cores.{state_of};
-ghost use Rattle.event_core.specs.Listings.{AreLsas};
+ghost use Rattle.engine.specs.Cores.{state_of};
+ghost use Rattle.engine.specs.Listings.{AreLsas};
 ghost use Rattle.replay.specs.declared.page.Stop.TheVariants as stop;
-ghost use Rattle.replay.specs.declared.show.Show.TheVariants as show_value;
+ghost use Rattle.recording.specs.declared.show.Show.TheVariants as show_value;
 ghost use Rattle.worker_replay.specs.Parts.{Writes, WritesPart};
 
-use event_core::Core;
+use engine::Core;
 use lsa_codec::Checked;
 use ospf_types::key::Scope;
 use ospf_types::memory::Memory;

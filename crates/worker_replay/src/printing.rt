@@ -5,8 +5,7 @@ ghost use Rattle.route_table.specs.Tables.{IsMatch};
 ghost use Rattle.replay.specs.Lines.{lookup_line};
 ghost use Rattle.worker_replay.specs.Parts.{HasAllReplies, AppendsAll, AppendsLine};
 
-use engine::Seen;
-use event_core::{Refusal, Reply};
+use engine::{Refusal, Reply, Seen};
 use ospf_types::address::Address;
 use ospf_types::memory::Memory;
 use replay::put_answer;

@@ -1,6 +1,6 @@
 //! A recording is run over an engine.
 ghost use Rattle.std.specs.Prelude.{◌≡◌, ◌<◌, ◌≤◌, ◌+◌, ◌^◌, [], length, IfOk, IfErr, None, string_bytes};
-ghost use Rattle.event_core.specs.Configs.{config_fault_of};
+ghost use Rattle.config_faults.specs.Configs.{config_fault_of};
 ghost use Rattle.engine.specs.Answers.{AreAnswered};
 ghost use Rattle.replay.specs.Lines.{first_number};
 ghost use Rattle.worker_replay.specs.Parts.{AreWorkers, HasRun, HasPrinted, HasAllReplies, Looks, IsRunFault};
@@ -10,8 +10,7 @@ use crate::dealing::{Answers, collect, deal};
 use crate::fault::ManyFault;
 use crate::learning::{Replies, learn_all};
 use crate::printing::put_lines;
-use engine::{Engine, Forwarder, Open, OpenFault};
-use event_core::{ConfigFault, Core, Event, Refusal};
+use engine::{ConfigFault, Core, Engine, Event, Forwarder, Open, OpenFault, Refusal};
 use ospf_types::config::Config;
 use ospf_types::memory::Memory;
 use recording::{Line, Recording};

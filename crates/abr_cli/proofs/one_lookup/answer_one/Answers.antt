@@ -1,4 +1,4 @@
-use Rattle.abr_cli.specs.Command.{texts_of}
+use Rattle.command_line.specs.Command.{texts_of}
 use Rattle.abr_cli.specs.One.{Answer, IsFault}
 use Rattle.abr_cli.proofs.Answering.{fault_answers}
 use Rattle.abr_cli.proofs.one_lookup.answer_one.Goals as goal

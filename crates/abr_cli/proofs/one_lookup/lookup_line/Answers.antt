@@ -1,5 +1,5 @@
 use Rattle.std.proofs.lemmas.Result.{IfErr-weaker, IfOk-weaker}
-use Rattle.abr_cli.specs.Command.{texts_of}
+use Rattle.command_line.specs.Command.{texts_of}
 use Rattle.abr_cli.specs.One.{Given, given_by}
 use Rattle.abr_cli.proofs.Answering.{fault_widens, answers}
 use Rattle.abr_cli.proofs.one_lookup.lookup_line.Goals as goal

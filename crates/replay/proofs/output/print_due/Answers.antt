@@ -1,8 +1,8 @@
 use Rattle.std.proofs.Common.{ℕ, List, ◌++◌, ap}
 use Rattle.std.specs.List.{flat_map}
-use Rattle.dues.specs.declared.due.Due.{Due}
+use Rattle.event_core.specs.Due.{Due}
 use Rattle.replay.specs.Lines.{serial_line, area_lines}
-use Rattle.replay.specs.declared.show.Show.TheVariants as show
+use Rattle.recording.specs.declared.show.Show.TheVariants as show
 use Rattle.replay.proofs.Written.{on_err}
 use Rattle.replay.proofs.RunSteps.{ran_whole}
 use Rattle.replay.proofs.Ends.{none_written, run_cut, shown_whole, shown_cut, whole_cut, whole_written}

@@ -1,5 +1,5 @@
 use Rattle.std.proofs.Common.{refl}
-use Rattle.replay.specs.declared.show.Show.TheVariants as show
+use Rattle.recording.specs.declared.show.Show.TheVariants as show
 use Rattle.replay.proofs.Written.{on_err}
 use Rattle.replay.proofs.RunSteps.{ran_whole}
 use Rattle.replay.proofs.Ends.{none_written, run_cut, shown_whole, shown_cut, whole_cut, whole_written}

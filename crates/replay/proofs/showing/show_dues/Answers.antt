@@ -1,8 +1,8 @@
 use Rattle.std.proofs.Common.{◌≡◌, ◌++◌, ◌+◌, List, ℕ, [], drop, refl, sym, ap, ◌∙◌}
 use Rattle.std.specs.List.{flat_map}
 use Rattle.std.proofs.lemmas.List.{drop_all}
-use Rattle.dues.specs.Dues.{listed}
-use Rattle.dues.specs.Lists.{AreaDuesValue}
+use Rattle.event_core.specs.Dues.{listed}
+use Rattle.event_core.specs.Lists.{AreaDuesValue}
 use Rattle.replay.specs.Lines.{area_lines}
 use Rattle.replay.proofs.Written.{on_err}
 use Rattle.replay.proofs.Paging.{adding_none, adding_lines, adding_as, adding_whole, adding_cut, line_next, lines_in, lines_listed}

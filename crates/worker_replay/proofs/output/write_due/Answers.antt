@@ -1,8 +1,8 @@
 use Rattle.std.proofs.Common.{ℕ, List, ◌++◌, ap, refl, string_bytes}
 use Rattle.std.specs.List.{flat_map}
-use Rattle.dues.specs.declared.due.Due.{Due}
+use Rattle.engine.specs.Due.{Due}
 use Rattle.replay.specs.Lines.{serial_line, area_lines}
-use Rattle.replay.specs.declared.show.Show.TheVariants as show
+use Rattle.recording.specs.declared.show.Show.TheVariants as show
 use Rattle.replay.proofs.Written.{on_err}
 use Rattle.worker_replay.proofs.Shown.{shown_cut, end_cut, shown_whole, none_written}
 use Rattle.worker_replay.proofs.output.write_due.Goals as goal

@@ -2,9 +2,9 @@ use Rattle.std.proofs.Common.{◌≡◌, ℕ, List, [], ◌++◌, ap, sym, ◌�
 use Rattle.std.specs.List.{flat_map}
 use Rattle.ospf_types.specs.declared.config.Config.{Config}
 use Rattle.event_state.specs.declared.event.Event.{Event}
-use Rattle.event_core.specs.Cores.{CoreValue}
+use Rattle.engine.specs.Cores.{CoreValue}
 use Rattle.recording.specs.Recordings.{text_of, text_of_forms, header_forms}
-use Rattle.replay.specs.declared.show.Show.TheVariants as show
+use Rattle.recording.specs.declared.show.Show.TheVariants as show
 use Rattle.replay.specs.Lines.{event_line}
 use Rattle.replay.specs.Outputs.{journal_of}
 use Rattle.replay.proofs.Written.{on_err}

@@ -1,5 +1,5 @@
 use Rattle.std.proofs.Common.{refl}
-use Rattle.replay.specs.declared.show.Show.TheVariants as show
+use Rattle.recording.specs.declared.show.Show.TheVariants as show
 use Rattle.replay.proofs.Written.{on_err}
 use Rattle.worker_replay.proofs.Shown.{shown_cut, end_cut, shown_whole, none_written}
 use Rattle.worker_replay.proofs.output.write_lsdb.Goals as goal

@@ -3,7 +3,7 @@ use Rattle.std.specs.List.{flat_map}
 use Rattle.std.specs.FinMap.{entries}
 use Rattle.route_table.specs.Tables.{TableValue}
 use Rattle.replay.specs.Lines.{serial_line, item_line}
-use Rattle.replay.specs.declared.show.Show.TheVariants as show
+use Rattle.recording.specs.declared.show.Show.TheVariants as show
 use Rattle.replay.proofs.Written.{on_err}
 use Rattle.worker_replay.proofs.Shown.{shown_cut, end_cut, shown_whole, none_written}
 use Rattle.worker_replay.proofs.output.write_routes.Goals as goal

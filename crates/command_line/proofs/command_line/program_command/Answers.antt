@@ -1,0 +1,20 @@
+use Rattle.std.proofs.Common.{◌≡◌, ◌∙◌, ap, ap₂, codes, true}
+use Rattle.std.proofs.lemmas.Result.{IfOk-weaker}
+use Rattle.clap.specs.Words.{App, app_of, new_app, with_subcommand}
+use Rattle.clap.specs.Simple.{Shape, app_of_fields, on_top}
+use Rattle.command_line.proofs.command_line.program_command.Goals as goal
+
+pub returns : goal.returns
+returns c =
+    let named : app_of c.about.result ≡ new_app (codes "abr") = ap app_of_fields c.about.ensures ∙ c.new.ensures.app in
+    let versioned = ap app_of_fields c.version.ensures ∙ ap (on_top (λ (s : Shape). record s { has_version = true })) named in
+    let wanting = ap app_of_fields c.subcommand_required.ensures ∙ ap (on_top (λ (s : Shape). record s { subcommand_required = true })) versioned in
+    let top = ap app_of_fields c.arg_required_else_help.ensures ∙ ap (on_top (λ (s : Shape). record s { arg_required_else_help = true })) wanting in
+    let one = c.in_ok-subcommand.ensures.shape c.in_ok-one.ensures.local ∙ ap₂ with_subcommand top (ap (λ (a : App). a.top) c.in_ok-one.ensures.app) in
+    let decode = c.in_ok-subcommand-2.ensures.shape c.in_ok-decode.ensures.local ∙ ap₂ with_subcommand one (ap (λ (a : App). a.top) c.in_ok-decode.ensures.app) in
+    let replay = c.in_ok-replay.ensures.app in
+    IfOk-weaker c.subcommand-3.result _ _ (λ r h. (
+      replay.0,
+      replay.1,
+      h.shape c.in_ok-replay.ensures.local ∙ ap₂ with_subcommand decode (ap (λ (a : App). a.top) replay.2),
+    )) c.subcommand-3.ensures

@@ -1,0 +1,22 @@
+use Rattle.std.proofs.Common.{◌≡◌, ◌∙◌, ap, codes, false}
+use Rattle.std.proofs.lemmas.Result.{IfOk-weaker}
+use Rattle.clap.specs.Words.{app_of, new_app}
+use Rattle.clap.specs.Simple.{app_of_fields}
+use Rattle.clap.specs.declared.builder.command.Command.TheViews.{out-Command}
+use Rattle.command_line.proofs.Building.{added_app, added_local}
+use Rattle.command_line.proofs.command_line.replay.Goals as goal
+
+pub returns-clause-app : goal.returns-clause-app
+returns-clause-app c =
+    let start : app_of c.about.result ≡ new_app (codes "replay") = ap app_of_fields c.about.ensures ∙ c.new.ensures.app in
+    let file = added_app _ _ _ _ _ c.in_ok-arg.ensures c.word.ensures.local start c.word.ensures.rule in
+    let workers = added_app _ _ _ _ _ c.in_ok-arg-2.ensures c.workers_option.ensures.local file c.workers_option.ensures.rule in
+    let names = c.show_option.ensures.rule in
+    IfOk-weaker c.arg-3.result _ _ (λ r h. (names.0, names.1, added_app _ _ _ _ _ h c.show_option.ensures.local workers names.2)) c.arg-3.ensures
+
+pub returns-clause-local : goal.returns-clause-local
+returns-clause-local c =
+    let start : (out-Command c.about.result).has_globals ≡ false = ap (λ f. f.has_globals) c.about.ensures ∙ c.new.ensures.local in
+    let file = added_local _ _ _ c.in_ok-arg.ensures c.word.ensures.local start in
+    let workers = added_local _ _ _ c.in_ok-arg-2.ensures c.workers_option.ensures.local file in
+    IfOk-weaker c.arg-3.result _ _ (λ r h. added_local _ _ _ h c.show_option.ensures.local workers) c.arg-3.ensures

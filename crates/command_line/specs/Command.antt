@@ -1,0 +1,220 @@
+-- The command line: `abr one ROUTER AREA ADDRESS HEX LOOKUP`, `abr decode HEX` and `abr replay FILE [--workers N] [--show NAME]`.
+use Rattle.std.specs.Prelude.{ℕ, ◌≡◌, ◌⊎◌, ◌≤◌, true, List, [], ◌∷◌, Option, Some, None, codes, map}
+use Rattle.std.specs.Borrow.{Bor}
+use Rattle.std.specs.Str.Parse.{IsNumeral, digits_value, without_leading_plus}
+use Rattle.clap.specs.Words.{App, Row, Rule, Text, IsAmong, fault_of, first_of, kind_of, new_app, new_rule, subcommand_of, with_rule, with_subcommand}
+use Rattle.clap.specs.Lexer.{strip_byte}
+use Rattle.clap.specs.declared.builder.value_parser.ValueParser.TheVariants.{Names, Unsigned}
+use Rattle.clap.specs.declared.error.kind.ErrorKind.TheVariants.{MissingRequiredArgument}
+use Rattle.recording.specs.declared.show.Show.{Show}
+use Rattle.recording.specs.declared.show.Show.TheVariants.{Routes, Due, Lsdb, Journal}
+use Rattle.command_line.specs.declared.command.OneWords.{OneWords}
+use Rattle.command_line.specs.declared.command.Job.{Job}
+use Rattle.command_line.specs.declared.command.Job.TheVariants.{One, Decode, Replay}
+use Rattle.command_line.specs.declared.command.Usage.{Usage}
+use Rattle.command_line.specs.declared.command.Usage.TheVariants.{Told, Memory}
+
+-- a word that has to be there
+abbrev pub required_word : Text → Rule
+required_word id = record (new_rule id) { required = true }
+
+abbrev pub one_command : App
+one_command =
+    with_rule (with_rule (with_rule (with_rule (with_rule (new_app (codes "one")) (required_word (codes "ROUTER"))) (required_word (codes "AREA"))) (required_word (codes "ADDRESS"))) (required_word (codes "HEX"))) (required_word (codes "LOOKUP"))
+
+abbrev pub decode_command : App
+decode_command = with_rule (new_app (codes "decode")) (required_word (codes "HEX"))
+
+-- the name of what is shown
+abbrev pub show_name : Show → Text
+show_name Routes = codes "routes"
+show_name Due = codes "due"
+show_name Lsdb = codes "lsdb"
+show_name Journal = codes "journal"
+
+-- the names that `--show` takes
+abbrev pub show_names : List Text
+show_names = show_name Routes ∷ show_name Due ∷ show_name Lsdb ∷ show_name Journal ∷ []
+
+-- a reference to references to names
+abbrev pub References : Type 0
+References = Bor (List (Bor Text))
+
+-- they point to the names that `--show` takes
+abbrev pub AreShowNames : References → Type 0
+AreShowNames names = map (λ s. s.now) names.now ≡ show_names
+
+-- `--show NAME`, by default `routes`
+abbrev pub show_option : References → Rule
+show_option names = record (new_rule (codes "show")) {
+  long = Some (codes "show");
+  value_names = 1;
+  parser = Some (Names names);
+  defaults = show_name Routes ∷ [];
+}
+
+-- `--workers N`, by default 1
+abbrev pub workers_option : Rule
+workers_option = record (new_rule (codes "workers")) {
+  long = Some (codes "workers");
+  value_names = 1;
+  parser = Some (Unsigned 1 16);
+  defaults = codes "1" ∷ [];
+}
+
+abbrev pub replay_command : References → App
+replay_command names =
+    with_rule (with_rule (with_rule (new_app (codes "replay")) (required_word (codes "FILE"))) workers_option) (show_option names)
+
+-- what follows the program's name is one of its commands, or asks for its version
+abbrev pub program_with : References → App
+program_with names =
+    let p = new_app (codes "abr") in
+    let top = record p { top = record p.top { has_version = true; subcommand_required = true; arg_required_else_help = true } } in
+    with_subcommand (with_subcommand (with_subcommand top one_command.top) decode_command.top) (replay_command names).top
+
+-- the program, wherever its references point
+abbrev pub IsProgram : App → Type 0
+IsProgram a = (names : References) × AreShowNames names × (a ≡ program_with names)
+
+-- a reference to the value, at no place
+abbrev pub reference : {X : Type 0} → X → Bor X
+reference x = record { ref_ptr = (0, 0); now = x }
+
+-- The program. A parse gives the same for all its references, and here they point nowhere.
+abbrev pub program : App
+program = program_with (reference (map reference show_names))
+
+-- the texts of the words of `abr one`
+pub record OneTexts : Type 0 where
+  pub router : Text
+  pub area : Text
+  pub address : Text
+  pub lsa : Text
+  pub lookup : Text
+
+abbrev pub texts_of : OneWords → OneTexts
+texts_of w = record {
+  router = w.router.now;
+  area = w.area.now;
+  address = w.address.now;
+  lsa = w.lsa.now;
+  lookup = w.lookup.now;
+}
+
+-- each word was given
+abbrev pub HasWords : List Row → OneTexts → Type 0
+HasWords rows t = (first_of (codes "ROUTER") rows ≡ Some t.router)
+    × (first_of (codes "AREA") rows ≡ Some t.area)
+    × (first_of (codes "ADDRESS") rows ≡ Some t.address)
+    × (first_of (codes "HEX") rows ≡ Some t.lsa)
+    × (first_of (codes "LOOKUP") rows ≡ Some t.lookup)
+
+-- `one` was met, and these words were given for it
+abbrev pub HasOne : Option (Text × List Row) → OneTexts → Type 0
+HasOne met t = (rows : List Row) × (met ≡ Some (codes "one", rows)) × HasWords rows t
+
+-- `decode` was met, and this word was given for it
+abbrev pub HasDecode : Option (Text × List Row) → Text → Type 0
+HasDecode met hex = (rows : List Row) × (met ≡ Some (codes "decode", rows)) × (first_of (codes "HEX") rows ≡ Some hex)
+
+-- there may be so many workers
+abbrev pub AreWorkers : ℕ → Type 0
+AreWorkers n = (1 ≤ n) × (n ≤ 16)
+
+-- the word writes so many workers: decimal digits, and a plus sign may stand before them
+pub record WritesWorkers (word : Text) (n : ℕ) : Type 0 where
+  pub numeral : IsNumeral 10 (without_leading_plus word)
+  pub written : digits_value 10 (without_leading_plus word) ≡ n
+  pub within : AreWorkers n
+
+-- this file, so many workers and the name of what is shown were given; where no number was given, the matches have 1, and where no name was, `routes`
+abbrev pub HasReplayWords : List Row → Text → ℕ → Show → Type 0
+HasReplayWords rows file workers show = (first_of (codes "FILE") rows ≡ Some file)
+    × ((word : Text) × (first_of (codes "workers") rows ≡ Some word) × WritesWorkers word workers)
+    × (first_of (codes "show") rows ≡ Some (show_name show))
+
+-- `replay` was met, and these were given for it
+abbrev pub HasReplay : Option (Text × List Row) → Text → ℕ → Show → Type 0
+HasReplay met file workers show = (rows : List Row) × (met ≡ Some (codes "replay", rows)) × HasReplayWords rows file workers show
+
+-- the job is a replay with the words that were given
+abbrev pub IsReplayOf : List Row → Job → Type 0
+IsReplayOf rows (One w) = ⊥
+IsReplayOf rows (Decode hex) = ⊥
+IsReplayOf rows (Replay file workers show) = HasReplayWords rows file.now workers show
+
+-- a command was met, and its words were given
+abbrev pub HasJob : Option (Text × List Row) → Type 0
+HasJob met = ((t : OneTexts) × HasOne met t) ⊎ ((hex : Text) × HasDecode met hex) ⊎ ((file : Text) × (workers : ℕ) × (show : Show) × HasReplay met file workers show)
+
+-- the job is the command that was met, with the words that were given for it
+abbrev pub IsJob : Option (Text × List Row) → Job → Type 0
+IsJob met (One w) = HasOne met (texts_of w)
+IsJob met (Decode hex) = HasDecode met hex.now
+IsJob met (Replay file workers show) = HasReplay met file.now workers show
+
+-- the job can be done: where it is a replay, there may be so many workers
+abbrev pub IsFit : Job → Type 0
+IsFit (One w) = Unit {0}
+IsFit (Decode hex) = Unit {0}
+IsFit (Replay file workers show) = AreWorkers workers
+
+-- A mistake is one that the command line has. Where no mistake is found and there is no job, a word is missing.
+abbrev pub IsMistake : List Text → Usage → Type 0
+IsMistake words (Told e) = IsAmong (kind_of e) (fault_of program words)
+    ⊎ ((kind_of e ≡ MissingRequiredArgument) × (¬ HasJob (subcommand_of program words)))
+IsMistake words Memory = Unit {0}
+
+-- the command line `abr one` with these words, whatever the program is called
+abbrev pub one_line : Text → OneTexts → List Text
+one_line name t = name ∷ codes "one" ∷ t.router ∷ t.area ∷ t.address ∷ t.lsa ∷ t.lookup ∷ []
+
+-- the word does not begin with a hyphen
+abbrev pub IsPlainWord : Text → Type 0
+IsPlainWord word = strip_byte 45 word ≡ None
+
+pub record ArePlain (t : OneTexts) : Type 0 where
+  pub router : IsPlainWord t.router
+  pub area : IsPlainWord t.area
+  pub address : IsPlainWord t.address
+  pub lsa : IsPlainWord t.lsa
+  pub lookup : IsPlainWord t.lookup
+
+-- the job is `one` with these words
+abbrev pub IsOne : OneTexts → Job → Type 0
+IsOne t (One w) = texts_of w ≡ t
+IsOne t (Decode hex) = ⊥
+IsOne t (Replay file workers show) = ⊥
+
+-- the command line `abr decode` with this word, whatever the program is called
+abbrev pub decode_line : Text → Text → List Text
+decode_line name hex = name ∷ codes "decode" ∷ hex ∷ []
+
+-- the job is `decode` with this word
+abbrev pub IsDecode : Text → Job → Type 0
+IsDecode word (One w) = ⊥
+IsDecode word (Decode hex) = hex.now ≡ word
+IsDecode word (Replay file workers show) = ⊥
+
+-- the word does not begin with a hyphen, or is one
+abbrev pub IsFileWord : Text → Type 0
+IsFileWord word = IsPlainWord word ⊎ (word ≡ codes "-")
+
+-- the command line `abr replay` with this file, whatever the program is called
+abbrev pub replay_line : Text → Text → List Text
+replay_line name file = name ∷ codes "replay" ∷ file ∷ []
+
+-- the same with `--show` and a name
+abbrev pub show_line : Text → Text → Show → List Text
+show_line name file show = name ∷ codes "replay" ∷ file ∷ codes "--show" ∷ show_name show ∷ []
+
+-- the same with `--workers` and a number
+abbrev pub workers_line : Text → Text → Text → List Text
+workers_line name file number = name ∷ codes "replay" ∷ file ∷ codes "--workers" ∷ number ∷ []
+
+-- the job is `replay` of this file by so many workers, to show this
+abbrev pub IsReplay : Text → ℕ → Show → Job → Type 0
+IsReplay word count what (One w) = ⊥
+IsReplay word count what (Decode hex) = ⊥
+IsReplay word count what (Replay file workers show) = (file.now ≡ word) × (workers ≡ count) × (show ≡ what)

@@ -1,0 +1,52 @@
+//! The commands of the program.
+ghost use Rattle.std.specs.Prelude.{◌≡◌};
+
+use clap::Error;
+use recording::Show;
+use std::alloc::AllocError;
+
+/// The words of `abr one`, as they were given.
+#[derive(Clone, Copy, Debug, PartialEq, Eq)]
+pub struct OneWords<'a> {
+    pub router: &'a str,
+    pub area: &'a str,
+    pub address: &'a str,
+    /// The LSA, in hexadecimal.
+    pub lsa: &'a str,
+    pub lookup: &'a str,
+}
+
+/// A command.
+#[derive(Clone, Copy, Debug, PartialEq, Eq)]
+pub enum Job<'a> {
+    One(OneWords<'a>),
+    /// `abr decode`, with its word.
+    Decode(&'a str),
+    /// `abr replay`, with its file (`-` is standard input), how many workers there are, 1 to 16, and
+    /// what is shown.
+    Replay {
+        file: &'a str,
+        workers: usize,
+        show: Show,
+    },
+}
+
+/// Why there is no job.
+#[derive(Debug, Drop)]
+pub enum Usage {
+    /// What the reader of command lines says, its `Display`. `use_stderr` and `exit_code` say where
+    /// it goes and the status: 2 for a mistake in the words, and 0 for help.
+    Told(Error),
+    /// A growth was refused.
+    Memory,
+}
+
+impl From<AllocError> for Usage {
+    ghost use Rattle.command_line.specs.declared.command.Usage.TheVariants.{Memory};
+
+    ghost from_gives = { λ _ u. u ≡ Memory };
+
+    fn from(_e: AllocError) -> Usage {
+        Usage::Memory
+    }
+}

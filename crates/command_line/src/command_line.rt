@@ -1,0 +1,222 @@
+//! What the command line asks for.
+ghost use Rattle.std.specs.Prelude.{ℕ, ◌≡◌, ◌≢◌, ◌⊎◌, IfOk, IfErr, IfSome, IsNone, MatchResult, false, map};
+ghost use Rattle.clap.specs.Words.{Text, app_of, rows_of, found_of, rule_of, subcommand_of, subcommand_rows_of, kind_of};
+ghost use Rattle.clap.specs.declared.builder.command.Command.TheViews.{out-Command};
+ghost use Rattle.recording.specs.declared.show.Show.{Show};
+ghost use Rattle.command_line.specs.Command.{one_command, decode_command, replay_command, program, required_word, show_option, show_name, References, AreShowNames, OneTexts, texts_of, HasWords, HasJob, IsJob, IsMistake, one_line, ArePlain, IsOne, decode_line, IsPlainWord, IsDecode, IsProgram, replay_line, show_line, workers_line, IsFileWord, IsReplay, HasReplayWords, IsFit, IsReplayOf, WritesWorkers, workers_option};
+
+use crate::command::{Job, OneWords, Usage};
+use clap::builder::ValueParser;
+use clap::error::ErrorKind;
+use clap::{Arg, ArgMatches, Command, Error};
+use recording::Show;
+use std::alloc::{AllocError, Global};
+
+// What `--version` says.
+const VERSION: &str = "0.1.0";
+
+// How many workers there may be.
+const FEWEST_WORKERS: usize = 1;
+
+const MOST_WORKERS: usize = 16;
+
+// What `--show` takes.
+const SHOW_NAMES: &[&str] = &["routes", "due", "lsdb", "journal"];
+
+/// The job that the words name, the first of them the program's name.
+pub fn job<'a>(alloc: Global, words: &'a [&'a str]) -> Result<Job<'a>, Usage>
+    ensures job { IfOk result (IsJob (subcommand_of program (map (λ w. w.now) words.entry.now))) }
+    ensures fit { IfOk result IsFit }
+    ensures mistake { IfErr result (IsMistake (map (λ w. w.now) words.entry.now)) }
+    ensures one { (name : Text) (t : OneTexts) → map (λ w. w.now) words.entry.now ≡ one_line name t
+        → ArePlain t → MatchResult result (IsOne t) (λ u. u ≡ Usage.Memory) }
+    ensures decode { (name hex : Text) → map (λ w. w.now) words.entry.now ≡ decode_line name hex
+        → IsPlainWord hex → MatchResult result (IsDecode hex) (λ u. u ≡ Usage.Memory) }
+    ensures replay { (name file : Text) → map (λ w. w.now) words.entry.now ≡ replay_line name file
+        → IsFileWord file → MatchResult result (IsReplay file 1 Show.Routes) (λ u. u ≡ Usage.Memory) }
+    ensures workers { (name file number : Text) (count : ℕ) → map (λ w. w.now) words.entry.now ≡ workers_line name file number
+        → IsFileWord file → WritesWorkers number count → MatchResult result (IsReplay file count Show.Routes) (λ u. u ≡ Usage.Memory) }
+    ensures show { (name file : Text) (show : Show) → map (λ w. w.now) words.entry.now ≡ show_line name file show
+        → IsFileWord file → MatchResult result (IsReplay file 1 show) (λ u. u ≡ Usage.Memory) }
+{
+    let command = program_command(alloc)?;
+    match command.try_get_matches_from(words) {
+        Ok(matches) => match job_in(&matches) {
+            Some(job) => Ok(job),
+            None => Err(Usage::Told(missing_word(alloc)?)),
+        },
+        Err(error) => Err(usage_of(error)),
+    }
+}
+
+fn usage_of(error: Error) -> Usage
+    ensures { (result ≡ Usage.Memory × kind_of error ≡ ErrorKind.OutOfMemory)
+        ⊎ (result ≡ Usage.Told error × kind_of error ≢ ErrorKind.OutOfMemory) }
+{
+    match error.kind() {
+        ErrorKind::OutOfMemory => Usage::Memory,
+        _ => Usage::Told(error),
+    }
+}
+
+// A required word always has a value, and an option with a default too, but no clause of the matches
+// says so of a subcommand's words.
+fn missing_word(alloc: Global) -> Result<Error, AllocError>
+    ensures { IfOk result (λ e. kind_of e ≡ ErrorKind.MissingRequiredArgument) }
+{
+    let mut command = program_command(alloc)?;
+    command.error(ErrorKind::MissingRequiredArgument, "a word is missing")
+}
+
+fn job_in<'a>(matches: &ArgMatches<'a>) -> Option<Job<'a>>
+    ensures some { IfSome result (IsJob (subcommand_rows_of matches.now)) }
+    ensures none { IsNone result → ¬ HasJob (subcommand_rows_of matches.now) }
+{
+    let (name, words) = matches.subcommand()?;
+    if name == "one" {
+        Some(Job::One(one_words(words)?))
+    } else if name == "decode" {
+        Some(Job::Decode(words.get_str("HEX")?))
+    } else if name == "replay" {
+        replay_job(words)
+    } else {
+        None
+    }
+}
+
+fn replay_job<'a>(words: &ArgMatches<'a>) -> Option<Job<'a>>
+    ensures some { IfSome result (IsReplayOf (rows_of (found_of words.now))) }
+    ensures none { IsNone result → (file : Text) (workers : ℕ) (show : Show)
+        → ¬ HasReplayWords (rows_of (found_of words.now)) file workers show }
+{
+    Some(Job::Replay {
+        file: words.get_str("FILE")?,
+        workers: workers_of(words.get_str("workers")?)?,
+        show: show_of(words.get_str("show")?)?,
+    })
+}
+
+fn one_words<'a>(matches: &ArgMatches<'a>) -> Option<OneWords<'a>>
+    ensures some { IfSome result (λ w. HasWords (rows_of (found_of matches.now)) (texts_of w)) }
+    ensures none { IsNone result → (t : OneTexts) → ¬ HasWords (rows_of (found_of matches.now)) t }
+{
+    Some(OneWords {
+        router: matches.get_str("ROUTER")?,
+        area: matches.get_str("AREA")?,
+        address: matches.get_str("ADDRESS")?,
+        lsa: matches.get_str("HEX")?,
+        lookup: matches.get_str("LOOKUP")?,
+    })
+}
+
+// The number that the word writes, where there may be so many workers.
+fn workers_of(word: &str) -> Option<usize>
+    ensures some { IfSome result (WritesWorkers word.now) }
+    ensures none { IsNone result → (n : ℕ) → ¬ WritesWorkers word.now n }
+{
+    match word.parse() {
+        Ok(number) if FEWEST_WORKERS <= number && number <= MOST_WORKERS => Some(number),
+        _ => None,
+    }
+}
+
+fn show_of(name: &str) -> Option<Show>
+    ensures some { IfSome result (λ show. show_name show ≡ name.now) }
+    ensures none { IsNone result → (show : Show) → show_name show ≢ name.now }
+{
+    if name == "routes" {
+        Some(Show::Routes)
+    } else if name == "due" {
+        Some(Show::Due)
+    } else if name == "lsdb" {
+        Some(Show::Lsdb)
+    } else if name == "journal" {
+        Some(Show::Journal)
+    } else {
+        None
+    }
+}
+
+fn program_command<'a>(alloc: Global) -> Result<Command<'a>, AllocError>
+    ensures { IfOk result (λ c. IsProgram (app_of c)) }
+{
+    Command::new(alloc, "abr")
+        .about("An OSPF area border router's databases and routing table (RFC 2328)")
+        .version(VERSION)
+        .subcommand_required(true)
+        .arg_required_else_help(true)
+        .subcommand(one(alloc)?)?
+        .subcommand(decode(alloc)?)?
+        .subcommand(replay(alloc)?)
+}
+
+fn one<'a>(alloc: Global) -> Result<Command<'a>, AllocError>
+    ensures app { IfOk result (λ c. app_of c ≡ one_command) }
+    ensures local { IfOk result (λ c. (out-Command c).has_globals ≡ false) }
+{
+    Command::new(alloc, "one")
+        .about("Looks an address up in the table that one router-LSA gives")
+        .arg(word(alloc, "ROUTER", "The Router ID"))?
+        .arg(word(alloc, "AREA", "The Area ID"))?
+        .arg(word(alloc, "ADDRESS", "The address of interface 1, which is up"))?
+        .arg(word(alloc, "HEX", "The LSA, in hexadecimal"))?
+        .arg(word(alloc, "LOOKUP", "The address to look up"))
+}
+
+fn decode<'a>(alloc: Global) -> Result<Command<'a>, AllocError>
+    ensures app { IfOk result (λ c. app_of c ≡ decode_command) }
+    ensures local { IfOk result (λ c. (out-Command c).has_globals ≡ false) }
+{
+    Command::new(alloc, "decode")
+        .about("Prints the fields of an LSA")
+        .arg(word(alloc, "HEX", "The LSA, in hexadecimal"))
+}
+
+fn replay<'a>(alloc: Global) -> Result<Command<'a>, AllocError>
+    ensures app { IfOk result (λ c. (names : References) × AreShowNames names × (app_of c ≡ replay_command names)) }
+    ensures local { IfOk result (λ c. (out-Command c).has_globals ≡ false) }
+{
+    Command::new(alloc, "replay")
+        .about("Runs a recording and shows what came of it")
+        .arg(word(alloc, "FILE", "The recording, or - for standard input"))?
+        .arg(workers_option(alloc))?
+        .arg(show_option(alloc))
+}
+
+fn workers_option<'a>(alloc: Global) -> Arg<'a>
+    ensures rule { rule_of result ≡ workers_option }
+    ensures local { result.global ≡ false }
+{
+    Arg::new(alloc, "workers")
+        .long("workers")
+        .value_name("N")
+        .value_parser(ValueParser::unsigned(FEWEST_WORKERS as u64, MOST_WORKERS as u64))
+        .default_value("1")
+        .help("How many threads take the events, 1 to 16")
+}
+
+fn show_option<'a>(alloc: Global) -> Arg<'a>
+    ensures rule { (names : References) × AreShowNames names × (rule_of result ≡ show_option names) }
+    ensures local { result.global ≡ false }
+{
+    Arg::new(alloc, "show")
+        .long("show")
+        .value_name("NAME")
+        .value_parser(show_parser())
+        .default_value("routes")
+        .help("What is shown after the run")
+}
+
+fn show_parser<'a>() -> ValueParser<'a>
+    ensures { (names : References) × AreShowNames names × (result ≡ ValueParser.Names names) }
+{
+    ValueParser::Names(SHOW_NAMES)
+}
+
+// A word that has to be there.
+fn word<'a>(alloc: Global, id: &'a str, help: &'a str) -> Arg<'a>
+    ensures rule { rule_of result ≡ required_word id.entry.now }
+    ensures local { result.global ≡ false }
+{
+    Arg::new(alloc, id).required(true).help(help)
+}

@@ -1,0 +1,3 @@
+pub mod Configs
+pub mod Neighbours
+pub mod Texts

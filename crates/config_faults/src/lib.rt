@@ -1,0 +1,8 @@
+//! What a router's configuration must not be (RFC 2328, 3.5, 3.6 and C.2): its areas, their ranges and their default costs.
+#![tactic(auto)]
+
+mod config_fault;
+mod fault;
+
+pub use config_fault::fault_in;
+pub use fault::ConfigFault;
