@@ -10,10 +10,10 @@ use Rattle.recording.specs.declared.show.Show.{Show}
 use Rattle.worker_replay.specs.declared.fault.ManyFault.{ManyFault}
 use Rattle.worker_replay.specs.declared.fault.ManyFault.TheVariants.{Replay, Spawn, Place, NoEntry}
 use Rattle.worker_replay.specs.Outputs as many
-use Rattle.abr_cli.specs.declared.command_fault.CommandFault.TheVariants as fault
-use Rattle.abr_cli.specs.Faults.{command_fault_text, fault_line}
-use Rattle.abr_cli.specs.Answers.{IsSaid}
-use Rattle.abr_cli.proofs.Said.{said_of}
+use Rattle.command_answers.specs.declared.command_fault.CommandFault.TheVariants as fault
+use Rattle.command_answers.specs.Faults.{command_fault_text, fault_line}
+use Rattle.command_answers.specs.Answers.{IsSaid}
+use Rattle.command_answers.proofs.Said.{said_of}
 use Rattle.abr_cli.specs.Replaying.{EndsBy, EndsEarly, IsEndSaid, IsReplayTold, IsReplayedPart}
 
 -- a replay may end for want of memory wherever it may end

@@ -1,5 +1,1 @@
-pub mod Answering
-pub mod Learning
-pub mod Decoding
-pub mod Said
 pub mod Ended

@@ -4,11 +4,11 @@ use Rattle.command_line.specs.declared.command.Job.{Job}
 use Rattle.command_line.specs.declared.command.Job.TheVariants as job
 use Rattle.command_line.specs.declared.command.Usage.{Usage}
 use Rattle.command_line.specs.Command.{texts_of}
-use Rattle.abr_cli.specs.Answers.{Tells}
-use Rattle.abr_cli.specs.One.{IsOneAnswer}
-use Rattle.abr_cli.specs.Decode.{IsDecodeAnswer}
+use Rattle.command_answers.specs.Answers.{Tells}
+use Rattle.command_answers.specs.One.{IsOneAnswer}
+use Rattle.command_answers.specs.Decode.{IsDecodeAnswer}
 use Rattle.abr_cli.specs.Replaying.{IsReplayTold}
-use Rattle.abr_cli.specs.Usage.{IsUsageAnswer}
+use Rattle.command_answers.specs.Usage.{IsUsageAnswer}
 
 -- The job was done. A replay alone reads its input.
 abbrev pub IsDone : Job → (status : ℕ) (i i' o o' f f' : Option (List ℕ)) → Type 0

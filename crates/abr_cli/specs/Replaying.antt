@@ -9,9 +9,9 @@ use Rattle.replay.specs.Outputs as one
 use Rattle.worker_replay.specs.declared.fault.ManyFault.{ManyFault}
 use Rattle.worker_replay.specs.declared.fault.ManyFault.TheVariants.{Replay, Spawn, Place, NoEntry}
 use Rattle.worker_replay.specs.Outputs as many
-use Rattle.abr_cli.specs.declared.command_fault.CommandFault.{CommandFault}
-use Rattle.abr_cli.specs.declared.command_fault.CommandFault.TheVariants as fault
-use Rattle.abr_cli.specs.Answers.{IsSaidOf}
+use Rattle.command_answers.specs.declared.command_fault.CommandFault.{CommandFault}
+use Rattle.command_answers.specs.declared.command_fault.CommandFault.TheVariants as fault
+use Rattle.command_answers.specs.Answers.{IsSaidOf}
 
 -- the fault of a replay as one of the command; the file is named where it cannot be read
 abbrev pub fault_from : Bor (List ℕ) → ManyFault → CommandFault

@@ -1,13 +1,11 @@
 //! The command `replay`.
 ghost use Rattle.std.specs.Prelude.{◌≡◌, ◌⊎◌};
-ghost use Rattle.abr_cli.specs.Faults.{command_fault_text, fault_line, status_of};
-ghost use Rattle.abr_cli.specs.Answers.{IsSaid};
+ghost use Rattle.command_answers.specs.Faults.{command_fault_text, fault_line, status_of};
+ghost use Rattle.command_answers.specs.Answers.{IsSaid};
 ghost use Rattle.command_line.specs.Command.{AreWorkers};
 ghost use Rattle.abr_cli.specs.Replaying.{fault_from as from_replay, EndsBy, IsEndSaid, IsReplayTold};
 
-use crate::answer::line_of;
-use crate::command_fault::CommandFault;
-use crate::telling::{CANNOT_WRITE, NO_MEMORY, say};
+use command_answers::{CANNOT_WRITE, CommandFault, NO_MEMORY, line_of, say};
 use replay::{ReplayFault, Show, replay_one};
 use std::alloc::Global;
 use std::hash::RandomState;

@@ -3,11 +3,8 @@ ghost use Rattle.std.specs.Prelude.{IfOk};
 ghost use Rattle.command_line.specs.Command.{IsFit};
 ghost use Rattle.abr_cli.specs.Jobs.{IsDone, IsJobTold};
 
-use crate::decode_lsa::decode;
-use crate::one_lookup::one;
 use crate::replaying::replay;
-use crate::telling::tell;
-use crate::usage::answer_usage;
+use command_answers::{answer_usage, decode, one, tell};
 use command_line::{Job, Usage};
 use std::alloc::Global;
 use std::hash::RandomState;

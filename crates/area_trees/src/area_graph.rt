@@ -19,10 +19,19 @@ use std::marker::Model;
 use vertex_graph::{Graph, LinkChanges, Up};
 
 /// The graph of an area. After an error it is that of no database.
-#[derive(Debug, Drop)]
 pub(crate) struct AreaGraph {
     graph: Graph,
     networks: Networks,
+}
+
+// proof: one call drops it, in place of a drop of each part wherever one is held.
+impl Drop for AreaGraph {
+    fn drop(self) {
+        let AreaGraph {
+            graph: _graph,
+            networks: _networks,
+        } = self;
+    }
 }
 
 impl Model for AreaGraph {

@@ -42,7 +42,6 @@ use std::marker::Model;
 use summaries::ActiveRanges;
 
 /// What may differ since an event, by a calculation that has followed it.
-#[derive(Debug, Drop)]
 pub struct Changed {
     /// Networks, ascending, each once: the table has another item for these alone, if for all.
     pub networks: Vec<Prefix>,
@@ -52,14 +51,37 @@ pub struct Changed {
     pub work: Touched,
 }
 
+// proof: one call drops it, in place of a drop of each part wherever one is held.
+impl Drop for Changed {
+    fn drop(self) {
+        let Changed {
+            networks: _networks,
+            dests: _dests,
+            work: _,
+        } = self;
+    }
+}
+
 /// What is kept of a state: the trees of its areas, and its routes, each layer by those below it.
-#[derive(Debug, Drop)]
 pub struct Calculation {
     trees: Vec<AreaTree>,
     intra: Intra,
     active: ActiveRanges,
     inter: Inter,
     external: External,
+}
+
+// proof: one call drops it, in place of a drop of each part wherever one is held.
+impl Drop for Calculation {
+    fn drop(self) {
+        let Calculation {
+            trees: _trees,
+            intra: _intra,
+            active: _active,
+            inter: _inter,
+            external: _external,
+        } = self;
+    }
 }
 
 impl Model for Calculation {

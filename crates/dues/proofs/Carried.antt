@@ -2,11 +2,11 @@
 use Rattle.std.proofs.Common.{◌≡◌, ℕ, ◌+◌, ◌<◌, List, [], ◌∷◌, ◌++◌, length, get_or, set, take, drop, sym, ap, subst, ◌∙◌, inl, inr, arith, append_assoc}
 use Rattle.std.proofs.lemmas.Bool.{cases_lt}
 use Rattle.std.proofs.lemmas.List.{drop_all, take_more_set, drop-set-lt, take-append-drop}
-use Rattle.dues.specs.declared.plan.AreaPlan.{AreaPlan}
-use Rattle.dues.specs.Lists.{AreaDuesValue}
-use Rattle.dues.specs.Plans.{Fits, Leads}
+use Rattle.due_lists.specs.declared.plan.AreaPlan.{AreaPlan}
+use Rattle.due_lists.specs.Lists.{AreaDuesValue}
+use Rattle.due_lists.specs.Plans.{Fits, Leads}
 use Rattle.dues.specs.Carrying.{AllFit, AllLead}
-use Rattle.dues.proofs.Changing.{left_at}
+use Rattle.due_lists.proofs.Changing.{left_at}
 
 -- so many were carried out: the plans that are left may be, and then all were
 pub record IsCarriedTo (plans : List AreaPlan) (old : List AreaDuesValue) (left : List AreaPlan) (now : List AreaDuesValue) (i : ℕ) : Type 0 where

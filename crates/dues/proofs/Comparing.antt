@@ -16,12 +16,12 @@ use Rattle.ospf_types.specs.declared.key.Dest.{Dest}
 use Rattle.ospf_types.specs.Keys.{dest_cmp}
 use Rattle.ospf_types.proofs.Elements.{no_element, first_element, contains_more}
 use Rattle.ospf_types.proofs.InOrder.{only_item}
-use Rattle.dues.specs.declared.due.Due.{Due}
+use Rattle.due_lists.specs.declared.due.Due.{Due}
 use Rattle.dues.specs.Inputs.{DueInputsValue}
 use Rattle.dues.specs.Giving.{IsDueIn}
-use Rattle.dues.specs.Lists.{Metrics, IsMetricIn, due_for}
+use Rattle.due_lists.specs.Lists.{Metrics, IsMetricIn, due_for}
 use Rattle.dues.specs.Changes.{AreChangesIn, IsChangeAdded}
-use Rattle.dues.proofs.Changing.{left_at}
+use Rattle.due_lists.proofs.Changing.{left_at}
 
 -- ---- two metrics of one destination
 

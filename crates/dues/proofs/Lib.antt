@@ -1,9 +1,3 @@
-pub mod Parts
-pub mod Placing
-pub mod Changing
-pub mod Merging
-pub mod Pushing
-pub mod Putting
 pub mod Adding
 pub mod Frame
 pub mod GivenParts

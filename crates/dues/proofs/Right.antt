@@ -11,7 +11,7 @@ use Rattle.ospf_types.specs.Summaries.{IsDue, IsDueTo}
 use Rattle.ospf_types.proofs.Elements.{first_element, later_element}
 use Rattle.dues.specs.Giving.{IsNetworkDueIn, IsRouterDueIn, IsServed, IsDueIn, IsDueTo as IsDueToIn}
 use Rattle.dues.specs.Inputs.{DueInputsValue}
-use Rattle.dues.specs.Lists.{AreaDuesValue}
+use Rattle.due_lists.specs.Lists.{AreaDuesValue}
 use Rattle.dues.specs.Dues.{DuesValue, IsListOf, AreListsOf, AreDuesOf}
 use Rattle.dues.specs.Right.{AreConfigured, AreInputsOf, IsListRight, AreListsRight, IsRightFor}
 use Rattle.dues.proofs.Areas.{border_served, served_active, served_border}

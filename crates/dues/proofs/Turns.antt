@@ -15,14 +15,14 @@ use Rattle.ospf_types.specs.declared.key.Dest.{Dest}
 use Rattle.ospf_types.proofs.Elements.{no_element, first_element, later_element, mapped_from}
 use Rattle.ospf_types.proofs.Orders.{dest_total, dest_exact}
 use Rattle.result_map.proofs.KeyedMaps.{listed_or_not}
-use Rattle.dues.specs.declared.due.Due.{Due}
-use Rattle.dues.specs.declared.plan.AreaPlan.{AreaPlan}
-use Rattle.dues.specs.declared.plan.AreaPlan.TheVariants.{Put, Whole}
+use Rattle.due_lists.specs.declared.due.Due.{Due}
+use Rattle.due_lists.specs.declared.plan.AreaPlan.{AreaPlan}
+use Rattle.due_lists.specs.declared.plan.AreaPlan.TheVariants.{Put, Whole}
 use Rattle.dues.specs.Inputs.{DueInputsValue}
 use Rattle.dues.specs.Giving.{IsDueIn}
-use Rattle.dues.specs.Lists.{AreaDuesValue, AreInOrder, AreOfKind, Metrics, due_for, kind_of, IsChangedBy}
+use Rattle.due_lists.specs.Lists.{AreaDuesValue, AreInOrder, AreOfKind, Metrics, due_for, kind_of, IsChangedBy}
 use Rattle.dues.specs.Dues.{IsListOf, AreListsOf, listed}
-use Rattle.dues.specs.Plans.{Fits, Leads}
+use Rattle.due_lists.specs.Plans.{Fits, Leads}
 use Rattle.dues.specs.Carrying.{AllFit, AllLead}
 use Rattle.dues.specs.Changes.{DiffersIn, DifferAt}
 use Rattle.dues.specs.Planning.{Turn, IsTurn, AreTurns, IsPlannedIn, ArePlanned, ArePlannedTo}

@@ -6,10 +6,10 @@ use Rattle.std.proofs.lemmas.List.{take_more}
 use Rattle.ospf_types.specs.declared.config.AreaConfig.{AreaConfig}
 use Rattle.ospf_types.specs.declared.key.Dest.{Dest}
 use Rattle.ospf_types.proofs.Elements.{no_element}
-use Rattle.dues.specs.declared.due.Due.{Due}
+use Rattle.due_lists.specs.declared.due.Due.{Due}
 use Rattle.dues.specs.Inputs.{DueInputsValue}
 use Rattle.dues.specs.Giving.{IsDueIn}
-use Rattle.dues.specs.Lists.{AreaDuesValue, AreInOrder}
+use Rattle.due_lists.specs.Lists.{AreaDuesValue, AreInOrder}
 use Rattle.dues.specs.Dues.{AreListsOf, IsListOf}
 use Rattle.dues.specs.Changes.{InputsDifferAmong}
 

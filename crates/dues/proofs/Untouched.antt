@@ -6,10 +6,10 @@ use Rattle.std.proofs.lemmas.List.Elements.{Contains-append_left, Contains-appen
 use Rattle.ospf_types.specs.declared.config.AreaConfig.{AreaConfig}
 use Rattle.ospf_types.specs.declared.key.Dest.{Dest}
 use Rattle.ospf_types.proofs.Elements.{no_element, first_or_later, mapped_element}
-use Rattle.dues.specs.declared.due.Due.{Due}
+use Rattle.due_lists.specs.declared.due.Due.{Due}
 use Rattle.dues.specs.Inputs.{DueInputsValue}
 use Rattle.dues.specs.Giving.{IsDueIn}
-use Rattle.dues.specs.Lists.{AreaDuesValue, due_for}
+use Rattle.due_lists.specs.Lists.{AreaDuesValue, due_for}
 use Rattle.dues.specs.Dues.{AreDuesOf, AreListsOf, DuesValue, dests_of}
 use Rattle.dues.specs.Changes.{AreDueAlikeBut, InputsDifferAmong}
 use Rattle.dues.specs.Touched.{IsTouchedBy}

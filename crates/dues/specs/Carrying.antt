@@ -1,9 +1,9 @@
 -- What is to change in due summaries, area by area, and what comes of it.
 use Rattle.std.specs.Prelude.{ℕ, ◌≡◌, List, [], ◌∷◌}
-use Rattle.dues.specs.declared.plan.AreaPlan.{AreaPlan}
-use Rattle.dues.specs.Lists.{AreaDuesValue}
+use Rattle.due_lists.specs.declared.plan.AreaPlan.{AreaPlan}
+use Rattle.due_lists.specs.Lists.{AreaDuesValue}
 use Rattle.dues.specs.Dues.{DuesValue}
-use Rattle.dues.specs.Plans.{Fits, Leads}
+use Rattle.due_lists.specs.Plans.{Fits, Leads}
 
 abbrev pub AllFit : List AreaPlan → List AreaDuesValue → Type 0
 AllFit [] [] = Unit {0}

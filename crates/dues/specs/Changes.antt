@@ -8,10 +8,10 @@ use Rattle.ospf_types.specs.declared.key.Dest.TheVariants.{Net, Router}
 use Rattle.ospf_types.specs.declared.prefix.Prefix.{Prefix}
 use Rattle.ospf_types.specs.Address.{Covers}
 use Rattle.summaries.specs.declared.member.Member.{Member}
-use Rattle.dues.specs.declared.due.Due.{Due}
+use Rattle.due_lists.specs.declared.due.Due.{Due}
 use Rattle.dues.specs.Inputs.{DueInputsValue}
 use Rattle.dues.specs.Giving.{IsDueIn}
-use Rattle.dues.specs.Lists.{AreaDuesValue, Metrics, AreMetricsInOrder, IsMetricIn, due_for}
+use Rattle.due_lists.specs.Lists.{AreaDuesValue, Metrics, AreMetricsInOrder, IsMetricIn, due_for}
 use Rattle.dues.specs.Dues.{DuesValue}
 
 -- the routes differ in no more than is named; of other active areas nothing need be named

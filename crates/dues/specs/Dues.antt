@@ -2,10 +2,10 @@
 use Rattle.std.specs.Prelude.{ℕ, ◌≡◌, ◌↔◌, List, [], ◌∷◌, Contains, Option, Some, None, map, if◌then◌else◌, ◌==◌}
 use Rattle.ospf_types.specs.declared.config.AreaConfig.{AreaConfig}
 use Rattle.ospf_types.specs.declared.key.Dest.{Dest}
-use Rattle.dues.specs.declared.due.Due.{Due}
+use Rattle.due_lists.specs.declared.due.Due.{Due}
 use Rattle.dues.specs.Inputs.{DueInputsValue}
 use Rattle.dues.specs.Giving.{IsDueIn}
-use Rattle.dues.specs.Lists.{AreaDuesValue, AreInOrder, kind_of}
+use Rattle.due_lists.specs.Lists.{AreaDuesValue, AreInOrder, kind_of}
 
 pub record DuesValue : Type 0 where
   pub areas : List AreaDuesValue  -- in the order of the configuration

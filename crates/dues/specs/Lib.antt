@@ -1,11 +1,10 @@
 pub mod Inputs
 pub mod Giving
-pub mod Lists
-pub mod Places
-pub mod Plans
 pub mod Dues
 pub mod Carrying
 pub mod Touched
 pub mod Changes
 pub mod Planning
 pub mod Right
+pub use Rattle.due_lists.specs.Lists
+pub use Rattle.due_lists.specs.declared.due.Due

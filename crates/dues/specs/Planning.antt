@@ -4,12 +4,12 @@ use Rattle.std.specs.List.{flat_map}
 use Rattle.std.specs.Map.{keys_of}
 use Rattle.ospf_types.specs.declared.config.AreaConfig.{AreaConfig}
 use Rattle.ospf_types.specs.declared.key.Dest.{Dest}
-use Rattle.dues.specs.declared.plan.AreaPlan.{AreaPlan}
+use Rattle.due_lists.specs.declared.plan.AreaPlan.{AreaPlan}
 use Rattle.dues.specs.Inputs.{DueInputsValue}
-use Rattle.dues.specs.Lists.{AreaDuesValue, Metrics, IsChangedBy}
+use Rattle.due_lists.specs.Lists.{AreaDuesValue, Metrics, IsChangedBy}
 use Rattle.dues.specs.Dues.{listed}
 use Rattle.dues.specs.Changes.{AreChangesIn}
-use Rattle.dues.specs.Plans.{Fits, Leads}
+use Rattle.due_lists.specs.Plans.{Fits, Leads}
 
 -- an area, its list before and after, its plan, and the metrics that differ
 pub record Turn : Type 0 where

@@ -9,8 +9,8 @@ use Rattle.intra.specs.Right.{IsRightFor as IsIntraRight}
 use Rattle.inter.specs.Right.{IsRightFor as IsInterRight}
 use Rattle.summaries.specs.Active.{AreRangesOf}
 use Rattle.external.specs.Right.{IsRightFor as IsExternalRight}
-use Rattle.dues.specs.declared.due.Due.{Due}
-use Rattle.dues.specs.Lists.{AreaDuesValue, AreInOrder, kind_of}
+use Rattle.due_lists.specs.declared.due.Due.{Due}
+use Rattle.due_lists.specs.Lists.{AreaDuesValue, AreInOrder, kind_of}
 use Rattle.dues.specs.Dues.{DuesValue}
 use Rattle.dues.specs.Inputs.{DueInputsValue}
 

@@ -12,12 +12,10 @@ ghost use Rattle.dues.specs.Carrying.{AllFit, AllLead, IsReady, IsCarriedOut};
 ghost use Rattle.dues.specs.Planning.{ArePlanned, IsPlannedIn};
 ghost use Rattle.dues.specs.Right.{AreInputsOf, IsRightFor};
 
-use crate::due::Due;
 use crate::giving::metric;
 use crate::inputs::DueInputs;
-use crate::list::AreaDues;
-use crate::plan::AreaPlan;
 use crate::touched::{all, ascending, touched};
+use due_lists::{AreaDues, AreaPlan, Due};
 use ospf_types::config::AreaConfig;
 use ospf_types::key::Dest;
 use ospf_types::memory::Memory;
@@ -25,7 +23,7 @@ use std::alloc::Global;
 use std::marker::Model;
 
 /// What is to change in due summaries, with room for it.
-#[derive(Debug, Drop)]
+#[derive(Drop)]
 pub struct Plan {
     areas: Vec<AreaPlan>,
     active: Vec<u32>,
@@ -33,7 +31,7 @@ pub struct Plan {
 
 impl Model for Plan {
     ghost use Rattle.std.specs.Coded.{codes};
-    ghost use Rattle.dues.specs.contracts.plan.AreaPlan as area_plan;
+    ghost use Rattle.due_lists.specs.contracts.plan.AreaPlan as area_plan;
     ghost use Rattle.dues.specs.Carrying.{PlanValue};
 
     ghost Value = { PlanValue };
@@ -44,15 +42,24 @@ impl Model for Plan {
 }
 
 /// The summaries that an area border router is to send into its areas (RFC 2328, 12.4.3).
-#[derive(Debug, Drop)]
 pub struct Dues {
     areas: Vec<AreaDues>,
     active: Vec<u32>,
 }
 
+// proof: one call drops it, in place of a drop of each part wherever one is held.
+impl Drop for Dues {
+    fn drop(self) {
+        let Dues {
+            areas: _areas,
+            active: _active,
+        } = self;
+    }
+}
+
 impl Model for Dues {
     ghost use Rattle.std.specs.Coded.{codes};
-    ghost use Rattle.dues.specs.contracts.list.AreaDues as area_dues;
+    ghost use Rattle.due_lists.specs.contracts.list.AreaDues as area_dues;
     ghost use Rattle.dues.specs.Dues.{DuesValue};
 
     ghost Value = { DuesValue };

@@ -2,15 +2,11 @@
 //! follow the routes: what may differ is worked out again, and nothing else.
 #![tactic(auto)]
 
-mod due;
 mod dues;
 mod giving;
 mod inputs;
-mod list;
-mod plan;
 mod touched;
 
-pub use due::Due;
+pub use due_lists::{AreaDues, Due};
 pub use dues::{Dues, Plan};
 pub use inputs::DueInputs;
-pub use list::AreaDues;

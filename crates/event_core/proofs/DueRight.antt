@@ -8,7 +8,7 @@ use Rattle.std.specs.List.{Contains}
 use Rattle.std.proofs.lemmas.Bool.Decides.{eqb_tells}
 use Rattle.ospf_types.specs.Inputs.{Inputs, Area}
 use Rattle.ospf_types.proofs.Elements.{no_element, first_element, later_element, first_or_later}
-use Rattle.dues.specs.declared.due.Due.{Due}
+use Rattle.dues.specs.Due.{Due}
 use Rattle.dues.specs.Lists.{AreaDuesValue}
 use Rattle.dues.specs.Dues.{list_in, listed, lists_of}
 use Rattle.dues.specs.Right.{AreListsRight}

@@ -14,7 +14,7 @@ use Rattle.event_state.specs.Steps.{opening, step, refusal_of, run_from, run_of,
 use Rattle.vertex_graph.specs.Graphs.{most_routers}
 use Rattle.route_table.specs.Tables.{TableValue}
 use Rattle.dues.specs.Dues.{lists_of}
-use Rattle.dues.specs.declared.due.Due.{Due}
+use Rattle.dues.specs.Due.{Due}
 use Rattle.event_core.specs.Right.{IsRight, AreDue}
 use Rattle.event_core.specs.declared.reply.Reply.{Reply}
 use Rattle.event_core.specs.declared.reply.Standing.{Standing}

@@ -14,7 +14,7 @@ use Rattle.event_state.specs.States.{State, LooksAlike}
 use Rattle.event_state.specs.Steps.{run_of, refusal_of, IsLegalList}
 use Rattle.event_state.specs.Refusals.{IsRefusalOf}
 use Rattle.route_table.specs.Tables.{TableValue}
-use Rattle.dues.specs.declared.due.Due.{Due}
+use Rattle.dues.specs.Due.{Due}
 use Rattle.event_core.specs.Right.{IsRight, AreDue}
 use Rattle.ospf_types.specs.declared.prefix.Prefix.{Prefix}
 use Rattle.spf.specs.declared.touched.Touched.{Touched}

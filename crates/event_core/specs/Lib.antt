@@ -8,4 +8,4 @@ pub use Rattle.config_faults.specs.Texts
 pub use Rattle.config_faults.specs.declared.fault.ConfigFault
 pub use Rattle.dues.specs.Dues
 pub use Rattle.dues.specs.Lists
-pub use Rattle.dues.specs.declared.due.Due
+pub use Rattle.dues.specs.Due

@@ -2,7 +2,7 @@
 use Rattle.std.specs.Prelude.{ℕ, ◌≡◌, ◌≢◌, ◌↔◌, List, [], ◌∷◌, Contains, Option, Some, None, length, if◌then◌else◌, ◌==◌}
 use Rattle.ospf_types.specs.Inputs.{Inputs, Area}
 use Rattle.ospf_types.specs.Summaries.{IsDue}
-use Rattle.dues.specs.declared.due.Due.{Due}
+use Rattle.dues.specs.Due.{Due}
 use Rattle.dues.specs.Lists.{AreInOrder, kind_of}
 use Rattle.event_state.specs.States.{State, inputs_of}
 use Rattle.route_table.specs.Tables.{TableValue}

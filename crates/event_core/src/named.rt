@@ -10,7 +10,7 @@ use ospf_types::memory::Memory;
 use std::alloc::Global;
 
 /// The LSAs and the interfaces that an event may change: the ones or the others.
-#[derive(Debug, Drop)]
+#[derive(Drop)]
 pub(crate) struct Named {
     pub(crate) keys: Vec<(Scope, Key)>,
     pub(crate) interfaces: Vec<u8>,

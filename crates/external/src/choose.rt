@@ -29,7 +29,7 @@ use std::marker::Model;
 
 // What external routes to one network are compared by: type 1 before type 2, the metric of type 2, the class of the way, and
 // then the cost, which is the distance alone for type 2.
-#[derive(Clone, Copy, Debug, PartialEq, Eq, PartialOrd, Ord)]
+#[derive(Clone, Copy, PartialEq, Eq, PartialOrd, Ord)]
 struct ExternalKey {
     kind: u8,
     metric: u32,

@@ -35,16 +35,27 @@ use std::marker::Model;
 
 /// The external routes of a router: the entry of each network outside the AS, and the preferred entry of each AS boundary
 /// router.
-#[derive(Drop)]
-#[derive_where(Debug)]
 pub struct External {
-    #[derive_where(skip)]
     hashing: RandomState,
     index: OfferIndex,
     preferred: ResultMap<u32, Preferred>,
     forwards: ResultMap<u32, Forward>,
     entries: ResultMap<Prefix, Entry>,
     spent: bool,
+}
+
+// proof: one call drops it, in place of a drop of each part wherever one is held.
+impl Drop for External {
+    fn drop(self) {
+        let External {
+            hashing: _,
+            index: _index,
+            preferred: _preferred,
+            forwards: _forwards,
+            entries: _entries,
+            spent: _,
+        } = self;
+    }
 }
 
 impl Model for External {

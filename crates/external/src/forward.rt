@@ -17,11 +17,21 @@ use std::alloc::Global;
 use std::marker::Model;
 
 /// A way to a forwarding address: its class, its cost, and its next hops, each toward the address.
-#[derive(Debug, Drop)]
 pub(crate) struct Way {
     class: u8,
     cost: u32,
     hops: Vec<NextHop>,
+}
+
+// proof: one call drops it, in place of a drop of each part wherever one is held.
+impl Drop for Way {
+    fn drop(self) {
+        let Way {
+            class: _,
+            cost: _,
+            hops: _hops,
+        } = self;
+    }
 }
 
 impl Model for Way {
@@ -73,10 +83,19 @@ impl Same for Way {
 }
 
 /// The longest match of a forwarding address, and the way there; none where the match is a discard.
-#[derive(Debug, Drop)]
 pub(crate) struct Forward {
     matched: Option<Prefix>,
     way: Option<Way>,
+}
+
+// proof: one call drops it, in place of a drop of each part wherever one is held.
+impl Drop for Forward {
+    fn drop(self) {
+        let Forward {
+            matched: _matched,
+            way: _way,
+        } = self;
+    }
 }
 
 impl Model for Forward {

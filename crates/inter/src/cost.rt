@@ -9,7 +9,7 @@ use result_map::Same;
 use std::marker::Model;
 
 /// The distance of a border router and the metric of its summary.
-#[derive(Clone, Copy, Debug, PartialEq, Eq, PartialOrd, Ord)]
+#[derive(Clone, Copy, PartialEq, Eq, PartialOrd, Ord)]
 pub(crate) struct SummaryCost(u32);
 
 impl Model for SummaryCost {
@@ -49,9 +49,15 @@ impl SummaryCost {
 }
 
 /// The entry of an inter-area destination, at such a cost.
-#[derive(Debug, Drop)]
 pub(crate) struct InterEntry {
     entry: Entry,
+}
+
+// proof: one call drops it, in place of a drop of each part wherever one is held.
+impl Drop for InterEntry {
+    fn drop(self) {
+        let InterEntry { entry: _entry } = self;
+    }
 }
 
 impl Model for InterEntry {

@@ -27,13 +27,25 @@ use std::marker::Model;
 
 /// The inter-area routes of a router: the entry of each network, and of each AS boundary router that is not reached in the
 /// examined area.
-#[derive(Debug, Drop)]
 pub struct Inter {
     hashing: RandomState,
     examined: Option<u32>,
     index: OfferIndex,
     entries: ResultMap<Dest, InterEntry>,
     spent: bool,
+}
+
+// proof: one call drops it, in place of a drop of each part wherever one is held.
+impl Drop for Inter {
+    fn drop(self) {
+        let Inter {
+            hashing: _,
+            examined: _examined,
+            index: _index,
+            entries: _entries,
+            spent: _,
+        } = self;
+    }
 }
 
 impl Model for Inter {

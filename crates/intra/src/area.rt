@@ -28,11 +28,21 @@ use std::hash::RandomState;
 use std::marker::Model;
 
 /// What is kept of an area.
-#[derive(Debug, Drop)]
 pub(crate) struct AreaIntra {
     id: u32,
     index: AreaIndex,
     reached: IndexMap<u32, Reached, RandomState>,
+}
+
+// proof: one call drops it, in place of a drop of each part wherever one is held.
+impl Drop for AreaIntra {
+    fn drop(self) {
+        let AreaIntra {
+            id: _,
+            index: _index,
+            reached: _reached,
+        } = self;
+    }
 }
 
 impl Model for AreaIntra {

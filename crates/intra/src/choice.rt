@@ -44,7 +44,7 @@ impl ExactOrd for u32 {
 
 /// The key of an intra-area route: the lesser cost first, and at one cost the greater area
 /// (RFC 2328, 16.4).
-#[derive(Clone, Copy, Debug, PartialEq, Eq, PartialOrd, Ord)]
+#[derive(Clone, Copy, PartialEq, Eq, PartialOrd, Ord)]
 pub struct AreaCost {
     cost: u32,
     area: Reverse<u32>,
@@ -99,10 +99,19 @@ impl AreaCost {
 
 /// The least key at which something was offered, with all that was offered at it: in order, each
 /// once.
-#[derive(Debug, Drop)]
 pub struct Choice<K, X> {
     key: K,
     items: Vec<X>,
+}
+
+// proof: one call drops it, in place of a drop of each part wherever one is held.
+impl<K: Drop, X: Drop> Drop for Choice<K, X> {
+    fn drop(self) {
+        let Choice {
+            key: _key,
+            items: _items,
+        } = self;
+    }
 }
 
 impl<K, X> Model for Choice<K, X> {
@@ -186,7 +195,7 @@ fn add_in_order<X: ExactOrd + Drop>(items: &mut Vec<X>, item: X) -> Result<(), M
 }
 
 /// The best of the offers so far; none before the first.
-#[derive(Debug, Drop)]
+#[derive(Drop)]
 pub struct Best<K, X> {
     alloc: Global,
     choice: Option<Choice<K, X>>,

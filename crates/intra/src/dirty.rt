@@ -2,7 +2,7 @@ use ospf_types::entry::Vertex;
 use ospf_types::key::{Dest, Key, Scope};
 
 /// What differs in the inputs of a calculation. It may name more than differs, and what is not there.
-#[derive(Debug, Drop)]
+#[derive(Drop)]
 pub struct Dirty {
     /// Vertices whose distance or next hops differ, each with its Area ID.
     pub vertices: Vec<(u32, Vertex)>,

@@ -18,11 +18,21 @@ const BORDER: u8 = 1;
 const BOUNDARY: u8 = 2;
 
 /// A border router or AS boundary router that is reached: another router than the one that calculates.
-#[derive(Debug, Drop)]
 pub struct Reached {
     flags: u8,
     distance: u32,
     hops: Vec<NextHop>,
+}
+
+// proof: one call drops it, in place of a drop of each part wherever one is held.
+impl Drop for Reached {
+    fn drop(self) {
+        let Reached {
+            flags: _,
+            distance: _,
+            hops: _hops,
+        } = self;
+    }
 }
 
 impl Model for Reached {

@@ -19,9 +19,16 @@ use std::marker::Model;
 
 /// A link-state advertisement whose bytes are sound and in the grammar. It is its bytes, and seen as
 /// the advertisement that they spell.
-#[derive(Debug, Drop)]
+#[derive(Debug)]
 pub struct Checked {
     pub(crate) bytes: Vec<u8>,
+}
+
+// proof: one call drops it, in place of a drop of each part wherever one is held.
+impl Drop for Checked {
+    fn drop(self) {
+        let Checked { bytes: _bytes } = self;
+    }
 }
 
 impl Model for Checked {

@@ -9,7 +9,7 @@ use std::alloc::Global;
 use std::marker::Model;
 
 /// Destinations and forwarding addresses whose result may differ, in no stated order.
-#[derive(Debug, Drop)]
+#[derive(Drop)]
 pub struct Affected {
     pub dests: Vec<Dest>,
     pub addresses: Vec<u32>,

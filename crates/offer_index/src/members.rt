@@ -31,9 +31,15 @@ const LAST: Key = Key {
 pub(crate) type Member = (Group, Key);
 
 /// The keys of each group. A key may stand in more groups than what is advertised under it is of.
-#[derive(Debug, Drop)]
 pub(crate) struct Members {
     members: BTreeSet<Member>,
+}
+
+// proof: one call drops it, in place of a drop of each part wherever one is held.
+impl Drop for Members {
+    fn drop(self) {
+        let Members { members: _members } = self;
+    }
 }
 
 impl Model for Members {

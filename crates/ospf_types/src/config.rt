@@ -45,12 +45,23 @@ impl Listed<Range> {
 }
 
 /// An area as it is configured (RFC 2328, 6 and C.2).
-#[derive(Debug, Drop)]
+#[derive(Debug)]
 pub struct AreaConfig {
     /// The Area ID.
     pub id: u32,
     pub stub: Option<Stub>,
     pub ranges: Ranges,
+}
+
+// proof: one call drops it, in place of a drop of each part wherever one is held.
+impl Drop for AreaConfig {
+    fn drop(self) {
+        let AreaConfig {
+            id: _,
+            stub: _stub,
+            ranges: _ranges,
+        } = self;
+    }
 }
 
 impl AreaConfig {
@@ -83,11 +94,21 @@ impl Listed<AreaConfig> {
 }
 
 /// The configuration of a router.
-#[derive(Debug, Drop)]
+#[derive(Debug)]
 pub struct Config {
     /// The Router ID.
     pub router: u32,
     pub areas: Areas,
+}
+
+// proof: one call drops it, in place of a drop of each part wherever one is held.
+impl Drop for Config {
+    fn drop(self) {
+        let Config {
+            router: _,
+            areas: _areas,
+        } = self;
+    }
 }
 
 impl Config {

@@ -67,9 +67,16 @@ pub enum PathType {
 }
 
 /// Paths in their order, each once.
-#[derive(Debug, Drop)]
+#[derive(Debug)]
 pub struct Paths {
     items: Vec<Path>,
+}
+
+// proof: one call drops it, in place of a drop of each part wherever one is held.
+impl Drop for Paths {
+    fn drop(self) {
+        let Paths { items: _items } = self;
+    }
 }
 
 impl Model for Paths {
@@ -122,7 +129,7 @@ impl Paths {
 }
 
 /// The route to a destination (RFC 2328, 11). Costs are metrics.
-#[derive(Debug, Drop)]
+#[derive(Debug)]
 pub struct Entry {
     pub kind: PathType,
     /// The Area ID of the area that its paths share; none for an external route.
@@ -132,6 +139,19 @@ pub struct Entry {
     /// The metric of a type 2 external route, and 0 elsewhere.
     pub cost2: u32,
     pub paths: Paths,
+}
+
+// proof: one call drops it, in place of a drop of each part wherever one is held.
+impl Drop for Entry {
+    fn drop(self) {
+        let Entry {
+            kind: _kind,
+            area: _area,
+            cost: _,
+            cost2: _,
+            paths: _paths,
+        } = self;
+    }
 }
 
 impl Entry {

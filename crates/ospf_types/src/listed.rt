@@ -6,9 +6,16 @@ use std::alloc::Global;
 use std::marker::Model;
 
 /// Items in the order in which they were added.
-#[derive(Debug, Drop)]
+#[derive(Debug)]
 pub struct Listed<T> {
     items: Vec<T>,
+}
+
+// proof: one call drops it, in place of a drop of each part wherever one is held.
+impl<T: Drop> Drop for Listed<T> {
+    fn drop(self) {
+        let Listed { items: _items } = self;
+    }
 }
 
 impl<T> Model for Listed<T> {

@@ -15,9 +15,15 @@ use std::hash::{Hash, RandomState};
 use std::marker::Model;
 
 /// Results by key, each of which is chosen anew where something that it rests on may differ.
-#[derive(Debug, Drop)]
 pub struct ResultMap<K: Eq + Hash, V> {
     entries: IndexMap<K, V, RandomState>,
+}
+
+// proof: one call drops it, in place of a drop of each part wherever one is held.
+impl<K: Eq + Hash + Drop, V: Drop> Drop for ResultMap<K, V> {
+    fn drop(self) {
+        let ResultMap { entries: _entries } = self;
+    }
 }
 
 impl<K: Eq + Hash, V> Model for ResultMap<K, V> {

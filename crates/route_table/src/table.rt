@@ -26,11 +26,22 @@ pub enum Item {
 }
 
 /// The networks with their items, and how many events the table follows.
-#[derive(Debug, Drop)]
+#[derive(Debug)]
 pub struct Table {
     alloc: Global,
     items: BTreeMap<Prefix, Item>,
     serial: u64,
+}
+
+// proof: one call drops it, in place of a drop of each part wherever one is held.
+impl Drop for Table {
+    fn drop(self) {
+        let Table {
+            alloc: _,
+            items: _items,
+            serial: _,
+        } = self;
+    }
 }
 
 impl Model for Table {

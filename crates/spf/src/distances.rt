@@ -11,9 +11,15 @@ use std::hash::RandomState;
 use std::marker::Model;
 
 /// The vertices that are reached, each at its distance: a sum of metrics below 2^30.
-#[derive(Debug, Drop)]
 pub(crate) struct Distances {
     entries: IndexMap<Vertex, u32, RandomState>,
+}
+
+// proof: one call drops it, in place of a drop of each part wherever one is held.
+impl Drop for Distances {
+    fn drop(self) {
+        let Distances { entries: _entries } = self;
+    }
 }
 
 impl Model for Distances {

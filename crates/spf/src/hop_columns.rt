@@ -12,9 +12,15 @@ use std::hash::RandomState;
 use std::marker::Model;
 
 /// The next hops of each vertex that has some, ascending, each once.
-#[derive(Debug, Drop)]
 pub(crate) struct HopColumns {
     entries: IndexMap<Vertex, HopSet, RandomState>,
+}
+
+// proof: one call drops it, in place of a drop of each part wherever one is held.
+impl Drop for HopColumns {
+    fn drop(self) {
+        let HopColumns { entries: _entries } = self;
+    }
 }
 
 impl Model for HopColumns {

@@ -19,10 +19,19 @@ use std::hash::RandomState;
 use vertex_graph::{Graph, Link, LinkChanges};
 
 /// The vertices that lose their distance, and those whose least links changed by that.
-#[derive(Debug, Drop)]
 pub(crate) struct Losses {
     pub(crate) lost: Members,
     pub(crate) stale: Members,
+}
+
+// proof: one call drops it, in place of a drop of each part wherever one is held.
+impl Drop for Losses {
+    fn drop(self) {
+        let Losses {
+            lost: _lost,
+            stale: _stale,
+        } = self;
+    }
 }
 
 /// What is lost by the links that went.

@@ -23,21 +23,43 @@ use std::marker::Model;
 use vertex_graph::{Graph, Link, LinkChanges};
 
 // What the second and the third part of a repair did.
-#[derive(Debug, Drop)]
 struct Renewed {
     moved: Members,
     written: Members,
     touched: Touched,
 }
 
+// proof: one call drops it, in place of a drop of each part wherever one is held.
+impl Drop for Renewed {
+    fn drop(self) {
+        let Renewed {
+            moved: _moved,
+            written: _written,
+            touched: _,
+        } = self;
+    }
+}
+
 /// The shortest-path tree of an area.
-#[derive(Debug, Drop)]
 pub struct Tree {
     distances: Distances,
     hops: HopColumns,
     changed: Vec<Vertex>,
     spent: bool,
     hashing: RandomState,
+}
+
+// proof: one call drops it, in place of a drop of each part wherever one is held.
+impl Drop for Tree {
+    fn drop(self) {
+        let Tree {
+            distances: _distances,
+            hops: _hops,
+            changed: _changed,
+            spent: _,
+            hashing: _,
+        } = self;
+    }
 }
 
 impl Model for Tree {

@@ -17,11 +17,21 @@ use std::hash::RandomState;
 use std::marker::Model;
 
 /// The graph of an area, as far as LSAs and interfaces were handed in.
-#[derive(Debug, Drop)]
 pub struct Graph {
     root: u32,
     rows: Rows,
     interfaces: Vec<Up>,
+}
+
+// proof: one call drops it, in place of a drop of each part wherever one is held.
+impl Drop for Graph {
+    fn drop(self) {
+        let Graph {
+            root: _,
+            rows: _rows,
+            interfaces: _interfaces,
+        } = self;
+    }
 }
 
 impl Model for Graph {

@@ -10,7 +10,7 @@ pub struct Up {
 }
 
 /// A link of the graph, with its metric (RFC 2328, 16.1).
-#[derive(Debug, Drop)]
+#[derive(Debug)]
 pub struct Link {
     pub from: Vertex,
     pub to: Vertex,
@@ -19,10 +19,31 @@ pub struct Link {
     pub label: Label,
 }
 
+// proof: one call drops it, in place of a drop of each part wherever one is held.
+impl Drop for Link {
+    fn drop(self) {
+        let Link {
+            from: _,
+            to: _,
+            cost: _,
+            label: _label,
+        } = self;
+    }
+}
+
 /// The links that a change took away, and those that it brought. One with another cost or label is
 /// one of each.
-#[derive(Debug, Drop)]
 pub struct LinkChanges {
     pub gone: Vec<Link>,
     pub came: Vec<Link>,
+}
+
+// proof: one call drops it, in place of a drop of each part wherever one is held.
+impl Drop for LinkChanges {
+    fn drop(self) {
+        let LinkChanges {
+            gone: _gone,
+            came: _came,
+        } = self;
+    }
 }

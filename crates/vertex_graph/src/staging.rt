@@ -24,10 +24,19 @@ pub(crate) type Touched = IndexSet<Vertex, RandomState>;
 
 /// Where the vertices lead that are handed in and lead elsewhere than before, and the vertices whose rows may
 /// change by that: those, and what they cease or begin to lead to, or lead to otherwise.
-#[derive(Drop)]
 pub(crate) struct Staging {
     pub(crate) ends: StagedEnds,
     pub(crate) touched: Touched,
+}
+
+// proof: one call drops it, in place of a drop of each part wherever one is held.
+impl Drop for Staging {
+    fn drop(self) {
+        let Staging {
+            ends: _ends,
+            touched: _,
+        } = self;
+    }
 }
 
 impl Staging {

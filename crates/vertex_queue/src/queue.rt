@@ -16,11 +16,20 @@ use std::hash::RandomState;
 use std::marker::Model;
 
 /// The vertices that wait, each at its distance, a sum of metrics.
-#[derive(Debug, Drop)]
 pub struct Queue {
     distances: IndexMap<Vertex, u32, RandomState>,
     // Each vertex that waits, at its distance, and others that no longer do.
     order: BinaryHeap<Reverse<Waiting>>,
+}
+
+// proof: one call drops it, in place of a drop of each part wherever one is held.
+impl Drop for Queue {
+    fn drop(self) {
+        let Queue {
+            distances: _distances,
+            order: _order,
+        } = self;
+    }
 }
 
 impl Model for Queue {

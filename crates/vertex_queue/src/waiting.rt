@@ -4,7 +4,7 @@ ghost use Rattle.vertex_queue.specs.Heaps.{waiting, waiting_vertex};
 use ospf_types::entry::Vertex;
 
 // A vertex at a distance. The derived order is that of the queue.
-#[derive(Clone, Copy, Debug, PartialEq, Eq, PartialOrd, Ord)]
+#[derive(Clone, Copy, PartialEq, Eq, PartialOrd, Ord)]
 pub(crate) struct Waiting {
     pub(crate) distance: u32,
     is_router: bool,

@@ -2,7 +2,7 @@ use Rattle.std.proofs.Common.{◌≡◌, [], List, sym, subst, ◌∙◌}
 use Rattle.std.proofs.lemmas.List.{nil_from_length}
 use Rattle.std.specs.Iterator.Adapters.{enumerate_count, enumerate_source}
 use Rattle.std.specs.Vec.Iter.{into_iter_items}
-use Rattle.dues.specs.declared.plan.AreaPlan.{AreaPlan}
+use Rattle.due_lists.specs.declared.plan.AreaPlan.{AreaPlan}
 use Rattle.dues.proofs.Carried.{IsCarriedTo, carried_all}
 use Rattle.dues.proofs.dues.carry_out_areas.Goals as goal
 

@@ -1,5 +1,5 @@
 use Rattle.std.proofs.Common.{sym, subst}
-use Rattle.dues.specs.Lists.{Metrics}
+use Rattle.due_lists.specs.Lists.{Metrics}
 use Rattle.dues.proofs.Comparing.{AreComparedTo, none_compared, compared_more, compared_all}
 use Rattle.dues.proofs.dues.changes.Goals as goal
 

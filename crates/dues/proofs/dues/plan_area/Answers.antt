@@ -1,6 +1,6 @@
 use Rattle.std.proofs.Common.{◌++◌, ◌∙◌, ap}
 use Rattle.std.specs.Map.{keys_of}
-use Rattle.dues.specs.Lists.{Metrics}
+use Rattle.due_lists.specs.Lists.{Metrics}
 use Rattle.dues.proofs.dues.plan_area.Goals as goal
 
 pub of-requires : goal.of-requires

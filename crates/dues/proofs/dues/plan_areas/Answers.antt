@@ -1,8 +1,8 @@
 use Rattle.std.proofs.Common.{◌≡◌, ◌+◌, ◌<◌, ◌≤◌, List, length, get_or, set, sym, ap, subst, ◌∙◌, arith}
 use Rattle.ospf_types.specs.declared.config.AreaConfig.{AreaConfig}
-use Rattle.dues.specs.declared.plan.AreaPlan.{AreaPlan}
+use Rattle.due_lists.specs.declared.plan.AreaPlan.{AreaPlan}
 use Rattle.dues.specs.Inputs.{DueInputsValue}
-use Rattle.dues.specs.Lists.{AreaDuesValue}
+use Rattle.due_lists.specs.Lists.{AreaDuesValue}
 use Rattle.dues.specs.Planning.{ArePlannedTo}
 use Rattle.dues.proofs.Turns.{none_planned, planned_more, all_planned, listed_set}
 use Rattle.dues.proofs.dues.plan_areas.Goals as goal

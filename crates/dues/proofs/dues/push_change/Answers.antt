@@ -1,7 +1,7 @@
 use Rattle.std.proofs.Common.{◌≡◌, Option, ℕ, refl, sym, subst, ◌∙◌, inl, inr}
 use Rattle.std.specs.Prelude.{true, false}
 use Rattle.inter.proofs.Following.{same_areas}
-use Rattle.dues.specs.Lists.{IsMetricIn}
+use Rattle.due_lists.specs.Lists.{IsMetricIn}
 use Rattle.dues.proofs.Comparing.{one_metric, equal_tested}
 use Rattle.dues.proofs.dues.push_change.Goals as goal
 

@@ -4,9 +4,9 @@ use Rattle.std.specs.List.{Contains}
 use Rattle.std.proofs.lemmas.List.{with_items_is}
 use Rattle.ospf_types.specs.declared.config.AreaConfig.{AreaConfig}
 use Rattle.ospf_types.specs.declared.key.Dest.{Dest}
-use Rattle.dues.specs.declared.plan.AreaPlan.{AreaPlan}
+use Rattle.due_lists.specs.declared.plan.AreaPlan.{AreaPlan}
 use Rattle.dues.specs.Inputs.{DueInputsValue}
-use Rattle.dues.specs.Lists.{AreaDuesValue}
+use Rattle.due_lists.specs.Lists.{AreaDuesValue}
 use Rattle.dues.specs.Dues.{DuesValue, AreListsOf}
 use Rattle.dues.specs.Carrying.{AllFit, AllLead}
 use Rattle.dues.specs.Changes.{AreDueAlikeBut, DifferAt}

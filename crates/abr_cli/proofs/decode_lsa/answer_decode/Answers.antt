@@ -1,8 +1,0 @@
-use Rattle.abr_cli.specs.Decode.{Decodes, IsDecodeFault}
-use Rattle.abr_cli.proofs.Answering.{fault_answers}
-use Rattle.abr_cli.proofs.decode_lsa.answer_decode.Goals as goal
-
-pub returns-in-Err : goal.returns-in-Err
-returns-in-Err c =
-    let word = c.args.word.now in
-    fault_answers (Decodes word) (IsDecodeFault word) _ _ c.in-Err.ensures.fault tt c.answer_fault.ensures

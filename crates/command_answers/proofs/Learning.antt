@@ -1,0 +1,96 @@
+-- What a forwarder learns of two events, and what it sees then.
+use Rattle.std.proofs.Common.{ℕ, ◌≡◌, ◌⊎◌, ◌+◌, ◌++◌, ◌∙◌, List, [], ◌∷◌, Some, None, Result, Ok, Err, IfOk, length, length-append, ap, sym, subst, refl, arith, inl, inr}
+use mathlib.Core.List.{IsPrefix}
+use Rattle.ospf_types.specs.declared.config.Config.{Config}
+use Rattle.ospf_types.specs.Text.{address_text}
+use Rattle.event_state.specs.declared.event.Event.{Event}
+use Rattle.event_state.specs.Refusals.{IsRefusalOf}
+use Rattle.event_state.specs.States.{State}
+use Rattle.event_state.specs.Steps.{refusal_of}
+use Rattle.config_faults.specs.Configs.{config_fault_of}
+use Rattle.config_faults.specs.declared.fault.ConfigFault.{ConfigFault}
+use Rattle.engine.specs.Answers.{Answers, Refusals, after}
+use Rattle.engine.specs.declared.answer.Answer.{Answer}
+use Rattle.engine.specs.declared.answer.Refused.{Refused}
+use Rattle.engine.specs.Opens.{IsOpenFaultOf}
+use Rattle.engine.specs.declared.open_fault.OpenFault.TheVariants as opens
+use Rattle.route_table.specs.Tables.{IsMatch}
+use Rattle.publication.specs.Forwarders.{Looker, Sighted, Sights}
+use Rattle.publication.specs.Names.{Name}
+use Rattle.publication.specs.Published.{IsTableFor}
+use Rattle.publication.specs.Told.{Heard}
+use Rattle.publication.proofs.Prefixes.{prefix_length, prefix_shorter, prefix_trans, prefix_whole}
+use Rattle.command_answers.specs.declared.command_fault.CommandFault.{CommandFault}
+use Rattle.command_answers.specs.declared.command_fault.CommandFault.TheVariants as fault
+use Rattle.command_answers.specs.One.{Given, HasLearned, IsEngineFault, IsOpenFault, IsStepFault, Prints, PrintsSeen, both_events, config_of, interface_event, install_event, lookup_line, state_after}
+
+-- two beginnings of one list that are of one length
+pub same_beginning : {A : Type 0} (xs ys zs : List A) → IsPrefix xs zs → IsPrefix ys zs → length xs ≡ length ys → xs ≡ ys
+same_beginning xs ys zs p q same = prefix_whole xs ys (prefix_shorter xs ys zs p q (omega (arith, same))) (omega (arith, same))
+
+-- what is learned is what was told where that is longer than what was known
+longer_is : {A : Type 0} (known told now : List A) → IsPrefix told now → (now ≡ known) ⊎ (now ≡ told) → length told ≡ length known + 1 → now ≡ told
+longer_is known told now p (inr same) more = same
+longer_is known told now p (inl same) more =
+    let short = prefix_length told known (subst (IsPrefix told) same p) in
+    absurd (omega (arith, short, more))
+
+-- of a list and an event that were told, the list was known
+pub known_before : {A : Type 0} (known told now before : List A) (e : A) → IsPrefix known now → IsPrefix told now → told ≡ before ++ e ∷ [] → length told ≡ length known + 1 → before ≡ known
+known_before known told now before e p q is more =
+    let within = prefix_trans before told now (e ∷ [], sym is) q in
+    let count = ap length is ∙ length-append before (e ∷ []) in
+    same_beginning before known now within p (omega (arith, count, more))
+
+pub known_more : {A : Type 0} (known told now before : List A) (e : A) → IsPrefix known now → IsPrefix told now → (now ≡ known) ⊎ (now ≡ told) → told ≡ before ++ e ∷ []
+    → length told ≡ length known + 1 → now ≡ known ++ e ∷ []
+known_more known told now before e p q one is more =
+    longer_is known told now q one more ∙ is ∙ ap (λ xs. xs ++ e ∷ []) (known_before known told now before e p q is more)
+
+-- ---- what an engine tells
+
+-- an answer with a token
+told_answer : (name : Name) (e : Event) (a : Answer) (t : Heard) → Answers name e a → a.told ≡ Some t
+    → (before : List Event) × (refusal_of (after name.config before) e ≡ None) × (t.list ≡ before ++ e ∷ [])
+told_answer name e a t h is = (h.0, h.1.accepted, (rw is at h.2).2)
+
+pub taken : (name : Name) (e : Event) (a : Answer) (t : Heard) (f : Looker) (count : ℕ) (r : Result Looker CommandFault) → Answers name e a → a.told ≡ Some t → f.name ≡ name
+    → length f.known ≡ count → IfOk r (λ x. x.name ≡ f.name) → IfOk r (λ x. HasLearned f.known t.list x.known) → IfOk r (λ _. length t.list ≡ count + 1)
+    → IfOk r (λ x. (x.name ≡ name) × (x.known ≡ f.known ++ e ∷ []))
+taken name e a t f count (Err x) h told same len named learned longer = tt
+taken name e a t f count (Ok x) h told same len named learned longer =
+    let of = told_answer name e a t h told in (
+      named ∙ same,
+      known_more f.known t.list x.known of.0 e learned.before learned.told_too learned.one of.2 (omega (arith, longer, len)),
+    )
+
+pub accepted : (name : Name) (e : Event) (a : Answer) (t : Heard) (f : Looker) (count : ℕ) (r : Result Looker CommandFault) → Answers name e a → a.told ≡ Some t
+    → length f.known ≡ count → IfOk r (λ x. HasLearned f.known t.list x.known) → IfOk r (λ _. length t.list ≡ count + 1)
+    → IfOk r (λ _. refusal_of (after name.config f.known) e ≡ None)
+accepted name e a t f count (Err x) h told len learned longer = tt
+accepted name e a t f count (Ok x) h told len learned longer =
+    let of = told_answer name e a t h told in
+    let same = known_before f.known t.list x.known of.0 e learned.before learned.told_too of.2 (omega (arith, longer, len)) in
+    subst (λ (list : List Event). refusal_of (after name.config list) e ≡ None) same of.1
+
+pub refused_so : (name : Name) (e : Event) (a : Refused) (t : Heard) (known now : List Event) (count : ℕ) → Refusals name e a → a.told ≡ Some t
+    → length known ≡ count → HasLearned known t.list now → length t.list ≡ count → IsRefusalOf (after name.config known) e a.refusal
+refused_so name e a t known now count h told len learned same =
+    let list : t.list ≡ h.0 = (rw told at h.3).1 in
+    let whole = same_beginning t.list known now learned.told_too learned.before (omega (arith, len, same)) in
+    subst (λ (xs : List Event). IsRefusalOf (after name.config xs) e a.refusal) (sym list ∙ whole) h.2
+
+-- ---- what was seen
+
+pub seen_prints : (g : Given) (f : Looker) (s : Sighted) (line : List ℕ) → f.name.config ≡ config_of g → f.known ≡ both_events g → Sights f g.lookup s → PrintsSeen s line → Prints g line
+seen_prints g f s line config known sights h =
+    let begun : IsPrefix (both_events g) s.list = subst (λ xs. IsPrefix xs s.list) known sights.2 in
+    let whole : both_events g ≡ s.list = prefix_whole (both_events g) s.list begun (omega (arith, h.both)) in
+    let right : IsTableFor (config_of g) (both_events g) s.table = subst (λ (z : Config × List Event). IsTableFor z.0 z.1 s.table) (λ i. ((ap (λ n. n.config) sights.0 ∙ config) i, sym whole i)) h.right in
+    record {
+      table = s.table;
+      right = record { legal = right.0; right = right.1 };
+      found = h.found;
+      matched = subst (λ (a : ℕ). IsMatch s.table.items a h.found) sights.1 h.matched;
+      printed = h.printed ∙ ap (λ (a : ℕ). lookup_line (address_text a) s.table h.found) sights.1;
+    }

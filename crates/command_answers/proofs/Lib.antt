@@ -1,0 +1,4 @@
+pub mod Answering
+pub mod Learning
+pub mod Decoding
+pub mod Said

@@ -1,0 +1,34 @@
+-- What went wrong with a command, as it is printed, and the status of the program then.
+use Rattle.std.specs.Prelude.{ℕ, ◌++◌, List, codes}
+use Rattle.ospf_types.specs.Text.{memory_text}
+use Rattle.lsa_codec.specs.Text.{wire_fault_text}
+use Rattle.config_faults.specs.Texts.{config_fault_text}
+use Rattle.event_state.specs.Texts.{refusal_text}
+use Rattle.recording.specs.Texts.{line_fault_text}
+use Rattle.command_answers.specs.declared.words.WordFault.TheVariants.{NotAnAddress, NotHexadecimal}
+use Rattle.command_answers.specs.declared.command_fault.CommandFault.{CommandFault}
+use Rattle.command_answers.specs.declared.command_fault.CommandFault.TheVariants as fault
+use Rattle.command_answers.specs.Words.{fault_text}
+
+-- what is printed of a fault
+abbrev pub command_fault_text : CommandFault → List ℕ
+command_fault_text (fault.Word f) = fault_text f
+command_fault_text (fault.Wire f) = wire_fault_text f
+command_fault_text (fault.Config f) = config_fault_text f
+command_fault_text (fault.Refused f) = refusal_text f
+command_fault_text (fault.Read file) = codes "cannot read " ++ file.now
+command_fault_text (fault.Line f) = line_fault_text f
+command_fault_text fault.Memory = memory_text
+command_fault_text fault.Write = codes "cannot write"
+command_fault_text fault.Spawn = codes "31 Spawn"
+command_fault_text fault.Place = codes "46 Place"
+command_fault_text fault.NoEntry = codes "no entry"
+
+-- 2 for a word that cannot be read, and else 1
+abbrev pub status_of : CommandFault → ℕ
+status_of (fault.Word NotAnAddress) = 2
+status_of (fault.Word NotHexadecimal) = 2
+status_of _ = 1
+
+abbrev pub fault_line : List ℕ → List ℕ
+fault_line text = codes "abr: " ++ text ++ codes "\n"

@@ -1,0 +1,6 @@
+pub mod Words
+pub mod Faults
+pub mod Answers
+pub mod One
+pub mod Decode
+pub mod Usage

@@ -1,0 +1,132 @@
+ghost use Rattle.std.specs.Prelude.{◌≡◌, Some};
+ghost use Rattle.command_answers.specs.Faults.{command_fault_text, status_of};
+
+use crate::words::WordFault;
+use engine::{ConfigFault, Refusal};
+use lsa_codec::WireFault;
+use ospf_types::memory::Memory;
+use recording::LineFault;
+use std::alloc::AllocError;
+use std::error::Error;
+use std::fmt;
+
+/// What went wrong with a command.
+#[derive(Clone, Copy, Debug, PartialEq, Eq)]
+pub enum CommandFault<'a> {
+    /// A word cannot be read.
+    Word(WordFault),
+    /// The bytes are no LSA.
+    Wire(WireFault),
+    /// The configuration is none.
+    Config(ConfigFault),
+    /// The interface or the LSA was refused.
+    Refused(Refusal),
+    /// The file of a recording, of this name, cannot be read.
+    Read(&'a str),
+    /// The file is no recording.
+    Line(LineFault),
+    /// A growth was refused.
+    Memory,
+    /// What there is to print could not be written.
+    Write,
+    /// A worker's thread could not be started.
+    Spawn,
+    /// There was no place for a reader of the published table.
+    Place,
+    /// A look-up got no entry to the published table, or one to another table than that of the events.
+    NoEntry,
+}
+
+impl CommandFault<'_> {
+    /// The status of the program: 2 for a word that cannot be read, and else 1.
+    pub fn status(self) -> u8
+        ensures { result ≡ status_of self.entry }
+    {
+        match self {
+            CommandFault::Word(WordFault::NotAnAddress | WordFault::NotHexadecimal) => 2,
+            _ => 1,
+        }
+    }
+}
+
+impl fmt::Display for CommandFault<'_> {
+    ghost output = { λ fault. Some (command_fault_text fault) };
+
+    fn fmt<W: fmt::Write>(&self, f: &mut fmt::Formatter<W>) -> fmt::Result {
+        match self {
+            CommandFault::Word(fault) => fault.fmt(f),
+            CommandFault::Wire(fault) => fault.fmt(f),
+            CommandFault::Config(fault) => fault.fmt(f),
+            CommandFault::Refused(fault) => fault.fmt(f),
+            CommandFault::Read(file) => write!(f, "cannot read {file}"),
+            CommandFault::Line(fault) => fault.fmt(f),
+            CommandFault::Memory => Memory.fmt(f),
+            CommandFault::Write => f.write_str("cannot write"),
+            CommandFault::Spawn => f.write_str("31 Spawn"),
+            CommandFault::Place => f.write_str("46 Place"),
+            CommandFault::NoEntry => f.write_str("no entry"),
+        }
+    }
+}
+
+impl Error for CommandFault<'_> {}
+
+impl<'a> From<WordFault> for CommandFault<'a> {
+    ghost use Rattle.command_answers.specs.declared.command_fault.CommandFault.TheVariants.{Word};
+
+    ghost from_gives = { λ fault given. given ≡ Word fault };
+
+    fn from(fault: WordFault) -> CommandFault<'a> {
+        CommandFault::Word(fault)
+    }
+}
+
+impl<'a> From<WireFault> for CommandFault<'a> {
+    ghost use Rattle.command_answers.specs.declared.command_fault.CommandFault.TheVariants.{Wire};
+
+    ghost from_gives = { λ fault given. given ≡ Wire fault };
+
+    fn from(fault: WireFault) -> CommandFault<'a> {
+        CommandFault::Wire(fault)
+    }
+}
+
+impl<'a> From<ConfigFault> for CommandFault<'a> {
+    ghost use Rattle.command_answers.specs.declared.command_fault.CommandFault.TheVariants.{Config};
+
+    ghost from_gives = { λ fault given. given ≡ Config fault };
+
+    fn from(fault: ConfigFault) -> CommandFault<'a> {
+        CommandFault::Config(fault)
+    }
+}
+
+impl<'a> From<Refusal> for CommandFault<'a> {
+    ghost use Rattle.command_answers.specs.declared.command_fault.CommandFault.TheVariants.{Refused};
+
+    ghost from_gives = { λ refusal given. given ≡ Refused refusal };
+
+    fn from(refusal: Refusal) -> CommandFault<'a> {
+        CommandFault::Refused(refusal)
+    }
+}
+
+impl<'a> From<Memory> for CommandFault<'a> {
+    ghost use Rattle.command_answers.specs.declared.command_fault.CommandFault.TheVariants as fault;
+
+    ghost from_gives = { λ _ given. given ≡ fault.Memory };
+
+    fn from(_e: Memory) -> CommandFault<'a> {
+        CommandFault::Memory
+    }
+}
+
+impl<'a> From<AllocError> for CommandFault<'a> {
+    ghost use Rattle.command_answers.specs.declared.command_fault.CommandFault.TheVariants as fault;
+
+    ghost from_gives = { λ _ given. given ≡ fault.Memory };
+
+    fn from(_e: AllocError) -> CommandFault<'a> {
+        CommandFault::Memory
+    }
+}

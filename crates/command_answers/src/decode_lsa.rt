@@ -1,0 +1,85 @@
+//! The command `decode`.
+ghost use Rattle.std.specs.Prelude.{◌≡◌, IfOk, IfErr, string_bytes};
+ghost use Rattle.command_answers.specs.Answers.{Tells, value_of};
+ghost use Rattle.command_answers.specs.Decode.{Decodes, IsDecodeFault, IsDecodeAnswer, decoded_text, front_text as front, ids_text as ids, instance_text as instance};
+
+use crate::answer::{Answer, answer_fault};
+use crate::command_fault::CommandFault;
+use crate::telling::tell;
+use crate::words;
+use lsa_codec::{Checked, Header};
+use ospf_types::address::Address;
+use std::alloc::{AllocError, Global};
+use std::io;
+
+/// The answer of `decode`: the lines `age A options OO kind K id ADDR router ADDR seq SSSSSSSS sum CCCC
+/// length L` and `body HEX`, or the fault of the word or of its LSA. The age is in seconds; Options,
+/// sequence number, checksum and body are in hexadecimal.
+pub fn answer_decode(alloc: Global, word: &str) -> Answer
+    ensures { IsDecodeAnswer word.now (value_of result) }
+{
+    match decoded(alloc, word) {
+        Ok(lines) => Answer::Printed(lines),
+        Err(fault) => answer_fault(alloc, fault),
+    }
+}
+
+/// Prints an LSA. The answer is written to `out`, or its fault to `faults`; what is returned is the
+/// status: 0 with the lines, 2 for a word that is not hexadecimal, and else 1, also where a writer fails.
+pub fn decode<W: io::Write, F: io::Write>(
+    alloc: Global,
+    word: &str,
+    out: &mut W,
+    faults: &mut F,
+) -> u8
+    ensures { Tells (IsDecodeAnswer word.now) result (W.contents out.old) (W.contents out.new) (F.contents faults.old) (F.contents faults.new) }
+{
+    tell(&answer_decode(alloc, word), out, faults)
+}
+
+// The lines of the LSA that the word is.
+fn decoded(alloc: Global, word: &str) -> Result<String, CommandFault<'static>>
+    ensures lines { IfOk result (λ lines. Decodes word.now (string_bytes lines)) }
+    ensures fault { IfErr result (IsDecodeFault word.now) }
+{
+    let bytes = words::bytes(alloc, word)?;
+    let lsa = lsa_codec::read(alloc, bytes.as_slice())?;
+    Ok(lines_of(alloc, &lsa)?)
+}
+
+// Header and body, each with its line feed.
+fn lines_of(alloc: Global, lsa: &Checked) -> Result<String, AllocError>
+    ensures { IfOk result (λ lines. string_bytes lines ≡ decoded_text lsa.now) }
+{
+    let header = lsa.header();
+    let front = front_text(alloc, &header)?;
+    let ids = ids_text(alloc, &header)?;
+    let instance = instance_text(alloc, &header)?;
+    let body = hex::encode(alloc, lsa.body())?;
+    Ok(format!(in alloc; "{front} {ids} {instance}\nbody {body}\n")?)
+}
+
+fn front_text(alloc: Global, header: &Header) -> Result<String, AllocError>
+    ensures { IfOk result (λ text. string_bytes text ≡ front header.now) }
+{
+    let (age, kind) = (header.age, header.kind);
+    let options = hex::encode(alloc, [header.options])?;
+    Ok(format!(in alloc; "age {age} options {options} kind {kind}")?)
+}
+
+fn ids_text(alloc: Global, header: &Header) -> Result<String, AllocError>
+    ensures { IfOk result (λ text. string_bytes text ≡ ids header.now) }
+{
+    let (id, router) = (Address(header.id), Address(header.router));
+    Ok(format!(in alloc; "id {id} router {router}")?)
+}
+
+// What tells one instance of the LSA from another.
+fn instance_text(alloc: Global, header: &Header) -> Result<String, AllocError>
+    ensures { IfOk result (λ text. string_bytes text ≡ instance header.now) }
+{
+    let seq = hex::encode(alloc, header.seq.to_be_bytes())?;
+    let sum = hex::encode(alloc, header.sum.to_be_bytes())?;
+    let length = header.length;
+    Ok(format!(in alloc; "seq {seq} sum {sum} length {length}")?)
+}

@@ -1,0 +1,32 @@
+//! The answer to words that name no command.
+ghost use Rattle.command_answers.specs.Answers.{value_of};
+ghost use Rattle.command_answers.specs.Usage.{IsErrorAnswer, IsUsageAnswer};
+ghost use Rattle.std.specs.Prelude.{◌≡◌, ◌⊎◌};
+
+use crate::answer::Answer;
+use clap::Error;
+use command_line::Usage;
+use std::alloc::Global;
+
+/// The text of help or of a mistake, with status 0 or 2.
+pub fn answer_usage(alloc: Global, usage: Usage) -> Answer
+    ensures { IsUsageAnswer usage (value_of result) }
+{
+    match usage {
+        Usage::Told(error) => answer_error(alloc, &error),
+        Usage::Memory => Answer::NoMemory,
+    }
+}
+
+fn answer_error(alloc: Global, error: &Error) -> Answer
+    ensures { IsErrorAnswer error.now (value_of result) ⊎ (result ≡ Answer.NoMemory) }
+{
+    match format!(in alloc; "{error}") {
+        Ok(text) if error.use_stderr() => Answer::Fault {
+            status: 2,
+            line: text,
+        },
+        Ok(text) => Answer::Printed(text),
+        Err(_) => Answer::NoMemory,
+    }
+}

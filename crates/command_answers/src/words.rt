@@ -1,0 +1,90 @@
+//! The words of a command, read.
+ghost use Rattle.std.specs.Prelude.{◌≡◌, ◌≢◌, Ok, Some, IfOk, IfErr, OnErr, IsErrOf};
+ghost use Rattle.hex.specs.Hex.{decode_of};
+ghost use Rattle.command_line.specs.Command.{texts_of};
+ghost use Rattle.command_answers.specs.Words.{IsAddress, IsHexadecimal, IsFirstFault, Writes, fault_text};
+
+use command_line::OneWords;
+use hex::FromHexError;
+use ospf_types::address::Address;
+use std::alloc::Global;
+use std::error::Error;
+use std::fmt;
+
+/// What `abr one` works on. Addresses are numbers in host order.
+#[derive(Debug, Drop)]
+pub struct OneInput {
+    /// The Router ID.
+    pub router: u32,
+    /// The Area ID.
+    pub area: u32,
+    /// The address of the interface.
+    pub address: u32,
+    /// The bytes of an LSA.
+    pub lsa: Vec<u8>,
+    pub lookup: u32,
+}
+
+/// A word that cannot be read, or a growth that was refused.
+#[derive(Clone, Copy, Debug, PartialEq, Eq)]
+pub enum WordFault {
+    NotAnAddress,
+    NotHexadecimal,
+    Memory,
+}
+
+impl fmt::Display for WordFault {
+    ghost output = { λ fault. Some (fault_text fault) };
+
+    fn fmt<W: fmt::Write>(&self, f: &mut fmt::Formatter<W>) -> fmt::Result {
+        f.write_str(match self {
+            WordFault::NotAnAddress => "not an address",
+            WordFault::NotHexadecimal => "not hexadecimal",
+            WordFault::Memory => "30 Memory",
+        })
+    }
+}
+
+impl Error for WordFault {}
+
+/// Reads the words in their order; the first that cannot be read decides.
+pub fn read_one(alloc: Global, words: &OneWords<'_>) -> Result<OneInput, WordFault>
+    ensures router { IfOk result (λ i. Writes words.now.router.now i.router) }
+    ensures area { IfOk result (λ i. Writes words.now.area.now i.area) }
+    ensures address { IfOk result (λ i. Writes words.now.address.now i.address) }
+    ensures lsa { IfOk result (λ i. decode_of words.now.lsa.now ≡ Ok i.lsa.items) }
+    ensures lookup { IfOk result (λ i. Writes words.now.lookup.now i.lookup) }
+    ensures fault { IfErr result (IsFirstFault (texts_of words.now)) }
+{
+    Ok(OneInput {
+        router: address(words.router)?,
+        area: address(words.area)?,
+        address: address(words.address)?,
+        lsa: bytes(alloc, words.lsa)?,
+        lookup: address(words.lookup)?,
+    })
+}
+
+fn address(word: &str) -> Result<u32, WordFault>
+    ensures ok { IfOk result (Writes word.now) }
+    ensures fault { OnErr result (¬ IsAddress word.now) }
+    ensures err { OnErr result (result ≡ Err WordFault.NotAnAddress) }
+{
+    match Address::parse(word) {
+        Some(Address(address)) => Ok(address),
+        None => Err(WordFault::NotAnAddress),
+    }
+}
+
+/// The bytes of a word in hexadecimal, in either case.
+pub fn bytes(alloc: Global, word: &str) -> Result<Vec<u8>, WordFault>
+    ensures ok { IfOk result (λ bytes. decode_of word.now ≡ Ok bytes.items) }
+    ensures fault { IsErrOf result WordFault.NotHexadecimal → ¬ IsHexadecimal word.now }
+    ensures err { result ≢ Err WordFault.NotAnAddress }
+{
+    match hex::decode(alloc, word) {
+        Ok(bytes) => Ok(bytes),
+        Err(FromHexError::OutOfMemory) => Err(WordFault::Memory),
+        Err(_) => Err(WordFault::NotHexadecimal),
+    }
+}

@@ -1,0 +1,10 @@
+use Rattle.std.proofs.Common.{◌∙◌, arith}
+use Rattle.due_lists.proofs.Changing.{next_left_at}
+use Rattle.due_lists.proofs.list.AreaDues.put_all.Goals as goal
+
+pub loop-dest-preserved : goal.loop-dest-preserved
+loop-dest-preserved c = record {
+  area = c.put.ensures.area ∙ c.loop-dest.invariant.area;
+  changes = next_left_at _ _ _ _ c.loop-dest.dest-index c.loop-dest-item.result c.loop-dest-test.true c.loop-dest-item.is c.put.ensures.list c.loop-dest.invariant.changes;
+  room = omega arith;
+}

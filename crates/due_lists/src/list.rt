@@ -1,0 +1,196 @@
+//! What is due in one area.
+ghost use Rattle.std.specs.Prelude.{◌≡◌, ◌≤◌, ◌<◌, ◌+◌, ◌++◌, [], length, IfOk, IfErr, OnOk};
+ghost use Rattle.due_lists.specs.Lists.{AreInOrder, IsMetricIn, IsPut, IsChangedBy, AreMetricsInOrder, AreOfKind};
+ghost use Rattle.due_lists.specs.Places.{IsAt, IsGapFor, those_before, those_at, those_after};
+
+use crate::due::Due;
+use ospf_types::key::Dest;
+use ospf_types::memory::Memory;
+use std::alloc::Global;
+use std::cmp::Ordering;
+use std::marker::Model;
+
+/// The summaries that are due in an area, ascending by LS type and destination.
+pub struct AreaDues {
+    area: u32,
+    list: Vec<Due>,
+}
+
+// proof: one call drops it, in place of a drop of each part wherever one is held.
+impl Drop for AreaDues {
+    fn drop(self) {
+        let AreaDues {
+            area: _,
+            list: _list,
+        } = self;
+    }
+}
+
+impl Model for AreaDues {
+    ghost use Rattle.std.specs.Prelude.{◌-◌, length};
+    ghost use Rattle.due_lists.specs.Lists.{AreaDuesValue, AreInOrder, AreOfKind};
+
+    ghost Value = { AreaDuesValue };
+
+    ghost view = { λ a. record { area = a.area; list = a.list.items; room = a.list.cap - length a.list.items } };
+
+    ghost invariant = { λ a. AreInOrder a.list.items × AreOfKind a.list.items };
+}
+
+impl AreaDues {
+    /// Nothing is due in the area.
+    pub fn none(alloc: Global, area: u32) -> AreaDues
+        ensures area { result.area ≡ area }
+        ensures list { result.list ≡ [] }
+    {
+        AreaDues {
+            area,
+            list: Vec::new(alloc),
+        }
+    }
+
+    /// Its Area ID.
+    pub fn area(&self) -> u32
+        ensures { result ≡ self.now.area }
+    {
+        self.area
+    }
+
+    /// Ascending by LS type and destination.
+    pub fn as_slice(&self) -> &[Due]
+        ensures value { result.now ≡ self.now.list }
+        ensures in_order { AreInOrder self.now.list }
+        ensures of_kind { AreOfKind self.now.list }
+    {
+        self.list.as_slice()
+    }
+
+    /// The metric at which the destination is due.
+    pub fn metric(&self, dest: Dest) -> Option<u32>
+        ensures { IsMetricIn self.now.list dest result }
+    {
+        match self.place(&dest) {
+            Ok(at) => Some(self.list[at].metric),
+            Err(_) => None,
+        }
+    }
+
+    /// Makes room for so many more.
+    pub fn reserve(&mut self, more: usize) -> Result<(), Memory>
+        ensures area { self.new.area ≡ self.old.area }
+        ensures list { self.new.list ≡ self.old.list }
+        ensures room { OnOk result (more ≤ self.new.room) }
+    {
+        self.list.reserve(more)?;
+        Ok(())
+    }
+
+    /// Changes what is due to these destinations, one after the other.
+    pub fn put_all(&mut self, metrics: &[(Dest, Option<u32>)])
+        requires in_order { AreMetricsInOrder metrics.now }
+        requires room { length metrics.now ≤ self.old.room }
+        ensures area { self.new.area ≡ self.old.area }
+        ensures list { IsChangedBy metrics.now self.old.list self.new.list }
+        ensures list_in_order { AreInOrder self.new.list }
+        ensures list_of_kind { AreOfKind self.new.list }
+    {
+        for (dest, metric) in metrics {
+            self.put(*dest, *metric);
+        }
+        // (the type keeps the order of its list, and a look at the list brings that into the proof)
+        let _ = self.list.len();
+    }
+
+    /// The list with these changes, in one pass.
+    pub fn merged(&self, alloc: Global, metrics: &[(Dest, Option<u32>)]) -> Result<Vec<Due>, Memory>
+        requires { AreMetricsInOrder metrics.now }
+        ensures changed { IfOk result (λ list. IsChangedBy metrics.now self.now.list list.items) }
+        ensures in_order { IfOk result (λ list. AreInOrder list.items) }
+        ensures of_kind { IfOk result (λ list. AreOfKind list.items) }
+    {
+        let most = self.list.len().saturating_add(metrics.len());
+        let mut list = Vec::with_capacity(alloc, most)?;
+        let mut rest = self.list.as_slice();
+        for (dest, metric) in metrics {
+            rest = push_before(rest, *dest, &mut list)?;
+            push_at(*dest, *metric, &mut list)?;
+        }
+        list.extend_from_slice(rest)?;
+        Ok(list)
+    }
+
+    /// This list in the place of the one before.
+    pub fn set(&mut self, list: Vec<Due>)
+        requires in_order { AreInOrder list.items }
+        requires of_kind { AreOfKind list.items }
+        ensures area { self.new.area ≡ self.old.area }
+        ensures list { self.new.list ≡ list.items }
+    {
+        self.list = list;
+    }
+}
+
+impl AreaDues {
+    // The destination is due at this metric; for none it is not due.
+    fn put(&mut self, dest: Dest, metric: Option<u32>)
+        requires { 0 < self.old.room }
+        ensures area { self.new.area ≡ self.old.area }
+        ensures list { IsPut dest metric self.old.list self.new.list }
+        ensures room { self.old.room ≤ self.new.room + 1 }
+    {
+        let place = self.place(&dest);
+        let Some(metric) = metric else {
+            if let Ok(at) = place {
+                self.list.remove(at);
+            }
+            return;
+        };
+        let due = Due::of(dest, metric);
+        match place {
+            Ok(at) => self.list[at] = due,
+            Err(at) => match self.list.insert(at, due) {
+                Ok(()) => {}
+                Err(_) => unreachable!(),
+            },
+        }
+    }
+
+    // Where the destination is, or where it would go.
+    fn place(&self, dest: &Dest) -> Result<usize, usize>
+        ensures found { IfOk result (IsAt self.now.list dest.now) }
+        ensures absent { IfErr result (IsGapFor self.now.list dest.now) }
+    {
+        self.list.binary_search_by_key(dest, |due| due.dest)
+    }
+}
+
+// Adds those before the destination. The answer is what comes after it.
+fn push_before<'a>(
+    mut rest: &'a [Due],
+    dest: Dest,
+    list: &mut Vec<Due>,
+) -> Result<&'a [Due], Memory>
+    requires { AreInOrder rest.now }
+    ensures pushed { OnOk result (list.new.items ≡ list.old.items ++ those_before dest rest.now) }
+    ensures left { IfOk result (λ left. left.now ≡ those_after dest rest.now) }
+{
+    while let [due, after @ ..] = rest {
+        match due.dest.cmp(&dest) {
+            Ordering::Less => list.push(*due)?,
+            Ordering::Equal => {}
+            Ordering::Greater => return Ok(rest),
+        }
+        rest = after;
+    }
+    Ok(rest)
+}
+
+// Adds the destination, where it is due.
+fn push_at(dest: Dest, metric: Option<u32>, list: &mut Vec<Due>) -> Result<(), Memory>
+    ensures { OnOk result (list.new.items ≡ list.old.items ++ those_at dest metric) }
+{
+    if let Some(metric) = metric {
+        list.push(Due::of(dest, metric))?;
+    }
+    Ok(())
+}
