@@ -22,7 +22,7 @@ use Rattle.ospf_types.proofs.Orders.{key_exact}
 use Rattle.spf.specs.Loops.{HasNoDoubles}
 use Rattle.spf.proofs.Counting.{no_longer}
 use Rattle.spf.proofs.Elements.{cases_contains}
-use Rattle.vertex_graph.specs.declared.end.End.{End}
+use Rattle.vertex_graph.specs.End.{End}
 use Rattle.vertex_graph.specs.Graphs.{GraphValue, Handed, AreApartHanded, AreFewAfter, IsThereAfter, IsReplaced}
 use Rattle.vertex_graph.proofs.VertexTests.{is_vertex, vertex_laws, vertex_same}
 use Rattle.area_trees.specs.Areas.{AreNetworksOf, AreStanding, AreaGraphValue, DifferAmong, IsGraphOf, IsStanding, IsUsed, LeadsBy, body_at, network_key, router_key, vertex_of}

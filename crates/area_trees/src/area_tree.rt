@@ -7,7 +7,7 @@ ghost use Rattle.ospf_types.specs.Lsa.{key_of};
 ghost use Rattle.ospf_types.specs.Hops.{hop_cmp};
 ghost use Rattle.spf.specs.Parts.{most_distance};
 ghost use Rattle.spf.specs.TreeValues.{AreChanged, AreOthersKept, IsWorkForAll, IsWorkDone, listed_hops};
-ghost use Rattle.vertex_graph.specs.declared.link.Up.{Up as UpValue};
+ghost use Rattle.vertex_graph.specs.Up.{Up as UpValue};
 ghost use Rattle.vertex_graph.specs.Graphs.{most_routers};
 ghost use Rattle.area_trees.specs.Areas.{IsAreaTree, IsStanding, DifferAmong, IsWorkBounded, vertex_of};
 

@@ -14,7 +14,7 @@ use Rattle.ospf_types.specs.declared.key.Scope.{Scope}
 use Rattle.ospf_types.specs.declared.key.Scope.TheVariants.{Area}
 use Rattle.ospf_types.specs.Lsa.{Body}
 use Rattle.ospf_types.proofs.Elements.{no_element}
-use Rattle.vertex_graph.specs.declared.link.Up.{Up}
+use Rattle.vertex_graph.specs.Up.{Up}
 use Rattle.area_trees.specs.Areas.{AreaTreeValue, IsAreaTree, DifferAmong, body_at}
 use Rattle.event_state.specs.States.{State, database_of}
 use Rattle.calculation.specs.Calculations.{lsas_in, AreUpsOf, IsTreeFor, StatesDifferAmong}

@@ -13,7 +13,7 @@ use Rattle.ospf_types.specs.Keys.{key_cmp}
 use Rattle.ospf_types.specs.Lsa.{Lsa}
 use Rattle.ospf_types.proofs.Elements.{no_element, first_or_later}
 use Rattle.lsdb.specs.Databases.{Database}
-use Rattle.vertex_graph.specs.declared.link.Up.{Up}
+use Rattle.vertex_graph.specs.Up.{Up}
 use Rattle.area_trees.specs.Areas.{AreaTreeValue, IsAreaTree, IsAreaOf}
 use Rattle.intra.specs.Inputs.{AreaValue, InputsValue, AreReady}
 use Rattle.intra.specs.Right.{AreInputAreas, AreInputsOf}

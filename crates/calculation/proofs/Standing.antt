@@ -8,7 +8,7 @@ use Rattle.ospf_types.specs.declared.entry.Vertex.TheVariants.{Router, Network}
 use Rattle.ospf_types.specs.declared.key.Key.{Key}
 use Rattle.ospf_types.specs.Lsa.{Body}
 use Rattle.lsdb.specs.Databases.{Database}
-use Rattle.vertex_graph.specs.declared.link.Up.{Up}
+use Rattle.vertex_graph.specs.Up.{Up}
 use Rattle.area_trees.specs.Areas.{AreaGraphValue, AreaTreeValue, IsGraphOf, IsAreaTree, IsStanding, IsUsed, body_at, router_key, network_key}
 
 module _ (d e : Database) (alike : (key : Key) → body_at e key ≡ body_at d key) where

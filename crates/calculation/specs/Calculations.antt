@@ -14,7 +14,7 @@ use Rattle.ospf_types.specs.Inputs.{Area as InputArea}
 use Rattle.ospf_types.specs.Network.{network_cmp}
 use Rattle.ospf_types.specs.Ranges.{IsExamined}
 use Rattle.lsdb.specs.Databases.{Database}
-use Rattle.vertex_graph.specs.declared.link.Up.{Up}
+use Rattle.vertex_graph.specs.Up.{Up}
 use Rattle.area_trees.specs.Areas.{AreaTreeValue, IsAreaTree}
 use Rattle.intra.specs.Inputs.{AreaValue, InputsValue}
 use Rattle.intra.specs.Intras.{IntraValue, IsIntraOf}

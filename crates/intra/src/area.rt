@@ -5,7 +5,7 @@ ghost use Rattle.ospf_types.specs.declared.entry.Vertex.{Vertex as VertexValue};
 ghost use Rattle.ospf_types.specs.declared.entry.Vertex.TheVariants as vertex_value;
 ghost use Rattle.ospf_types.specs.declared.prefix.Prefix.{Prefix as PrefixValue};
 ghost use Rattle.lsdb.specs.Databases.{Database as Lsas};
-ghost use Rattle.vertex_graph.specs.declared.link.Up.{Up as UpValue};
+ghost use Rattle.vertex_graph.specs.Up.{Up as UpValue};
 ghost use Rattle.spf.specs.HandedOn.{IsOfSome};
 ghost use Rattle.area_trees.specs.Areas.{IsAreaTree};
 ghost use Rattle.intra.specs.Indexes.{IsIndex, IsIndexOf};

@@ -8,7 +8,7 @@ use Rattle.ospf_types.specs.declared.entry.Vertex.{Vertex}
 use Rattle.ospf_types.specs.declared.entry.Vertex.TheVariants.{Router}
 use Rattle.ospf_types.specs.Vertices.{vertex_cmp}
 use Rattle.ospf_types.proofs.Elements.{mapped_element, mapped_from}
-use Rattle.vertex_graph.specs.declared.link.Link.{Link}
+use Rattle.vertex_graph.specs.Link.{Link}
 use Rattle.vertex_graph.specs.Graphs.{GraphValue}
 use Rattle.spf.specs.Parts.{DistanceMap, AreLost, AreNeared, AreSettled, hops_of}
 use Rattle.spf.specs.TreeValues.{TreeValue, IsTreeOf, IsTreeBefore, IsBegun, Differs, IsFarther, IsNearer, IsChangedBy, AreChanged, IsBounded, IsWorkDone, IsRenewed}

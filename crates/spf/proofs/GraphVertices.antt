@@ -11,7 +11,7 @@ use Rattle.ospf_types.specs.declared.label.Label.{Label}
 use Rattle.ospf_types.specs.Distances.{IsDistance}
 use Rattle.ospf_types.specs.Lsa.{RouterLink}
 use Rattle.ospf_types.proofs.Elements.{no_element, first_or_later}
-use Rattle.vertex_graph.specs.declared.end.End.{End}
+use Rattle.vertex_graph.specs.End.{End}
 use Rattle.vertex_graph.specs.Graphs.{GraphValue, graph_view, link_of, LinksOf, HasRoot, HasFewRouters}
 use Rattle.spf.specs.Trees.{AreCosts, AreReal}
 use Rattle.spf.specs.Loops.{HasNoDoubles}

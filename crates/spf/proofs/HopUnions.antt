@@ -16,7 +16,7 @@ use Rattle.ospf_types.specs.Hops.{hop_cmp}
 use Rattle.ospf_types.proofs.Elements.{no_element, first_element}
 use Rattle.ospf_types.proofs.OneBest.{same_list}
 use Rattle.ospf_types.proofs.Orders.{hop_total, hop_exact}
-use Rattle.vertex_graph.specs.declared.link.Link.{Link}
+use Rattle.vertex_graph.specs.Link.{Link}
 use Rattle.spf.specs.Changes.{link_value}
 use Rattle.spf.specs.Parts.{HopMap, hops_of}
 use Rattle.spf.specs.HandedOn.{IsOfSome, IsLeastLink, IsGivenOver, IsHandedOn, IsUnion}

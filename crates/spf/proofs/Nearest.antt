@@ -7,7 +7,7 @@ use Rattle.ospf_types.specs.declared.entry.Vertex.TheVariants.{Router, Network}
 use Rattle.ospf_types.specs.declared.label.Label.{Label}
 use Rattle.ospf_types.specs.Distances.{Links, IsDistance}
 use Rattle.ospf_types.specs.Vertices.{vertex_cmp}
-use Rattle.vertex_graph.specs.declared.link.Link.{Link}
+use Rattle.vertex_graph.specs.Link.{Link}
 use Rattle.vertex_graph.specs.Graphs.{GraphValue, graph_view, LinksOf, HasRoot}
 use Rattle.vertex_queue.specs.Queues.{Queue, IsFirst, rank as queue_rank}
 use Rattle.vertex_queue.proofs.Ranks.{first_has_least_rank}

@@ -11,7 +11,7 @@ use Rattle.ospf_types.specs.declared.hop.NextHop.{NextHop}
 use Rattle.ospf_types.specs.declared.label.Label.{Label}
 use Rattle.ospf_types.specs.Distances.{IsHop}
 use Rattle.ospf_types.proofs.Elements.{first_element, later_element}
-use Rattle.vertex_graph.specs.declared.link.Link.{Link}
+use Rattle.vertex_graph.specs.Link.{Link}
 use Rattle.vertex_graph.specs.Graphs.{GraphValue, graph_view, LinksOf, HasRoot}
 use Rattle.spf.specs.Trees.{AreLinks, AreDistances, IsWithin}
 use Rattle.spf.specs.Repairs.{AreChanges, AreOwed, IsDue, Moved, Went, Came, OutOfLost, OutOfMoved, OutOfWritten}

@@ -7,7 +7,7 @@ use Rattle.ospf_types.specs.declared.label.Label.{Label}
 use Rattle.ospf_types.specs.Distances.{Links}
 use Rattle.std.specs.FinMap.{get}
 use Rattle.vertex_graph.specs.Graphs.{GraphValue, LinksOf}
-use Rattle.vertex_graph.specs.declared.link.Link.{Link}
+use Rattle.vertex_graph.specs.Link.{Link}
 use Rattle.vertex_queue.specs.Queues.{Queue}
 use Rattle.spf.specs.Loops.{HasNoDoubles, IsReached, AreHanding}
 use Rattle.spf.specs.Parts.{HopMap, IsTakenBy}

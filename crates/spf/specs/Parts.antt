@@ -9,7 +9,7 @@ use Rattle.ospf_types.specs.declared.label.Label.{Label}
 use Rattle.ospf_types.specs.Distances.{Links}
 use Rattle.ospf_types.specs.Hops.{hop_cmp}
 use Rattle.ospf_types.specs.Vertices.{vertex_cmp}
-use Rattle.vertex_graph.specs.declared.link.Link.{Link}
+use Rattle.vertex_graph.specs.Link.{Link}
 use Rattle.vertex_graph.specs.Graphs.{GraphValue, LinksOf, HasRoot}
 use Rattle.spf.specs.Changes.{Among, Earlier}
 use Rattle.spf.specs.Loops.{HasNoDoubles, AreLosing, AreNearing, IsReached}

@@ -4,7 +4,7 @@ ghost use Rattle.std.specs.Prelude.{◌≡◌, ◌↔◌, ◌<◌, [], IsTrue, I
 ghost use Rattle.std.specs.FinMap as map;
 ghost use Rattle.std.specs.List.{All};
 ghost use Rattle.vertex_graph.specs.Graphs.{LinksOf};
-ghost use Rattle.vertex_graph.specs.declared.link.Link.{Link as LinkValue};
+ghost use Rattle.vertex_graph.specs.Link.{Link as LinkValue};
 ghost use Rattle.spf.specs.Parts.{IsBefore, AreLost, most_distance};
 ghost use Rattle.spf.specs.Repairs.{IsSupported};
 ghost use Rattle.spf.specs.Suspects.{Supports, WasLeast, MaySupport, IsHead, AreToldOf, IsJudged};

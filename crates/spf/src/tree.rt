@@ -2,7 +2,7 @@ ghost use Rattle.std.specs.Prelude.{◌≡◌, ◌<◌, List, [], true, OnOk, On
 ghost use Rattle.std.specs.FinMap as map;
 ghost use Rattle.std.specs.List.Sorted.{IsStrictlySortedBy};
 ghost use Rattle.ospf_types.specs.Hops.{hop_cmp};
-ghost use Rattle.vertex_graph.specs.declared.link.Link.{Link as LinkValue};
+ghost use Rattle.vertex_graph.specs.Link.{Link as LinkValue};
 ghost use Rattle.spf.specs.Parts.{AreHopsInOrder, most_distance};
 ghost use Rattle.spf.specs.TreeValues.{IsTreeOf, IsTreeBefore, IsBegun, IsRenewed, AreChanged, AreOthersKept, IsBounded, IsWorkDone, IsWorkForAll, listed_hops};
 

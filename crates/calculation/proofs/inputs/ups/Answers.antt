@@ -1,7 +1,7 @@
 use Rattle.std.proofs.Common.{ℕ, List, sym, subst}
 use Rattle.std.specs.FinMap.{entries}
 use Rattle.ospf_types.specs.declared.config.Interface.{Interface}
-use Rattle.vertex_graph.specs.declared.link.Up.{Up}
+use Rattle.vertex_graph.specs.Up.{Up}
 use Rattle.calculation.proofs.Ups.{AreTaken, one_taken, one_skipped, all_taken}
 use Rattle.calculation.proofs.inputs.ups.Goals as goal
 

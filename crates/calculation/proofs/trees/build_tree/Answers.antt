@@ -3,7 +3,7 @@ use Rattle.std.proofs.lemmas.Result.{IfOk-weaker}
 use Rattle.ospf_types.specs.declared.config.Config.{Config}
 use Rattle.ospf_types.specs.declared.key.Scope.TheVariants.{Area}
 use Rattle.lsdb.specs.Databases.{Database}
-use Rattle.vertex_graph.specs.declared.link.Up.{Up}
+use Rattle.vertex_graph.specs.Up.{Up}
 use Rattle.area_trees.specs.Areas.{IsAreaTree}
 use Rattle.event_state.specs.States.{database_of}
 use Rattle.calculation.specs.Calculations.{AreUpsOf, lsas_in}
