@@ -15,7 +15,7 @@ use Rattle.ospf_types.specs.declared.key.Scope.{Scope}
 use Rattle.ospf_types.specs.declared.key.Scope.TheVariants.{Area}
 use Rattle.ospf_types.specs.Lsa.{Body}
 use Rattle.ospf_types.proofs.Elements.{mapped_element}
-use Rattle.spf.specs.declared.touched.Touched.{Touched}
+use Rattle.spf.specs.Touched.{Touched}
 use Rattle.area_trees.specs.Areas.{AreaTreeValue}
 use Rattle.spf.specs.TreeValues.{AreOthersKept}
 use Rattle.area_trees.proofs.Work.{work_in}

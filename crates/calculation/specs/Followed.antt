@@ -5,7 +5,7 @@ use Rattle.ospf_types.specs.declared.config.AreaConfig.{AreaConfig}
 use Rattle.ospf_types.specs.declared.entry.Vertex.{Vertex}
 use Rattle.ospf_types.specs.declared.key.Dest.{Dest}
 use Rattle.ospf_types.specs.declared.key.Dest.TheVariants.{Net, Router}
-use Rattle.spf.specs.declared.touched.Touched.{Touched}
+use Rattle.spf.specs.Touched.{Touched}
 use Rattle.spf.specs.TreeValues.{IsWorkDone, listed_hops}
 use Rattle.area_trees.specs.Areas.{AreaTreeValue, IsWorkBounded}
 use Rattle.intra.specs.declared.dirty.Dirty.{Dirty}

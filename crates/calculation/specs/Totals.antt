@@ -6,7 +6,7 @@ use Rattle.ospf_types.specs.declared.entry.Vertex.TheVariants.{Router}
 use Rattle.ospf_types.specs.declared.key.Scope.TheVariants.{Area as area_scope}
 use Rattle.ospf_types.specs.Inputs.{Area}
 use Rattle.ospf_types.specs.Links.{IsLink, IsVertex}
-use Rattle.spf.specs.declared.touched.Touched.{Touched}
+use Rattle.spf.specs.Touched.{Touched}
 use Rattle.spf.specs.TreeValues.{IsWorkForAll}
 use Rattle.area_trees.specs.Areas.{AreaTreeValue}
 use Rattle.area_trees.specs.Work.{IsWorkOf}

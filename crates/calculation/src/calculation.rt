@@ -5,7 +5,7 @@ ghost use Rattle.ospf_types.specs.declared.key.Dest.TheVariants as dest_value;
 ghost use Rattle.ospf_types.specs.declared.prefix.Prefix.{Prefix as PrefixValue};
 ghost use Rattle.ospf_types.specs.Keys.{dest_cmp};
 ghost use Rattle.ospf_types.specs.Network.{network_cmp};
-ghost use Rattle.spf.specs.declared.touched.Touched.{Touched as TouchedValue};
+ghost use Rattle.spf.specs.Touched.{Touched as TouchedValue};
 ghost use Rattle.vertex_graph.specs.Graphs.{most_routers};
 ghost use Rattle.intra.specs.Changes.{InputsDifferAmong, DiffersAt};
 ghost use Rattle.intra.specs.Inputs.{InputsValue};

@@ -1,7 +1,7 @@
 //! The trees of the areas.
 ghost use Rattle.std.specs.Prelude.{◌≡◌, ◌↔◌, ◌≤◌, ◌+◌, ◌++◌, min, map as list_map, List, Contains, IsTrue, IsSome, IfOk, OnOk};
 ghost use Rattle.ospf_types.specs.declared.key.Key.{Key as KeyValue};
-ghost use Rattle.spf.specs.declared.touched.Touched.{Touched as TouchedValue};
+ghost use Rattle.spf.specs.Touched.{Touched as TouchedValue};
 ghost use Rattle.spf.specs.TreeValues.{IsWorkForAll, IsWorkDone};
 ghost use Rattle.vertex_graph.specs.Graphs.{most_routers};
 ghost use Rattle.area_trees.specs.Areas.{IsWorkBounded};

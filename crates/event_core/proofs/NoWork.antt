@@ -9,7 +9,7 @@ use Rattle.ospf_types.specs.declared.entry.Vertex.TheVariants.{Router}
 use Rattle.ospf_types.specs.Distances.{Links}
 use Rattle.ospf_types.specs.Links.{IsLink, IsVertex}
 use Rattle.ospf_types.proofs.Elements.{no_element, first_element}
-use Rattle.spf.specs.declared.touched.Touched.{Touched}
+use Rattle.spf.specs.Touched.{Touched}
 use Rattle.spf.specs.Changes.{SameLinks, link_value}
 use Rattle.spf.proofs.SameLinks.{distance_same, hop_same}
 use Rattle.area_trees.specs.Areas.{AreaTreeValue}

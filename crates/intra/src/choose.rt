@@ -5,7 +5,7 @@ ghost use Rattle.ospf_types.specs.declared.prefix.Prefix.{Prefix as PrefixValue}
 ghost use Rattle.ospf_types.specs.Hops.{path_cmp};
 ghost use Rattle.ospf_types.specs.Intra.{inside_area as path_inside};
 ghost use Rattle.ospf_types.specs.Routes.{entry_of};
-ghost use Rattle.spf.specs.Parts.{most_distance};
+ghost use Rattle.spf.specs.Maps.{most_distance};
 ghost use Rattle.intra.specs.declared.area_index.Source.{Source as SourceValue};
 ghost use Rattle.intra.specs.Inputs.{distance_at, hops_at};
 ghost use Rattle.intra.specs.Takes.{OnlyOffer, OfferedBySome};
