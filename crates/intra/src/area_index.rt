@@ -10,11 +10,11 @@ ghost use Rattle.intra.specs.IndexSteps.{AreGone, HaveCome, IsPrefixOf, IsOfferO
 
 use crate::inputs::AreaInputs;
 use crate::offered::{Offer, Offered, offers_in};
-use crate::same::are_same;
 use indexmap::IndexMap;
 use ospf_types::entry::Vertex;
 use ospf_types::memory::Memory;
 use ospf_types::prefix::Prefix;
+use path_choice::are_same;
 use std::alloc::Global;
 use std::hash::RandomState;
 use std::marker::Model;

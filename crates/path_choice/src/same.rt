@@ -4,7 +4,7 @@ ghost use Rattle.std.specs.Prelude.{◌≡◌, ◌↔◌, IsTrue, option_copied}
 use ospf_types::entry::Entry;
 
 /// A value that is compared whole.
-pub(crate) trait Same {
+pub trait Same {
     /// Whether the two are equal.
     fn is_same(&self, other: &Self) -> bool
         ensures { IsTrue result ↔ (self.now ≡ other.now) };
@@ -17,7 +17,7 @@ impl Same for Entry {
 }
 
 /// Whether the two are equal, or both are absent.
-pub(crate) fn are_same<T: Same>(a: Option<&T>, b: Option<&T>) -> bool
+pub fn are_same<T: Same>(a: Option<&T>, b: Option<&T>) -> bool
     ensures { IsTrue result ↔ (option_copied a.entry ≡ option_copied b.entry) }
 {
     match (a, b) {

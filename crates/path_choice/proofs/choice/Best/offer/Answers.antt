@@ -1,9 +1,9 @@
 use Rattle.std.proofs.Common.{◌++◌, ◌∷◌, [], Some, sym, subst, ◌∙◌}
 use Rattle.std.specs.Prelude.{Option}
-use Rattle.intra.specs.Choices.{Chosen, IsOffered, IsChosen}
-use Rattle.intra.proofs.Choosing.{chosen_first, chosen_more}
-use Rattle.intra.proofs.Taking.{takes_one}
-use Rattle.intra.proofs.choice.Best.offer.Goals as goal
+use Rattle.path_choice.specs.Choices.{Chosen, IsOffered, IsChosen}
+use Rattle.path_choice.proofs.Choosing.{chosen_first, chosen_more}
+use Rattle.path_choice.proofs.Taking.{takes_one}
+use Rattle.path_choice.proofs.choice.Best.offer.Goals as goal
 
 pub returns-in_ok-offer-in-Some-clause-ok : goal.returns-in_ok-offer-in-Some-clause-ok
 returns-in_ok-offer-in-Some-clause-ok g c =

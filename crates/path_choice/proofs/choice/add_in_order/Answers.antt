@@ -1,5 +1,5 @@
 use Rattle.ospf_types.proofs.InOrder.{has_also_inserted, searchable, sorted_insert}
-use Rattle.intra.proofs.choice.add_in_order.Goals as goal
+use Rattle.path_choice.proofs.choice.add_in_order.Goals as goal
 
 pub returns-in_ok-insert-in-Err-clause-added : goal.returns-in_ok-insert-in-Err-clause-added
 returns-in_ok-insert-in-Err-clause-added g c =

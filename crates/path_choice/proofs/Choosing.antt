@@ -10,7 +10,7 @@ use Rattle.std.proofs.lemmas.Cmp.{tied_itself}
 use Rattle.std.proofs.lemmas.List.Elements.{Contains-append_left, Contains-push, Contains-push_cases}
 use Rattle.ospf_types.specs.Best.{IsBest}
 use Rattle.ospf_types.proofs.InOrder.{only_item}
-use Rattle.intra.specs.Choices.{Chosen, HasAlso, IsOffered, IsChosen}
+use Rattle.path_choice.specs.Choices.{Chosen, HasAlso, IsOffered, IsChosen}
 
 -- new has the offers of old, and this one
 record Adds {K X : Type 0} (old new : K → X → Type 0) (key : K) (item : X) : Type 0 where

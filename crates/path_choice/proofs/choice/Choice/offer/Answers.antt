@@ -1,7 +1,7 @@
 use Rattle.std.proofs.Common.{ap, subst}
-use Rattle.intra.specs.Choices.{Chosen, HasAlso}
+use Rattle.path_choice.specs.Choices.{Chosen, HasAlso}
 use Rattle.ospf_types.proofs.InOrder.{sorted_one}
-use Rattle.intra.proofs.choice.Choice.offer.Goals as goal
+use Rattle.path_choice.proofs.choice.Choice.offer.Goals as goal
 
 pub returns-in_ok-insert-in-Less-clause-in_order :
     goal.returns-in_ok-insert-in-Less-clause-in_order

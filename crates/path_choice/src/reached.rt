@@ -3,7 +3,7 @@ ghost use Rattle.std.specs.Prelude.{◌≡◌, ◌↔◌, ◌<◌, ◌^◌, IfOk
 ghost use Rattle.std.specs.List.Sorted.{IsStrictlySortedBy};
 ghost use Rattle.ospf_types.specs.Hops.{hop_cmp};
 ghost use Rattle.ospf_types.specs.Intra.{B, E};
-ghost use Rattle.intra.specs.Reached.{reached_by, has_bit};
+ghost use Rattle.path_choice.specs.Reached.{reached_by, has_bit};
 
 use crate::same::Same;
 use ospf_types::hop::NextHop;
@@ -37,7 +37,7 @@ impl Drop for Reached {
 
 impl Model for Reached {
     ghost use Rattle.std.specs.Prelude.{◌<◌, ◌^◌};
-    ghost use Rattle.intra.specs.Reached.{ReachedValue};
+    ghost use Rattle.path_choice.specs.Reached.{ReachedValue};
 
     ghost Value = { ReachedValue };
 
@@ -91,7 +91,7 @@ impl Same for Reached {
 }
 
 /// What is kept of a router, by the bits of its router-LSA, its distance and its next hops.
-pub(crate) fn keep(
+pub fn keep(
     alloc: Global,
     root: u32,
     router: u32,

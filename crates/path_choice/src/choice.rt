@@ -2,9 +2,9 @@
 //! was offered at it (RFC 2328, 16.1 to 16.4).
 ghost use Rattle.std.specs.Prelude.{◌≡◌, ◌<◌, ◌∷◌, [], None, OnOk, OnErr, IfOk};
 ghost use Rattle.std.specs.List.Sorted.{IsStrictlySortedBy};
-ghost use Rattle.intra.specs.Choices.{HasAlso};
-ghost use Rattle.intra.specs.Intras.{most_cost};
-ghost use Rattle.intra.specs.Takes.{Takes, OnlyOffer};
+ghost use Rattle.path_choice.specs.Choices.{HasAlso};
+ghost use Rattle.path_choice.specs.Costs.{most_cost};
+ghost use Rattle.path_choice.specs.Takes.{Takes, OnlyOffer};
 
 use ospf_types::hop::{NextHop, Path};
 use ospf_types::memory::Memory;
@@ -53,7 +53,7 @@ pub struct AreaCost {
 impl Model for AreaCost {
     ghost use Rattle.std.specs.Prelude.{◌<◌};
     ghost use Rattle.ospf_types.specs.Intra.{AreaCost as CostInArea};
-    ghost use Rattle.intra.specs.Intras.{most_cost};
+    ghost use Rattle.path_choice.specs.Costs.{most_cost};
 
     ghost Value = { CostInArea };
 
@@ -115,7 +115,7 @@ impl<K: Drop, X: Drop> Drop for Choice<K, X> {
 }
 
 impl<K, X> Model for Choice<K, X> {
-    ghost use Rattle.intra.specs.Choices.{Chosen};
+    ghost use Rattle.path_choice.specs.Choices.{Chosen};
 
     ghost Value = { Chosen K X };
 
@@ -203,7 +203,7 @@ pub struct Best<K, X> {
 
 impl<K, X> Model for Best<K, X> {
     ghost use Rattle.std.specs.Prelude.{Option};
-    ghost use Rattle.intra.specs.Choices.{Chosen};
+    ghost use Rattle.path_choice.specs.Choices.{Chosen};
 
     ghost Value = { Option (Chosen K X) };
 

@@ -7,9 +7,9 @@ use Rattle.std.proofs.lemmas.List.{drop_all}
 use Rattle.std.proofs.lemmas.List.Elements.{Contains-append_left, Contains-append_right, Contains-append_cases}
 use Rattle.ospf_types.proofs.Elements.{no_element, first_element, later_element, first_or_later}
 use Rattle.ospf_types.proofs.InOrder.{only_item}
-use Rattle.intra.specs.Choices.{Chosen, IsOffered, IsChosen}
-use Rattle.intra.specs.Takes.{Takes, OnlyOffer, OfferedBySome}
-use Rattle.intra.proofs.Choosing.{same_offers}
+use Rattle.path_choice.specs.Choices.{Chosen, IsOffered, IsChosen}
+use Rattle.path_choice.specs.Takes.{Takes, OnlyOffer, OfferedBySome}
+use Rattle.path_choice.proofs.Choosing.{same_offers}
 
 module _ {K X : Type 0} {R : K → K → Ordering} {S : X → X → Ordering} where
   -- where nothing is offered, the choice stays

@@ -2,8 +2,8 @@
 use Rattle.std.proofs.Common.{◌≡◌, ap, sym, ◌∙◌}
 use Rattle.std.proofs.lemmas.Slice.Eq.{slice_eq-Decides}
 use Rattle.ospf_types.proofs.Paths.{hop_eq-Decides}
-use Rattle.intra.specs.Reached.{ReachedValue}
-use Rattle.intra.proofs.reached.ReachedSame.is_same.Goals as goal
+use Rattle.path_choice.specs.Reached.{ReachedValue}
+use Rattle.path_choice.proofs.reached.ReachedSame.is_same.Goals as goal
 
 pub returns-then-has_numbers_of : goal.returns-then-has_numbers_of
 returns-then-has_numbers_of c =

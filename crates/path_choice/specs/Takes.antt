@@ -1,7 +1,7 @@
 -- Which offers a choice took, as a relation.
 use Rattle.std.specs.Prelude.{◌≡◌, ◌↔◌, ◌++◌, List, Option, Contains}
 use Rattle.std.specs.declared.cmp.Ordering.{Ordering}
-use Rattle.intra.specs.Choices.{Chosen, IsOffered, IsChosen}
+use Rattle.path_choice.specs.Choices.{Chosen, IsOffered, IsChosen}
 
 -- from the one to the other just these offers were taken
 pub record Takes {K X : Type 0} (key_cmp : K → K → Ordering) (item_cmp : X → X → Ordering) (offers : K → X → Type 0) (old new : Option (Chosen K X)) : Type 0 where
