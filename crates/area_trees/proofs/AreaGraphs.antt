@@ -19,10 +19,10 @@ use Rattle.ospf_types.specs.Lsa.{Body, Lsa}
 use Rattle.ospf_types.specs.Vertices.{vertex_cmp}
 use Rattle.ospf_types.proofs.Elements.{no_element, first_element, later_element, first_or_later, mapped_from}
 use Rattle.ospf_types.proofs.Orders.{key_exact}
-use Rattle.spf.specs.Loops.{HasNoDoubles}
+use Rattle.spf.specs.Members.{HasNoDoubles}
 use Rattle.spf.proofs.Counting.{no_longer}
 use Rattle.spf.proofs.Elements.{cases_contains}
-use Rattle.vertex_graph.specs.declared.end.End.{End}
+use Rattle.vertex_graph.specs.End.{End}
 use Rattle.vertex_graph.specs.Graphs.{GraphValue, Handed, AreApartHanded, AreFewAfter, IsThereAfter, IsReplaced}
 use Rattle.vertex_graph.proofs.VertexTests.{is_vertex, vertex_laws, vertex_same}
 use Rattle.area_trees.specs.Areas.{AreNetworksOf, AreStanding, AreaGraphValue, DifferAmong, IsGraphOf, IsStanding, IsUsed, LeadsBy, body_at, network_key, router_key, vertex_of}

@@ -2,8 +2,8 @@
 use Rattle.std.proofs.Common.{◌≡◌, ℕ, Bool, false, List, Result, Ok, Err, sym, ap, subst, ◌∙◌}
 use Rattle.std.specs.Prelude.{OnOk, is_err}
 use Rattle.lsdb.specs.Databases.{Database}
-use Rattle.vertex_graph.specs.declared.link.Link.{Link}
-use Rattle.vertex_graph.specs.declared.link.Up.{Up}
+use Rattle.vertex_graph.specs.Link.{Link}
+use Rattle.vertex_graph.specs.Up.{Up}
 use Rattle.vertex_graph.specs.Graphs.{GraphValue, AreExact, HasEnds}
 use Rattle.vertex_graph.proofs.Deciding.{link_decided}
 use Rattle.spf.specs.TreeValues.{IsTreeOf, IsTreeBefore}

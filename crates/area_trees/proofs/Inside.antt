@@ -16,8 +16,8 @@ use Rattle.ospf_types.specs.Lsa.{Lsa, Body, RouterLink, RouterLinks, NetworkLink
 use Rattle.ospf_types.proofs.Elements.{no_element}
 use Rattle.lsa_codec.specs.Spelling.{IsLegal, IsLegalBody}
 use Rattle.lsdb.specs.Databases.{Database}
-use Rattle.vertex_graph.specs.declared.end.End.{End}
-use Rattle.vertex_graph.specs.declared.link.Up.{Up}
+use Rattle.vertex_graph.specs.End.{End}
+use Rattle.vertex_graph.specs.Up.{Up}
 use Rattle.vertex_graph.specs.Ends.{AreEnds}
 use Rattle.vertex_graph.specs.Graphs.{LinksOf, HasRoot, HasEnds}
 use Rattle.vertex_graph.specs.Pairs.{Names, IsOutLabel, IsPairLink}

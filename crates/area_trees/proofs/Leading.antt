@@ -7,8 +7,9 @@ use Rattle.ospf_types.specs.declared.lsa.LinkKind.{LinkKind}
 use Rattle.ospf_types.specs.declared.lsa.LinkKind.TheVariants.{PointToPoint, Transit, Stub, Virtual}
 use Rattle.ospf_types.specs.Links.{AreAddressesOn}
 use Rattle.ospf_types.specs.Lsa.{Body, RouterLink, RouterLinks, NetworkLinks}
-use Rattle.vertex_graph.specs.declared.end.End.{End}
-use Rattle.vertex_graph.specs.Ends.{end_by, end_of, listed_end, AreEnds}
+use Rattle.vertex_graph.specs.End.{End}
+use Rattle.vertex_graph.specs.EndOrder.{listed_end}
+use Rattle.vertex_graph.specs.Ends.{end_by, end_of, AreEnds}
 use Rattle.vertex_graph.specs.Graphs.{number_of}
 use Rattle.vertex_graph.specs.Pairs.{Names, AreDetailsTo}
 use Rattle.area_trees.specs.Areas.{LeadsBy}

@@ -9,12 +9,12 @@ use Rattle.ospf_types.specs.Distances.{Links}
 use Rattle.ospf_types.specs.Inputs.{Inputs, Area}
 use Rattle.ospf_types.specs.Links.{IsVertex, IsLink}
 use Rattle.lsdb.specs.Databases.{Database}
-use Rattle.vertex_graph.specs.declared.link.Link.{Link}
-use Rattle.vertex_graph.specs.declared.link.Up.{Up}
+use Rattle.vertex_graph.specs.Link.{Link}
+use Rattle.vertex_graph.specs.Up.{Up}
 use Rattle.vertex_graph.specs.Graphs.{GraphValue, LinksOf, HasRoot, AreExact}
 use Rattle.vertex_graph.proofs.Deciding.{link_decided}
 use Rattle.spf.specs.Changes.{link_value, Among, SameLinks, AreDecided, AreExactChanges}
-use Rattle.spf.specs.Loops.{HasNoDoubles}
+use Rattle.spf.specs.Members.{HasNoDoubles}
 use Rattle.spf.specs.Parts.{HadRoot, LinksBefore, hops_of}
 use Rattle.spf.specs.Repairs.{Between, IsSame, HasDiffering, AreOwed}
 use Rattle.spf.specs.Trees.{IsTree}

@@ -10,10 +10,10 @@ use Rattle.ospf_types.specs.declared.config.Interface.{Interface}
 use Rattle.ospf_types.specs.Inputs.{Inputs, Area, IsUp}
 use Rattle.lsdb.specs.Contents.{IsSound}
 pub use Rattle.lsdb.specs.Contents.{body_at}
-use Rattle.vertex_graph.specs.declared.end.End.{End}
-use Rattle.vertex_graph.specs.declared.link.Up.{Up}
+use Rattle.vertex_graph.specs.End.{End}
+use Rattle.vertex_graph.specs.Up.{Up}
 use Rattle.vertex_graph.specs.Ends.{AreEnds}
-use Rattle.vertex_graph.specs.declared.link.Link.{Link}
+use Rattle.vertex_graph.specs.Link.{Link}
 use Rattle.vertex_graph.specs.Graphs.{GraphValue, Handed, AreExact}
 use Rattle.spf.specs.TreeValues.{TreeValue, IsTreeOf, IsBounded}
 

@@ -4,9 +4,9 @@ use Rattle.ospf_types.specs.declared.entry.Vertex.{Vertex}
 use Rattle.ospf_types.specs.declared.entry.Vertex.TheVariants.{Router}
 use Rattle.ospf_types.specs.declared.hop.NextHop.{NextHop}
 use Rattle.ospf_types.specs.Distances.{Links, IsDistance, IsHop}
-use Rattle.vertex_graph.specs.declared.link.Link.{Link}
+use Rattle.vertex_graph.specs.Link.{Link}
 use Rattle.spf.specs.Changes.{Among, AreExactChanges}
-use Rattle.spf.specs.Loops.{HasNoDoubles}
+use Rattle.spf.specs.Members.{HasNoDoubles}
 use Rattle.spf.specs.Repairs.{AreOwed}
 
 -- a vertex other than the root, reached after at a distance that it hasn't before

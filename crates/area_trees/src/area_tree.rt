@@ -5,9 +5,9 @@ ghost use Rattle.std.specs.List.Sorted.{IsStrictlySortedBy};
 ghost use Rattle.lsdb.specs.Databases.{Database as Lsas};
 ghost use Rattle.ospf_types.specs.Lsa.{key_of};
 ghost use Rattle.ospf_types.specs.Hops.{hop_cmp};
-ghost use Rattle.spf.specs.Parts.{most_distance};
+ghost use Rattle.spf.specs.Maps.{most_distance};
 ghost use Rattle.spf.specs.TreeValues.{AreChanged, AreOthersKept, IsWorkForAll, IsWorkDone, listed_hops};
-ghost use Rattle.vertex_graph.specs.declared.link.Up.{Up as UpValue};
+ghost use Rattle.vertex_graph.specs.Up.{Up as UpValue};
 ghost use Rattle.vertex_graph.specs.Graphs.{most_routers};
 ghost use Rattle.area_trees.specs.Areas.{IsAreaTree, IsStanding, DifferAmong, IsWorkBounded, vertex_of};
 
@@ -47,7 +47,7 @@ impl Model for AreaTree {
     ghost use Rattle.std.specs.Coded.{Coded, codes, coded_ℕ};
     ghost use Rattle.ospf_types.specs.Vertices.{vertex_code};
     ghost use Rattle.vertex_graph.specs.Graphs.{EndsByVertex};
-    ghost use Rattle.spf.specs.Parts.{DistanceMap, HopMap};
+    ghost use Rattle.spf.specs.Maps.{DistanceMap, HopMap};
     ghost use Rattle.area_trees.specs.Areas.{AreaTreeValue};
 
     ghost Value = { AreaTreeValue };

@@ -35,10 +35,11 @@ use Rattle.external.specs.Externals.{ExternalValue, IsEntryFor as IsExternalFor,
 use Rattle.external.specs.Forwards.{ForwardValue, WayValue, IsMatchOf, WayOffers, LeadsBy}
 use Rattle.external.specs.Offers.{OffersBy as ExternalOffersBy}
 use Rattle.event_state.specs.States.{State, LooksAlike, database_of, inputs_of}
-use Rattle.calculation.specs.Calculations.{lsas_in, IsExaminedOf, IsUpIn, inter_inputs, external_inputs}
-use Rattle.calculation.specs.Totals.{area_of}
-use Rattle.calculation.proofs.Examining.{area_in, area_from, active_in, active_from}
-use Rattle.calculation.proofs.Places.{body_used}
+use Rattle.state_trees.specs.Trees.{lsas_in}
+use Rattle.route_layers.specs.Layers.{IsExaminedOf, IsUpIn, inter_inputs, external_inputs}
+use Rattle.state_trees.specs.Works.{area_of}
+use Rattle.route_layers.proofs.Examining.{area_in, area_from, active_in, active_from}
+use Rattle.state_trees.proofs.Places.{body_used}
 
 -- ---- other LSAs that are used alike
 

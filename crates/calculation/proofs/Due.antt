@@ -1,62 +1,31 @@
 -- What is due by what is kept of a state.
---   none_active, one_active, one_idle: the active areas, one by one
 --   due_right: it is what the definitions say
 --   due_alike: it is that of a state that looks alike
 --   due_before: what it rests on differs in no more than is named
-use Rattle.std.proofs.Common.{◌≡◌, ◌≢◌, ℕ, ◌<◌, ◌+◌, List, [], ◌∷◌, ◌++◌, map, get_or, take, length, Some, refl, sym, ap, subst, ◌∙◌, inl, inr, ⊎_elim}
+use Rattle.std.proofs.Common.{◌≡◌, ℕ, List, [], ◌∷◌, map, Some, refl, sym, ap, subst, ◌∙◌}
 use Rattle.std.specs.Prelude.{◌↔◌, IsTrue}
 use Rattle.std.specs.Cmp.{nat_cmp_total}
-use Rattle.std.specs.FinMap.{FinMap, entries}
+use Rattle.std.specs.FinMap.{entries}
 use Rattle.std.specs.List.{Contains}
-use Rattle.std.proofs.lemmas.List.Elements.{Contains-append_left, Contains-append_right, Contains-push_cases}
 use Rattle.ospf_types.specs.declared.config.AreaConfig.{AreaConfig}
 use Rattle.ospf_types.specs.declared.config.Config.{Config}
 use Rattle.ospf_types.specs.declared.config.Interface.{Interface}
 use Rattle.ospf_types.specs.declared.key.Dest.{Dest}
 use Rattle.ospf_types.specs.Inputs.{Area, IsActive}
-use Rattle.ospf_types.proofs.Elements.{no_element, first_element}
-use Rattle.spf.proofs.OfSome.{contains_more}
 use Rattle.dues.specs.Changes.{InputsDifferAmong}
 use Rattle.dues.specs.Dues.{DuesValue, AreDuesOf}
 use Rattle.dues.specs.Inputs.{DueInputsValue}
 use Rattle.dues.specs.Right.{AreConfigured, AreInputsOf, IsRightFor}
 use Rattle.dues.proofs.Right.{dues_right}
 use Rattle.event_state.specs.States.{State, LooksAlike, inputs_of}
-use Rattle.calculation.specs.Calculations.{CalculationValue, IsCalculationOf, IsUpIn}
-use Rattle.calculation.specs.Due.{AreActiveIn, AreActive, AreDuesFor, RoutesDifferAmong, due_inputs}
-use Rattle.calculation.specs.Totals.{area_of}
-use Rattle.calculation.proofs.Above.{apart_areas}
-use Rattle.calculation.proofs.Examining.{active_in, active_from}
+use Rattle.calculation.specs.Calculations.{CalculationValue, IsCalculationOf}
+use Rattle.route_layers.specs.Layers.{IsUpIn}
+use Rattle.route_layers.specs.Layers.{AreActiveIn, AreActive}
+use Rattle.calculation.specs.Due.{AreDuesFor, RoutesDifferAmong, due_inputs}
+use Rattle.state_trees.specs.Works.{area_of}
+use Rattle.route_layers.proofs.Above.{apart_areas}
+use Rattle.route_layers.proofs.Examining.{active_in, active_from}
 use Rattle.event_state.proofs.Sorted.{value_from}
-
--- ---- the active areas, one by one
-
-pub none_active : (s : State) (active : List ℕ) → active ≡ [] → AreActiveIn s [] active
-none_active s active none area = (λ c. absurd (no_element area (subst (λ (list : List ℕ). Contains list area) none c)), λ w. absurd (no_element w.0 w.1))
-
-module _ (s : State) (areas : List AreaConfig) (i : ℕ) (a : AreaConfig) (lt : i < length areas) (here : a ≡ get_or areas i a) (active : List ℕ) (are : AreActiveIn s (take i areas) active) where
-  pub one_active : IsUpIn s a.id → AreActiveIn s (take (i + 1) areas) (active ++ a.id ∷ [])
-  one_active up area = (
-    λ c. ⊎_elim
-        (λ (before : Contains active area). let w = (are area).0 before in (w.0, (contains_more areas i a w.0 lt here).1 (inl w.1), w.2, w.3))
-        (λ (now : a.id ≡ area). (a, (contains_more areas i a a lt here).1 (inr refl), now, up))
-        (Contains-push_cases active a.id area c),
-    λ w. elim ((contains_more areas i a w.0 lt here).0 w.1) [
-      | inl before ↦ Contains-append_left active (a.id ∷ []) area ((are area).1 (w.0, before, w.2, w.3))
-      | inr now ↦ Contains-append_right active (a.id ∷ []) area (subst (Contains (a.id ∷ [])) (ap (λ (x : AreaConfig). x.id) (sym now) ∙ w.2) (first_element a.id []))
-    ],
-  )
-
-  pub one_idle : (IsUpIn s a.id → ⊥) → AreActiveIn s (take (i + 1) areas) active
-  one_idle not area = (
-    λ c. let w = (are area).0 c in (w.0, (contains_more areas i a w.0 lt here).1 (inl w.1), w.2, w.3),
-    λ w. elim ((contains_more areas i a w.0 lt here).0 w.1) [
-      | inl before ↦ (are area).1 (w.0, before, w.2, w.3)
-      | inr now ↦ absurd (not (subst (λ (x : AreaConfig). IsUpIn s x.id) now w.3))
-    ],
-  )
-
--- ---- what is due
 
 due_configured : (s : State) (areas : List AreaConfig) → AreConfigured (map (area_of s) areas) areas
 due_configured s [] = tt

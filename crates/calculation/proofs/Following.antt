@@ -31,10 +31,12 @@ use Rattle.route_table.specs.declared.table.Item.{Item}
 use Rattle.route_table.specs.declared.table.Item.TheVariants.{Route, Discard}
 use Rattle.event_state.specs.States.{State}
 use Rattle.calculation.specs.Due.{RoutesDifferAmong}
-use Rattle.calculation.specs.Calculations.{CalculationValue, IsCalculationOf, StatesDifferAmong, AreTreesOf, AreItemsKept, IsExaminedOf, IsItem, entry_else, entry_at, inputs_with, inter_inputs, external_inputs}
+use Rattle.calculation.specs.Calculations.{CalculationValue, IsCalculationOf, AreItemsKept, IsItem, entry_else, entry_at}
+use Rattle.state_trees.specs.Trees.{StatesDifferAmong, AreTreesOf, inputs_with}
+use Rattle.route_layers.specs.Layers.{IsExaminedOf, inter_inputs, external_inputs}
 use Rattle.calculation.specs.Followed.{routers_in}
 use Rattle.calculation.proofs.Networks.{routers_within}
-use Rattle.calculation.proofs.Above.{kept_ids, inter_differ, external_differ}
+use Rattle.route_layers.proofs.Above.{kept_ids, inter_differ, external_differ}
 use Rattle.calculation.proofs.Staying.{networks_stay, routers_stay, ranges_stay, inter_stays, external_stays, preferred_stays}
 
 -- an item is that of the same entry, and of what is active alike

@@ -1,8 +1,7 @@
 -- What is due in the areas, by what is kept of a state.
-use Rattle.std.specs.Prelude.{ℕ, ◌≡◌, ◌↔◌, List, Contains}
+use Rattle.std.specs.Prelude.{ℕ, ◌≡◌, List, Contains}
 use Rattle.std.specs.FinMap.{get}
 use Rattle.ospf_types.specs.Address.{Covers}
-use Rattle.ospf_types.specs.declared.config.AreaConfig.{AreaConfig}
 use Rattle.ospf_types.specs.declared.key.Dest.{Dest}
 use Rattle.ospf_types.specs.declared.key.Dest.TheVariants.{Net, Router}
 use Rattle.ospf_types.specs.declared.prefix.Prefix.{Prefix}
@@ -10,15 +9,8 @@ use Rattle.summaries.specs.declared.member.Member.{Member}
 use Rattle.dues.specs.Dues.{DuesValue, AreDuesOf}
 use Rattle.dues.specs.Inputs.{DueInputsValue}
 use Rattle.event_state.specs.States.{State}
-use Rattle.calculation.specs.Calculations.{CalculationValue, IsUpIn}
-
--- the Area IDs of those of the areas that have an interface that is up
-abbrev pub AreActiveIn : State → List AreaConfig → List ℕ → Type 0
-AreActiveIn s areas active = (area : ℕ) → Contains active area ↔ ((a : AreaConfig) × Contains areas a × (a.id ≡ area) × IsUpIn s a.id)
-
--- of all areas
-abbrev pub AreActive : State → List ℕ → Type 0
-AreActive s active = AreActiveIn s s.config.areas active
+use Rattle.calculation.specs.Calculations.{CalculationValue}
+use Rattle.route_layers.specs.Layers.{AreActive}
 
 -- what is due is calculated from this
 abbrev pub due_inputs : State → List ℕ → CalculationValue → DueInputsValue

@@ -3,8 +3,5 @@
 #![tactic(auto)]
 
 mod calculation;
-mod inputs;
-mod layers;
-mod trees;
 
 pub use calculation::{Calculation, Changed};

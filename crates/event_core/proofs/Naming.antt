@@ -16,7 +16,7 @@ use Rattle.event_state.specs.declared.event.Event.{Event}
 use Rattle.event_state.specs.declared.event.Event.TheVariants as event
 use Rattle.event_state.specs.States.{State, place_of, changed_at_place, usable_at}
 use Rattle.event_state.specs.Steps.{step}
-use Rattle.calculation.specs.Calculations.{StatesDifferAmong}
+use Rattle.calculation.specs.Trees.{StatesDifferAmong}
 
 -- an interface that is not set stays as it was
 other_interface : (m : FinMap nat_cmp Interface) (id : ℕ) (i : Interface) (q : ℕ) → q ≢ id → get (insert m id i) q ≡ get m q

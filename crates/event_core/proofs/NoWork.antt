@@ -9,7 +9,7 @@ use Rattle.ospf_types.specs.declared.entry.Vertex.TheVariants.{Router}
 use Rattle.ospf_types.specs.Distances.{Links}
 use Rattle.ospf_types.specs.Links.{IsLink, IsVertex}
 use Rattle.ospf_types.proofs.Elements.{no_element, first_element}
-use Rattle.spf.specs.declared.touched.Touched.{Touched}
+use Rattle.spf.specs.Touched.{Touched}
 use Rattle.spf.specs.Changes.{SameLinks, link_value}
 use Rattle.spf.proofs.SameLinks.{distance_same, hop_same}
 use Rattle.area_trees.specs.Areas.{AreaTreeValue}
@@ -17,8 +17,9 @@ use Rattle.area_trees.specs.Work.{IsWorkOf, HasNewDistance, HasNewHops}
 use Rattle.area_trees.proofs.Inside.{links_in, root_in}
 use Rattle.event_state.specs.Held.{AreFit}
 use Rattle.event_state.specs.States.{State, inputs_of}
-use Rattle.calculation.specs.Calculations.{CalculationValue, IsCalculationOf, AreTreesOf}
-use Rattle.calculation.specs.Totals.{area_of, AreWorksOf, IsEventWork, most_count}
+use Rattle.calculation.specs.Calculations.{CalculationValue, IsCalculationOf}
+use Rattle.calculation.specs.Trees.{AreTreesOf}
+use Rattle.calculation.specs.Works.{area_of, AreWorksOf, IsEventWork, most_count}
 use Rattle.event_core.specs.Following.{no_work}
 use Rattle.calculation.proofs.InputsAre.{area_is}
 

@@ -23,7 +23,8 @@ use Rattle.event_core.specs.Cores.{CoreValue, IsCore, IsTaken, Stands, HasBounde
 use Rattle.event_core.specs.Kept.{core_of, IsCoherent}
 use Rattle.config_faults.specs.Configs.{config_fault_of}
 use Rattle.ospf_types.specs.declared.memory.Memory.{Memory}
-use Rattle.calculation.specs.Totals.{IsBuildWork, IsEventWork}
+use Rattle.calculation.specs.Totals.{IsBuildWork}
+use Rattle.calculation.specs.Works.{IsEventWork}
 use Rattle.event_core.specs.Following.{RoutesValue, AreRoutesOf, AreChanges, no_work}
 use Rattle.event_state.specs.Held.{AreFit}
 use Rattle.event_core.proofs.DueRight.{routes_due}

@@ -5,9 +5,10 @@ use Rattle.ospf_types.specs.declared.key.Scope.{Scope}
 use Rattle.route_table.specs.Tables.{TableValue}
 use Rattle.event_state.specs.Held.{AreFit}
 use Rattle.event_state.specs.States.{State, LooksAlike}
-use Rattle.calculation.specs.Calculations.{IsCalculationOf, IsTableOf, StatesDifferAmong}
+use Rattle.calculation.specs.Calculations.{IsCalculationOf, IsTableOf}
+use Rattle.calculation.specs.Trees.{StatesDifferAmong}
 use Rattle.calculation.specs.Due.{AreDuesFor}
-use Rattle.calculation.specs.Totals.{IsEventWork}
+use Rattle.calculation.specs.Works.{IsEventWork}
 use Rattle.event_core.specs.Following.{RoutesValue, AreRoutesOf, AreChanges, no_work}
 use Rattle.calculation.proofs.Alike.{calculation_alike}
 use Rattle.calculation.proofs.Due.{due_alike}

@@ -17,8 +17,9 @@ use Rattle.route_table.specs.Tables.{TableValue}
 use Rattle.dues.specs.Due.{Due}
 use Rattle.event_core.specs.Right.{IsRight, AreDue}
 use Rattle.ospf_types.specs.declared.prefix.Prefix.{Prefix}
-use Rattle.spf.specs.declared.touched.Touched.{Touched}
-use Rattle.calculation.specs.Totals.{IsBuildWork, IsEventWork}
+use Rattle.spf.specs.Touched.{Touched}
+use Rattle.calculation.specs.Totals.{IsBuildWork}
+use Rattle.calculation.specs.Works.{IsEventWork}
 use Rattle.event_core.specs.Following.{AreChanges, no_work}
 
 pub record CoreValue : Type 0 where

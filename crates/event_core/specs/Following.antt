@@ -5,7 +5,7 @@ use Rattle.std.specs.List.Sorted.{IsStrictlySortedBy}
 use Rattle.std.specs.Map.{keys_of}
 use Rattle.ospf_types.specs.declared.prefix.Prefix.{Prefix}
 use Rattle.ospf_types.specs.Network.{network_cmp}
-use Rattle.spf.specs.declared.touched.Touched.{Touched}
+use Rattle.spf.specs.Touched.{Touched}
 use Rattle.route_table.specs.declared.table.Item.{Item}
 use Rattle.route_table.specs.Tables.{TableValue}
 use Rattle.dues.specs.Dues.{DuesValue}

@@ -2,7 +2,7 @@
 ghost use Rattle.std.specs.Prelude.{IfOk, IfErr};
 ghost use Rattle.event_state.specs.Refusals.{IsRefusalOf};
 ghost use Rattle.event_state.specs.Steps.{step};
-ghost use Rattle.calculation.specs.Calculations.{StatesDifferAmong};
+ghost use Rattle.calculation.specs.Trees.{StatesDifferAmong};
 
 use event_state::{Event, Refusal, State};
 use ospf_types::key::{Key, Scope};

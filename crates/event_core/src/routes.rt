@@ -7,9 +7,11 @@ ghost use Rattle.vertex_graph.specs.Graphs.{most_routers};
 ghost use Rattle.event_state.specs.Held.{AreFit};
 ghost use Rattle.event_state.specs.States.{State as StateValue, LooksAlike};
 ghost use Rattle.dues.specs.Dues.{lists_of};
-ghost use Rattle.calculation.specs.Calculations.{IsCalculationOf, IsTableOf, StatesDifferAmong};
+ghost use Rattle.calculation.specs.Calculations.{IsCalculationOf, IsTableOf};
+ghost use Rattle.calculation.specs.Trees.{StatesDifferAmong};
 ghost use Rattle.calculation.specs.Due.{AreDuesFor};
-ghost use Rattle.calculation.specs.Totals.{IsBuildWork, IsEventWork};
+ghost use Rattle.calculation.specs.Totals.{IsBuildWork};
+ghost use Rattle.calculation.specs.Works.{IsEventWork};
 ghost use Rattle.event_core.specs.Following.{AreRoutesOf, AreChanges, AreOtherItems, IsOneMore, no_work};
 
 use crate::named::Named;

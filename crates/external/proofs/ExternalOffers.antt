@@ -12,9 +12,9 @@ use Rattle.ospf_types.specs.declared.prefix.Prefix.{Prefix}
 use Rattle.ospf_types.specs.External.{ExternalPreference, external_cmp}
 use Rattle.ospf_types.specs.Hops.{path_cmp}
 use Rattle.ospf_types.specs.Routes.{entry_of, external_type}
-use Rattle.intra.specs.Choices.{Chosen, IsChosen}
-use Rattle.intra.specs.Takes.{OfferedBySome}
-use Rattle.intra.proofs.Taking.{takes_none, takes_same, taken_chosen}
+use Rattle.path_choice.specs.Choices.{Chosen, IsChosen}
+use Rattle.path_choice.specs.Takes.{OfferedBySome}
+use Rattle.path_choice.proofs.Taking.{takes_none, takes_same, taken_chosen}
 use Rattle.offer_index.specs.Advertised.{AdvertisedValue}
 use Rattle.offer_index.specs.Indexes.{OfferIndexValue, IsInGroup}
 use Rattle.offer_index.specs.declared.group.Group.TheVariants.{To}

@@ -10,10 +10,10 @@ use Rattle.ospf_types.specs.declared.key.Dest.TheVariants.{Router}
 use Rattle.ospf_types.specs.Boundary.{Preference, preference_cmp, intra_class}
 use Rattle.ospf_types.specs.Hops.{hop_cmp}
 use Rattle.ospf_types.specs.Intra.{E}
-use Rattle.intra.specs.Choices.{Chosen, IsChosen}
+use Rattle.path_choice.specs.Choices.{Chosen, IsChosen}
 use Rattle.intra.specs.Reached.{ReachedValue}
-use Rattle.intra.specs.Takes.{OnlyOffer, OfferedBySome}
-use Rattle.intra.proofs.Taking.{takes_none, takes_same, takes_two, taken_chosen}
+use Rattle.path_choice.specs.Takes.{OnlyOffer, OfferedBySome}
+use Rattle.path_choice.proofs.Taking.{takes_none, takes_same, takes_two, taken_chosen}
 use Rattle.external.specs.Choosing.{TakesHops, HopsOffer, AreaOffers}
 use Rattle.external.specs.Inputs.{ExternalInputsValue}
 use Rattle.external.specs.Preferred.{PreferredValue, ReachedOffers, EntryOffers, RouterOffers, IsPreferredFor}

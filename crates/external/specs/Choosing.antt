@@ -11,9 +11,9 @@ use Rattle.ospf_types.specs.External.{ExternalPreference, external_cmp}
 use Rattle.ospf_types.specs.Hops.{hop_cmp, path_cmp}
 use Rattle.ospf_types.specs.Inter.{through}
 use Rattle.ospf_types.specs.Intra.{E}
-use Rattle.intra.specs.Choices.{Chosen}
+use Rattle.path_choice.specs.Choices.{Chosen}
 use Rattle.intra.specs.Reached.{ReachedValue, HandsOut}
-use Rattle.intra.specs.Takes.{Takes, OnlyOffer, OfferedBySome}
+use Rattle.path_choice.specs.Takes.{Takes, OnlyOffer, OfferedBySome}
 use Rattle.offer_index.specs.Advertised.{AdvertisedValue}
 use Rattle.offer_index.specs.Indexes.{AdvertisedByKey, OfferIndexValue, IsInGroup}
 use Rattle.offer_index.specs.declared.group.Group.TheVariants.{To}

@@ -3,17 +3,17 @@ ghost use Rattle.std.specs.Prelude.{◌≡◌, ◌↔◌, ◌<◌, Some, IfOk, O
 ghost use Rattle.std.specs.FinMap as map;
 ghost use Rattle.ospf_types.specs.declared.key.Dest.TheVariants as dest_value;
 ghost use Rattle.ospf_types.specs.Boundary.{intra_class};
-ghost use Rattle.intra.specs.Takes.{OnlyOffer, OfferedBySome};
+ghost use Rattle.path_choice.specs.Takes.{OnlyOffer, OfferedBySome};
 ghost use Rattle.inter.specs.Inters.{most_cost};
 ghost use Rattle.external.specs.Choosing.{TakesHops, HopsOffer, AreaOffers};
 ghost use Rattle.external.specs.Preferred.{RouterOffers, ReachedOffers, EntryOffers, IsPreferredFor};
 
 use crate::inputs::ExternalInputs;
-use intra::{Best, Choice, ExactOrd, Reached};
 use ospf_types::entry::Entry;
 use ospf_types::hop::{NextHop, Path};
 use ospf_types::key::Dest;
 use ospf_types::memory::Memory;
+use path_choice::{Best, Choice, ExactOrd, Reached};
 use result_map::Same;
 use std::alloc::Global;
 use std::cmp::Reverse;

@@ -13,11 +13,11 @@ use Rattle.ospf_types.specs.Hops.{path_cmp}
 use Rattle.ospf_types.specs.Intra.{B}
 use Rattle.ospf_types.specs.Routes.{entry_of}
 use Rattle.ospf_types.proofs.Elements.{no_element}
-use Rattle.intra.specs.Choices.{Chosen, IsChosen}
+use Rattle.path_choice.specs.Choices.{Chosen, IsChosen}
 use Rattle.intra.specs.Intras.{AreaIntraValue, reached_at}
 use Rattle.intra.specs.Reached.{ReachedValue, HandsOut}
-use Rattle.intra.specs.Takes.{OfferedBySome}
-use Rattle.intra.proofs.Taking.{takes_none, takes_same, taken_chosen}
+use Rattle.path_choice.specs.Takes.{OfferedBySome}
+use Rattle.path_choice.proofs.Taking.{takes_none, takes_same, taken_chosen}
 use Rattle.offer_index.specs.Advertised.{AdvertisedValue}
 use Rattle.offer_index.specs.Indexes.{OfferIndexValue, IsInGroup}
 use Rattle.offer_index.specs.declared.group.Group.TheVariants.{To}

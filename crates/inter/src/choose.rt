@@ -8,18 +8,19 @@ ghost use Rattle.ospf_types.specs.Intra.{E};
 ghost use Rattle.ospf_types.specs.Routes.{entry_of};
 ghost use Rattle.intra.specs.Intras.{reached_at};
 ghost use Rattle.intra.specs.Reached.{HandsOut};
-ghost use Rattle.intra.specs.Takes.{OnlyOffer, OfferedBySome};
+ghost use Rattle.path_choice.specs.Takes.{OnlyOffer, OfferedBySome};
 ghost use Rattle.inter.specs.Choosing.{IsChosenIn, TakesPaths, KeyOffers, HopsOffer};
 ghost use Rattle.inter.specs.Offers.{IsTakenBelow};
 
 use crate::cost::{InterEntry, SummaryCost};
 use crate::inputs::InterInputs;
-use intra::{Best, Choice, Intra};
+use intra::Intra;
 use offer_index::{Group, OfferIndex};
 use ospf_types::entry::{Entry, PathType, Paths};
 use ospf_types::hop::{NextHop, Path};
 use ospf_types::key::{Dest, Key};
 use ospf_types::memory::Memory;
+use path_choice::{Best, Choice};
 use result_map::Renewal;
 use std::alloc::Global;
 

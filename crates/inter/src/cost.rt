@@ -3,8 +3,8 @@ ghost use Rattle.std.specs.Prelude.{◌≡◌, ◌+◌, ◌^◌, ◌<◌, ◌↔
 ghost use Rattle.ospf_types.specs.Inter.{LSInfinity};
 ghost use Rattle.inter.specs.Inters.{most_cost};
 
-use intra::ExactOrd;
 use ospf_types::entry::Entry;
+use path_choice::ExactOrd;
 use result_map::Same;
 use std::marker::Model;
 

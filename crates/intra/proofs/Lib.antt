@@ -1,7 +1,5 @@
 pub mod Frame
 pub mod Right
-pub mod Choosing
-pub mod Taking
 pub mod Sourced
 pub mod Nearest
 pub mod SourceMaps

@@ -5,7 +5,7 @@ use Rattle.ospf_types.specs.declared.config.Interface.{Interface}
 use Rattle.ospf_types.specs.declared.entry.Vertex.{Vertex}
 use Rattle.ospf_types.specs.declared.hop.NextHop.{NextHop}
 use Rattle.lsdb.specs.Databases.{Database}
-use Rattle.vertex_graph.specs.declared.link.Up.{Up}
+use Rattle.vertex_graph.specs.Up.{Up}
 use Rattle.spf.specs.TreeValues.{listed_hops}
 use Rattle.area_trees.specs.Areas.{AreaTreeValue, IsAreaTree}
 

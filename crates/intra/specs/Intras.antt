@@ -11,14 +11,11 @@ use Rattle.ospf_types.specs.Hops.{path_cmp}
 use Rattle.ospf_types.specs.Intra.{AreaCost, area_cost_cmp}
 use Rattle.ospf_types.specs.Network.{network_cmp}
 use Rattle.ospf_types.specs.Routes.{entry_of}
+pub use Rattle.path_choice.specs.Costs.{most_cost}
 use Rattle.intra.specs.Indexes.{IndexValue, IsIndexOf}
 use Rattle.intra.specs.Inputs.{AreaValue, InputsValue}
 use Rattle.intra.specs.Offers.{OffersOf}
 use Rattle.intra.specs.Reached.{ReachedByRouter, ReachedValue, IsReachedOf}
-
--- the cost of an intra-area entry is below this, 2^31 - 2^24: with a metric of 24 bits it stays below 2^31
-abbrev pub most_cost : ℕ
-most_cost = 2130706432
 
 abbrev pub EntriesByPrefix : Type 0
 EntriesByPrefix = FinMap network_cmp Entry

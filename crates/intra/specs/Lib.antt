@@ -1,5 +1,3 @@
-pub mod Choices
-pub mod Takes
 pub mod Inputs
 pub mod Offers
 pub mod Stubs

@@ -5,7 +5,7 @@ use Rattle.ospf_types.specs.declared.hop.NextHop.{NextHop}
 use Rattle.ospf_types.specs.declared.prefix.Prefix.{Prefix}
 use Rattle.ospf_types.specs.Inputs.{Inputs, Area}
 use Rattle.ospf_types.specs.Intra.{IntraOffers, ReachesWith, B, E}
-use Rattle.vertex_graph.specs.declared.link.Up.{Up}
+use Rattle.vertex_graph.specs.Up.{Up}
 use Rattle.area_trees.specs.Areas.{IsAreaOf, IsAreaTree}
 use Rattle.intra.specs.Inputs.{AreaValue, InputsValue}
 use Rattle.intra.specs.Intras.{AreaIntraValue, IntraValue, IsEntryFor}

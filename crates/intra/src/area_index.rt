@@ -1,7 +1,7 @@
 //! The index of an area: what each vertex offers, and who offers each prefix. It follows the area's LSAs alone.
 ghost use Rattle.std.specs.Prelude.{◌≡◌, ◌≢◌, ◌↔◌, ℕ, List, Option, None, Contains, IfOk, OnOk, option_copied};
 ghost use Rattle.std.specs.FinMap as map;
-ghost use Rattle.vertex_graph.specs.declared.link.Up.{Up as UpValue};
+ghost use Rattle.vertex_graph.specs.Up.{Up as UpValue};
 ghost use Rattle.ospf_types.specs.declared.entry.Vertex.{Vertex as VertexValue};
 ghost use Rattle.ospf_types.specs.Lsa.{Body};
 ghost use Rattle.area_trees.specs.Areas.{IsAreaTree, IsStanding};
@@ -10,11 +10,11 @@ ghost use Rattle.intra.specs.IndexSteps.{AreGone, HaveCome, IsPrefixOf, IsOfferO
 
 use crate::inputs::AreaInputs;
 use crate::offered::{Offer, Offered, offers_in};
-use crate::same::are_same;
 use indexmap::IndexMap;
 use ospf_types::entry::Vertex;
 use ospf_types::memory::Memory;
 use ospf_types::prefix::Prefix;
+use path_choice::are_same;
 use std::alloc::Global;
 use std::hash::RandomState;
 use std::marker::Model;

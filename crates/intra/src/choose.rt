@@ -5,10 +5,10 @@ ghost use Rattle.ospf_types.specs.declared.prefix.Prefix.{Prefix as PrefixValue}
 ghost use Rattle.ospf_types.specs.Hops.{path_cmp};
 ghost use Rattle.ospf_types.specs.Intra.{inside_area as path_inside};
 ghost use Rattle.ospf_types.specs.Routes.{entry_of};
-ghost use Rattle.spf.specs.Parts.{most_distance};
+ghost use Rattle.spf.specs.Maps.{most_distance};
 ghost use Rattle.intra.specs.declared.area_index.Source.{Source as SourceValue};
 ghost use Rattle.intra.specs.Inputs.{distance_at, hops_at};
-ghost use Rattle.intra.specs.Takes.{OnlyOffer, OfferedBySome};
+ghost use Rattle.path_choice.specs.Takes.{OnlyOffer, OfferedBySome};
 ghost use Rattle.intra.specs.Indexes.{IndexedOffers, IsSource};
 ghost use Rattle.intra.specs.Intras.{IsEntryFor, most_cost};
 ghost use Rattle.intra.specs.Offers.{KeyedOffers};
@@ -16,13 +16,13 @@ ghost use Rattle.intra.specs.Choosing.{TakesPaths, AmongSources, ThisSource, Key
 
 use crate::area::AreaIntra;
 use crate::area_index::Source;
-use crate::choice::{AreaCost, Best, Choice};
 use crate::inputs::{AreaInputs, Inputs};
 use ospf_types::config::Interface;
 use ospf_types::entry::{Entry, PathType, Paths, Vertex};
 use ospf_types::hop::{NextHop, Path};
 use ospf_types::memory::Memory;
 use ospf_types::prefix::Prefix;
+use path_choice::{AreaCost, Best, Choice};
 use std::alloc::Global;
 
 /// The entry of the network, by the indexes of the areas; none where nothing is offered.

@@ -20,7 +20,7 @@ impl<'a> Model for AreaInputs<'a> {
     ghost use Rattle.ospf_types.specs.Vertices.{vertex_code};
     ghost use Rattle.lsdb.specs.Databases.{Database as Lsas};
     ghost use Rattle.vertex_graph.specs.Graphs.{EndsByVertex};
-    ghost use Rattle.spf.specs.Parts.{DistanceMap, HopMap};
+    ghost use Rattle.spf.specs.Maps.{DistanceMap, HopMap};
     ghost use Rattle.intra.specs.Inputs.{AreaValue};
 
     ghost Value = { AreaValue };
@@ -52,7 +52,7 @@ impl<'a> Model for Inputs<'a> {
     ghost use Rattle.ospf_types.specs.Vertices.{vertex_code};
     ghost use Rattle.lsdb.specs.Databases.{Database as Lsas};
     ghost use Rattle.vertex_graph.specs.Graphs.{EndsByVertex};
-    ghost use Rattle.spf.specs.Parts.{DistanceMap, HopMap};
+    ghost use Rattle.spf.specs.Maps.{DistanceMap, HopMap};
     ghost use Rattle.intra.specs.Inputs.{InputsValue};
 
     ghost Value = { InputsValue };

@@ -5,17 +5,13 @@
 
 mod area;
 mod area_index;
-mod choice;
 mod choose;
 mod dirty;
 mod inputs;
 mod intra;
 mod offered;
-mod reached;
-mod same;
 
-pub use choice::{AreaCost, Best, Choice, ExactOrd};
 pub use dirty::Dirty;
 pub use inputs::{AreaInputs, Inputs};
 pub use intra::Intra;
-pub use reached::Reached;
+pub use path_choice::Reached;

@@ -7,12 +7,12 @@ ghost use Rattle.area_trees.specs.Areas.{vertex_of};
 ghost use Rattle.intra.specs.Indexes.{IsOfferedBy};
 ghost use Rattle.intra.specs.Stubs.{offer_of_link, stub_of_link, transit_offers};
 
-use crate::same::Same;
 use lsa_codec::Checked;
 use ospf_types::entry::Vertex;
 use ospf_types::lsa::{Link, LinkKind};
 use ospf_types::memory::Memory;
 use ospf_types::prefix::Prefix;
+use path_choice::Same;
 use std::alloc::Global;
 use std::marker::Model;
 

@@ -1,5 +1,5 @@
 //! A choice of the least key, with all that was offered at it.
-use intra::Best;
+use path_choice::Best;
 use std::test::Fail;
 
 #[test]

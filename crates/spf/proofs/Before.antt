@@ -8,11 +8,10 @@ use Rattle.std.proofs.lemmas.Slice.Eq.{bytes_eq-Decides}
 use Rattle.ospf_types.specs.declared.label.Label.{Label}
 use Rattle.ospf_types.specs.declared.label.Label.TheVariants.{Over, At, Plain}
 use Rattle.ospf_types.specs.Distances.{Links}
-use Rattle.vertex_graph.specs.declared.link.Link.{Link}
+use Rattle.vertex_graph.specs.Link.{Link}
+use Rattle.tree_parts.proofs.Elements.{cases_vertex, cases_element}
 use Rattle.spf.specs.Repairs.{AreChanges}
 use Rattle.spf.specs.Changes.{link_value, Among, Earlier, SameLinks, AreDecided, AreExactChanges}
-use Rattle.spf.proofs.Ranks.{cases_vertex}
-use Rattle.spf.proofs.Elements.{cases_element}
 
 -- what a test decides holds or not
 pub cases_decided : {P : Type 0} (r : Bool) → Decides r P → P ⊎ (P → ⊥)

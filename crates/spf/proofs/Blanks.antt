@@ -7,14 +7,14 @@ use Rattle.std.proofs.lemmas.List.{take_all, get_or_default, get_or-take, length
 use Rattle.std.proofs.lemmas.List.Elements.{Contains-append_left, Contains-push, Contains-push_cases}
 use Rattle.ospf_types.specs.declared.entry.Vertex.{Vertex}
 use Rattle.ospf_types.proofs.Elements.{no_element}
+use Rattle.tree_parts.specs.Members.{HasNoDoubles}
+use Rattle.tree_parts.specs.Maps.{HopMap}
+use Rattle.tree_parts.proofs.Counting.{no_doubles_nil, no_doubles_push}
+use Rattle.tree_parts.proofs.Elements.{cases_vertex}
+use Rattle.tree_parts.proofs.VertexMaps.{gone_here, gone_elsewhere}
 use Rattle.spf.specs.HandedOn.{AreBlanked}
-use Rattle.spf.specs.Loops.{HasNoDoubles}
-use Rattle.spf.specs.Parts.{HopMap}
-use Rattle.spf.proofs.Counting.{no_doubles_nil, no_doubles_push}
 use Rattle.spf.proofs.OptionCases.{none_there}
 use Rattle.spf.proofs.OfSome.{contains_more}
-use Rattle.spf.proofs.Ranks.{cases_vertex}
-use Rattle.spf.proofs.VertexMaps.{gone_here, gone_elsewhere}
 
 -- in a list without doubles the next vertex is none of those before
 pub not_before : (xs : List Vertex) (i : ℕ) (d : Vertex) → i < length xs → HasNoDoubles xs → Contains (take i xs) (get_or xs i d) → ⊥

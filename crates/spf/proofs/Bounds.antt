@@ -8,13 +8,13 @@ use Rattle.ospf_types.specs.declared.entry.Vertex.TheVariants.{Router}
 use Rattle.ospf_types.specs.declared.hop.NextHop.{NextHop}
 use Rattle.ospf_types.specs.declared.label.Label.{Label}
 use Rattle.ospf_types.specs.Distances.{Links, IsHop}
+use Rattle.tree_parts.specs.Members.{HasNoDoubles}
+use Rattle.tree_parts.proofs.Elements.{cases_contains}
+use Rattle.tree_parts.proofs.Counting.{no_longer}
 use Rattle.spf.specs.Trees.{AreDistances}
 use Rattle.spf.specs.Repairs.{Between, AreChanges, AreDear, IsReset, AreMoved, IsSame, AreOwed, IsDue, Moved, Went, Came, OutOfLost, OutOfMoved, OutOfWritten}
 use Rattle.spf.proofs.Values.{within_path}
 use Rattle.spf.proofs.LostVertices.{path_before}
-use Rattle.spf.proofs.Elements.{cases_contains}
-use Rattle.spf.specs.Loops.{HasNoDoubles}
-use Rattle.spf.proofs.Counting.{no_longer}
 
 module _ {before after gone come : Links} {root : ℕ} {had_root has_root : Type 0} {first second heads first_out second_out : List Vertex}
     (owed : AreOwed root before after gone come had_root has_root first second heads first_out second_out) where

@@ -7,10 +7,10 @@ use Rattle.ospf_types.specs.declared.entry.Vertex.{Vertex}
 use Rattle.ospf_types.specs.declared.entry.Vertex.TheVariants.{Router}
 use Rattle.ospf_types.specs.declared.hop.NextHop.{NextHop}
 use Rattle.ospf_types.specs.Vertices.{vertex_cmp}
-use Rattle.vertex_graph.specs.declared.link.Link.{Link}
+use Rattle.vertex_graph.specs.Link.{Link}
 use Rattle.vertex_graph.specs.Graphs.{GraphValue, graph_view, LinksOf, HasRoot, AreExact}
+use Rattle.tree_parts.specs.Members.{HasNoDoubles}
 use Rattle.spf.specs.Changes.{link_value, SameLinks, AreDecided}
-use Rattle.spf.specs.Loops.{HasNoDoubles}
 use Rattle.spf.specs.Parts.{HadRoot, LinksBefore, hops_of}
 use Rattle.spf.specs.Trees.{AreLinks, HaveAddresses, IsTree}
 use Rattle.spf.specs.TreeValues.{TreeValue, IsTreeOf, IsTreeBefore, IsReachedIn, IsWorkDone, blank_value}

@@ -5,8 +5,9 @@ use Rattle.ospf_types.specs.declared.entry.Vertex.{Vertex}
 use Rattle.ospf_types.specs.declared.hop.NextHop.{NextHop}
 use Rattle.ospf_types.specs.declared.label.Label.{Label}
 use Rattle.ospf_types.specs.Distances.{Links}
+use Rattle.tree_parts.specs.Members.{IsAdded}
 use Rattle.spf.specs.Repairs.{IsDue, Moved, Went, Came, OutOfLost, OutOfMoved, OutOfWritten}
-use Rattle.spf.specs.Loops.{IsAdded, IsHanded, AreDue, AreQueuedDue}
+use Rattle.spf.specs.Loops.{IsHanded, AreDue, AreQueuedDue}
 use Rattle.ospf_types.proofs.Elements.{no_element}
 
 module _ {after gone come : Links} where

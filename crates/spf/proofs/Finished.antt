@@ -8,10 +8,12 @@ use Rattle.ospf_types.specs.declared.entry.Vertex.{Vertex}
 use Rattle.ospf_types.specs.declared.entry.Vertex.TheVariants.{Router}
 use Rattle.ospf_types.specs.Vertices.{vertex_cmp}
 use Rattle.ospf_types.proofs.Elements.{mapped_element, mapped_from}
-use Rattle.vertex_graph.specs.declared.link.Link.{Link}
+use Rattle.vertex_graph.specs.Link.{Link}
 use Rattle.vertex_graph.specs.Graphs.{GraphValue}
-use Rattle.spf.specs.Parts.{DistanceMap, AreLost, AreNeared, AreSettled, hops_of}
-use Rattle.spf.specs.TreeValues.{TreeValue, IsTreeOf, IsTreeBefore, IsBegun, Differs, IsFarther, IsNearer, IsChangedBy, AreChanged, IsBounded, IsWorkDone, IsRenewed}
+use Rattle.tree_parts.specs.Maps.{DistanceMap}
+use Rattle.tree_parts.specs.Differing.{IsFarther, IsNearer}
+use Rattle.spf.specs.Parts.{AreLost, AreNeared, AreSettled, hops_of}
+use Rattle.spf.specs.TreeValues.{TreeValue, IsTreeOf, IsTreeBefore, IsBegun, Differs, IsChangedBy, AreChanged, IsBounded, IsWorkDone, IsRenewed}
 use Rattle.spf.proofs.Idle.{idle}
 use Rattle.spf.proofs.Renewed.{tree_after, bounded, work_done, changed_by}
 

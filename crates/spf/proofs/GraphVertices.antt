@@ -11,17 +11,17 @@ use Rattle.ospf_types.specs.declared.label.Label.{Label}
 use Rattle.ospf_types.specs.Distances.{IsDistance}
 use Rattle.ospf_types.specs.Lsa.{RouterLink}
 use Rattle.ospf_types.proofs.Elements.{no_element, first_or_later}
-use Rattle.vertex_graph.specs.declared.end.End.{End}
+use Rattle.vertex_graph.specs.End.{End}
 use Rattle.vertex_graph.specs.Graphs.{GraphValue, graph_view, link_of, LinksOf, HasRoot, HasFewRouters}
+use Rattle.tree_parts.specs.Members.{HasNoDoubles}
+use Rattle.tree_parts.specs.Maps.{most_distance}
+use Rattle.tree_parts.proofs.Counting.{no_doubles_nil, no_doubles_push}
+use Rattle.tree_parts.proofs.Elements.{cases_element}
+use Rattle.tree_parts.proofs.VertexMaps.{key_there, len_most}
 use Rattle.spf.specs.Trees.{AreCosts, AreReal}
-use Rattle.spf.specs.Loops.{HasNoDoubles}
-use Rattle.spf.specs.Parts.{most_distance}
 use Rattle.spf.proofs.AreaLinks.{area_links}
-use Rattle.spf.proofs.Counting.{no_doubles_nil, no_doubles_push}
-use Rattle.spf.proofs.Elements.{cases_element}
 use Rattle.spf.proofs.Paths.{ends_in}
 use Rattle.spf.proofs.Reach.{distance_fits}
-use Rattle.spf.proofs.VertexMaps.{key_there, len_most}
 
 -- the vertex has ends in the graph
 abbrev pub IsThere : GraphValue → Vertex → Type 0

@@ -7,14 +7,15 @@ use Rattle.ospf_types.specs.declared.entry.Vertex.TheVariants.{Router}
 use Rattle.ospf_types.specs.declared.hop.NextHop.{NextHop}
 use Rattle.ospf_types.specs.declared.label.Label.{Label}
 use Rattle.ospf_types.specs.Distances.{Links}
+use Rattle.tree_parts.specs.Members.{IsAdded}
+use Rattle.tree_parts.proofs.Elements.{cases_vertex}
 use Rattle.spf.specs.Trees.{AreLinks, AreDistances, IsTree, IsLeast}
 use Rattle.spf.specs.Repairs.{IsQueued, IsEmptyQueue, AreRightOrQueued}
-use Rattle.spf.specs.Loops.{IsAdded, IsReached, AreHanding, IsPutAgain, IsHanded}
+use Rattle.spf.specs.Loops.{IsReached, AreHanding, IsPutAgain, IsHanded}
 use Rattle.ospf_types.proofs.Elements.{no_element}
 use Rattle.spf.proofs.Hops.{hops_everywhere}
 use Rattle.spf.proofs.QueuedDistances.{forward_at_start, forward_taken}
 use Rattle.spf.proofs.WrittenSets.{least_elsewhere, none_again, right_written, unions_at_end}
-use Rattle.spf.proofs.Ranks.{cases_vertex}
 
 -- at the start nothing was taken or written
 pub handing_start : {link : Links} {root : ℕ} (distance queue : Vertex → Option ℕ) (now : Vertex → NextHop → Type 0) → AreRightOrQueued link root distance queue now

@@ -18,19 +18,20 @@ use Rattle.vertex_queue.specs.Queues.{Queue, IsFirst}
 use Rattle.vertex_queue.specs.Queues as queue
 use Rattle.vertex_queue.proofs.Ranks.{first_has_least_rank}
 use Rattle.ospf_types.proofs.VertexOrder.{vertex_exact}
+use Rattle.tree_parts.specs.Members.{HasNoDoubles}
+use Rattle.tree_parts.specs.Maps.{DistanceMap, HopMap}
+use Rattle.tree_parts.proofs.Counting.{no_longer, no_doubles_nil, no_doubles_push}
+use Rattle.tree_parts.proofs.Elements.{cases_contains, added_end, cases_vertex}
+use Rattle.tree_parts.proofs.VertexMaps.{gone_here, gone_elsewhere}
 use Rattle.spf.specs.HandedOn.{IsOfSome, ArePut, IsReachedAt, IsLeastHead, AreBlanked, IsSettled, IsAmidst}
-use Rattle.spf.specs.Loops.{HasNoDoubles, IsHanded}
-use Rattle.spf.specs.Parts.{DistanceMap, HopMap, hops_of, AreUnsettled, IsTakenBy, AreSettled}
+use Rattle.spf.specs.Loops.{IsHanded}
+use Rattle.spf.specs.Parts.{hops_of, AreUnsettled, IsTakenBy, AreSettled}
 use Rattle.spf.specs.Repairs.{IsQueued}
 use Rattle.spf.specs.Trees.{IsGiven, rank}
 use Rattle.spf.proofs.AreaLinks.{area_links}
-use Rattle.spf.proofs.Counting.{no_longer, no_doubles_nil, no_doubles_push}
-use Rattle.spf.proofs.Elements.{cases_contains, added_end}
 use Rattle.spf.proofs.HandingLoop.{handing_start, handing_taken, handing_end}
 use Rattle.spf.proofs.QueuePuts.{put_both}
-use Rattle.spf.proofs.Ranks.{cases_vertex}
 use Rattle.spf.proofs.Settling.{given_more}
-use Rattle.spf.proofs.VertexMaps.{gone_here, gone_elsewhere}
 
 -- ---- how many vertices are taken at most
 

@@ -8,11 +8,12 @@ use Rattle.ospf_types.specs.declared.hop.NextHop.{NextHop}
 use Rattle.ospf_types.specs.Distances.{Links}
 use Rattle.ospf_types.proofs.Elements.{no_element}
 use Rattle.vertex_queue.specs.Queues.{Queue}
+use Rattle.tree_parts.specs.Maps.{HopMap}
+use Rattle.tree_parts.proofs.VertexMaps.{set_here, set_elsewhere}
 use Rattle.spf.specs.HandedOn.{ArePut, IsLeastHead, IsSettled}
-use Rattle.spf.specs.Parts.{HopMap, hops_of}
+use Rattle.spf.specs.Parts.{hops_of}
 use Rattle.spf.specs.Trees.{IsGiven}
 use Rattle.spf.specs.TreeValues.{listed_hops}
-use Rattle.spf.proofs.VertexMaps.{set_here, set_elsewhere}
 
 -- the next hops of a vertex are those of its list
 pub hops_listed : (m : HopMap) (v : Vertex) (h : NextHop) → hops_of m v h ↔ Contains (listed_hops (get m v)) h

@@ -16,9 +16,10 @@ use Rattle.ospf_types.specs.Hops.{hop_cmp}
 use Rattle.ospf_types.proofs.Elements.{no_element, first_element}
 use Rattle.ospf_types.proofs.OneBest.{same_list}
 use Rattle.ospf_types.proofs.Orders.{hop_total, hop_exact}
-use Rattle.vertex_graph.specs.declared.link.Link.{Link}
+use Rattle.vertex_graph.specs.Link.{Link}
+use Rattle.tree_parts.specs.Maps.{HopMap}
 use Rattle.spf.specs.Changes.{link_value}
-use Rattle.spf.specs.Parts.{HopMap, hops_of}
+use Rattle.spf.specs.Parts.{hops_of}
 use Rattle.spf.specs.HandedOn.{IsOfSome, IsLeastLink, IsGivenOver, IsHandedOn, IsUnion}
 use Rattle.spf.specs.Trees.{HandsOn, IsGiven, first_hops}
 use Rattle.spf.proofs.Lists.{only_element, first_hops_are}

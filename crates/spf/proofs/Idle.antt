@@ -7,7 +7,7 @@ use Rattle.ospf_types.specs.declared.entry.Vertex.TheVariants.{Router}
 use Rattle.ospf_types.specs.declared.label.Label.{Label}
 use Rattle.ospf_types.specs.Distances.{Links, TakenLink, Leads}
 use Rattle.ospf_types.proofs.Elements.{no_element, first_element}
-use Rattle.vertex_graph.specs.declared.link.Link.{Link}
+use Rattle.vertex_graph.specs.Link.{Link}
 use Rattle.vertex_graph.specs.Graphs.{GraphValue, LinksOf, HasRoot}
 use Rattle.spf.specs.Changes.{SameLinks}
 use Rattle.spf.specs.Parts.{HadRoot, LinksBefore, AreLost, AreNeared, AreSettled, hops_of}

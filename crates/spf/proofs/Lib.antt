@@ -5,8 +5,6 @@ pub mod Firsts
 pub mod Hops
 pub mod Lists
 pub mod AreaLinks
-pub mod Counting
-pub mod Elements
 pub mod LostVertices
 pub mod QueuedDistances
 pub mod Settling
@@ -34,15 +32,16 @@ pub mod QueuePuts
 pub mod Blanks
 pub mod HopRounds
 pub mod HandingRounds
-pub mod VertexMaps
-pub mod VertexSets
+pub mod Falling
 pub mod Suspecting
 pub mod Renewed
 pub mod Idle
 pub mod Blank
 pub mod Caller
-pub mod Grown
-pub mod SortedOnce
 pub mod Finished
 pub mod Kept
 mod Smallest
+pub use Rattle.tree_parts.proofs.Counting
+pub use Rattle.tree_parts.proofs.Elements
+pub use Rattle.tree_parts.proofs.SortedOnce
+pub use Rattle.tree_parts.proofs.VertexMaps

@@ -5,9 +5,10 @@ use Rattle.ospf_types.specs.declared.entry.Vertex.{Vertex}
 use Rattle.ospf_types.specs.declared.entry.Vertex.TheVariants.{Router}
 use Rattle.ospf_types.specs.declared.label.Label.{Label}
 use Rattle.ospf_types.specs.Distances.{Links}
+use Rattle.tree_parts.specs.Members.{IsAdded}
 use Rattle.spf.specs.Trees.{AreDistances, IsLeast}
 use Rattle.spf.specs.Repairs.{AreGone, IsSupported}
-use Rattle.spf.specs.Loops.{IsAdded, IsReached, AreLosing, IsLost}
+use Rattle.spf.specs.Loops.{IsReached, AreLosing, IsLost}
 use Rattle.ospf_types.proofs.Elements.{no_element}
 use Rattle.spf.proofs.LostVertices.{held_at_start, held_passed, held_lost, dear_at_start, dear_lost}
 

@@ -6,12 +6,13 @@ use Rattle.ospf_types.specs.declared.entry.Vertex.{Vertex}
 use Rattle.ospf_types.specs.declared.entry.Vertex.TheVariants.{Router}
 use Rattle.ospf_types.specs.declared.label.Label.{Label}
 use Rattle.ospf_types.specs.Distances.{Links, TakenLink, Leads, IsPath, cost_of}
+use Rattle.tree_parts.proofs.Elements.{cases_vertex}
 use Rattle.spf.specs.Trees.{step_to, AreLinks, EndsIn, HasPathWithin, AreDistances, IsLeast, rank}
 use Rattle.spf.specs.Repairs.{Between, AreGone, IsSupported, AreHeld, AreDear}
 use Rattle.ospf_types.proofs.Elements.{no_element}
 use Rattle.spf.proofs.Paths.{cost_of-push, one_more, ends_in, cost_before}
 use Rattle.spf.proofs.Values.{has_least, last_tail}
-use Rattle.spf.proofs.Ranks.{cases_vertex, rank_grows, by_rank}
+use Rattle.spf.proofs.Ranks.{rank_grows, by_rank}
 
 -- a way over some links is one over more
 pub leads_more : (A B : Links) (root : ℕ) → ((from to : Vertex) (cost : ℕ) (label : Label) → A from to cost label → B from to cost label)

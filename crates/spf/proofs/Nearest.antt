@@ -7,26 +7,27 @@ use Rattle.ospf_types.specs.declared.entry.Vertex.TheVariants.{Router, Network}
 use Rattle.ospf_types.specs.declared.label.Label.{Label}
 use Rattle.ospf_types.specs.Distances.{Links, IsDistance}
 use Rattle.ospf_types.specs.Vertices.{vertex_cmp}
-use Rattle.vertex_graph.specs.declared.link.Link.{Link}
+use Rattle.vertex_graph.specs.Link.{Link}
 use Rattle.vertex_graph.specs.Graphs.{GraphValue, graph_view, LinksOf, HasRoot}
 use Rattle.vertex_queue.specs.Queues.{Queue, IsFirst, rank as queue_rank}
 use Rattle.vertex_queue.proofs.Ranks.{first_has_least_rank}
+use Rattle.tree_parts.specs.Members.{HasNoDoubles, IsWithMember}
+use Rattle.tree_parts.specs.Maps.{DistanceMap}
+use Rattle.tree_parts.proofs.Counting.{no_doubles_nil, no_doubles_push}
+use Rattle.tree_parts.proofs.Elements.{added_end, cases_vertex}
+use Rattle.tree_parts.proofs.VertexMaps.{set_here, set_elsewhere, gone_here, gone_elsewhere}
 use Rattle.spf.specs.Trees.{AreLinks, rank}
 use Rattle.spf.specs.Repairs.{IsReset, IsOffered}
-use Rattle.spf.specs.Loops.{HasNoDoubles, IsOpened, AreNearing, IsTaken}
+use Rattle.spf.specs.Loops.{IsOpened, AreNearing, IsTaken}
 use Rattle.spf.specs.Changes.{Among, link_value}
 use Rattle.spf.specs.Offers.{OverReached, OutOf, Into, AreMade}
-use Rattle.spf.specs.Parts.{DistanceMap, IsWithMember, AreStarted, IsStaleNow, AreNeared}
+use Rattle.spf.specs.Parts.{AreStarted, IsStaleNow, AreNeared}
 use Rattle.spf.proofs.AreaLinks.{area_links}
-use Rattle.spf.proofs.Counting.{no_doubles_nil, no_doubles_push}
-use Rattle.spf.proofs.Elements.{added_end}
 use Rattle.spf.proofs.GraphVertices.{IsThere, root_or_not, reached_there, no_more}
 use Rattle.spf.proofs.NearingLoop.{nearing_started, nearing_taken, fresh}
 use Rattle.spf.proofs.Offering.{made_both}
-use Rattle.spf.proofs.Ranks.{cases_vertex}
 use Rattle.spf.proofs.Taken.{queued_distance}
 use Rattle.spf.proofs.Values.{none_within}
-use Rattle.spf.proofs.VertexMaps.{set_here, set_elsewhere, gone_here, gone_elsewhere}
 
 -- ---- the start
 

@@ -5,12 +5,12 @@ use Rattle.ospf_types.specs.declared.entry.Vertex.{Vertex}
 use Rattle.ospf_types.specs.declared.entry.Vertex.TheVariants.{Router}
 use Rattle.ospf_types.specs.declared.label.Label.{Label}
 use Rattle.ospf_types.specs.Distances.{Links}
+use Rattle.tree_parts.specs.Members.{IsAdded}
+use Rattle.tree_parts.proofs.Elements.{cases_contains, cases_vertex}
 use Rattle.spf.specs.Trees.{AreLinks, IsWithin, AreReal, AreDistances}
 use Rattle.spf.specs.Parts.{StartsAt, AreStarted}
 use Rattle.spf.specs.Repairs.{AreCome, IsReset, IsOffered, IsEmptyQueue}
-use Rattle.spf.specs.Loops.{IsAdded, AreLosing, IsOpened, AreNearing, IsPut, IsTaken}
-use Rattle.spf.proofs.Elements.{cases_contains}
-use Rattle.spf.proofs.Ranks.{cases_vertex}
+use Rattle.spf.specs.Loops.{AreLosing, IsOpened, AreNearing, IsPut, IsTaken}
 use Rattle.spf.proofs.Values.{root_zero, distances_relaxed}
 use Rattle.ospf_types.proofs.Elements.{no_element}
 use Rattle.spf.proofs.QueuedDistances.{Starts, AsRoot, AsKept, starts, within_same, real_at_start, offer_real, forward_at_start, moved_at_start, queue_real, real_taken, fair_taken, forward_taken, none_nearer, moved_taken, distances_at_end}

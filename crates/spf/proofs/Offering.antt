@@ -9,16 +9,16 @@ use Rattle.std.proofs.lemmas.List.Elements.{Contains-append_left, Contains-push,
 use Rattle.ospf_types.specs.declared.entry.Vertex.{Vertex}
 use Rattle.ospf_types.specs.declared.entry.Vertex.TheVariants.{Router}
 use Rattle.ospf_types.specs.Distances.{Links}
-use Rattle.vertex_graph.specs.declared.link.Link.{Link}
+use Rattle.vertex_graph.specs.Link.{Link}
 use Rattle.vertex_queue.specs.Queues.{Queue, waits_within, lessened}
 use Rattle.vertex_queue.proofs.Ranks.{lessened_here, lessened_elsewhere}
+use Rattle.tree_parts.specs.Members.{IsAdded}
+use Rattle.tree_parts.proofs.Elements.{cases_vertex}
+use Rattle.tree_parts.proofs.VertexMaps.{set_here}
 use Rattle.spf.specs.Changes.{link_value}
 use Rattle.spf.specs.Trees.{IsWithin}
-use Rattle.spf.specs.Loops.{IsAdded}
 use Rattle.spf.specs.Offers.{Offers, OneOffer, OverLink, OverLinks, OverReached, OutOf, Into, AreMade}
-use Rattle.spf.proofs.Ranks.{cases_vertex}
 use Rattle.spf.proofs.QueuedDistances.{within_more}
-use Rattle.spf.proofs.VertexMaps.{set_here}
 
 -- ---- the elements of a list so far
 

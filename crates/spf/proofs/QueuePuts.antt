@@ -7,15 +7,15 @@ use Rattle.std.proofs.lemmas.List.{get_or_default}
 use Rattle.ospf_types.specs.declared.entry.Vertex.{Vertex}
 use Rattle.ospf_types.specs.declared.entry.Vertex.TheVariants.{Router}
 use Rattle.ospf_types.specs.Distances.{Links}
-use Rattle.vertex_graph.specs.declared.link.Link.{Link}
+use Rattle.vertex_graph.specs.Link.{Link}
 use Rattle.vertex_queue.specs.Queues.{Queue, lessened}
 use Rattle.vertex_queue.proofs.Ranks.{lessened_here, lessened_elsewhere}
+use Rattle.tree_parts.proofs.Elements.{cases_vertex}
 use Rattle.spf.specs.Changes.{link_value}
 use Rattle.spf.specs.HandedOn.{IsOfSome, IsLeastLink, ArePut, IsReachedAt, IsHeadOver, IsLeastHead}
 use Rattle.spf.specs.Loops.{IsReached}
 use Rattle.spf.specs.Trees.{IsLeast}
 use Rattle.spf.proofs.OfSome.{of_none, of_more, of_all}
-use Rattle.spf.proofs.Ranks.{cases_vertex}
 
 module _ (distance : Vertex → Option ℕ) where
   -- where nothing is due, the queue stays

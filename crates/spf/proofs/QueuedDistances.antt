@@ -5,12 +5,12 @@ use Rattle.ospf_types.specs.declared.entry.Vertex.{Vertex}
 use Rattle.ospf_types.specs.declared.entry.Vertex.TheVariants.{Router}
 use Rattle.ospf_types.specs.declared.label.Label.{Label}
 use Rattle.ospf_types.specs.Distances.{Links}
+use Rattle.tree_parts.proofs.Elements.{cases_vertex, cases_contains}
 use Rattle.spf.specs.Trees.{AreLinks, IsWithin, HasPathWithin, AreRelaxed, AreReal, AreDistances, rank}
 use Rattle.spf.specs.Repairs.{AreHeld, IsReset, IsSet, AreMoved, AreFair, IsOffered, AreForward, IsEmptyQueue}
 use Rattle.ospf_types.proofs.Elements.{no_element}
 use Rattle.spf.proofs.Values.{none_within, distances_from_local}
-use Rattle.spf.proofs.Ranks.{cases_vertex, rank_grows, rank_falls}
-use Rattle.spf.proofs.Elements.{cases_contains}
+use Rattle.spf.proofs.Ranks.{rank_grows, rank_falls}
 use Rattle.spf.proofs.LostVertices.{path_more, path_to_root, kept_path}
 
 -- the same value under another name

@@ -1,18 +1,10 @@
 -- The rank grows along every link that goes no nearer, and so along every least link: what is shown of a vertex may rest on its tails.
-use Rattle.std.proofs.Common.{◌≡◌, ◌≢◌, ℕ, ◌+◌, ◌<◌, ◌≤◌, zero, suc, Option, Some, sym, ap, ◌∙◌, ◌⊎◌, inl, inr, arith}
-use Rattle.std.proofs.lemmas.Bool.{cases_eq}
+use Rattle.std.proofs.Common.{◌≡◌, ℕ, ◌+◌, ◌<◌, ◌≤◌, zero, suc, Option, Some, sym, ◌∙◌, arith}
 use Rattle.ospf_types.specs.declared.entry.Vertex.{Vertex}
 use Rattle.ospf_types.specs.declared.entry.Vertex.TheVariants.{Router, Network}
 use Rattle.ospf_types.specs.declared.label.Label.{Label}
 use Rattle.ospf_types.specs.Distances.{Links}
 use Rattle.spf.specs.Trees.{AreLinks, IsLeast, rank}
-
--- vertices are the same or not
-pub cases_vertex : (v w : Vertex) → (v ≡ w) ⊎ (v ≢ w)
-cases_vertex (Router a) (Router b) = elim (cases_eq a b) [ inl e ↦ inl (ap Router e) | inr n ↦ inr (λ e. n cc) ]
-cases_vertex (Router a) (Network b) = inr (λ e. cc)
-cases_vertex (Network a) (Router b) = inr (λ e. cc)
-cases_vertex (Network a) (Network b) = elim (cases_eq a b) [ inl e ↦ inl (ap Network e) | inr n ↦ inr (λ e. n cc) ]
 
 module _ {link : Links} {root : ℕ} {has_root : Type 0} (are : AreLinks link root has_root) where
   -- Over a link to what is no nearer than its cost allows the rank grows.

@@ -7,11 +7,11 @@ use Rattle.ospf_types.specs.declared.entry.Vertex.{Vertex}
 use Rattle.ospf_types.specs.declared.entry.Vertex.TheVariants.{Router, Network}
 use Rattle.ospf_types.specs.declared.label.Label.{Label}
 use Rattle.ospf_types.specs.Distances.{Links, TakenLink, Leads, cost_of, IsDistance}
+use Rattle.tree_parts.specs.Members.{HasNoDoubles}
+use Rattle.tree_parts.proofs.Counting.{no_longer, no_doubles_nil, no_doubles_push}
 use Rattle.spf.specs.Trees.{step_to, AreLinks, AreCosts, AreDistances}
-use Rattle.spf.specs.Loops.{HasNoDoubles}
 use Rattle.ospf_types.proofs.Elements.{no_element}
 use Rattle.spf.proofs.Paths.{last_step, cost_before, beginning, same_distance}
-use Rattle.spf.proofs.Counting.{no_longer, no_doubles_nil, no_doubles_push}
 
 module _ {link : Links} {root : ℕ} {has_root : Type 0} {most : ℕ} {routers : List ℕ} (are : AreLinks link root has_root) (costs : AreCosts link most routers) where
   -- the routers that a least path of this cost leaves: each once, each nearer than the cost, which is no more than the greatest cost of a link for each

@@ -11,8 +11,10 @@ use Rattle.ospf_types.specs.declared.hop.NextHop.{NextHop}
 use Rattle.ospf_types.specs.declared.label.Label.{Label}
 use Rattle.ospf_types.specs.Distances.{IsHop}
 use Rattle.ospf_types.proofs.Elements.{first_element, later_element}
-use Rattle.vertex_graph.specs.declared.link.Link.{Link}
+use Rattle.vertex_graph.specs.Link.{Link}
 use Rattle.vertex_graph.specs.Graphs.{GraphValue, graph_view, LinksOf, HasRoot}
+use Rattle.tree_parts.proofs.Counting.{no_longer}
+use Rattle.tree_parts.proofs.Elements.{cases_contains, cases_vertex}
 use Rattle.spf.specs.Trees.{AreLinks, AreDistances, IsWithin}
 use Rattle.spf.specs.Repairs.{AreChanges, AreOwed, IsDue, Moved, Went, Came, OutOfLost, OutOfMoved, OutOfWritten}
 use Rattle.spf.specs.Changes.{Among}
@@ -21,11 +23,8 @@ use Rattle.spf.specs.TreeValues.{TreeValue, IsTreeOf, IsTreeBefore, Differs, IsC
 use Rattle.spf.proofs.AreaLinks.{area_links}
 use Rattle.spf.proofs.Before.{earlier_changes}
 use Rattle.spf.proofs.Bounds.{lost_differs, written_differs, taken_bound, written_bound}
-use Rattle.spf.proofs.Counting.{no_longer}
-use Rattle.spf.proofs.Elements.{cases_contains}
 use Rattle.spf.proofs.Hops.{no_hop_of_root}
 use Rattle.spf.proofs.NearingLoop.{nearing_end}
-use Rattle.spf.proofs.Ranks.{cases_vertex}
 use Rattle.spf.proofs.Repaired.{told_wider, distance_stays, moved_if_other}
 use Rattle.spf.proofs.Settling.{right_where_fresh}
 use Rattle.spf.proofs.Values.{root_zero, distances_relaxed, within_path}

@@ -7,10 +7,11 @@ use Rattle.ospf_types.specs.declared.entry.Vertex.{Vertex}
 use Rattle.ospf_types.specs.declared.entry.Vertex.TheVariants.{Router}
 use Rattle.ospf_types.specs.declared.hop.NextHop.{NextHop}
 use Rattle.ospf_types.specs.Distances.{Links, IsHop}
+use Rattle.tree_parts.specs.Members.{HasNoDoubles}
+use Rattle.tree_parts.proofs.Elements.{cases_contains}
 use Rattle.spf.specs.Trees.{AreLinks, IsTree}
 use Rattle.spf.specs.Repairs.{AreGone, AreCome, AreChanges, IsReset, IsEmptyQueue, IsQueued, AreToldLost, AreOwed}
-use Rattle.spf.specs.Loops.{HasNoDoubles, AreLosing, AreNearing, AreHanding, AreDue}
-use Rattle.spf.proofs.Elements.{cases_contains}
+use Rattle.spf.specs.Loops.{AreLosing, AreNearing, AreHanding, AreDue}
 use Rattle.spf.proofs.Settling.{right_at_start}
 use Rattle.spf.proofs.Bounds.{written_differs, lost_differs, taken_bound, written_bound}
 use Rattle.spf.proofs.Whole.{tree_unions}

@@ -6,11 +6,11 @@ use Rattle.std.proofs.lemmas.List.{get_or_default}
 use Rattle.ospf_types.specs.declared.entry.Vertex.{Vertex}
 use Rattle.ospf_types.specs.declared.entry.Vertex.TheVariants.{Router}
 use Rattle.ospf_types.proofs.Elements.{no_element}
+use Rattle.tree_parts.specs.Maps.{DistanceMap}
+use Rattle.tree_parts.proofs.Elements.{cases_vertex}
+use Rattle.tree_parts.proofs.VertexMaps.{set_here, set_elsewhere, gone_here, gone_elsewhere}
 use Rattle.spf.specs.Offers.{IsCleared}
-use Rattle.spf.specs.Parts.{DistanceMap}
 use Rattle.spf.specs.Repairs.{IsReset}
-use Rattle.spf.proofs.Ranks.{cases_vertex}
-use Rattle.spf.proofs.VertexMaps.{set_here, set_elsewhere, gone_here, gone_elsewhere}
 use Rattle.spf.proofs.Offering.{still_contained, now_contained, contained_so_far}
 
 -- none taken out

@@ -7,11 +7,10 @@ use Rattle.ospf_types.specs.declared.entry.Vertex.TheVariants.{Router}
 use Rattle.ospf_types.specs.declared.hop.NextHop.{NextHop}
 use Rattle.ospf_types.specs.declared.label.Label.{Label}
 use Rattle.ospf_types.specs.Distances.{Links}
+use Rattle.tree_parts.proofs.Elements.{cases_vertex, cases_contains}
 use Rattle.spf.specs.Trees.{AreLinks, AreDistances, IsLeast, IsGiven, AreUnions}
 use Rattle.spf.specs.Repairs.{AreGone, AreCome, IsReset, IsSet, AreMoved, IsEmptyQueue, IsQueued, AreToldLost, AreTold, AreRightOrQueued}
 use Rattle.spf.proofs.Values.{root_zero, distances_relaxed}
-use Rattle.spf.proofs.Ranks.{cases_vertex}
-use Rattle.spf.proofs.Elements.{cases_contains}
 use Rattle.spf.proofs.Hops.{gives_more}
 
 -- what one family is given over some least links, another is given over others

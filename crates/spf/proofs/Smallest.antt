@@ -9,11 +9,11 @@ use Rattle.ospf_types.specs.declared.hop.NextHop.TheVariants as hop
 use Rattle.ospf_types.specs.declared.label.Label.{Label}
 use Rattle.ospf_types.specs.declared.label.Label.TheVariants.{Over}
 use Rattle.ospf_types.specs.Distances.{Links, FirstOnly}
+use Rattle.tree_parts.proofs.Elements.{added_front}
 use Rattle.spf.specs.Trees.{AreLinks, IsTree, IsGiven}
 use Rattle.spf.specs.Repairs.{IsReset}
 use Rattle.spf.specs.Loops.{AreLosing, AreNearing, IsOpened, IsTaken, AreHanding, IsHanded}
 use Rattle.ospf_types.proofs.Elements.{no_element, first_element}
-use Rattle.spf.proofs.Elements.{added_front}
 use Rattle.spf.proofs.Whole.{NoLinks, no_distances, blank_tree, no_links}
 use Rattle.spf.proofs.Building.{none_went, none_lost, root_came}
 use Rattle.spf.proofs.LosingLoop.{losing_start, losing_lost}

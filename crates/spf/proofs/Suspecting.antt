@@ -7,19 +7,22 @@ use Rattle.std.proofs.lemmas.List.{take_more}
 use Rattle.std.proofs.lemmas.List.Elements.{All-contains, Contains-push, Contains-append_left, Contains-append_cases, Contains-push_cases}
 use Rattle.ospf_types.specs.declared.entry.Vertex.{Vertex}
 use Rattle.ospf_types.proofs.Elements.{no_element}
-use Rattle.vertex_graph.specs.declared.link.Link.{Link}
+use Rattle.vertex_graph.specs.Link.{Link}
 use Rattle.vertex_graph.specs.Graphs.{GraphValue, LinksOf, AreLinksFrom, AreLinksTo}
+use Rattle.tree_parts.specs.Members.{HasNoDoubles, IsAdded, IsWithMember}
+use Rattle.tree_parts.specs.Maps.{DistanceMap}
+use Rattle.tree_parts.proofs.Counting.{no_doubles_nil, no_doubles_push}
+use Rattle.tree_parts.proofs.Elements.{added_end}
+use Rattle.tree_parts.proofs.VertexMaps.{len_most}
+use Rattle.tree_parts.proofs.VertexSets.{member_added}
 use Rattle.spf.specs.Changes.{link_value, Among}
-use Rattle.spf.specs.Loops.{HasNoDoubles, IsAdded, IsReached}
-use Rattle.spf.specs.Parts.{DistanceMap, IsBefore, IsWithMember, AreLost}
+use Rattle.spf.specs.Loops.{IsReached}
+use Rattle.spf.specs.Parts.{IsBefore, AreLost}
 use Rattle.spf.specs.Repairs.{IsSupported}
 use Rattle.spf.specs.Suspects.{Supports, WasLeast, MaySupport, IsHead, AreToldOf, IsJudged, AreSuspected}
 use Rattle.spf.proofs.Before.{earlier_changes}
-use Rattle.spf.proofs.Counting.{no_doubles_nil, no_doubles_push, losing_falls}
-use Rattle.spf.proofs.Elements.{added_end}
+use Rattle.spf.proofs.Falling.{losing_falls}
 use Rattle.spf.proofs.LosingLoop.{losing_start, losing_passed, losing_lost}
-use Rattle.spf.proofs.VertexMaps.{len_most}
-use Rattle.spf.proofs.VertexSets.{member_added}
 
 -- ---- who is told
 

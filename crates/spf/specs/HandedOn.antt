@@ -7,10 +7,12 @@ use Rattle.ospf_types.specs.declared.label.Label.{Label}
 use Rattle.ospf_types.specs.Distances.{Links}
 use Rattle.std.specs.FinMap.{get}
 use Rattle.vertex_graph.specs.Graphs.{GraphValue, LinksOf}
-use Rattle.vertex_graph.specs.declared.link.Link.{Link}
+use Rattle.vertex_graph.specs.Link.{Link}
 use Rattle.vertex_queue.specs.Queues.{Queue}
-use Rattle.spf.specs.Loops.{HasNoDoubles, IsReached, AreHanding}
-use Rattle.spf.specs.Parts.{HopMap, IsTakenBy}
+use Rattle.tree_parts.specs.Members.{HasNoDoubles}
+use Rattle.tree_parts.specs.Maps.{HopMap}
+use Rattle.spf.specs.Loops.{IsReached, AreHanding}
+use Rattle.spf.specs.Parts.{IsTakenBy}
 use Rattle.spf.specs.Repairs.{IsQueued}
 use Rattle.spf.specs.Trees.{IsLeast, IsGiven, Gives, HandsOn}
 

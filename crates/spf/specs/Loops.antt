@@ -1,23 +1,13 @@
 -- The invariants of the three loops of a repair, each as one record, and what one round of each does.
 use Rattle.std.specs.Prelude.{◌↔◌, ℕ, ◌+◌, ◌≡◌, ◌≢◌, ◌<◌, ◌≤◌, ◌⊎◌, List, Contains, Option, Some}
-use Rattle.std.specs.List.{AllPairs}
 use Rattle.ospf_types.specs.declared.entry.Vertex.{Vertex}
 use Rattle.ospf_types.specs.declared.entry.Vertex.TheVariants.{Router}
 use Rattle.ospf_types.specs.declared.hop.NextHop.{NextHop}
 use Rattle.ospf_types.specs.declared.label.Label.{Label}
 use Rattle.ospf_types.specs.Distances.{Links}
+use Rattle.tree_parts.specs.Members.{IsAdded}
 use Rattle.spf.specs.Trees.{IsWithin, AreReal, IsLeast, rank, IsGiven}
 use Rattle.spf.specs.Repairs.{Between, IsSupported, AreHeld, AreDear, IsSet, AreMoved, AreFair, IsOffered, AreForward, IsQueued, AreRightOrQueued, AreToldLost, AreTold, IsDue}
-
--- no two elements are the same
-abbrev pub HasNoDoubles : {X : Type 0} → List X → Type 0
-HasNoDoubles xs = AllPairs (λ x y. x ≢ y) xs
-
--- the larger list has one vertex more, or the same if that was there
-pub record IsAdded (small large : List Vertex) (v : Vertex) : Type 0 where
-  pub grows : (w : Vertex) → Contains small w → Contains large w
-  pub here : Contains large v
-  pub only : (w : Vertex) → Contains large w → (w ≡ v) ⊎ Contains small w
 
 -- a vertex that has a value, and is not the root
 pub record IsReached (root : ℕ) (value : Vertex → Option ℕ) (v : Vertex) : Type 0 where

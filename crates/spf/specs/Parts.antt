@@ -1,47 +1,23 @@
 -- What each part of a repair is handed, and what it leaves (RFC 2328, 16.1): the vertices that lose their distance, the distances after, the next hops after.
-use Rattle.std.specs.Prelude.{◌↔◌, ◌⊎◌, ℕ, ◌+◌, ◌≡◌, ◌≢◌, ◌++◌, ◌∷◌, Bool, true, false, List, [], length, Contains, Option, Some, None, IfSome}
-use Rattle.std.specs.FinMap.{FinMap, get, insert, remove}
-use Rattle.std.specs.List.Sorted.{IsStrictlySortedBy}
+use Rattle.std.specs.Prelude.{◌↔◌, ◌⊎◌, ℕ, ◌+◌, ◌≡◌, ◌≢◌, List, [], length, Contains, Option, Some, None}
+use Rattle.std.specs.FinMap.{get}
 use Rattle.ospf_types.specs.declared.entry.Vertex.{Vertex}
 use Rattle.ospf_types.specs.declared.entry.Vertex.TheVariants.{Router}
 use Rattle.ospf_types.specs.declared.hop.NextHop.{NextHop}
 use Rattle.ospf_types.specs.declared.label.Label.{Label}
 use Rattle.ospf_types.specs.Distances.{Links}
-use Rattle.ospf_types.specs.Hops.{hop_cmp}
-use Rattle.ospf_types.specs.Vertices.{vertex_cmp}
-use Rattle.vertex_graph.specs.declared.link.Link.{Link}
+use Rattle.vertex_graph.specs.Link.{Link}
 use Rattle.vertex_graph.specs.Graphs.{GraphValue, LinksOf, HasRoot}
+use Rattle.tree_parts.specs.Maps.{DistanceMap, HopMap}
+use Rattle.tree_parts.specs.Members.{HasNoDoubles}
 use Rattle.spf.specs.Changes.{Among, Earlier}
-use Rattle.spf.specs.Loops.{HasNoDoubles, AreLosing, AreNearing, IsReached}
+use Rattle.spf.specs.Loops.{AreLosing, AreNearing, IsReached}
 use Rattle.spf.specs.Repairs.{AreHeld, IsReset}
 use Rattle.spf.specs.Trees.{AreLinks, AreDistances, IsGiven, IsTree, IsWithin}
-
-abbrev pub DistanceMap : Type 0
-DistanceMap = FinMap vertex_cmp ℕ
-
-abbrev pub HopMap : Type 0
-HopMap = FinMap vertex_cmp (List NextHop)
-
--- distances stay below this
-abbrev pub most_distance : ℕ
-most_distance = 1073741824
-
--- the vertices with one more at the end, unless it is there
-abbrev pub IsWithMember : List Vertex → List Vertex → Vertex → Bool → Type 0
-IsWithMember old new v fresh = ((fresh ≡ true) × (new ≡ old ++ v ∷ []) × (Contains old v → ⊥)) ⊎ ((fresh ≡ false) × (new ≡ old) × Contains old v)
-
--- the next hops with those of a vertex set, or taken out
-abbrev pub with_hops : HopMap → Vertex → Option (List NextHop) → HopMap
-with_hops m v (Some hops) = insert m v hops
-with_hops m v None = remove m v
 
 -- the next hops of each vertex
 abbrev pub hops_of : HopMap → Vertex → NextHop → Type 0
 hops_of m v h = (hops : List NextHop) × (get m v ≡ Some hops) × Contains hops h
-
--- the next hops of each vertex stand in their order, each once
-abbrev pub AreHopsInOrder : HopMap → Type 0
-AreHopsInOrder m = (v : Vertex) → IfSome (get m v) (λ (hops : List NextHop). IsStrictlySortedBy hop_cmp hops)
 
 -- nothing is queued
 abbrev pub nothing_queued : Vertex → Option ℕ

@@ -3,10 +3,11 @@ use Rattle.std.specs.Prelude.{◌⊎◌, ℕ, ◌+◌, ◌≡◌, ◌≢◌, ◌
 use Rattle.ospf_types.specs.declared.entry.Vertex.{Vertex}
 use Rattle.ospf_types.specs.declared.entry.Vertex.TheVariants.{Router}
 use Rattle.ospf_types.specs.declared.label.Label.{Label}
-use Rattle.vertex_graph.specs.declared.link.Link.{Link}
+use Rattle.vertex_graph.specs.Link.{Link}
 use Rattle.vertex_graph.specs.Graphs.{GraphValue, LinksOf, HasRoot}
+use Rattle.tree_parts.specs.Members.{HasNoDoubles}
 use Rattle.spf.specs.Changes.{Among}
-use Rattle.spf.specs.Loops.{HasNoDoubles, AreLosing, IsLost}
+use Rattle.spf.specs.Loops.{AreLosing, IsLost}
 use Rattle.spf.specs.Parts.{LinksBefore, HadRoot, IsStaleBy}
 use Rattle.spf.specs.Repairs.{IsSupported}
 

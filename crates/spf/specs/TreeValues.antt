@@ -6,11 +6,13 @@ use Rattle.ospf_types.specs.declared.entry.Vertex.{Vertex}
 use Rattle.ospf_types.specs.declared.entry.Vertex.TheVariants.{Router}
 use Rattle.ospf_types.specs.declared.hop.NextHop.{NextHop}
 use Rattle.ospf_types.specs.Vertices.{vertex_cmp}
-use Rattle.vertex_graph.specs.declared.link.Link.{Link}
+use Rattle.vertex_graph.specs.Link.{Link}
 use Rattle.vertex_graph.specs.Graphs.{GraphValue, LinksOf, HasRoot}
+use Rattle.tree_parts.specs.Differing.{IsNearer}
+use Rattle.tree_parts.specs.Members.{HasNoDoubles}
+use Rattle.tree_parts.specs.Maps.{DistanceMap, HopMap}
 use Rattle.spf.specs.Changes.{Among}
-use Rattle.spf.specs.Loops.{HasNoDoubles}
-use Rattle.spf.specs.Parts.{DistanceMap, HopMap, HadRoot, LinksBefore, AreLost, hops_of}
+use Rattle.spf.specs.Parts.{HadRoot, LinksBefore, AreLost, hops_of}
 use Rattle.spf.specs.Repairs.{AreOwed}
 use Rattle.spf.specs.Trees.{AreLinks, IsTree}
 
@@ -45,14 +47,6 @@ pub record IsBegun (g : GraphValue) (gone come : List Link) (t : TreeValue) (los
 -- the vertex has another distance or other next hops
 abbrev pub Differs : TreeValue → TreeValue → Vertex → Type 0
 Differs old new v = ((get new.distances v ≡ get old.distances v) × ((h : NextHop) → hops_of new.hops v h ↔ hops_of old.hops v h)) → ⊥
-
--- the vertex was remembered with another distance than it has
-abbrev pub IsFarther : List (Vertex × Option ℕ) → DistanceMap → Vertex → Type 0
-IsFarther before distances v = (d : Option ℕ) × Contains before (v, d) × (get distances v ≢ d)
-
--- the vertex was moved, and had not lost its distance
-abbrev pub IsNearer : List Vertex → List Vertex → Vertex → Type 0
-IsNearer moved lost v = Contains moved v × (Contains lost v → ⊥)
 
 -- why a vertex differs: it is the root or lost its distance, and has another than before; it is nearer; or its next hops were written
 abbrev pub IsChangedBy : ℕ → TreeValue → TreeValue → List Vertex → List Vertex → List Vertex → Vertex → Type 0

@@ -9,14 +9,13 @@ ghost use Rattle.spf.specs.Parts.{hops_of};
 ghost use Rattle.spf.specs.TreeValues.{listed_hops};
 ghost use Rattle.spf.specs.Trees.{IsGiven, HandsOn, first_hops};
 
-use crate::distances::Distances;
-use crate::hop_columns::HopColumns;
 use hop_sets::HopSet;
 use ospf_types::entry::Vertex;
 use ospf_types::hop::NextHop;
 use ospf_types::label::Label;
 use ospf_types::memory::Memory;
 use std::alloc::Global;
+use tree_parts::{Distances, HopColumns};
 use vertex_graph::{Graph, Link};
 
 /// The next hops that the least links into a vertex give it.

@@ -3,21 +3,19 @@
 ghost use Rattle.std.specs.Prelude.{◌≡◌, ◌-◌, ◌^◌, ◌<◌, ◌≤◌, ◌++◌, ◌∷◌, [], Some, IfSome, IfNone, IfOk, OnOk, Contains, length};
 ghost use Rattle.std.specs.FinMap as map;
 ghost use Rattle.vertex_graph.specs.Graphs.{LinksOf};
+ghost use Rattle.tree_parts.specs.Members.{HasNoDoubles};
+ghost use Rattle.tree_parts.specs.Maps.{most_distance, with_hops};
 ghost use Rattle.spf.specs.HandedOn.{IsOfSome, ArePut, IsReachedAt, IsHeadOver, IsLeastHead, IsLeastLink, AreBlanked, IsSettled};
-ghost use Rattle.spf.specs.Loops.{HasNoDoubles};
-ghost use Rattle.spf.specs.Parts.{AreUnsettled, AreSettled, hops_of, most_distance, with_hops};
+ghost use Rattle.spf.specs.Parts.{AreUnsettled, AreSettled, hops_of};
 
-use crate::distances::Distances;
 use crate::gathering::{are_same, gather, is_root};
-use crate::hop_columns::HopColumns;
 use crate::losing::Losses;
-use crate::members::Members;
-use crate::touched::Touched;
 use hop_sets::HopSet;
 use ospf_types::entry::Vertex;
 use ospf_types::memory::Memory;
 use std::alloc::Global;
 use std::hash::RandomState;
+use tree_parts::{Distances, HopColumns, Members, Touched};
 use vertex_graph::{Graph, Link};
 use vertex_queue::Queue;
 

@@ -3,16 +3,11 @@
 //! links went or came.
 #![tactic(auto)]
 
-mod differing;
-mod distances;
 mod gathering;
 mod handing;
-mod hop_columns;
 mod losing;
-mod members;
 mod nearing;
-mod touched;
 mod tree;
 
-pub use touched::Touched;
 pub use tree::Tree;
+pub use tree_parts::Touched;

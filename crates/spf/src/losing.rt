@@ -4,18 +4,18 @@ ghost use Rattle.std.specs.Prelude.{◌≡◌, ◌↔◌, ◌<◌, [], IsTrue, I
 ghost use Rattle.std.specs.FinMap as map;
 ghost use Rattle.std.specs.List.{All};
 ghost use Rattle.vertex_graph.specs.Graphs.{LinksOf};
-ghost use Rattle.vertex_graph.specs.declared.link.Link.{Link as LinkValue};
-ghost use Rattle.spf.specs.Parts.{IsBefore, AreLost, most_distance};
+ghost use Rattle.vertex_graph.specs.Link.{Link as LinkValue};
+ghost use Rattle.tree_parts.specs.Maps.{most_distance};
+ghost use Rattle.spf.specs.Parts.{IsBefore, AreLost};
 ghost use Rattle.spf.specs.Repairs.{IsSupported};
 ghost use Rattle.spf.specs.Suspects.{Supports, WasLeast, MaySupport, IsHead, AreToldOf, IsJudged};
 
-use crate::distances::Distances;
-use crate::members::Members;
 use indexmap::IndexMap;
 use ospf_types::entry::Vertex;
 use ospf_types::memory::Memory;
 use std::alloc::Global;
 use std::hash::RandomState;
+use tree_parts::{Distances, Members};
 use vertex_graph::{Graph, Link, LinkChanges};
 
 /// The vertices that lose their distance, and those whose least links changed by that.

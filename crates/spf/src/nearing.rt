@@ -2,21 +2,21 @@
 ghost use Rattle.std.specs.Prelude.{◌≡◌, ◌↔◌, ◌^◌, ◌<◌, IfOk, OnOk, IsTrue, Contains, length};
 ghost use Rattle.std.specs.FinMap as map;
 ghost use Rattle.ospf_types.specs.declared.entry.Vertex.TheVariants.{Router as RouterValue};
-ghost use Rattle.vertex_graph.specs.Graphs.{LinksOf, HasRoot, AreCheap};
-ghost use Rattle.vertex_graph.specs.declared.link.Link.{Link as LinkValue};
+ghost use Rattle.vertex_graph.specs.Graphs.{LinksOf, HasRoot};
+ghost use Rattle.vertex_graph.specs.Pairs.{AreCheap};
+ghost use Rattle.vertex_graph.specs.Link.{Link as LinkValue};
+ghost use Rattle.tree_parts.specs.Maps.{most_distance};
 ghost use Rattle.spf.specs.Changes.{Among};
 ghost use Rattle.spf.specs.Offers.{OneOffer, OverLink, OverLinks, OverReached, OutOf, Into, AreMade, IsCleared};
-ghost use Rattle.spf.specs.Parts.{AreStarted, AreNeared, most_distance};
+ghost use Rattle.spf.specs.Parts.{AreStarted, AreNeared};
 ghost use Rattle.spf.specs.Repairs.{IsReset};
 
-use crate::distances::Distances;
 use crate::losing::Losses;
-use crate::members::Members;
-use crate::touched::Touched;
 use ospf_types::entry::Vertex;
 use ospf_types::memory::Memory;
 use std::alloc::Global;
 use std::hash::RandomState;
+use tree_parts::{Distances, Members, Touched};
 use vertex_graph::{Graph, Link};
 use vertex_queue::Queue;
 

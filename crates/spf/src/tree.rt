@@ -2,24 +2,21 @@ ghost use Rattle.std.specs.Prelude.{◌≡◌, ◌<◌, List, [], true, OnOk, On
 ghost use Rattle.std.specs.FinMap as map;
 ghost use Rattle.std.specs.List.Sorted.{IsStrictlySortedBy};
 ghost use Rattle.ospf_types.specs.Hops.{hop_cmp};
-ghost use Rattle.vertex_graph.specs.declared.link.Link.{Link as LinkValue};
-ghost use Rattle.spf.specs.Parts.{AreHopsInOrder, most_distance};
+ghost use Rattle.vertex_graph.specs.Link.{Link as LinkValue};
+ghost use Rattle.tree_parts.specs.Maps.{AreHopsInOrder, most_distance};
 ghost use Rattle.spf.specs.TreeValues.{IsTreeOf, IsTreeBefore, IsBegun, IsRenewed, AreChanged, AreOthersKept, IsBounded, IsWorkDone, IsWorkForAll, listed_hops};
 
-use crate::differing::{differing, remember};
-use crate::distances::Distances;
 use crate::handing::hand;
-use crate::hop_columns::HopColumns;
 use crate::losing::{Losses, lose};
-use crate::members::Members;
 use crate::nearing::near;
-use crate::touched::Touched;
 use ospf_types::entry::Vertex;
 use ospf_types::hop::NextHop;
 use ospf_types::memory::Memory;
 use std::alloc::Global;
 use std::hash::RandomState;
 use std::marker::Model;
+use tree_parts::differing::{differing, remember};
+use tree_parts::{Distances, HopColumns, Members, Touched};
 use vertex_graph::{Graph, Link, LinkChanges};
 
 // What the second and the third part of a repair did.
@@ -66,7 +63,7 @@ impl Model for Tree {
     ghost use Rattle.std.specs.Coded.{Coded, codes, coded_ℕ};
     ghost use Rattle.std.specs.FinMap as map;
     ghost use Rattle.ospf_types.specs.Vertices.{vertex_code};
-    ghost use Rattle.spf.specs.Parts.{DistanceMap, HopMap};
+    ghost use Rattle.tree_parts.specs.Maps.{DistanceMap, HopMap};
     ghost use Rattle.spf.specs.TreeValues.{TreeValue};
 
     ghost Value = { TreeValue };

@@ -1,6 +1,6 @@
 -- What a tree needs of the changes that lead to a graph.
 use Rattle.std.specs.Prelude.{◌≡◌, false, List}
-use Rattle.vertex_graph.specs.declared.link.Link.{Link}
+use Rattle.vertex_graph.specs.Link.{Link}
 use Rattle.vertex_graph.specs.Graphs.{GraphValue, HasEnds, AreExact}
 use Rattle.spf.specs.TreeValues.{TreeValue, IsTreeOf}
 

@@ -1,6 +1,6 @@
 //! The tree of a small area, built and kept (RFC 2328, 16.1).
 ghost use Rattle.std.specs.Prelude.{◌≡◌, ℕ, List, OnOk};
-ghost use Rattle.vertex_graph.specs.declared.link.Up.{Up as UpValue};
+ghost use Rattle.vertex_graph.specs.Up.{Up as UpValue};
 ghost use Rattle.area_trees.specs.Areas.{IsAreaTree};
 
 use crate::network::{network, router};

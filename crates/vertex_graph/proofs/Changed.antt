@@ -12,19 +12,21 @@ use Rattle.ospf_types.specs.declared.entry.Vertex.TheVariants.{Router, Network}
 use Rattle.ospf_types.specs.declared.label.Label.{Label}
 use Rattle.ospf_types.specs.Distances.{Links}
 use Rattle.ospf_types.specs.Vertices.{vertex_cmp}
-use Rattle.vertex_graph.specs.declared.end.End.{End}
-use Rattle.vertex_graph.specs.declared.link.Link.{Link}
-use Rattle.vertex_graph.specs.declared.link.Up.{Up}
-use Rattle.vertex_graph.specs.declared.row.Row.{Row}
+use Rattle.graph_links.specs.declared.end.End.{End}
+use Rattle.graph_links.specs.declared.link.Link.{Link}
+use Rattle.graph_links.specs.declared.link.Up.{Up}
+use Rattle.graph_links.specs.declared.row.Row.{Row}
 use Rattle.vertex_graph.specs.Graphs.{GraphValue, link_of, LinksOf, HasRoot, AreLinksFrom, AreLinksTo, HasEnds, HasFewRouters, AreExact, most_routers}
-use Rattle.vertex_graph.specs.Pairs.{Names}
+use Rattle.graph_links.specs.Pairs.{Names}
 use Rattle.vertex_graph.specs.Rows.{graph_of, AreRows}
-use Rattle.vertex_graph.specs.Sides.{Leading, RowList, row_ends, ends_or, LinksBy, AreTouched, AreOut, AreInto, IsRow, IsFreshRow, IsChanged, AreMissing}
-use Rattle.vertex_graph.proofs.EndOrders.{vertex_total, vertex_exact}
-use Rattle.vertex_graph.proofs.PairAlike.{links_by}
+use Rattle.graph_links.specs.Sides.{Leading, RowList, row_ends, ends_or, LinksBy, AreOut, AreInto, IsRow, IsFreshRow, AreMissing}
+use Rattle.graph_links.specs.Sides.{IsChanged}
+use Rattle.vertex_graph.specs.Stagings.{AreTouched}
+use Rattle.graph_links.proofs.EndOrders.{vertex_total, vertex_exact}
+use Rattle.vertex_graph.proofs.PairLinks.{links_by}
 use Rattle.vertex_graph.proofs.PairLinks.{pair_of_link}
 use Rattle.vertex_graph.proofs.Untouched.{IsAlike, untouched_by_ends, untouched_by_ups}
-use Rattle.vertex_graph.proofs.VertexTests.{is_vertex, found_mapped}
+use Rattle.graph_links.proofs.VertexTests.{is_vertex, found_mapped}
 
 abbrev ends_entries : RowList → List (Vertex × List End)
 ends_entries = map (λ (p : Vertex × Row). (p.0, p.1.ends.items))

@@ -14,12 +14,12 @@ use Rattle.ospf_types.specs.declared.entry.Vertex.TheVariants.{Router, Network}
 use Rattle.ospf_types.specs.declared.label.Label.{Label}
 use Rattle.ospf_types.specs.declared.label.Label.TheVariants.{Over, At, Plain}
 use Rattle.ospf_types.proofs.Elements.{no_element, first_element, later_element, first_or_later}
-use Rattle.vertex_graph.specs.declared.end.End.{End}
-use Rattle.vertex_graph.specs.declared.link.Up.{Up}
-use Rattle.vertex_graph.specs.Ends.{end_cmp}
+use Rattle.graph_links.specs.declared.end.End.{End}
+use Rattle.graph_links.specs.declared.link.Up.{Up}
+use Rattle.graph_links.specs.EndOrder.{end_cmp}
 use Rattle.vertex_graph.specs.Graphs.{GraphValue, LinksOf, HasEnds}
-use Rattle.vertex_graph.specs.Pairs.{Names, IsOutLabel, AreDetailsTo, IsPairLink}
-use Rattle.vertex_graph.proofs.Details.{details_of_ends, one_list_of_details}
+use Rattle.graph_links.specs.Pairs.{Names, IsOutLabel, AreDetailsTo, IsPairLink}
+use Rattle.graph_links.proofs.Details.{details_of_ends, one_list_of_details}
 use Rattle.vertex_graph.proofs.PairLinks.{pair_of_link, link_of_pair}
 
 -- it holds or it does not

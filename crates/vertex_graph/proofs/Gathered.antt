@@ -17,11 +17,12 @@ use Rattle.ospf_types.specs.declared.lsa.LinkKind.TheVariants as kind
 use Rattle.ospf_types.specs.Lsa.{Body, RouterLink}
 use Rattle.ospf_types.proofs.Elements.{no_element, first_element, later_element, first_or_later, mapped_element, mapped_from}
 use Rattle.lsa_codec.specs.Readers.{links_of, routers_of, without_tos}
-use Rattle.vertex_graph.specs.declared.end.End.{End}
-use Rattle.vertex_graph.specs.contracts.end.EndOrd.TheImpl as end_order
-use Rattle.vertex_graph.specs.contracts.end.EndPartialEq.TheImpl as end_equality
-use Rattle.vertex_graph.specs.Ends.{end_cmp, end_by, end_of, end_of_link, listed_end, LeadsTo, AreEnds}
-use Rattle.vertex_graph.proofs.EndOrders.{end_total, end_exact, end_cmp_is, end_tied_is}
+use Rattle.graph_links.specs.declared.end.End.{End}
+use Rattle.graph_links.specs.contracts.end.EndOrd.TheImpl as end_order
+use Rattle.graph_links.specs.contracts.end.EndPartialEq.TheImpl as end_equality
+use Rattle.graph_links.specs.EndOrder.{end_cmp, listed_end}
+use Rattle.vertex_graph.specs.Ends.{end_by, end_of, end_of_link, LeadsTo, AreEnds}
+use Rattle.graph_links.proofs.EndOrders.{end_total, end_exact, end_cmp_is, end_tied_is}
 
 -- the TOS entries of a link do not count
 by_kind : (k : LinkKind) (l : RouterLink) → end_by k (record { id = l.id; detail = l.detail; kind = k; metric = l.metric; tos = [] }) ≡ end_by k l

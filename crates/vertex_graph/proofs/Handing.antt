@@ -14,16 +14,18 @@ use Rattle.ospf_types.specs.declared.entry.Vertex.{Vertex}
 use Rattle.ospf_types.specs.declared.entry.Vertex.TheVariants.{Router, Network}
 use Rattle.ospf_types.specs.Lsa.{Body}
 use Rattle.ospf_types.proofs.Elements.{no_element, first_element, later_element, first_or_later}
-use Rattle.vertex_graph.specs.declared.end.End.{End}
-use Rattle.vertex_graph.specs.contracts.end.EndPartialEq.TheImpl as end_equality
-use Rattle.vertex_graph.specs.Pairs.{Names}
-use Rattle.vertex_graph.specs.Ends.{end_cmp, listed_end, AreEnds}
+use Rattle.graph_links.specs.declared.end.End.{End}
+use Rattle.graph_links.specs.contracts.end.EndPartialEq.TheImpl as end_equality
+use Rattle.graph_links.specs.Pairs.{Names}
+use Rattle.graph_links.specs.EndOrder.{end_cmp, listed_end}
+use Rattle.vertex_graph.specs.Ends.{AreEnds}
 use Rattle.vertex_graph.specs.Graphs.{GraphValue, Handed, handed_of, AreApartHanded, AreFewAfter, HasFewRouters, HasEnds, IsThereAfter, IsReplaced}
 use Rattle.ospf_types.specs.Vertices.{vertex_cmp}
-use Rattle.vertex_graph.specs.Sides.{Leading, RowList, StagedList, row_ends, staged_or, ends_after, ends_or, IsHandedIn, IsInOrder, IsGivenEnds, IsStaged, AreTouched, IsWithin, TouchesOthers}
-use Rattle.vertex_graph.proofs.EndOrders.{end_exact, end_tied}
-use Rattle.vertex_graph.proofs.Growing.{more, more_at}
-use Rattle.vertex_graph.proofs.VertexTests.{equals, one_or_other, found_after, found_own, found_other}
+use Rattle.graph_links.specs.Sides.{Leading, RowList, StagedList, row_ends, staged_or, ends_after, ends_or, IsInOrder}
+use Rattle.vertex_graph.specs.Stagings.{IsHandedIn, IsGivenEnds, IsStaged, AreTouched, IsWithin, TouchesOthers}
+use Rattle.graph_links.proofs.EndOrders.{end_exact, end_tied}
+use Rattle.graph_links.proofs.Growing.{more, more_at}
+use Rattle.graph_links.proofs.VertexTests.{equals, one_or_other, found_after, found_own, found_other}
 
 -- whether a vertex is handed in
 abbrev IsHanded : List Handed → Vertex → Type 0

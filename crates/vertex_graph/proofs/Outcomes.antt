@@ -4,12 +4,14 @@ use Rattle.std.specs.Prelude.{Contains}
 use Rattle.std.specs.FinMap.{get}
 use Rattle.ospf_types.specs.declared.entry.Vertex.{Vertex}
 use Rattle.ospf_types.specs.declared.entry.Vertex.TheVariants.{Router}
-use Rattle.vertex_graph.specs.declared.link.Link.{Link}
-use Rattle.vertex_graph.specs.declared.link.Up.{Up}
+use Rattle.graph_links.specs.declared.link.Link.{Link}
+use Rattle.graph_links.specs.declared.link.Up.{Up}
 use Rattle.vertex_graph.specs.Graphs.{GraphValue, Handed, HasEnds, AreFewAfter, IsReplaced, AreExact}
-use Rattle.vertex_graph.specs.Pairs.{Names}
+use Rattle.graph_links.specs.Pairs.{Names}
 use Rattle.vertex_graph.specs.Rows.{graph_of, AreRows}
-use Rattle.vertex_graph.specs.Sides.{RowList, StagedList, row_ends, ends_after, ends_or, LinksBy, IsChanged, AreMissing, IsHandedIn, AreTouched, IsInOrder}
+use Rattle.graph_links.specs.Sides.{RowList, StagedList, row_ends, ends_after, ends_or, LinksBy, AreMissing, IsInOrder}
+use Rattle.graph_links.specs.Sides.{IsChanged}
+use Rattle.vertex_graph.specs.Stagings.{IsHandedIn, AreTouched}
 use Rattle.vertex_graph.proofs.Changed.{get_graph, IsUntouched, leads_new, changed_rows, changed_exact, ends_untouched, ups_untouched, ends_alike, few_alike, map_alike}
 use Rattle.vertex_graph.proofs.Handing.{graph_in_order, handed_in_order, handed_ends, handed_few, handed_replaced}
 

@@ -1,6 +1,6 @@
 -- The links of a graph between two vertices are those that the ends of the two make.
-use Rattle.std.proofs.Common.{◌≡◌, ℕ, List, map, Some, refl, sym, ◌∙◌, ap, subst}
-use Rattle.std.specs.Prelude.{Contains}
+use Rattle.std.proofs.Common.{◌≡◌, ℕ, List, map, Option, Some, None, refl, sym, ◌∙◌, ap, subst}
+use Rattle.std.specs.Prelude.{◌↔◌, Contains}
 use Rattle.std.specs.FinMap.{get}
 use Rattle.ospf_types.specs.declared.entry.Vertex.{Vertex}
 use Rattle.ospf_types.specs.declared.entry.Vertex.TheVariants.{Router, Network}
@@ -10,10 +10,12 @@ use Rattle.ospf_types.specs.declared.lsa.LinkKind.{LinkKind}
 use Rattle.ospf_types.specs.declared.lsa.LinkKind.TheVariants.{PointToPoint, Transit}
 use Rattle.ospf_types.specs.Links.{IsLabel, HasAddressOn, AreAddressesOn, ListsRouter}
 use Rattle.ospf_types.specs.Lsa.{RouterLink}
-use Rattle.ospf_types.proofs.Elements.{mapped_element, mapped_from}
-use Rattle.vertex_graph.specs.declared.end.End.{End}
+use Rattle.ospf_types.proofs.Elements.{no_element, mapped_element, mapped_from}
+use Rattle.graph_links.specs.declared.end.End.{End}
 use Rattle.vertex_graph.specs.Graphs.{GraphValue, graph_view, link_to, link_of, number_of, LinksOf, HasEnds}
-use Rattle.vertex_graph.specs.Pairs.{Names, IsOutLabel, AreDetailsTo, IsPairLink}
+use Rattle.graph_links.specs.Pairs.{Names, IsOutLabel, AreDetailsTo, IsPairLink}
+use Rattle.graph_links.specs.Sides.{Leading, LinksBy, ends_or}
+use Rattle.graph_links.proofs.PairAlike.{pair_names, pair_named}
 
 -- the kind of a router's links to the vertex
 abbrev kind_to : Vertex → LinkKind
@@ -229,3 +231,20 @@ link_of_pair g (Network from) (Router to) ends back cost label own other taken =
       (0, map link_of back, link_of named.0, (back, other, refl, refl), mapped_element link_of back named.0 named.1, kind_by_end named.0 (Network from) named.2, id_by_end named.0 (Network from) named.2),
     )
 link_of_pair g (Network from) (Network to) ends back cost label own other taken = absurd taken
+
+-- a vertex that names another is there
+is_there : (o : Option (List End)) (w : Vertex) → Names (ends_or o) w → o ≡ Some (ends_or o)
+is_there None w named = absurd (no_element named.0 named.1)
+is_there (Some ends) w named = refl
+
+-- the links of a graph are those by where its vertices lead
+pub links_by : (g : GraphValue) → HasEnds g → (leading : Leading) → ((v : Vertex) → get g.ends v ≡ leading v) → (v w : Vertex) (cost : ℕ) (label : Label) → LinksOf g v w cost label ↔ LinksBy g.root g.interfaces leading v w cost label
+links_by g has leading leads v w cost label = (
+  λ link.
+      let pair = pair_of_link g has v w cost label link in
+      subst (λ (p : Option (List End) × Option (List End)). IsPairLink g.root g.interfaces v (ends_or p.0) w (ends_or p.1) cost label) (λ i. ((sym pair.2 ∙ leads v) i, (sym pair.3 ∙ leads w) i)) pair.4,
+  λ link.
+      let ends = ends_or (leading v) in
+      let back = ends_or (leading w) in
+      link_of_pair g v w ends back cost label (leads v ∙ is_there (leading v) w (pair_names g.root g.interfaces v w ends back cost label link)) (leads w ∙ is_there (leading w) v (pair_named g.root g.interfaces v w ends back cost label link)) link,
+)

@@ -5,12 +5,13 @@ use Rattle.ospf_types.specs.declared.entry.Vertex.{Vertex}
 use Rattle.ospf_types.specs.declared.entry.Vertex.TheVariants.{Router}
 use Rattle.ospf_types.specs.declared.label.Label.{Label}
 use Rattle.ospf_types.specs.Distances.{Links}
-use Rattle.vertex_graph.specs.declared.end.End.{End}
-use Rattle.vertex_graph.specs.declared.link.Up.{Up}
-use Rattle.vertex_graph.specs.Pairs.{Names, AreAlikeAt}
-use Rattle.vertex_graph.specs.Sides.{Leading, LinksBy, ends_or, AreTouched}
-use Rattle.vertex_graph.proofs.PairAlike.{alike_back, pair_names, pair_alike, pair_elsewhere}
-use Rattle.vertex_graph.proofs.VertexTests.{one_or_other}
+use Rattle.graph_links.specs.declared.end.End.{End}
+use Rattle.graph_links.specs.declared.link.Up.{Up}
+use Rattle.graph_links.specs.Pairs.{Names, AreAlikeAt}
+use Rattle.graph_links.specs.Sides.{Leading, LinksBy, ends_or}
+use Rattle.vertex_graph.specs.Stagings.{AreTouched}
+use Rattle.graph_links.proofs.PairAlike.{alike_back, pair_names, pair_alike, pair_elsewhere}
+use Rattle.graph_links.proofs.VertexTests.{one_or_other}
 
 -- the links out of the vertex and into it are the same
 pub record IsAlike (Here There : Links) (v : Vertex) : Type 0 where

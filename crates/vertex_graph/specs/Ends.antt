@@ -1,21 +1,15 @@
 -- What a graph keeps of an LSA: where its links lead.
 use Rattle.std.specs.Prelude.{◌↔◌, ℕ, ◌≡◌, List, [], Contains, Option, Some, None}
 use Rattle.std.specs.List.Sorted.{IsStrictlySortedBy}
-use Rattle.std.specs.Ordering.{nat_cmp, ordering_then}
-use Rattle.std.specs.declared.cmp.Ordering.{Ordering}
 use Rattle.ospf_types.specs.declared.entry.Vertex.{Vertex}
 use Rattle.ospf_types.specs.declared.entry.Vertex.TheVariants.{Router, Network}
 use Rattle.ospf_types.specs.declared.lsa.Link.{Link}
 use Rattle.ospf_types.specs.declared.lsa.LinkKind.{LinkKind}
 use Rattle.ospf_types.specs.declared.lsa.LinkKind.TheVariants as kind
 use Rattle.ospf_types.specs.Lsa.{Body, RouterLink}
-use Rattle.ospf_types.specs.Vertices.{vertex_cmp}
 use Rattle.lsa_codec.specs.Readers.{links_of, routers_of}
-use Rattle.vertex_graph.specs.declared.end.End.{End}
-
--- by vertex, then Link Data, then metric
-abbrev pub end_cmp : End → End → Ordering
-end_cmp a b = ordering_then (vertex_cmp a.to b.to) (ordering_then (nat_cmp a.detail b.detail) (nat_cmp a.metric b.metric))
+use Rattle.graph_links.specs.declared.end.End.{End}
+use Rattle.graph_links.specs.EndOrder.{end_cmp, listed_end}
 
 -- stub links and links of type 4 lead to no vertex
 abbrev pub end_by : LinkKind → RouterLink → Option End
@@ -31,10 +25,6 @@ end_of l = end_by l.kind l
 -- where a link leads that is given without its TOS entries
 abbrev pub end_of_link : Link → Option End
 end_of_link l = end_by l.kind (record { id = l.id; detail = l.detail; kind = l.kind; metric = l.metric; tos = [] })
-
--- where a router that a network-LSA lists stands
-abbrev pub listed_end : ℕ → End
-listed_end router = record { to = Router router; detail = 0; metric = 0 }
 
 -- the vertex, with an LSA of this body, leads there
 abbrev pub LeadsTo : Vertex → Body → End → Type 0

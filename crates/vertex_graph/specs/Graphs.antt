@@ -1,6 +1,6 @@
 -- A graph of an area as its callers see it, and the links that it has (RFC 2328, 16.1).
 use Rattle.std.specs.Prelude.{◌↔◌, ◌⊎◌, ℕ, ◌≡◌, ◌≢◌, ◌≤◌, ◌<◌, List, [], map, length, Contains, Option, Some, None, IsSome, option_map}
-use Rattle.std.specs.List.{AllPairs, All}
+use Rattle.std.specs.List.{AllPairs}
 use Rattle.std.specs.List.Sorted.{IsStrictlySortedBy}
 use Rattle.std.specs.FinMap.{FinMap, get}
 use Rattle.std.proofs.Common.{Bor}
@@ -13,10 +13,11 @@ use Rattle.ospf_types.specs.Distances.{Links}
 use Rattle.ospf_types.specs.Links.{View, IsLinkOf, IsVertexOf}
 use Rattle.ospf_types.specs.Lsa.{Body, RouterLink}
 use Rattle.ospf_types.specs.Vertices.{vertex_cmp}
-use Rattle.vertex_graph.specs.declared.link.Link.{Link}
-use Rattle.vertex_graph.specs.declared.link.Up.{Up}
-use Rattle.vertex_graph.specs.declared.end.End.{End}
-use Rattle.vertex_graph.specs.Ends.{end_cmp, listed_end, AreEnds}
+use Rattle.graph_links.specs.declared.link.Link.{Link}
+use Rattle.graph_links.specs.declared.link.Up.{Up}
+use Rattle.graph_links.specs.declared.end.End.{End}
+use Rattle.graph_links.specs.EndOrder.{end_cmp, listed_end}
+use Rattle.vertex_graph.specs.Ends.{AreEnds}
 
 abbrev pub EndsByVertex : Type 0
 EndsByVertex = FinMap vertex_cmp (List End)
@@ -64,11 +65,7 @@ AreLinksFrom g v links = (l : Link) → Contains links l ↔ ((l.from ≡ v) × 
 abbrev pub AreLinksTo : GraphValue → Vertex → List Link → Type 0
 AreLinksTo g v links = (l : Link) → Contains links l ↔ ((l.to ≡ v) × LinksOf g l.from l.to l.cost l.label)
 
--- metrics of links have 16 bits
-abbrev pub AreCheap : List Link → Type 0
-AreCheap links = All (λ (l : Link). l.cost < 65536) links
-
--- and so for every link of a graph
+-- metrics of a graph's links have 16 bits
 abbrev pub HasCheapLinks : GraphValue → Type 0
 HasCheapLinks g = (from to : Vertex) (cost : ℕ) (label : Label) → LinksOf g from to cost label → cost < 65536
 

@@ -1,5 +1,9 @@
 pub mod Ends
 pub mod Graphs
-pub mod Pairs
 pub mod Rows
-pub mod Sides
+pub mod Stagings
+pub use Rattle.graph_links.specs.EndOrder
+pub use Rattle.graph_links.specs.Pairs
+pub use Rattle.graph_links.specs.declared.end.End
+pub use Rattle.graph_links.specs.declared.link.Link
+pub use Rattle.graph_links.specs.declared.link.Up

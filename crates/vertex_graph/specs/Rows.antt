@@ -3,10 +3,10 @@ use Rattle.std.specs.Prelude.{ℕ, ◌≡◌, List, Some, map}
 use Rattle.std.specs.FinMap.{find, from_entries}
 use Rattle.ospf_types.specs.declared.entry.Vertex.{Vertex}
 use Rattle.ospf_types.specs.Vertices.{vertex_cmp}
-use Rattle.vertex_graph.specs.declared.link.Up.{Up}
-use Rattle.vertex_graph.specs.declared.row.Row.{Row}
+use Rattle.graph_links.specs.declared.link.Up.{Up}
+use Rattle.graph_links.specs.declared.row.Row.{Row}
 use Rattle.vertex_graph.specs.Graphs.{GraphValue, HasFewRouters, HasEnds, LinksOf}
-use Rattle.vertex_graph.specs.Sides.{IsRow}
+use Rattle.graph_links.specs.Sides.{IsRow}
 
 -- the graph that the rows stand for
 abbrev pub graph_of : ℕ → List (Vertex × Row) → List Up → GraphValue

@@ -1,14 +1,10 @@
 //! A change of a graph's rows.
 ghost use Rattle.std.specs.Prelude.{◌≡◌, OnOk, OnErr, IfOk};
-ghost use Rattle.vertex_graph.specs.Sides.{row_ends, ends_after, ends_in, LinksBy, LinksIn, IsInOrder, HasSameRows, AreFresh, IsPlaced, IsChanged, AreMissing};
+ghost use Rattle.graph_links.specs.Sides.{row_ends, ends_after, ends_in, LinksBy, LinksIn, IsInOrder, HasSameRows, AreFresh, IsPlaced, AreMissing};
+ghost use Rattle.graph_links.specs.Sides.{IsChanged};
 
-use crate::fresh::{Fresh, fresh_rows, place};
-use crate::link::LinkChanges;
-use crate::missing::missing;
-use crate::pair::Local;
-use crate::row::{Rows, StagedEnds};
-use crate::side::Side;
 use crate::staging::Staging;
+use graph_links::{Fresh, LinkChanges, Local, Rows, Side, StagedEnds, fresh_rows, missing, place};
 use ospf_types::entry::Vertex;
 use ospf_types::memory::Memory;
 use std::alloc::Global;

@@ -4,11 +4,12 @@ ghost use Rattle.std.specs.List.{filter_map};
 ghost use Rattle.std.specs.List.Sorted.{IsStrictlySortedBy, IsPartitionPoint};
 ghost use Rattle.ospf_types.specs.Vertices.{vertex_cmp};
 ghost use Rattle.lsa_codec.specs.Readers.{links_of, routers_of};
-ghost use Rattle.vertex_graph.specs.Ends.{end_cmp, end_of as end_of_listed, end_of_link, listed_end, AreEnds};
-ghost use Rattle.vertex_graph.specs.Pairs.{Names};
-ghost use Rattle.vertex_graph.specs.declared.end.End.{End as EndValue};
+ghost use Rattle.graph_links.specs.EndOrder.{end_cmp, listed_end};
+ghost use Rattle.vertex_graph.specs.Ends.{end_of as end_of_listed, end_of_link, AreEnds};
+ghost use Rattle.graph_links.specs.Pairs.{Names};
+ghost use Rattle.graph_links.specs.declared.end.End.{End as EndValue};
 
-use crate::end::End;
+use graph_links::End;
 use lsa_codec::{Checked, Link, LinkKind};
 use ospf_types::entry::Vertex;
 use ospf_types::memory::Memory;
@@ -70,44 +71,4 @@ fn network_ends(alloc: Global, lsa: &Checked) -> Result<Vec<End>, Memory>
         })?;
     }
     Ok(ends)
-}
-
-/// Whether one of the ends is at the vertex.
-pub(crate) fn names(ends: &[End], vertex: Vertex) -> bool
-    requires { IsStrictlySortedBy end_cmp ends.now }
-    ensures { IsTrue result ↔ Names ends.now vertex }
-{
-    match ends.get(first_at(ends, vertex)) {
-        Some(end) => end.to == vertex,
-        None => false,
-    }
-}
-
-/// The ends that are at the vertex.
-pub(crate) fn ends_at(ends: &[End], vertex: Vertex) -> &[End]
-    requires { IsStrictlySortedBy end_cmp ends.now }
-    ensures in_order { IsStrictlySortedBy end_cmp result.now }
-    ensures exact { (e : EndValue) → Contains result.now e ↔ (Contains ends.now e × (e.to ≡ vertex)) }
-{
-    let first = first_at(ends, vertex);
-    let past = first_past(ends, vertex);
-    &ends[first..past]
-}
-
-/// How many ends are below the vertex.
-fn first_at(ends: &[End], vertex: Vertex) -> usize
-    requires { IsStrictlySortedBy end_cmp ends.now }
-    ensures within { result ≤ length ends.now }
-    ensures split { IsPartitionPoint (λ (e : EndValue). vertex_cmp e.to vertex ≡ Ordering.Less) (λ (e : EndValue). vertex_cmp e.to vertex ≢ Ordering.Less) ends.now result }
-{
-    ends.partition_point(|end| end.to.compare(vertex).is_lt())
-}
-
-/// How many ends are below the vertex or at it.
-fn first_past(ends: &[End], vertex: Vertex) -> usize
-    requires { IsStrictlySortedBy end_cmp ends.now }
-    ensures within { result ≤ length ends.now }
-    ensures split { IsPartitionPoint (λ (e : EndValue). vertex_cmp e.to vertex ≢ Ordering.Greater) (λ (e : EndValue). vertex_cmp e.to vertex ≡ Ordering.Greater) ends.now result }
-{
-    ends.partition_point(|end| end.to.compare(vertex).is_le())
 }

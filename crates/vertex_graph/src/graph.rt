@@ -1,13 +1,12 @@
 //! The graph of an area: the vertices that are there, and their links.
 ghost use Rattle.std.specs.Prelude.{◌≡◌, ◌↔◌, [], ◌∷◌, IsTrue, OnOk, OnErr, IfOk, option_map};
 ghost use Rattle.std.specs.FinMap as map;
-ghost use Rattle.vertex_graph.specs.Graphs.{HasRoot, AreLinksFrom, AreLinksTo, AreCheap, HasFewRouters, HasCheapLinks, handed_of, AreApartHanded, AreFewAfter, IsReplaced, AreExact, HasEnds};
+ghost use Rattle.vertex_graph.specs.Graphs.{HasRoot, AreLinksFrom, AreLinksTo, HasFewRouters, HasCheapLinks, handed_of, AreApartHanded, AreFewAfter, IsReplaced, AreExact, HasEnds};
+ghost use Rattle.graph_links.specs.Pairs.{AreCheap};
 
 use crate::change::change;
-use crate::link::{Link, LinkChanges, Up};
-use crate::pair::Local;
-use crate::row::Rows;
 use crate::staging::{stage, stage_root};
+use graph_links::{Link, LinkChanges, Local, Rows, Up};
 use indexmap::IndexMap;
 use lsa_codec::Checked;
 use ospf_types::entry::Vertex;

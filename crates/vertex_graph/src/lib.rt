@@ -4,18 +4,9 @@
 #![tactic(auto)]
 
 mod change;
-mod end;
 mod ends;
-mod fresh;
 mod graph;
-mod link;
-mod missing;
-mod neighbours;
-mod pair;
-mod row;
-mod side;
 mod staging;
 
-pub use end::End;
 pub use graph::Graph;
-pub use link::{Link, LinkChanges, Up};
+pub use graph_links::{End, Link, LinkChanges, Up};

@@ -5,13 +5,12 @@ ghost use Rattle.ospf_types.specs.declared.entry.Vertex.{Vertex as VertexValue};
 ghost use Rattle.ospf_types.specs.declared.entry.Vertex.TheVariants.{Router};
 ghost use Rattle.ospf_types.specs.Vertices.{vertex_cmp};
 ghost use Rattle.vertex_graph.specs.Graphs.{handed_of, AreApartHanded};
-ghost use Rattle.vertex_graph.specs.Pairs.{Names};
-ghost use Rattle.vertex_graph.specs.Sides.{row_ends, ends_after, ends_or, IsHandedIn, IsGivenEnds, IsStaged, AreTouched, IsWithin, TouchesOthers};
+ghost use Rattle.graph_links.specs.Pairs.{Names};
+ghost use Rattle.graph_links.specs.Sides.{row_ends, ends_after, ends_or};
+ghost use Rattle.vertex_graph.specs.Stagings.{IsHandedIn, IsGivenEnds, IsStaged, AreTouched, IsWithin, TouchesOthers};
 
-use crate::end::End;
 use crate::ends::ends_of;
-use crate::row::{Rows, StagedEnds};
-use crate::side::{row_ends, slice_of, slice_or_none};
+use graph_links::{End, Rows, StagedEnds, row_ends, slice_of, slice_or_none};
 use indexmap::{IndexMap, IndexSet};
 use lsa_codec::Checked;
 use ospf_types::entry::Vertex;

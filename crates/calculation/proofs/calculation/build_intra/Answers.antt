@@ -4,9 +4,9 @@ use Rattle.ospf_types.specs.declared.config.Config.{Config}
 use Rattle.intra.specs.Inputs.{InputsValue, AreReady}
 use Rattle.intra.specs.Right.{AreInputsOf}
 use Rattle.event_state.specs.States.{inputs_of}
-use Rattle.calculation.specs.Calculations.{inputs_with}
-use Rattle.calculation.proofs.InputsAre.{ready_of, inputs_are, inputs_made}
-use Rattle.calculation.proofs.Turns.{trees_long}
+use Rattle.state_trees.specs.Trees.{inputs_with}
+use Rattle.state_trees.proofs.InputsAre.{ready_of, inputs_are, inputs_made}
+use Rattle.state_trees.proofs.Turns.{trees_long}
 use Rattle.calculation.proofs.calculation.build_intra.Goals as goal
 
 pub area_inputs-requires : goal.area_inputs-requires

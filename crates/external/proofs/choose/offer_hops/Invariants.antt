@@ -1,7 +1,7 @@
 use Rattle.std.proofs.Common.{drop, Option}
 use Rattle.ospf_types.specs.declared.hop.Path.{Path}
 use Rattle.ospf_types.specs.External.{ExternalPreference}
-use Rattle.intra.specs.Choices.{Chosen}
+use Rattle.path_choice.specs.Choices.{Chosen}
 use Rattle.external.specs.Choosing.{TakesPaths, PathsOffer}
 use Rattle.external.proofs.choose.offer_hops.Given as goal
 

@@ -1,5 +1,5 @@
 use Rattle.std.specs.FinMap as map
-use Rattle.intra.proofs.Taking.{takes_at, takes_past}
+use Rattle.path_choice.proofs.Taking.{takes_at, takes_past}
 use Rattle.external.specs.Choosing.{KeyOffers}
 use Rattle.external.proofs.choose.offer_keys.Goals as goal
 

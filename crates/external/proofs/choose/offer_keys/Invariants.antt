@@ -2,8 +2,8 @@ use Rattle.std.proofs.Common.{drop, Option}
 use Rattle.std.specs.FinMap as map
 use Rattle.ospf_types.specs.declared.hop.Path.{Path}
 use Rattle.ospf_types.specs.External.{ExternalPreference}
-use Rattle.intra.specs.Choices.{Chosen}
-use Rattle.intra.specs.Takes.{OfferedBySome}
+use Rattle.path_choice.specs.Choices.{Chosen}
+use Rattle.path_choice.specs.Takes.{OfferedBySome}
 use Rattle.external.specs.Choosing.{TakesPaths, KeyOffers}
 use Rattle.external.proofs.choose.offer_keys.Given as goal
 

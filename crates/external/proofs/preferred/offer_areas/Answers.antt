@@ -1,6 +1,6 @@
 use Rattle.std.proofs.Common.{◌≡◌, ◌+◌, ℕ, List, drop, ap, sym, subst}
-use Rattle.intra.specs.Takes.{OfferedBySome}
-use Rattle.intra.proofs.Taking.{takes_at, takes_past}
+use Rattle.path_choice.specs.Takes.{OfferedBySome}
+use Rattle.path_choice.proofs.Taking.{takes_at, takes_past}
 use Rattle.external.specs.Choosing.{TakesHops}
 use Rattle.external.specs.Inputs.{ExternalInputsValue}
 use Rattle.external.specs.Preferred.{ReachedOffers}

@@ -1,8 +1,8 @@
 use Rattle.std.proofs.Common.{drop, Option}
 use Rattle.ospf_types.specs.declared.hop.NextHop.{NextHop}
 use Rattle.ospf_types.specs.Boundary.{Preference}
-use Rattle.intra.specs.Choices.{Chosen}
-use Rattle.intra.specs.Takes.{OfferedBySome}
+use Rattle.path_choice.specs.Choices.{Chosen}
+use Rattle.path_choice.specs.Takes.{OfferedBySome}
 use Rattle.external.specs.Choosing.{TakesHops}
 use Rattle.external.specs.Preferred.{ReachedOffers}
 use Rattle.external.proofs.preferred.offer_areas.Given as goal

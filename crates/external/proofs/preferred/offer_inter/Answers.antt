@@ -1,7 +1,7 @@
 use Rattle.std.proofs.Common.{List, subst}
 use Rattle.std.proofs.lemmas.Result.{on_ok_weaker}
 use Rattle.ospf_types.specs.declared.hop.Path.{Path}
-use Rattle.intra.specs.Takes.{OnlyOffer, OfferedBySome}
+use Rattle.path_choice.specs.Takes.{OnlyOffer, OfferedBySome}
 use Rattle.external.specs.Choosing.{TakesHops}
 use Rattle.external.proofs.PreferredOffers.{takes_entry, takes_no_area}
 use Rattle.external.proofs.preferred.offer_inter.Goals as goal

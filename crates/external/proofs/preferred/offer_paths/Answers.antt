@@ -1,6 +1,6 @@
 use Rattle.ospf_types.specs.declared.hop.Path.{Path}
-use Rattle.intra.specs.Takes.{OnlyOffer}
-use Rattle.intra.proofs.Taking.{takes_at, takes_past}
+use Rattle.path_choice.specs.Takes.{OnlyOffer}
+use Rattle.path_choice.proofs.Taking.{takes_at, takes_past}
 use Rattle.external.proofs.preferred.offer_paths.Goals as goal
 
 pub loop-path-preserved : goal.loop-path-preserved

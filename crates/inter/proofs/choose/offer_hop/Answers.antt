@@ -3,7 +3,7 @@ use Rattle.std.specs.Ordering.{nat_cmp}
 use Rattle.ospf_types.specs.Inter.{through}
 use Rattle.ospf_types.specs.declared.hop.Path.{Path}
 use Rattle.ospf_types.proofs.Paths.{path_cmp_is}
-use Rattle.intra.specs.Takes.{Takes, OnlyOffer}
+use Rattle.path_choice.specs.Takes.{Takes, OnlyOffer}
 use Rattle.inter.proofs.choose.offer_hop.Goals as goal
 
 pub returns : goal.returns

@@ -1,7 +1,7 @@
 use Rattle.ospf_types.specs.declared.hop.NextHop.{NextHop}
 use Rattle.ospf_types.specs.Inter.{through}
-use Rattle.intra.specs.Takes.{OnlyOffer}
-use Rattle.intra.proofs.Taking.{takes_at, takes_past}
+use Rattle.path_choice.specs.Takes.{OnlyOffer}
+use Rattle.path_choice.proofs.Taking.{takes_at, takes_past}
 use Rattle.inter.proofs.choose.offer_hops.Goals as goal
 
 pub loop-hop-preserved : goal.loop-hop-preserved

@@ -1,6 +1,6 @@
 use Rattle.std.proofs.Common.{ℕ, drop, Option}
 use Rattle.ospf_types.specs.declared.hop.Path.{Path}
-use Rattle.intra.specs.Choices.{Chosen}
+use Rattle.path_choice.specs.Choices.{Chosen}
 use Rattle.inter.specs.Choosing.{TakesPaths, HopsOffer}
 use Rattle.inter.proofs.choose.offer_hops.Given as goal
 

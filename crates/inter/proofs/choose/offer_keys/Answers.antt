@@ -1,4 +1,4 @@
-use Rattle.intra.proofs.Taking.{takes_at, takes_past}
+use Rattle.path_choice.proofs.Taking.{takes_at, takes_past}
 use Rattle.inter.specs.Choosing.{KeyOffers}
 use Rattle.inter.proofs.choose.offer_keys.Goals as goal
 

@@ -1,7 +1,7 @@
 use Rattle.std.proofs.Common.{◌<◌, take}
 use Rattle.std.specs.Prelude.{IfSome}
 use Rattle.ospf_types.specs.declared.prefix.Prefix.{Prefix}
-use Rattle.spf.specs.Parts.{most_distance}
+use Rattle.spf.specs.Maps.{most_distance}
 use Rattle.intra.specs.Choosing.{AmongSources, FindsNearest}
 use Rattle.intra.proofs.choose.nearest.Given as goal
 

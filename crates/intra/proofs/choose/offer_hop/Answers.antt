@@ -2,7 +2,7 @@ use Rattle.std.proofs.Common.{OnOk, Ordering, subst}
 use Rattle.ospf_types.specs.Intra.{area_cost_cmp, inside_area}
 use Rattle.ospf_types.specs.declared.hop.Path.{Path}
 use Rattle.ospf_types.proofs.Paths.{path_cmp_is}
-use Rattle.intra.specs.Takes.{Takes, OnlyOffer}
+use Rattle.path_choice.specs.Takes.{Takes, OnlyOffer}
 use Rattle.intra.proofs.choose.offer_hop.Goals as goal
 
 pub returns : goal.returns

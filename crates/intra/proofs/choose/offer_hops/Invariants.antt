@@ -1,7 +1,7 @@
 use Rattle.std.proofs.Common.{drop, Option}
 use Rattle.ospf_types.specs.declared.hop.Path.{Path}
 use Rattle.ospf_types.specs.Intra.{AreaCost}
-use Rattle.intra.specs.Choices.{Chosen}
+use Rattle.path_choice.specs.Choices.{Chosen}
 use Rattle.intra.specs.Choosing.{TakesPaths, HopsOffer}
 use Rattle.intra.proofs.choose.offer_hops.Given as goal
 

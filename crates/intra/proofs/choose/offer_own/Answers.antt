@@ -1,5 +1,5 @@
 use Rattle.intra.specs.Choosing.{InterfaceOffers}
-use Rattle.intra.proofs.Taking.{takes_at, takes_past}
+use Rattle.path_choice.proofs.Taking.{takes_at, takes_past}
 use Rattle.intra.proofs.choose.offer_own.Goals as goal
 
 pub loop-id-preserved : goal.loop-id-preserved

@@ -1,7 +1,7 @@
 use Rattle.intra.specs.declared.area_index.Source.{Source}
 use Rattle.intra.specs.Choosing.{ThisSource, KeyedStubs}
 use Rattle.intra.proofs.Sourced.{takes_sources}
-use Rattle.intra.proofs.Taking.{takes_at, takes_past}
+use Rattle.path_choice.proofs.Taking.{takes_at, takes_past}
 use Rattle.intra.proofs.choose.offer_stubs.Goals as goal
 
 pub loop-source-preserved : goal.loop-source-preserved

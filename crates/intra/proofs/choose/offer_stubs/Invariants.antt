@@ -1,9 +1,9 @@
 use Rattle.std.proofs.Common.{drop, Option}
 use Rattle.ospf_types.specs.declared.hop.Path.{Path}
 use Rattle.ospf_types.specs.Intra.{AreaCost}
-use Rattle.intra.specs.Choices.{Chosen}
+use Rattle.path_choice.specs.Choices.{Chosen}
 use Rattle.intra.specs.Choosing.{TakesPaths, ThisSource, KeyedStubs}
-use Rattle.intra.specs.Takes.{OfferedBySome}
+use Rattle.path_choice.specs.Takes.{OfferedBySome}
 use Rattle.intra.proofs.choose.offer_stubs.Given as goal
 
 -- who takes the offers of the sources that are left has taken them all

@@ -1,7 +1,7 @@
 -- The one area's tree is that of its database.
 use Rattle.std.proofs.Common.{[], ◌∷◌, sym, subst}
 use Rattle.ospf_types.proofs.InOrder.{only_item}
-use Rattle.vertex_graph.specs.declared.link.Up.{Up}
+use Rattle.vertex_graph.specs.Up.{Up}
 use Rattle.area_trees.specs.Areas.{IsAreaTree}
 use Rattle.intra.specs.Inputs.{AreaValue}
 use Rattle.route_trials.proofs.backbone.inside.Goals as goal

@@ -2,8 +2,8 @@ use Rattle.std.proofs.Common.{◌∙◌, List, refl, sym, ap, subst, length, tak
 use Rattle.std.specs.Prelude.{is_some}
 use Rattle.std.specs.FinMap.{get}
 use Rattle.ospf_types.specs.declared.entry.Vertex.{Vertex}
-use Rattle.spf.specs.declared.touched.Touched.{Touched}
-use Rattle.spf.specs.Parts.{HopMap}
+use Rattle.tree_parts.specs.declared.touched.Touched.{Touched}
+use Rattle.tree_parts.specs.Maps.{HopMap}
 use Rattle.spf.specs.HandedOn.{AreBlanked}
 use Rattle.spf.proofs.Blanks.{not_written, blanked_start, blanked_skip, blanked_more, blanked_end}
 use Rattle.spf.proofs.handing.blank.Goals as goal

@@ -1,9 +1,9 @@
 use Rattle.std.proofs.Common.{◌≡◌, ◌∙◌, ◌-◌, ℕ, List, sym, ap, subst, arith}
 use Rattle.std.specs.FinMap.{get}
 use Rattle.ospf_types.specs.declared.entry.Vertex.{Vertex}
+use Rattle.tree_parts.specs.declared.touched.Touched.{Touched}
 use Rattle.spf.specs.HandedOn.{AreBlanked}
 use Rattle.spf.specs.Parts.{AreSettled, hops_of}
-use Rattle.spf.specs.declared.touched.Touched.{Touched}
 use Rattle.spf.proofs.OptionCases.{of_absent}
 use Rattle.spf.proofs.HandingRounds.{put_named, amidst_start, not_written_yet, amidst_round, taken_few, taken_fewer, amidst_end}
 use Rattle.spf.proofs.handing.hand.Goals as goal

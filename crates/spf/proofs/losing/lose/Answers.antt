@@ -1,7 +1,7 @@
 use Rattle.std.proofs.Common.{ℕ, List, [], sym, subst, ◌∙◌}
 use Rattle.std.specs.FinMap.{get}
 use Rattle.ospf_types.specs.declared.entry.Vertex.{Vertex}
-use Rattle.vertex_graph.specs.declared.link.Link.{Link}
+use Rattle.vertex_graph.specs.Link.{Link}
 use Rattle.spf.specs.Suspects.{WasLeast, IsHead, AreToldOf, AreSuspected}
 use Rattle.spf.proofs.Suspecting.{suspected_at_start, suspected_next, suspects_fall, lost_at_end}
 use Rattle.spf.proofs.losing.lose.Goals as goal

@@ -2,7 +2,7 @@ use Rattle.std.proofs.Common.{◌≡◌, ◌+◌, [], ◌∷◌, ◌++◌, lengt
 use Rattle.std.specs.FinMap.{len}
 use Rattle.std.proofs.lemmas.List.{length_push}
 use Rattle.std.proofs.lemmas.List.Elements.{Contains-get_or}
-use Rattle.vertex_graph.specs.declared.link.Link.{Link}
+use Rattle.vertex_graph.specs.Link.{Link}
 use Rattle.spf.proofs.GraphVertices.{fits}
 use Rattle.spf.proofs.Nearest.{AreSought, sought_at_start, sought_more, moved_added, neared_at_end, moved_most, taken_right, fewer_left}
 use Rattle.spf.proofs.nearing.near.Goals as goal

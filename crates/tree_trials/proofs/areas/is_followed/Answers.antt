@@ -1,5 +1,5 @@
 use Rattle.std.proofs.Common.{List, [], ◌∷◌}
-use Rattle.vertex_graph.specs.declared.link.Up.{Up}
+use Rattle.vertex_graph.specs.Up.{Up}
 use Rattle.tree_trials.proofs.areas.is_followed.Goals as goal
 
 pub follows-requires-clause-tree : goal.follows-requires-clause-tree

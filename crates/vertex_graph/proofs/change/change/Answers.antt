@@ -1,7 +1,7 @@
 use Rattle.std.proofs.Common.{List, subst}
 use Rattle.ospf_types.specs.declared.entry.Vertex.{Vertex}
-use Rattle.vertex_graph.specs.Sides.{StagedList, ends_after, LinksBy, AreFresh, AreMissing}
-use Rattle.vertex_graph.proofs.Placing.{placed_changed}
+use Rattle.graph_links.specs.Sides.{StagedList, ends_after, LinksBy, AreFresh, AreMissing}
+use Rattle.graph_links.proofs.Placing.{placed_changed}
 use Rattle.vertex_graph.proofs.change.change.Goals as goal
 
 pub returns-clause-changed : goal.returns-clause-changed

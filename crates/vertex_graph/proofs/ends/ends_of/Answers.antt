@@ -2,8 +2,9 @@ use Rattle.std.proofs.Common.{ap, ◌∙◌, List, map, Vec, Global}
 use Rattle.std.specs.List.{filter_map}
 use Rattle.ospf_types.specs.declared.entry.Vertex.TheVariants.{Router, Network}
 use Rattle.lsa_codec.specs.Readers.{links_of, routers_of}
-use Rattle.vertex_graph.specs.declared.end.End.{End}
-use Rattle.vertex_graph.specs.Ends.{end_of, listed_end}
+use Rattle.graph_links.specs.declared.end.End.{End}
+use Rattle.graph_links.specs.EndOrder.{listed_end}
+use Rattle.vertex_graph.specs.Ends.{end_of}
 use Rattle.vertex_graph.proofs.Gathered.{HasAll, router_has, network_has, has_all_of_eq, gathered}
 use Rattle.vertex_graph.proofs.ends.ends_of.Goals as goal
 use Rattle.vertex_graph.proofs.ends.ends_of.Goals.{in-Router+in_ok-ends-in-Router, in-Network+in_ok-ends-in-Network}

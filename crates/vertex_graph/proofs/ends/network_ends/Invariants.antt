@@ -1,5 +1,5 @@
 use Rattle.std.proofs.Common.{◌≡◌, ◌++◌, map}
-use Rattle.vertex_graph.specs.Ends.{listed_end}
+use Rattle.graph_links.specs.EndOrder.{listed_end}
 use Rattle.vertex_graph.proofs.ends.network_ends.Given as goal
 
 abbrev pub invariant-loop-router : goal.invariant-loop-router

@@ -1,5 +1,5 @@
 use Rattle.std.proofs.Common.{sym, ◌∙◌}
-use Rattle.vertex_graph.proofs.Linking.{searched}
+use Rattle.graph_links.proofs.Linking.{searched}
 use Rattle.vertex_graph.proofs.staging.has_end.Goals as goal
 
 pub returns : goal.returns

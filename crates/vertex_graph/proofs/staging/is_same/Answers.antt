@@ -1,6 +1,6 @@
 use Rattle.std.proofs.Common.{Bor, List, Some, sym, ap, ◌∙◌}
 use Rattle.std.specs.Prelude.{option_map}
-use Rattle.vertex_graph.specs.declared.end.End.{End}
+use Rattle.graph_links.specs.declared.end.End.{End}
 use Rattle.vertex_graph.proofs.Handing.{same_ends}
 use Rattle.vertex_graph.proofs.staging.is_same.Goals as goal
 

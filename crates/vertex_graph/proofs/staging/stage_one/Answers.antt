@@ -1,8 +1,8 @@
 use Rattle.std.proofs.Common.{◌≡◌, ap, ◌∙◌}
 use Rattle.std.specs.Prelude.{option_map}
 use Rattle.std.specs.Global.{Vec}
-use Rattle.vertex_graph.specs.declared.end.End.{End}
-use Rattle.vertex_graph.specs.Sides.{row_ends, ends_or}
+use Rattle.graph_links.specs.declared.end.End.{End}
+use Rattle.graph_links.specs.Sides.{row_ends, ends_or}
 use Rattle.vertex_graph.proofs.Handing.{staged_by, touched_more, touches_as}
 use Rattle.vertex_graph.proofs.staging.stage_one.Goals as goal
 

@@ -1,6 +1,6 @@
 use Rattle.std.proofs.Common.{ap, ◌∙◌}
 use Rattle.ospf_types.specs.declared.entry.Vertex.TheVariants.{Router}
-use Rattle.vertex_graph.specs.Sides.{row_ends, ends_or}
+use Rattle.graph_links.specs.Sides.{row_ends, ends_or}
 use Rattle.vertex_graph.proofs.Handing.{named_touched}
 use Rattle.vertex_graph.proofs.staging.stage_root.Goals as goal
 

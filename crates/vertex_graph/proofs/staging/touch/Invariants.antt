@@ -1,5 +1,5 @@
 use Rattle.std.proofs.Common.{take}
-use Rattle.vertex_graph.specs.Sides.{IsWithin, TouchesOthers}
+use Rattle.vertex_graph.specs.Stagings.{IsWithin, TouchesOthers}
 use Rattle.vertex_graph.proofs.staging.touch.Given as goal
 
 abbrev pub invariant-loop-end : goal.invariant-loop-end

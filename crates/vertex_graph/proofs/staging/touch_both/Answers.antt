@@ -1,4 +1,4 @@
-use Rattle.vertex_graph.proofs.VertexTests.{inserted_own}
+use Rattle.graph_links.proofs.VertexTests.{inserted_own}
 use Rattle.vertex_graph.proofs.Handing.{touches_within}
 use Rattle.vertex_graph.proofs.staging.touch_both.Goals as goal
 

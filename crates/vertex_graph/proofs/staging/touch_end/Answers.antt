@@ -1,5 +1,5 @@
 use Rattle.std.proofs.Common.{inr}
-use Rattle.vertex_graph.proofs.VertexTests.{inserted_own}
+use Rattle.graph_links.proofs.VertexTests.{inserted_own}
 use Rattle.vertex_graph.proofs.staging.touch_end.Goals as goal
 
 pub returns-clause-other : goal.returns-clause-other

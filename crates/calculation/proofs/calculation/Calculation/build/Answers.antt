@@ -6,8 +6,8 @@ use Rattle.intra.specs.Intras.{IsIntraOf}
 use Rattle.summaries.specs.Active.{AreRangesOf}
 use Rattle.summaries.specs.Right.{AreConfigured}
 use Rattle.event_state.specs.States.{inputs_of}
-use Rattle.calculation.specs.Calculations.{inputs_with}
-use Rattle.calculation.proofs.Above.{configured}
+use Rattle.state_trees.specs.Trees.{inputs_with}
+use Rattle.route_layers.proofs.Above.{configured}
 use Rattle.calculation.proofs.calculation.Calculation.build.Goals as goal
 
 pub build_inter-requires-clause-ranged : goal.build_inter-requires-clause-ranged

@@ -2,7 +2,7 @@ use Rattle.std.proofs.Common.{sym, subst}
 use Rattle.std.proofs.lemmas.Result.{IfOk-weaker}
 use Rattle.dues.specs.Dues.{AreDuesOf}
 use Rattle.dues.specs.Inputs.{DueInputsValue}
-use Rattle.calculation.specs.Due.{AreActive}
+use Rattle.route_layers.specs.Layers.{AreActive}
 use Rattle.calculation.proofs.calculation.Calculation.dues.Goals as goal
 
 -- what is calculated from has the active areas

@@ -4,9 +4,10 @@ use Rattle.ospf_types.specs.declared.key.Scope.{Scope}
 use Rattle.area_trees.specs.Areas.{AreaTreeValue}
 use Rattle.intra.specs.Changes.{InputsDifferAmong}
 use Rattle.event_state.proofs.InPlace.{items_of_slice}
-use Rattle.calculation.specs.Calculations.{CalculationValue, IsCalculationOf, IsItemOf, inputs_with, AreTreesOf, StatesDifferAmong}
+use Rattle.calculation.specs.Calculations.{CalculationValue, IsCalculationOf, IsItemOf}
+use Rattle.state_trees.specs.Trees.{inputs_with, AreTreesOf, StatesDifferAmong}
 use Rattle.calculation.specs.Due.{RoutesDifferAmong}
-use Rattle.calculation.proofs.Followed.{followed_long, followed_trees, followed_inputs, followed_work}
+use Rattle.state_trees.proofs.Followed.{followed_long, followed_trees, followed_inputs, followed_work}
 use Rattle.calculation.proofs.calculation.Calculation.follow.Goals as goal
 
 pub follow_trees-requires-clause-before : goal.follow_trees-requires-clause-before

@@ -11,10 +11,11 @@ use Rattle.intra.specs.Intras.{IsIntraOf}
 use Rattle.summaries.specs.Active.{AreRangesOf, EntriesDifferAmong}
 use Rattle.summaries.specs.Right.{AreConfigured}
 use Rattle.event_state.specs.States.{inputs_of}
-use Rattle.calculation.specs.Calculations.{CalculationValue, AreItemsKept, AreTreesOf, inputs_with}
+use Rattle.calculation.specs.Calculations.{CalculationValue, AreItemsKept}
+use Rattle.state_trees.specs.Trees.{AreTreesOf, inputs_with}
 use Rattle.calculation.specs.Due.{RoutesDifferAmong}
 use Rattle.calculation.specs.Followed.{AreLayersBehind, routers_in}
-use Rattle.calculation.proofs.Above.{configured}
+use Rattle.route_layers.proofs.Above.{configured}
 use Rattle.calculation.proofs.Following.{ranges_before, inter_before, external_before, items_kept, routes_kept}
 use Rattle.calculation.proofs.calculation.Calculation.follow_layers.Goals as goal
 

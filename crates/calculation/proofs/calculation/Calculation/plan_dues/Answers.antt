@@ -4,7 +4,8 @@ use Rattle.ospf_types.specs.declared.key.Dest.{Dest}
 use Rattle.dues.specs.Changes.{InputsDifferAmong}
 use Rattle.dues.specs.Dues.{DuesValue, AreDuesOf}
 use Rattle.dues.specs.Inputs.{DueInputsValue}
-use Rattle.calculation.specs.Due.{AreDuesFor, AreActive, due_inputs}
+use Rattle.calculation.specs.Due.{AreDuesFor, due_inputs}
+use Rattle.route_layers.specs.Layers.{AreActive}
 use Rattle.calculation.proofs.Due.{due_before}
 use Rattle.calculation.proofs.calculation.Calculation.plan_dues.Goals as goal
 

@@ -3,7 +3,7 @@ use Rattle.std.specs.Prelude.{Result}
 use Rattle.std.proofs.lemmas.Result.{on_ok_weaker, on_err_weaker}
 use Rattle.ospf_types.specs.declared.memory.Memory.{Memory}
 use Rattle.event_state.specs.States.{State}
-use Rattle.calculation.specs.Calculations.{StatesDifferAmong}
+use Rattle.calculation.specs.Trees.{StatesDifferAmong}
 use Rattle.event_core.specs.declared.core_state.Core.TheInside.{Inside}
 use Rattle.event_core.specs.declared.reply.Reply.{Reply}
 use Rattle.event_core.specs.declared.reply.Standing.{Standing}

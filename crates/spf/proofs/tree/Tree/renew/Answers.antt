@@ -1,7 +1,7 @@
 use Rattle.std.proofs.Common.{List, sym, ap, subst}
 use Rattle.std.specs.FinMap.{get}
 use Rattle.ospf_types.specs.declared.entry.Vertex.{Vertex}
-use Rattle.vertex_graph.specs.declared.link.Link.{Link}
+use Rattle.vertex_graph.specs.Link.{Link}
 use Rattle.spf.specs.Parts.{AreUnsettled, hops_of}
 use Rattle.spf.specs.TreeValues.{TreeValue, IsBegun, IsRenewed}
 use Rattle.spf.proofs.Finished.{renewed}

@@ -1,5 +1,5 @@
 use Rattle.std.proofs.Common.{List, refl, sym, subst}
-use Rattle.vertex_graph.specs.declared.link.Link.{Link}
+use Rattle.vertex_graph.specs.Link.{Link}
 use Rattle.spf.specs.contracts.tree.Tree.{the_view}
 use Rattle.spf.specs.TreeValues.{TreeValue, IsTreeBefore, IsBegun}
 use Rattle.spf.proofs.Finished.{begun, renewed_at, listed_tree, listed_work, changed_list}

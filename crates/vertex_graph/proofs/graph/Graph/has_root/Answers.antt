@@ -1,10 +1,10 @@
 use Rattle.std.proofs.Common.{sym, ap, subst, ◌∙◌}
 use Rattle.std.specs.Prelude.{◌↔◌, IsTrue, is_some}
 use Rattle.ospf_types.specs.declared.entry.Vertex.TheVariants.{Router}
-use Rattle.vertex_graph.specs.declared.row.Row.{Row}
+use Rattle.graph_links.specs.declared.row.Row.{Row}
 use Rattle.vertex_graph.specs.Graphs.{GraphValue, HasRoot}
 use Rattle.vertex_graph.specs.Rows.{graph_of}
-use Rattle.vertex_graph.proofs.VertexTests.{found}
+use Rattle.graph_links.proofs.VertexTests.{found}
 use Rattle.vertex_graph.proofs.Changed.{get_graph, root_there, same_some}
 use Rattle.vertex_graph.proofs.graph.Graph.has_root.Goals as goal
 

@@ -3,7 +3,7 @@ use Rattle.std.specs.FinMap.{len}
 use Rattle.std.specs.List.{IsDistinct}
 use Rattle.std.specs.Map.{keys_of}
 use Rattle.vertex_graph.specs.Graphs.{GraphValue}
-use Rattle.vertex_graph.proofs.VertexTests.{equals_all}
+use Rattle.graph_links.proofs.VertexTests.{equals_all}
 use Rattle.vertex_graph.proofs.Changed.{len_graph}
 use Rattle.vertex_graph.proofs.graph.Graph.len.Goals as goal
 

@@ -1,10 +1,11 @@
 use Rattle.std.proofs.Common.{List, [], sym, ap, subst, ◌∙◌}
 use Rattle.std.specs.Prelude.{option_map}
-use Rattle.vertex_graph.specs.declared.link.Link.{Link}
-use Rattle.vertex_graph.specs.declared.row.Row.{Row}
-use Rattle.vertex_graph.specs.Graphs.{GraphValue, AreLinksTo, AreCheap}
+use Rattle.graph_links.specs.declared.link.Link.{Link}
+use Rattle.graph_links.specs.declared.row.Row.{Row}
+use Rattle.vertex_graph.specs.Graphs.{GraphValue, AreLinksTo}
+use Rattle.graph_links.specs.Pairs.{AreCheap}
 use Rattle.vertex_graph.specs.Rows.{graph_of}
-use Rattle.vertex_graph.proofs.VertexTests.{found}
+use Rattle.graph_links.proofs.VertexTests.{found}
 use Rattle.vertex_graph.proofs.Changed.{get_graph, no_links_to}
 use Rattle.vertex_graph.proofs.graph.Graph.links_to.Goals as goal
 

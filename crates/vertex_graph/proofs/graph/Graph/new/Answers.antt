@@ -1,7 +1,7 @@
 use Rattle.std.proofs.Common.{List, sym, subst}
-use Rattle.vertex_graph.specs.declared.link.Up.{Up}
+use Rattle.graph_links.specs.declared.link.Up.{Up}
 use Rattle.vertex_graph.specs.Rows.{AreRows}
-use Rattle.vertex_graph.specs.Sides.{RowList}
+use Rattle.graph_links.specs.Sides.{RowList}
 use Rattle.vertex_graph.proofs.Changed.{no_rows}
 use Rattle.vertex_graph.proofs.graph.Graph.new.Goals as goal
 

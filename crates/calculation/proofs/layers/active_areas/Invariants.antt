@@ -1,6 +1,0 @@
-use Rattle.std.proofs.Common.{take}
-use Rattle.calculation.specs.Due.{AreActiveIn}
-use Rattle.calculation.proofs.layers.active_areas.Given as goal
-
-abbrev pub invariant-loop-area : goal.invariant-loop-area
-invariant-loop-area l = AreActiveIn l.state (take l.area-index l.state.config.areas) l.active.items

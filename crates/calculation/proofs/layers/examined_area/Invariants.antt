@@ -1,6 +1,0 @@
-use Rattle.std.proofs.Common.{take}
-use Rattle.calculation.proofs.Examining.{IsFoundIn}
-use Rattle.calculation.proofs.layers.examined_area.Given as goal
-
-abbrev pub invariant-loop-area : goal.invariant-loop-area
-invariant-loop-area l = IsFoundIn l.state (take l.area-index l.state.config.areas) l.active

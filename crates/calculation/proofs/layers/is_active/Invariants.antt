@@ -1,6 +1,0 @@
-use Rattle.std.specs.FinMap.{entries}
-use Rattle.calculation.proofs.Examining.{IsLeft}
-use Rattle.calculation.proofs.layers.is_active.Given as goal
-
-abbrev pub invariant-loop-interface : goal.invariant-loop-interface
-invariant-loop-interface l = IsLeft (entries l.state.interfaces) l.interface-iterator l.area

@@ -1,0 +1,185 @@
+-- The ends at a vertex stand together in a list of ends in order.
+use Rattle.std.proofs.Common.{◌≡◌, ◌≢◌, ℕ, ◌+◌, ◌-◌, ◌<◌, ◌≤◌, Bool, true, false, List, length, get_or, drop, refl, sym, ap, subst, ◌∙◌, ◌⊎◌, inl, inr, ⊎_elim, Ordering, arith}
+use Rattle.std.specs.Prelude.{◌↔◌}
+use Rattle.std.specs.declared.cmp.Ordering.TheVariants.{Less, Equal, Greater}
+use Rattle.std.specs.List.{Contains, slice_range}
+use Rattle.std.specs.List.Sorted.{IsStrictlySortedBy, IsPartitionPoint, IsPartitionedBy}
+use Rattle.std.specs.Ordering.{nat_cmp, ordering_then, is_lt, is_le}
+use Rattle.std.proofs.lemmas.Bool.{cases_lt}
+use Rattle.std.proofs.lemmas.Cmp.{tied_itself}
+use Rattle.std.proofs.lemmas.List.{get_or-take, get_or-drop, get_or_default, length-take-le, length-drop}
+use Rattle.std.proofs.lemmas.Map.Keys.{Less-from_sorted, sorted_from_all_adjacent}
+use Rattle.ospf_types.specs.declared.entry.Vertex.{Vertex}
+use Rattle.ospf_types.specs.Vertices.{vertex_cmp}
+use Rattle.graph_links.specs.declared.end.End.{End}
+use Rattle.graph_links.specs.EndOrder.{end_cmp, listed_end}
+use Rattle.graph_links.specs.Pairs.{Names}
+use Rattle.graph_links.proofs.EndOrders.{vertex_total, vertex_exact, end_total}
+
+-- an end that stands before another is not at a greater vertex
+before : (a b : End) → end_cmp a b ≡ Less → (vertex_cmp a.to b.to ≡ Less) ⊎ (a.to ≡ b.to)
+before a b less =
+    elim (vertex_cmp a.to b.to) as (λ o. vertex_cmp a.to b.to ≡ o → ordering_then o (ordering_then (nat_cmp a.detail b.detail) (nat_cmp a.metric b.metric)) ≡ Less → (vertex_cmp a.to b.to ≡ Less) ⊎ (a.to ≡ b.to)) [
+      | Less ↦ λ e h. inl e
+      | Equal ↦ λ e h. inr (vertex_exact a.to b.to e)
+      | Greater ↦ λ e h. absurd cc
+    ] refl less
+
+less_of : (o : Ordering) → is_lt o ≡ true → o ≡ Less
+less_of Less h = refl
+less_of Equal h = absurd cc
+less_of Greater h = absurd cc
+
+not_less_of : (o : Ordering) → is_lt o ≡ false → o ≢ Less
+not_less_of Less h e = absurd cc
+not_less_of Equal h e = absurd cc
+not_less_of Greater h e = absurd cc
+
+not_greater_of : (o : Ordering) → is_le o ≡ true → o ≢ Greater
+not_greater_of Less h e = absurd cc
+not_greater_of Equal h e = absurd cc
+not_greater_of Greater h e = absurd cc
+
+greater_of : (o : Ordering) → is_le o ≡ false → o ≡ Greater
+greater_of Less h = absurd cc
+greater_of Equal h = absurd cc
+greater_of Greater h = refl
+
+-- a test that passes on to what stands before cuts the list in two
+parted : (p : End → Bool) → ((a b : End) → end_cmp a b ≡ Less → p b ≡ true → p a ≡ true) → (xs : List End) → IsStrictlySortedBy end_cmp xs → IsPartitionedBy p xs
+parted p earlier xs sorted i j d le below passes =
+    ⊎_elim
+    (λ (lt : i < j). earlier (get_or xs i d) (get_or xs j d) (Less-from_sorted end_cmp xs i j d sorted lt below) passes)
+    (λ (ge : j ≤ i). let same : j ≡ i = omega arith in subst (λ (k : ℕ). p (get_or xs k d) ≡ true) same passes)
+    (cases_lt i j)
+
+module _ (v : Vertex) where
+  -- the end is at a lesser vertex
+  abbrev pub is_below : End → Bool
+  is_below e = is_lt (vertex_cmp e.to v)
+
+  -- the end is at a lesser vertex or at this one
+  abbrev pub is_up_to : End → Bool
+  is_up_to e = is_le (vertex_cmp e.to v)
+
+  below_earlier : (a b : End) → end_cmp a b ≡ Less → is_below b ≡ true → is_below a ≡ true
+  below_earlier a b less below =
+      ⊎_elim
+      (λ (l : vertex_cmp a.to b.to ≡ Less). ap is_lt (vertex_total.trans a.to b.to v l (less_of (vertex_cmp b.to v) below)))
+      (λ (e : a.to ≡ b.to). ap (λ (w : Vertex). is_lt (vertex_cmp w v)) e ∙ below)
+      (before a b less)
+
+  up_to_later : (a b : End) → vertex_cmp a.to b.to ≡ Less → (o : Ordering) → vertex_cmp b.to v ≡ o → is_le o ≡ true → is_up_to a ≡ true
+  up_to_later a b less Less e h = ap is_le (vertex_total.trans a.to b.to v less e)
+  up_to_later a b less Equal e h = ap (λ (w : Vertex). is_le (vertex_cmp a.to w)) (sym (vertex_exact b.to v e)) ∙ ap is_le less
+  up_to_later a b less Greater e h = absurd cc
+
+  up_to_earlier : (a b : End) → end_cmp a b ≡ Less → is_up_to b ≡ true → is_up_to a ≡ true
+  up_to_earlier a b less up_to =
+      ⊎_elim
+      (λ (l : vertex_cmp a.to b.to ≡ Less). up_to_later a b l (vertex_cmp b.to v) refl up_to)
+      (λ (e : a.to ≡ b.to). ap (λ (w : Vertex). is_le (vertex_cmp w v)) e ∙ up_to)
+      (before a b less)
+
+  pub parted_below : (xs : List End) → IsStrictlySortedBy end_cmp xs → IsPartitionedBy is_below xs
+  parted_below xs sorted = parted is_below below_earlier xs sorted
+
+  pub parted_up_to : (xs : List End) → IsStrictlySortedBy end_cmp xs → IsPartitionedBy is_up_to xs
+  parted_up_to xs sorted = parted is_up_to up_to_earlier xs sorted
+
+  -- up to this place the ends are at lesser vertices
+  abbrev pub IsFirst : List End → ℕ → Type 0
+  IsFirst xs i = IsPartitionPoint (λ (e : End). vertex_cmp e.to v ≡ Less) (λ (e : End). vertex_cmp e.to v ≢ Less) xs i
+
+  -- from this place on they are at greater ones
+  abbrev pub IsPast : List End → ℕ → Type 0
+  IsPast xs i = IsPartitionPoint (λ (e : End). vertex_cmp e.to v ≢ Greater) (λ (e : End). vertex_cmp e.to v ≡ Greater) xs i
+
+  pub first_of_tests : (xs : List End) (i : ℕ) → IsPartitionPoint (λ (e : End). is_below e ≡ true) (λ (e : End). is_below e ≡ false) xs i → IsFirst xs i
+  first_of_tests xs i h = (λ k d low high. less_of (vertex_cmp (get_or xs k d).to v) (h.0 k d low high), λ k d low high. not_less_of (vertex_cmp (get_or xs k d).to v) (h.1 k d low high))
+
+  pub past_of_tests : (xs : List End) (i : ℕ) → IsPartitionPoint (λ (e : End). is_up_to e ≡ true) (λ (e : End). is_up_to e ≡ false) xs i → IsPast xs i
+  past_of_tests xs i h = (λ k d low high. not_greater_of (vertex_cmp (get_or xs k d).to v) (h.0 k d low high), λ k d low high. greater_of (vertex_cmp (get_or xs k d).to v) (h.1 k d low high))
+
+  module _ (xs : List End) (first past : ℕ) (within : first ≤ length xs) (short : past ≤ length xs) (low : IsFirst xs first) (high : IsPast xs past) where
+    -- the first place does not come after the last
+    pub ordered : first ≤ past
+    ordered = ⊎_elim
+        (λ (lt : past < first). let less = low.0 past (listed_end 0) (omega arith) lt in let greater = high.1 past (listed_end 0) (omega arith) (omega arith) in absurd cc)
+        (λ (ge : first ≤ past). ge)
+        (cases_lt past first)
+
+    neither : (o : Ordering) → o ≢ Less → o ≢ Greater → o ≡ Equal
+    neither Less l g = absurd (l refl)
+    neither Equal l g = refl
+    neither Greater l g = absurd (g refl)
+
+    -- what stands between the two places
+    between : List End
+    between = slice_range xs first past
+
+    length_between : length (slice_range xs first past) ≡ past - first
+    length_between = let l = length-drop first xs in length-take-le (past - first) (drop first xs) (omega arith)
+
+    get_between : (k : ℕ) (d : End) → k < past - first → get_or (slice_range xs first past) k d ≡ get_or xs (first + k) d
+    get_between k d lt = get_or-take (past - first) (drop first xs) k d lt ∙ get_or-drop first xs k d
+
+    pub between_from : (e : End) → Contains (slice_range xs first past) e → Contains xs e × (e.to ≡ v)
+    between_from e c =
+        let l = length_between in
+        let lt : c.0 < past - first = omega (arith, c.1) in
+        let at : get_or xs (first + c.0) e ≡ e = sym (get_between c.0 e lt) ∙ c.2 in
+        let here : vertex_cmp (get_or xs (first + c.0) e).to v ≡ Equal = neither (vertex_cmp (get_or xs (first + c.0) e).to v) (low.1 (first + c.0) e (omega arith) (omega arith)) (high.0 (first + c.0) e (omega arith) (omega arith)) in
+        ((first + c.0, omega arith, at), sym (ap (λ (x : End). x.to) at) ∙ vertex_exact (get_or xs (first + c.0) e).to v here)
+
+    pub from_between : (e : End) → Contains xs e → e.to ≡ v → Contains (slice_range xs first past) e
+    from_between e c at =
+        let l = length_between in
+        let tie : vertex_cmp (get_or xs c.0 e).to v ≡ Equal = ap (λ (x : End). vertex_cmp x.to v) c.2 ∙ ap (λ (w : Vertex). vertex_cmp w v) at ∙ tied_itself vertex_total v in
+        let from : first ≤ c.0 = ⊎_elim (λ (lt : c.0 < first). let less = low.0 c.0 e (omega arith) lt in absurd cc) (λ (ge : first ≤ c.0). ge) (cases_lt c.0 first) in
+        let to : c.0 < past = ⊎_elim (λ (lt : c.0 < past). lt) (λ (ge : past ≤ c.0). let greater = high.1 c.0 e ge c.1 in absurd cc) (cases_lt c.0 past) in
+        let k : first + (c.0 - first) ≡ c.0 = omega arith in
+        (c.0 - first, omega arith, get_between (c.0 - first) e (omega arith) ∙ ap (λ (n : ℕ). get_or xs n e) k ∙ c.2)
+
+    -- they are the ends at the vertex
+    pub between_exact : (e : End) → Contains (slice_range xs first past) e ↔ (Contains xs e × (e.to ≡ v))
+    between_exact e = (between_from e, λ h. from_between e h.0 h.1)
+
+    pub between_in_order : IsStrictlySortedBy end_cmp xs → IsStrictlySortedBy end_cmp (slice_range xs first past)
+    between_in_order sorted = sorted_from_all_adjacent end_total (slice_range xs first past) (listed_end 0) (λ k below.
+        let l = length_between in
+        let here = get_between k (listed_end 0) (omega arith) in
+        let next = get_between (k + 1) (listed_end 0) (omega arith) in
+        ap (λ (e : End). end_cmp e (get_or (slice_range xs first past) (k + 1) (listed_end 0))) here
+        ∙ ap (λ (e : End). end_cmp (get_or xs (first + k) (listed_end 0)) e) next
+        ∙ Less-from_sorted end_cmp xs (first + k) (first + (k + 1)) (listed_end 0) sorted (omega arith) (omega arith))
+
+  -- the end at the first place that is not at a lesser vertex is at this one, where any is
+  pub first_at_it : (xs : List End) (first : ℕ) (e : End) → IsStrictlySortedBy end_cmp xs → IsFirst xs first → first < length xs → get_or xs first e ≡ e → Names xs v → e.to ≡ v
+  first_at_it xs first e sorted low within at named =
+      let d : End = named.0 in
+      let k : ℕ = named.1.0 in
+      let below : k < length xs = named.1.1 in
+      let there : get_or xs k e ≡ d = get_or_default xs k e d below ∙ named.1.2 in
+      let tie : vertex_cmp (get_or xs k e).to v ≡ Equal = ap (λ (x : End). vertex_cmp x.to v) there ∙ ap (λ (w : Vertex). vertex_cmp w v) named.2 ∙ tied_itself vertex_total v in
+      ⊎_elim (λ (lt : k < first). let less = low.0 k e (omega arith) lt in absurd cc)
+      (λ (ge : first ≤ k).
+      ⊎_elim (λ (lt : first < k).
+      let less = Less-from_sorted end_cmp xs first k e sorted lt below in
+      ⊎_elim
+      (λ (l : vertex_cmp (get_or xs first e).to (get_or xs k e).to ≡ Less).
+      absurd (low.1 first e (omega arith) within (ap (λ (w : Vertex). vertex_cmp (get_or xs first e).to w) (sym (ap (λ (x : End). x.to) there ∙ named.2)) ∙ l)))
+      (λ (same : (get_or xs first e).to ≡ (get_or xs k e).to). ap (λ (x : End). x.to) (sym at) ∙ same ∙ ap (λ (x : End). x.to) there ∙ named.2)
+      (before (get_or xs first e) (get_or xs k e) less))
+      (λ (le : k ≤ first). let same : k ≡ first = omega arith in ap (λ (x : End). x.to) (sym at ∙ ap (λ (n : ℕ). get_or xs n e) (sym same) ∙ there) ∙ named.2)
+      (cases_lt first k))
+      (cases_lt k first)
+
+  -- and where there is no such place, none is
+  pub none_at_it : (xs : List End) (first : ℕ) → IsFirst xs first → length xs ≤ first → Names xs v → ⊥
+  none_at_it xs first low past named =
+      let d : End = named.0 in
+      let tie : vertex_cmp (get_or xs named.1.0 d).to v ≡ Equal = ap (λ (x : End). vertex_cmp x.to v) named.1.2 ∙ ap (λ (w : Vertex). vertex_cmp w v) named.2 ∙ tied_itself vertex_total v in
+      let below : named.1.0 < length xs = named.1.1 in
+      let less = low.0 named.1.0 d (omega arith) (omega arith) in
+      absurd cc

@@ -1,0 +1,12 @@
+pub mod EndOrders
+pub mod VertexTests
+pub mod AtVertex
+pub mod Adding
+pub mod ByCost
+pub mod Details
+pub mod Growing
+pub mod Keeping
+pub mod Linking
+pub mod Pairing
+pub mod Placing
+pub mod PairAlike

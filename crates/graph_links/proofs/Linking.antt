@@ -1,0 +1,154 @@
+-- The vertices that a vertex leads to, and its links found by way of them.
+use Rattle.std.proofs.Common.{◌≡◌, ◌⊎◌, inl, inr, ⊎_elim, ℕ, ◌+◌, ◌<◌, ◌≤◌, true, List, [], ◌∷◌, length, get_or, take, Ok, Err, Result, Ordering, refl, sym, ap, subst, ◌∙◌}
+use Rattle.std.specs.Prelude.{◌↔◌, Contains, IfOk}
+use Rattle.std.specs.List.{HoldsAt}
+use Rattle.std.specs.List.Sorted.{IsSearchInRange}
+use Rattle.std.specs.Result.{is_ok}
+use Rattle.std.specs.declared.cmp.Ordering.TheVariants.{Equal}
+use Rattle.std.proofs.lemmas.List.{take_all}
+use Rattle.ospf_types.specs.declared.entry.Vertex.{Vertex}
+use Rattle.ospf_types.specs.declared.label.Label.{Label}
+use Rattle.ospf_types.specs.Distances.{Links}
+use Rattle.ospf_types.proofs.Elements.{no_element}
+use Rattle.graph_links.specs.declared.end.End.{End}
+use Rattle.graph_links.specs.declared.link.Link.{Link}
+use Rattle.graph_links.specs.declared.link.Up.{Up}
+use Rattle.graph_links.specs.contracts.end.EndOrd.TheImpl as end_order
+use Rattle.graph_links.specs.Pairs.{Names, IsPairLink}
+use Rattle.graph_links.specs.Sides.{Leading, LinksBy, ends_or, AreOut, AreInto, AreMissing, IsOutTo, IsIntoFrom, IsMissingTo, IsMissing}
+use Rattle.graph_links.proofs.EndOrders.{end_exact, end_cmp_is}
+use Rattle.graph_links.proofs.Growing.{IsGrown, more_at, front}
+use Rattle.graph_links.proofs.PairAlike.{pair_names, pair_named}
+
+-- ---- the vertices that ends are at
+
+pub names_none : (found : List Vertex) → found ≡ [] → (v : Vertex) → Contains found v ↔ Names [] v
+names_none found none v = (
+  λ c. absurd (no_element v (subst (λ (vs : List Vertex). Contains vs v) none c)),
+  λ named. absurd (no_element named.0 named.1),
+)
+
+pub names_more : (ends : List End) (i : ℕ) (d : End) (found found_new : List Vertex) → i < length ends → ((v : Vertex) → Contains found v ↔ Names (take i ends) v)
+    → ((v : Vertex) → Contains found_new v ↔ (Contains found v ⊎ (v ≡ (get_or ends i d).to))) → (v : Vertex) → Contains found_new v ↔ Names (take (i + 1) ends) v
+names_more ends i d found found_new within before one v =
+    let all = more_at ends i d within in (
+      λ c.
+          ⊎_elim (λ (early : Contains found v). let named = (before v).0 early in (named.0, (all named.0).1 (inl named.1), named.2))
+          (λ (e : v ≡ (get_or ends i d).to). (get_or ends i d, (all (get_or ends i d)).1 (inr refl), sym e)) ((one v).0 c),
+      λ named.
+          ⊎_elim (λ (early : Contains (take i ends) named.0). (one v).1 (inl ((before v).1 (named.0, early, named.2))))
+          (λ (e : named.0 ≡ get_or ends i d). (one v).1 (inr (sym named.2 ∙ ap (λ (end : End). end.to) e))) ((all named.0).0 named.1),
+    )
+
+pub names_all : (ends : List End) (i : ℕ) (found : List Vertex) → length ends ≤ i → ((v : Vertex) → Contains found v ↔ Names (take i ends) v) → (v : Vertex) → Contains found v ↔ Names ends v
+names_all ends i found past before v = subst (λ (es : List End). Contains found v ↔ Names es v) (take_all i ends past) (before v)
+
+-- an end that a search comes upon is there
+pub searched : (r : Result ℕ ℕ) (ends : List End) (end : End) → IfOk r (HoldsAt (λ y. end_order.ghosts.cmp y end ≡ Equal) ends) → IsSearchInRange r (length ends) → is_ok r ≡ true → Contains ends end
+searched (Ok i) ends end at within ok = (i, within, end_exact (get_or ends i end) end (ap (λ (cmp : End → End → Ordering). cmp (get_or ends i end) end) (sym end_cmp_is) ∙ at end))
+searched (Err i) ends end at within ok = absurd cc
+
+-- ---- links from one vertex to another
+
+-- the list has, beside those that it had, the links from one vertex to the other
+abbrev pub IsPushed : Links → Vertex → Vertex → List Link → List Link → Type 0
+IsPushed Link_of v w old new = (l : Link) → Contains new l ↔ (Contains old l ⊎ IsOutTo Link_of v l w)
+
+pub as_pushed : (root : ℕ) (ups : List Up) (leading : Leading) (v w from to : Vertex) (ends back : List End) (old new : List Link) → from ≡ v → to ≡ w → ends ≡ ends_or (leading v) → back ≡ ends_or (leading w)
+    → ((l : Link) → Contains new l ↔ (Contains old l ⊎ ((l.from ≡ from) × (l.to ≡ to) × IsPairLink root ups from ends to back l.cost l.label)))
+    → IsPushed (LinksBy root ups leading) v w old new
+as_pushed root ups leading v w from to ends back old new from_is to_is ends_are back_are pushes l =
+    let Pair : Vertex → Vertex → List End → List End → Type 0 = λ a b x y. Contains new l ↔ (Contains old l ⊎ ((l.from ≡ a) × (l.to ≡ b) × IsPairLink root ups a x b y l.cost l.label)) in
+    let here : Pair v w (ends_or (leading v)) (ends_or (leading w)) =
+    subst (λ (t : (Vertex × Vertex) × (List End × List End)). Pair t.0.0 t.0.1 t.1.0 t.1.1) (λ i. ((from_is i, to_is i), (ends_are i, back_are i))) (pushes l) in
+    let Link_of : Vertex × Vertex → Type 0 = λ p. LinksBy root ups leading p.0 p.1 l.cost l.label in (
+      λ c. ⊎_elim (λ (o : Contains old l). inl o) (λ (n : (l.from ≡ v) × (l.to ≡ w) × LinksBy root ups leading v w l.cost l.label). inr (n.0, n.1, subst Link_of (λ i. (sym n.0 i, sym n.1 i)) n.2)) (here.0 c),
+      λ c. here.1 (⊎_elim (λ (o : Contains old l). inl o) (λ (n : IsOutTo (LinksBy root ups leading) v l w). inr (n.0, n.1, subst Link_of (λ i. (n.0 i, n.1 i)) n.2)) c),
+    )
+
+pub pushed_as : (Link_of : Links) (v w from to : Vertex) (old new : List Link) → from ≡ v → to ≡ w → IsPushed Link_of from to old new → IsPushed Link_of v w old new
+pushed_as Link_of v w from to old new from_is to_is pushes = subst (λ (p : Vertex × Vertex). IsPushed Link_of p.0 p.1 old new) (λ i. (from_is i, to_is i)) pushes
+
+module _ (Link_of : Links) (v : Vertex) (ends : List End) (found : List Vertex) (links : List Link) (named : (w : Vertex) → Contains found w ↔ Names ends w) where
+  -- the links out of a vertex lead to vertices that it names
+  pub out_all : ((w : Vertex) (cost : ℕ) (label : Label) → Link_of v w cost label → Names ends w) → IsGrown (IsOutTo Link_of v) found [] links → AreOut Link_of v links
+  out_all names grown l = (
+    λ c. ⊎_elim (λ (n : Contains [] l). absurd (no_element l n)) (λ (n : (w : Vertex) × Contains found w × IsOutTo Link_of v l w). (n.2.0, n.2.2)) ((grown l).0 c),
+    λ h. (grown l).1 (inr (l.to, (named l.to).1 (names l.to l.cost l.label (subst (λ u. Link_of u l.to l.cost l.label) h.0 h.1)), (h.0, refl, h.1))),
+  )
+
+  -- and those into it come from such vertices
+  pub into_all : ((w : Vertex) (cost : ℕ) (label : Label) → Link_of w v cost label → Names ends w) → IsGrown (IsIntoFrom Link_of v) found [] links → AreInto Link_of v links
+  into_all names grown l = (
+    λ c. ⊎_elim (λ (n : Contains [] l). absurd (no_element l n)) (λ (n : (w : Vertex) × Contains found w × IsIntoFrom Link_of v l w). (n.2.1, n.2.2)) ((grown l).0 c),
+    λ h. (grown l).1 (inr (l.from, (named l.from).1 (names l.from l.cost l.label (subst (λ u. Link_of l.from u l.cost l.label) h.0 h.1)), (refl, h.0, h.1))),
+  )
+
+-- ---- links that are missing in another graph
+
+-- what is there and what is left, as one more is taken
+module _ (others initial has rest mid new whole : List Link) (x : Link) (steps : whole ≡ x ∷ rest) (before : (k : Link) → (Contains mid k ⊎ (Contains whole k × (Contains others k → ⊥))) ↔ (Contains initial k ⊎ (Contains has k × (Contains others k → ⊥))))
+    (one : (k : Link) → Contains new k ↔ (Contains mid k ⊎ ((k ≡ x) × (Contains others k → ⊥)))) where
+  in_whole : (k : Link) → Contains whole k ↔ ((k ≡ x) ⊎ Contains rest k)
+  in_whole k = subst (λ (ls : List Link). Contains ls k ↔ ((k ≡ x) ⊎ Contains rest k)) (sym steps) (front x rest k)
+
+  to_before : (k : Link) → Contains new k ⊎ (Contains rest k × (Contains others k → ⊥)) → Contains mid k ⊎ (Contains whole k × (Contains others k → ⊥))
+  to_before k h =
+      ⊎_elim (λ (c : Contains new k). ⊎_elim (λ (m : Contains mid k). inl m) (λ (n : (k ≡ x) × (Contains others k → ⊥)). inr ((in_whole k).1 (inl n.0), n.1)) ((one k).0 c))
+      (λ (r : Contains rest k × (Contains others k → ⊥)). inr ((in_whole k).1 (inr r.0), r.1)) h
+
+  from_before : (k : Link) → Contains mid k ⊎ (Contains whole k × (Contains others k → ⊥)) → Contains new k ⊎ (Contains rest k × (Contains others k → ⊥))
+  from_before k h =
+      ⊎_elim (λ (m : Contains mid k). inl ((one k).1 (inl m)))
+      (λ (w : Contains whole k × (Contains others k → ⊥)). ⊎_elim (λ (e : k ≡ x). inl ((one k).1 (inr (e, w.1)))) (λ (r : Contains rest k). inr (r, w.1)) ((in_whole k).0 w.0)) h
+
+  pub unlike_more : (k : Link) → (Contains new k ⊎ (Contains rest k × (Contains others k → ⊥))) ↔ (Contains initial k ⊎ (Contains has k × (Contains others k → ⊥)))
+  unlike_more k = (λ h. (before k).0 (to_before k h), λ h. from_before k ((before k).1 h))
+
+pub unlike_all : (others initial has rest new : List Link) → rest ≡ [] → ((k : Link) → (Contains new k ⊎ (Contains rest k × (Contains others k → ⊥))) ↔ (Contains initial k ⊎ (Contains has k × (Contains others k → ⊥))))
+    → (k : Link) → Contains new k ↔ (Contains initial k ⊎ (Contains has k × (Contains others k → ⊥)))
+unlike_all others initial has rest new done before k = (
+  λ c. (before k).0 (inl c),
+  λ h. ⊎_elim (λ (c : Contains new k). c) (λ (n : Contains rest k × (Contains others k → ⊥)). absurd (no_element k (subst (λ (ls : List Link). Contains ls k) done n.0))) ((before k).1 h),
+)
+
+module _ (Here There : Links) where
+  only_pushed : (Link_of : Links) (v w : Vertex) (none links : List Link) → none ≡ [] → IsPushed Link_of v w none links → (l : Link) → Contains links l ↔ IsOutTo Link_of v l w
+  only_pushed Link_of v w none links is pushes l = (
+    λ c. ⊎_elim (λ (n : Contains none l). absurd (no_element l (subst (λ (ls : List Link). Contains ls l) is n))) (λ (o : IsOutTo Link_of v l w). o) ((pushes l).0 c),
+    λ o. (pushes l).1 (inr o),
+  )
+
+  pub missing_to : (v w : Vertex) (none none_there has others old new : List Link) → none ≡ [] → none_there ≡ [] → IsPushed Here v w none has → IsPushed There v w none_there others
+      → ((l : Link) → Contains new l ↔ (Contains old l ⊎ (Contains has l × (Contains others l → ⊥)))) → (l : Link) → Contains new l ↔ (Contains old l ⊎ IsMissingTo Here There v l w)
+  missing_to v w none none_there has others old new is is_there here there pushes l =
+      let mine = only_pushed Here v w none has is here l in
+      let theirs = only_pushed There v w none_there others is_there there l in (
+        λ c. ⊎_elim (λ (o : Contains old l). inl o) (λ (n : Contains has l × (Contains others l → ⊥)). let own = mine.0 n.0 in inr (own, λ t. n.1 (theirs.1 (own.0, own.1, t)))) ((pushes l).0 c),
+        λ h. (pushes l).1 (⊎_elim (λ (o : Contains old l). inl o) (λ (n : IsMissingTo Here There v l w). inr (mine.1 n.0, λ t. n.1 (theirs.0 t).2)) h),
+      )
+
+  pub missing_as : (v from w : Vertex) (old new : List Link) → from ≡ v → ((l : Link) → Contains new l ↔ (Contains old l ⊎ IsMissingTo Here There from l w)) → (l : Link) → Contains new l ↔ (Contains old l ⊎ IsMissingTo Here There v l w)
+  missing_as v from w old new is grows = subst (λ (u : Vertex). (l : Link) → Contains new l ↔ (Contains old l ⊎ IsMissingTo Here There u l w)) is grows
+
+  pub missing_all : (v : Vertex) (ends : List End) (found : List Vertex) (old new : List Link) → ((w : Vertex) → Contains found w ↔ Names ends w) → ((w : Vertex) (cost : ℕ) (label : Label) → Here v w cost label → Names ends w)
+      → IsGrown (IsMissingTo Here There v) found old new → (l : Link) → Contains new l ↔ (Contains old l ⊎ IsMissing Here There l v)
+  missing_all v ends found old new named names grown l = (
+    λ c. ⊎_elim (λ (o : Contains old l). inl o) (λ (n : (w : Vertex) × Contains found w × IsMissingTo Here There v l w). inr (n.2.0.0, n.2.0.2, n.2.1)) ((grown l).0 c),
+    λ h. (grown l).1 (⊎_elim (λ (o : Contains old l). inl o)
+        (λ (n : IsMissing Here There l v). inr (l.to, (named l.to).1 (names l.to l.cost l.label (subst (λ u. Here u l.to l.cost l.label) n.0 n.1)), ((n.0, refl, n.1), n.2))) h),
+  )
+
+  pub missing_from_all : (vertices : List Vertex) (links : List Link) → IsGrown (IsMissing Here There) vertices [] links → AreMissing vertices Here There links
+  missing_from_all vertices links grown l = (
+    λ c. ⊎_elim (λ (n : Contains [] l). absurd (no_element l n)) (λ (n : (w : Vertex) × Contains vertices w × IsMissing Here There l w). (subst (Contains vertices) (sym n.2.0) n.1, n.2.1, n.2.2)) ((grown l).0 c),
+    λ h. (grown l).1 (inr (l.from, h.0, (refl, h.1, h.2))),
+  )
+
+-- a vertex names those that it has links to, and those that have links to it
+module _ (root : ℕ) (ups : List Up) (leading : Leading) (v : Vertex) (ends : List End) (are : ends ≡ ends_or (leading v)) where
+  pub out_named : (w : Vertex) (cost : ℕ) (label : Label) → LinksBy root ups leading v w cost label → Names ends w
+  out_named w cost label link = subst (λ (es : List End). Names es w) (sym are) (pair_names root ups v w (ends_or (leading v)) (ends_or (leading w)) cost label link)
+
+  pub into_named : (w : Vertex) (cost : ℕ) (label : Label) → LinksBy root ups leading w v cost label → Names ends w
+  into_named w cost label link = subst (λ (es : List End). Names es w) (sym are) (pair_named root ups w v (ends_or (leading w)) (ends_or (leading v)) cost label link)

@@ -1,0 +1,10 @@
+use Rattle.std.proofs.Common.{rules}
+use Rattle.std.proofs.lemmas.List.Sorted.{IsPartitionPoint-from_clause}
+use Rattle.graph_links.proofs.AtVertex.{is_below, parted_below, first_of_tests}
+use Rattle.graph_links.proofs.at_vertex.first_at.Goals as goal
+
+pub returns-clause-split : goal.returns-clause-split
+returns-clause-split c =
+    let v = c.args.vertex in
+    first_of_tests v c.args.ends.now c.partition_point.result
+    (IsPartitionPoint-from_clause (is_below v) c.args.ends.now c.partition_point.result c.partition_point.ensures.partitioned (parted_below v c.args.ends.now c.requires) (λ a r q k. search rules))

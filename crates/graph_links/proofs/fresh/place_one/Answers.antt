@@ -1,0 +1,13 @@
+use Rattle.std.proofs.Common.{Some, None}
+use Rattle.graph_links.proofs.VertexTests.{found_after}
+use Rattle.graph_links.proofs.Placing.{one_placed}
+use Rattle.graph_links.proofs.fresh.place_one.Goals as goal
+
+pub returns-in-Some-clause-placed : goal.returns-in-Some-clause-placed
+returns-in-Some-clause-placed c = one_placed c.args.fresh (Some c.in-Some.row) c.args.rows.now.entries c.put_in_room.new.rows.entries c.in-Some.is c.put_in_room.ensures.placed
+
+pub returns-in-None-clause-placed : goal.returns-in-None-clause-placed
+returns-in-None-clause-placed c =
+    let before = c.args.rows.now.entries in
+    let after = c.swap_remove.new.self.entries in
+    one_placed c.args.fresh None before after c.in-None.is (found_after before after c.args.fresh.vertex None c.swap_remove.ensures.updates.0)

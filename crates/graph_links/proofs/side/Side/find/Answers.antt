@@ -1,0 +1,13 @@
+use Rattle.std.proofs.Common.{ap, ◌∙◌}
+use Rattle.graph_links.specs.Sides.{row_ends, staged_or}
+use Rattle.graph_links.proofs.side.Side.find.Goals as goal
+
+pub returns-in-Some : goal.returns-in-Some
+returns-in-Some c =
+    let side = c.args.self in
+    c.slice_of.ensures ∙ ap (λ o. staged_or o (row_ends side.rows.now.entries c.args.vertex)) c.in-Some.ensures
+
+pub returns-in-None : goal.returns-in-None
+returns-in-None c =
+    let side = c.args.self in
+    c.row_ends.ensures ∙ ap (λ o. staged_or o (row_ends side.rows.now.entries c.args.vertex)) c.in-None.ensures

@@ -1,0 +1,3 @@
+pub mod EndOrder
+pub mod Pairs
+pub mod Sides

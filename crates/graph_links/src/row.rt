@@ -1,0 +1,30 @@
+//! What the graph keeps of its vertices.
+use crate::end::End;
+use crate::link::Link;
+use indexmap::IndexMap;
+use ospf_types::entry::Vertex;
+use std::hash::RandomState;
+
+/// A vertex that is there: where its LSA leads, and its links.
+pub struct Row {
+    pub ends: Vec<End>,
+    pub out: Vec<Link>,
+    pub into: Vec<Link>,
+}
+
+// proof: one call drops it, in place of a drop of each part wherever one is held.
+impl Drop for Row {
+    fn drop(self) {
+        let Row {
+            ends: _ends,
+            out: _out,
+            into: _into,
+        } = self;
+    }
+}
+
+/// The vertices that are there.
+pub type Rows = IndexMap<Vertex, Row, RandomState>;
+
+/// Where vertices lead whose LSAs change, none where the LSA goes.
+pub type StagedEnds = IndexMap<Vertex, Option<Vec<End>>, RandomState>;

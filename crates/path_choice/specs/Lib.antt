@@ -1,0 +1,4 @@
+pub mod Costs
+pub mod Choices
+pub mod Takes
+pub mod Reached

@@ -1,0 +1,247 @@
+//! The choice of a route: offers at keys come one at a time, and the least key stays, with all that
+//! was offered at it (RFC 2328, 16.1 to 16.4).
+ghost use Rattle.std.specs.Prelude.{◌≡◌, ◌<◌, ◌∷◌, [], None, OnOk, OnErr, IfOk};
+ghost use Rattle.std.specs.List.Sorted.{IsStrictlySortedBy};
+ghost use Rattle.path_choice.specs.Choices.{HasAlso};
+ghost use Rattle.path_choice.specs.Costs.{most_cost};
+ghost use Rattle.path_choice.specs.Takes.{Takes, OnlyOffer};
+
+use ospf_types::hop::{NextHop, Path};
+use ospf_types::memory::Memory;
+use std::alloc::Global;
+use std::cmp::{Ordering, Reverse};
+use std::marker::Model;
+
+/// An order in which only equal values tie.
+pub trait ExactOrd: Ord {
+    ghost use Rattle.std.specs.FinMap.{IsAntisymmetric};
+
+    ghost exact: { IsAntisymmetric Self.cmp };
+}
+
+impl ExactOrd for Path {
+    ghost use Rattle.ospf_types.proofs.Paths.{path_order_exact};
+
+    ghost exact = { path_order_exact };
+}
+
+impl ExactOrd for NextHop {
+    ghost use Rattle.std.proofs.Common.{sym, subst};
+    ghost use Rattle.std.specs.declared.cmp.Ordering.{Ordering};
+    ghost use Rattle.std.specs.FinMap.{IsAntisymmetric};
+    ghost use Rattle.ospf_types.specs.declared.hop.NextHop.{NextHop as HopValue};
+    ghost use Rattle.ospf_types.proofs.Orders.{hop_exact};
+    ghost use Rattle.ospf_types.proofs.Paths.{hop_cmp_is};
+
+    ghost exact = { subst (λ (R : HopValue → HopValue → Ordering). IsAntisymmetric R) (sym hop_cmp_is) hop_exact };
+}
+
+impl ExactOrd for u32 {
+    ghost use Rattle.std.proofs.lemmas.Map.Lookups.{exact_unsigned};
+
+    ghost exact = { exact_unsigned };
+}
+
+/// The key of an intra-area route: the lesser cost first, and at one cost the greater area
+/// (RFC 2328, 16.4).
+#[derive(Clone, Copy, PartialEq, Eq, PartialOrd, Ord)]
+pub struct AreaCost {
+    cost: u32,
+    area: Reverse<u32>,
+}
+
+impl Model for AreaCost {
+    ghost use Rattle.std.specs.Prelude.{◌<◌};
+    ghost use Rattle.ospf_types.specs.Intra.{AreaCost as CostInArea};
+    ghost use Rattle.path_choice.specs.Costs.{most_cost};
+
+    ghost Value = { CostInArea };
+
+    ghost view = { λ k. (k.cost, k.area.0) };
+
+    ghost invariant = { λ k. k.cost < most_cost };
+
+    ghost inverse = { λ k. record { cost = k.0; area = record { 0 = k.1 } } };
+}
+
+impl ExactOrd for AreaCost {
+    ghost use Rattle.ospf_types.proofs.Orders.{area_cost_exact};
+
+    ghost exact = { area_cost_exact };
+}
+
+impl AreaCost {
+    pub fn new(cost: u32, area: u32) -> AreaCost
+        requires { cost < most_cost }
+        ensures { result ≡ (cost, area) }
+    {
+        AreaCost {
+            cost,
+            area: Reverse(area),
+        }
+    }
+
+    /// The cost, a metric.
+    pub fn cost(self) -> u32
+        ensures value { result ≡ self.0 }
+        ensures bounded { result < most_cost }
+    {
+        self.cost
+    }
+
+    /// The Area ID.
+    pub fn area(self) -> u32
+        ensures { result ≡ self.1 }
+    {
+        self.area.0
+    }
+}
+
+/// The least key at which something was offered, with all that was offered at it: in order, each
+/// once.
+pub struct Choice<K, X> {
+    key: K,
+    items: Vec<X>,
+}
+
+// proof: one call drops it, in place of a drop of each part wherever one is held.
+impl<K: Drop, X: Drop> Drop for Choice<K, X> {
+    fn drop(self) {
+        let Choice {
+            key: _key,
+            items: _items,
+        } = self;
+    }
+}
+
+impl<K, X> Model for Choice<K, X> {
+    ghost use Rattle.path_choice.specs.Choices.{Chosen};
+
+    ghost Value = { Chosen K X };
+
+    ghost view = { λ c. record { key = c.key; items = c.items.items } };
+}
+
+impl<K, X> Choice<K, X> {
+    /// The least key.
+    pub fn key(&self) -> &K
+        ensures { result.now ≡ self.now.key }
+    {
+        &self.key
+    }
+
+    /// What was offered at the key.
+    pub fn items(&self) -> &[X]
+        ensures { result.now ≡ self.now.items }
+    {
+        self.items.as_slice()
+    }
+
+    /// The key, and what was offered at it.
+    pub fn into_parts(self) -> (K, Vec<X>)
+        ensures key { result.0 ≡ self.key }
+        ensures items { result.1.items ≡ self.items }
+    {
+        let Choice { key, items } = self;
+        (key, items)
+    }
+}
+
+impl<K: ExactOrd + Drop, X: ExactOrd + Drop> Choice<K, X> {
+    // The choice of a first offer.
+    fn of(alloc: Global, key: K, item: X) -> Result<Choice<K, X>, Memory>
+        ensures { IfOk result (λ choice. choice ≡ record { key = key; items = item ∷ [] }) }
+    {
+        let mut items = Vec::new(alloc);
+        items.push(item)?;
+        Ok(Choice { key, items })
+    }
+
+    // Takes one more offer: a lesser key is chosen, one more item at the key joins the others, and
+    // a greater key changes nothing.
+    fn offer(&mut self, key: K, item: X) -> Result<(), Memory>
+        ensures lesser { OnOk result (K.cmp key self.old.key ≡ Ordering.Less → self.new ≡ record { key = key; items = item ∷ [] }) }
+        ensures tied { OnOk result (K.cmp key self.old.key ≡ Ordering.Equal → (self.new.key ≡ self.old.key) × HasAlso self.old.items item self.new.items) }
+        ensures greater { OnOk result (K.cmp key self.old.key ≡ Ordering.Greater → self.new ≡ self.old) }
+        ensures in_order { OnOk result (IsStrictlySortedBy X.cmp self.old.items → IsStrictlySortedBy X.cmp self.new.items) }
+        ensures err { OnErr result (self.new ≡ self.old) }
+    {
+        match key.cmp(&self.key) {
+            Ordering::Less => {
+                self.items.insert(0, item)?;
+                self.items.truncate(1);
+                self.key = key;
+                Ok(())
+            }
+            Ordering::Equal => {
+                add_in_order(&mut self.items, item)?;
+                Ok(())
+            }
+            Ordering::Greater => Ok(()),
+        }
+    }
+}
+
+// Puts the item in its place, unless it is there.
+fn add_in_order<X: ExactOrd + Drop>(items: &mut Vec<X>, item: X) -> Result<(), Memory>
+    ensures added { OnOk result (HasAlso items.old.items item items.new.items) }
+    ensures in_order { OnOk result (IsStrictlySortedBy X.cmp items.old.items → IsStrictlySortedBy X.cmp items.new.items) }
+    ensures err { OnErr result (items.new.items ≡ items.old.items) }
+{
+    match items.binary_search(&item) {
+        Ok(_) => Ok(()),
+        Err(place) => Ok(items.insert(place, item)?),
+    }
+}
+
+/// The best of the offers so far; none before the first.
+#[derive(Drop)]
+pub struct Best<K, X> {
+    alloc: Global,
+    choice: Option<Choice<K, X>>,
+}
+
+impl<K, X> Model for Best<K, X> {
+    ghost use Rattle.std.specs.Prelude.{Option};
+    ghost use Rattle.path_choice.specs.Choices.{Chosen};
+
+    ghost Value = { Option (Chosen K X) };
+
+    ghost view = { λ b. b.choice };
+}
+
+impl<K: ExactOrd + Drop, X: ExactOrd + Drop> Best<K, X> {
+    /// The best of no offers.
+    pub fn new(alloc: Global) -> Best<K, X>
+        ensures { result ≡ None }
+    {
+        Best {
+            alloc,
+            choice: None,
+        }
+    }
+
+    /// Takes one more offer.
+    pub fn offer(&mut self, key: K, item: X) -> Result<(), Memory>
+        ensures ok { OnOk result (Takes K.cmp X.cmp (OnlyOffer key item) self.old self.new) }
+        ensures err { OnErr result (self.new ≡ self.old) }
+    {
+        match &mut self.choice {
+            Some(choice) => {
+                choice.offer(key, item)?;
+                Ok(())
+            }
+            None => {
+                self.choice = Some(Choice::of(self.alloc, key, item)?);
+                Ok(())
+            }
+        }
+    }
+
+    /// The choice, where something was offered.
+    pub fn into_choice(self) -> Option<Choice<K, X>>
+        ensures { result ≡ self }
+    {
+        self.choice
+    }
+}

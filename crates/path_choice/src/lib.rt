@@ -1,0 +1,11 @@
+//! The choice between paths: offers come one at a time, and the best of them stays. Beside it, what is kept of a border
+//! router or AS boundary router that is reached, and whether what is kept is what was worked out anew.
+#![tactic(auto)]
+
+mod choice;
+mod reached;
+mod same;
+
+pub use choice::{AreaCost, Best, Choice, ExactOrd};
+pub use reached::{Reached, keep};
+pub use same::{Same, are_same};

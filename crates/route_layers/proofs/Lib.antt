@@ -1,0 +1,3 @@
+pub mod Examining
+pub mod Above
+pub mod Activating

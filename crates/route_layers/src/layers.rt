@@ -1,0 +1,241 @@
+//! The layers above intra-area routes: inter-area routes, and external ones (RFC 2328, 16.2 and 16.4).
+ghost use Rattle.std.specs.Prelude.{◌≡◌, ◌≢◌, ◌↔◌, Option, Contains, IsTrue, IfOk, IfSome, IfNone, OnOk, map as list_map};
+ghost use Rattle.std.specs.List.Sorted.{IsStrictlySortedBy};
+ghost use Rattle.ospf_types.specs.declared.config.AreaConfig.{AreaConfig};
+ghost use Rattle.ospf_types.specs.declared.key.Dest.{Dest as DestValue};
+ghost use Rattle.ospf_types.specs.declared.key.Scope.TheVariants as scope_value;
+ghost use Rattle.ospf_types.specs.Inputs.{Area};
+ghost use Rattle.ospf_types.specs.Ranges.{IsExamined};
+ghost use Rattle.ospf_types.specs.Keys.{dest_cmp};
+ghost use Rattle.event_state.specs.States.{database_of, inputs_of};
+ghost use Rattle.event_state.specs.Held.{AreFit};
+ghost use Rattle.intra.specs.Right.{IsRightFor};
+ghost use Rattle.summaries.specs.Right.{IsRightFor as AreRangesRight};
+ghost use Rattle.inter.specs.Changes.{DiffersAt as InterDiffersAt, InputsDifferAmong as InterInputsDiffer};
+ghost use Rattle.inter.specs.Inputs.{ExaminedValue, InterInputsValue};
+ghost use Rattle.inter.specs.Inters.{IsInterOf};
+ghost use Rattle.inter.specs.Right.{IsRightFor as IsInterRight};
+ghost use Rattle.external.specs.Changes.{DiffersAt as ExternalDiffersAt, InputsDifferAmong as ExternalInputsDiffer};
+ghost use Rattle.external.specs.Inputs.{ExternalInputsValue};
+ghost use Rattle.external.specs.Externals.{IsExternalOf};
+ghost use Rattle.external.specs.Right.{IsRightFor as IsExternalRight};
+ghost use Rattle.route_layers.specs.Layers.{AreActive};
+ghost use Rattle.route_layers.specs.Layers.{IsExaminedOf, IsUpIn, inter_inputs, external_inputs};
+ghost use Rattle.state_trees.specs.Trees.{lsas_in};
+
+use event_state::State;
+use external::{External, ExternalInputs};
+use inter::{Examined, Inter, InterInputs};
+use intra::{Dirty, Intra};
+use lsdb::Database;
+use ospf_types::key::{Dest, Scope};
+use ospf_types::memory::Memory;
+use state_trees::is_up_in;
+use std::alloc::Global;
+use std::hash::RandomState;
+use summaries::ActiveRanges;
+
+// The Area ID of the backbone (RFC 2328, 3.1).
+const BACKBONE: u32 = 0;
+
+/// The inter-area routes of the state.
+pub fn build_inter(
+    alloc: Global,
+    state: &State,
+    intra: &Intra,
+    active: &ActiveRanges,
+    hashing: RandomState,
+) -> Result<Inter, Memory>
+    requires fit { AreFit state.now.config.areas state.now.databases }
+    requires routed { IsRightFor (inputs_of state.now) intra.now }
+    requires ranged { AreRangesRight (inputs_of state.now) active.now }
+    ensures kept { IfOk result (λ inter. (examined : Option ExaminedValue) × IsExaminedOf state.now examined × IsInterOf (inter_inputs state.now examined intra.now active.now) inter) }
+    ensures right { IfOk result (IsInterRight (inputs_of state.now)) }
+{
+    let inputs = InterInputs {
+        root: state.config().router,
+        examined: examined(state),
+        intra,
+        active,
+    };
+    Inter::build(alloc, &inputs, hashing)
+}
+
+/// The inter-area routes follow the state, the intra-area routes and the active ranges.
+pub fn follow_inter(
+    alloc: Global,
+    inter: &mut Inter,
+    state: &State,
+    intra: &Intra,
+    active: &ActiveRanges,
+    dirty: &Dirty,
+) -> Result<Vec<Dest>, Memory>
+    requires fit { AreFit state.now.config.areas state.now.databases }
+    requires routed { IsRightFor (inputs_of state.now) intra.now }
+    requires ranged { AreRangesRight (inputs_of state.now) active.now }
+    requires before { (before : InterInputsValue) × IsInterOf before inter.old
+        × ((examined : Option ExaminedValue) → IsExaminedOf state.now examined → InterInputsDiffer dirty.now.keys.items dirty.now.dests.items before (inter_inputs state.now examined intra.now active.now)) }
+    ensures kept { OnOk result ((examined : Option ExaminedValue) × IsExaminedOf state.now examined × IsInterOf (inter_inputs state.now examined intra.now active.now) inter.new) }
+    ensures right { OnOk result (IsInterRight (inputs_of state.now) inter.new) }
+    ensures in_order { IfOk result (λ dests. IsStrictlySortedBy dest_cmp dests.items) }
+    ensures exact { IfOk result (λ dests. (d : DestValue) → Contains dests.items d ↔ InterDiffersAt inter.old inter.new d) }
+{
+    let inputs = InterInputs {
+        root: state.config().router,
+        examined: examined(state),
+        intra,
+        active,
+    };
+    inter.update(alloc, &inputs, dirty)
+}
+
+/// The external routes of the state.
+pub fn build_external(
+    alloc: Global,
+    state: &State,
+    intra: &Intra,
+    active: &ActiveRanges,
+    inter: &Inter,
+    hashing: RandomState,
+) -> Result<External, Memory>
+    requires fit { AreFit state.now.config.areas state.now.databases }
+    requires routed { IsRightFor (inputs_of state.now) intra.now }
+    requires ranged { AreRangesRight (inputs_of state.now) active.now }
+    requires between { IsInterRight (inputs_of state.now) inter.now }
+    ensures kept { IfOk result (IsExternalOf (external_inputs state.now intra.now active.now inter.now)) }
+    ensures right { IfOk result (IsExternalRight (inputs_of state.now)) }
+{
+    let areas = area_ids(alloc, state)?;
+    let inputs = ExternalInputs {
+        root: state.config().router,
+        areas: &areas,
+        database: externals(state),
+        intra,
+        active,
+        inter,
+    };
+    External::build(alloc, &inputs, hashing)
+}
+
+/// The external routes follow the state and the layers below.
+pub fn follow_external(
+    alloc: Global,
+    external: &mut External,
+    state: &State,
+    intra: &Intra,
+    active: &ActiveRanges,
+    inter: &Inter,
+    dirty: &Dirty,
+) -> Result<Vec<Dest>, Memory>
+    requires fit { AreFit state.now.config.areas state.now.databases }
+    requires routed { IsRightFor (inputs_of state.now) intra.now }
+    requires ranged { AreRangesRight (inputs_of state.now) active.now }
+    requires between { IsInterRight (inputs_of state.now) inter.now }
+    requires before { (before : ExternalInputsValue) × IsExternalOf before external.old × ExternalInputsDiffer dirty.now.keys.items dirty.now.dests.items before (external_inputs state.now intra.now active.now inter.now) }
+    ensures kept { OnOk result (IsExternalOf (external_inputs state.now intra.now active.now inter.now) external.new) }
+    ensures right { OnOk result (IsExternalRight (inputs_of state.now) external.new) }
+    ensures in_order { IfOk result (λ dests. IsStrictlySortedBy dest_cmp dests.items) }
+    ensures exact { IfOk result (λ dests. (d : DestValue) → Contains dests.items d ↔ ExternalDiffersAt external.old external.new d) }
+{
+    let areas = area_ids(alloc, state)?;
+    let inputs = ExternalInputs {
+        root: state.config().router,
+        areas: &areas,
+        database: externals(state),
+        intra,
+        active,
+        inter,
+    };
+    external.update(alloc, &inputs, dirty)
+}
+
+// The database of AS-external-LSAs.
+fn externals(state: &State) -> &Database
+    requires { AreFit state.now.config.areas state.now.databases }
+    ensures { result.now.lsas ≡ lsas_in (database_of state.now scope_value.As) }
+{
+    let Some(database) = state.database(Scope::As) else {
+        unreachable!()
+    };
+    database
+}
+
+// The Area IDs, in the order of the configuration.
+fn area_ids(alloc: Global, state: &State) -> Result<Vec<u32>, Memory>
+    ensures { IfOk result (λ ids. ids.items ≡ list_map (λ a. a.id) state.now.config.areas) }
+{
+    let areas = state.config().areas.as_slice();
+    let mut ids = Vec::with_capacity(alloc, areas.len())?;
+    for area in areas {
+        ids.push(area.id)?;
+    }
+    Ok(ids)
+}
+
+/// The Area IDs of the active areas, in the order of the configuration.
+pub fn active_areas(alloc: Global, state: &State) -> Result<Vec<u32>, Memory>
+    ensures { IfOk result (λ active. AreActive state.now active.items) }
+{
+    let mut active = Vec::new(alloc);
+    for area in state.config().areas.as_slice() {
+        if is_active(state, area.id) {
+            active.push(area.id)?;
+        }
+    }
+    Ok(active)
+}
+
+// The area whose summaries are examined (RFC 2328, 16.2): the backbone where two areas or more have an interface that is
+// up, or the only area that has one.
+fn examined(state: &State) -> Option<Examined<'_>>
+    requires { AreFit state.now.config.areas state.now.databases }
+    ensures { IsExaminedOf state.now result }
+{
+    let area = examined_area(state)?;
+    let Some(database) = state.database(Scope::Area(area)) else {
+        unreachable!()
+    };
+    Some(Examined { area, database })
+}
+
+// Its Area ID.
+fn examined_area(state: &State) -> Option<u32>
+    ensures some { IfSome result (λ area. (a : Area) × IsExamined (inputs_of state.now) a × (a.id ≡ area)) }
+    ensures none { IfNone result ((a : Area) → IsExamined (inputs_of state.now) a → ⊥) }
+{
+    let mut active = None;
+    for area in state.config().areas.as_slice() {
+        if is_active(state, area.id) {
+            if active.is_some() {
+                return backbone(state);
+            }
+            active = Some(area.id);
+        }
+    }
+    active
+}
+
+// Whether the area has an interface that is up.
+fn is_active(state: &State, area: u32) -> bool
+    ensures { IsTrue result ↔ IsUpIn state.now area }
+{
+    for (_, interface) in state.interfaces() {
+        if is_up_in(interface, area) {
+            return true;
+        }
+    }
+    false
+}
+
+// The backbone, where it is configured.
+fn backbone(state: &State) -> Option<u32>
+    ensures some { IfSome result (λ id. (id ≡ 0) × ((a : AreaConfig) × Contains state.now.config.areas a × (a.id ≡ 0))) }
+    ensures none { IfNone result ((a : AreaConfig) → Contains state.now.config.areas a → a.id ≢ 0) }
+{
+    for area in state.config().areas.as_slice() {
+        if area.id == BACKBONE {
+            return Some(BACKBONE);
+        }
+    }
+    None
+}

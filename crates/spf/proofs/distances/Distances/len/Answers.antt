@@ -1,8 +1,0 @@
-use Rattle.std.proofs.Common.{sym, ap, ◌∙◌}
-use Rattle.std.specs.FinMap.{len}
-use Rattle.spf.specs.Parts.{DistanceMap}
-use Rattle.spf.proofs.VertexMaps.{len_is}
-use Rattle.spf.proofs.distances.Distances.len.Goals as goal
-
-pub returns-clause-value : goal.returns-clause-value
-returns-clause-value c = c.len.ensures.len ∙ sym (len_is c.self.inside.entries.entries c.len.ensures.unique) ∙ ap (λ (m : DistanceMap). len m) c.self.view_is

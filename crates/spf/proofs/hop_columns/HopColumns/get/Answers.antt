@@ -1,8 +1,0 @@
-use Rattle.std.proofs.Common.{ap, ◌∙◌}
-use Rattle.std.specs.FinMap.{get}
-use Rattle.spf.specs.Parts.{HopMap}
-use Rattle.spf.proofs.VertexMaps.{looked_up}
-use Rattle.spf.proofs.hop_columns.HopColumns.get.Goals as goal
-
-pub returns : goal.returns
-returns c = c.get.ensures.value ∙ looked_up c.self.inside.entries.entries c.args.vertex ∙ ap (λ (m : HopMap). get m c.args.vertex) c.self.view_is

@@ -1,8 +1,0 @@
-use Rattle.std.proofs.Common.{List, subst}
-use Rattle.ospf_types.specs.declared.entry.Vertex.{Vertex}
-use Rattle.spf.specs.Loops.{HasNoDoubles}
-use Rattle.spf.proofs.VertexSets.{apart}
-use Rattle.spf.proofs.members.Members.as_slice.Goals as goal
-
-pub returns-clause-apart : goal.returns-clause-apart
-returns-clause-apart c = subst (λ (vs : List Vertex). HasNoDoubles vs) c.self.view_is (apart c.self.inside.vertices.keys c.as_slice.ensures.unique)

@@ -1,0 +1,11 @@
+pub mod Places
+pub mod Standing
+pub mod Ups
+pub mod Keys
+pub mod Sums
+pub mod Building
+pub mod Turns
+pub mod Follows
+pub mod InputsAre
+pub mod Filling
+pub mod Followed

@@ -1,0 +1,5 @@
+use Rattle.state_trees.specs.Turns.{AreFollowedTo}
+use Rattle.state_trees.proofs.trees.follow_trees.Given as goal
+
+abbrev pub invariant-loop-place : goal.invariant-loop-place
+invariant-loop-place l = AreFollowedTo l.state l.state.config.areas l.fn.trees l.trees l.vertices.items l.work l.place

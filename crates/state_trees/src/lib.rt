@@ -1,0 +1,9 @@
+//! The graphs and trees of a state's areas, which follow its LSAs and interfaces (RFC 2328, 16.1), and what routes are
+//! calculated from.
+#![tactic(auto)]
+
+mod inputs;
+mod trees;
+
+pub use inputs::{area_inputs, interfaces, is_up_in};
+pub use trees::{build_trees, follow_trees};

@@ -1,0 +1,154 @@
+//! The trees of the areas.
+ghost use Rattle.std.specs.Prelude.{◌≡◌, ◌↔◌, ◌≤◌, ◌+◌, ◌++◌, min, map as list_map, List, Contains, IsTrue, IsSome, IfOk, OnOk};
+ghost use Rattle.ospf_types.specs.declared.key.Key.{Key as KeyValue};
+ghost use Rattle.spf.specs.Touched.{Touched as TouchedValue};
+ghost use Rattle.spf.specs.TreeValues.{IsWorkForAll, IsWorkDone};
+ghost use Rattle.vertex_graph.specs.Graphs.{most_routers};
+ghost use Rattle.area_trees.specs.Areas.{IsWorkBounded};
+ghost use Rattle.spf.specs.TreeValues.{AreOthersKept};
+ghost use Rattle.event_state.specs.States.{State as StateValue, place_of};
+ghost use Rattle.state_trees.specs.Trees.{IsTreeFor, AreTreesOf, StatesDifferAmong};
+ghost use Rattle.state_trees.specs.Turns.{AreFollowed};
+ghost use Rattle.state_trees.specs.Works.{AreWorksForAll, IsTotal, most_count};
+
+use crate::inputs::ups;
+use area_trees::AreaTree;
+use event_state::State;
+use ospf_types::entry::Vertex;
+use ospf_types::key::{Key, Scope};
+use ospf_types::memory::Memory;
+use spf::Touched;
+use std::alloc::Global;
+use std::hash::RandomState;
+
+/// The tree of each area, and the work of building them.
+pub fn build_trees(
+    alloc: Global,
+    state: &State,
+    hashing: RandomState,
+) -> Result<(Vec<AreaTree>, Touched), Memory>
+    requires few { state.now.limits.area_lsas ≤ most_routers }
+    ensures right { IfOk result (λ built. AreTreesOf state.now state.now.config.areas built.0.items) }
+    ensures work { IfOk result (λ built. (works : List TouchedValue) × AreWorksForAll built.0.items works × IsTotal works built.1) }
+{
+    let mut trees = Vec::new(alloc);
+    let mut work = Touched::none();
+    for area in state.config().areas.as_slice() {
+        let (tree, touched) = build_tree(alloc, state, area.id, hashing)?;
+        trees.push(tree)?;
+        work = both(work, touched);
+    }
+    Ok((trees, work))
+}
+
+// The tree of an area.
+fn build_tree(
+    alloc: Global,
+    state: &State,
+    area: u32,
+    hashing: RandomState,
+) -> Result<(AreaTree, Touched), Memory>
+    requires few { state.now.limits.area_lsas ≤ most_routers }
+    requires there { IsSome (place_of state.now.config.areas (Scope.Area area)) }
+    ensures right { IfOk result (λ built. IsTreeFor state.now area built.0) }
+    ensures work { IfOk result (λ built. IsWorkForAll built.0.area.graph built.0.tree built.1.taken built.1.hop_sets) }
+{
+    let Some(database) = state.database(Scope::Area(area)) else {
+        unreachable!()
+    };
+    let ups = ups(alloc, state, area)?;
+    AreaTree::build(alloc, state.config().router, database, &ups, hashing)
+}
+
+/// The trees follow the state, which differs from the one before in these LSAs or these interfaces. Vertices whose
+/// distance or next hops differ are added, each with its Area ID. The answer is the work.
+pub fn follow_trees(
+    alloc: Global,
+    trees: &mut [AreaTree],
+    state: &State,
+    keys: &[(Scope, Key)],
+    interfaces: &[u8],
+    vertices: &mut Vec<(u32, Vertex)>,
+) -> Result<Touched, Memory>
+    requires few { state.now.limits.area_lsas ≤ most_routers }
+    requires before { (before : StateValue) × AreTreesOf before before.config.areas trees.old × StatesDifferAmong keys.now interfaces.now before state.now }
+    ensures { IfOk result (λ work. AreFollowed state.now state.now.config.areas trees.old trees.new vertices.new.items work) }
+{
+    let mut work = Touched::none();
+    for (place, area) in state.config().areas.as_slice().iter().enumerate() {
+        let tree = &mut trees[place];
+        let touched = follow_tree(alloc, tree, state, area.id, keys, interfaces)?;
+        push_changed(area.id, tree, vertices)?;
+        work = both(work, touched);
+    }
+    Ok(work)
+}
+
+// The tree of an area follows the state.
+fn follow_tree(
+    alloc: Global,
+    tree: &mut AreaTree,
+    state: &State,
+    area: u32,
+    keys: &[(Scope, Key)],
+    interfaces: &[u8],
+) -> Result<Touched, Memory>
+    requires few { state.now.limits.area_lsas ≤ most_routers }
+    requires there { IsSome (place_of state.now.config.areas (Scope.Area area)) }
+    requires before { (before : StateValue) × IsTreeFor before area tree.old × StatesDifferAmong keys.now interfaces.now before state.now }
+    ensures right { OnOk result (IsTreeFor state.now area tree.new) }
+    ensures others { OnOk result (AreOthersKept tree.old.tree tree.new.tree) }
+    ensures bounded { IfOk result (λ touched. IsWorkBounded tree.old tree.new touched.taken touched.hop_sets) }
+    ensures work { IfOk result (λ touched. IsWorkDone tree.new.area.graph tree.old.tree tree.new.tree touched.taken touched.hop_sets) }
+{
+    if !interfaces.is_empty() {
+        let ups = ups(alloc, state, area)?;
+        return tree.interfaces(alloc, &ups);
+    }
+    let Some(database) = state.database(Scope::Area(area)) else {
+        unreachable!()
+    };
+    let keys = keys_of(alloc, area, keys)?;
+    tree.follow(alloc, database, &keys)
+}
+
+// The keys of the area.
+fn keys_of(alloc: Global, area: u32, keys: &[(Scope, Key)]) -> Result<Vec<Key>, Memory>
+    ensures { IfOk result (λ found. (key : KeyValue) → Contains found.items key ↔ Contains keys.now (Scope.Area area, key)) }
+{
+    let mut found = Vec::new(alloc);
+    for (scope, key) in keys {
+        if is_area(*scope, area) {
+            found.push(*key)?;
+        }
+    }
+    Ok(found)
+}
+
+// Whether the scope is the area's.
+fn is_area(scope: Scope, area: u32) -> bool
+    ensures { IsTrue result ↔ (scope ≡ Scope.Area area) }
+{
+    matches!(scope, Scope::Area(id) if id == area)
+}
+
+// Adds the vertices that differ, with the Area ID.
+fn push_changed(area: u32, tree: &AreaTree, vertices: &mut Vec<(u32, Vertex)>) -> Result<(), Memory>
+    ensures { OnOk result (vertices.new.items ≡ vertices.old.items ++ list_map (λ v. (area, v)) tree.now.tree.changed) }
+{
+    for vertex in tree.changed() {
+        vertices.push((area, *vertex))?;
+    }
+    Ok(())
+}
+
+// The work of both, as far as it can be counted.
+fn both(a: Touched, b: Touched) -> Touched
+    ensures taken { result.taken ≡ min (a.taken + b.taken) most_count }
+    ensures hop_sets { result.hop_sets ≡ min (a.hop_sets + b.hop_sets) most_count }
+{
+    Touched {
+        taken: a.taken.saturating_add(b.taken),
+        hop_sets: a.hop_sets.saturating_add(b.hop_sets),
+    }
+}

@@ -1,0 +1,6 @@
+pub mod Counting
+pub mod Elements
+pub mod VertexMaps
+pub mod VertexSets
+pub mod Grown
+pub mod SortedOnce

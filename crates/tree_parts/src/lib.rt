@@ -1,0 +1,14 @@
+//! What a shortest-path tree is made of, with no need of the graph: the distances of its vertices, their
+//! next hops, sets of vertices, its work counted, and which vertices a repair changed.
+#![tactic(auto)]
+
+pub mod differing;
+mod distances;
+mod hop_columns;
+mod members;
+mod touched;
+
+pub use distances::Distances;
+pub use hop_columns::HopColumns;
+pub use members::Members;
+pub use touched::Touched;

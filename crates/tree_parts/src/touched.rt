@@ -1,0 +1,66 @@
+//! The work of a tree, counted.
+ghost use Rattle.std.specs.Prelude.{◌≡◌, ◌+◌, ◌^◌, ◌<◌, IfSome, IfNone, OnOk, OnErr};
+ghost use Rattle.std.specs.FinMap as map;
+ghost use Rattle.tree_parts.specs.Maps.{with_hops};
+ghost use Rattle.vertex_queue.specs.Queues.{IsFirst};
+
+use crate::hop_columns::HopColumns;
+use hop_sets::HopSet;
+use ospf_types::entry::Vertex;
+use ospf_types::memory::Memory;
+use vertex_queue::Queue;
+
+/// The work of building or repairing a tree.
+#[derive(Clone, Copy, Debug, PartialEq, Eq)]
+pub struct Touched {
+    /// How many vertices were taken from the queue.
+    pub taken: usize,
+    /// How many sets of next hops were written.
+    pub hop_sets: usize,
+}
+
+impl Touched {
+    /// No work.
+    pub fn none() -> Touched
+        ensures { result ≡ record { taken = 0; hop_sets = 0 } }
+    {
+        Touched {
+            taken: 0,
+            hop_sets: 0,
+        }
+    }
+
+    /// Takes the first vertex from the queue. Nothing else takes one.
+    pub fn take(&mut self, queue: &mut Queue) -> Option<(Vertex, u32)>
+        requires { self.old.taken + 1 < 2 ^ 64 }
+        ensures none { IfNone result (queue.old ≡ map.empty) }
+        ensures still_none { IfNone result (queue.new ≡ map.empty) }
+        ensures uncounted { IfNone result (self.new ≡ self.old) }
+        ensures first { IfSome result (λ p. IsFirst queue.old p.0 p.1) }
+        ensures rest { IfSome result (λ p. queue.new ≡ map.remove queue.old p.0) }
+        ensures counted { IfSome result (λ p. self.new ≡ record { taken = self.old.taken + 1; hop_sets = self.old.hop_sets }) }
+    {
+        let first = queue.take()?;
+        self.taken += 1;
+        Some(first)
+    }
+
+    /// Writes the next hops of a vertex. Nothing else writes them.
+    pub fn write(
+        &mut self,
+        sets: &mut HopColumns,
+        vertex: Vertex,
+        hops: Option<HopSet>,
+    ) -> Result<(), Memory>
+        requires { self.old.hop_sets + 1 < 2 ^ 64 }
+        ensures written { OnOk result (sets.new ≡ with_hops sets.old vertex hops) }
+        ensures counted { OnOk result (self.new ≡ record { taken = self.old.taken; hop_sets = self.old.hop_sets + 1 }) }
+    {
+        match hops {
+            Some(hops) => sets.set(vertex, hops)?,
+            None => sets.remove(vertex),
+        }
+        self.hop_sets += 1;
+        Ok(())
+    }
+}

@@ -1,7 +1,0 @@
-use Rattle.vertex_graph.proofs.Keeping.{alike_by}
-use Rattle.vertex_graph.proofs.missing.is_alike_at.Goals as goal
-
-pub returns : goal.returns
-returns c =
-    alike_by c.args.vertex c.args.ends.now c.args.others.now c.ends_at.result.now c.ends_at-2.result.now c.ends_at.ensures.exact c.ends_at-2.ensures.exact c.ends_at.ensures.in_order c.ends_at-2.ensures.in_order
-    c.eq.result c.eq.ensures
