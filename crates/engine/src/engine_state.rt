@@ -1,7 +1,9 @@
 //! The engine that threads share.
-ghost use Rattle.std.specs.Prelude.{◌≡◌, ◌⊎◌, ◌↔◌, [], ◌∷◌, length, All, None, IfOk, IfErr, IfSome, MatchResult};
+ghost use Rattle.std.specs.Prelude.{◌≡◌, ◌⊎◌, ◌↔◌, ◌++◌, [], ◌∷◌, length, All, None, IfOk, IfErr, IfSome, OnOk, MatchResult};
+ghost use Rattle.event_core.specs.Cores.{IsCore};
 ghost use Rattle.event_core.specs.Configs.{config_fault_of};
 ghost use Rattle.event_state.specs.Steps.{standard_limits};
+ghost use Rattle.publication.specs.Forwarders.{Looker};
 ghost use Rattle.publication.specs.Published.{IsLegal};
 ghost use Rattle.engine.specs.Answers.{IsAnswered, Dues, HasArea};
 ghost use Rattle.engine.specs.Opens.{AreReaders, IsOpenFaultOf};
@@ -62,14 +64,10 @@ impl Engine {
         if readers == 0 || readers > MOST_READERS {
             return Err(OpenFault::Readers);
         }
-        let core = match Core::open(alloc, config, hashing) {
-            Ok(core) => core,
-            Err(fault) => return Err(OpenFault::Config(fault)),
-        };
-        let Ok(desk) = Desk::open(rt, alloc, core, readers) else {
-            return Err(OpenFault::Config(ConfigFault::Memory));
-        };
-        begin(rt, alloc, desk, readers)
+        match Core::open(alloc, config, hashing) {
+            Ok(core) => open_over(rt, alloc, core, readers),
+            Err(fault) => Err(OpenFault::Config(fault)),
+        }
     }
 
     /// Takes the event, or refuses it.
@@ -146,6 +144,28 @@ impl Engine {
     }
 }
 
+// The engine over a core that was opened just now, and so many forwarders.
+fn open_over<R: Wait>(
+    rt: &R,
+    alloc: Global,
+    core: Core,
+    readers: usize,
+) -> Result<(Engine, Vec<Forwarder>), OpenFault>
+    requires core { IsCore core }
+    requires begun { core.journal ≡ [] }
+    requires limits { core.limits ≡ standard_limits }
+    requires readers { AreReaders readers }
+    ensures fault { IfErr result (λ e. (e ≡ open_value.Place) ⊎ (e ≡ open_value.Config fault.Memory)) }
+    ensures config { IfOk result (λ r. r.0.config ≡ core.config) }
+    ensures count { IfOk result (λ r. length r.1.items ≡ readers) }
+    ensures forwarders { IfOk result (λ r. All (λ f. (f.name ≡ r.0) × (f.known ≡ [])) r.1.items) }
+{
+    match Desk::open(rt, alloc, core, readers) {
+        Ok(desk) => begin(rt, alloc, desk, readers),
+        Err(_) => Err(OpenFault::Config(ConfigFault::Memory)),
+    }
+}
+
 // The engine of a desk, and so many forwarders.
 fn begin<R: Wait>(
     rt: &R,
@@ -160,24 +180,54 @@ fn begin<R: Wait>(
     ensures forwarders { IfOk result (λ r. All (λ f. (f.name ≡ r.0) × (f.known ≡ [])) r.1.items) }
 {
     let mut desk = desk;
-    let all = match forwarders(&mut desk, alloc, readers) {
-        Ok(all) => all,
+    match forwarders(&mut desk, alloc, readers) {
+        Ok(all) => enter(rt, alloc, desk, all),
         Err(fault) => {
             drop(desk.end(rt));
-            return Err(fault);
+            Err(fault)
         }
-    };
-    let Ok(room) = Room::open(alloc, &desk.tag()) else {
-        drop(desk.end(rt));
-        return Err(OpenFault::Config(ConfigFault::Memory));
-    };
-    room.put(rt, desk);
-    let engine = Engine {
-        alloc,
-        door: Mutex::new(()),
-        room,
-    };
-    Ok((engine, all))
+    }
+}
+
+// The engine of a desk, beside its forwarders.
+fn enter<R: Wait>(
+    rt: &R,
+    alloc: Global,
+    desk: Desk,
+    all: Vec<Forwarder>,
+) -> Result<(Engine, Vec<Forwarder>), OpenFault>
+    ensures fault { IfErr result (λ e. e ≡ open_value.Config fault.Memory) }
+    ensures config { IfOk result (λ r. r.0 ≡ desk.name) }
+    ensures forwarders { IfOk result (λ r. r.1.items ≡ all.items) }
+{
+    match room_of(rt, alloc, desk) {
+        Ok(room) => Ok((
+            Engine {
+                alloc,
+                door: Mutex::new(()),
+                room,
+            },
+            all,
+        )),
+        Err(fault) => Err(fault),
+    }
+}
+
+// The room with the desk in it.
+fn room_of<R: Wait>(rt: &R, alloc: Global, desk: Desk) -> Result<Room, OpenFault>
+    ensures fault { IfErr result (λ e. e ≡ open_value.Config fault.Memory) }
+    ensures name { IfOk result (λ room. room ≡ desk.name) }
+{
+    match Room::open(alloc, &desk.tag()) {
+        Ok(room) => {
+            room.put(rt, desk);
+            Ok(room)
+        }
+        Err(_) => {
+            drop(desk.end(rt));
+            Err(OpenFault::Config(ConfigFault::Memory))
+        }
+    }
 }
 
 fn forwarders(desk: &mut Desk, alloc: Global, count: usize) -> Result<Vec<Forwarder>, OpenFault>
@@ -189,12 +239,31 @@ fn forwarders(desk: &mut Desk, alloc: Global, count: usize) -> Result<Vec<Forwar
 {
     let mut all = Vec::new(alloc);
     for _ in 0..count {
-        let Ok(forwarder) = desk.forwarder() else {
-            return Err(OpenFault::Place);
-        };
-        if all.push(forwarder).is_err() {
-            return Err(OpenFault::Config(ConfigFault::Memory));
-        }
+        add_forwarder(desk, &mut all)?;
     }
     Ok(all)
+}
+
+// Adds one more forwarder.
+fn add_forwarder(desk: &mut Desk, all: &mut Vec<Forwarder>) -> Result<(), OpenFault>
+    requires { desk.old.published ≡ [] }
+    ensures same { desk.new ≡ desk.old }
+    ensures added { OnOk result ((f : Looker) × (all.new.items ≡ all.old.items ++ f ∷ []) × (f.name ≡ desk.old.name) × (f.known ≡ [])) }
+    ensures fault { IfErr result (λ e. (e ≡ open_value.Place) ⊎ (e ≡ open_value.Config fault.Memory)) }
+{
+    match desk.forwarder() {
+        Ok(forwarder) => keep(forwarder, all),
+        Err(_) => Err(OpenFault::Place),
+    }
+}
+
+// Puts the forwarder behind the others.
+fn keep(forwarder: Forwarder, all: &mut Vec<Forwarder>) -> Result<(), OpenFault>
+    ensures added { OnOk result (all.new.items ≡ all.old.items ++ forwarder ∷ []) }
+    ensures fault { IfErr result (λ e. e ≡ open_value.Config fault.Memory) }
+{
+    match all.push(forwarder) {
+        Ok(()) => Ok(()),
+        Err(_) => Err(OpenFault::Config(ConfigFault::Memory)),
+    }
 }
