@@ -42,12 +42,16 @@ abbrev pub is_costly : Option Stub → Bool
 is_costly None = false
 is_costly (Some stub) = nat_le LSInfinity stub.cost
 
--- the table of faults, in its order; none where the configuration has none
-abbrev pub config_fault_of : Config → Option ConfigFault
-config_fault_of c = first_of (
-    (has_wrong_areas c.areas, fault.Areas)
-    ∷ (list_any (λ a. has_overlap a.ranges) c.areas, fault.RangesOverlap)
-    ∷ (list_any is_stub_backbone c.areas, fault.BackboneStub)
-    ∷ (list_any (λ a. is_costly a.stub) c.areas, fault.Cost)
-    ∷ (list_any (λ a. nat_lt 32 (length a.ranges)) c.areas, fault.RangeCount)
+-- the table of faults, in its order; none where the areas have none
+abbrev pub areas_fault_of : List AreaConfig → Option ConfigFault
+areas_fault_of areas = first_of (
+    (has_wrong_areas areas, fault.Areas)
+    ∷ (list_any (λ a. has_overlap a.ranges) areas, fault.RangesOverlap)
+    ∷ (list_any is_stub_backbone areas, fault.BackboneStub)
+    ∷ (list_any (λ a. is_costly a.stub) areas, fault.Cost)
+    ∷ (list_any (λ a. nat_lt 32 (length a.ranges)) areas, fault.RangeCount)
     ∷ [])
+
+-- a configuration's faults are those of its areas
+abbrev pub config_fault_of : Config → Option ConfigFault
+config_fault_of c = areas_fault_of c.areas

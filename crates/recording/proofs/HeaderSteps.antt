@@ -1,11 +1,11 @@
 -- From line to line of a header.
-use Rattle.std.proofs.Common.{ℕ, suc, ◌≡◌, ◌≢◌, ◌+◌, ◌<◌, ◌++◌, Bool, true, false, List, [], ◌∷◌, length, Option, Some, None, refl, sym, ap, subst, ◌∙◌, inl, arith, append_assoc, append-nil}
+use Rattle.std.proofs.Common.{ℕ, ◌≡◌, ◌≢◌, ◌+◌, ◌<◌, ◌++◌, Bool, true, false, List, [], ◌∷◌, length, Option, Some, None, refl, sym, ap, subst, ◌∙◌, inl, arith, append_assoc, append-nil}
 use Rattle.std.specs.List.{flat_map}
 use Rattle.std.proofs.lemmas.List.{length_push}
 use Rattle.std.proofs.lemmas.List.Elements.{All-nil}
 use Rattle.ospf_types.specs.declared.config.AreaConfig.{AreaConfig}
 use Rattle.ospf_types.specs.declared.config.Config.{Config}
-use Rattle.config_faults.specs.Configs.{config_fault_of}
+use Rattle.config_faults.specs.Configs.{areas_fault_of, config_fault_of}
 use Rattle.config_faults.specs.declared.fault.ConfigFault.{ConfigFault}
 use Rattle.recording.specs.declared.fault.Fault.{Fault}
 use Rattle.recording.specs.declared.fault.Fault.TheVariants as fault
@@ -34,12 +34,9 @@ right_past {text} {number} at right low config =
 
 -- ---- the first line
 
-no_second : (line first second : List ℕ) (others : List (List ℕ)) → line ∷ [] ≡ first ∷ second ∷ others → ⊥
-no_second line first second others e = let n : 1 ≡ suc (suc (length others)) = ap length e in omega arith
-
 pub version_step : {text : List ℕ} {number : ℕ} {line : List ℕ} {rest : List (List ℕ)} → IsLineAt text number [] line rest → Says line VersionLine → HasVersion text number rest
 version_step {text} {number} {line} {rest} at said =
-    let right = right_past at (none_before text number (omega (arith, at.counted))) (λ f lt h. below_config [] line rest VersionLine said refl tt f lt (line_fault at f h)) (λ c h. no_second line h.first h.second h.others h.begin) in
+    let right = right_past at (none_before text number (omega (arith, at.counted))) (λ f lt h. below_config [] line rest VersionLine said refl tt f lt (line_fault at f h)) (λ c h. omega (arith, h.header.two)) in
     let one : number ≡ 1 = omega (arith, at.counted) in
     record {
       first = line;
@@ -153,11 +150,6 @@ not_both b here other = cc
 pub not_nil : (front : List (List ℕ)) (last : List ℕ) → front ++ last ∷ [] ≢ []
 not_nil front last e = let n : length (front ++ last ∷ []) ≡ 0 = ap length e in omega (arith, length_push front last)
 
-said_second : (ls : List (List ℕ)) (f g : Form) (fs : List Form) → AllSay ls (f ∷ g ∷ fs) → (first : List ℕ) × (second : List ℕ) × (others : List (List ℕ)) × (ls ≡ first ∷ second ∷ others) × Says second g
-said_second [] f g fs all = absurd all
-said_second (l ∷ []) f g fs all = absurd all.1
-said_second (l ∷ m ∷ ls) f g fs all = (l, m, ls, refl, all.1.0)
-
 none_or_some : (o : Option ConfigFault) (f : ConfigFault) → o ≡ None → o ≡ Some f → ⊥
 none_or_some o f none some = cc
 
@@ -221,19 +213,11 @@ module _ {text : List ℕ} {taken : ℕ} {left : List (List ℕ)} {config : Conf
   pub header_config : EndsHeader left → (f : ConfigFault) → config_fault_of config ≡ Some f → IsFirstFault text taken (fault.Config f)
   header_config ends f is =
       let before : List (List ℕ) = h.earlier ++ h.last ∷ [] in
-      let two = said_second before VersionLine (RouterLine config.router) (flat_map area_forms config.areas) h.said in
-      let P : List AreaConfig → Type 0 = λ areas. config_fault_of (record { router = config.router; areas = areas }) ≡ Some f in
       let fault_is : HasConfigFault before left f = record {
         forms = flat_map area_forms config.areas;
         header = said_header before config h.said;
         ends = ends;
-        router = config.router;
-        first = two.0;
-        second = two.1;
-        others = two.2;
-        begin = two.3;
-        said = two.4;
-        has = subst P (sym (areas_of_said config.areas)) is;
+        has = ap areas_fault_of (areas_of_said config.areas) ∙ is;
       } in
       record {
         has = has_line_fault (last_at (end_full left ends)) (fault.Config f) fault_is;
@@ -246,8 +230,7 @@ module _ {text : List ℕ} {taken : ℕ} {left : List (List ℕ)} {config : Conf
   lines_begin ends none =
       let before : List (List ℕ) = h.earlier ++ h.last ∷ [] in
       let clean : (c : ConfigFault) → ¬ HasConfigFault before left c = λ c g.
-      let P : List AreaConfig → Type 0 = λ areas. config_fault_of (record { router = config.router; areas = areas }) ≡ Some c in
-      none_or_some (config_fault_of config) c none (subst P (same_areas g.forms g.header) g.has) in
+      none_or_some (areas_fault_of config.areas) c none (sym (ap areas_fault_of (same_areas g.forms g.header)) ∙ g.has) in
       record {
         before = before;
         parts = h.parts;

@@ -3,12 +3,12 @@ use Rattle.std.specs.Prelude.{ℕ, ◌≡◌, ◌≢◌, ◌<◌, ◌+◌, ◌==
 use Rattle.std.specs.List.{slice_split}
 use Rattle.ospf_types.specs.declared.key.Scope.{Scope}
 use Rattle.lsa_codec.specs.Faults.{fault_of}
-use Rattle.config_faults.specs.Configs.{config_fault_of}
+use Rattle.config_faults.specs.Configs.{areas_fault_of}
 use Rattle.config_faults.specs.declared.fault.ConfigFault.{ConfigFault}
 use Rattle.recording.specs.declared.fault.Fault.{Fault}
 use Rattle.recording.specs.declared.fault.Fault.TheVariants as fault
 use Rattle.recording.specs.declared.fault.LineFault.{LineFault}
-use Rattle.recording.specs.Forms.{Form, RouterLine, InstallLine, Says}
+use Rattle.recording.specs.Forms.{Form, InstallLine, Says}
 use Rattle.recording.specs.Places.{IsHeader, IsPlaced, areas_of, is_of_header}
 
 -- The parts that line feeds end, and last what stands behind the last line feed: a line without one, or nothing.
@@ -21,18 +21,12 @@ EndsHeader [] = ⊥
 EndsHeader (left ∷ []) = left ≡ []
 EndsHeader (line ∷ next ∷ more) = (form : Form) → Says line form → is_of_header form ≢ true
 
--- the lines are a whole header, whose configuration has this fault first
+-- the lines are a whole header, whose areas have this fault first
 pub record HasConfigFault (lines after : List (List ℕ)) (f : ConfigFault) : Type 0 where
   pub forms : List Form
   pub header : IsHeader lines forms
   pub ends : EndsHeader after
-  pub router : ℕ
-  pub first : List ℕ
-  pub second : List ℕ
-  pub others : List (List ℕ)
-  pub begin : lines ≡ first ∷ second ∷ others
-  pub said : Says second (RouterLine router)
-  pub has : config_fault_of (record { router = router; areas = areas_of forms }) ≡ Some f
+  pub has : areas_fault_of (areas_of forms) ≡ Some f
 
 -- the form of the line is not one that may stand behind these lines
 abbrev pub IsMisplaced : List (List ℕ) → List ℕ → Type 0
