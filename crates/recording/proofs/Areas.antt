@@ -15,7 +15,7 @@ use Rattle.ospf_types.specs.declared.config.Range.{Range}
 use Rattle.ospf_types.specs.declared.config.Stub.{Stub}
 use Rattle.ospf_types.specs.Network.{network_cmp}
 use Rattle.ospf_types.proofs.Orders.{network_total}
-use Rattle.recording.specs.Forms.{Form, VersionLine, RouterLine, AreaLine, RangeLine, InterfaceLine, InstallLine, FlushLine, PurgeLine, SecondLine, LookupLine}
+use Rattle.recording.specs.Forms.{Form, VersionLine, RouterLine, AreaLine, RangeLine, BodyLine}
 use Rattle.recording.specs.Places.{is_of_header, with_range, with_form, areas_from, areas_of, is_less, last_of, is_past_area, is_past_range, is_next_range, is_next}
 use Rattle.recording.specs.Recordings.{IsOrdered, area_forms}
 use Rattle.recording.proofs.Sorting.{last_cases, last_of-push, sorted_push_by, sorted_next_by}
@@ -106,12 +106,7 @@ said_more areas (RangeLine area range) next =
     subst (λ as'. P as' area) (sym at.2) (subst (λ id. P (at.0 ++ at.1 ∷ []) id) at.3 (said_range at.0 at.1 range))
 said_more areas VersionLine next = cc
 said_more areas (RouterLine router) next = cc
-said_more areas (InterfaceLine id area address peer up) next = cc
-said_more areas (InstallLine at bytes) next = cc
-said_more areas (FlushLine at key) next = cc
-said_more areas (PurgeLine at key) next = cc
-said_more areas SecondLine next = cc
-said_more areas (LookupLine address) next = cc
+said_more areas (BodyLine body) next = cc
 
 -- ---- the order
 
@@ -189,12 +184,7 @@ ordered_more areas (RangeLine area range) ordered next =
     subst P (sym at.2) (ordered_range at.0 at.1 range (subst IsOrdered at.2 ordered) at.4)
 ordered_more areas VersionLine ordered next = cc
 ordered_more areas (RouterLine router) ordered next = cc
-ordered_more areas (InterfaceLine id area address peer up) ordered next = cc
-ordered_more areas (InstallLine at bytes) ordered next = cc
-ordered_more areas (FlushLine at key) ordered next = cc
-ordered_more areas (PurgeLine at key) ordered next = cc
-ordered_more areas SecondLine ordered next = cc
-ordered_more areas (LookupLine address) ordered next = cc
+ordered_more areas (BodyLine body) ordered next = cc
 
 pub ordered_none : IsOrdered []
 unfolding IsStrictlySortedBy

@@ -26,7 +26,7 @@ use Rattle.ospf_types.specs.declared.prefix.Prefix.{Prefix}
 use Rattle.ospf_types.specs.Text.{address_text, prefix_text}
 use Rattle.ospf_types.proofs.Addresses.{address_dotted}
 use Rattle.recording.specs.Reading.{bytes_of, bytes_or_none}
-use Rattle.recording.specs.Forms.{Form, VersionLine, RouterLine, AreaLine, RangeLine, InterfaceLine, InstallLine, FlushLine, PurgeLine, SecondLine, LookupLine, IsForm, IsScope, IsKey, IsPrefix, IsStub, IsInterface, Says, words_of, line_text, scope_text, stub_words, key_words}
+use Rattle.recording.specs.Forms.{Form, Body, VersionLine, RouterLine, AreaLine, RangeLine, BodyLine, InterfaceLine, InstallLine, FlushLine, PurgeLine, SecondLine, LookupLine, IsForm, IsBody, IsScope, IsKey, IsPrefix, IsStub, IsInterface, Says, words_of, body_words, line_text, scope_text, stub_words, key_words}
 
 -- ---- the bytes of words
 
@@ -114,18 +114,8 @@ key_plain key h =
     let kind = h.kind in
     (Plain-decimal key.kind (omega arith), (Plain-address key.id h.id, (Plain-address key.router h.router, tt)))
 
-pub words_plain : (form : Form) → IsForm form → AllPlain (words_of form)
-words_plain VersionLine h = (Plain-literal (codes "abr") refl, (Plain-literal (codes "1") refl, tt))
-words_plain (RouterLine router) h = (Plain-literal (codes "router") refl, (Plain-address router h, tt))
-words_plain (AreaLine id stub) h = (Plain-literal (codes "area") refl, (Plain-address id h.0, stub_plain stub h.1))
-words_plain (RangeLine area range) h = (
-  Plain-literal (codes "range") refl,
-  (
-    Plain-address area h.0,
-    (Plain-prefix range.prefix h.1, (Plain-cond range.advertise _ _ (Plain-literal (codes "advertise") refl) (Plain-literal (codes "hide") refl), tt)),
-  ),
-)
-words_plain (InterfaceLine id area address peer up) h = (
+body_plain : (body : Body) → IsBody body → AllPlain (body_words body)
+body_plain (InterfaceLine id area address peer up) h = (
   Plain-literal (codes "interface") refl,
   (
     Plain-decimal id (omega arith),
@@ -138,11 +128,24 @@ words_plain (InterfaceLine id area address peer up) h = (
     ),
   ),
 )
-words_plain (InstallLine at bytes) h = (Plain-literal (codes "install") refl, (Plain-scope at h.0, (Plain-encode bytes h.1, tt)))
-words_plain (FlushLine at key) h = (Plain-literal (codes "flush") refl, (Plain-scope at h.0, key_plain key h.1))
-words_plain (PurgeLine at key) h = (Plain-literal (codes "purge") refl, (Plain-scope at h.0, key_plain key h.1))
-words_plain SecondLine h = (Plain-literal (codes "second") refl, tt)
-words_plain (LookupLine address) h = (Plain-literal (codes "lookup") refl, (Plain-address address h, tt))
+body_plain (InstallLine at bytes) h = (Plain-literal (codes "install") refl, (Plain-scope at h.0, (Plain-encode bytes h.1, tt)))
+body_plain (FlushLine at key) h = (Plain-literal (codes "flush") refl, (Plain-scope at h.0, key_plain key h.1))
+body_plain (PurgeLine at key) h = (Plain-literal (codes "purge") refl, (Plain-scope at h.0, key_plain key h.1))
+body_plain SecondLine h = (Plain-literal (codes "second") refl, tt)
+body_plain (LookupLine address) h = (Plain-literal (codes "lookup") refl, (Plain-address address h, tt))
+
+pub words_plain : (form : Form) → IsForm form → AllPlain (words_of form)
+words_plain VersionLine h = (Plain-literal (codes "abr") refl, (Plain-literal (codes "1") refl, tt))
+words_plain (RouterLine router) h = (Plain-literal (codes "router") refl, (Plain-address router h, tt))
+words_plain (AreaLine id stub) h = (Plain-literal (codes "area") refl, (Plain-address id h.0, stub_plain stub h.1))
+words_plain (RangeLine area range) h = (
+  Plain-literal (codes "range") refl,
+  (
+    Plain-address area h.0,
+    (Plain-prefix range.prefix h.1, (Plain-cond range.advertise _ _ (Plain-literal (codes "advertise") refl) (Plain-literal (codes "hide") refl), tt)),
+  ),
+)
+words_plain (BodyLine body) h = body_plain body h
 
 -- ---- no line feed
 
@@ -171,17 +174,20 @@ split_again : (words : List (List ℕ)) → 0 < length words → AllPlain words 
 split_again [] some h = absurd (omega arith)
 split_again (word ∷ words) some h = joined_split word words h.0 h.1
 
+some_body_word : (body : Body) → 0 < length (body_words body)
+some_body_word (InterfaceLine id area address peer up) = omega arith
+some_body_word (InstallLine at bytes) = omega arith
+some_body_word (FlushLine at key) = omega arith
+some_body_word (PurgeLine at key) = omega arith
+some_body_word SecondLine = omega arith
+some_body_word (LookupLine address) = omega arith
+
 some_word : (form : Form) → 0 < length (words_of form)
 some_word VersionLine = omega arith
 some_word (RouterLine router) = omega arith
 some_word (AreaLine id stub) = omega arith
 some_word (RangeLine area range) = omega arith
-some_word (InterfaceLine id area address peer up) = omega arith
-some_word (InstallLine at bytes) = omega arith
-some_word (FlushLine at key) = omega arith
-some_word (PurgeLine at key) = omega arith
-some_word SecondLine = omega arith
-some_word (LookupLine address) = omega arith
+some_word (BodyLine body) = some_body_word body
 
 -- a line, cut at its spaces, is its words
 pub line_split : (form : Form) → IsForm form → slice_split (λ b. b == 32) (line_text form) ≡ words_of form
@@ -219,21 +225,24 @@ key_in words = record { kind = number_in (get_or words 0 []); id = address_in (g
 abbrev range_in : List (List ℕ) → Range
 range_in words = record { prefix = prefix_in (get_or words 0 []); advertise = bytes_eq (get_or words 1 []) (codes "advertise") }
 
-abbrev interface_in : List (List ℕ) → Form
+abbrev interface_in : List (List ℕ) → Body
 interface_in words =
     InterfaceLine (number_in (get_or words 0 [])) (address_in (get_or words 1 [])) (address_in (get_or words 2 [])) (address_in (get_or words 3 [])) (bytes_eq (get_or words 4 []) (codes "up"))
+
+abbrev body_behind : List ℕ → List (List ℕ) → Body
+body_behind word words =
+    cond (bytes_eq word (codes "interface")) (interface_in words)
+    (cond (bytes_eq word (codes "install")) (InstallLine (scope_in (get_or words 0 [])) (bytes_of (get_or words 1 [])))
+    (cond (bytes_eq word (codes "flush")) (FlushLine (scope_in (get_or words 0 [])) (key_in (drop 1 words)))
+    (cond (bytes_eq word (codes "purge")) (PurgeLine (scope_in (get_or words 0 [])) (key_in (drop 1 words)))
+    (cond (bytes_eq word (codes "second")) SecondLine (LookupLine (address_in (get_or words 0 [])))))))
 
 abbrev form_behind : List ℕ → List (List ℕ) → Form
 form_behind word words =
     cond (bytes_eq word (codes "abr")) VersionLine
     (cond (bytes_eq word (codes "router")) (RouterLine (address_in (get_or words 0 [])))
     (cond (bytes_eq word (codes "area")) (AreaLine (address_in (get_or words 0 [])) (stub_in (drop 1 words)))
-    (cond (bytes_eq word (codes "range")) (RangeLine (address_in (get_or words 0 [])) (range_in (drop 1 words)))
-    (cond (bytes_eq word (codes "interface")) (interface_in words)
-    (cond (bytes_eq word (codes "install")) (InstallLine (scope_in (get_or words 0 [])) (bytes_of (get_or words 1 [])))
-    (cond (bytes_eq word (codes "flush")) (FlushLine (scope_in (get_or words 0 [])) (key_in (drop 1 words)))
-    (cond (bytes_eq word (codes "purge")) (PurgeLine (scope_in (get_or words 0 [])) (key_in (drop 1 words)))
-    (cond (bytes_eq word (codes "second")) SecondLine (LookupLine (address_in (get_or words 0 [])))))))))))
+    (cond (bytes_eq word (codes "range")) (RangeLine (address_in (get_or words 0 [])) (range_in (drop 1 words))) (BodyLine (body_behind word words)))))
 
 abbrev form_in : List (List ℕ) → Form
 form_in words = form_behind (get_or words 0 []) (drop 1 words)
@@ -314,18 +323,33 @@ interface_again : (id area address peer : ℕ) (up : Bool) → IsInterface id ar
 interface_again id area address peer up h =
     rw (number_again id (omega arith), address_again area h.1, address_again address h.2, address_again peer h.3, choice_again up (codes "up") (codes "down") refl refl)
 
+abbrev body_in : List (List ℕ) → Body
+body_in words = body_behind (get_or words 0 []) (drop 1 words)
+
+body_again : (body : Body) → IsBody body → body_in (body_words body) ≡ body
+body_again (InterfaceLine id area address peer up) h = interface_again id area address peer up h
+body_again (InstallLine at bytes) h = ap (λ s. InstallLine s (bytes_of (encode_lower bytes))) (scope_again at h.0) ∙ ap (InstallLine at) (bytes_again bytes h.1)
+body_again (FlushLine at key) h = ap (λ s. FlushLine s (key_in (key_words key))) (scope_again at h.0) ∙ ap (FlushLine at) (key_again key h.1)
+body_again (PurgeLine at key) h = ap (λ s. PurgeLine s (key_in (key_words key))) (scope_again at h.0) ∙ ap (PurgeLine at) (key_again key h.1)
+body_again SecondLine h = refl
+body_again (LookupLine address) h = ap LookupLine (address_again address h)
+
+-- the first word of such a line is none of the other four
+is_body : (body : Body) → form_in (body_words body) ≡ BodyLine (body_in (body_words body))
+is_body (InterfaceLine id area address peer up) = refl
+is_body (InstallLine at bytes) = refl
+is_body (FlushLine at key) = refl
+is_body (PurgeLine at key) = refl
+is_body SecondLine = refl
+is_body (LookupLine address) = refl
+
 form_again : (form : Form) → IsForm form → form_in (words_of form) ≡ form
 form_again VersionLine h = refl
 form_again (RouterLine router) h = ap RouterLine (address_again router h)
 form_again (AreaLine id stub) h = ap (λ i. AreaLine i (stub_in (stub_words stub))) (address_again id h.0) ∙ ap (AreaLine id) (stub_again stub h.1)
 form_again (RangeLine area range) h =
     ap (λ a. RangeLine a (range_in (prefix_text range.prefix ∷ cond range.advertise (codes "advertise") (codes "hide") ∷ []))) (address_again area h.0) ∙ ap (RangeLine area) (range_again range h.1)
-form_again (InterfaceLine id area address peer up) h = interface_again id area address peer up h
-form_again (InstallLine at bytes) h = ap (λ s. InstallLine s (bytes_of (encode_lower bytes))) (scope_again at h.0) ∙ ap (InstallLine at) (bytes_again bytes h.1)
-form_again (FlushLine at key) h = ap (λ s. FlushLine s (key_in (key_words key))) (scope_again at h.0) ∙ ap (FlushLine at) (key_again key h.1)
-form_again (PurgeLine at key) h = ap (λ s. PurgeLine s (key_in (key_words key))) (scope_again at h.0) ∙ ap (PurgeLine at) (key_again key h.1)
-form_again SecondLine h = refl
-form_again (LookupLine address) h = ap LookupLine (address_again address h)
+form_again (BodyLine body) h = is_body body ∙ ap BodyLine (body_again body h)
 
 -- no line says two things
 pub says_one : (line : List ℕ) (f g : Form) → Says line f → Says line g → f ≡ g

@@ -9,7 +9,7 @@ use Rattle.config_faults.specs.Configs.{areas_fault_of, config_fault_of}
 use Rattle.config_faults.specs.declared.fault.ConfigFault.{ConfigFault}
 use Rattle.recording.specs.declared.fault.Fault.{Fault}
 use Rattle.recording.specs.declared.fault.Fault.TheVariants as fault
-use Rattle.recording.specs.Forms.{Form, VersionLine, RouterLine, AreaLine, RangeLine, InterfaceLine, InstallLine, FlushLine, PurgeLine, SecondLine, LookupLine, Says, AllSay}
+use Rattle.recording.specs.Forms.{Form, VersionLine, RouterLine, AreaLine, RangeLine, BodyLine, Says, AllSay}
 use Rattle.recording.specs.Places.{IsHeader, IsPlaced, areas_of, is_of_header, is_next, with_form}
 use Rattle.recording.specs.Faults.{EndsHeader, HasConfigFault, HasFault, IsFirstFault, AreRightBefore, number_of}
 use Rattle.recording.specs.Recordings.{HasKind, HasWholeLsa, area_forms, header_forms}
@@ -78,12 +78,7 @@ router_order first VersionLine other h = cc
 router_order first (RouterLine router) other h = other router refl
 router_order first (AreaLine id stub) other h = omega (arith, h.1.two)
 router_order first (RangeLine area range) other h = omega (arith, h.1.two)
-router_order first (InterfaceLine id area address peer up) other h = omega arith
-router_order first (InstallLine at bytes) other h = omega arith
-router_order first (FlushLine at key) other h = omega arith
-router_order first (PurgeLine at key) other h = omega arith
-router_order first SecondLine other h = omega arith
-router_order first (LookupLine address) other h = omega arith
+router_order first (BodyLine body) other h = omega arith
 
 -- ---- the end of a header
 
@@ -124,12 +119,7 @@ next_form before config all (RangeLine area range) next = record {
 }
 next_form before config all VersionLine next = cc
 next_form before config all (RouterLine router) next = cc
-next_form before config all (InterfaceLine id area address peer up) next = cc
-next_form before config all (InstallLine at bytes) next = cc
-next_form before config all (FlushLine at key) next = cc
-next_form before config all (PurgeLine at key) next = cc
-next_form before config all SecondLine next = cc
-next_form before config all (LookupLine address) next = cc
+next_form before config all (BodyLine body) next = cc
 
 -- a line of the header that may stand behind these is next
 placed_next : (before : List (List ℕ)) (areas : List AreaConfig) → ((forms : List Form) → IsHeader before forms → areas_of forms ≡ areas) → (form : Form) → is_of_header form ≡ true → IsPlaced before form → is_next areas form ≡ true
@@ -137,12 +127,7 @@ placed_next before areas same (AreaLine id stub) here h = subst (λ (as' : List 
 placed_next before areas same (RangeLine area range) here h = subst (λ (as' : List AreaConfig). is_next as' (RangeLine area range) ≡ true) (same h.0 h.1) h.2
 placed_next before areas same VersionLine here h = cc
 placed_next before areas same (RouterLine router) here h = cc
-placed_next before areas same (InterfaceLine id area address peer up) here h = cc
-placed_next before areas same (InstallLine at bytes) here h = cc
-placed_next before areas same (FlushLine at key) here h = cc
-placed_next before areas same (PurgeLine at key) here h = cc
-placed_next before areas same SecondLine here h = cc
-placed_next before areas same (LookupLine address) here h = cc
+placed_next before areas same (BodyLine body) here h = cc
 
 not_both : (b : Bool) → b ≡ true → b ≡ false → ⊥
 not_both b here other = cc

@@ -12,7 +12,7 @@ use Rattle.recording.specs.declared.fault.Fault.{Fault}
 use Rattle.recording.specs.declared.fault.Fault.TheVariants as fault
 use Rattle.recording.specs.declared.line.Line.{Line}
 use Rattle.recording.specs.declared.line.Line.TheVariants as line_is
-use Rattle.recording.specs.Forms.{Form, VersionLine, RouterLine, AreaLine, RangeLine, InterfaceLine, InstallLine, FlushLine, PurgeLine, SecondLine, LookupLine, Says, AllSay, line_text}
+use Rattle.recording.specs.Forms.{Form, VersionLine, RouterLine, AreaLine, RangeLine, BodyLine, Says, AllSay, line_text}
 use Rattle.recording.specs.Places.{IsHeader, IsPlaced, is_of_header}
 use Rattle.recording.specs.Faults.{EndsHeader, HasConfigFault, IsFaultOf}
 use Rattle.recording.specs.Recordings.{RecordingValue, IsText, HasKind, HasWholeLsa, area_forms, header_forms, form_of, forms_of, text_of_forms}
@@ -25,12 +25,7 @@ use Rattle.recording.proofs.AllSaid.{said_push, said_length, said_legal, header_
 -- ---- what stands behind the header
 
 pub not_of_header : (l : Line) → is_of_header (form_of l) ≡ true → ⊥
-not_of_header (line_is.Event (event.Install at lsa)) h = cc
-not_of_header (line_is.Event (event.Flush at key)) h = cc
-not_of_header (line_is.Event (event.Purge at key)) h = cc
-not_of_header (line_is.Event (event.Interface id area address peer up)) h = cc
-not_of_header (line_is.Event event.Second) h = cc
-not_of_header (line_is.Lookup address) h = cc
+not_of_header l h = cc
 
 -- where all lines are of the header, there are no others
 header_alone : (fs : List Form) (lines : List Line) → AllPass is_of_header (fs ++ map form_of lines) → lines ≡ []
@@ -38,14 +33,6 @@ header_alone fs [] all = refl
 header_alone fs (l ∷ lines) all =
     let P : Form → Type 0 = λ form. is_of_header form ≡ true in
     absurd (not_of_header l (All-head P (form_of l) (map form_of lines) (all_right P fs (form_of l ∷ map form_of lines) all)))
-
-placed_behind : (before : List (List ℕ)) (l : Line) → 2 ≤ length before → IsPlaced before (form_of l)
-placed_behind before (line_is.Event (event.Install at lsa)) two = two
-placed_behind before (line_is.Event (event.Flush at key)) two = two
-placed_behind before (line_is.Event (event.Purge at key)) two = two
-placed_behind before (line_is.Event (event.Interface id area address peer up)) two = two
-placed_behind before (line_is.Event event.Second) two = two
-placed_behind before (line_is.Lookup address) two = two
 
 whole_behind : (l : Line) → HasWholeLsa l → HasNoWireFault (form_of l)
 whole_behind (line_is.Event (event.Install at lsa)) whole = spelled_none (spelling lsa) lsa whole.sound whole.spelled
@@ -94,12 +81,7 @@ module _ {text : List ℕ} {taken : ℕ} {left : List (List ℕ)} {r : Recording
   misplaced line rest is full (RouterLine router) said heading placed = omega (arith, two_lines)
   misplaced line rest is full (AreaLine id stub) said heading placed = no_next line rest is full (AreaLine id stub) said refl placed.0 placed.1
   misplaced line rest is full (RangeLine area range) said heading placed = no_next line rest is full (RangeLine area range) said refl placed.0 placed.1
-  misplaced line rest is full (InterfaceLine id area address peer up) said heading placed = heading
-  misplaced line rest is full (InstallLine at bytes) said heading placed = heading
-  misplaced line rest is full (FlushLine at key) said heading placed = heading
-  misplaced line rest is full (PurgeLine at key) said heading placed = heading
-  misplaced line rest is full SecondLine said heading placed = heading
-  misplaced line rest is full (LookupLine address) said heading placed = heading
+  misplaced line rest is full (BodyLine body) said heading placed = heading
 
   pub fault_behind : (line : List ℕ) (rest : List (List ℕ)) → left ≡ line ∷ rest → 0 < length rest → (f : Fault) → IsFaultBehind line f → IsFaultOf text (record { line = taken + 1; fault = f })
   fault_behind line rest is full fault.Truncated has = absurd has
@@ -132,7 +114,7 @@ module _ {text : List ℕ} {taken : ℕ} {left : List (List ℕ)} {r : Recording
         kept = record { config = h.kept.config; ordered = h.kept.ordered; kinds = All-push HasKind r.lines l h.kept.kinds of.kind };
         lsas = All-push HasWholeLsa r.lines l h.lsas of.whole;
         ends = λ e. absurd (pushed_lines r.lines l e);
-        right = right_past at h.right (λ f lt g. below_config h.before line rest (form_of l) of.said (placed_behind h.before l two_lines) (whole_behind l of.whole) f lt (line_fault at f g)) clean;
+        right = right_past at h.right (λ f lt g. below_config h.before line rest (form_of l) of.said two_lines (whole_behind l of.whole) f lt (line_fault at f g)) clean;
       }
 
 -- ---- the whole text

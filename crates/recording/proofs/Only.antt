@@ -16,7 +16,7 @@ use Rattle.recording.specs.declared.fault.Fault.TheVariants as fault
 use Rattle.recording.specs.declared.fault.LineFault.{LineFault}
 use Rattle.recording.specs.declared.line.Line.{Line}
 use Rattle.recording.specs.declared.line.Line.TheVariants as line_is
-use Rattle.recording.specs.Forms.{Form, VersionLine, RouterLine, AreaLine, RangeLine, InterfaceLine, InstallLine, FlushLine, PurgeLine, SecondLine, LookupLine, IsForm, Says, AllSay, line_text}
+use Rattle.recording.specs.Forms.{Form, VersionLine, RouterLine, AreaLine, RangeLine, BodyLine, InterfaceLine, InstallLine, FlushLine, PurgeLine, SecondLine, LookupLine, IsForm, Says, AllSay, line_text}
 use Rattle.recording.specs.Places.{is_of_header, areas_from, areas_of, with_form}
 use Rattle.recording.specs.Faults.{parts_of, EndsHeader, IsFaultOfEnd, IsFaultAt, HasFault, IsFaultOf}
 use Rattle.recording.specs.Recordings.{RecordingValue, IsText, HasKind, HasWholeLsa, area_forms, form_of, forms_of, text_of_forms}
@@ -54,16 +54,12 @@ forms_once {text} {r} {s} h k =
 
 -- the line that a form behind the header says
 line_of : Form → Line
-line_of VersionLine = line_is.Event event.Second
-line_of (RouterLine router) = line_is.Event event.Second
-line_of (AreaLine id stub) = line_is.Event event.Second
-line_of (RangeLine area range) = line_is.Event event.Second
-line_of (InterfaceLine id area address peer up) = line_is.Event (event.Interface id area address peer up)
-line_of (InstallLine at bytes) = line_is.Event (event.Install at (lsa_of bytes))
-line_of (FlushLine at key) = line_is.Event (event.Flush at key)
-line_of (PurgeLine at key) = line_is.Event (event.Purge at key)
-line_of SecondLine = line_is.Event event.Second
-line_of (LookupLine address) = line_is.Lookup address
+line_of (BodyLine (InterfaceLine id area address peer up)) = line_is.Event (event.Interface id area address peer up)
+line_of (BodyLine (InstallLine at bytes)) = line_is.Event (event.Install at (lsa_of bytes))
+line_of (BodyLine (FlushLine at key)) = line_is.Event (event.Flush at key)
+line_of (BodyLine (PurgeLine at key)) = line_is.Event (event.Purge at key)
+line_of (BodyLine (LookupLine address)) = line_is.Lookup address
+line_of _ = line_is.Event event.Second
 
 line_again : (l : Line) → HasWholeLsa l → line_of (form_of l) ≡ l
 unfolding line_of

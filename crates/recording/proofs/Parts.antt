@@ -8,7 +8,7 @@ use Rattle.lsa_codec.specs.declared.fault.WireFault.{WireFault}
 use Rattle.ospf_types.specs.declared.key.Scope.{Scope}
 use Rattle.recording.specs.declared.fault.Fault.{Fault}
 use Rattle.recording.specs.declared.fault.Fault.TheVariants as fault
-use Rattle.recording.specs.Forms.{Form, VersionLine, RouterLine, AreaLine, RangeLine, InterfaceLine, InstallLine, FlushLine, PurgeLine, SecondLine, LookupLine, Says}
+use Rattle.recording.specs.Forms.{Form, VersionLine, RouterLine, AreaLine, RangeLine, BodyLine, InstallLine, Says}
 use Rattle.recording.specs.Places.{IsPlaced}
 use Rattle.recording.specs.Faults.{parts_of, IsFaultAt, IsFaultOfLine, HasFault, IsFirstFault, AreRightBefore, number_of}
 use Rattle.recording.proofs.Forms.{says_one}
@@ -103,12 +103,7 @@ placed_first VersionLine h = refl
 placed_first (RouterLine router) h = absurd (omega arith)
 placed_first (AreaLine id stub) h = absurd (omega (arith, h.1.two))
 placed_first (RangeLine area range) h = absurd (omega (arith, h.1.two))
-placed_first (InterfaceLine id area address peer up) h = absurd (omega arith)
-placed_first (InstallLine at bytes) h = absurd (omega arith)
-placed_first (FlushLine at key) h = absurd (omega arith)
-placed_first (PurgeLine at key) h = absurd (omega arith)
-placed_first SecondLine h = absurd (omega arith)
-placed_first (LookupLine address) h = absurd (omega arith)
+placed_first (BodyLine body) h = absurd (omega arith)
 
 first_version : (before : List (List ℕ)) (line : List ℕ) (form : Form) → Says line form → IsPlaced before form → before ≡ [] → line ≡ codes "abr 1"
 first_version before line form said placed first =
@@ -129,16 +124,8 @@ below_wire before line rest form said placed fault.Memory lt h = h
 
 -- the bytes that a form has to install are an LSA
 abbrev pub HasNoWireFault : Form → Type 0
-HasNoWireFault VersionLine = Unit {0}
-HasNoWireFault (RouterLine router) = Unit {0}
-HasNoWireFault (AreaLine id stub) = Unit {0}
-HasNoWireFault (RangeLine area range) = Unit {0}
-HasNoWireFault (InterfaceLine id area address peer up) = Unit {0}
-HasNoWireFault (InstallLine at bytes) = fault_of bytes ≡ None
-HasNoWireFault (FlushLine at key) = Unit {0}
-HasNoWireFault (PurgeLine at key) = Unit {0}
-HasNoWireFault SecondLine = Unit {0}
-HasNoWireFault (LookupLine address) = Unit {0}
+HasNoWireFault (BodyLine (InstallLine at bytes)) = fault_of bytes ≡ None
+HasNoWireFault _ = Unit {0}
 
 none_not_some : (o : Option WireFault) (f : WireFault) → o ≡ None → o ≡ Some f → ⊥
 none_not_some o f none some = cc
@@ -151,7 +138,7 @@ below_config before line rest form said placed whole fault.Line lt h = h form sa
 below_config before line rest form said placed whole fault.Order lt h =
     below_wire before line rest form said placed fault.Order (omega arith) h
 below_config before line rest form said placed whole (fault.Wire f) lt h =
-    let none : HasNoWireFault (InstallLine h.0 h.1) = subst HasNoWireFault (says_one line form (InstallLine h.0 h.1) said h.2) whole in
+    let none : HasNoWireFault (BodyLine (InstallLine h.0 h.1)) = subst HasNoWireFault (says_one line form (BodyLine (InstallLine h.0 h.1)) said h.2) whole in
     none_not_some (fault_of h.1) f none h.3
 below_config before line rest form said placed whole (fault.Config f) lt h = omega arith
 below_config before line rest form said placed whole fault.Memory lt h = h
@@ -181,11 +168,11 @@ module _ {text : List ℕ} {number : ℕ} {before : List (List ℕ)} {line : Lis
     faults = λ g lt h. below_order before line rest later form said g lt (line_fault at g h);
   }
 
-  pub wire_fault : (scope : Scope) (bytes : List ℕ) (f : WireFault) → Says line (InstallLine scope bytes) → IsPlaced before (InstallLine scope bytes) → fault_of bytes ≡ Some f → IsFirstFault text number (fault.Wire f)
+  pub wire_fault : (scope : Scope) (bytes : List ℕ) (f : WireFault) → Says line (BodyLine (InstallLine scope bytes)) → IsPlaced before (BodyLine (InstallLine scope bytes)) → fault_of bytes ≡ Some f → IsFirstFault text number (fault.Wire f)
   wire_fault scope bytes f said placed has = record {
     has = has_line_fault at (fault.Wire f) (scope, bytes, said, has);
     lines = right;
-    faults = λ g lt h. below_wire before line rest (InstallLine scope bytes) said placed g lt (line_fault at g h);
+    faults = λ g lt h. below_wire before line rest (BodyLine (InstallLine scope bytes)) said placed g lt (line_fault at g h);
   }
 
 below_end : (before : List (List ℕ)) (left : List ℕ) (g : Fault) → number_of g < 50 → ¬ IsFaultAt before (left ∷ []) g

@@ -10,7 +10,7 @@ use Rattle.ospf_types.specs.declared.config.Config.{Config}
 use Rattle.ospf_types.specs.declared.config.Range.{Range}
 use Rattle.ospf_types.specs.Text.{address_text, prefix_text}
 use Rattle.recording.specs.declared.line.Line.{Line}
-use Rattle.recording.specs.Forms.{Form, VersionLine, RouterLine, AreaLine, InterfaceLine, RangeLine, IsForm}
+use Rattle.recording.specs.Forms.{Form, VersionLine, RouterLine, AreaLine, RangeLine, BodyLine, InterfaceLine, IsForm}
 use Rattle.recording.specs.Recordings.{RecordingValue, form_of, forms_of, HasKind, HasWholeLsa, ended, text_of_forms, area_forms, header_forms}
 
 three : (a b c : List ℕ) → a ++ 32 ∷ (b ++ 32 ∷ (c ++ 10 ∷ [])) ≡ (a ++ 32 ∷ (b ++ 32 ∷ c)) ++ 10 ∷ []
@@ -22,7 +22,7 @@ five a b c d e = simp append_assoc
 
 pub interface_printed : (old new state : List ℕ) (id area address peer : ℕ) (up : Bool) → state ≡ cond up (codes "up") (codes "down")
     → new ≡ old ++ (codes "interface " ++ (decimal id ++ 32 ∷ (address_text area ++ 32 ∷ (address_text address ++ 32 ∷ (address_text peer ++ 32 ∷ (state ++ 10 ∷ []))))))
-    → new ≡ old ++ ended (InterfaceLine id area address peer up)
+    → new ≡ old ++ ended (BodyLine (InterfaceLine id area address peer up))
 interface_printed old new state id area address peer up is written =
     written ∙ ap (λ (text : List ℕ). old ++ (codes "interface " ++ text)) (rw is (five (decimal id) (address_text area) (address_text address) (address_text peer) (cond up (codes "up") (codes "down"))))
 

@@ -12,7 +12,7 @@ use Rattle.ospf_types.specs.declared.config.Range.{Range}
 use Rattle.ospf_types.specs.declared.config.Stub.{Stub}
 use Rattle.ospf_types.specs.declared.key.Scope.{Scope}
 use Rattle.ospf_types.specs.Text.{address_text, prefix_text}
-use Rattle.recording.specs.Forms.{Form, AreaLine, RangeLine, InterfaceLine, InstallLine, IsScope, IsPrefix, IsStub, IsInterface, IsAddress, Says, scope_text, stub_words}
+use Rattle.recording.specs.Forms.{Form, AreaLine, RangeLine, BodyLine, InterfaceLine, InstallLine, SecondLine, IsScope, IsPrefix, IsStub, IsInterface, IsAddress, Says, scope_text, stub_words}
 use Rattle.recording.specs.Reading.{AreDigits, AreRead, SaysWords, bytes_of, said_by, cut}
 use Rattle.recording.specs.declared.form.LineForm.{LineForm}
 use Rattle.recording.proofs.Forms.{are_bytes, bytes_again, line_split}
@@ -36,6 +36,7 @@ pub record AreaWords (words : List (List ℕ)) : Type 0 where
 
 pub area_words : (words : List (List ℕ)) (form : Form) → SaysWords (codes "area" ∷ words) form → AreaWords words
 area_words words (AreaLine id stub) said = let spelled = said.spelled in record { id = id; stub = stub; address = said.legal.0; legal = said.legal.1; spelled = cc spelled }
+area_words words (BodyLine SecondLine) said = absurd (another (codes "area") _ words _ said.spelled refl)
 area_words words _ said = absurd (another (codes "area") _ words _ said.spelled refl)
 
 pub record RangeWords (words : List (List ℕ)) : Type 0 where
@@ -47,6 +48,7 @@ pub record RangeWords (words : List (List ℕ)) : Type 0 where
 
 pub range_words : (words : List (List ℕ)) (form : Form) → SaysWords (codes "range" ∷ words) form → RangeWords words
 range_words words (RangeLine area range) said = let spelled = said.spelled in record { area = area; range = range; address = said.legal.0; legal = said.legal.1; spelled = cc spelled }
+range_words words (BodyLine SecondLine) said = absurd (another (codes "range") _ words _ said.spelled refl)
 range_words words _ said = absurd (another (codes "range") _ words _ said.spelled refl)
 
 pub record InterfaceWords (words : List (List ℕ)) : Type 0 where
@@ -59,7 +61,7 @@ pub record InterfaceWords (words : List (List ℕ)) : Type 0 where
   pub spelled : words ≡ decimal id ∷ address_text area ∷ address_text address ∷ address_text peer ∷ cond up (codes "up") (codes "down") ∷ []
 
 pub interface_words : (words : List (List ℕ)) (form : Form) → SaysWords (codes "interface" ∷ words) form → InterfaceWords words
-interface_words words (InterfaceLine id area address peer up) said =
+interface_words words (BodyLine (InterfaceLine id area address peer up)) said =
     let spelled = said.spelled in
     record { id = id; area = area; address = address; peer = peer; up = up; legal = said.legal; spelled = cc spelled }
 interface_words words _ said = absurd (another (codes "interface") _ words _ said.spelled refl)
@@ -80,7 +82,7 @@ read_none line words (Some found) same h none form said = cc none
 -- ---- digits
 
 pub install_says : (words : List (List ℕ)) (at : Scope) (digits : List ℕ) → IsScope at → words ≡ scope_text at ∷ digits ∷ [] → AreDigits digits
-    → SaysWords (codes "install" ∷ words) (InstallLine at (bytes_of digits)) × (decode_of digits ≡ Ok (bytes_of digits))
+    → SaysWords (codes "install" ∷ words) (BodyLine (InstallLine at (bytes_of digits))) × (decode_of digits ≡ Ok (bytes_of digits))
 install_says words at digits legal is h =
     let same : bytes_of digits ≡ h.0 = ap bytes_of h.2 ∙ bytes_again h.0 h.1 in
     let small : All (λ b. b < 2 ^ 8) (bytes_of digits) = rw same h.1 in

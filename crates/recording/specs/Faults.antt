@@ -8,7 +8,7 @@ use Rattle.config_faults.specs.declared.fault.ConfigFault.{ConfigFault}
 use Rattle.recording.specs.declared.fault.Fault.{Fault}
 use Rattle.recording.specs.declared.fault.Fault.TheVariants as fault
 use Rattle.recording.specs.declared.fault.LineFault.{LineFault}
-use Rattle.recording.specs.Forms.{Form, InstallLine, Says}
+use Rattle.recording.specs.Forms.{Form, BodyLine, InstallLine, Says}
 use Rattle.recording.specs.Places.{IsHeader, IsPlaced, areas_of, is_of_header}
 
 -- The parts that line feeds end, and last what stands behind the last line feed: a line without one, or nothing.
@@ -38,7 +38,7 @@ IsFaultOfLine before line after fault.Truncated = ⊥
 IsFaultOfLine before line after fault.Version = (before ≡ []) × (line ≢ codes "abr 1")
 IsFaultOfLine before line after fault.Line = (form : Form) → ¬ Says line form
 IsFaultOfLine before line after fault.Order = IsMisplaced before line
-IsFaultOfLine before line after (fault.Wire f) = (at : Scope) × (bytes : List ℕ) × Says line (InstallLine at bytes) × (fault_of bytes ≡ Some f)
+IsFaultOfLine before line after (fault.Wire f) = (at : Scope) × (bytes : List ℕ) × Says line (BodyLine (InstallLine at bytes)) × (fault_of bytes ≡ Some f)
 IsFaultOfLine before line after (fault.Config f) = HasConfigFault (before ++ line ∷ []) after f
 IsFaultOfLine before line after fault.Memory = ⊥
 

@@ -1,5 +1,5 @@
 -- The lines of a recording: their words, and the one space between each two.
-use Rattle.std.specs.Prelude.{ℕ, ◌≡◌, ◌<◌, ◌≤◌, ◌^◌, ◌++◌, Bool, cond, List, [], ◌∷◌, Option, Some, None, All, codes, decimal}
+use Rattle.std.specs.Prelude.{ℕ, ◌≡◌, ◌<◌, ◌≤◌, ◌^◌, Bool, cond, List, [], ◌∷◌, Option, Some, None, All, codes, decimal}
 use Rattle.std.specs.List.{join_with_byte}
 use Rattle.hex.specs.Hex.{encode_lower}
 use Rattle.ospf_types.specs.declared.config.Range.{Range}
@@ -11,18 +11,22 @@ use Rattle.ospf_types.specs.declared.prefix.Prefix.{Prefix}
 use Rattle.ospf_types.specs.Masks.{masked}
 use Rattle.ospf_types.specs.Text.{address_text, prefix_text}
 
--- what a line says
+-- what a line behind the header says: an event, or an address that is looked up
+pub data Body : Type 0 where
+  InterfaceLine : (id area address peer : ℕ) (up : Bool) → Body
+  InstallLine : (at : Scope) (bytes : List ℕ) → Body
+  FlushLine : (at : Scope) (key : Key) → Body
+  PurgeLine : (at : Scope) (key : Key) → Body
+  SecondLine : Body
+  LookupLine : (address : ℕ) → Body
+
+-- what a line says, by where it may stand: one of the first lines, one of the header, or one behind it
 pub data Form : Type 0 where
   VersionLine : Form
   RouterLine : (router : ℕ) → Form
   AreaLine : (id : ℕ) (stub : Option Stub) → Form
   RangeLine : (area : ℕ) (range : Range) → Form
-  InterfaceLine : (id area address peer : ℕ) (up : Bool) → Form
-  InstallLine : (at : Scope) (bytes : List ℕ) → Form
-  FlushLine : (at : Scope) (key : Key) → Form
-  PurgeLine : (at : Scope) (key : Key) → Form
-  SecondLine : Form
-  LookupLine : (address : ℕ) → Form
+  BodyLine : (body : Body) → Form
 
 -- ---- words
 
@@ -40,19 +44,22 @@ stub_words (Some stub) = codes "stub" ∷ decimal stub.cost ∷ cond stub.summar
 abbrev pub key_words : Key → List (List ℕ)
 key_words key = decimal key.kind ∷ address_text key.id ∷ address_text key.router ∷ []
 
+abbrev pub body_words : Body → List (List ℕ)
+body_words (InterfaceLine id area address peer up) =
+    codes "interface" ∷ decimal id ∷ address_text area ∷ address_text address ∷ address_text peer ∷ cond up (codes "up") (codes "down") ∷ []
+body_words (InstallLine at bytes) = codes "install" ∷ scope_text at ∷ encode_lower bytes ∷ []
+body_words (FlushLine at key) = codes "flush" ∷ scope_text at ∷ key_words key
+body_words (PurgeLine at key) = codes "purge" ∷ scope_text at ∷ key_words key
+body_words SecondLine = codes "second" ∷ []
+body_words (LookupLine address) = codes "lookup" ∷ address_text address ∷ []
+
 abbrev pub words_of : Form → List (List ℕ)
 words_of VersionLine = codes "abr" ∷ codes "1" ∷ []
 words_of (RouterLine router) = codes "router" ∷ address_text router ∷ []
 words_of (AreaLine id stub) = codes "area" ∷ address_text id ∷ stub_words stub
 words_of (RangeLine area range) =
     codes "range" ∷ address_text area ∷ prefix_text range.prefix ∷ cond range.advertise (codes "advertise") (codes "hide") ∷ []
-words_of (InterfaceLine id area address peer up) =
-    codes "interface" ∷ decimal id ∷ address_text area ∷ address_text address ∷ address_text peer ∷ cond up (codes "up") (codes "down") ∷ []
-words_of (InstallLine at bytes) = codes "install" ∷ scope_text at ∷ encode_lower bytes ∷ []
-words_of (FlushLine at key) = codes "flush" ∷ scope_text at ∷ key_words key
-words_of (PurgeLine at key) = codes "purge" ∷ scope_text at ∷ key_words key
-words_of SecondLine = codes "second" ∷ []
-words_of (LookupLine address) = codes "lookup" ∷ address_text address ∷ []
+words_of (BodyLine body) = body_words body
 
 -- without its line feed
 abbrev pub line_text : Form → List ℕ
@@ -90,17 +97,20 @@ IsStub (Some stub) = stub.cost < 2 ^ 32
 abbrev pub IsInterface : (id area address peer : ℕ) → Type 0
 IsInterface id area address peer = (id < 2 ^ 8) × IsAddress area × IsAddress address × IsAddress peer
 
+abbrev pub IsBody : Body → Type 0
+IsBody (InterfaceLine id area address peer up) = IsInterface id area address peer
+IsBody (InstallLine at bytes) = IsScope at × All (λ b. b < 2 ^ 8) bytes
+IsBody (FlushLine at key) = IsScope at × IsKey key
+IsBody (PurgeLine at key) = IsScope at × IsKey key
+IsBody SecondLine = Unit {0}
+IsBody (LookupLine address) = IsAddress address
+
 abbrev pub IsForm : Form → Type 0
 IsForm VersionLine = Unit {0}
 IsForm (RouterLine router) = IsAddress router
 IsForm (AreaLine id stub) = IsAddress id × IsStub stub
 IsForm (RangeLine area range) = IsAddress area × IsPrefix range.prefix
-IsForm (InterfaceLine id area address peer up) = IsInterface id area address peer
-IsForm (InstallLine at bytes) = IsScope at × All (λ b. b < 2 ^ 8) bytes
-IsForm (FlushLine at key) = IsScope at × IsKey key
-IsForm (PurgeLine at key) = IsScope at × IsKey key
-IsForm SecondLine = Unit {0}
-IsForm (LookupLine address) = IsAddress address
+IsForm (BodyLine body) = IsBody body
 
 -- the line says this
 pub record Says (line : List ℕ) (form : Form) : Type 0 where

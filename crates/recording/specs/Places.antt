@@ -6,20 +6,13 @@ use Rattle.std.specs.declared.cmp.Ordering.TheVariants.{Less, Equal, Greater}
 use Rattle.ospf_types.specs.declared.config.AreaConfig.{AreaConfig}
 use Rattle.ospf_types.specs.declared.config.Range.{Range}
 use Rattle.ospf_types.specs.Network.{network_cmp}
-use Rattle.recording.specs.Forms.{Form, VersionLine, RouterLine, AreaLine, RangeLine, InterfaceLine, InstallLine, FlushLine, PurgeLine, SecondLine, LookupLine, AllSay}
+use Rattle.recording.specs.Forms.{Form, VersionLine, RouterLine, AreaLine, RangeLine, BodyLine, AllSay}
 
 -- an `area` or a `range` line, of which the header is made behind its first two lines
 abbrev pub is_of_header : Form → Bool
-is_of_header VersionLine = false
-is_of_header (RouterLine router) = false
 is_of_header (AreaLine id stub) = true
 is_of_header (RangeLine area range) = true
-is_of_header (InterfaceLine id area address peer up) = false
-is_of_header (InstallLine at bytes) = false
-is_of_header (FlushLine at key) = false
-is_of_header (PurgeLine at key) = false
-is_of_header SecondLine = false
-is_of_header (LookupLine address) = false
+is_of_header _ = false
 
 -- ---- the areas that lines of the header say
 
@@ -30,16 +23,9 @@ with_range (a ∷ []) range = record a { ranges = a.ranges ++ range ∷ [] } ∷
 with_range (a ∷ b ∷ areas) range = a ∷ with_range (b ∷ areas) range
 
 abbrev pub with_form : List AreaConfig → Form → List AreaConfig
-with_form areas VersionLine = areas
-with_form areas (RouterLine router) = areas
 with_form areas (AreaLine id stub) = areas ++ record { id = id; stub = stub; ranges = [] } ∷ []
 with_form areas (RangeLine area range) = with_range areas range
-with_form areas (InterfaceLine id area address peer up) = areas
-with_form areas (InstallLine at bytes) = areas
-with_form areas (FlushLine at key) = areas
-with_form areas (PurgeLine at key) = areas
-with_form areas SecondLine = areas
-with_form areas (LookupLine address) = areas
+with_form areas _ = areas
 
 abbrev pub areas_from : List AreaConfig → List Form → List AreaConfig
 areas_from areas [] = areas
@@ -75,16 +61,9 @@ is_next_range (Some a) area range = (a.id == area) && is_past_range (last_of a.r
 
 -- the line may stand behind those that say these areas
 abbrev pub is_next : List AreaConfig → Form → Bool
-is_next areas VersionLine = false
-is_next areas (RouterLine router) = false
 is_next areas (AreaLine id stub) = is_past_area (last_of areas) id
 is_next areas (RangeLine area range) = is_next_range (last_of areas) area range
-is_next areas (InterfaceLine id area address peer up) = false
-is_next areas (InstallLine at bytes) = false
-is_next areas (FlushLine at key) = false
-is_next areas (PurgeLine at key) = false
-is_next areas SecondLine = false
-is_next areas (LookupLine address) = false
+is_next areas _ = false
 
 -- behind the first two lines there are lines of the header alone, and they say this
 pub record IsHeader (before : List (List ℕ)) (forms : List Form) : Type 0 where
@@ -102,9 +81,4 @@ IsPlaced before VersionLine = before ≡ []
 IsPlaced before (RouterLine router) = length before ≡ 1
 IsPlaced before (AreaLine id stub) = IsNext before (AreaLine id stub)
 IsPlaced before (RangeLine area range) = IsNext before (RangeLine area range)
-IsPlaced before (InterfaceLine id area address peer up) = 2 ≤ length before
-IsPlaced before (InstallLine at bytes) = 2 ≤ length before
-IsPlaced before (FlushLine at key) = 2 ≤ length before
-IsPlaced before (PurgeLine at key) = 2 ≤ length before
-IsPlaced before SecondLine = 2 ≤ length before
-IsPlaced before (LookupLine address) = 2 ≤ length before
+IsPlaced before (BodyLine body) = 2 ≤ length before

@@ -8,7 +8,7 @@ use Rattle.recording.specs.declared.fault.Fault.{Fault}
 use Rattle.recording.specs.declared.fault.Fault.TheVariants as fault
 use Rattle.recording.specs.declared.line.Line.{Line}
 use Rattle.recording.specs.Faults.{parts_of, EndsHeader, HasFault, AreRightBefore, number_of}
-use Rattle.recording.specs.Forms.{Form, VersionLine, RouterLine, AreaLine, RangeLine, InterfaceLine, InstallLine, FlushLine, PurgeLine, SecondLine, LookupLine, Says, AllSay}
+use Rattle.recording.specs.Forms.{Form, VersionLine, BodyLine, InstallLine, Says, AllSay}
 use Rattle.recording.specs.Places.{is_next}
 use Rattle.recording.specs.Recordings.{RecordingValue, HasKind, HasWholeLsa, IsOrdered, IsRecording, form_of, forms_of, header_forms}
 
@@ -61,16 +61,8 @@ IsRefusal areas form fault.Memory = Unit {0}
 
 -- the form of a line that may stand in the header alone
 abbrev pub IsHeading : Form → Type 0
-IsHeading VersionLine = Unit {0}
-IsHeading (RouterLine router) = Unit {0}
-IsHeading (AreaLine id stub) = Unit {0}
-IsHeading (RangeLine area range) = Unit {0}
-IsHeading (InterfaceLine id area address peer up) = ⊥
-IsHeading (InstallLine at bytes) = ⊥
-IsHeading (FlushLine at key) = ⊥
-IsHeading (PurgeLine at key) = ⊥
-IsHeading SecondLine = ⊥
-IsHeading (LookupLine address) = ⊥
+IsHeading (BodyLine body) = ⊥
+IsHeading _ = Unit {0}
 
 -- the line has this fault where it stands behind the header
 abbrev pub IsFaultBehind : List ℕ → Fault → Type 0
@@ -78,7 +70,7 @@ IsFaultBehind line fault.Truncated = ⊥
 IsFaultBehind line fault.Version = ⊥
 IsFaultBehind line fault.Line = (form : Form) → ¬ Says line form
 IsFaultBehind line fault.Order = (form : Form) × Says line form × IsHeading form
-IsFaultBehind line (fault.Wire f) = (at : Scope) × (bytes : List ℕ) × Says line (InstallLine at bytes) × (fault_of bytes ≡ Some f)
+IsFaultBehind line (fault.Wire f) = (at : Scope) × (bytes : List ℕ) × Says line (BodyLine (InstallLine at bytes)) × (fault_of bytes ≡ Some f)
 IsFaultBehind line (fault.Config f) = ⊥
 IsFaultBehind line fault.Memory = Unit {0}
 

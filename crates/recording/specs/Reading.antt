@@ -6,7 +6,7 @@ use Rattle.hex.specs.Hex.{decode_of, encode_lower}
 use Rattle.hex.specs.declared.error.FromHexError.{FromHexError}
 use Rattle.recording.specs.declared.form.LineForm.{LineForm}
 use Rattle.recording.specs.declared.form.LineForm.TheVariants as read
-use Rattle.recording.specs.Forms.{Form, VersionLine, RouterLine, AreaLine, RangeLine, InterfaceLine, InstallLine, FlushLine, PurgeLine, SecondLine, LookupLine, IsForm, words_of}
+use Rattle.recording.specs.Forms.{Form, VersionLine, RouterLine, AreaLine, RangeLine, BodyLine, InterfaceLine, InstallLine, FlushLine, PurgeLine, SecondLine, LookupLine, IsForm, words_of}
 
 abbrev pub bytes_or_none : Result (List ℕ) FromHexError → List ℕ
 bytes_or_none (Ok bytes) = bytes
@@ -21,25 +21,17 @@ said_by read.Version = VersionLine
 said_by (read.Router router) = RouterLine router
 said_by (read.Area id stub) = AreaLine id stub
 said_by (read.Range area range) = RangeLine area range
-said_by (read.Interface id area address peer up) = InterfaceLine id area address peer up
-said_by (read.Install at digits) = InstallLine at (bytes_of digits.now)
-said_by (read.Flush at key) = FlushLine at key
-said_by (read.Purge at key) = PurgeLine at key
-said_by read.Second = SecondLine
-said_by (read.Lookup address) = LookupLine address
+said_by (read.Interface id area address peer up) = BodyLine (InterfaceLine id area address peer up)
+said_by (read.Install at digits) = BodyLine (InstallLine at (bytes_of digits.now))
+said_by (read.Flush at key) = BodyLine (FlushLine at key)
+said_by (read.Purge at key) = BodyLine (PurgeLine at key)
+said_by read.Second = BodyLine SecondLine
+said_by (read.Lookup address) = BodyLine (LookupLine address)
 
 -- the digits to install are those of bytes
 abbrev pub HasDigits : LineForm → Type 0
-HasDigits read.Version = Unit {0}
-HasDigits (read.Router router) = Unit {0}
-HasDigits (read.Area id stub) = Unit {0}
-HasDigits (read.Range area range) = Unit {0}
-HasDigits (read.Interface id area address peer up) = Unit {0}
 HasDigits (read.Install at digits) = decode_of digits.now ≡ Ok (bytes_of digits.now)
-HasDigits (read.Flush at key) = Unit {0}
-HasDigits (read.Purge at key) = Unit {0}
-HasDigits read.Second = Unit {0}
-HasDigits (read.Lookup address) = Unit {0}
+HasDigits _ = Unit {0}
 
 -- ---- words
 

@@ -15,7 +15,7 @@ use Rattle.event_state.specs.declared.event.Event.TheVariants as event
 use Rattle.config_faults.specs.Configs.{config_fault_of}
 use Rattle.recording.specs.declared.line.Line.{Line}
 use Rattle.recording.specs.declared.line.Line.TheVariants as line
-use Rattle.recording.specs.Forms.{Form, VersionLine, RouterLine, AreaLine, RangeLine, InterfaceLine, InstallLine, FlushLine, PurgeLine, SecondLine, LookupLine, IsForm, IsKind, line_text}
+use Rattle.recording.specs.Forms.{Form, Body, VersionLine, RouterLine, AreaLine, RangeLine, BodyLine, InterfaceLine, InstallLine, FlushLine, PurgeLine, SecondLine, LookupLine, IsForm, IsKind, line_text}
 
 pub record RecordingValue : Type 0 where
   pub config : Config
@@ -23,16 +23,22 @@ pub record RecordingValue : Type 0 where
 
 -- ---- the text
 
+abbrev pub event_body : Event → Body
+event_body (event.Install at lsa) = InstallLine at (spelling lsa)
+event_body (event.Flush at key) = FlushLine at key
+event_body (event.Purge at key) = PurgeLine at key
+event_body (event.Interface id area address peer up) = InterfaceLine id area address peer up
+event_body event.Second = SecondLine
+
+abbrev pub body_of : Line → Body
+body_of (line.Event e) = event_body e
+body_of (line.Lookup address) = LookupLine address
+
 abbrev pub event_form : Event → Form
-event_form (event.Install at lsa) = InstallLine at (spelling lsa)
-event_form (event.Flush at key) = FlushLine at key
-event_form (event.Purge at key) = PurgeLine at key
-event_form (event.Interface id area address peer up) = InterfaceLine id area address peer up
-event_form event.Second = SecondLine
+event_form e = BodyLine (event_body e)
 
 abbrev pub form_of : Line → Form
-form_of (line.Event e) = event_form e
-form_of (line.Lookup address) = LookupLine address
+form_of l = BodyLine (body_of l)
 
 -- an area, and behind it its ranges
 abbrev pub area_forms : AreaConfig → List Form

@@ -2,7 +2,7 @@
 ghost use Rattle.std.specs.Prelude.{◌≡◌, ◌++◌, All, OnOk, OnErr, Some, cond, codes, string_bytes, take, vec_len};
 ghost use Rattle.std.specs.List.{join_with_byte};
 ghost use Rattle.lsa_codec.specs.Spelling.{spelling};
-ghost use Rattle.recording.specs.Forms.{VersionLine, RouterLine, AreaLine, RangeLine, InterfaceLine, InstallLine, FlushLine, PurgeLine, LookupLine, IsForm, IsKind, scope_text, stub_words, key_words};
+ghost use Rattle.recording.specs.Forms.{VersionLine, RouterLine, AreaLine, RangeLine, BodyLine, InterfaceLine, InstallLine, FlushLine, PurgeLine, LookupLine, IsForm, IsKind, scope_text, stub_words, key_words};
 ghost use Rattle.recording.specs.Recordings.{IsText, IsWhole, HasKind, HasWholeLsa, text_of, text_of_forms, header_forms, area_forms, event_form, form_of, ended};
 ghost use Rattle.recording.specs.declared.line.Line.TheVariants as line;
 
@@ -144,8 +144,8 @@ fn append_install(
     lsa: &Checked,
     out: &mut String,
 ) -> Result<(), Memory>
-    ensures text { OnOk result (string_bytes out.new ≡ string_bytes out.old ++ ended (InstallLine scope (spelling lsa.now))) }
-    ensures form { OnOk result (IsForm (InstallLine scope (spelling lsa.now))) }
+    ensures text { OnOk result (string_bytes out.new ≡ string_bytes out.old ++ ended (BodyLine (InstallLine scope (spelling lsa.now)))) }
+    ensures form { OnOk result (IsForm (BodyLine (InstallLine scope (spelling lsa.now)))) }
     ensures lsa { OnOk result (IsWhole lsa.now) }
 {
     let mut bytes = Vec::new(alloc);
@@ -156,16 +156,16 @@ fn append_install(
 }
 
 fn append_flush(scope: Scope, key: Key, out: &mut String) -> Result<(), Memory>
-    ensures text { OnOk result (string_bytes out.new ≡ string_bytes out.old ++ ended (FlushLine scope key)) }
-    ensures form { OnOk result (IsKind key.kind → IsForm (FlushLine scope key)) }
+    ensures text { OnOk result (string_bytes out.new ≡ string_bytes out.old ++ ended (BodyLine (FlushLine scope key))) }
+    ensures form { OnOk result (IsKind key.kind → IsForm (BodyLine (FlushLine scope key))) }
 {
     write!(out, "flush {} {}\n", ScopeField(scope), KeyField(key))?;
     Ok(())
 }
 
 fn append_purge(scope: Scope, key: Key, out: &mut String) -> Result<(), Memory>
-    ensures text { OnOk result (string_bytes out.new ≡ string_bytes out.old ++ ended (PurgeLine scope key)) }
-    ensures form { OnOk result (IsKind key.kind → IsForm (PurgeLine scope key)) }
+    ensures text { OnOk result (string_bytes out.new ≡ string_bytes out.old ++ ended (BodyLine (PurgeLine scope key))) }
+    ensures form { OnOk result (IsKind key.kind → IsForm (BodyLine (PurgeLine scope key))) }
 {
     write!(out, "purge {} {}\n", ScopeField(scope), KeyField(key))?;
     Ok(())
@@ -179,8 +179,8 @@ fn append_interface(
     up: bool,
     out: &mut String,
 ) -> Result<(), Memory>
-    ensures text { OnOk result (string_bytes out.new ≡ string_bytes out.old ++ ended (InterfaceLine id area address peer up)) }
-    ensures form { OnOk result (IsForm (InterfaceLine id area address peer up)) }
+    ensures text { OnOk result (string_bytes out.new ≡ string_bytes out.old ++ ended (BodyLine (InterfaceLine id area address peer up))) }
+    ensures form { OnOk result (IsForm (BodyLine (InterfaceLine id area address peer up))) }
 {
     let (area, address, peer) = (Address(area), Address(address), Address(peer));
     let state = state_word(up);
@@ -195,8 +195,8 @@ fn state_word(up: bool) -> &'static str
 }
 
 fn append_lookup(address: u32, out: &mut String) -> Result<(), Memory>
-    ensures text { OnOk result (string_bytes out.new ≡ string_bytes out.old ++ ended (LookupLine address)) }
-    ensures form { OnOk result (IsForm (LookupLine address)) }
+    ensures text { OnOk result (string_bytes out.new ≡ string_bytes out.old ++ ended (BodyLine (LookupLine address))) }
+    ensures form { OnOk result (IsForm (BodyLine (LookupLine address))) }
 {
     write!(out, "lookup {}\n", Address(address))?;
     Ok(())

@@ -28,3 +28,10 @@ returns-in_err-peer c =
     (λ form said.
     let w = interface_words _ form said in
     c.in_err-peer.ensures w.peer _ w.legal.3 (same_rest c.in_ok-address.ensures.1 (same_rest c.in_ok-area.ensures.1 (same_rest c.in_ok-id.ensures.1 w.spelled))))
+
+pub returns-in_err-up : goal.returns-in_err-up
+returns-in_err-up c =
+    rw c.from_residual-in_err-up.ensures
+    (λ form said.
+    let w = interface_words _ form said in
+    c.in_err-up.ensures w.up _ tt (same_rest c.in_ok-peer.ensures.1 (same_rest c.in_ok-address.ensures.1 (same_rest c.in_ok-area.ensures.1 (same_rest c.in_ok-id.ensures.1 w.spelled)))))
