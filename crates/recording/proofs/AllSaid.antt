@@ -4,9 +4,8 @@ use Rattle.std.specs.List.{flat_map}
 use Rattle.std.proofs.lemmas.List.Elements.{All-nil, All-cons}
 use Rattle.ospf_types.specs.declared.config.Config.{Config}
 use Rattle.recording.specs.Forms.{Form, VersionLine, RouterLine, IsForm, Says, AllSay}
-use Rattle.recording.specs.Places.{IsHeader}
+use Rattle.recording.specs.Places.{AreSaid}
 use Rattle.recording.specs.Recordings.{header_forms, area_forms}
-use Rattle.recording.proofs.Areas.{areas_of_header}
 use Rattle.recording.proofs.Forms.{says_one}
 
 pub said_append : (ls ms : List (List ℕ)) (fs gs : List Form) → AllSay ls fs → AllSay ms gs → AllSay (ls ++ ms) (fs ++ gs)
@@ -48,16 +47,11 @@ said_behind (l ∷ m ∷ ls) f g fs all = all.1.1
 
 -- ---- a header
 
-pub said_header : (before : List (List ℕ)) (config : Config) → AllSay before (header_forms config) → IsHeader before (flat_map area_forms config.areas)
+pub said_header : (before : List (List ℕ)) (config : Config) → AllSay before (header_forms config) → AreSaid before (flat_map area_forms config.areas)
 said_header before config all =
-    let forms : List Form = flat_map area_forms config.areas in
     let count = said_length before (header_forms config) all in
-    record {
-      two = omega arith;
-      said = said_behind before VersionLine (RouterLine config.router) forms all;
-      header = areas_of_header config.areas;
-    }
+    record { two = omega arith; said = said_behind before VersionLine (RouterLine config.router) (flat_map area_forms config.areas) all }
 
-pub header_once : (before : List (List ℕ)) (f g : Form) (fs forms : List Form) → AllSay before (f ∷ g ∷ fs) → IsHeader before forms → forms ≡ fs
-header_once before f g fs forms all header =
-    said_once (drop 2 before) forms fs header.said (said_behind before f g fs all)
+pub forms_behind : (before : List (List ℕ)) (f g : Form) (fs forms : List Form) → AllSay before (f ∷ g ∷ fs) → AreSaid before forms → forms ≡ fs
+forms_behind before f g fs forms all said =
+    said_once (drop 2 before) forms fs said.said (said_behind before f g fs all)

@@ -1,5 +1,5 @@
 -- The lines of a header, and the areas that they say.
-use Rattle.std.proofs.Common.{ℕ, ◌≡◌, ◌==◌, ◌++◌, Bool, true, false, cond, nat_lt, List, [], ◌∷◌, map, Option, Some, None, All, Ordering, refl, sym, ap, subst, ◌∙◌, inl, inr, append-nil, append_assoc, eqb-true, eq-eqb}
+use Rattle.std.proofs.Common.{ℕ, ◌≡◌, ◌==◌, ◌++◌, ◌||◌, Bool, true, false, not, cond, nat_lt, List, [], ◌∷◌, map, Option, Some, None, All, Ordering, refl, sym, ap, subst, ◌∙◌, inl, inr, append-nil, append_assoc, eqb-true, eq-eqb}
 use Rattle.std.specs.declared.cmp.Ordering.TheVariants.{Less, Equal, Greater}
 use Rattle.std.specs.List.{flat_map, AllPass}
 use Rattle.std.specs.List.Sorted.{IsStrictlySortedBy}
@@ -16,7 +16,7 @@ use Rattle.ospf_types.specs.declared.config.Stub.{Stub}
 use Rattle.ospf_types.specs.Network.{network_cmp}
 use Rattle.ospf_types.proofs.Orders.{network_total}
 use Rattle.recording.specs.Forms.{Form, VersionLine, RouterLine, AreaLine, RangeLine, BodyLine}
-use Rattle.recording.specs.Places.{is_of_header, with_range, with_form, areas_from, areas_of, is_less, last_of, is_past_area, is_past_range, is_next_range, is_next}
+use Rattle.recording.specs.Places.{is_of_header, with_range, with_form, areas_from, areas_of, is_less, last_of, is_past_area, is_past_range, is_next_range, has_begun, front_of, headed, is_next}
 use Rattle.recording.specs.Recordings.{IsOrdered, area_forms}
 use Rattle.recording.proofs.Sorting.{last_cases, last_of-push, sorted_push_by, sorted_next_by}
 
@@ -69,6 +69,25 @@ areas_of_header [] = All-nil (λ form. is_of_header form ≡ true)
 areas_of_header (a ∷ areas) =
     All-append (λ form. is_of_header form ≡ true) (area_forms a) (flat_map area_forms areas) (All-cons (λ form. is_of_header form ≡ true) (AreaLine a.id a.stub) (range_forms a.id a.ranges) refl (ranges_of_header a.id a.ranges)) (areas_of_header areas)
 
+none_begun : (fs gs : List Form) → AllPass is_of_header fs → has_begun (fs ++ gs) ≡ has_begun gs
+none_begun [] gs all = refl
+none_begun (f ∷ fs) gs all =
+    let P : Form → Type 0 = λ form. is_of_header form ≡ true in
+    ap (λ (b : Bool). not b || has_begun (fs ++ gs)) (All-head P f fs all) ∙ none_begun fs gs (All-tail P f fs all)
+
+-- lines of the header alone
+pub areas_not_begun : (areas : List AreaConfig) → has_begun (flat_map area_forms areas) ≡ false
+areas_not_begun areas =
+    ap has_begun (sym (append-nil (flat_map area_forms areas))) ∙ none_begun (flat_map area_forms areas) [] (areas_of_header areas)
+
+pub front_of_said : (areas : List AreaConfig) → front_of (flat_map area_forms areas) ≡ headed areas
+front_of_said areas = λ i. record { areas = areas_of_said areas i; begun = areas_not_begun areas i }
+
+-- a line that is none of the header's, behind such lines
+pub begun_behind : (areas : List AreaConfig) (form : Form) (gs : List Form) → is_of_header form ≡ false → has_begun (flat_map area_forms areas ++ form ∷ gs) ≡ true
+begun_behind areas form gs other =
+    none_begun (flat_map area_forms areas) (form ∷ gs) (areas_of_header areas) ∙ ap (λ (b : Bool). not b || has_begun gs) other
+
 -- ---- one line more
 
 -- the last area, to which the range belongs
@@ -98,7 +117,7 @@ said_range front a range =
     ∙ ap (λ (fs : List Form). fs ++ RangeLine a.id range ∷ []) (sym (flat_map-push front a))
 
 -- what says the areas, and one line more
-pub said_more : (areas : List AreaConfig) (form : Form) → is_next areas form ≡ true → flat_map area_forms (with_form areas form) ≡ flat_map area_forms areas ++ form ∷ []
+pub said_more : (areas : List AreaConfig) (form : Form) → is_next (headed areas) form ≡ true → flat_map area_forms (with_form areas form) ≡ flat_map area_forms areas ++ form ∷ []
 said_more areas (AreaLine id stub) next = flat_map-push areas (ranged id stub [])
 said_more areas (RangeLine area range) next =
     let at = range_place areas area range next in
@@ -176,7 +195,7 @@ ordered_range front a range ordered past =
     } in
     subst IsOrdered (sym (with_range-push front a range)) at
 
-pub ordered_more : (areas : List AreaConfig) (form : Form) → IsOrdered areas → is_next areas form ≡ true → IsOrdered (with_form areas form)
+pub ordered_more : (areas : List AreaConfig) (form : Form) → IsOrdered areas → is_next (headed areas) form ≡ true → IsOrdered (with_form areas form)
 ordered_more areas (AreaLine id stub) ordered next = ordered_area areas id stub ordered next
 ordered_more areas (RangeLine area range) ordered next =
     let at = range_place areas area range next in
@@ -194,7 +213,7 @@ ordered_none = record { ascending = tt; ranges = All-nil (λ a. AreRising a.rang
 
 abbrev pub InOrder : List AreaConfig → List Form → Type 0
 InOrder areas [] = Unit {0}
-InOrder areas (form ∷ forms) = (is_next areas form ≡ true) × InOrder (with_form areas form) forms
+InOrder areas (form ∷ forms) = (is_next (headed areas) form ≡ true) × InOrder (with_form areas form) forms
 
 in_order-append : (areas : List AreaConfig) (fs gs : List Form) → InOrder areas fs → InOrder (areas_from areas fs) gs → InOrder areas (fs ++ gs)
 in_order-append areas [] gs first second = second

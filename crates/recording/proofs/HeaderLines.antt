@@ -4,7 +4,7 @@ use Rattle.ospf_types.specs.declared.config.Config.{Config}
 use Rattle.recording.specs.declared.fault.Fault.{Fault}
 use Rattle.recording.specs.declared.fault.Fault.TheVariants as fault
 use Rattle.recording.specs.Forms.{Form, Says}
-use Rattle.recording.specs.Places.{is_of_header, is_next, with_form}
+use Rattle.recording.specs.Places.{headed, is_of_header, is_next, with_form}
 use Rattle.recording.specs.Faults.{parts_of, EndsHeader, IsFaultOf}
 use Rattle.recording.specs.Progress.{HasHeader, IsRefusal}
 use Rattle.recording.proofs.Forms.{says_one}
@@ -39,6 +39,6 @@ module _ {text : List ℕ} {taken : ℕ} {left : List (List ℕ)} {config : Conf
   refused_line line behind is form said here (fault.Wire f) other = absurd other
   refused_line line behind is form said here (fault.Config f) other = absurd other
 
-  pub added_line : (line behind : List ℕ) → left ≡ line ∷ parts_of behind → (form : Form) → Says line form → is_next config.areas form ≡ true → (new : Config) → new ≡ record config { areas = with_form config.areas form } → HasHeader text (taken + 1) (parts_of behind) new
+  pub added_line : (line behind : List ℕ) → left ≡ line ∷ parts_of behind → (form : Form) → Says line form → is_next (headed config.areas) form ≡ true → (new : Config) → new ≡ record config { areas = with_form config.areas form } → HasHeader text (taken + 1) (parts_of behind) new
   added_line line behind is form said next new same =
       subst (HasHeader text (taken + 1) (parts_of behind)) (sym same) (header_step h line (parts_of behind) is (parts_full behind) form said next)

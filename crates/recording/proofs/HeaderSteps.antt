@@ -10,13 +10,13 @@ use Rattle.config_faults.specs.declared.fault.ConfigFault.{ConfigFault}
 use Rattle.recording.specs.declared.fault.Fault.{Fault}
 use Rattle.recording.specs.declared.fault.Fault.TheVariants as fault
 use Rattle.recording.specs.Forms.{Form, VersionLine, RouterLine, AreaLine, RangeLine, BodyLine, Says, AllSay}
-use Rattle.recording.specs.Places.{IsHeader, IsPlaced, areas_of, is_of_header, is_next, with_form}
+use Rattle.recording.specs.Places.{Front, AreSaid, IsPlaced, front_of, headed, is_of_header, is_next, with_form}
 use Rattle.recording.specs.Faults.{EndsHeader, HasConfigFault, HasFault, IsFirstFault, AreRightBefore, number_of}
 use Rattle.recording.specs.Recordings.{HasKind, HasWholeLsa, area_forms, header_forms}
 use Rattle.recording.specs.Progress.{HasVersion, HasHeader, HasLines}
-use Rattle.recording.proofs.Areas.{areas_of_said, said_more, ordered_more, ordered_none}
+use Rattle.recording.proofs.Areas.{areas_of_said, areas_not_begun, front_of_said, said_more, ordered_more, ordered_none}
 use Rattle.recording.proofs.Parts.{IsLineAt, HasNoWireFault, line_fault, has_line_fault, none_before, right_more, below_config, order_fault, end_fault}
-use Rattle.recording.proofs.AllSaid.{said_push, said_header, header_once}
+use Rattle.recording.proofs.AllSaid.{said_push, said_header, forms_behind}
 
 all_faults : (P : Fault → Type 0) → ((f : Fault) → number_of f < 55 → P f) → ((c : ConfigFault) → P (fault.Config c)) → (f : Fault) → P f
 all_faults P low config fault.Truncated = low fault.Truncated (omega arith)
@@ -106,14 +106,14 @@ pub record IsNextForm (before : List (List ℕ)) (form : Form) : Type 0 where
   pub whole : HasNoWireFault form
   pub header : is_of_header form ≡ true
 
-next_form : (before : List (List ℕ)) (config : Config) → AllSay before (header_forms config) → (form : Form) → is_next config.areas form ≡ true → IsNextForm before form
+next_form : (before : List (List ℕ)) (config : Config) → AllSay before (header_forms config) → (form : Form) → is_next (headed config.areas) form ≡ true → IsNextForm before form
 next_form before config all (AreaLine id stub) next = record {
-  placed = (flat_map area_forms config.areas, said_header before config all, subst (λ (areas : List AreaConfig). is_next areas (AreaLine id stub) ≡ true) (sym (areas_of_said config.areas)) next);
+  placed = (flat_map area_forms config.areas, said_header before config all, subst (λ (f : Front). is_next f (AreaLine id stub) ≡ true) (sym (front_of_said config.areas)) next);
   whole = tt;
   header = refl;
 }
 next_form before config all (RangeLine area range) next = record {
-  placed = (flat_map area_forms config.areas, said_header before config all, subst (λ (areas : List AreaConfig). is_next areas (RangeLine area range) ≡ true) (sym (areas_of_said config.areas)) next);
+  placed = (flat_map area_forms config.areas, said_header before config all, subst (λ (f : Front). is_next f (RangeLine area range) ≡ true) (sym (front_of_said config.areas)) next);
   whole = tt;
   header = refl;
 }
@@ -122,14 +122,14 @@ next_form before config all (RouterLine router) next = cc
 next_form before config all (BodyLine body) next = cc
 
 -- a line of the header that may stand behind these is next
-placed_next : (before : List (List ℕ)) (areas : List AreaConfig) → ((forms : List Form) → IsHeader before forms → areas_of forms ≡ areas) → (form : Form) → is_of_header form ≡ true → IsPlaced before form → is_next areas form ≡ true
-placed_next before areas same (AreaLine id stub) here h = subst (λ (as' : List AreaConfig). is_next as' (AreaLine id stub) ≡ true) (same h.0 h.1) h.2
-placed_next before areas same (RangeLine area range) here h = subst (λ (as' : List AreaConfig). is_next as' (RangeLine area range) ≡ true) (same h.0 h.1) h.2
+placed_next : (before : List (List ℕ)) (areas : List AreaConfig) → ((forms : List Form) → AreSaid before forms → front_of forms ≡ headed areas) → (form : Form) → is_of_header form ≡ true → IsPlaced before form → is_next (headed areas) form ≡ true
+placed_next before areas same (AreaLine id stub) here h = subst (λ (f : Front). is_next f (AreaLine id stub) ≡ true) (same h.0 h.1) h.2
+placed_next before areas same (RangeLine area range) here h = subst (λ (f : Front). is_next f (RangeLine area range) ≡ true) (same h.0 h.1) h.2
 placed_next before areas same VersionLine here h = cc
 placed_next before areas same (RouterLine router) here h = cc
 placed_next before areas same (BodyLine body) here h = cc
 
-not_both : (b : Bool) → b ≡ true → b ≡ false → ⊥
+pub not_both : (b : Bool) → b ≡ true → b ≡ false → ⊥
 not_both b here other = cc
 
 pub not_nil : (front : List (List ℕ)) (last : List ℕ) → front ++ last ∷ [] ≢ []
@@ -156,12 +156,12 @@ module _ {text : List ℕ} {taken : ℕ} {left : List (List ℕ)} {config : Conf
   header_right full more = right_past (last_at full) h.right h.low (λ c g. more g.ends)
 
   -- what says a configuration is the header
-  same_areas : (forms : List Form) → IsHeader (h.earlier ++ h.last ∷ []) forms → areas_of forms ≡ config.areas
-  same_areas forms header =
-      ap areas_of (header_once (h.earlier ++ h.last ∷ []) VersionLine (RouterLine config.router) (flat_map area_forms config.areas) forms h.said header)
-      ∙ areas_of_said config.areas
+  same_front : (forms : List Form) → AreSaid (h.earlier ++ h.last ∷ []) forms → front_of forms ≡ headed config.areas
+  same_front forms said =
+      ap front_of (forms_behind (h.earlier ++ h.last ∷ []) VersionLine (RouterLine config.router) (flat_map area_forms config.areas) forms h.said said)
+      ∙ front_of_said config.areas
 
-  pub header_step : (line : List ℕ) (rest : List (List ℕ)) → left ≡ line ∷ rest → 0 < length rest → (form : Form) → Says line form → is_next config.areas form ≡ true → HasHeader text (taken + 1) rest (record config { areas = with_form config.areas form })
+  pub header_step : (line : List ℕ) (rest : List (List ℕ)) → left ≡ line ∷ rest → 0 < length rest → (form : Form) → Says line form → is_next (headed config.areas) form ≡ true → HasHeader text (taken + 1) rest (record config { areas = with_form config.areas form })
   header_step line rest is full form said next =
       let before : List (List ℕ) = h.earlier ++ h.last ∷ [] in
       let at = header_line line rest is full in
@@ -184,10 +184,10 @@ module _ {text : List ℕ} {taken : ℕ} {left : List (List ℕ)} {config : Conf
       let many : 0 < length left = omega (arith, ap length is) in
       header_right many (λ e. not_end line rest full form said here (subst EndsHeader is e))
 
-  pub header_order : (line : List ℕ) (rest : List (List ℕ)) → left ≡ line ∷ rest → 0 < length rest → (form : Form) → Says line form → is_of_header form ≡ true → is_next config.areas form ≡ false → IsFirstFault text (taken + 1) fault.Order
+  pub header_order : (line : List ℕ) (rest : List (List ℕ)) → left ≡ line ∷ rest → 0 < length rest → (form : Form) → Says line form → is_of_header form ≡ true → is_next (headed config.areas) form ≡ false → IsFirstFault text (taken + 1) fault.Order
   header_order line rest is full form said here other =
       let before : List (List ℕ) = h.earlier ++ h.last ∷ [] in
-      order_fault (header_line line rest is full) (header_more line rest is full form said here) (not_nil h.earlier h.last) form said (λ placed. not_both (is_next config.areas form) (placed_next before config.areas same_areas form here placed) other)
+      order_fault (header_line line rest is full) (header_more line rest is full form said here) (not_nil h.earlier h.last) form said (λ placed. not_both (is_next (headed config.areas) form) (placed_next before config.areas same_front form here placed) other)
 
   pub header_cut : (cut : List ℕ) → left ≡ cut ∷ [] → cut ≢ [] → IsFirstFault text (taken + 1) fault.Truncated
   header_cut cut is some =
@@ -201,6 +201,7 @@ module _ {text : List ℕ} {taken : ℕ} {left : List (List ℕ)} {config : Conf
       let fault_is : HasConfigFault before left f = record {
         forms = flat_map area_forms config.areas;
         header = said_header before config h.said;
+        alone = areas_not_begun config.areas;
         ends = ends;
         has = ap areas_fault_of (areas_of_said config.areas) ∙ is;
       } in
@@ -215,7 +216,7 @@ module _ {text : List ℕ} {taken : ℕ} {left : List (List ℕ)} {config : Conf
   lines_begin ends none =
       let before : List (List ℕ) = h.earlier ++ h.last ∷ [] in
       let clean : (c : ConfigFault) → ¬ HasConfigFault before left c = λ c g.
-      none_or_some (areas_fault_of config.areas) c none (sym (ap areas_fault_of (same_areas g.forms g.header)) ∙ g.has) in
+      none_or_some (areas_fault_of config.areas) c none (sym (ap (λ (f : Front). areas_fault_of f.areas) (same_front g.forms g.header)) ∙ g.has) in
       record {
         before = before;
         parts = h.parts;

@@ -1,26 +1,28 @@
 -- From line to line behind the header.
-use Rattle.std.proofs.Common.{ℕ, ◌≡◌, ◌≢◌, ◌+◌, ◌<◌, ◌≤◌, ◌++◌, true, List, [], ◌∷◌, length, map, refl, sym, ap, subst, ◌∙◌, inl, inr, arith, append_assoc}
-use Rattle.std.specs.List.{flat_map, AllPass, join_with_byte}
+use Rattle.std.proofs.Common.{ℕ, ◌≡◌, ◌≢◌, ◌+◌, ◌<◌, ◌≤◌, ◌++◌, true, false, not, List, [], ◌∷◌, length, map, refl, sym, ap, subst, ◌∙◌, inl, inr, arith, append_assoc}
+use Rattle.std.specs.List.{flat_map, join_with_byte}
+use Rattle.std.proofs.lemmas.Bool.{and_parts, not-true}
 use Rattle.std.proofs.lemmas.List.{length_push, map-append}
-use Rattle.std.proofs.lemmas.List.Elements.{All-head, All-push}
+use Rattle.std.proofs.lemmas.List.Elements.{All-push}
 use Rattle.std.proofs.lemmas.List.Splits.{join_with_byte-slice_split}
 use Rattle.lsa_codec.specs.Spelling.{spelling}
 use Rattle.lsa_codec.proofs.Again.{spelled_none}
 use Rattle.config_faults.specs.declared.fault.ConfigFault.{ConfigFault}
 use Rattle.event_state.specs.declared.event.Event.TheVariants as event
+use Rattle.ospf_types.specs.declared.config.AreaConfig.{AreaConfig}
 use Rattle.recording.specs.declared.fault.Fault.{Fault}
 use Rattle.recording.specs.declared.fault.Fault.TheVariants as fault
 use Rattle.recording.specs.declared.line.Line.{Line}
 use Rattle.recording.specs.declared.line.Line.TheVariants as line_is
-use Rattle.recording.specs.Forms.{Form, VersionLine, RouterLine, AreaLine, RangeLine, BodyLine, Says, AllSay, line_text}
-use Rattle.recording.specs.Places.{IsHeader, IsPlaced, is_of_header}
+use Rattle.recording.specs.Forms.{Form, Body, VersionLine, RouterLine, AreaLine, RangeLine, BodyLine, Says, AllSay, line_text}
+use Rattle.recording.specs.Places.{Front, AreSaid, IsPlaced, front_of, has_begun, is_of_header, is_next, is_next_range, is_past_area, last_of}
 use Rattle.recording.specs.Faults.{EndsHeader, HasConfigFault, IsFaultOf}
 use Rattle.recording.specs.Recordings.{RecordingValue, IsText, HasKind, HasWholeLsa, area_forms, header_forms, form_of, forms_of, text_of_forms}
-use Rattle.recording.specs.Progress.{HasLines, IsLineOf, IsHeading, IsFaultBehind}
-use Rattle.recording.proofs.Areas.{all_right}
-use Rattle.recording.proofs.HeaderSteps.{right_past, of_end}
+use Rattle.recording.specs.Progress.{HasLines, IsLineOf, IsFaultBehind}
+use Rattle.recording.proofs.Areas.{begun_behind}
+use Rattle.recording.proofs.HeaderSteps.{not_both, right_past, of_end}
 use Rattle.recording.proofs.Parts.{IsLineAt, HasNoWireFault, line_fault, below_config, form_fault, order_fault, wire_fault, end_fault}
-use Rattle.recording.proofs.AllSaid.{said_push, said_length, said_legal, header_once}
+use Rattle.recording.proofs.AllSaid.{said_push, said_length, said_legal, forms_behind}
 
 -- ---- what stands behind the header
 
@@ -28,11 +30,17 @@ pub not_of_header : (l : Line) → is_of_header (form_of l) ≡ true → ⊥
 not_of_header l h = cc
 
 -- where all lines are of the header, there are no others
-header_alone : (fs : List Form) (lines : List Line) → AllPass is_of_header (fs ++ map form_of lines) → lines ≡ []
-header_alone fs [] all = refl
-header_alone fs (l ∷ lines) all =
-    let P : Form → Type 0 = λ form. is_of_header form ≡ true in
-    absurd (not_of_header l (All-head P (form_of l) (map form_of lines) (all_right P fs (form_of l ∷ map form_of lines) all)))
+header_alone : (areas : List AreaConfig) (lines : List Line) → has_begun (flat_map area_forms areas ++ map form_of lines) ≡ false → lines ≡ []
+header_alone areas [] none = refl
+header_alone areas (l ∷ lines) none = absurd (not_both _ (begun_behind areas (form_of l) (map form_of lines) refl) none)
+
+-- behind what has begun no line of the header may stand
+not_begun : (f : Front) (form : Form) → is_next f form ≡ true → f.begun ≡ false
+not_begun f (AreaLine id stub) next = not-true f.begun (and_parts (not f.begun) (is_past_area (last_of f.areas) id) next).0
+not_begun f (RangeLine area range) next = not-true f.begun (and_parts (not f.begun) (is_next_range (last_of f.areas) area range) next).0
+not_begun f VersionLine next = cc
+not_begun f (RouterLine router) next = cc
+not_begun f (BodyLine body) next = cc
 
 whole_behind : (l : Line) → HasWholeLsa l → HasNoWireFault (form_of l)
 whole_behind (line_is.Event (event.Install at lsa)) whole = spelled_none (spelling lsa) lsa whole.sound whole.spelled
@@ -69,19 +77,18 @@ module _ {text : List ℕ} {taken : ℕ} {left : List (List ℕ)} {r : Recording
   }
 
   -- a line of the header cannot stand here
-  no_next : (line : List ℕ) (rest : List (List ℕ)) → left ≡ line ∷ rest → 0 < length rest → (form : Form) → Says line form → is_of_header form ≡ true → (forms : List Form) → IsHeader h.before forms → ⊥
-  no_next line rest is full form said here forms header =
-      let fs : List Form = flat_map area_forms r.config.areas in
-      let same = header_once h.before VersionLine (RouterLine r.config.router) (fs ++ map form_of r.lines) forms h.said header in
-      let none : r.lines ≡ [] = header_alone fs r.lines (subst (AllPass is_of_header) same header.header) in
+  no_next : (line : List ℕ) (rest : List (List ℕ)) → left ≡ line ∷ rest → 0 < length rest → (form : Form) → Says line form → is_of_header form ≡ true → (forms : List Form) → AreSaid h.before forms → is_next (front_of forms) form ≡ true → ⊥
+  no_next line rest is full form said here forms all next =
+      let same = forms_behind h.before VersionLine (RouterLine r.config.router) (flat_map area_forms r.config.areas ++ map form_of r.lines) forms h.said all in
+      let none : r.lines ≡ [] = header_alone r.config.areas r.lines (ap has_begun (sym same) ∙ not_begun (front_of forms) form next) in
       of_end line rest full (subst EndsHeader is (h.ends none)) form said here
 
-  misplaced : (line : List ℕ) (rest : List (List ℕ)) → left ≡ line ∷ rest → 0 < length rest → (form : Form) → Says line form → IsHeading form → ¬ IsPlaced h.before form
-  misplaced line rest is full VersionLine said heading placed = not_first placed
-  misplaced line rest is full (RouterLine router) said heading placed = omega (arith, two_lines)
-  misplaced line rest is full (AreaLine id stub) said heading placed = no_next line rest is full (AreaLine id stub) said refl placed.0 placed.1
-  misplaced line rest is full (RangeLine area range) said heading placed = no_next line rest is full (RangeLine area range) said refl placed.0 placed.1
-  misplaced line rest is full (BodyLine body) said heading placed = heading
+  misplaced : (line : List ℕ) (rest : List (List ℕ)) → left ≡ line ∷ rest → 0 < length rest → (form : Form) → Says line form → ((body : Body) → form ≢ BodyLine body) → ¬ IsPlaced h.before form
+  misplaced line rest is full VersionLine said other placed = not_first placed
+  misplaced line rest is full (RouterLine router) said other placed = omega (arith, two_lines)
+  misplaced line rest is full (AreaLine id stub) said other placed = no_next line rest is full (AreaLine id stub) said refl placed.0 placed.1 placed.2
+  misplaced line rest is full (RangeLine area range) said other placed = no_next line rest is full (RangeLine area range) said refl placed.0 placed.1 placed.2
+  misplaced line rest is full (BodyLine body) said other placed = other body refl
 
   pub fault_behind : (line : List ℕ) (rest : List (List ℕ)) → left ≡ line ∷ rest → 0 < length rest → (f : Fault) → IsFaultBehind line f → IsFaultOf text (record { line = taken + 1; fault = f })
   fault_behind line rest is full fault.Truncated has = absurd has
@@ -102,10 +109,9 @@ module _ {text : List ℕ} {taken : ℕ} {left : List (List ℕ)} {r : Recording
   line_step line rest is full l of =
       let at = line_at line rest is full in
       let said : AllSay (h.before ++ line ∷ []) (forms_of (with_line r l)) = subst (AllSay (h.before ++ line ∷ [])) (forms_push r l) (said_push h.before (forms_of r) line (form_of l) h.said of.said) in
-      let fs : List Form = flat_map area_forms r.config.areas in
       let clean : (c : ConfigFault) → ¬ HasConfigFault (h.before ++ line ∷ []) rest c = λ c g.
-      let same = header_once (h.before ++ line ∷ []) VersionLine (RouterLine r.config.router) (fs ++ map form_of (r.lines ++ l ∷ [])) g.forms said g.header in
-      pushed_lines r.lines l (header_alone fs (r.lines ++ l ∷ []) (subst (AllPass is_of_header) same g.header.header)) in
+      let same = forms_behind (h.before ++ line ∷ []) VersionLine (RouterLine r.config.router) (flat_map area_forms r.config.areas ++ map form_of (r.lines ++ l ∷ [])) g.forms said g.header in
+      pushed_lines r.lines l (header_alone r.config.areas (r.lines ++ l ∷ []) (ap has_begun (sym same) ∙ g.alone)) in
       record {
         before = h.before ++ line ∷ [];
         parts = at.parts ∙ sym (append_assoc h.before (line ∷ []) rest);

@@ -16,7 +16,7 @@ use Rattle.recording.specs.declared.fault.Fault.TheVariants as fault
 use Rattle.recording.specs.declared.fault.LineFault.{LineFault}
 use Rattle.recording.specs.declared.line.Line.{Line}
 use Rattle.recording.specs.declared.line.Line.TheVariants as line_is
-use Rattle.recording.specs.Forms.{Form, VersionLine, RouterLine, AreaLine, RangeLine, BodyLine, InterfaceLine, InstallLine, FlushLine, PurgeLine, SecondLine, LookupLine, IsForm, Says, AllSay, line_text}
+use Rattle.recording.specs.Forms.{Form, VersionLine, RouterLine, BodyLine, InterfaceLine, InstallLine, FlushLine, PurgeLine, LookupLine, IsForm, Says, AllSay, line_text}
 use Rattle.recording.specs.Places.{is_of_header, areas_from, areas_of, with_form}
 use Rattle.recording.specs.Faults.{parts_of, EndsHeader, IsFaultOfEnd, IsFaultAt, HasFault, IsFaultOf}
 use Rattle.recording.specs.Recordings.{RecordingValue, IsText, HasKind, HasWholeLsa, area_forms, form_of, forms_of, text_of_forms}

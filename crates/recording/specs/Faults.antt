@@ -1,5 +1,5 @@
 -- Why bytes are no recording: the first line that has a fault, and of its faults the first in their order.
-use Rattle.std.specs.Prelude.{ℕ, ◌≡◌, ◌≢◌, ◌<◌, ◌+◌, ◌==◌, ◌⊎◌, ◌++◌, List, [], ◌∷◌, length, Some, codes, true}
+use Rattle.std.specs.Prelude.{ℕ, ◌≡◌, ◌≢◌, ◌<◌, ◌+◌, ◌==◌, ◌⊎◌, ◌++◌, List, [], ◌∷◌, length, Some, codes, true, false}
 use Rattle.std.specs.List.{slice_split}
 use Rattle.ospf_types.specs.declared.key.Scope.{Scope}
 use Rattle.lsa_codec.specs.Faults.{fault_of}
@@ -9,7 +9,7 @@ use Rattle.recording.specs.declared.fault.Fault.{Fault}
 use Rattle.recording.specs.declared.fault.Fault.TheVariants as fault
 use Rattle.recording.specs.declared.fault.LineFault.{LineFault}
 use Rattle.recording.specs.Forms.{Form, BodyLine, InstallLine, Says}
-use Rattle.recording.specs.Places.{IsHeader, IsPlaced, areas_of, is_of_header}
+use Rattle.recording.specs.Places.{AreSaid, IsPlaced, areas_of, has_begun, is_of_header}
 
 -- The parts that line feeds end, and last what stands behind the last line feed: a line without one, or nothing.
 abbrev pub parts_of : List ℕ → List (List ℕ)
@@ -24,7 +24,8 @@ EndsHeader (line ∷ next ∷ more) = (form : Form) → Says line form → is_of
 -- the lines are a whole header, whose areas have this fault first
 pub record HasConfigFault (lines after : List (List ℕ)) (f : ConfigFault) : Type 0 where
   pub forms : List Form
-  pub header : IsHeader lines forms
+  pub header : AreSaid lines forms
+  pub alone : has_begun forms ≡ false
   pub ends : EndsHeader after
   pub has : areas_fault_of (areas_of forms) ≡ Some f
 

@@ -1,6 +1,5 @@
 -- Where in a recording a line may stand.
-use Rattle.std.specs.Prelude.{ℕ, ◌≡◌, ◌≤◌, ◌-◌, ◌==◌, ◌&&◌, ◌++◌, Bool, true, false, nat_lt, List, [], ◌∷◌, length, drop, slice_get, Option, Some, None}
-use Rattle.std.specs.List.{AllPass}
+use Rattle.std.specs.Prelude.{ℕ, ◌≡◌, ◌≤◌, ◌-◌, ◌==◌, ◌&&◌, ◌||◌, ◌++◌, Bool, true, false, not, nat_lt, List, [], ◌∷◌, length, drop, slice_get, Option, Some, None}
 use Rattle.std.specs.declared.cmp.Ordering.{Ordering}
 use Rattle.std.specs.declared.cmp.Ordering.TheVariants.{Less, Equal, Greater}
 use Rattle.ospf_types.specs.declared.config.AreaConfig.{AreaConfig}
@@ -34,6 +33,11 @@ areas_from areas (form ∷ forms) = areas_from (with_form areas form) forms
 abbrev pub areas_of : List Form → List AreaConfig
 areas_of forms = areas_from [] forms
 
+-- one of the lines is none of the header
+abbrev pub has_begun : List Form → Bool
+has_begun [] = false
+has_begun (form ∷ forms) = not (is_of_header form) || has_begun forms
+
 -- ---- the order of areas and ranges
 
 abbrev pub is_less : Ordering → Bool
@@ -59,26 +63,35 @@ abbrev pub is_next_range : Option AreaConfig → ℕ → Range → Bool
 is_next_range None area range = false
 is_next_range (Some a) area range = (a.id == area) && is_past_range (last_of a.ranges) range
 
--- the line may stand behind those that say these areas
-abbrev pub is_next : List AreaConfig → Form → Bool
-is_next areas (AreaLine id stub) = is_past_area (last_of areas) id
-is_next areas (RangeLine area range) = is_next_range (last_of areas) area range
-is_next areas _ = false
+-- ---- places
 
--- behind the first two lines there are lines of the header alone, and they say this
-pub record IsHeader (before : List (List ℕ)) (forms : List Form) : Type 0 where
+-- what the lines behind the first two say so far
+pub record Front : Type 0 where
+  pub areas : List AreaConfig
+  pub begun : Bool  -- one of them is no line of the header
+
+abbrev pub front_of : List Form → Front
+front_of forms = record { areas = areas_of forms; begun = has_begun forms }
+
+-- lines of the header that say these areas
+abbrev pub headed : List AreaConfig → Front
+headed areas = record { areas = areas; begun = false }
+
+-- the line of the header may stand behind what was said so far
+abbrev pub is_next : Front → Form → Bool
+is_next f (AreaLine id stub) = not f.begun && is_past_area (last_of f.areas) id
+is_next f (RangeLine area range) = not f.begun && is_next_range (last_of f.areas) area range
+is_next f _ = false
+
+-- the lines behind the first two say this
+pub record AreSaid (before : List (List ℕ)) (forms : List Form) : Type 0 where
   pub two : 2 ≤ length before
   pub said : AllSay (drop 2 before) forms
-  pub header : AllPass is_of_header forms
 
--- the line may stand in the header behind these lines
-abbrev pub IsNext : List (List ℕ) → Form → Type 0
-IsNext before form = (forms : List Form) × IsHeader before forms × (is_next (areas_of forms) form ≡ true)
-
--- the line may stand behind these lines
+-- The line may stand behind these lines: one of the first two and one behind the header by its number, and one of the
+-- header by what the lines before it say.
 abbrev pub IsPlaced : List (List ℕ) → Form → Type 0
 IsPlaced before VersionLine = before ≡ []
 IsPlaced before (RouterLine router) = length before ≡ 1
-IsPlaced before (AreaLine id stub) = IsNext before (AreaLine id stub)
-IsPlaced before (RangeLine area range) = IsNext before (RangeLine area range)
 IsPlaced before (BodyLine body) = 2 ≤ length before
+IsPlaced before form = (forms : List Form) × AreSaid before forms × (is_next (front_of forms) form ≡ true)

@@ -1,5 +1,5 @@
 -- How far a text was read as a recording.
-use Rattle.std.specs.Prelude.{ℕ, ◌≡◌, ◌<◌, ◌+◌, ◌++◌, false, List, [], ◌∷◌, length, Some, All}
+use Rattle.std.specs.Prelude.{ℕ, ◌≡◌, ◌≢◌, ◌<◌, ◌+◌, ◌++◌, false, List, [], ◌∷◌, length, Some, All}
 use Rattle.lsa_codec.specs.Faults.{fault_of}
 use Rattle.ospf_types.specs.declared.config.AreaConfig.{AreaConfig}
 use Rattle.ospf_types.specs.declared.config.Config.{Config}
@@ -8,8 +8,8 @@ use Rattle.recording.specs.declared.fault.Fault.{Fault}
 use Rattle.recording.specs.declared.fault.Fault.TheVariants as fault
 use Rattle.recording.specs.declared.line.Line.{Line}
 use Rattle.recording.specs.Faults.{parts_of, EndsHeader, HasFault, AreRightBefore, number_of}
-use Rattle.recording.specs.Forms.{Form, VersionLine, BodyLine, InstallLine, Says, AllSay}
-use Rattle.recording.specs.Places.{is_next}
+use Rattle.recording.specs.Forms.{Form, Body, VersionLine, BodyLine, InstallLine, Says, AllSay}
+use Rattle.recording.specs.Places.{headed, is_next}
 use Rattle.recording.specs.Recordings.{RecordingValue, HasKind, HasWholeLsa, IsOrdered, IsRecording, form_of, forms_of, header_forms}
 
 -- Each of these says of a text that so many of its lines were taken, and that the parts in `rest` are left.
@@ -52,24 +52,19 @@ abbrev pub IsRefusal : List AreaConfig → Form → Fault → Type 0
 IsRefusal areas form fault.Truncated = ⊥
 IsRefusal areas form fault.Version = ⊥
 IsRefusal areas form fault.Line = ⊥
-IsRefusal areas form fault.Order = is_next areas form ≡ false
+IsRefusal areas form fault.Order = is_next (headed areas) form ≡ false
 IsRefusal areas form (fault.Wire f) = ⊥
 IsRefusal areas form (fault.Config f) = ⊥
 IsRefusal areas form fault.Memory = Unit {0}
 
 -- ---- a line behind the header
 
--- the form of a line that may stand in the header alone
-abbrev pub IsHeading : Form → Type 0
-IsHeading (BodyLine body) = ⊥
-IsHeading _ = Unit {0}
-
 -- the line has this fault where it stands behind the header
 abbrev pub IsFaultBehind : List ℕ → Fault → Type 0
 IsFaultBehind line fault.Truncated = ⊥
 IsFaultBehind line fault.Version = ⊥
 IsFaultBehind line fault.Line = (form : Form) → ¬ Says line form
-IsFaultBehind line fault.Order = (form : Form) × Says line form × IsHeading form
+IsFaultBehind line fault.Order = (form : Form) × Says line form × ((body : Body) → form ≢ BodyLine body)
 IsFaultBehind line (fault.Wire f) = (at : Scope) × (bytes : List ℕ) × Says line (BodyLine (InstallLine at bytes)) × (fault_of bytes ≡ Some f)
 IsFaultBehind line (fault.Config f) = ⊥
 IsFaultBehind line fault.Memory = Unit {0}
