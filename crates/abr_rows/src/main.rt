@@ -25,9 +25,10 @@ use std::{fs, io};
 use trial::is_as_wanted;
 
 // The files of rows.
-const FILES: [&str; 9] = [
+const FILES: [&str; 10] = [
     "commands.rows",
     "recordings.rows",
+    "versions.rows",
     "events.rows",
     "routes.rows",
     "summaries.rows",

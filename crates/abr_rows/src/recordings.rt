@@ -37,8 +37,8 @@ fn a_text_is_read_and_printed(rt: HostRuntime) -> Result<(), Fail> {
     let same = printed(&rt, &read)?
         && read.lines().len() == 11
         && read.config().router == 0x0a00_0001;
-    let (config, lines) = read.into_parts();
-    let again = Recording::of(config, lines).ok_or("a recording")?;
+    let (version, config, lines) = read.into_parts();
+    let again = Recording::of(version, config, lines).ok_or("a recording")?;
     assert!(rt; same && printed(&rt, &again)?);
     Ok(())
 }

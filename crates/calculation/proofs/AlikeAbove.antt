@@ -3,7 +3,7 @@
 --   inter_alike: inter-area routes of the one are those of the other
 --   external_alike: and so are external routes
 use Rattle.std.proofs.Common.{◌≡◌, ℕ, List, map, Option, Some, None, refl, sym, ap, subst, ◌∙◌, inl, inr}
-use Rattle.std.specs.Prelude.{◌↔◌, option_map}
+use Rattle.std.specs.Prelude.{◌↔◌, Bool, option_map}
 use Rattle.std.specs.List.{Contains}
 use Rattle.std.specs.Ordering.{nat_cmp}
 use Rattle.std.specs.FinMap.{FinMap, get}
@@ -63,9 +63,9 @@ module _ (d e : Database) (alike : (key : Key) → body_at e key ≡ body_at d k
       entries = λ p. offered_alike p (get w.entries p) (is.entries p);
     }
 
-  module _ (areas : List ℕ) (inter : InterValue) where
+  module _ (compat : Bool) (areas : List ℕ) (inter : InterValue) where
     abbrev externals_with : Database → ExternalInputsValue
-    externals_with lsas = record { root = root; areas = areas; lsas = lsas; intra = intra; active = active; inter = inter }
+    externals_with lsas = record { root = root; compat = compat; areas = areas; lsas = lsas; intra = intra; active = active; inter = inter }
 
     match_alike : (address : ℕ) (p : Option Prefix) → IsMatchOf (externals_with d) address p → IsMatchOf (externals_with e) address p
     match_alike address None is = is
@@ -148,5 +148,5 @@ module _ (s t : State) (looks : LooksAlike s t) (config : t.config ≡ s.config)
   external_alike inter w is =
       let d : Database = lsas_in (database_of s scope.As) in
       let e : Database = lsas_in (database_of t scope.As) in
-      subst (λ (c : Config). IsExternalOf (record { root = c.router; areas = map (λ (a : AreaConfig). a.id) c.areas; lsas = e; intra = intra; active = active; inter = inter }) w) (sym config)
-      (externals_alike d e (bodies_alike s t looks scope.As) s.config.router intra active (map (λ (a : AreaConfig). a.id) s.config.areas) inter w is)
+      subst (λ (c : Config). IsExternalOf (record { root = c.router; compat = c.compat; areas = map (λ (a : AreaConfig). a.id) c.areas; lsas = e; intra = intra; active = active; inter = inter }) w) (sym config)
+      (externals_alike d e (bodies_alike s t looks scope.As) s.config.router intra active s.config.compat (map (λ (a : AreaConfig). a.id) s.config.areas) inter w is)

@@ -1,5 +1,5 @@
 -- What `abr one` answers: the longest match of an address (RFC 2328, 11.1) in the table that one LSA gives a router with one area and one interface.
-use Rattle.std.specs.Prelude.{ℕ, ◌≡◌, ◌⊎◌, ◌++◌, List, [], ◌∷◌, None, codes, decimal, length, true}
+use Rattle.std.specs.Prelude.{ℕ, ◌≡◌, ◌⊎◌, ◌++◌, List, [], ◌∷◌, None, codes, decimal, length, true, false}
 use mathlib.Core.List.{IsPrefix}
 use Rattle.ospf_types.specs.declared.config.Config.{Config}
 use Rattle.ospf_types.specs.declared.key.Scope.TheVariants as scope
@@ -49,7 +49,7 @@ pub record Say (words : OneTexts) (g : Given) : Type 0 where
 
 -- the router has one area, which is no stub area and has no ranges
 abbrev pub one_area : ℕ → ℕ → Config
-one_area router area = record { router = router; areas = record { id = area; stub = None; ranges = [] } ∷ [] }
+one_area router area = record { router = router; compat = false; areas = record { id = area; stub = None; ranges = [] } ∷ [] }
 
 abbrev pub config_of : Given → Config
 config_of g = one_area g.router g.area

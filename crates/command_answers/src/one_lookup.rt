@@ -248,5 +248,9 @@ fn one_area(alloc: Global, router: u32, area: u32) -> Result<Config, Memory>
         stub: None,
         ranges: Ranges::new(alloc),
     })?;
-    Ok(Config { router, areas })
+    Ok(Config {
+        router,
+        compat: false,
+        areas,
+    })
 }

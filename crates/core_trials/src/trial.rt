@@ -13,7 +13,7 @@ pub fn events_of(alloc: Global, text: &str) -> Result<(Config, Vec<Event>), Fail
     let Ok(recording) = parse(alloc, text.as_bytes()) else {
         return Err(Fail::from("a recording"));
     };
-    let (config, lines) = recording.into_parts();
+    let (_, config, lines) = recording.into_parts();
     Ok((config, events_in(alloc, lines)?))
 }
 

@@ -93,8 +93,12 @@ fn fault_of<R: Wait + RandomSource + AllocGlobal>(
 
 #[test]
 fn readers_are_1_to_64_and_the_configuration_comes_first(rt: HostRuntime) -> Result<(), Fail> {
-    let (router, areas) = (1, Areas::new(rt.alloc()));
-    let found = fault_of(&rt, Config { router, areas }, 0)?;
+    let config = Config {
+        router: 1,
+        compat: false,
+        areas: Areas::new(rt.alloc()),
+    };
+    let found = fault_of(&rt, config, 0)?;
     assert!(rt; found == Some(OpenFault::Config(ConfigFault::Areas)));
     let fault = Some(OpenFault::Readers);
     for (readers, wanted) in [(0, fault), (1, None), (64, None), (65, fault)] {

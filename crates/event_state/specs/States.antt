@@ -57,6 +57,7 @@ lsas_of (Some d) = values d
 abbrev pub inputs_of : State → Inputs
 inputs_of s = record {
   router = s.config.router;
+  compat = s.config.compat;
   areas = map (λ a. record { id = a.id; stub = a.stub; ranges = a.ranges; lsas = lsas_of (database_of s (scope.Area a.id)) }) s.config.areas;
   externals = lsas_of (database_of s scope.As);
   interfaces = entries s.interfaces;

@@ -6,7 +6,7 @@
 --   stands_after: all of them, once the index followed
 --   stands_from_nothing: the same of routes where nothing was advertised
 use Rattle.std.proofs.Common.{◌≡◌, ℕ, List, Option, Some, None, refl, sym, ap, subst, ◌∙◌, inl, inr, arith}
-use Rattle.std.specs.Prelude.{◌↔◌, IsSome, false}
+use Rattle.std.specs.Prelude.{◌↔◌, Bool, IsSome, false}
 use Rattle.std.specs.FinMap.{get, empty, get-empty}
 use Rattle.std.specs.List.{Contains}
 use Rattle.std.specs.Ordering.{nat_cmp}
@@ -21,7 +21,7 @@ use Rattle.ospf_types.specs.declared.key.Scope.{Scope}
 use Rattle.ospf_types.specs.declared.key.Scope.TheVariants.{As}
 use Rattle.ospf_types.specs.declared.prefix.Prefix.{Prefix}
 use Rattle.ospf_types.specs.Address.{HasAddress}
-use Rattle.ospf_types.specs.Boundary.{Preference, preference_cmp}
+use Rattle.ospf_types.specs.Boundary.{Preference, preference_cmp, class_of}
 use Rattle.ospf_types.specs.External.{ExternalPreference, external_cmp}
 use Rattle.ospf_types.specs.Intra.{E}
 use Rattle.ospf_types.specs.Keys.{key_cmp}
@@ -51,18 +51,18 @@ preferred_same one other same (Some w) is = (best_same one other same preference
 
 -- ---- what is offered by the one is offered by the other
 
-router_offers : (one other : ExternalInputsValue) (r : ℕ) → other.areas ≡ one.areas → ((area : ℕ) → reached_at other.intra.areas area r ≡ reached_at one.intra.areas area r)
+router_offers : (one other : ExternalInputsValue) (r : ℕ) → other.compat ≡ one.compat → other.areas ≡ one.areas → ((area : ℕ) → reached_at other.intra.areas area r ≡ reached_at one.intra.areas area r)
     → get other.inter.entries (Router r) ≡ get one.inter.entries (Router r) → (preference : Preference) (h : NextHop) → RouterOffers one r preference h → RouterOffers other r preference h
-router_offers one other r areas reached inter preference h (inl w) =
+router_offers one other r compat areas reached inter preference h (inl w) =
     let o = w.2 in
-    inl (w.0, subst (λ (ns : List ℕ). Contains ns w.0) (sym areas) w.1, (o.0, o.1, subst (λ (x : Option ReachedValue). HandsOut E x preference.cost h) (sym (reached w.0)) o.2))
-router_offers one other r areas reached inter preference h (inr e) = inr (subst (λ (o : Option Entry). EntryOffers o preference h) (sym inter) e)
+    inl (w.0, subst (λ (ns : List ℕ). Contains ns w.0) (sym areas) w.1, (o.0, o.1 ∙ ap (λ (b : Bool). class_of b (Some w.0)) (sym compat), subst (λ (x : Option ReachedValue). HandsOut E x preference.cost h) (sym (reached w.0)) o.2))
+router_offers one other r compat areas reached inter preference h (inr e) = inr (subst (λ (z : Bool × Option Entry). EntryOffers z.0 z.1 preference h) (λ i. ((sym compat) i, (sym inter) i)) e)
 
-leads_by : (one other : ExternalInputsValue) (p : Prefix) → internal_entry other p ≡ internal_entry one p → get other.intra.entries p ≡ get one.intra.entries p
+leads_by : (one other : ExternalInputsValue) (p : Prefix) → other.compat ≡ one.compat → internal_entry other p ≡ internal_entry one p → get other.intra.entries p ≡ get one.intra.entries p
     → (address class cost : ℕ) (h : NextHop) → LeadsBy one address (Some p) class cost h → LeadsBy other address (Some p) class cost h
-leads_by one other p internal intra address class cost h w =
+leads_by one other p compat internal intra address class cost h w =
     let l = w.1 in
-    (w.0, (l.0, l.1, internal ∙ l.2, l.3, ap (λ (o : Option Entry). class_in o l.0.area) intra ∙ l.4, l.5, l.6), w.2)
+    (w.0, (l.0, l.1, internal ∙ l.2, l.3, (λ i. class_in (compat i) (intra i) l.0.area) ∙ l.4, l.5, l.6), w.2)
 
 -- ---- where the inputs differ in no more than is named
 
@@ -72,8 +72,8 @@ module _ (keys : List (Scope × Key)) (dests : List Dest) (b v : ExternalInputsV
   router_stands r absent w is = preferred_same (RouterOffers b r) (RouterOffers v r) (λ preference h.
       let reached = differ.routers r absent in
       let inter = differ.inter (Router r) absent in (
-        router_offers b v r differ.areas reached inter preference h,
-        router_offers v b r (sym differ.areas) (λ area. sym (reached area)) (sym inter) preference h,
+        router_offers b v r differ.compat differ.areas reached inter preference h,
+        router_offers v b r (sym differ.compat) (sym differ.areas) (λ area. sym (reached area)) (sym inter) preference h,
       )) w is
 
   -- the internal entry of a network that is not named
@@ -110,7 +110,7 @@ module _ (keys : List (Scope × Key)) (dests : List Dest) (b v : ExternalInputsV
       let absent : Contains dests (Net m) → ⊥ = λ c. clear m c is.contains (omega arith) in
       let internal = internal_stands m absent in
       let intra = differ.intra m absent in
-      (leads_by b v m internal intra a class cost h, leads_by v b m (sym internal) (sym intra) a class cost h)
+      (leads_by b v m differ.compat internal intra a class cost h, leads_by v b m (sym differ.compat) (sym internal) (sym intra) a class cost h)
 
   leads_stand : (a : ℕ) (f : ForwardValue) → ((p : Prefix) → Contains dests (Net p) → HasAddress p a → IsNoShorter (Some f) p → ⊥) → IsForwardOf b a f → IsForwardOf v a f
   leads_stand a f clear is = record {

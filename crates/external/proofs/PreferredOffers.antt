@@ -1,13 +1,13 @@
 -- What a choice of a preferred entry takes, part by part, is what is offered to it.
 use Rattle.std.proofs.Common.{◌≡◌, ℕ, ◌<◌, List, Option, Some, None, refl, sym, ap, subst, ◌∙◌}
-use Rattle.std.specs.Prelude.{bit_and}
+use Rattle.std.specs.Prelude.{Bool, bit_and}
 use Rattle.std.specs.List.{Contains}
 use Rattle.std.specs.FinMap.{get}
 use Rattle.ospf_types.specs.declared.entry.Entry.{Entry}
 use Rattle.ospf_types.specs.declared.hop.NextHop.{NextHop}
 use Rattle.ospf_types.specs.declared.hop.Path.{Path}
 use Rattle.ospf_types.specs.declared.key.Dest.TheVariants.{Router}
-use Rattle.ospf_types.specs.Boundary.{Preference, preference_cmp, intra_class}
+use Rattle.ospf_types.specs.Boundary.{Preference, preference_cmp, class_of}
 use Rattle.ospf_types.specs.Hops.{hop_cmp}
 use Rattle.ospf_types.specs.Intra.{E}
 use Rattle.path_choice.specs.Choices.{Chosen, IsChosen}
@@ -27,42 +27,42 @@ preferred_at class cost area = record { class = class; cost = cost; area = area 
 
 -- ---- an area
 
-module _ (area : ℕ) where
-  pub takes_unreached : (c : HopChoice) → TakesHops (AreaOffers area None) c c
-  takes_unreached c = takes_none (AreaOffers area None) (λ p h w. w.2) c
+module _ (compat : Bool) (area : ℕ) where
+  pub takes_unreached : (c : HopChoice) → TakesHops (AreaOffers compat area None) c c
+  takes_unreached c = takes_none (AreaOffers compat area None) (λ p h w. w.2) c
 
   module _ (r : ReachedValue) where
     -- no AS boundary router
-    pub takes_no_boundary : (0 < bit_and r.flags E → ⊥) → (c : HopChoice) → TakesHops (AreaOffers area (Some r)) c c
-    takes_no_boundary clear c = takes_none (AreaOffers area (Some r)) (λ p h w. clear w.2.0) c
+    pub takes_no_boundary : (0 < bit_and r.flags E → ⊥) → (c : HopChoice) → TakesHops (AreaOffers compat area (Some r)) c c
+    takes_no_boundary clear c = takes_none (AreaOffers compat area (Some r)) (λ p h w. clear w.2.0) c
 
-    pub takes_boundary : (key : Preference) → key ≡ preferred_at (intra_class area) r.distance area → 0 < bit_and r.flags E → (old new : HopChoice) → TakesHops (HopsOffer r.hops key) old new → TakesHops (AreaOffers area (Some r)) old new
-    takes_boundary key is boundary old new takes = takes_same (HopsOffer r.hops key) (AreaOffers area (Some r)) (λ p h. (
+    pub takes_boundary : (key : Preference) → key ≡ preferred_at (class_of compat (Some area)) r.distance area → 0 < bit_and r.flags E → (old new : HopChoice) → TakesHops (HopsOffer r.hops key) old new → TakesHops (AreaOffers compat area (Some r)) old new
+    takes_boundary key is boundary old new takes = takes_same (HopsOffer r.hops key) (AreaOffers compat area (Some r)) (λ p h. (
       λ w.
-          let at : p ≡ preferred_at (intra_class area) r.distance area = w.2.0 ∙ is in
+          let at : p ≡ preferred_at (class_of compat (Some area)) r.distance area = w.2.0 ∙ is in
           (ap (λ (t : Preference). t.area) at, ap (λ (t : Preference). t.class) at, (boundary, sym (ap (λ (t : Preference). t.cost) at), subst (Contains r.hops) (sym w.2.1) w.1)),
       λ w. (h, w.2.2, ((λ i. preferred_at (w.1 i) (sym w.2.1 i) (w.0 i)) ∙ sym is, refl)),
     )) old new takes
 
 -- ---- the inter-area entry
 
-pub takes_no_entry : (c : HopChoice) → TakesHops (EntryOffers None) c c
-takes_no_entry c = takes_none (EntryOffers None) (λ p h w. let e = w.2 in absurd cc) c
+pub takes_no_entry : (compat : Bool) (c : HopChoice) → TakesHops (EntryOffers compat None) c c
+takes_no_entry compat c = takes_none (EntryOffers compat None) (λ p h w. let e = w.2 in absurd cc) c
 
-module _ (e : Entry) where
+module _ (compat : Bool) (e : Entry) where
   same_entry : (other : Entry) → Some e ≡ Some other → e ≡ other
   same_entry other is = cc
 
-  pub takes_no_area : e.area ≡ None → (c : HopChoice) → TakesHops (EntryOffers (Some e)) c c
-  takes_no_area none c = takes_none (EntryOffers (Some e)) (λ p h w.
+  pub takes_no_area : e.area ≡ None → (c : HopChoice) → TakesHops (EntryOffers compat (Some e)) c c
+  takes_no_area none c = takes_none (EntryOffers compat (Some e)) (λ p h w.
       let same : e ≡ w.0 = same_entry w.0 w.2 in
       let both : None ≡ Some p.area = sym none ∙ ap (λ (t : Entry). t.area) same ∙ w.3 in
       absurd cc) c
 
-  pub takes_entry : (area : ℕ) → e.area ≡ Some area → (key : Preference) → key ≡ preferred_at 1 e.cost area → (old new : HopChoice) → TakesHops (OfferedBySome e.paths (λ (path : Path). OnlyOffer key path.hop)) old new → TakesHops (EntryOffers (Some e)) old new
-  takes_entry area in_area key is old new takes = takes_same (OfferedBySome e.paths (λ (path : Path). OnlyOffer key path.hop)) (EntryOffers (Some e)) (λ p h. (
+  pub takes_entry : (area : ℕ) → e.area ≡ Some area → (key : Preference) → key ≡ preferred_at (class_of compat None) e.cost area → (old new : HopChoice) → TakesHops (OfferedBySome e.paths (λ (path : Path). OnlyOffer key path.hop)) old new → TakesHops (EntryOffers compat (Some e)) old new
+  takes_entry area in_area key is old new takes = takes_same (OfferedBySome e.paths (λ (path : Path). OnlyOffer key path.hop)) (EntryOffers compat (Some e)) (λ p h. (
     λ w.
-        let at : p ≡ preferred_at 1 e.cost area = w.2.0 ∙ is in
+        let at : p ≡ preferred_at (class_of compat None) e.cost area = w.2.0 ∙ is in
         (e, w.0, refl, in_area ∙ ap (λ (t : Preference). Some t.area) (sym at), ap (λ (t : Preference). t.cost) (sym at), ap (λ (t : Preference). t.class) at, w.1, sym w.2.1),
     λ w.
         let same : e ≡ w.0 = same_entry w.0 w.2 in
@@ -75,9 +75,9 @@ module _ (e : Entry) where
 -- ---- all of them
 
 module _ (v : ExternalInputsValue) (router : ℕ) where
-  pub chosen_from : (none mid last c : HopChoice) → none ≡ None → last ≡ c → TakesHops (OfferedBySome v.areas (ReachedOffers v router)) none mid → TakesHops (EntryOffers (get v.inter.entries (Router router))) mid last → IsChosen preference_cmp hop_cmp (RouterOffers v router) c
+  pub chosen_from : (none mid last c : HopChoice) → none ≡ None → last ≡ c → TakesHops (OfferedBySome v.areas (ReachedOffers v router)) none mid → TakesHops (EntryOffers v.compat (get v.inter.entries (Router router))) mid last → IsChosen preference_cmp hop_cmp (RouterOffers v router) c
   chosen_from none mid last c start end areas entry =
-      let all : TakesHops (RouterOffers v router) none last = takes_two (OfferedBySome v.areas (ReachedOffers v router)) (EntryOffers (get v.inter.entries (Router router))) none mid last areas entry in
+      let all : TakesHops (RouterOffers v router) none last = takes_two (OfferedBySome v.areas (ReachedOffers v router)) (EntryOffers v.compat (get v.inter.entries (Router router))) none mid last areas entry in
       subst (IsChosen preference_cmp hop_cmp (RouterOffers v router)) end
       (taken_chosen (RouterOffers v router) last (subst (λ (s : HopChoice). TakesHops (RouterOffers v router) s last) start all))
 

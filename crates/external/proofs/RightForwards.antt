@@ -2,7 +2,7 @@
 --   nothing_inside: a network has no internal entry where the definitions give it neither an intra-area nor an inter-area one
 --   forward_right: where an address leads is what the definitions say
 use Rattle.std.proofs.Common.{◌≡◌, ℕ, ◌≤◌, Option, Some, None, true≢false, refl, sym, ap, subst, ◌∙◌, ◌⊎◌, inl, inr, arith}
-use Rattle.std.specs.Prelude.{◌↔◌, IsSome}
+use Rattle.std.specs.Prelude.{◌↔◌, Bool, IsSome}
 use Rattle.std.specs.Cmp.{nat_cmp_total}
 use Rattle.std.specs.FinMap.{get}
 use Rattle.std.specs.List.{Contains}
@@ -12,7 +12,7 @@ use Rattle.ospf_types.specs.declared.hop.NextHop.{NextHop}
 use Rattle.ospf_types.specs.declared.hop.Path.{Path}
 use Rattle.ospf_types.specs.declared.key.Dest.TheVariants.{Net}
 use Rattle.ospf_types.specs.declared.prefix.Prefix.{Prefix}
-use Rattle.ospf_types.specs.Boundary.{intra_class}
+use Rattle.ospf_types.specs.Boundary.{class_of}
 use Rattle.ospf_types.specs.External.{InternalReaches, IsForward, toward}
 use Rattle.ospf_types.specs.Inputs.{Inputs}
 use Rattle.ospf_types.specs.Inter.{InterOffers, IsInter, NoInter}
@@ -47,7 +47,7 @@ IsInternalIn s p classes None = NoIntra s p × NoInter s p
 IsInternalIn s p classes (Some e) = IsInternal s p e (classes e.area)
 
 module _ (s : Inputs) (p : Prefix) (e : Entry) (own : ℕ) where
-  inside_is : (is : IsIntraEntry (IntraOffers s p) (Some e)) → own ≡ intra_class is.0.1 → IsInternal s p e own
+  inside_is : (is : IsIntraEntry (IntraOffers s p) (Some e)) → own ≡ class_of s.compat (Some is.0.1) → IsInternal s p e own
   inside_is is class_is = record {
     first = (is.1.stands.0, (is.1.union is.1.stands.0).1 is.1.stands.1);
     says = λ class cost h. (
@@ -57,7 +57,7 @@ module _ (s : Inputs) (p : Prefix) (e : Entry) (own : ℕ) where
             let same : is.0 ≡ (cost, intra.0) = same_key area_cost_total area_cost_exact (IntraOffers s p) is.0 (cost, intra.0) e.paths intra.1 is.1 intra.3 in (
               intra.2,
               ap (λ (t : Entry). t.cost) is.3 ∙ ap (λ (k : AreaCost). k.0) same,
-              class_is ∙ ap (λ (k : AreaCost). intra_class k.1) same ∙ sym intra.6,
+              class_is ∙ ap (λ (k : AreaCost). class_of s.compat (Some k.1)) same ∙ sym intra.6,
               (is.1.union intra.2).1 (subst (λ (k : AreaCost). IntraOffers s p k intra.2) (sym same) ((intra.3.union intra.2).0 intra.4)),
               intra.5,
             )
@@ -66,7 +66,7 @@ module _ (s : Inputs) (p : Prefix) (e : Entry) (own : ℕ) where
     );
   }
 
-  between_is : IsInterEntry s (InterOffers s p) (Some e) → NoIntra s p → own ≡ 1 → IsInternal s p e own
+  between_is : IsInterEntry s (InterOffers s p) (Some e) → NoIntra s p → own ≡ class_of s.compat None → IsInternal s p e own
   between_is (inr none) outside class_is = let both : Some e ≡ None = none.1 in absurd cc
   between_is (inl one) outside class_is =
       let is = one.2 in
@@ -96,11 +96,11 @@ module _ (s : Inputs) (v : ExternalInputsValue) (are : AreInputsOf s v) (p : Pre
   by_entries : (x y : Option Entry) → get v.intra.entries p ≡ x → get v.inter.entries (Net p) ≡ y → IsIntraEntry (IntraOffers s p) x → IsInterEntry s (InterOffers s p) y → IsInternalIn s p (class_at v p) (internal_entry v p)
   by_entries (Some e) y inside between is also =
       let known : internal_entry v p ≡ Some e = rw inside refl in
-      let class_is : class_at v p e.area ≡ intra_class is.0.1 = ap (class_at v p) (ap (λ (t : Entry). t.area) is.3) ∙ rw inside refl in
+      let class_is : class_at v p e.area ≡ class_of s.compat (Some is.0.1) = ap (class_at v p) (ap (λ (t : Entry). t.area) is.3) ∙ rw inside (ap (λ (b : Bool). class_of b (Some is.0.1)) are.compat) in
       subst (IsInternalIn s p (class_at v p)) (sym known) (inside_is s p e (class_at v p e.area) is class_is)
   by_entries None (Some e) inside between is also =
       let known : internal_entry v p ≡ Some e = rw inside between in
-      let class_is : class_at v p e.area ≡ 1 = rw inside refl in
+      let class_is : class_at v p e.area ≡ class_of s.compat None = rw inside (ap (λ (b : Bool). class_of b None) are.compat) in
       subst (IsInternalIn s p (class_at v p)) (sym known) (between_is s p e (class_at v p e.area) also is class_is)
   by_entries None None inside between is also =
       let known : internal_entry v p ≡ None = rw inside between in

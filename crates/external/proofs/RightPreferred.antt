@@ -1,6 +1,6 @@
 -- The preferred entries of AS boundary routers are those of the definitions (RFC 2328, 16.4 and 16.4.1).
 --   router_offered: what is offered to a router is what the definitions say
-use Rattle.std.proofs.Common.{◌≡◌, ◌≢◌, ℕ, ◌≤◌, List, Option, Some, None, refl, sym, ap, subst, ◌∙◌, inl, inr, arith}
+use Rattle.std.proofs.Common.{◌≡◌, ◌≢◌, ℕ, ◌≤◌, Bool, List, Option, Some, None, refl, sym, ap, subst, ◌∙◌, inl, inr, arith}
 use Rattle.std.specs.Prelude.{◌↔◌}
 use Rattle.std.specs.declared.cmp.Ordering.TheVariants.{Less}
 use Rattle.std.specs.Cmp.{nat_cmp_is}
@@ -12,7 +12,7 @@ use Rattle.ospf_types.specs.declared.entry.Entry.{Entry}
 use Rattle.ospf_types.specs.declared.hop.NextHop.{NextHop}
 use Rattle.ospf_types.specs.declared.hop.Path.{Path}
 use Rattle.ospf_types.specs.declared.key.Dest.TheVariants.{Router}
-use Rattle.ospf_types.specs.Boundary.{Preference, intra_class, AreaBoundaryOffers, BoundaryInterOffers, IsBoundaryPath, BoundaryOffers}
+use Rattle.ospf_types.specs.Boundary.{Preference, class_of, AreaBoundaryOffers, BoundaryInterOffers, IsBoundaryPath, BoundaryOffers}
 use Rattle.ospf_types.specs.Inputs.{Inputs, Area}
 use Rattle.ospf_types.specs.Intra.{E}
 use Rattle.ospf_types.specs.Ranges.{IsExamined}
@@ -35,7 +35,7 @@ not_less m n never = elim (cases_lt m n) [ inl lt ↦ absurd (never (sym (nat_cm
 module _ (s : Inputs) (router : ℕ) where
   -- a path of the router's inter-area entry, with its next hop
   abbrev PathOffers : Preference → NextHop → Type 0
-  PathOffers k h = (path : Path) × IsBoundaryPath s router k.area k.cost path × (path.hop ≡ h) × (k.class ≡ 1)
+  PathOffers k h = (path : Path) × IsBoundaryPath s router k.area k.cost path × (path.hop ≡ h) × (k.class ≡ class_of s.compat None)
 
   -- what is offered is offered in the examined area
   in_examined : (a : Area) → IsExamined s a → (area cost : ℕ) (path : Path) → a.id ≡ area → BoundaryInterOffers s router cost path → AreaBoundaryOffers s area router cost path
@@ -44,7 +44,7 @@ module _ (s : Inputs) (router : ℕ) where
       subst (λ (n : ℕ). AreaBoundaryOffers s n router cost path) there offer.1
 
   module _ (a : Area) (examined : IsExamined s a) (e : Entry) (is : IsEntryFor a.id (BoundaryInterOffers s router) (Some e)) (k : Preference) (h : NextHop) where
-    entry_path : EntryOffers (Some e) k h → PathOffers k h
+    entry_path : EntryOffers s.compat (Some e) k h → PathOffers k h
     entry_path o =
         let both : Some e ≡ Some o.0 = o.2 in
         let same : e ≡ o.0 = cc in
@@ -63,7 +63,7 @@ module _ (s : Inputs) (router : ℕ) where
           o.5,
         )
 
-    path_entry : PathOffers k h → EntryOffers (Some e) k h
+    path_entry : PathOffers k h → EntryOffers s.compat (Some e) k h
     path_entry w =
         let offer = w.1.offered in
         let below : is.0 ≤ k.cost = not_less k.cost is.0 (is.1.least k.cost w.0 (k.area, offer)) in
@@ -79,7 +79,7 @@ module _ (s : Inputs) (router : ℕ) where
           w.2,
         )
 
-  entry_offered : (o : Option Entry) → IsEntryOf s (BoundaryInterOffers s router) o → (k : Preference) (h : NextHop) → EntryOffers o k h ↔ PathOffers k h
+  entry_offered : (o : Option Entry) → IsEntryOf s (BoundaryInterOffers s router) o → (k : Preference) (h : NextHop) → EntryOffers s.compat o k h ↔ PathOffers k h
   entry_offered None is k h = (
     λ o. let both : None ≡ Some o.0 = o.2 in absurd cc,
     λ w. elim is [ inl one ↦ absurd (one.2 k.cost w.0 (k.area, w.1.offered)) | inr none ↦ absurd (none.0 w.1.offered.0 w.1.offered.9.examined) ],
@@ -104,14 +104,14 @@ router_offered s v are router k h =
               at.1,
               at.2 ∙ sym inside.2.0,
               reached.1 (subst (λ (id : ℕ). HandsOut E (reached_at v.intra.areas id router) k.cost h) (sym at.2) inside.2.2),
-              inside.2.1 ∙ ap intra_class (sym at.2),
+              inside.2.1 ∙ (λ i. class_of (are.compat i) (Some (sym at.2 i))),
             )
-        | inr inter ↦ inr (entry.0 inter)
+        | inr inter ↦ inr (entry.0 (subst (λ (b : Bool). EntryOffers b (get v.inter.entries (Router router)) k h) are.compat inter))
       ],
       λ o. elim o [
         | inl inside ↦
             let reached = reached_right s s.areas v.intra.areas are.intra.routers are.apart inside.0 inside.1 E router k.cost h (inr refl) in
-            inl (inside.0.id, subst (λ (ids : List ℕ). Contains ids inside.0.id) (sym are.areas) (mapped_element (λ (a : Area). a.id) s.areas inside.0 inside.1), (sym inside.2, inside.4, reached.0 inside.3))
-        | inr inter ↦ inr (entry.1 inter)
+            inl (inside.0.id, subst (λ (ids : List ℕ). Contains ids inside.0.id) (sym are.areas) (mapped_element (λ (a : Area). a.id) s.areas inside.0 inside.1), (sym inside.2, inside.4 ∙ ap (λ (b : Bool). class_of b (Some inside.0.id)) (sym are.compat), reached.0 inside.3))
+        | inr inter ↦ inr (subst (λ (b : Bool). EntryOffers b (get v.inter.entries (Router router)) k h) (sym are.compat) (entry.1 inter))
       ],
     )

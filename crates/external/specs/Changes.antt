@@ -16,6 +16,7 @@ use Rattle.external.specs.Externals.{ExternalValue}
 -- the inputs differ in no more than is named
 pub record InputsDifferAmong (keys : List (Scope × Key)) (dests : List Dest) (old new : ExternalInputsValue) : Type 0 where
   pub root : new.root ≡ old.root
+  pub compat : new.compat ≡ old.compat
   pub areas : new.areas ≡ old.areas
   pub lsas : LsasDifferAmong keys As old.lsas new.lsas
   pub intra : (p : Prefix) → (Contains dests (Net p) → ⊥) → get new.intra.entries p ≡ get old.intra.entries p

@@ -1,12 +1,12 @@
 -- What is offered to a choice of a preferred entry or of an external route, part by part.
-use Rattle.std.specs.Prelude.{ℕ, ◌≡◌, List, Option, Some}
+use Rattle.std.specs.Prelude.{ℕ, ◌≡◌, Bool, List, Option, Some}
 use Rattle.std.specs.FinMap.{get}
 use Rattle.ospf_types.specs.declared.hop.NextHop.{NextHop}
 use Rattle.ospf_types.specs.declared.hop.Path.{Path}
 use Rattle.ospf_types.specs.declared.key.Dest.TheVariants.{Net}
 use Rattle.ospf_types.specs.declared.key.Key.{Key}
 use Rattle.ospf_types.specs.declared.prefix.Prefix.{Prefix}
-use Rattle.ospf_types.specs.Boundary.{Preference, preference_cmp, intra_class}
+use Rattle.ospf_types.specs.Boundary.{Preference, preference_cmp, class_of}
 use Rattle.ospf_types.specs.External.{ExternalPreference, external_cmp}
 use Rattle.ospf_types.specs.Hops.{hop_cmp, path_cmp}
 use Rattle.ospf_types.specs.Inter.{through}
@@ -30,8 +30,8 @@ abbrev pub HopsOffer : List NextHop → Preference → Preference → NextHop �
 HopsOffer hops at = OfferedBySome hops (OnlyOffer at)
 
 -- what is kept of the router in the area offers it, if it is an AS boundary router
-abbrev pub AreaOffers : ℕ → Option ReachedValue → Preference → NextHop → Type 0
-AreaOffers area reached preference h = (preference.area ≡ area) × (preference.class ≡ intra_class area) × HandsOut E reached preference.cost h
+abbrev pub AreaOffers : Bool → ℕ → Option ReachedValue → Preference → NextHop → Type 0
+AreaOffers compat area reached preference h = (preference.area ≡ area) × (preference.class ≡ class_of compat (Some area)) × HandsOut E reached preference.cost h
 
 -- just these offers of paths were taken
 abbrev pub TakesPaths : (ExternalPreference → Path → Type 0) → Option (Chosen ExternalPreference Path) → Option (Chosen ExternalPreference Path) → Type 0

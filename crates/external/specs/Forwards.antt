@@ -1,5 +1,5 @@
 -- Where forwarding addresses lead (RFC 2328, 16.4).
-use Rattle.std.specs.Prelude.{ℕ, ◌≡◌, ◌≤◌, ◌⊎◌, ◌↔◌, List, Contains, Option, Some, None, IsSome}
+use Rattle.std.specs.Prelude.{ℕ, ◌≡◌, ◌≤◌, ◌⊎◌, ◌↔◌, Bool, List, Contains, Option, Some, None, IsSome}
 use Rattle.std.specs.FinMap.{FinMap, get}
 use Rattle.std.specs.Ordering.{nat_cmp}
 use Rattle.ospf_types.specs.declared.entry.Entry.{Entry}
@@ -8,7 +8,7 @@ use Rattle.ospf_types.specs.declared.hop.Path.{Path}
 use Rattle.ospf_types.specs.declared.key.Dest.TheVariants.{Net}
 use Rattle.ospf_types.specs.declared.prefix.Prefix.{Prefix}
 use Rattle.ospf_types.specs.Address.{HasAddress}
-use Rattle.ospf_types.specs.Boundary.{intra_class}
+use Rattle.ospf_types.specs.Boundary.{class_of}
 use Rattle.ospf_types.specs.External.{toward}
 use Rattle.summaries.specs.Active.{IsActiveIn}
 use Rattle.external.specs.Inputs.{ExternalInputsValue}
@@ -36,13 +36,12 @@ internal_entry v p = one_of (get v.intra.entries p) (get v.inter.entries (Net p)
     one_of None other = other
 
 -- the class of an entry: an intra-area one has that of its area
-abbrev pub class_in : Option Entry → Option ℕ → ℕ
-class_in (Some e) (Some area) = intra_class area
-class_in (Some e) None = 1
-class_in None area = 1
+abbrev pub class_in : Bool → Option Entry → Option ℕ → ℕ
+class_in compat (Some e) area = class_of compat area
+class_in compat None area = class_of compat None
 
 abbrev pub class_at : ExternalInputsValue → Prefix → Option ℕ → ℕ
-class_at v p area = class_in (get v.intra.entries p) area
+class_at v p area = class_in v.compat (get v.intra.entries p) area
 
 -- by one of its paths
 abbrev pub InternalLeads : ExternalInputsValue → Prefix → ℕ → ℕ → NextHop → Type 0

@@ -17,6 +17,7 @@ use Rattle.external.specs.Externals.{ExternalValue, IsEntryFor}
 -- what the routes are calculated from is what the definitions speak of
 pub record AreInputsOf (s : Inputs) (v : ExternalInputsValue) : Type 0 where
   pub router : v.root ≡ s.router
+  pub compat : v.compat ≡ s.compat
   pub areas : v.areas ≡ map (λ (a : Area). a.id) s.areas
   pub apart : AllPairs (λ (a b : Area). a.id ≢ b.id) s.areas
   pub lsas : s.externals ≡ values v.lsas

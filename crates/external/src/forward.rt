@@ -6,7 +6,7 @@ ghost use Rattle.inter.specs.Inters.{most_cost};
 ghost use Rattle.external.specs.Forwards.{IsForwardOf, IsMatchOf, LeadsBy, Matches, WayOffers, class_at, internal_entry};
 
 use crate::inputs::ExternalInputs;
-use crate::preferred::intra_class;
+use crate::preferred::class_of;
 use ospf_types::entry::Entry;
 use ospf_types::hop::{NextHop, Path};
 use ospf_types::key::Dest;
@@ -212,9 +212,9 @@ fn way_by(
 fn class_at(inputs: &ExternalInputs<'_>, network: Prefix, area: Option<u32>) -> u8
     ensures { result ≡ class_at inputs.now network area }
 {
-    match (inputs.intra.get(network), area) {
-        (Some(_), Some(area)) => intra_class(area),
-        _ => 1,
+    match inputs.intra.get(network) {
+        Some(_) => class_of(inputs.compat, area),
+        None => class_of(inputs.compat, None),
     }
 }
 

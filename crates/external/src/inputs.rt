@@ -9,6 +9,8 @@ use summaries::ActiveRanges;
 pub struct ExternalInputs<'a> {
     /// The Router ID of the router that calculates.
     pub root: u32,
+    /// Whether RFC1583Compatibility is enabled (RFC 2328, 16.4.1 and C.1).
+    pub compat: bool,
     /// The Area IDs.
     pub areas: &'a [u32],
     /// The AS-external-LSAs.
@@ -32,5 +34,5 @@ impl<'a> Model for ExternalInputs<'a> {
 
     ghost coded = { let lsas : Coded Lsas = map.code key_code (Prim.hlevel codes) in Prim.hlevel (codes, lsas, intra_routes.the_row.coded, active_ranges.the_row.coded, inter_routes.the_row.coded) };
 
-    ghost view = { λ i. record { root = i.root; areas = i.areas.now; lsas = i.database.now.lsas; intra = i.intra.now; active = i.active.now; inter = i.inter.now } };
+    ghost view = { λ i. record { root = i.root; compat = i.compat; areas = i.areas.now; lsas = i.database.now.lsas; intra = i.intra.now; active = i.active.now; inter = i.inter.now } };
 }

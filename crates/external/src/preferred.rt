@@ -2,7 +2,7 @@
 ghost use Rattle.std.specs.Prelude.{◌≡◌, ◌↔◌, ◌<◌, Some, IfOk, OnOk, IsTrue};
 ghost use Rattle.std.specs.FinMap as map;
 ghost use Rattle.ospf_types.specs.declared.key.Dest.TheVariants as dest_value;
-ghost use Rattle.ospf_types.specs.Boundary.{intra_class};
+ghost use Rattle.ospf_types.specs.Boundary.{class_of};
 ghost use Rattle.path_choice.specs.Takes.{OnlyOffer, OfferedBySome};
 ghost use Rattle.inter.specs.Inters.{most_cost};
 ghost use Rattle.external.specs.Choosing.{TakesHops, HopsOffer, AreaOffers};
@@ -20,7 +20,7 @@ use std::cmp::Reverse;
 use std::marker::Model;
 
 /// The preferred entry of an AS boundary router: an intra-area path through another area than the backbone before all
-/// others, then the lesser cost, then the greater Area ID.
+/// others (unless RFC1583Compatibility is enabled), then the lesser cost, then the greater Area ID.
 pub struct Preferred {
     class: u8,
     cost: u32,
@@ -124,7 +124,8 @@ impl Preferred {
         self.hops.as_slice()
     }
 
-    // 0 where the entry is an intra-area path through another area than the backbone, and else 1.
+    // 0 where the entry is an intra-area path through another area than the backbone, and else 1; with RFC1583Compatibility
+    // enabled 0.
     pub(crate) fn class(&self) -> u8
         ensures { result ≡ self.now.preference.class }
     {
@@ -162,11 +163,18 @@ pub(crate) fn choose_preferred(
     }
 }
 
-/// The class of an intra-area entry: a path through another area than the backbone is preferred to all others.
-pub(crate) fn intra_class(area: u32) -> u8
-    ensures { result ≡ intra_class area }
+/// The class of an entry (RFC 2328, 16.4.1), which is intra-area through this area, or no intra-area one: a path through
+/// another area than the backbone is preferred to all others. With RFC1583Compatibility enabled none is.
+pub(crate) fn class_of(compat: bool, within: Option<u32>) -> u8
+    ensures { result ≡ class_of compat within }
 {
-    if area == 0 { 1 } else { 0 }
+    if compat {
+        return 0;
+    }
+    match within {
+        Some(area) => if area == 0 { 1 } else { 0 },
+        None => 1,
+    }
 }
 
 // The preferred entry of a choice.
@@ -206,7 +214,7 @@ fn offer_area(
     ensures { OnOk result (TakesHops (ReachedOffers inputs.now router area) best.old best.new) }
 {
     match inputs.intra.router(area, router) {
-        Some(reached) => offer_reached(best, area, reached),
+        Some(reached) => offer_reached(best, inputs.compat, area, reached),
         None => Ok(()),
     }
 }
@@ -214,15 +222,16 @@ fn offer_area(
 // Offers the area with a router that is reached there, if that is an AS boundary router.
 fn offer_reached(
     best: &mut Best<PreferenceKey, NextHop>,
+    compat: bool,
     area: u32,
     reached: &Reached,
 ) -> Result<(), Memory>
-    ensures { OnOk result (TakesHops (AreaOffers area (Some reached.now)) best.old best.new) }
+    ensures { OnOk result (TakesHops (AreaOffers compat area (Some reached.now)) best.old best.new) }
 {
     if !reached.is_boundary() {
         return Ok(());
     }
-    let key = PreferenceKey::new(intra_class(area), reached.distance(), area);
+    let key = PreferenceKey::new(class_of(compat, Some(area)), reached.distance(), area);
     offer_hops(best, key, reached.hops())
 }
 
@@ -232,23 +241,27 @@ fn offer_entry(
     inputs: &ExternalInputs<'_>,
     router: u32,
 ) -> Result<(), Memory>
-    ensures { OnOk result (TakesHops (EntryOffers (map.get inputs.now.inter.entries (dest_value.Router router))) best.old best.new) }
+    ensures { OnOk result (TakesHops (EntryOffers inputs.now.compat (map.get inputs.now.inter.entries (dest_value.Router router))) best.old best.new) }
 {
     match inputs.inter.get(Dest::Router(router)) {
-        Some(entry) => offer_inter(best, entry),
+        Some(entry) => offer_inter(best, inputs.compat, entry),
         None => Ok(()),
     }
 }
 
 // Offers the entry over the next hop of each of its paths.
-fn offer_inter(best: &mut Best<PreferenceKey, NextHop>, entry: &Entry) -> Result<(), Memory>
+fn offer_inter(
+    best: &mut Best<PreferenceKey, NextHop>,
+    compat: bool,
+    entry: &Entry,
+) -> Result<(), Memory>
     requires { entry.now.cost < most_cost }
-    ensures { OnOk result (TakesHops (EntryOffers (Some entry.now)) best.old best.new) }
+    ensures { OnOk result (TakesHops (EntryOffers compat (Some entry.now)) best.old best.new) }
 {
     let Some(area) = entry.area else {
         return Ok(());
     };
-    let key = PreferenceKey::new(1, entry.cost, area);
+    let key = PreferenceKey::new(class_of(compat, None), entry.cost, area);
     offer_paths(best, key, entry.paths.as_slice())
 }
 

@@ -121,11 +121,13 @@ fn are_same(xs: &[AreaConfig], ys: &[AreaConfig]) -> bool {
 fn copies_a_large_configuration(rt: HostRuntime) -> Result<(), Fail> {
     let config = Config {
         router: 0x0a00_0001,
+        compat: true,
         areas: areas(rt.alloc())?,
     };
     let copy = config.copy(rt.alloc())?;
     assert!(rt;
         copy.router == config.router
+            && copy.compat
             && copy.areas.len() == 16
             && are_same(copy.areas.as_slice(), config.areas.as_slice())
     );

@@ -98,6 +98,8 @@ impl Listed<AreaConfig> {
 pub struct Config {
     /// The Router ID.
     pub router: u32,
+    /// Whether RFC1583Compatibility is enabled (RFC 2328, 16.4.1 and C.1).
+    pub compat: bool,
     pub areas: Areas,
 }
 
@@ -106,6 +108,7 @@ impl Drop for Config {
     fn drop(self) {
         let Config {
             router: _,
+            compat: _,
             areas: _areas,
         } = self;
     }
@@ -118,6 +121,7 @@ impl Config {
     {
         Ok(Config {
             router: self.router,
+            compat: self.compat,
             areas: self.areas.copy(alloc)?,
         })
     }

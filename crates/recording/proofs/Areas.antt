@@ -15,7 +15,7 @@ use Rattle.ospf_types.specs.declared.config.Range.{Range}
 use Rattle.ospf_types.specs.declared.config.Stub.{Stub}
 use Rattle.ospf_types.specs.Network.{network_cmp}
 use Rattle.ospf_types.proofs.Orders.{network_total}
-use Rattle.recording.specs.Forms.{Form, VersionLine, RouterLine, AreaLine, RangeLine, BodyLine}
+use Rattle.recording.specs.Forms.{Form, VersionLine, RouterLine, CompatLine, AreaLine, RangeLine, BodyLine}
 use Rattle.recording.specs.Places.{is_of_header, with_range, with_form, areas_from, areas_of, is_less, last_of, is_past_area, is_past_range, is_next_range, has_begun, front_of, headed, is_next}
 use Rattle.recording.specs.Recordings.{IsOrdered, area_forms}
 use Rattle.recording.proofs.Sorting.{last_cases, last_of-push, sorted_push_by, sorted_next_by}
@@ -123,8 +123,9 @@ said_more areas (RangeLine area range) next =
     let at = range_place areas area range next in
     let P : List AreaConfig → ℕ → Type 0 = λ as' id. flat_map area_forms (with_range as' range) ≡ flat_map area_forms as' ++ RangeLine id range ∷ [] in
     subst (λ as'. P as' area) (sym at.2) (subst (λ id. P (at.0 ++ at.1 ∷ []) id) at.3 (said_range at.0 at.1 range))
-said_more areas VersionLine next = cc
+said_more areas (VersionLine version) next = cc
 said_more areas (RouterLine router) next = cc
+said_more areas (CompatLine compat) next = cc
 said_more areas (BodyLine body) next = cc
 
 -- ---- the order
@@ -201,8 +202,9 @@ ordered_more areas (RangeLine area range) ordered next =
     let at = range_place areas area range next in
     let P : List AreaConfig → Type 0 = λ t. IsOrdered (with_range t range) in
     subst P (sym at.2) (ordered_range at.0 at.1 range (subst IsOrdered at.2 ordered) at.4)
-ordered_more areas VersionLine ordered next = cc
+ordered_more areas (VersionLine version) ordered next = cc
 ordered_more areas (RouterLine router) ordered next = cc
+ordered_more areas (CompatLine compat) ordered next = cc
 ordered_more areas (BodyLine body) ordered next = cc
 
 pub ordered_none : IsOrdered []

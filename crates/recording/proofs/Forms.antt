@@ -26,7 +26,9 @@ use Rattle.ospf_types.specs.declared.prefix.Prefix.{Prefix}
 use Rattle.ospf_types.specs.Text.{address_text, prefix_text}
 use Rattle.ospf_types.proofs.Addresses.{address_dotted}
 use Rattle.recording.specs.Reading.{bytes_of, bytes_or_none}
-use Rattle.recording.specs.Forms.{Form, Body, VersionLine, RouterLine, AreaLine, RangeLine, BodyLine, InterfaceLine, InstallLine, FlushLine, PurgeLine, SecondLine, LookupLine, IsForm, IsBody, IsScope, IsKey, IsPrefix, IsStub, IsInterface, Says, words_of, body_words, line_text, scope_text, stub_words, key_words}
+use Rattle.recording.specs.declared.version.Version.{Version}
+use Rattle.recording.specs.declared.version.Version.TheVariants.{One, Two}
+use Rattle.recording.specs.Forms.{Form, Body, VersionLine, RouterLine, CompatLine, AreaLine, RangeLine, BodyLine, InterfaceLine, InstallLine, FlushLine, PurgeLine, SecondLine, LookupLine, IsForm, IsBody, IsScope, IsKey, IsPrefix, IsStub, IsInterface, Says, words_of, body_words, line_text, scope_text, stub_words, key_words}
 
 -- ---- the bytes of words
 
@@ -135,7 +137,10 @@ body_plain SecondLine h = (Plain-literal (codes "second") refl, tt)
 body_plain (LookupLine address) h = (Plain-literal (codes "lookup") refl, (Plain-address address h, tt))
 
 pub words_plain : (form : Form) → IsForm form → AllPlain (words_of form)
-words_plain VersionLine h = (Plain-literal (codes "abr") refl, (Plain-literal (codes "1") refl, tt))
+words_plain (VersionLine One) h = (Plain-literal (codes "abr") refl, (Plain-literal (codes "1") refl, tt))
+words_plain (VersionLine Two) h = (Plain-literal (codes "abr") refl, (Plain-literal (codes "2") refl, tt))
+words_plain (CompatLine compat) h =
+    (Plain-literal (codes "compat") refl, (Plain-cond compat _ _ (Plain-literal (codes "enabled") refl) (Plain-literal (codes "disabled") refl), tt))
 words_plain (RouterLine router) h = (Plain-literal (codes "router") refl, (Plain-address router h, tt))
 words_plain (AreaLine id stub) h = (Plain-literal (codes "area") refl, (Plain-address id h.0, stub_plain stub h.1))
 words_plain (RangeLine area range) h = (
@@ -183,7 +188,8 @@ some_body_word SecondLine = omega arith
 some_body_word (LookupLine address) = omega arith
 
 some_word : (form : Form) → 0 < length (words_of form)
-some_word VersionLine = omega arith
+some_word (VersionLine version) = omega arith
+some_word (CompatLine compat) = omega arith
 some_word (RouterLine router) = omega arith
 some_word (AreaLine id stub) = omega arith
 some_word (RangeLine area range) = omega arith
@@ -229,6 +235,9 @@ abbrev interface_in : List (List ℕ) → Body
 interface_in words =
     InterfaceLine (number_in (get_or words 0 [])) (address_in (get_or words 1 [])) (address_in (get_or words 2 [])) (address_in (get_or words 3 [])) (bytes_eq (get_or words 4 []) (codes "up"))
 
+abbrev version_in : List ℕ → Version
+version_in word = cond (bytes_eq word (codes "2")) Two One
+
 abbrev body_behind : List ℕ → List (List ℕ) → Body
 body_behind word words =
     cond (bytes_eq word (codes "interface")) (interface_in words)
@@ -239,10 +248,11 @@ body_behind word words =
 
 abbrev form_behind : List ℕ → List (List ℕ) → Form
 form_behind word words =
-    cond (bytes_eq word (codes "abr")) VersionLine
+    cond (bytes_eq word (codes "abr")) (VersionLine (version_in (get_or words 0 [])))
+    (cond (bytes_eq word (codes "compat")) (CompatLine (bytes_eq (get_or words 0 []) (codes "enabled")))
     (cond (bytes_eq word (codes "router")) (RouterLine (address_in (get_or words 0 [])))
     (cond (bytes_eq word (codes "area")) (AreaLine (address_in (get_or words 0 [])) (stub_in (drop 1 words)))
-    (cond (bytes_eq word (codes "range")) (RangeLine (address_in (get_or words 0 [])) (range_in (drop 1 words))) (BodyLine (body_behind word words)))))
+    (cond (bytes_eq word (codes "range")) (RangeLine (address_in (get_or words 0 [])) (range_in (drop 1 words))) (BodyLine (body_behind word words))))))
 
 abbrev form_in : List (List ℕ) → Form
 form_in words = form_behind (get_or words 0 []) (drop 1 words)
@@ -264,7 +274,7 @@ are_bytes (b ∷ bytes) h zero = h 0 0 (omega arith)
 are_bytes (b ∷ bytes) h (suc i) = are_bytes bytes (λ k d l. h (suc k) d (omega arith)) i
 
 -- a word that is another one
-differs : (word other : List ℕ) → (word ≡ other → ⊥) → bytes_eq word other ≡ false
+pub differs : (word other : List ℕ) → (word ≡ other → ⊥) → bytes_eq word other ≡ false
 differs word other apart = false_from_ne_true (bytes_eq word other) (λ same. apart ((bytes_eq-Decides word other).0 same))
 
 -- no address is written with a letter or a slash
@@ -334,7 +344,7 @@ body_again (PurgeLine at key) h = ap (λ s. PurgeLine s (key_in (key_words key))
 body_again SecondLine h = refl
 body_again (LookupLine address) h = ap LookupLine (address_again address h)
 
--- the first word of such a line is none of the other four
+-- the first word of such a line is none of the others
 is_body : (body : Body) → form_in (body_words body) ≡ BodyLine (body_in (body_words body))
 is_body (InterfaceLine id area address peer up) = refl
 is_body (InstallLine at bytes) = refl
@@ -344,16 +354,24 @@ is_body SecondLine = refl
 is_body (LookupLine address) = refl
 
 form_again : (form : Form) → IsForm form → form_in (words_of form) ≡ form
-form_again VersionLine h = refl
+form_again (VersionLine One) h = refl
+form_again (VersionLine Two) h = refl
+form_again (CompatLine true) h = refl
+form_again (CompatLine false) h = refl
 form_again (RouterLine router) h = ap RouterLine (address_again router h)
 form_again (AreaLine id stub) h = ap (λ i. AreaLine i (stub_in (stub_words stub))) (address_again id h.0) ∙ ap (AreaLine id) (stub_again stub h.1)
 form_again (RangeLine area range) h =
     ap (λ a. RangeLine a (range_in (prefix_text range.prefix ∷ cond range.advertise (codes "advertise") (codes "hide") ∷ []))) (address_again area h.0) ∙ ap (RangeLine area) (range_again range h.1)
 form_again (BodyLine body) h = is_body body ∙ ap BodyLine (body_again body h)
 
--- no line says two things
-pub says_one : (line : List ℕ) (f g : Form) → Says line f → Says line g → f ≡ g
-says_one line f g said again =
-    let words : words_of f ≡ words_of g =
-    sym (line_split f said.legal) ∙ ap (slice_split (λ b. b == 32)) (sym said.spelled ∙ again.spelled) ∙ line_split g again.legal in
-    sym (form_again f said.legal) ∙ ap form_in words ∙ form_again g again.legal
+-- no words are those of two forms
+pub words_one : (f g : Form) → IsForm f → IsForm g → words_of f ≡ words_of g → f ≡ g
+words_one f g first second same = sym (form_again f first) ∙ ap form_in same ∙ form_again g second
+
+-- no line is that of two forms
+pub line_one : (f g : Form) → IsForm f → IsForm g → line_text f ≡ line_text g → f ≡ g
+line_one f g first second same = words_one f g first second (sym (line_split f first) ∙ ap (slice_split (λ b. b == 32)) same ∙ line_split g second)
+
+-- no line of a recording says two things
+pub says_one : {v : Version} (line : List ℕ) (f g : Form) → Says v line f → Says v line g → f ≡ g
+says_one line f g said again = line_one f g said.legal again.legal (sym said.spelled ∙ again.spelled)

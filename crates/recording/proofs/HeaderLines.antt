@@ -3,6 +3,7 @@ use Rattle.std.proofs.Common.{ℕ, ◌≡◌, ◌≢◌, ◌+◌, Bool, true, fa
 use Rattle.ospf_types.specs.declared.config.Config.{Config}
 use Rattle.recording.specs.declared.fault.Fault.{Fault}
 use Rattle.recording.specs.declared.fault.Fault.TheVariants as fault
+use Rattle.recording.specs.declared.version.Version.{Version}
 use Rattle.recording.specs.Forms.{Form, Says}
 use Rattle.recording.specs.Places.{headed, is_of_header, is_next, with_form}
 use Rattle.recording.specs.Faults.{parts_of, EndsHeader, IsFaultOf}
@@ -12,23 +13,23 @@ use Rattle.recording.proofs.HeaderSteps.{to_end, header_step, header_more, heade
 use Rattle.recording.proofs.Parts.{parts_full}
 
 -- a line of no form ends a header
-pub no_form_ends : {left : List (List ℕ)} (line behind : List ℕ) → left ≡ line ∷ parts_of behind → ((form : Form) → ¬ Says line form) → EndsHeader left
-no_form_ends {left} line behind is none =
-    subst EndsHeader (sym is) (to_end line (parts_of behind) (parts_full behind) (λ form said. absurd (none form said)))
+pub no_form_ends : (v : Version) {left : List (List ℕ)} (line behind : List ℕ) → left ≡ line ∷ parts_of behind → ((form : Form) → ¬ Says v line form) → EndsHeader v left
+no_form_ends v {left} line behind is none =
+    subst (EndsHeader v) (sym is) (to_end v line (parts_of behind) (parts_full behind) (λ form said. absurd (none form said)))
 
 differ : (b : Bool) → b ≡ true → b ≡ false → ⊥
 differ b here other = cc
 
 -- and so does a line of another form
-pub other_ends : {left : List (List ℕ)} (line behind : List ℕ) → left ≡ line ∷ parts_of behind → (form : Form) → Says line form → is_of_header form ≡ false → EndsHeader left
-other_ends {left} line behind is form said other =
-    subst EndsHeader (sym is) (to_end line (parts_of behind) (parts_full behind) (λ g says here. differ (is_of_header form) (subst (λ f. is_of_header f ≡ true) (says_one line g form says said) here) other))
+pub other_ends : (v : Version) {left : List (List ℕ)} (line behind : List ℕ) → left ≡ line ∷ parts_of behind → (form : Form) → Says v line form → is_of_header form ≡ false → EndsHeader v left
+other_ends v {left} line behind is form said other =
+    subst (EndsHeader v) (sym is) (to_end v line (parts_of behind) (parts_full behind) (λ g says here. differ (is_of_header form) (subst (λ f. is_of_header f ≡ true) (says_one line g form says said) here) other))
 
-module _ {text : List ℕ} {taken : ℕ} {left : List (List ℕ)} {config : Config} (h : HasHeader text taken left config) where
+module _ {v : Version} {text : List ℕ} {taken : ℕ} {left : List (List ℕ)} {config : Config} (h : HasHeader v text taken left config) where
   pub cut_in_header : (cut : List ℕ) → left ≡ cut ∷ [] → cut ≢ [] → IsFaultOf text (record { line = taken + 1; fault = fault.Truncated })
   cut_in_header cut is some = inr (header_cut h cut is some)
 
-  pub refused_line : (line behind : List ℕ) → left ≡ line ∷ parts_of behind → (form : Form) → Says line form → is_of_header form ≡ true → (f : Fault) → IsRefusal config.areas form f → IsFaultOf text (record { line = taken + 1; fault = f })
+  pub refused_line : (line behind : List ℕ) → left ≡ line ∷ parts_of behind → (form : Form) → Says v line form → is_of_header form ≡ true → (f : Fault) → IsRefusal config.areas form f → IsFaultOf text (record { line = taken + 1; fault = f })
   refused_line line behind is form said here fault.Order other =
       inr (header_order h line (parts_of behind) is (parts_full behind) form said here other)
   refused_line line behind is form said here fault.Memory other =
@@ -39,6 +40,6 @@ module _ {text : List ℕ} {taken : ℕ} {left : List (List ℕ)} {config : Conf
   refused_line line behind is form said here (fault.Wire f) other = absurd other
   refused_line line behind is form said here (fault.Config f) other = absurd other
 
-  pub added_line : (line behind : List ℕ) → left ≡ line ∷ parts_of behind → (form : Form) → Says line form → is_next (headed config.areas) form ≡ true → (new : Config) → new ≡ record config { areas = with_form config.areas form } → HasHeader text (taken + 1) (parts_of behind) new
+  pub added_line : (line behind : List ℕ) → left ≡ line ∷ parts_of behind → (form : Form) → Says v line form → is_next (headed config.areas) form ≡ true → (new : Config) → new ≡ record config { areas = with_form config.areas form } → HasHeader v text (taken + 1) (parts_of behind) new
   added_line line behind is form said next new same =
-      subst (HasHeader text (taken + 1) (parts_of behind)) (sym same) (header_step h line (parts_of behind) is (parts_full behind) form said next)
+      subst (HasHeader v text (taken + 1) (parts_of behind)) (sym same) (header_step h line (parts_of behind) is (parts_full behind) form said next)

@@ -1,5 +1,5 @@
 -- From line to line of a header.
-use Rattle.std.proofs.Common.{ℕ, ◌≡◌, ◌≢◌, ◌+◌, ◌<◌, ◌++◌, Bool, true, false, List, [], ◌∷◌, length, Option, Some, None, refl, sym, ap, subst, ◌∙◌, inl, arith, append_assoc, append-nil}
+use Rattle.std.proofs.Common.{ℕ, ◌≡◌, ◌≢◌, ◌+◌, ◌<◌, ◌⊎◌, ◌++◌, Bool, true, false, List, [], ◌∷◌, length, Option, Some, None, refl, sym, ap, subst, ◌∙◌, inl, arith, append_assoc, append-nil}
 use Rattle.std.specs.List.{flat_map}
 use Rattle.std.proofs.lemmas.List.{length_push}
 use Rattle.std.proofs.lemmas.List.Elements.{All-nil}
@@ -9,14 +9,16 @@ use Rattle.config_faults.specs.Configs.{areas_fault_of, config_fault_of}
 use Rattle.config_faults.specs.declared.fault.ConfigFault.{ConfigFault}
 use Rattle.recording.specs.declared.fault.Fault.{Fault}
 use Rattle.recording.specs.declared.fault.Fault.TheVariants as fault
-use Rattle.recording.specs.Forms.{Form, VersionLine, RouterLine, AreaLine, RangeLine, BodyLine, Says, AllSay}
-use Rattle.recording.specs.Places.{Front, AreSaid, IsPlaced, front_of, headed, is_of_header, is_next, with_form}
+use Rattle.recording.specs.declared.version.Version.{Version}
+use Rattle.recording.specs.declared.version.Version.TheVariants.{One, Two}
+use Rattle.recording.specs.Forms.{Form, VersionLine, RouterLine, CompatLine, AreaLine, RangeLine, BodyLine, Says, AllSay}
+use Rattle.recording.specs.Places.{Front, AreSaid, IsPlaced, first_lines, front_of, headed, is_of_header, is_next, with_form}
 use Rattle.recording.specs.Faults.{EndsHeader, HasConfigFault, HasFault, IsFirstFault, AreRightBefore, number_of}
-use Rattle.recording.specs.Recordings.{HasKind, HasWholeLsa, area_forms, header_forms}
-use Rattle.recording.specs.Progress.{HasVersion, HasHeader, HasLines}
+use Rattle.recording.specs.Recordings.{IsOrdered, HasKind, HasWholeLsa, area_forms, first_forms, header_forms}
+use Rattle.recording.specs.Progress.{HasRead, HasHeader, HasLines}
 use Rattle.recording.proofs.Areas.{areas_of_said, areas_not_begun, front_of_said, said_more, ordered_more, ordered_none}
-use Rattle.recording.proofs.Parts.{IsLineAt, HasNoWireFault, line_fault, has_line_fault, none_before, right_more, below_config, order_fault, end_fault}
-use Rattle.recording.proofs.AllSaid.{said_push, said_header, forms_behind}
+use Rattle.recording.proofs.Parts.{IsLineAt, HasNoWireFault, line_fault, has_line_fault, none_before, right_more, below_config, form_fault, order_fault, end_fault, two_first, version_push}
+use Rattle.recording.proofs.AllSaid.{said_push, said_length, said_header, forms_behind}
 
 all_faults : (P : Fault → Type 0) → ((f : Fault) → number_of f < 55 → P f) → ((c : ConfigFault) → P (fault.Config c)) → (f : Fault) → P f
 all_faults P low config fault.Truncated = low fault.Truncated (omega arith)
@@ -28,202 +30,252 @@ all_faults P low config (fault.Config f) = config f
 all_faults P low config fault.Memory = low fault.Memory (omega arith)
 
 -- a line without a fault
-pub right_past : {text : List ℕ} {number : ℕ} {before : List (List ℕ)} {line : List ℕ} {rest : List (List ℕ)} → IsLineAt text number before line rest → AreRightBefore text number → ((f : Fault) → number_of f < 55 → ¬ HasFault text number f) → ((c : ConfigFault) → ¬ HasConfigFault (before ++ line ∷ []) rest c) → AreRightBefore text (number + 1)
-right_past {text} {number} at right low config =
+pub right_past : {v : Version} {text : List ℕ} {number : ℕ} {before : List (List ℕ)} {line : List ℕ} {rest : List (List ℕ)} → IsLineAt v text number before line rest → AreRightBefore text number → ((f : Fault) → number_of f < 55 → ¬ HasFault text number f) → ((c : ConfigFault) → ¬ HasConfigFault v (before ++ line ∷ []) rest c) → AreRightBefore text (number + 1)
+right_past {v} {text} {number} at right low config =
     right_more text number right (all_faults (λ f. ¬ HasFault text number f) low (λ c h. config c (line_fault at (fault.Config c) h)))
-
--- ---- the first line
-
-pub version_step : {text : List ℕ} {number : ℕ} {line : List ℕ} {rest : List (List ℕ)} → IsLineAt text number [] line rest → Says line VersionLine → HasVersion text number rest
-version_step {text} {number} {line} {rest} at said =
-    let right = right_past at (none_before text number (omega (arith, at.counted))) (λ f lt h. below_config [] line rest VersionLine said refl tt f lt (line_fault at f h)) (λ c h. omega (arith, h.header.two)) in
-    let one : number ≡ 1 = omega (arith, at.counted) in
-    record {
-      first = line;
-      parts = at.parts;
-      counted = one;
-      said = said;
-      right = subst (λ n. AreRightBefore text (n + 1)) one right;
-    }
-
--- ---- the second line
-
-pub version_line : {text : List ℕ} {taken : ℕ} {left : List (List ℕ)} → (h : HasVersion text taken left) → (line : List ℕ) (rest : List (List ℕ)) → left ≡ line ∷ rest → 0 < length rest → IsLineAt text (taken + 1) (h.first ∷ []) line rest
-version_line {text} {taken} {left} h line rest is full = record {
-  parts = h.parts ∙ ap (λ (t : List (List ℕ)). h.first ∷ t) is;
-  full = full;
-  counted = omega (arith, h.counted);
-}
-
-pub version_right : {text : List ℕ} {taken : ℕ} {left : List (List ℕ)} → HasVersion text taken left → AreRightBefore text (taken + 1)
-version_right {text} {taken} {left} h = subst (λ n. AreRightBefore text (n + 1)) (sym h.counted) h.right
-
-pub router_step : {text : List ℕ} {taken : ℕ} {left : List (List ℕ)} → HasVersion text taken left → (line : List ℕ) (rest : List (List ℕ)) → left ≡ line ∷ rest → 0 < length rest → (router : ℕ) → Says line (RouterLine router) → HasHeader text (taken + 1) rest (record { router = router; areas = [] })
-router_step {text} {taken} {left} h line rest is full router said =
-    let at = version_line h line rest is full in
-    record {
-      earlier = h.first ∷ [];
-      last = line;
-      parts = at.parts;
-      counted = at.counted;
-      said = (h.said, (said, tt));
-      ordered = ordered_none;
-      right = version_right h;
-      low = λ f lt g. below_config (h.first ∷ []) line rest (RouterLine router) said refl tt f lt (line_fault at f g);
-    }
-
--- any other line there is out of order
-pub router_order : (first : List ℕ) (form : Form) → ((router : ℕ) → form ≢ RouterLine router) → ¬ IsPlaced (first ∷ []) form
-router_order first VersionLine other h = cc
-router_order first (RouterLine router) other h = other router refl
-router_order first (AreaLine id stub) other h = omega (arith, h.1.two)
-router_order first (RangeLine area range) other h = omega (arith, h.1.two)
-router_order first (BodyLine body) other h = omega arith
-
--- ---- the end of a header
-
-pub not_end : (line : List ℕ) (rest : List (List ℕ)) → 0 < length rest → (form : Form) → Says line form → is_of_header form ≡ true → ¬ EndsHeader (line ∷ rest)
-not_end line [] full form said here e = omega arith
-not_end line (next ∷ more) full form said here e = e form said here
-
-pub to_end : (line : List ℕ) (rest : List (List ℕ)) → 0 < length rest → ((form : Form) → Says line form → is_of_header form ≢ true) → EndsHeader (line ∷ rest)
-to_end line [] full other = absurd (omega arith)
-to_end line (next ∷ more) full other = other
-
-pub of_end : (line : List ℕ) (rest : List (List ℕ)) → 0 < length rest → EndsHeader (line ∷ rest) → (form : Form) → Says line form → is_of_header form ≢ true
-of_end line [] full e = absurd (omega arith)
-of_end line (next ∷ more) full e = e
-
-end_full : (left : List (List ℕ)) → EndsHeader left → 0 < length left
-end_full [] e = absurd e
-end_full (line ∷ rest) e = omega arith
-
--- ---- a form that is next
-
--- what there is to say of a form that may stand there
-pub record IsNextForm (before : List (List ℕ)) (form : Form) : Type 0 where
-  pub placed : IsPlaced before form
-  pub whole : HasNoWireFault form
-  pub header : is_of_header form ≡ true
-
-next_form : (before : List (List ℕ)) (config : Config) → AllSay before (header_forms config) → (form : Form) → is_next (headed config.areas) form ≡ true → IsNextForm before form
-next_form before config all (AreaLine id stub) next = record {
-  placed = (flat_map area_forms config.areas, said_header before config all, subst (λ (f : Front). is_next f (AreaLine id stub) ≡ true) (sym (front_of_said config.areas)) next);
-  whole = tt;
-  header = refl;
-}
-next_form before config all (RangeLine area range) next = record {
-  placed = (flat_map area_forms config.areas, said_header before config all, subst (λ (f : Front). is_next f (RangeLine area range) ≡ true) (sym (front_of_said config.areas)) next);
-  whole = tt;
-  header = refl;
-}
-next_form before config all VersionLine next = cc
-next_form before config all (RouterLine router) next = cc
-next_form before config all (BodyLine body) next = cc
-
--- a line of the header that may stand behind these is next
-placed_next : (before : List (List ℕ)) (areas : List AreaConfig) → ((forms : List Form) → AreSaid before forms → front_of forms ≡ headed areas) → (form : Form) → is_of_header form ≡ true → IsPlaced before form → is_next (headed areas) form ≡ true
-placed_next before areas same (AreaLine id stub) here h = subst (λ (f : Front). is_next f (AreaLine id stub) ≡ true) (same h.0 h.1) h.2
-placed_next before areas same (RangeLine area range) here h = subst (λ (f : Front). is_next f (RangeLine area range) ≡ true) (same h.0 h.1) h.2
-placed_next before areas same VersionLine here h = cc
-placed_next before areas same (RouterLine router) here h = cc
-placed_next before areas same (BodyLine body) here h = cc
-
-pub not_both : (b : Bool) → b ≡ true → b ≡ false → ⊥
-not_both b here other = cc
 
 pub not_nil : (front : List (List ℕ)) (last : List ℕ) → front ++ last ∷ [] ≢ []
 not_nil front last e = let n : length (front ++ last ∷ []) ≡ 0 = ap length e in omega (arith, length_push front last)
 
+pub not_both : (b : Bool) → b ≡ true → b ≡ false → ⊥
+not_both b here other = cc
+
+-- ---- lines that were read, and one more
+
+-- the first of them
+pub version_step : {v : Version} {text : List ℕ} {number : ℕ} {line : List ℕ} {rest : List (List ℕ)} → IsLineAt v text number [] line rest → Says v line (VersionLine v) → HasRead v text number rest (VersionLine v ∷ [])
+version_step {v} {text} {number} {line} {rest} at said = record {
+  earlier = [];
+  last = line;
+  parts = at.parts;
+  counted = at.counted;
+  version = at.version;
+  said = (said, tt);
+  right = none_before text number (omega (arith, at.counted));
+  low = λ f lt g. below_config v [] line rest (VersionLine v) said refl tt f lt (line_fault at f g);
+}
+
+module _ {v : Version} {text : List ℕ} {taken : ℕ} {left : List (List ℕ)} {forms : List Form} (h : HasRead v text taken left forms) where
+  -- the lines that were read
+  abbrev pub lines_read : List (List ℕ)
+  lines_read = h.earlier ++ h.last ∷ []
+
+  -- the header does not end there with a fault of the configuration
+  abbrev pub IsClean : Type 0
+  IsClean = (c : ConfigFault) → ¬ HasConfigFault v lines_read left c
+
+  pub last_at : 0 < length left → IsLineAt v text taken h.earlier h.last left
+  last_at full = record {
+    parts = h.parts ∙ append_assoc h.earlier (h.last ∷ []) left;
+    full = full;
+    counted = h.counted;
+    version = h.version;
+  }
+
+  pub read_line : (line : List ℕ) (rest : List (List ℕ)) → left ≡ line ∷ rest → 0 < length rest → IsLineAt v text (taken + 1) lines_read line rest
+  read_line line rest is full = record {
+    parts = h.parts ∙ ap (λ (t : List (List ℕ)). lines_read ++ t) is;
+    full = full;
+    counted = omega (arith, h.counted, length_push h.earlier h.last);
+    version = version_push lines_read line (not_nil h.earlier h.last) ∙ h.version;
+  }
+
+  pub read_right : 0 < length left → IsClean → AreRightBefore text (taken + 1)
+  read_right full clean = right_past (last_at full) h.right h.low clean
+
+  pub read_step : (line : List ℕ) (rest : List (List ℕ)) → left ≡ line ∷ rest → 0 < length rest → (form : Form) → Says v line form → IsPlaced v lines_read form → HasNoWireFault form → IsClean → HasRead v text (taken + 1) rest (forms ++ form ∷ [])
+  read_step line rest is full form said placed whole clean =
+      let at = read_line line rest is full in
+      record {
+        earlier = lines_read;
+        last = line;
+        parts = at.parts ∙ sym (append_assoc lines_read (line ∷ []) rest);
+        counted = at.counted;
+        version = at.version;
+        said = said_push v lines_read forms line form h.said said;
+        right = read_right (omega (arith, ap length is)) clean;
+        low = λ f lt g. below_config v lines_read line rest form said placed whole f lt (line_fault at f g);
+      }
+
+  pub read_no_form : (line : List ℕ) (rest : List (List ℕ)) → left ≡ line ∷ rest → 0 < length rest → ((form : Form) → ¬ Says v line form) → IsClean → IsFirstFault text (taken + 1) fault.Line
+  read_no_form line rest is full none clean =
+      form_fault (read_line line rest is full) (read_right (omega (arith, ap length is)) clean) (not_nil h.earlier h.last) none
+
+  pub read_order : (line : List ℕ) (rest : List (List ℕ)) → left ≡ line ∷ rest → 0 < length rest → (form : Form) → Says v line form → ¬ IsPlaced v lines_read form → IsClean → IsFirstFault text (taken + 1) fault.Order
+  read_order line rest is full form said other clean =
+      order_fault (read_line line rest is full) (read_right (omega (arith, ap length is)) clean) (not_nil h.earlier h.last) form said other
+
+  pub read_cut : (cut : List ℕ) → left ≡ cut ∷ [] → (cut ≢ []) ⊎ (length lines_read < first_lines v) → IsClean → IsFirstFault text (taken + 1) fault.Truncated
+  read_cut cut is why clean =
+      let Why : Version → Type 0 = λ w. (cut ≢ []) ⊎ (length lines_read < first_lines w) in
+      end_fault text (taken + 1) lines_read cut (h.parts ∙ ap (λ (t : List (List ℕ)). lines_read ++ t) is) (omega (arith, h.counted, length_push h.earlier h.last)) (read_right (omega (arith, ap length is)) clean) (subst Why (sym h.version) why)
+
+-- ---- the first lines
+
+-- one of the first lines is missing yet
+pub few_clean : {v : Version} {text : List ℕ} {taken : ℕ} {left : List (List ℕ)} {forms : List Form} (h : HasRead v text taken left forms) → length forms < first_lines v → IsClean h
+few_clean {v} {forms = forms} h few c g = omega (arith, g.header.many, few, said_length v (lines_read h) forms h.said)
+
+-- in the second line any other line is out of order
+pub router_order : (v : Version) (before : List (List ℕ)) → length before ≡ 1 → (form : Form) → ((router : ℕ) → form ≢ RouterLine router) → ¬ IsPlaced v before form
+router_order v before one (VersionLine version) other h = let n : length before ≡ 0 = ap length h in omega arith
+router_order v before one (RouterLine router) other h = other router refl
+router_order v before one (CompatLine compat) other h = omega arith
+router_order v before one (AreaLine id stub) other h = omega (arith, h.1.many, two_first v)
+router_order v before one (RangeLine area range) other h = omega (arith, h.1.many, two_first v)
+router_order v before one (BodyLine body) other h = omega (arith, two_first v)
+
+-- and so in the third of version 2
+pub compat_order : (before : List (List ℕ)) → length before ≡ 2 → (form : Form) → ((compat : Bool) → form ≢ CompatLine compat) → ¬ IsPlaced Two before form
+compat_order before two (VersionLine version) other h = let n : length before ≡ 0 = ap length h in omega arith
+compat_order before two (RouterLine router) other h = omega arith
+compat_order before two (CompatLine compat) other h = other compat refl
+compat_order before two (AreaLine id stub) other h = omega (arith, h.1.many)
+compat_order before two (RangeLine area range) other h = omega (arith, h.1.many)
+compat_order before two (BodyLine body) other h = omega arith
+
+-- ---- the end of a header
+
+pub not_end : (v : Version) (line : List ℕ) (rest : List (List ℕ)) → 0 < length rest → (form : Form) → Says v line form → is_of_header form ≡ true → ¬ EndsHeader v (line ∷ rest)
+not_end v line [] full form said here e = omega arith
+not_end v line (next ∷ more) full form said here e = e form said here
+
+pub to_end : (v : Version) (line : List ℕ) (rest : List (List ℕ)) → 0 < length rest → ((form : Form) → Says v line form → is_of_header form ≢ true) → EndsHeader v (line ∷ rest)
+to_end v line [] full other = absurd (omega arith)
+to_end v line (next ∷ more) full other = other
+
+pub of_end : (v : Version) (line : List ℕ) (rest : List (List ℕ)) → 0 < length rest → EndsHeader v (line ∷ rest) → (form : Form) → Says v line form → is_of_header form ≢ true
+of_end v line [] full e = absurd (omega arith)
+of_end v line (next ∷ more) full e = e
+
+end_full : (v : Version) (left : List (List ℕ)) → EndsHeader v left → 0 < length left
+end_full v [] e = absurd e
+end_full v (line ∷ rest) e = omega arith
+
+-- ---- a form that is next
+
+-- what there is to say of a form that may stand there
+pub record IsNextForm (v : Version) (before : List (List ℕ)) (form : Form) : Type 0 where
+  pub placed : IsPlaced v before form
+  pub whole : HasNoWireFault form
+  pub header : is_of_header form ≡ true
+
+next_form : (v : Version) (before : List (List ℕ)) (config : Config) → AllSay v before (header_forms v config) → (form : Form) → is_next (headed config.areas) form ≡ true → IsNextForm v before form
+next_form v before config all (AreaLine id stub) next = record {
+  placed = (flat_map area_forms config.areas, said_header v before config all, subst (λ (f : Front). is_next f (AreaLine id stub) ≡ true) (sym (front_of_said config.areas)) next);
+  whole = tt;
+  header = refl;
+}
+next_form v before config all (RangeLine area range) next = record {
+  placed = (flat_map area_forms config.areas, said_header v before config all, subst (λ (f : Front). is_next f (RangeLine area range) ≡ true) (sym (front_of_said config.areas)) next);
+  whole = tt;
+  header = refl;
+}
+next_form v before config all (VersionLine version) next = cc
+next_form v before config all (RouterLine router) next = cc
+next_form v before config all (CompatLine compat) next = cc
+next_form v before config all (BodyLine body) next = cc
+
+-- a line of the header that may stand behind these is next
+placed_next : (v : Version) (before : List (List ℕ)) (areas : List AreaConfig) → ((forms : List Form) → AreSaid v before forms → front_of forms ≡ headed areas) → (form : Form) → is_of_header form ≡ true → IsPlaced v before form → is_next (headed areas) form ≡ true
+placed_next v before areas same (AreaLine id stub) here h = subst (λ (f : Front). is_next f (AreaLine id stub) ≡ true) (same h.0 h.1) h.2
+placed_next v before areas same (RangeLine area range) here h = subst (λ (f : Front). is_next f (RangeLine area range) ≡ true) (same h.0 h.1) h.2
+placed_next v before areas same (VersionLine version) here h = cc
+placed_next v before areas same (RouterLine router) here h = cc
+placed_next v before areas same (CompatLine compat) here h = cc
+placed_next v before areas same (BodyLine body) here h = cc
+
 none_or_some : (o : Option ConfigFault) (f : ConfigFault) → o ≡ None → o ≡ Some f → ⊥
 none_or_some o f none some = cc
 
+-- what says a configuration, and one line more
+forms_more : (v : Version) (config : Config) (form : Form) → is_next (headed config.areas) form ≡ true → header_forms v config ++ form ∷ [] ≡ header_forms v (record config { areas = with_form config.areas form })
+forms_more v config form next =
+    let first : List Form = first_forms v config.router config.compat in
+    append_assoc first (flat_map area_forms config.areas) (form ∷ [])
+    ∙ ap (λ (fs : List Form). first ++ fs) (sym (said_more config.areas form next))
+
 -- ---- the lines of the header
 
-module _ {text : List ℕ} {taken : ℕ} {left : List (List ℕ)} {config : Config} (h : HasHeader text taken left config) where
-  last_at : 0 < length left → IsLineAt text taken h.earlier h.last left
-  last_at full = record { parts = h.parts ∙ append_assoc h.earlier (h.last ∷ []) left; full = full; counted = h.counted }
+pub not_one : (b : Bool) → Two ≡ One → b ≡ false
+not_one b same = cc
 
-  pub header_line : (line : List ℕ) (rest : List (List ℕ)) → left ≡ line ∷ rest → 0 < length rest → IsLineAt text (taken + 1) (h.earlier ++ h.last ∷ []) line rest
-  header_line line rest is full = record {
-    parts = h.parts ∙ ap (λ (t : List (List ℕ)). (h.earlier ++ h.last ∷ []) ++ t) is;
-    full = full;
-    counted = omega (arith, h.counted, length_push h.earlier h.last);
-  }
+-- a configuration without areas is said by the first lines alone
+pub header_begins : {v : Version} {text : List ℕ} {taken : ℕ} {left : List (List ℕ)} (config : Config) → config.areas ≡ [] → (v ≡ One → config.compat ≡ false) → HasRead v text taken left (first_forms v config.router config.compat) → HasHeader v text taken left config
+header_begins {v} {text} {taken} {left} config none compat h =
+    let first : List Form = first_forms v config.router config.compat in
+    record {
+      read = subst (HasRead v text taken left) (sym (ap (λ (areas : List AreaConfig). first ++ flat_map area_forms areas) none ∙ append-nil first)) h;
+      compat = compat;
+      ordered = subst IsOrdered (sym none) ordered_none;
+    }
+
+module _ {v : Version} {text : List ℕ} {taken : ℕ} {left : List (List ℕ)} {config : Config} (h : HasHeader v text taken left config) where
+  abbrev lines : List (List ℕ)
+  lines = lines_read h.read
 
   -- where the header goes on or a line is cut, what was read has no fault
-  pub header_right : 0 < length left → ¬ EndsHeader left → AreRightBefore text (taken + 1)
-  header_right full more = right_past (last_at full) h.right h.low (λ c g. more g.ends)
+  more_clean : ¬ EndsHeader v left → IsClean h.read
+  more_clean more c g = more g.ends
+
+  goes_on : (line : List ℕ) (rest : List (List ℕ)) → left ≡ line ∷ rest → 0 < length rest → (form : Form) → Says v line form → is_of_header form ≡ true → IsClean h.read
+  goes_on line rest is full form said here = more_clean (λ e. not_end v line rest full form said here (subst (EndsHeader v) is e))
 
   -- what says a configuration is the header
-  same_front : (forms : List Form) → AreSaid (h.earlier ++ h.last ∷ []) forms → front_of forms ≡ headed config.areas
+  same_front : (forms : List Form) → AreSaid v lines forms → front_of forms ≡ headed config.areas
   same_front forms said =
-      ap front_of (forms_behind (h.earlier ++ h.last ∷ []) VersionLine (RouterLine config.router) (flat_map area_forms config.areas) forms h.said said)
+      ap front_of (forms_behind v lines config (flat_map area_forms config.areas) forms h.read.said said)
       ∙ front_of_said config.areas
 
-  pub header_step : (line : List ℕ) (rest : List (List ℕ)) → left ≡ line ∷ rest → 0 < length rest → (form : Form) → Says line form → is_next (headed config.areas) form ≡ true → HasHeader text (taken + 1) rest (record config { areas = with_form config.areas form })
+  pub header_step : (line : List ℕ) (rest : List (List ℕ)) → left ≡ line ∷ rest → 0 < length rest → (form : Form) → Says v line form → is_next (headed config.areas) form ≡ true → HasHeader v text (taken + 1) rest (record config { areas = with_form config.areas form })
   header_step line rest is full form said next =
-      let before : List (List ℕ) = h.earlier ++ h.last ∷ [] in
-      let at = header_line line rest is full in
-      let n = next_form before config h.said form next in
-      let many : 0 < length left = omega (arith, ap length is) in
+      let n = next_form v lines config h.read.said form next in
       record {
-        earlier = before;
-        last = line;
-        parts = at.parts ∙ sym (append_assoc before (line ∷ []) rest);
-        counted = at.counted;
-        said = subst (λ (fs : List Form). AllSay (before ++ line ∷ []) (VersionLine ∷ RouterLine config.router ∷ fs)) (sym (said_more config.areas form next)) (said_push before (header_forms config) line form h.said said);
+        read = subst (HasRead v text (taken + 1) rest) (forms_more v config form next) (read_step h.read line rest is full form said n.placed n.whole (goes_on line rest is full form said n.header));
+        compat = h.compat;
         ordered = ordered_more config.areas form h.ordered next;
-        right = header_right many (λ e. not_end line rest full form said n.header (subst EndsHeader is e));
-        low = λ f lt g. below_config before line rest form said n.placed n.whole f lt (line_fault at f g);
       }
 
   -- where want of memory comes at a line of the header
-  pub header_more : (line : List ℕ) (rest : List (List ℕ)) → left ≡ line ∷ rest → 0 < length rest → (form : Form) → Says line form → is_of_header form ≡ true → AreRightBefore text (taken + 1)
+  pub header_more : (line : List ℕ) (rest : List (List ℕ)) → left ≡ line ∷ rest → 0 < length rest → (form : Form) → Says v line form → is_of_header form ≡ true → AreRightBefore text (taken + 1)
   header_more line rest is full form said here =
-      let many : 0 < length left = omega (arith, ap length is) in
-      header_right many (λ e. not_end line rest full form said here (subst EndsHeader is e))
+      read_right h.read (omega (arith, ap length is)) (goes_on line rest is full form said here)
 
-  pub header_order : (line : List ℕ) (rest : List (List ℕ)) → left ≡ line ∷ rest → 0 < length rest → (form : Form) → Says line form → is_of_header form ≡ true → is_next (headed config.areas) form ≡ false → IsFirstFault text (taken + 1) fault.Order
+  pub header_order : (line : List ℕ) (rest : List (List ℕ)) → left ≡ line ∷ rest → 0 < length rest → (form : Form) → Says v line form → is_of_header form ≡ true → is_next (headed config.areas) form ≡ false → IsFirstFault text (taken + 1) fault.Order
   header_order line rest is full form said here other =
-      let before : List (List ℕ) = h.earlier ++ h.last ∷ [] in
-      order_fault (header_line line rest is full) (header_more line rest is full form said here) (not_nil h.earlier h.last) form said (λ placed. not_both (is_next (headed config.areas) form) (placed_next before config.areas same_front form here placed) other)
+      read_order h.read line rest is full form said (λ placed. not_both (is_next (headed config.areas) form) (placed_next v lines config.areas same_front form here placed) other) (goes_on line rest is full form said here)
 
   pub header_cut : (cut : List ℕ) → left ≡ cut ∷ [] → cut ≢ [] → IsFirstFault text (taken + 1) fault.Truncated
-  header_cut cut is some =
-      let before : List (List ℕ) = h.earlier ++ h.last ∷ [] in
-      let many : 0 < length left = omega (arith, ap length is) in
-      end_fault text (taken + 1) before cut (h.parts ∙ ap (λ (t : List (List ℕ)). before ++ t) is) (omega (arith, h.counted, length_push h.earlier h.last)) (header_right many (λ e. some (subst EndsHeader is e))) (inl some)
+  header_cut cut is some = read_cut h.read cut is (inl some) (more_clean (λ e. some (subst (EndsHeader v) is e)))
 
-  pub header_config : EndsHeader left → (f : ConfigFault) → config_fault_of config ≡ Some f → IsFirstFault text taken (fault.Config f)
+  pub header_config : EndsHeader v left → (f : ConfigFault) → config_fault_of config ≡ Some f → IsFirstFault text taken (fault.Config f)
   header_config ends f is =
-      let before : List (List ℕ) = h.earlier ++ h.last ∷ [] in
-      let fault_is : HasConfigFault before left f = record {
+      let fault_is : HasConfigFault v lines left f = record {
         forms = flat_map area_forms config.areas;
-        header = said_header before config h.said;
+        header = said_header v lines config h.read.said;
         alone = areas_not_begun config.areas;
         ends = ends;
         has = ap areas_fault_of (areas_of_said config.areas) ∙ is;
       } in
       record {
-        has = has_line_fault (last_at (end_full left ends)) (fault.Config f) fault_is;
-        lines = h.right;
-        faults = h.low;
+        has = has_line_fault (last_at h.read (end_full v left ends)) (fault.Config f) fault_is;
+        lines = h.read.right;
+        faults = h.read.low;
       }
 
   -- the header is right, and ends
-  pub lines_begin : EndsHeader left → config_fault_of config ≡ None → HasLines text taken left (record { config = config; lines = [] })
+  pub lines_begin : EndsHeader v left → config_fault_of config ≡ None → HasLines text taken left (record { version = v; config = config; lines = [] })
   lines_begin ends none =
-      let before : List (List ℕ) = h.earlier ++ h.last ∷ [] in
-      let clean : (c : ConfigFault) → ¬ HasConfigFault before left c = λ c g.
+      let clean : IsClean h.read = λ c g.
       none_or_some (areas_fault_of config.areas) c none (sym (ap (λ (f : Front). areas_fault_of f.areas) (same_front g.forms g.header)) ∙ g.has) in
       record {
-        before = before;
-        parts = h.parts;
-        counted = omega (arith, h.counted, length_push h.earlier h.last);
-        said = subst (AllSay before) (sym (append-nil (header_forms config))) h.said;
-        kept = record { config = none; ordered = h.ordered; kinds = All-nil HasKind };
+        before = lines;
+        parts = h.read.parts;
+        counted = omega (arith, h.read.counted, length_push h.read.earlier h.read.last);
+        version = h.read.version;
+        said = subst (AllSay v lines) (sym (append-nil (header_forms v config))) h.read.said;
+        kept = record { version = h.compat; config = none; ordered = h.ordered; kinds = All-nil HasKind };
         lsas = All-nil HasWholeLsa;
         ends = λ _. ends;
-        right = right_past (last_at (end_full left ends)) h.right h.low clean;
+        right = read_right h.read (end_full v left ends) clean;
       }

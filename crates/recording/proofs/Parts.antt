@@ -8,9 +8,11 @@ use Rattle.lsa_codec.specs.declared.fault.WireFault.{WireFault}
 use Rattle.ospf_types.specs.declared.key.Scope.{Scope}
 use Rattle.recording.specs.declared.fault.Fault.{Fault}
 use Rattle.recording.specs.declared.fault.Fault.TheVariants as fault
-use Rattle.recording.specs.Forms.{Form, VersionLine, RouterLine, AreaLine, RangeLine, BodyLine, InstallLine, Says}
-use Rattle.recording.specs.Places.{IsPlaced}
-use Rattle.recording.specs.Faults.{parts_of, IsFaultAt, IsFaultOfLine, HasFault, IsFirstFault, AreRightBefore, number_of}
+use Rattle.recording.specs.declared.version.Version.{Version}
+use Rattle.recording.specs.declared.version.Version.TheVariants.{One, Two}
+use Rattle.recording.specs.Forms.{Form, VersionLine, RouterLine, CompatLine, AreaLine, RangeLine, BodyLine, InstallLine, Says, line_text}
+use Rattle.recording.specs.Places.{IsPlaced, first_lines, version_of}
+use Rattle.recording.specs.Faults.{parts_of, IsFaultAt, IsFaultIn, IsFaultOfLine, HasFault, IsFirstFault, AreRightBefore, number_of}
 use Rattle.recording.proofs.Forms.{says_one}
 
 -- ---- places
@@ -22,11 +24,28 @@ pub split_once : {X : Type 0} → (a b c d : List X) → a ++ b ≡ c ++ d → l
 split_once a b c d e n =
     (sym (take_at a b (length a) refl) ∙ ap (take (length a)) e ∙ take_at c d (length a) (sym n), sym (drop_at a b (length a) refl) ∙ ap (drop (length a)) e ∙ drop_at c d (length a) (sym n))
 
--- the line of this number stands behind these lines and before those parts, so that it has its line feed
-pub record IsLineAt (text : List ℕ) (number : ℕ) (before : List (List ℕ)) (line : List ℕ) (rest : List (List ℕ)) : Type 0 where
+-- ---- versions
+
+pub two_first : (v : Version) → 2 ≤ first_lines v
+two_first One = omega arith
+two_first Two = omega arith
+
+-- the first line says the version
+pub version_said : (v : Version) (line : List ℕ) (others : List (List ℕ)) → line ≡ line_text (VersionLine v) → version_of (line ∷ others) ≡ v
+version_said One line others is = ap (λ (l : List ℕ). version_of (l ∷ others)) is
+version_said Two line others is = ap (λ (l : List ℕ). version_of (l ∷ others)) is
+
+pub version_push : (before : List (List ℕ)) (line : List ℕ) → before ≢ [] → version_of (before ++ line ∷ []) ≡ version_of before
+version_push [] line some = absurd (some refl)
+version_push (first ∷ before) line some = refl
+
+-- in a recording of the version the line of this number stands behind these lines and before those parts, so that it has
+-- its line feed
+pub record IsLineAt (v : Version) (text : List ℕ) (number : ℕ) (before : List (List ℕ)) (line : List ℕ) (rest : List (List ℕ)) : Type 0 where
   pub parts : parts_of text ≡ before ++ line ∷ rest
   pub full : 0 < length rest
   pub counted : number ≡ length before + 1
+  pub version : version_of (before ++ line ∷ []) ≡ v
 
 pub fault_at : (text : List ℕ) (number : ℕ) (before here : List (List ℕ)) (f : Fault) → parts_of text ≡ before ++ here → number ≡ length before + 1 → HasFault text number f → IsFaultAt before here f
 fault_at text number before here f parts counted h =
@@ -41,17 +60,17 @@ to_line : (before : List (List ℕ)) (line : List ℕ) (rest : List (List ℕ)) 
 to_line before line [] f full h = absurd (omega arith)
 to_line before line (next ∷ more) f full h = h
 
-pub line_fault : {text : List ℕ} {number : ℕ} {before : List (List ℕ)} {line : List ℕ} {rest : List (List ℕ)} → IsLineAt text number before line rest → (f : Fault) → HasFault text number f → IsFaultOfLine before line rest f
-line_fault {text} {number} {before} {line} {rest} at f h =
-    of_line before line rest f at.full (fault_at text number before (line ∷ rest) f at.parts at.counted h)
+pub line_fault : {v : Version} {text : List ℕ} {number : ℕ} {before : List (List ℕ)} {line : List ℕ} {rest : List (List ℕ)} → IsLineAt v text number before line rest → (f : Fault) → HasFault text number f → IsFaultIn v before line rest f
+line_fault {v} {text} {number} {before} {line} {rest} at f h =
+    subst (λ w. IsFaultIn w before line rest f) at.version (of_line before line rest f at.full (fault_at text number before (line ∷ rest) f at.parts at.counted h))
 
-pub has_line_fault : {text : List ℕ} {number : ℕ} {before : List (List ℕ)} {line : List ℕ} {rest : List (List ℕ)} → IsLineAt text number before line rest → (f : Fault) → IsFaultOfLine before line rest f → HasFault text number f
-has_line_fault {text} {number} {before} {line} {rest} at f h = record {
+pub has_line_fault : {v : Version} {text : List ℕ} {number : ℕ} {before : List (List ℕ)} {line : List ℕ} {rest : List (List ℕ)} → IsLineAt v text number before line rest → (f : Fault) → IsFaultIn v before line rest f → HasFault text number f
+has_line_fault {v} {text} {number} {before} {line} {rest} at f h = record {
   before = before;
   here = line ∷ rest;
   parts = at.parts;
   counted = at.counted;
-  has = to_line before line rest f at.full h;
+  has = to_line before line rest f at.full (subst (λ w. IsFaultIn w before line rest f) (sym at.version) h);
 }
 
 -- no line has a number below 1
@@ -68,59 +87,63 @@ right_more text number right here n f lt h =
 
 -- ---- the faults that a line has not
 
-below_version : (before : List (List ℕ)) (line : List ℕ) (rest : List (List ℕ)) (g : Fault) → number_of g < 51 → ¬ IsFaultOfLine before line rest g
-below_version before line rest fault.Truncated lt h = h
-below_version before line rest fault.Version lt h = omega arith
-below_version before line rest fault.Line lt h = omega arith
-below_version before line rest fault.Order lt h = omega arith
-below_version before line rest (fault.Wire f) lt h = omega arith
-below_version before line rest (fault.Config f) lt h = omega arith
-below_version before line rest fault.Memory lt h = h
+below_version : (v : Version) (before : List (List ℕ)) (line : List ℕ) (rest : List (List ℕ)) (g : Fault) → number_of g < 51 → ¬ IsFaultIn v before line rest g
+below_version v before line rest fault.Truncated lt h = h
+below_version v before line rest fault.Version lt h = omega arith
+below_version v before line rest fault.Line lt h = omega arith
+below_version v before line rest fault.Order lt h = omega arith
+below_version v before line rest (fault.Wire f) lt h = omega arith
+below_version v before line rest (fault.Config f) lt h = omega arith
+below_version v before line rest fault.Memory lt h = h
 
 -- a line behind the first
-below_line : (before : List (List ℕ)) (line : List ℕ) (rest : List (List ℕ)) → before ≢ [] → (g : Fault) → number_of g < 52 → ¬ IsFaultOfLine before line rest g
-below_line before line rest later fault.Truncated lt h = h
-below_line before line rest later fault.Version lt h = later h.0
-below_line before line rest later fault.Line lt h = omega arith
-below_line before line rest later fault.Order lt h = omega arith
-below_line before line rest later (fault.Wire f) lt h = omega arith
-below_line before line rest later (fault.Config f) lt h = omega arith
-below_line before line rest later fault.Memory lt h = h
+below_line : (v : Version) (before : List (List ℕ)) (line : List ℕ) (rest : List (List ℕ)) → before ≢ [] → (g : Fault) → number_of g < 52 → ¬ IsFaultIn v before line rest g
+below_line v before line rest later fault.Truncated lt h = h
+below_line v before line rest later fault.Version lt h = later h.0
+below_line v before line rest later fault.Line lt h = omega arith
+below_line v before line rest later fault.Order lt h = omega arith
+below_line v before line rest later (fault.Wire f) lt h = omega arith
+below_line v before line rest later (fault.Config f) lt h = omega arith
+below_line v before line rest later fault.Memory lt h = h
 
 -- and it has a form
-below_order : (before : List (List ℕ)) (line : List ℕ) (rest : List (List ℕ)) → before ≢ [] → (form : Form) → Says line form → (g : Fault) → number_of g < 53 → ¬ IsFaultOfLine before line rest g
-below_order before line rest later form said fault.Truncated lt h = h
-below_order before line rest later form said fault.Version lt h = later h.0
-below_order before line rest later form said fault.Line lt h = h form said
-below_order before line rest later form said fault.Order lt h = omega arith
-below_order before line rest later form said (fault.Wire f) lt h = omega arith
-below_order before line rest later form said (fault.Config f) lt h = omega arith
-below_order before line rest later form said fault.Memory lt h = h
+below_order : (v : Version) (before : List (List ℕ)) (line : List ℕ) (rest : List (List ℕ)) → before ≢ [] → (form : Form) → Says v line form → (g : Fault) → number_of g < 53 → ¬ IsFaultIn v before line rest g
+below_order v before line rest later form said fault.Truncated lt h = h
+below_order v before line rest later form said fault.Version lt h = later h.0
+below_order v before line rest later form said fault.Line lt h = h form said
+below_order v before line rest later form said fault.Order lt h = omega arith
+below_order v before line rest later form said (fault.Wire f) lt h = omega arith
+below_order v before line rest later form said (fault.Config f) lt h = omega arith
+below_order v before line rest later form said fault.Memory lt h = h
 
--- the first line says the version, where it stands right
-placed_first : (form : Form) → IsPlaced [] form → form ≡ VersionLine
-placed_first VersionLine h = refl
-placed_first (RouterLine router) h = absurd (omega arith)
-placed_first (AreaLine id stub) h = absurd (omega (arith, h.1.two))
-placed_first (RangeLine area range) h = absurd (omega (arith, h.1.two))
-placed_first (BodyLine body) h = absurd (omega arith)
+-- the first line says a version, where it stands right
+placed_first : (v : Version) (form : Form) → IsPlaced v [] form → (version : Version) × (form ≡ VersionLine version)
+placed_first v (VersionLine version) h = (version, refl)
+placed_first v (RouterLine router) h = absurd (omega arith)
+placed_first v (CompatLine compat) h = absurd (omega arith)
+placed_first v (AreaLine id stub) h = absurd (omega (arith, h.1.many, two_first v))
+placed_first v (RangeLine area range) h = absurd (omega (arith, h.1.many, two_first v))
+placed_first v (BodyLine body) h = absurd (omega (arith, two_first v))
 
-first_version : (before : List (List ℕ)) (line : List ℕ) (form : Form) → Says line form → IsPlaced before form → before ≡ [] → line ≡ codes "abr 1"
-first_version before line form said placed first =
-    let is : form ≡ VersionLine = placed_first form (subst (λ b. IsPlaced b form) first placed) in
-    let said' : Says line VersionLine = subst (λ f. Says line f) is said in
-    said'.spelled
+not_both_others : (version : Version) (line : List ℕ) → line ≡ line_text (VersionLine version) → line ≢ codes "abr 1" → line ≢ codes "abr 2" → ⊥
+not_both_others One line is one two = one is
+not_both_others Two line is one two = two is
+
+first_version : (v : Version) (before : List (List ℕ)) (line : List ℕ) (form : Form) → Says v line form → IsPlaced v before form → before ≡ [] → line ≢ codes "abr 1" → line ≢ codes "abr 2" → ⊥
+first_version v before line form said placed first one two =
+    let is = placed_first v form (subst (λ b. IsPlaced v b form) first placed) in
+    not_both_others is.0 line (said.spelled ∙ ap line_text is.1) one two
 
 -- a form that may stand there
-pub below_wire : (before : List (List ℕ)) (line : List ℕ) (rest : List (List ℕ)) (form : Form) → Says line form → IsPlaced before form → (g : Fault) → number_of g < 54 → ¬ IsFaultOfLine before line rest g
-below_wire before line rest form said placed fault.Truncated lt h = h
-below_wire before line rest form said placed fault.Version lt h = h.1 (first_version before line form said placed h.0)
-below_wire before line rest form said placed fault.Line lt h = h form said
-below_wire before line rest form said placed fault.Order lt h =
-    h.2 (subst (λ f. IsPlaced before f) (says_one line form h.0 said h.1) placed)
-below_wire before line rest form said placed (fault.Wire f) lt h = omega arith
-below_wire before line rest form said placed (fault.Config f) lt h = omega arith
-below_wire before line rest form said placed fault.Memory lt h = h
+pub below_wire : (v : Version) (before : List (List ℕ)) (line : List ℕ) (rest : List (List ℕ)) (form : Form) → Says v line form → IsPlaced v before form → (g : Fault) → number_of g < 54 → ¬ IsFaultIn v before line rest g
+below_wire v before line rest form said placed fault.Truncated lt h = h
+below_wire v before line rest form said placed fault.Version lt h = first_version v before line form said placed h.0 h.1 h.2
+below_wire v before line rest form said placed fault.Line lt h = h form said
+below_wire v before line rest form said placed fault.Order lt h =
+    h.2 (subst (λ f. IsPlaced v before f) (says_one line form h.0 said h.1) placed)
+below_wire v before line rest form said placed (fault.Wire f) lt h = omega arith
+below_wire v before line rest form said placed (fault.Config f) lt h = omega arith
+below_wire v before line rest form said placed fault.Memory lt h = h
 
 -- the bytes that a form has to install are an LSA
 abbrev pub HasNoWireFault : Form → Type 0
@@ -131,48 +154,48 @@ none_not_some : (o : Option WireFault) (f : WireFault) → o ≡ None → o ≡ 
 none_not_some o f none some = cc
 
 -- and no fault of an LSA
-pub below_config : (before : List (List ℕ)) (line : List ℕ) (rest : List (List ℕ)) (form : Form) → Says line form → IsPlaced before form → HasNoWireFault form → (g : Fault) → number_of g < 55 → ¬ IsFaultOfLine before line rest g
-below_config before line rest form said placed whole fault.Truncated lt h = h
-below_config before line rest form said placed whole fault.Version lt h = h.1 (first_version before line form said placed h.0)
-below_config before line rest form said placed whole fault.Line lt h = h form said
-below_config before line rest form said placed whole fault.Order lt h =
-    below_wire before line rest form said placed fault.Order (omega arith) h
-below_config before line rest form said placed whole (fault.Wire f) lt h =
+pub below_config : (v : Version) (before : List (List ℕ)) (line : List ℕ) (rest : List (List ℕ)) (form : Form) → Says v line form → IsPlaced v before form → HasNoWireFault form → (g : Fault) → number_of g < 55 → ¬ IsFaultIn v before line rest g
+below_config v before line rest form said placed whole fault.Truncated lt h = h
+below_config v before line rest form said placed whole fault.Version lt h = first_version v before line form said placed h.0 h.1 h.2
+below_config v before line rest form said placed whole fault.Line lt h = h form said
+below_config v before line rest form said placed whole fault.Order lt h =
+    below_wire v before line rest form said placed fault.Order (omega arith) h
+below_config v before line rest form said placed whole (fault.Wire f) lt h =
     let none : HasNoWireFault (BodyLine (InstallLine h.0 h.1)) = subst HasNoWireFault (says_one line form (BodyLine (InstallLine h.0 h.1)) said h.2) whole in
     none_not_some (fault_of h.1) f none h.3
-below_config before line rest form said placed whole (fault.Config f) lt h = omega arith
-below_config before line rest form said placed whole fault.Memory lt h = h
+below_config v before line rest form said placed whole (fault.Config f) lt h = omega arith
+below_config v before line rest form said placed whole fault.Memory lt h = h
 
 -- ---- the first fault
 
--- the first line is not that of the version
-pub version_fault : {text : List ℕ} {number : ℕ} {line : List ℕ} {rest : List (List ℕ)} → IsLineAt text number [] line rest → line ≢ codes "abr 1" → IsFirstFault text number fault.Version
-version_fault {text} {number} {line} {rest} at other = record {
-  has = has_line_fault at fault.Version (refl, other);
+-- the first line says no version
+pub version_fault : {text : List ℕ} {number : ℕ} {line : List ℕ} {rest : List (List ℕ)} → IsLineAt One text number [] line rest → line ≢ codes "abr 1" → line ≢ codes "abr 2" → IsFirstFault text number fault.Version
+version_fault {text} {number} {line} {rest} at one two = record {
+  has = has_line_fault at fault.Version (refl, one, two);
   lines = none_before text number (omega (arith, at.counted));
-  faults = λ g lt h. below_version [] line rest g lt (line_fault at g h);
+  faults = λ g lt h. below_version One [] line rest g lt (line_fault at g h);
 }
 
-module _ {text : List ℕ} {number : ℕ} {before : List (List ℕ)} {line : List ℕ} {rest : List (List ℕ)} (at : IsLineAt text number before line rest) (right : AreRightBefore text number) where
-  pub form_fault : before ≢ [] → ((form : Form) → ¬ Says line form) → IsFirstFault text number fault.Line
+module _ {v : Version} {text : List ℕ} {number : ℕ} {before : List (List ℕ)} {line : List ℕ} {rest : List (List ℕ)} (at : IsLineAt v text number before line rest) (right : AreRightBefore text number) where
+  pub form_fault : before ≢ [] → ((form : Form) → ¬ Says v line form) → IsFirstFault text number fault.Line
   form_fault later none = record {
     has = has_line_fault at fault.Line none;
     lines = right;
-    faults = λ g lt h. below_line before line rest later g lt (line_fault at g h);
+    faults = λ g lt h. below_line v before line rest later g lt (line_fault at g h);
   }
 
-  pub order_fault : before ≢ [] → (form : Form) → Says line form → ¬ IsPlaced before form → IsFirstFault text number fault.Order
+  pub order_fault : before ≢ [] → (form : Form) → Says v line form → ¬ IsPlaced v before form → IsFirstFault text number fault.Order
   order_fault later form said other = record {
     has = has_line_fault at fault.Order (form, said, other);
     lines = right;
-    faults = λ g lt h. below_order before line rest later form said g lt (line_fault at g h);
+    faults = λ g lt h. below_order v before line rest later form said g lt (line_fault at g h);
   }
 
-  pub wire_fault : (scope : Scope) (bytes : List ℕ) (f : WireFault) → Says line (BodyLine (InstallLine scope bytes)) → IsPlaced before (BodyLine (InstallLine scope bytes)) → fault_of bytes ≡ Some f → IsFirstFault text number (fault.Wire f)
+  pub wire_fault : (scope : Scope) (bytes : List ℕ) (f : WireFault) → Says v line (BodyLine (InstallLine scope bytes)) → IsPlaced v before (BodyLine (InstallLine scope bytes)) → fault_of bytes ≡ Some f → IsFirstFault text number (fault.Wire f)
   wire_fault scope bytes f said placed has = record {
     has = has_line_fault at (fault.Wire f) (scope, bytes, said, has);
     lines = right;
-    faults = λ g lt h. below_wire before line rest (BodyLine (InstallLine scope bytes)) said placed g lt (line_fault at g h);
+    faults = λ g lt h. below_wire v before line rest (BodyLine (InstallLine scope bytes)) said placed g lt (line_fault at g h);
   }
 
 below_end : (before : List (List ℕ)) (left : List ℕ) (g : Fault) → number_of g < 50 → ¬ IsFaultAt before (left ∷ []) g
@@ -184,8 +207,8 @@ below_end before left (fault.Wire f) lt h = h
 below_end before left (fault.Config f) lt h = h
 below_end before left fault.Memory lt h = h
 
--- a line without its line feed, or fewer than two lines
-pub end_fault : (text : List ℕ) (number : ℕ) (before : List (List ℕ)) (left : List ℕ) → parts_of text ≡ before ++ left ∷ [] → number ≡ length before + 1 → AreRightBefore text number → (left ≢ []) ⊎ (length before < 2) → IsFirstFault text number fault.Truncated
+-- a line without its line feed, or one of the first lines is missing
+pub end_fault : (text : List ℕ) (number : ℕ) (before : List (List ℕ)) (left : List ℕ) → parts_of text ≡ before ++ left ∷ [] → number ≡ length before + 1 → AreRightBefore text number → (left ≢ []) ⊎ (length before < first_lines (version_of before)) → IsFirstFault text number fault.Truncated
 end_fault text number before left parts counted right cut = record {
   has = record { before = before; here = left ∷ []; parts = parts; counted = counted; has = cut };
   lines = right;

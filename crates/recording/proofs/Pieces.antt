@@ -1,5 +1,5 @@
 -- The lines that several pieces make, as they are written one behind the other.
-use Rattle.std.proofs.Common.{◌≡◌, ◌∙◌, ◌++◌, ◌<◌, ◌≤◌, ◌+◌, List, [], ◌∷◌, ℕ, Bool, All, cond, length, take, map, get_or, ap, sym, subst, codes, append_assoc, append-nil}
+use Rattle.std.proofs.Common.{◌≡◌, ◌∙◌, ◌++◌, ◌<◌, ◌≤◌, ◌+◌, List, [], ◌∷◌, ℕ, Bool, false, All, cond, length, take, map, get_or, ap, sym, subst, codes, append_assoc, append-nil}
 use Rattle.std.specs.Prelude.{decimal}
 use Rattle.std.specs.List.{flat_map}
 use Rattle.std.proofs.lemmas.List.{take_more, take_all}
@@ -10,11 +10,18 @@ use Rattle.ospf_types.specs.declared.config.Config.{Config}
 use Rattle.ospf_types.specs.declared.config.Range.{Range}
 use Rattle.ospf_types.specs.Text.{address_text, prefix_text}
 use Rattle.recording.specs.declared.line.Line.{Line}
-use Rattle.recording.specs.Forms.{Form, VersionLine, RouterLine, AreaLine, RangeLine, BodyLine, InterfaceLine, IsForm}
-use Rattle.recording.specs.Recordings.{RecordingValue, form_of, forms_of, HasKind, HasWholeLsa, ended, text_of_forms, area_forms, header_forms}
+use Rattle.recording.specs.Forms.{Form, AreaLine, RangeLine, BodyLine, InterfaceLine, IsForm}
+use Rattle.recording.specs.Recordings.{RecordingValue, form_of, forms_of, HasKind, HasWholeLsa, ended, text_of_forms, area_forms, first_forms, header_forms}
+use Rattle.recording.specs.declared.version.Version.{Version}
+use Rattle.recording.specs.declared.version.Version.TheVariants.{One, Two}
 
 three : (a b c : List ℕ) → a ++ 32 ∷ (b ++ 32 ∷ (c ++ 10 ∷ [])) ≡ (a ++ 32 ∷ (b ++ 32 ∷ c)) ++ 10 ∷ []
 three a b c = simp append_assoc
+
+last_two : (a b : List ℕ) → a ++ 10 ∷ (codes "compat " ++ (b ++ 10 ∷ [])) ≡ (a ++ 10 ∷ []) ++ (codes "compat " ++ ((b ++ 10 ∷ []) ++ []))
+last_two a b =
+    ap (λ (t : List ℕ). a ++ 10 ∷ (codes "compat " ++ t)) (sym (append-nil (b ++ 10 ∷ [])))
+    ∙ sym (append_assoc a (10 ∷ []) (codes "compat " ++ ((b ++ 10 ∷ []) ++ [])))
 
 five : (a b c d e : List ℕ)
     → a ++ 32 ∷ (b ++ 32 ∷ (c ++ 32 ∷ (d ++ 32 ∷ (e ++ 10 ∷ [])))) ≡ (a ++ 32 ∷ (b ++ 32 ∷ (c ++ 32 ∷ (d ++ 32 ∷ e)))) ++ 10 ∷ []
@@ -31,6 +38,18 @@ pub range_printed : (old new shown : List ℕ) (area : ℕ) (range : Range) → 
     → new ≡ old ++ ended (RangeLine area range)
 range_printed old new shown area range is written =
     written ∙ ap (λ (text : List ℕ). old ++ (codes "range " ++ text)) (rw is (three (address_text area) (prefix_text range.prefix) (cond range.advertise (codes "advertise") (codes "hide"))))
+
+-- the two first lines of version 1, and the three of version 2
+pub two_printed : (old new : List ℕ) (router : ℕ) → new ≡ old ++ (codes "abr 1" ++ (10 ∷ (codes "router " ++ (address_text router ++ 10 ∷ []))))
+    → new ≡ old ++ text_of_forms (first_forms One router false)
+two_printed old new router written =
+    written ∙ ap (λ (text : List ℕ). old ++ (codes "abr 1" ++ (10 ∷ (codes "router " ++ text)))) (sym (append-nil (address_text router ++ 10 ∷ [])))
+
+pub three_printed : (old new state : List ℕ) (router : ℕ) (compat : Bool) → state ≡ cond compat (codes "enabled") (codes "disabled")
+    → new ≡ old ++ (codes "abr 2" ++ (10 ∷ (codes "router " ++ (address_text router ++ (10 ∷ (codes "compat " ++ (state ++ 10 ∷ [])))))))
+    → new ≡ old ++ text_of_forms (first_forms Two router compat)
+three_printed old new state router compat is written =
+    written ∙ ap (λ (text : List ℕ). old ++ (codes "abr 2" ++ (10 ∷ (codes "router " ++ text)))) (rw is (last_two (address_text router) (cond compat (codes "enabled") (codes "disabled"))))
 
 -- ---- lines, one after the other
 
@@ -77,17 +96,13 @@ area_appended old mid new a items k is all written legal h =
     let rest : Appended mid new (map f a.ranges) = subst (λ ranges. Appended mid new (map f ranges)) (take_all k items all ∙ is) h in
     appended_more old mid new (AreaLine a.id a.stub ∷ []) (map f a.ranges) first rest.text rest.legal
 
-pub header_appended : (old mid new : List ℕ) (config : Config) (items : List AreaConfig) (k : ℕ) → items ≡ config.areas → length items ≤ k
-    → mid ≡ old ++ (ended VersionLine ++ ended (RouterLine config.router)) → IsForm (RouterLine config.router)
-    → Appended mid new (flat_map area_forms (take k items)) → Appended old new (header_forms config)
-header_appended old mid new config items k is all written legal h =
-    let lines = VersionLine ∷ RouterLine config.router ∷ [] in
-    let first : Appended old mid lines = record {
-      text = written ∙ ap (λ text. old ++ (ended VersionLine ++ text)) (sym (append-nil (ended (RouterLine config.router))));
-      legal = All-cons IsForm VersionLine (RouterLine config.router ∷ []) tt (All-cons IsForm (RouterLine config.router) [] legal (All-nil IsForm));
-    } in
+pub header_appended : (old mid new : List ℕ) (v : Version) (config : Config) (items : List AreaConfig) (k : ℕ) → items ≡ config.areas → length items ≤ k
+    → mid ≡ old ++ text_of_forms (first_forms v config.router config.compat) → All IsForm (first_forms v config.router config.compat)
+    → Appended mid new (flat_map area_forms (take k items)) → Appended old new (header_forms v config)
+header_appended old mid new v config items k is all written legal h =
+    let first : Appended old mid (first_forms v config.router config.compat) = record { text = written; legal = legal } in
     let rest : Appended mid new (flat_map area_forms config.areas) = subst (λ areas. Appended mid new (flat_map area_forms areas)) (take_all k items all ∙ is) h in
-    appended_more old mid new lines (flat_map area_forms config.areas) first rest.text rest.legal
+    appended_more old mid new (first_forms v config.router config.compat) (flat_map area_forms config.areas) first rest.text rest.legal
 
 -- ---- the lines behind the header
 
@@ -111,10 +126,11 @@ pub piece_appended : (old new piece was line : List ℕ) → new ≡ old ++ piec
 piece_appended old new piece was line added made empty = added ∙ ap (λ text. old ++ text) (made ∙ ap (λ text. text ++ line) empty)
 
 -- the header and all lines
-pub recording_appended : (old mid new : List ℕ) (r : RecordingValue) (config : Config) (items : List Line) (k : ℕ) → config ≡ r.config → items ≡ r.lines → length items ≤ k
-    → mid ≡ old ++ text_of_forms (header_forms config) → All IsForm (header_forms config) → LinesAppended mid new items k → Appended old new (forms_of r) × All HasWholeLsa r.lines
-recording_appended old mid new r config items k same is all written legal h =
+pub recording_appended : (old mid new : List ℕ) (r : RecordingValue) (v : Version) (config : Config) (items : List Line) (k : ℕ) → v ≡ r.version → config ≡ r.config → items ≡ r.lines → length items ≤ k
+    → mid ≡ old ++ text_of_forms (header_forms v config) → All IsForm (header_forms v config) → LinesAppended mid new items k → Appended old new (forms_of r) × All HasWholeLsa r.lines
+recording_appended old mid new r v config items k version same is all written legal h =
     let whole : take k items ≡ r.lines = take_all k items all ∙ is in
-    let header : Appended old mid (header_forms r.config) = subst (λ header. Appended old mid (header_forms header)) same (record { text = written; legal = legal }) in
+    let at : Appended old mid (header_forms v r.config) = subst (λ header. Appended old mid (header_forms v header)) same (record { text = written; legal = legal }) in
+    let header : Appended old mid (header_forms r.version r.config) = subst (λ w. Appended old mid (header_forms w r.config)) version at in
     let rest : Appended mid new (map form_of r.lines) = subst (λ lines. Appended mid new (map form_of lines)) whole h.appended in
-    (appended_more old mid new (header_forms r.config) (map form_of r.lines) header rest.text rest.legal, subst (All HasWholeLsa) whole h.lsas)
+    (appended_more old mid new (header_forms r.version r.config) (map form_of r.lines) header rest.text rest.legal, subst (All HasWholeLsa) whole h.lsas)

@@ -1,6 +1,5 @@
 -- What the words of a line say, by the first of them.
-use Rattle.std.proofs.Common.{ℕ, ◌≡◌, ◌^◌, ◌<◌, Bool, false, cond, List, [], ◌∷◌, Option, Some, None, Ok, All, codes, decimal, refl, sym, ap, ◌∙◌}
-use Rattle.std.specs.Prelude.{IfSome, IsNone}
+use Rattle.std.proofs.Common.{ℕ, ◌≡◌, ◌^◌, ◌<◌, Bool, true, false, cond, List, [], ◌∷◌, Option, Ok, All, codes, decimal, refl, sym, ap, subst, ◌∙◌}
 use Rattle.std.proofs.lemmas.List.Splits.{join_with_byte-slice_split}
 use Rattle.std.proofs.lemmas.Bool.{both_ways}
 use Rattle.std.proofs.lemmas.Slice.Eq.{bytes_eq-Decides}
@@ -12,10 +11,11 @@ use Rattle.ospf_types.specs.declared.config.Range.{Range}
 use Rattle.ospf_types.specs.declared.config.Stub.{Stub}
 use Rattle.ospf_types.specs.declared.key.Scope.{Scope}
 use Rattle.ospf_types.specs.Text.{address_text, prefix_text}
-use Rattle.recording.specs.Forms.{Form, AreaLine, RangeLine, BodyLine, InterfaceLine, InstallLine, SecondLine, IsScope, IsPrefix, IsStub, IsInterface, IsAddress, Says, scope_text, stub_words}
-use Rattle.recording.specs.Reading.{AreDigits, AreRead, SaysWords, bytes_of, said_by, cut}
-use Rattle.recording.specs.declared.form.LineForm.{LineForm}
-use Rattle.recording.proofs.Forms.{are_bytes, bytes_again, line_split}
+use Rattle.recording.specs.Forms.{Form, VersionLine, CompatLine, AreaLine, RangeLine, BodyLine, InterfaceLine, InstallLine, SecondLine, IsScope, IsPrefix, IsStub, IsInterface, IsAddress, IsOfVersion, Says, scope_text, stub_words, version_word}
+use Rattle.recording.specs.Reading.{AreDigits, SaysWords, bytes_of, cut}
+use Rattle.recording.specs.declared.version.Version.{Version}
+use Rattle.recording.specs.declared.version.Version.TheVariants.{One, Two}
+use Rattle.recording.proofs.Forms.{are_bytes, bytes_again, line_split, words_one}
 
 -- another first word
 another : (a b : List ℕ) (s t : List (List ℕ)) → a ∷ s ≡ b ∷ t → bytes_eq a b ≡ false → ⊥
@@ -26,6 +26,32 @@ pub same_rest : {before s t : List (List ℕ)} {a b : List ℕ} → before ≡ a
 same_rest first second = cc (first, second)
 
 -- ---- the words of one form
+
+-- of the two words of the versions the first
+abbrev is_one : Version → Bool
+is_one One = true
+is_one Two = false
+
+version_word_is : (version : Version) → version_word version ≡ cond (is_one version) (codes "1") (codes "2")
+version_word_is One = refl
+version_word_is Two = refl
+
+pub record ChoiceWords (first second : List ℕ) (words : List (List ℕ)) : Type 0 where
+  pub is_first : Bool
+  pub spelled : words ≡ cond is_first first second ∷ []
+
+pub version_words : (words : List (List ℕ)) (form : Form) → SaysWords (codes "abr" ∷ words) form → ChoiceWords (codes "1") (codes "2") words
+version_words words (VersionLine version) said =
+    let spelled = said.spelled in
+    let behind : words ≡ version_word version ∷ [] = cc spelled in
+    record { is_first = is_one version; spelled = behind ∙ ap (λ word. word ∷ []) (version_word_is version) }
+version_words words (BodyLine SecondLine) said = absurd (another (codes "abr") _ words _ said.spelled refl)
+version_words words _ said = absurd (another (codes "abr") _ words _ said.spelled refl)
+
+pub compat_words : (words : List (List ℕ)) (form : Form) → SaysWords (codes "compat" ∷ words) form → ChoiceWords (codes "enabled") (codes "disabled") words
+compat_words words (CompatLine compat) said = let spelled = said.spelled in record { is_first = compat; spelled = cc spelled }
+compat_words words (BodyLine SecondLine) said = absurd (another (codes "compat") _ words _ said.spelled refl)
+compat_words words _ said = absurd (another (codes "compat") _ words _ said.spelled refl)
 
 pub record AreaWords (words : List (List ℕ)) : Type 0 where
   pub id : ℕ
@@ -68,16 +94,26 @@ interface_words words _ said = absurd (another (codes "interface") _ words _ sai
 
 -- ---- a line and its words
 
-pub read_says : (line : List ℕ) (words : List (List ℕ)) (read : Option LineForm) → cut line ≡ words → AreRead words read → IfSome read (λ found. Says line (said_by found))
-read_says line words None same h = tt
-read_says line words (Some found) same h = record {
-  spelled = sym (join_with_byte-slice_split 32 line) ∙ ap (join_with_byte 32) (same ∙ h.0.spelled);
-  legal = h.0.legal;
+-- the words are those of the form
+words_said : {v : Version} (line : List ℕ) (form : Form) → Says v line form → SaysWords (cut line) form
+words_said line form said = record { spelled = ap cut said.spelled ∙ line_split form said.legal; legal = said.legal }
+
+pub form_said : (v : Version) (line : List ℕ) (form : Form) → SaysWords (cut line) form → IsOfVersion v form → Says v line form
+form_said v line form words own = record {
+  spelled = sym (join_with_byte-slice_split 32 line) ∙ ap (join_with_byte 32) words.spelled;
+  legal = words.legal;
+  of_version = own;
 }
 
-pub read_none : (line : List ℕ) (words : List (List ℕ)) (read : Option LineForm) → cut line ≡ words → AreRead words read → IsNone read → (form : Form) → Says line form → ⊥
-read_none line words None same h none form said = h form (record { spelled = sym same ∙ ap cut said.spelled ∙ line_split form said.legal; legal = said.legal })
-read_none line words (Some found) same h none form said = cc none
+pub no_form_said : (v : Version) (line : List ℕ) → ((form : Form) → SaysWords (cut line) form → ⊥) → (form : Form) → Says v line form → ⊥
+no_form_said v line none form said = none form (words_said line form said)
+
+-- a form of another version
+pub other_version_said : (v : Version) (line : List ℕ) (found : Form) → SaysWords (cut line) found → (IsOfVersion v found → ⊥) → (form : Form) → Says v line form → ⊥
+other_version_said v line found words other form said =
+    let at = words_said line form said in
+    let same : form ≡ found = words_one form found said.legal words.legal (sym at.spelled ∙ words.spelled) in
+    other (subst (IsOfVersion v) same said.of_version)
 
 -- ---- digits
 

@@ -8,50 +8,50 @@ use Rattle.config_faults.specs.declared.fault.ConfigFault.{ConfigFault}
 use Rattle.recording.specs.declared.fault.Fault.{Fault}
 use Rattle.recording.specs.declared.fault.Fault.TheVariants as fault
 use Rattle.recording.specs.declared.fault.LineFault.{LineFault}
+use Rattle.recording.specs.declared.version.Version.{Version}
 use Rattle.recording.specs.Forms.{Form, BodyLine, InstallLine, Says}
-use Rattle.recording.specs.Places.{AreSaid, IsPlaced, areas_of, has_begun, is_of_header}
+use Rattle.recording.specs.Places.{AreSaid, IsPlaced, areas_of, first_lines, has_begun, is_of_header, version_of}
 
 -- The parts that line feeds end, and last what stands behind the last line feed: a line without one, or nothing.
 abbrev pub parts_of : List ℕ → List (List ℕ)
 parts_of bytes = slice_split (λ b. b == 10) bytes
 
 -- The header ends here: the next line has its line feed and is none of the header, or there is no next line.
-abbrev pub EndsHeader : List (List ℕ) → Type 0
-EndsHeader [] = ⊥
-EndsHeader (left ∷ []) = left ≡ []
-EndsHeader (line ∷ next ∷ more) = (form : Form) → Says line form → is_of_header form ≢ true
+abbrev pub EndsHeader : Version → List (List ℕ) → Type 0
+EndsHeader v [] = ⊥
+EndsHeader v (left ∷ []) = left ≡ []
+EndsHeader v (line ∷ next ∷ more) = (form : Form) → Says v line form → is_of_header form ≢ true
 
 -- the lines are a whole header, whose areas have this fault first
-pub record HasConfigFault (lines after : List (List ℕ)) (f : ConfigFault) : Type 0 where
+pub record HasConfigFault (v : Version) (lines after : List (List ℕ)) (f : ConfigFault) : Type 0 where
   pub forms : List Form
-  pub header : AreSaid lines forms
+  pub header : AreSaid v lines forms
   pub alone : has_begun forms ≡ false
-  pub ends : EndsHeader after
+  pub ends : EndsHeader v after
   pub has : areas_fault_of (areas_of forms) ≡ Some f
 
 -- the form of the line is not one that may stand behind these lines
-abbrev pub IsMisplaced : List (List ℕ) → List ℕ → Type 0
-IsMisplaced before line = (form : Form) × Says line form × (¬ IsPlaced before form)
+abbrev pub IsMisplaced : Version → List (List ℕ) → List ℕ → Type 0
+IsMisplaced v before line = (form : Form) × Says v line form × (¬ IsPlaced v before form)
 
--- a line that has its line feed has this fault, behind these lines and before those parts
+-- a line that has its line feed has this fault in a recording of the version, behind these lines and before those parts
+abbrev pub IsFaultIn : Version → List (List ℕ) → List ℕ → List (List ℕ) → Fault → Type 0
+IsFaultIn v before line after fault.Truncated = ⊥
+IsFaultIn v before line after fault.Version = (before ≡ []) × (line ≢ codes "abr 1") × (line ≢ codes "abr 2")
+IsFaultIn v before line after fault.Line = (form : Form) → ¬ Says v line form
+IsFaultIn v before line after fault.Order = IsMisplaced v before line
+IsFaultIn v before line after (fault.Wire f) = (at : Scope) × (bytes : List ℕ) × Says v line (BodyLine (InstallLine at bytes)) × (fault_of bytes ≡ Some f)
+IsFaultIn v before line after (fault.Config f) = HasConfigFault v (before ++ line ∷ []) after f
+IsFaultIn v before line after fault.Memory = ⊥
+
+-- the version is that of the first line, which may be this one
 abbrev pub IsFaultOfLine : List (List ℕ) → List ℕ → List (List ℕ) → Fault → Type 0
-IsFaultOfLine before line after fault.Truncated = ⊥
-IsFaultOfLine before line after fault.Version = (before ≡ []) × (line ≢ codes "abr 1")
-IsFaultOfLine before line after fault.Line = (form : Form) → ¬ Says line form
-IsFaultOfLine before line after fault.Order = IsMisplaced before line
-IsFaultOfLine before line after (fault.Wire f) = (at : Scope) × (bytes : List ℕ) × Says line (BodyLine (InstallLine at bytes)) × (fault_of bytes ≡ Some f)
-IsFaultOfLine before line after (fault.Config f) = HasConfigFault (before ++ line ∷ []) after f
-IsFaultOfLine before line after fault.Memory = ⊥
+IsFaultOfLine before line after f = IsFaultIn (version_of (before ++ line ∷ [])) before line after f
 
--- there is a line without a line feed behind these lines, or fewer than two lines
+-- there is a line without a line feed behind these lines, or one of the first lines is missing
 abbrev pub IsFaultOfEnd : List (List ℕ) → List ℕ → Fault → Type 0
-IsFaultOfEnd before left fault.Truncated = (left ≢ []) ⊎ (length before < 2)
-IsFaultOfEnd before left fault.Version = ⊥
-IsFaultOfEnd before left fault.Line = ⊥
-IsFaultOfEnd before left fault.Order = ⊥
-IsFaultOfEnd before left (fault.Wire f) = ⊥
-IsFaultOfEnd before left (fault.Config f) = ⊥
-IsFaultOfEnd before left fault.Memory = ⊥
+IsFaultOfEnd before left fault.Truncated = (left ≢ []) ⊎ (length before < first_lines (version_of before))
+IsFaultOfEnd before left _ = ⊥
 
 -- the first of the parts that are left has this fault
 abbrev pub IsFaultAt : List (List ℕ) → List (List ℕ) → Fault → Type 0

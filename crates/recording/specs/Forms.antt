@@ -10,6 +10,8 @@ use Rattle.ospf_types.specs.declared.key.Scope.TheVariants as scope
 use Rattle.ospf_types.specs.declared.prefix.Prefix.{Prefix}
 use Rattle.ospf_types.specs.Masks.{masked}
 use Rattle.ospf_types.specs.Text.{address_text, prefix_text}
+use Rattle.recording.specs.declared.version.Version.{Version}
+use Rattle.recording.specs.declared.version.Version.TheVariants.{One, Two}
 
 -- what a line behind the header says: an event, or an address that is looked up
 pub data Body : Type 0 where
@@ -22,13 +24,18 @@ pub data Body : Type 0 where
 
 -- what a line says, by where it may stand: one of the first lines, one of the header, or one behind it
 pub data Form : Type 0 where
-  VersionLine : Form
+  VersionLine : (version : Version) → Form
   RouterLine : (router : ℕ) → Form
+  CompatLine : (compat : Bool) → Form
   AreaLine : (id : ℕ) (stub : Option Stub) → Form
   RangeLine : (area : ℕ) (range : Range) → Form
   BodyLine : (body : Body) → Form
 
 -- ---- words
+
+abbrev pub version_word : Version → List ℕ
+version_word One = codes "1"
+version_word Two = codes "2"
 
 -- the Area ID, or `as` for the database of AS-external-LSAs
 abbrev pub scope_text : Scope → List ℕ
@@ -54,8 +61,9 @@ body_words SecondLine = codes "second" ∷ []
 body_words (LookupLine address) = codes "lookup" ∷ address_text address ∷ []
 
 abbrev pub words_of : Form → List (List ℕ)
-words_of VersionLine = codes "abr" ∷ codes "1" ∷ []
+words_of (VersionLine version) = codes "abr" ∷ version_word version ∷ []
 words_of (RouterLine router) = codes "router" ∷ address_text router ∷ []
+words_of (CompatLine compat) = codes "compat" ∷ cond compat (codes "enabled") (codes "disabled") ∷ []
 words_of (AreaLine id stub) = codes "area" ∷ address_text id ∷ stub_words stub
 words_of (RangeLine area range) =
     codes "range" ∷ address_text area ∷ prefix_text range.prefix ∷ cond range.advertise (codes "advertise") (codes "hide") ∷ []
@@ -106,20 +114,28 @@ IsBody SecondLine = Unit {0}
 IsBody (LookupLine address) = IsAddress address
 
 abbrev pub IsForm : Form → Type 0
-IsForm VersionLine = Unit {0}
+IsForm (VersionLine version) = Unit {0}
 IsForm (RouterLine router) = IsAddress router
+IsForm (CompatLine compat) = Unit {0}
 IsForm (AreaLine id stub) = IsAddress id × IsStub stub
 IsForm (RangeLine area range) = IsAddress area × IsPrefix range.prefix
 IsForm (BodyLine body) = IsBody body
 
--- the line says this
-pub record Says (line : List ℕ) (form : Form) : Type 0 where
+-- the form is one of this version: its own first line, and from version 2 on a `compat` line
+abbrev pub IsOfVersion : Version → Form → Type 0
+IsOfVersion v (VersionLine version) = version ≡ v
+IsOfVersion v (CompatLine compat) = v ≡ Two
+IsOfVersion v _ = Unit {0}
+
+-- the line of a recording of this version says this
+pub record Says (v : Version) (line : List ℕ) (form : Form) : Type 0 where
   pub spelled : line ≡ line_text form
   pub legal : IsForm form
+  pub of_version : IsOfVersion v form
 
 -- each of the lines says its form
-abbrev pub AllSay : List (List ℕ) → List Form → Type 0
-AllSay [] [] = Unit {0}
-AllSay (line ∷ lines) (form ∷ forms) = Says line form × AllSay lines forms
-AllSay [] (form ∷ forms) = ⊥
-AllSay (line ∷ lines) [] = ⊥
+abbrev pub AllSay : Version → List (List ℕ) → List Form → Type 0
+AllSay v [] [] = Unit {0}
+AllSay v (line ∷ lines) (form ∷ forms) = Says v line form × AllSay v lines forms
+AllSay v [] (form ∷ forms) = ⊥
+AllSay v (line ∷ lines) [] = ⊥

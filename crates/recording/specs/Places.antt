@@ -1,13 +1,16 @@
 -- Where in a recording a line may stand.
-use Rattle.std.specs.Prelude.{ℕ, ◌≡◌, ◌≤◌, ◌-◌, ◌==◌, ◌&&◌, ◌||◌, ◌++◌, Bool, true, false, not, nat_lt, List, [], ◌∷◌, length, drop, slice_get, Option, Some, None}
+use Rattle.std.specs.Prelude.{ℕ, ◌≡◌, ◌≤◌, ◌-◌, ◌==◌, ◌&&◌, ◌||◌, ◌++◌, Bool, true, false, not, nat_lt, List, [], ◌∷◌, length, drop, slice_get, Option, Some, None, codes, cond}
+use Rattle.std.specs.Str.{bytes_eq}
 use Rattle.std.specs.declared.cmp.Ordering.{Ordering}
 use Rattle.std.specs.declared.cmp.Ordering.TheVariants.{Less, Equal, Greater}
 use Rattle.ospf_types.specs.declared.config.AreaConfig.{AreaConfig}
 use Rattle.ospf_types.specs.declared.config.Range.{Range}
 use Rattle.ospf_types.specs.Network.{network_cmp}
-use Rattle.recording.specs.Forms.{Form, VersionLine, RouterLine, AreaLine, RangeLine, BodyLine, AllSay}
+use Rattle.recording.specs.Forms.{Form, VersionLine, RouterLine, CompatLine, AreaLine, RangeLine, BodyLine, AllSay}
+use Rattle.recording.specs.declared.version.Version.{Version}
+use Rattle.recording.specs.declared.version.Version.TheVariants.{One, Two}
 
--- an `area` or a `range` line, of which the header is made behind its first two lines
+-- an `area` or a `range` line, of which the header is made behind the first lines
 abbrev pub is_of_header : Form → Bool
 is_of_header (AreaLine id stub) = true
 is_of_header (RangeLine area range) = true
@@ -65,7 +68,17 @@ is_next_range (Some a) area range = (a.id == area) && is_past_range (last_of a.r
 
 -- ---- places
 
--- what the lines behind the first two say so far
+-- the version that the first line says; version 1 where it says none
+abbrev pub version_of : List (List ℕ) → Version
+version_of [] = One
+version_of (line ∷ lines) = cond (bytes_eq line (codes "abr 2")) Two One
+
+-- So many lines come first, each in its place: `abr` and `router`, and from version 2 on `compat`.
+abbrev pub first_lines : Version → ℕ
+first_lines One = 2
+first_lines Two = 3
+
+-- what the lines behind the first ones say so far
 pub record Front : Type 0 where
   pub areas : List AreaConfig
   pub begun : Bool  -- one of them is no line of the header
@@ -83,15 +96,16 @@ is_next f (AreaLine id stub) = not f.begun && is_past_area (last_of f.areas) id
 is_next f (RangeLine area range) = not f.begun && is_next_range (last_of f.areas) area range
 is_next f _ = false
 
--- the lines behind the first two say this
-pub record AreSaid (before : List (List ℕ)) (forms : List Form) : Type 0 where
-  pub two : 2 ≤ length before
-  pub said : AllSay (drop 2 before) forms
+-- the lines behind the first ones say this
+pub record AreSaid (v : Version) (before : List (List ℕ)) (forms : List Form) : Type 0 where
+  pub many : first_lines v ≤ length before
+  pub said : AllSay v (drop (first_lines v) before) forms
 
--- The line may stand behind these lines: one of the first two and one behind the header by its number, and one of the
+-- The line may stand behind these lines: one of the first ones and one behind the header by its number, and one of the
 -- header by what the lines before it say.
-abbrev pub IsPlaced : List (List ℕ) → Form → Type 0
-IsPlaced before VersionLine = before ≡ []
-IsPlaced before (RouterLine router) = length before ≡ 1
-IsPlaced before (BodyLine body) = 2 ≤ length before
-IsPlaced before form = (forms : List Form) × AreSaid before forms × (is_next (front_of forms) form ≡ true)
+abbrev pub IsPlaced : Version → List (List ℕ) → Form → Type 0
+IsPlaced v before (VersionLine version) = before ≡ []
+IsPlaced v before (RouterLine router) = length before ≡ 1
+IsPlaced v before (CompatLine compat) = length before ≡ 2
+IsPlaced v before (BodyLine body) = first_lines v ≤ length before
+IsPlaced v before form = (forms : List Form) × AreSaid v before forms × (is_next (front_of forms) form ≡ true)

@@ -6,7 +6,7 @@ use Rattle.hex.specs.Hex.{decode_of, encode_lower}
 use Rattle.hex.specs.declared.error.FromHexError.{FromHexError}
 use Rattle.recording.specs.declared.form.LineForm.{LineForm}
 use Rattle.recording.specs.declared.form.LineForm.TheVariants as read
-use Rattle.recording.specs.Forms.{Form, VersionLine, RouterLine, AreaLine, RangeLine, BodyLine, InterfaceLine, InstallLine, FlushLine, PurgeLine, SecondLine, LookupLine, IsForm, words_of}
+use Rattle.recording.specs.Forms.{Form, VersionLine, RouterLine, CompatLine, AreaLine, RangeLine, BodyLine, InterfaceLine, InstallLine, FlushLine, PurgeLine, SecondLine, LookupLine, IsForm, words_of}
 
 abbrev pub bytes_or_none : Result (List ℕ) FromHexError → List ℕ
 bytes_or_none (Ok bytes) = bytes
@@ -17,8 +17,9 @@ abbrev pub bytes_of : List ℕ → List ℕ
 bytes_of digits = bytes_or_none (decode_of digits)
 
 abbrev pub said_by : LineForm → Form
-said_by read.Version = VersionLine
+said_by (read.Version version) = VersionLine version
 said_by (read.Router router) = RouterLine router
+said_by (read.Compat compat) = CompatLine compat
 said_by (read.Area id stub) = AreaLine id stub
 said_by (read.Range area range) = RangeLine area range
 said_by (read.Interface id area address peer up) = BodyLine (InterfaceLine id area address peer up)

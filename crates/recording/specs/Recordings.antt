@@ -1,5 +1,5 @@
 -- A recording, and its one text.
-use Rattle.std.specs.Prelude.{ℕ, ◌≡◌, ◌++◌, List, [], ◌∷◌, map, None, All}
+use Rattle.std.specs.Prelude.{ℕ, ◌≡◌, ◌++◌, Bool, false, List, [], ◌∷◌, map, None, All}
 use Rattle.std.specs.List.{flat_map}
 use Rattle.std.specs.List.Sorted.{IsStrictlySortedBy}
 use Rattle.std.specs.Ordering.{nat_cmp}
@@ -15,9 +15,12 @@ use Rattle.event_state.specs.declared.event.Event.TheVariants as event
 use Rattle.config_faults.specs.Configs.{config_fault_of}
 use Rattle.recording.specs.declared.line.Line.{Line}
 use Rattle.recording.specs.declared.line.Line.TheVariants as line
-use Rattle.recording.specs.Forms.{Form, Body, VersionLine, RouterLine, AreaLine, RangeLine, BodyLine, InterfaceLine, InstallLine, FlushLine, PurgeLine, SecondLine, LookupLine, IsForm, IsKind, line_text}
+use Rattle.recording.specs.declared.version.Version.{Version}
+use Rattle.recording.specs.declared.version.Version.TheVariants.{One, Two}
+use Rattle.recording.specs.Forms.{Form, Body, VersionLine, RouterLine, CompatLine, AreaLine, RangeLine, BodyLine, InterfaceLine, InstallLine, FlushLine, PurgeLine, SecondLine, LookupLine, IsForm, IsKind, line_text}
 
 pub record RecordingValue : Type 0 where
+  pub version : Version
   pub config : Config
   pub lines : List Line
 
@@ -44,11 +47,19 @@ form_of l = BodyLine (body_of l)
 abbrev pub area_forms : AreaConfig → List Form
 area_forms a = AreaLine a.id a.stub ∷ map (λ (range : Range). RangeLine a.id range) a.ranges
 
-abbrev pub header_forms : Config → List Form
-header_forms config = VersionLine ∷ RouterLine config.router ∷ flat_map area_forms config.areas
+-- from version 2 on the third line says whether RFC1583Compatibility is enabled
+abbrev pub compat_forms : Version → Bool → List Form
+compat_forms One compat = []
+compat_forms Two compat = CompatLine compat ∷ []
+
+abbrev pub first_forms : Version → ℕ → Bool → List Form
+first_forms v router compat = VersionLine v ∷ RouterLine router ∷ compat_forms v compat
+
+abbrev pub header_forms : Version → Config → List Form
+header_forms v config = first_forms v config.router config.compat ++ flat_map area_forms config.areas
 
 abbrev pub forms_of : RecordingValue → List Form
-forms_of r = header_forms r.config ++ map form_of r.lines
+forms_of r = header_forms r.version r.config ++ map form_of r.lines
 
 -- the lines, each with its line feed
 abbrev pub ended : Form → List ℕ
@@ -76,8 +87,9 @@ HasKind (line.Event (event.Interface id area address peer up)) = Unit {0}
 HasKind (line.Event event.Second) = Unit {0}
 HasKind (line.Lookup address) = Unit {0}
 
--- a configuration without a fault, in order, and lines that have a form
+-- a configuration without a fault, in order, and lines that have a form; in version 1 RFC1583Compatibility is disabled
 pub record IsRecording (r : RecordingValue) : Type 0 where
+  pub version : r.version ≡ One → r.config.compat ≡ false
   pub config : config_fault_of r.config ≡ None
   pub ordered : IsOrdered r.config.areas
   pub kinds : All HasKind r.lines

@@ -10,17 +10,23 @@ ghost use Rattle.recording.specs.declared.line.Line.{Line};
 use crate::fault::Fault;
 use crate::form::{LineForm, read_form};
 use crate::line::Line;
+use crate::version::Version;
 use event_state::Event;
 use hex::FromHexError;
 use lsa_codec::{Checked, WireFault};
 use std::alloc::Global;
 
 /// Adds what the line says.
-pub(crate) fn add_line(alloc: Global, line: &[u8], lines: &mut Vec<Line>) -> Result<(), Fault>
-    ensures added { OnOk result ((l : Line) × IsLineOf line.now l × (lines.new.items ≡ lines.old.items ++ l ∷ [])) }
-    ensures fault { IfErr result (IsFaultBehind line.now) }
+pub(crate) fn add_line(
+    alloc: Global,
+    version: Version,
+    line: &[u8],
+    lines: &mut Vec<Line>,
+) -> Result<(), Fault>
+    ensures added { OnOk result ((l : Line) × IsLineOf version line.now l × (lines.new.items ≡ lines.old.items ++ l ∷ [])) }
+    ensures fault { IfErr result (IsFaultBehind version line.now) }
 {
-    match read_line(alloc, line) {
+    match read_line(alloc, version, line) {
         Ok(read) => match lines.push(read) {
             Ok(()) => Ok(()),
             Err(_) => Err(Fault::Memory),
@@ -29,16 +35,17 @@ pub(crate) fn add_line(alloc: Global, line: &[u8], lines: &mut Vec<Line>) -> Res
     }
 }
 
-fn read_line(alloc: Global, line: &[u8]) -> Result<Line, Fault>
-    ensures read { IfOk result (IsLineOf line.now) }
-    ensures fault { IfErr result (IsFaultBehind line.now) }
+fn read_line(alloc: Global, version: Version, line: &[u8]) -> Result<Line, Fault>
+    ensures read { IfOk result (IsLineOf version line.now) }
+    ensures fault { IfErr result (IsFaultBehind version line.now) }
 {
-    let Some(form) = read_form(line) else {
+    let Some(form) = read_form(version, line) else {
         return Err(Fault::Line);
     };
     match form {
-        LineForm::Version => Err(Fault::Order),
+        LineForm::Version(_) => Err(Fault::Order),
         LineForm::Router(_) => Err(Fault::Order),
+        LineForm::Compat(_) => Err(Fault::Order),
         LineForm::Area { .. } => Err(Fault::Order),
         LineForm::Range { .. } => Err(Fault::Order),
         LineForm::Interface {

@@ -1,10 +1,11 @@
 //! A line, read.
-ghost use Rattle.std.specs.Prelude.{◌≡◌, ◌≢◌, ◌∷◌, codes, IsNone, IfSome, MatchOption};
-ghost use Rattle.recording.specs.Forms.{Form, Says, IsScope, IsKey, key_words, scope_text};
-ghost use Rattle.recording.specs.Reading.{said_by, AreRead, HasDigits};
+ghost use Rattle.std.specs.Prelude.{◌≡◌, ◌≢◌, ◌↔◌, ◌∷◌, codes, IsNone, IsTrue, IfSome, MatchOption};
+ghost use Rattle.recording.specs.Forms.{Form, IsOfVersion, Says, IsScope, IsKey, key_words, scope_text};
+ghost use Rattle.recording.specs.Reading.{said_by, cut, AreRead, HasDigits};
 ghost use Rattle.ospf_types.specs.declared.key.Key.{Key};
 ghost use Rattle.ospf_types.specs.declared.key.Scope.{Scope};
 
+use crate::version::Version;
 use crate::words::{Words, are_digits, is};
 use ospf_types::config::{Range, Stub};
 use ospf_types::key::{Key, Scope};
@@ -12,8 +13,10 @@ use ospf_types::key::{Key, Scope};
 /// What a line says.
 #[derive(Clone, Copy)]
 pub(crate) enum LineForm<'a> {
-    Version,
+    Version(Version),
     Router(u32),
+    /// Whether RFC1583Compatibility is enabled.
+    Compat(bool),
     Area {
         id: u32,
         stub: Option<Stub>,
@@ -46,15 +49,40 @@ pub(crate) enum LineForm<'a> {
     Lookup(u32),
 }
 
-/// What the line, without its line feed, says; none where it has no form.
-pub(crate) fn read_form(line: &[u8]) -> Option<LineForm<'_>>
-    ensures says { IfSome result (λ form. Says line.now (said_by form)) }
+/// What the line, without its line feed, says in a recording of the version; none where it has no form there.
+pub(crate) fn read_form(version: Version, line: &[u8]) -> Option<LineForm<'_>>
+    ensures says { IfSome result (λ form. Says version line.now (said_by form)) }
     ensures digits { IfSome result HasDigits }
-    ensures none { IsNone result → (form : Form) → ¬ Says line.now form }
+    ensures none { IsNone result → (form : Form) → ¬ Says version line.now form }
+{
+    let Some(form) = read_any_form(line) else {
+        return None;
+    };
+    if is_of_version(version, &form) {
+        Some(form)
+    } else {
+        None
+    }
+}
+
+// What the line says in a recording of any version.
+fn read_any_form(line: &[u8]) -> Option<LineForm<'_>>
+    ensures { AreRead (cut line.now) result }
 {
     let mut words = Words::of(line);
     let verb = words.next()?;
     read_behind(verb, &mut words)
+}
+
+// Whether there is the form in the version: its own first line, and from version 2 on a `compat` line.
+fn is_of_version(version: Version, form: &LineForm<'_>) -> bool
+    ensures { IsTrue result ↔ IsOfVersion version (said_by form.now) }
+{
+    match form {
+        LineForm::Version(own) => *own == version,
+        LineForm::Compat(_) => version == Version::Two,
+        _ => true,
+    }
 }
 
 // What the verb and the words behind it say. Most lines are installs.
@@ -77,6 +105,8 @@ fn read_behind<'a>(verb: &[u8], words: &mut Words<'a>) -> Option<LineForm<'a>>
         version(words)
     } else if is(verb, b"router") {
         router(words)
+    } else if is(verb, b"compat") {
+        compat(words)
     } else if is(verb, b"area") {
         area(words)
     } else if is(verb, b"range") {
@@ -89,12 +119,13 @@ fn read_behind<'a>(verb: &[u8], words: &mut Words<'a>) -> Option<LineForm<'a>>
 fn version<'a>(words: &mut Words<'a>) -> Option<LineForm<'a>>
     ensures { AreRead (codes "abr" ∷ words.old) result }
 {
-    let number = words.next()?;
-    if !is(number, b"1") {
-        return None;
-    }
+    let is_first = words.choice(b"1", b"2")?;
     words.end()?;
-    Some(LineForm::Version)
+    if is_first {
+        Some(LineForm::Version(Version::One))
+    } else {
+        Some(LineForm::Version(Version::Two))
+    }
 }
 
 fn router<'a>(words: &mut Words<'a>) -> Option<LineForm<'a>>
@@ -103,6 +134,14 @@ fn router<'a>(words: &mut Words<'a>) -> Option<LineForm<'a>>
     let router = words.address()?;
     words.end()?;
     Some(LineForm::Router(router))
+}
+
+fn compat<'a>(words: &mut Words<'a>) -> Option<LineForm<'a>>
+    ensures { AreRead (codes "compat" ∷ words.old) result }
+{
+    let is_enabled = words.choice(b"enabled", b"disabled")?;
+    words.end()?;
+    Some(LineForm::Compat(is_enabled))
 }
 
 fn area<'a>(words: &mut Words<'a>) -> Option<LineForm<'a>>

@@ -18,6 +18,7 @@ use std::marker::Model;
 #[derive(Drop)]
 pub(crate) struct Header {
     router: u32,
+    compat: bool,
     // those to which no range can be added any more
     areas: Areas,
     last: Option<AreaConfig>,
@@ -30,17 +31,18 @@ impl Model for Header {
 
     ghost Value = { Config };
 
-    ghost view = { λ h. record { router = h.router; areas = h.areas ++ option_to_list h.last } };
+    ghost view = { λ h. record { router = h.router; compat = h.compat; areas = h.areas ++ option_to_list h.last } };
 
     ghost invariant = { λ h. h.last ≡ None → h.areas ≡ [] };
 }
 
 impl Header {
-    pub(crate) fn new(alloc: Global, router: u32) -> Header
-        ensures { result ≡ record { router = router; areas = [] } }
+    pub(crate) fn new(alloc: Global, router: u32, compat: bool) -> Header
+        ensures { result ≡ record { router = router; compat = compat; areas = [] } }
     {
         Header {
             router,
+            compat,
             areas: Areas::new(alloc),
             last: None,
         }
@@ -99,6 +101,7 @@ impl Header {
     {
         let Header {
             router,
+            compat,
             areas,
             last,
         } = self;
@@ -106,7 +109,11 @@ impl Header {
         if let Some(last) = last {
             areas.push(last)?;
         }
-        Ok(Config { router, areas })
+        Ok(Config {
+            router,
+            compat,
+            areas,
+        })
     }
 }
 

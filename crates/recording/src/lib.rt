@@ -12,6 +12,7 @@ mod printing;
 mod reader;
 mod recording;
 mod show;
+mod version;
 mod words;
 
 pub use fault::{Fault, LineFault};
@@ -20,3 +21,4 @@ pub use parsing::parse;
 pub use printing::{append_event, append_header, print};
 pub use recording::Recording;
 pub use show::Show;
+pub use version::Version;

@@ -1,9 +1,11 @@
 //! A recording from its text.
-ghost use Rattle.std.specs.Prelude.{◌≡◌, ◌≤◌, ◌+◌, [], IsNone, IfSome, IfOk, IfErr, MatchResult};
+ghost use Rattle.std.specs.Prelude.{◌≡◌, ◌≢◌, ◌≤◌, ◌+◌, [], ◌∷◌, codes, IsNone, IfSome, IfOk, IfErr, MatchResult};
 ghost use Rattle.recording.specs.Recordings.{RecordingValue, IsText};
 ghost use Rattle.recording.specs.Faults.{IsFaultOf};
-ghost use Rattle.recording.specs.Left.{HasVersionAt, HasHeaderAt, HasLinesAt, EndsHeaderAt};
+ghost use Rattle.recording.specs.Left.{HasReadAt, HasHeaderAt, HasLinesAt, EndsHeaderAt};
 ghost use Rattle.recording.specs.declared.fault.Fault.TheVariants as line_fault;
+ghost use Rattle.recording.specs.declared.version.Version.TheVariants as version_value;
+ghost use Rattle.recording.specs.Forms.{VersionLine, RouterLine, line_text};
 
 use crate::body::add_line;
 use crate::fault::{Fault, LineFault};
@@ -11,6 +13,8 @@ use crate::form::{LineForm, read_form};
 use crate::header::Header;
 use crate::reader::Lines;
 use crate::recording::Recording;
+use crate::version::Version;
+use crate::words::is;
 use config_faults::fault_in;
 use ospf_types::config::Config;
 use ospf_types::memory::Memory;
@@ -31,48 +35,60 @@ fn parse_text(alloc: Global, text: &[u8]) -> Result<Recording, LineFault>
     ensures text { IfOk result (IsText text.now) }
     ensures fault { IfErr result (IsFaultOf text.now) }
 {
-    let lines = read_version(text)?;
-    let (router, lines) = read_router(lines)?;
-    let (config, lines) = read_header(alloc, router, lines)?;
+    let (version, lines) = read_version(text)?;
+    let (router, lines) = read_router(version, lines)?;
+    let (header, lines) = read_setting(alloc, version, router, lines)?;
+    let (config, lines) = read_areas(alloc, version, header, lines)?;
     if let Some(fault) = fault_in(&config) {
         return Err(LineFault {
             line: lines.taken,
             fault: Fault::Config(fault),
         });
     }
-    read_lines(alloc, config, lines)
+    read_lines(alloc, version, config, lines)
 }
 
-// What is left behind the first line, which is that of the version.
-fn read_version(text: &[u8]) -> Result<Lines<'_>, LineFault>
-    ensures read { IfOk result HasVersionAt }
-    ensures text { IfOk result (λ after. after.text.now ≡ text.now) }
+// The version, which the first line says, and what is left behind it.
+fn read_version(text: &[u8]) -> Result<(Version, Lines<'_>), LineFault>
+    ensures read { IfOk result (λ found. HasReadAt found.0 found.1 (VersionLine found.0 ∷ [])) }
+    ensures text { IfOk result (λ found. found.1.text.now ≡ text.now) }
     ensures fault { IfErr result (IsFaultOf text.now) }
 {
     let lines = Lines::of(text);
     let Some((line, after)) = lines.next() else {
         return Err(lines.fault(Fault::Truncated));
     };
-    let Some(form) = read_form(line) else {
-        return Err(lines.fault(Fault::Version));
-    };
-    match form {
-        LineForm::Version => Ok(after),
-        _ => Err(lines.fault(Fault::Version)),
+    match version_in(line) {
+        Some(version) => Ok((version, after)),
+        None => Err(lines.fault(Fault::Version)),
+    }
+}
+
+// The version of which this is the first line.
+fn version_in(line: &[u8]) -> Option<Version>
+    ensures some { IfSome result (λ version. line.now ≡ line_text (VersionLine version)) }
+    ensures none { IsNone result → (line.now ≢ codes "abr 1") × (line.now ≢ codes "abr 2") }
+{
+    if is(line, b"abr 1") {
+        Some(Version::One)
+    } else if is(line, b"abr 2") {
+        Some(Version::Two)
+    } else {
+        None
     }
 }
 
 // The Router ID, which the second line says, and what is left behind it.
-fn read_router(lines: Lines<'_>) -> Result<(u32, Lines<'_>), LineFault>
-    requires { HasVersionAt lines }
-    ensures read { IfOk result (λ found. HasHeaderAt found.1 (record { router = found.0; areas = [] })) }
+fn read_router(version: Version, lines: Lines<'_>) -> Result<(u32, Lines<'_>), LineFault>
+    requires { HasReadAt version lines (VersionLine version ∷ []) }
+    ensures read { IfOk result (λ found. HasReadAt version found.1 (VersionLine version ∷ RouterLine found.0 ∷ [])) }
     ensures text { IfOk result (λ found. found.1.text.now ≡ lines.entry.text.now) }
     ensures fault { IfErr result (IsFaultOf lines.entry.text.now) }
 {
     let Some((line, after)) = lines.next() else {
         return Err(lines.fault(Fault::Truncated));
     };
-    let Some(form) = read_form(line) else {
+    let Some(form) = read_form(version, line) else {
         return Err(lines.fault(Fault::Line));
     };
     match form {
@@ -81,22 +97,63 @@ fn read_router(lines: Lines<'_>) -> Result<(u32, Lines<'_>), LineFault>
     }
 }
 
-// The configuration, which the first two lines and those of the header behind them say, and what is left
-// behind it.
-fn read_header(
+// The configuration that the first lines say, which has no areas yet, and what is left behind them.
+fn read_setting(
     alloc: Global,
+    version: Version,
     router: u32,
     lines: Lines<'_>,
-) -> Result<(Config, Lines<'_>), LineFault>
-    requires { HasHeaderAt lines (record { router = router; areas = [] }) }
-    ensures read { IfOk result (λ found. HasHeaderAt found.1 found.0) }
-    ensures end { IfOk result (λ found. EndsHeaderAt found.1) }
+) -> Result<(Header, Lines<'_>), LineFault>
+    requires { HasReadAt version lines (VersionLine version ∷ RouterLine router ∷ []) }
+    ensures read { IfOk result (λ found. HasHeaderAt version found.1 found.0) }
     ensures text { IfOk result (λ found. found.1.text.now ≡ lines.entry.text.now) }
     ensures fault { IfErr result (IsFaultOf lines.entry.text.now) }
 {
-    let mut header = Header::new(alloc, router);
+    match version {
+        Version::One => Ok((Header::new(alloc, router, false), lines)),
+        Version::Two => read_compat(alloc, router, lines),
+    }
+}
+
+// In version 2 the third line says whether RFC1583Compatibility is enabled.
+fn read_compat(
+    alloc: Global,
+    router: u32,
+    lines: Lines<'_>,
+) -> Result<(Header, Lines<'_>), LineFault>
+    requires { HasReadAt version_value.Two lines (VersionLine version_value.Two ∷ RouterLine router ∷ []) }
+    ensures read { IfOk result (λ found. HasHeaderAt version_value.Two found.1 found.0) }
+    ensures text { IfOk result (λ found. found.1.text.now ≡ lines.entry.text.now) }
+    ensures fault { IfErr result (IsFaultOf lines.entry.text.now) }
+{
+    let Some((line, after)) = lines.next() else {
+        return Err(lines.fault(Fault::Truncated));
+    };
+    let Some(form) = read_form(Version::Two, line) else {
+        return Err(lines.fault(Fault::Line));
+    };
+    match form {
+        LineForm::Compat(compat) => Ok((Header::new(alloc, router, compat), after)),
+        _ => Err(lines.fault(Fault::Order)),
+    }
+}
+
+// The configuration, with the areas and ranges that the lines of the header say, and what is left behind it.
+fn read_areas(
+    alloc: Global,
+    version: Version,
+    header: Header,
+    lines: Lines<'_>,
+) -> Result<(Config, Lines<'_>), LineFault>
+    requires { HasHeaderAt version lines header }
+    ensures read { IfOk result (λ found. HasHeaderAt version found.1 found.0) }
+    ensures end { IfOk result (λ found. EndsHeaderAt version found.1) }
+    ensures text { IfOk result (λ found. found.1.text.now ≡ lines.entry.text.now) }
+    ensures fault { IfErr result (IsFaultOf lines.entry.text.now) }
+{
+    let mut header = header;
     let mut left = lines;
-    while let Some(after) = read_header_line(alloc, left, &mut header)? {
+    while let Some(after) = read_header_line(alloc, version, left, &mut header)? {
         left = after;
     }
     match header.into_config() {
@@ -111,14 +168,15 @@ fn read_header(
 // One more line of the header, and what is left behind it; none where the header ends.
 fn read_header_line<'a>(
     alloc: Global,
+    version: Version,
     lines: Lines<'a>,
     header: &mut Header,
 ) -> Result<Option<Lines<'a>>, LineFault>
-    requires { HasHeaderAt lines header.old }
-    ensures read { IfOk result (λ next. IfSome next (λ after. HasHeaderAt after header.new)) }
+    requires { HasHeaderAt version lines header.old }
+    ensures read { IfOk result (λ next. IfSome next (λ after. HasHeaderAt version after header.new)) }
     ensures text { IfOk result (λ next. IfSome next (λ after. after.text.now ≡ lines.entry.text.now)) }
     ensures shorter { IfOk result (λ next. IfSome next (λ after. lines.entry.start + 1 ≤ after.start)) }
-    ensures end { IfOk result (λ next. IsNone next → EndsHeaderAt lines.entry) }
+    ensures end { IfOk result (λ next. IsNone next → EndsHeaderAt version lines.entry) }
     ensures same { IfOk result (λ next. IsNone next → header.new ≡ header.old) }
     ensures fault { IfErr result (IsFaultOf lines.entry.text.now) }
 {
@@ -126,7 +184,7 @@ fn read_header_line<'a>(
         lines.end()?;
         return Ok(None);
     };
-    let Some(form) = read_form(line) else {
+    let Some(form) = read_form(version, line) else {
         return Ok(None);
     };
     match header.add(alloc, &form) {
@@ -137,19 +195,24 @@ fn read_header_line<'a>(
 }
 
 // The recording of the configuration and of the lines that are left.
-fn read_lines(alloc: Global, config: Config, lines: Lines<'_>) -> Result<Recording, LineFault>
-    requires { HasLinesAt lines (record { config = config; lines = [] }) }
+fn read_lines(
+    alloc: Global,
+    version: Version,
+    config: Config,
+    lines: Lines<'_>,
+) -> Result<Recording, LineFault>
+    requires { HasLinesAt lines (record { version = version; config = config; lines = [] }) }
     ensures text { IfOk result (IsText lines.entry.text.now) }
     ensures fault { IfErr result (IsFaultOf lines.entry.text.now) }
 {
     let mut found = Vec::new(alloc);
     let mut left = lines;
     while let Some((line, after)) = left.next() {
-        if let Err(fault) = add_line(alloc, line, &mut found) {
+        if let Err(fault) = add_line(alloc, version, line, &mut found) {
             return Err(left.fault(fault));
         }
         left = after;
     }
     left.end()?;
-    Ok(Recording::of_tested(config, found))
+    Ok(Recording::of_tested(version, config, found))
 }

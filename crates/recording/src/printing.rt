@@ -1,13 +1,15 @@
 //! The text of a recording.
-ghost use Rattle.std.specs.Prelude.{◌≡◌, ◌++◌, All, OnOk, OnErr, Some, cond, codes, string_bytes, take, vec_len};
+ghost use Rattle.std.specs.Prelude.{◌≡◌, ◌++◌, All, OnOk, OnErr, Some, false, cond, codes, string_bytes, take, vec_len};
 ghost use Rattle.std.specs.List.{join_with_byte};
 ghost use Rattle.lsa_codec.specs.Spelling.{spelling};
-ghost use Rattle.recording.specs.Forms.{VersionLine, RouterLine, AreaLine, RangeLine, BodyLine, InterfaceLine, InstallLine, FlushLine, PurgeLine, LookupLine, IsForm, IsKind, scope_text, stub_words, key_words};
-ghost use Rattle.recording.specs.Recordings.{IsText, IsWhole, HasKind, HasWholeLsa, text_of, text_of_forms, header_forms, area_forms, event_form, form_of, ended};
+ghost use Rattle.recording.specs.Forms.{RouterLine, AreaLine, RangeLine, BodyLine, InterfaceLine, InstallLine, FlushLine, PurgeLine, LookupLine, IsForm, IsKind, scope_text, stub_words, key_words};
+ghost use Rattle.recording.specs.Recordings.{IsText, IsWhole, HasKind, HasWholeLsa, text_of, text_of_forms, first_forms, header_forms, area_forms, event_form, form_of, ended};
 ghost use Rattle.recording.specs.declared.line.Line.TheVariants as line;
+ghost use Rattle.recording.specs.declared.version.Version.TheVariants as version;
 
 use crate::line::Line;
 use crate::recording::Recording;
+use crate::version::Version;
 use event_state::Event;
 use lsa_codec::Checked;
 use ospf_types::address::Address;
@@ -39,7 +41,7 @@ fn append_lines(alloc: Global, recording: &Recording, out: &mut Vec<u8>) -> Resu
     ensures text { OnOk result (IsText (text_of recording.now) recording.now) }
 {
     let mut text = String::new(alloc);
-    append_header(recording.config(), &mut text)?;
+    append_header(recording.version(), recording.config(), &mut text)?;
     out.extend_from_slice(text.as_bytes())?;
     for line in recording.lines() {
         text.clear();
@@ -49,25 +51,51 @@ fn append_lines(alloc: Global, recording: &Recording, out: &mut Vec<u8>) -> Resu
     Ok(())
 }
 
-/// Appends the header: the version, the router, and its areas and ranges.
-pub fn append_header(config: &Config, out: &mut String) -> Result<(), Memory>
-    ensures text { OnOk result (string_bytes out.new ≡ string_bytes out.old ++ text_of_forms (header_forms config.now)) }
-    ensures forms { OnOk result (All IsForm (header_forms config.now)) }
+/// Appends the header: the version, the router, from version 2 on whether RFC1583Compatibility is enabled, and the areas
+/// with their ranges.
+pub fn append_header(version: Version, config: &Config, out: &mut String) -> Result<(), Memory>
+    ensures text { OnOk result (string_bytes out.new ≡ string_bytes out.old ++ text_of_forms (header_forms version config.now)) }
+    ensures forms { OnOk result (All IsForm (header_forms version config.now)) }
 {
-    append_router(config.router, out)?;
+    append_first(version, config.router, config.compat, out)?;
     for area in config.areas.as_slice() {
         append_area(area, out)?;
     }
     Ok(())
 }
 
-// The first line, and that of the router.
-fn append_router(router: u32, out: &mut String) -> Result<(), Memory>
-    ensures text { OnOk result (string_bytes out.new ≡ string_bytes out.old ++ (ended VersionLine ++ ended (RouterLine router))) }
+// The lines that come first, each in its place.
+fn append_first(version: Version, router: u32, compat: bool, out: &mut String) -> Result<(), Memory>
+    ensures text { OnOk result (string_bytes out.new ≡ string_bytes out.old ++ text_of_forms (first_forms version router compat)) }
+    ensures forms { OnOk result (All IsForm (first_forms version router compat)) }
+{
+    match version {
+        Version::One => append_first_of_one(router, out),
+        Version::Two => append_first_of_two(router, compat, out),
+    }
+}
+
+fn append_first_of_one(router: u32, out: &mut String) -> Result<(), Memory>
+    ensures text { OnOk result (string_bytes out.new ≡ string_bytes out.old ++ text_of_forms (first_forms version.One router false)) }
     ensures form { OnOk result (IsForm (RouterLine router)) }
 {
     write!(out, "abr 1\nrouter {}\n", Address(router))?;
     Ok(())
+}
+
+fn append_first_of_two(router: u32, compat: bool, out: &mut String) -> Result<(), Memory>
+    ensures text { OnOk result (string_bytes out.new ≡ string_bytes out.old ++ text_of_forms (first_forms version.Two router compat)) }
+    ensures form { OnOk result (IsForm (RouterLine router)) }
+{
+    let state = enabled_word(compat);
+    write!(out, "abr 2\nrouter {}\ncompat {state}\n", Address(router))?;
+    Ok(())
+}
+
+fn enabled_word(compat: bool) -> &'static str
+    ensures { result.now ≡ cond compat (codes "enabled") (codes "disabled") }
+{
+    if compat { "enabled" } else { "disabled" }
 }
 
 // The line of an area, and those of its ranges.

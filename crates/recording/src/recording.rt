@@ -1,12 +1,14 @@
 //! A recording as a value.
-ghost use Rattle.std.specs.Prelude.{◌≡◌, ◌↔◌, All, IfSome, IsNone, IsTrue, map};
+ghost use Rattle.std.specs.Prelude.{◌≡◌, ◌↔◌, false, All, IfSome, IsNone, IsTrue, map};
 ghost use Rattle.std.specs.List.Sorted.{IsStrictlySortedBy};
 ghost use Rattle.std.specs.Ordering.{nat_cmp};
 ghost use Rattle.ospf_types.specs.Network.{network_cmp};
+ghost use Rattle.recording.specs.declared.version.Version.TheVariants as version_value;
 ghost use Rattle.recording.specs.Forms.{IsKind};
 ghost use Rattle.recording.specs.Recordings.{IsRecording, IsOrdered, HasKind};
 
 use crate::line::Line;
+use crate::version::Version;
 use config_faults::fault_in;
 use event_state::Event;
 use ospf_types::config::{AreaConfig, Config, Range};
@@ -15,9 +17,10 @@ use std::marker::Model;
 
 /// The configuration of a router, and what happened then. The configuration has none of the faults 40
 /// to 44, areas ascend by Area ID and the ranges of an area by address and length, and the LS type in
-/// a key is one of the five.
+/// a key is one of the five. In version 1 RFC1583Compatibility is disabled.
 #[derive(Debug)]
 pub struct Recording {
+    version: Version,
     config: Config,
     lines: Vec<Line>,
 }
@@ -26,6 +29,7 @@ pub struct Recording {
 impl Drop for Recording {
     fn drop(self) {
         let Recording {
+            version: _,
             config: _config,
             lines: _lines,
         } = self;
@@ -37,35 +41,52 @@ impl Model for Recording {
 
     ghost Value = { RecordingValue };
 
-    ghost view = { λ r. record { config = r.config; lines = r.lines.items } };
+    ghost view = { λ r. record { version = r.version; config = r.config; lines = r.lines.items } };
 
-    ghost invariant = { λ r. IsRecording (record { config = r.config; lines = r.lines.items }) };
+    ghost invariant = { λ r. IsRecording (record { version = r.version; config = r.config; lines = r.lines.items }) };
 }
 
 impl Recording {
-    /// The recording of a configuration and of what happened then. `None` where the configuration has
-    /// one of the faults 40 to 44, its areas or ranges are not in order, or an LS type in a key is none
-    /// of the five.
-    pub fn of(config: Config, lines: Vec<Line>) -> Option<Recording>
-        ensures some { IfSome result (λ r. r ≡ record { config = config; lines = lines.items }) }
+    /// The recording, in this version of the format, of a configuration and of what happened then. `None` where the
+    /// configuration has one of the faults 40 to 44, its areas or ranges are not in order, an LS type in a key is none of
+    /// the five, or the version is 1 and RFC1583Compatibility is enabled.
+    pub fn of(version: Version, config: Config, lines: Vec<Line>) -> Option<Recording>
+        ensures some { IfSome result (λ r. r ≡ record { version = version; config = config; lines = lines.items }) }
         ensures kept { IfSome result IsRecording }
-        ensures none { IsNone result → ¬ IsRecording (record { config = config; lines = lines.items }) }
+        ensures none { IsNone result → ¬ IsRecording (record { version = version; config = config; lines = lines.items }) }
     {
-        let tested = fault_in(&config).is_none()
+        let tested = has_compat(version, config.compat)
+            && fault_in(&config).is_none()
             && has_order(config.areas.as_slice())
             && has_kinds(lines.as_slice());
         if !tested {
             return None;
         }
-        Some(Recording { config, lines })
+        Some(Recording {
+            version,
+            config,
+            lines,
+        })
     }
 
-    // The same for a caller that has tested them.
-    pub(crate) fn of_tested(config: Config, lines: Vec<Line>) -> Recording
-        requires { IsRecording (record { config = config; lines = lines.items }) }
-        ensures { result ≡ record { config = config; lines = lines.items } }
+    // The recording of parts that the caller has tested.
+    pub(crate) fn of_tested(version: Version, config: Config, lines: Vec<Line>) -> Recording
+        requires { IsRecording (record { version = version; config = config; lines = lines.items }) }
+        ensures { result ≡ record { version = version; config = config; lines = lines.items } }
     {
-        Recording { config, lines }
+        Recording {
+            version,
+            config,
+            lines,
+        }
+    }
+
+    /// The version of the format.
+    pub fn version(&self) -> Version
+        ensures value { result ≡ self.now.version }
+        ensures kept { IsRecording self.now }
+    {
+        self.version
     }
 
     pub fn config(&self) -> &Config
@@ -83,15 +104,27 @@ impl Recording {
         self.lines.as_slice()
     }
 
-    /// The configuration, and what happened.
-    pub fn into_parts(self) -> (Config, Vec<Line>)
-        ensures config { result.0 ≡ self.config }
-        ensures lines { result.1.items ≡ self.lines }
+    /// The version of the format, the configuration, and what happened.
+    pub fn into_parts(self) -> (Version, Config, Vec<Line>)
+        ensures version { result.0 ≡ self.version }
+        ensures config { result.1 ≡ self.config }
+        ensures lines { result.2.items ≡ self.lines }
         ensures kept { IsRecording self }
     {
-        let Recording { config, lines } = self;
-        (config, lines)
+        let Recording {
+            version,
+            config,
+            lines,
+        } = self;
+        (version, config, lines)
     }
+}
+
+// Whether a recording of the version can say so.
+fn has_compat(version: Version, compat: bool) -> bool
+    ensures { IsTrue result ↔ (version ≡ version_value.One → compat ≡ false) }
+{
+    version != Version::One || !compat
 }
 
 // Whether areas ascend by Area ID, and the ranges of each by address and length.

@@ -9,12 +9,12 @@ use Rattle.ospf_types.specs.declared.config.Config.{Config}
 use Rattle.recording.specs.declared.line.Line.{Line}
 use Rattle.recording.specs.declared.line.Line.TheVariants as line
 use Rattle.recording.specs.Recordings.{RecordingValue, text_of, text_of_forms, header_forms, form_of, ended}
-use Rattle.recording.specs.Forms.{Form}
 use Rattle.recording.specs.declared.show.Show.{Show}
+use Rattle.recording.specs.declared.version.Version.{Version}
 use Rattle.recording.specs.declared.show.Show.TheVariants as show
 use Rattle.replay.specs.Lines.{first_number, serial_line, event_line}
 use Rattle.replay.specs.Runs.{Answers, Prints, IsOpened}
-use Rattle.replay.specs.Outputs.{IsRun, IsShown, IsOutput, IsCut, PrintsRun, Replays, ReplaysPart, journal_of}
+use Rattle.replay.specs.Outputs.{IsRun, IsShown, IsOutput, PrintsRun, Replays, ReplaysPart, journal_of}
 use Rattle.replay.specs.Pages.{Adds, AddsPart, Ran, RanPart, IsRunTo}
 use Rattle.replay.specs.Parts.{IsRead, WritesOutput, WritesPart}
 use Rattle.replay.proofs.Written.{appends_none}
@@ -23,14 +23,14 @@ use Rattle.replay.proofs.Paging.{adds_put, adds_more, adds_moved, part_more, par
 pub none_written : (r : RecordingValue) (s : Show) (a : Option (List ℕ)) → WritesPart r s a a
 none_written r s a = record { part = []; is = inl refl; written = appends_none a }
 
-is_run : (old new : CoreValue) (lines : List Line) (answers : Answers) (text : List ℕ) → IsOpened old.config old → Prints old (first_number old.config) lines answers text new
-    → IsRun (record { config = old.config; lines = lines }) answers text new
-is_run old new lines answers text opening run = record { opened = old; opening = opening; run = run }
+is_run : (v : Version) (old new : CoreValue) (lines : List Line) (answers : Answers) (text : List ℕ) → IsOpened old.config old → Prints old (first_number v old.config) lines answers text new
+    → IsRun (record { version = v; config = old.config; lines = lines }) answers text new
+is_run v old new lines answers text opening run = record { opened = old; opening = opening; run = run }
 
 -- the run ended early
-pub run_cut : (old : CoreValue) (lines : List Line) (s : Show) (a b : Option (List ℕ)) (before : List ℕ) → IsOpened old.config old → PrintsRun s → before ≡ []
-    → RanPart old (first_number old.config) lines a b before → WritesPart (record { config = old.config; lines = lines }) s a b
-run_cut old lines s a b before opening prints none h =
+pub run_cut : (v : Version) (old : CoreValue) (lines : List Line) (s : Show) (a b : Option (List ℕ)) (before : List ℕ) → IsOpened old.config old → PrintsRun s → before ≡ []
+    → RanPart old (first_number v old.config) lines a b before → WritesPart (record { version = v; config = old.config; lines = lines }) s a b
+run_cut v old lines s a b before opening prints none h =
     let part : AddsPart a b h.text = subst (λ w. AddsPart a b (w ++ h.text)) none h.part in
     record {
       part = part.part;
@@ -40,7 +40,7 @@ run_cut old lines s a b before opening prints none h =
         answers = h.answers;
         printed = h.text;
         now = h.now;
-        run = is_run old h.now _ h.answers h.text opening h.run;
+        run = is_run v old h.now _ h.answers h.text opening h.run;
         part = part.beginning;
       }));
       written = part.appended;
@@ -68,15 +68,15 @@ whole_written r s a b c page last h moved none =
 
 -- ---- a run whose lines are printed, and behind it what is shown
 
-module _ (old new : CoreValue) (lines : List Line) (s : Show) (a b c : Option (List ℕ)) (before page put tail : List ℕ) (opening : IsOpened old.config old)
-    (none : before ≡ []) (ran : Ran old (first_number old.config) lines new a b before page) (serial : put ≡ page ++ serial_line new) (shown : (printed : List ℕ) → IsShown s printed new ((printed ++ serial_line new) ++ tail)) where
-  output : IsOutput (record { config = old.config; lines = lines }) s ran.answers ((ran.text ++ serial_line new) ++ tail)
-  output = record { printed = ran.text; closed = new; run = is_run old new lines ran.answers ran.text opening ran.run; shown = shown ran.text }
+module _ (v : Version) (old new : CoreValue) (lines : List Line) (s : Show) (a b c : Option (List ℕ)) (before page put tail : List ℕ) (opening : IsOpened old.config old)
+    (none : before ≡ []) (ran : Ran old (first_number v old.config) lines new a b before page) (serial : put ≡ page ++ serial_line new) (shown : (printed : List ℕ) → IsShown v s printed new ((printed ++ serial_line new) ++ tail)) where
+  output : IsOutput (record { version = v; config = old.config; lines = lines }) s ran.answers ((ran.text ++ serial_line new) ++ tail)
+  output = record { printed = ran.text; closed = new; run = is_run v old new lines ran.answers ran.text opening ran.run; shown = shown ran.text }
 
   printed : Adds a b [] put (ran.text ++ serial_line new)
   printed = adds_put a b [] page ran.text put (serial_line new) (subst (λ w. Adds a b w page ran.text) none ran.printed) serial
 
-  pub shown_whole : (moved : List ℕ) → Adds b c put moved tail → Whole (record { config = old.config; lines = lines }) s a c moved
+  pub shown_whole : (moved : List ℕ) → Adds b c put moved tail → Whole (record { version = v; config = old.config; lines = lines }) s a c moved
   shown_whole moved more = record {
     answers = ran.answers;
     whole = (ran.text ++ serial_line new) ++ tail;
@@ -84,8 +84,8 @@ module _ (old new : CoreValue) (lines : List Line) (s : Show) (a b c : Option (L
     printed = adds_more a b c [] put moved (ran.text ++ serial_line new) tail printed more;
   }
 
-  pub shown_cut : AddsPart b c (put ++ tail) → WritesPart (record { config = old.config; lines = lines }) s a c
-  shown_cut stopped = output_cut (record { config = old.config; lines = lines }) s ran.answers ((ran.text ++ serial_line new) ++ tail) a c output (part_more a b c [] put (ran.text ++ serial_line new) tail printed stopped)
+  pub shown_cut : AddsPart b c (put ++ tail) → WritesPart (record { version = v; config = old.config; lines = lines }) s a c
+  shown_cut stopped = output_cut (record { version = v; config = old.config; lines = lines }) s ran.answers ((ran.text ++ serial_line new) ++ tail) a c output (part_more a b c [] put (ran.text ++ serial_line new) tail printed stopped)
 
 -- ---- the journal, alone
 
@@ -93,46 +93,46 @@ event_lines : (events : List Event) → flat_map ended (map form_of (map line.Ev
 event_lines [] = refl
 event_lines (e ∷ events) = ap (λ l. event_line e ++ l) (event_lines events)
 
-pub journal_text : (c : CoreValue) → text_of (journal_of c) ≡ text_of_forms (header_forms c.config) ++ flat_map event_line c.journal
-journal_text c = flat_map-append ended (header_forms c.config) (map form_of (map line.Event c.journal)) ∙ ap (λ l. text_of_forms (header_forms c.config) ++ l) (event_lines c.journal)
+pub journal_text : (v : Version) (c : CoreValue) → text_of (journal_of v c) ≡ text_of_forms (header_forms v c.config) ++ flat_map event_line c.journal
+journal_text v c = flat_map-append ended (header_forms v c.config) (map form_of (map line.Event c.journal)) ∙ ap (λ l. text_of_forms (header_forms v c.config) ++ l) (event_lines c.journal)
 
-module _ (old new : CoreValue) (lines : List Line) (a b : Option (List ℕ)) (before put : List ℕ) (config : Config) (events : List Event) (opening : IsOpened old.config old) (none : before ≡ [])
-    (taken : IsRunTo old lines new) (same : config ≡ new.config) (header : put ≡ before ++ text_of_forms (header_forms config)) (journal : events ≡ new.journal) where
-  journal_output : IsOutput (record { config = old.config; lines = lines }) show.Journal (taken (first_number old.config)).0 (put ++ flat_map event_line events)
+module _ (v : Version) (old new : CoreValue) (lines : List Line) (a b : Option (List ℕ)) (before put : List ℕ) (config : Config) (events : List Event) (opening : IsOpened old.config old) (none : before ≡ [])
+    (taken : IsRunTo old lines new) (same : config ≡ new.config) (header : put ≡ before ++ text_of_forms (header_forms v config)) (journal : events ≡ new.journal) where
+  journal_output : IsOutput (record { version = v; config = old.config; lines = lines }) show.Journal (taken (first_number v old.config)).0 (put ++ flat_map event_line events)
   journal_output =
-      let (answers, text, run) = taken (first_number old.config) in
+      let (answers, text, run) = taken (first_number v old.config) in
       record {
         printed = text;
         closed = new;
-        run = is_run old new lines answers text opening run;
-        shown = ap (λ l. l ++ flat_map event_line events) (header ∙ ap (λ l. l ++ text_of_forms (header_forms config)) none ∙ ap (λ (c : Config). text_of_forms (header_forms c)) same)
-            ∙ ap (λ (es : List Event). text_of_forms (header_forms new.config) ++ flat_map event_line es) journal ∙ sym (journal_text new);
+        run = is_run v old new lines answers text opening run;
+        shown = ap (λ l. l ++ flat_map event_line events) (header ∙ ap (λ l. l ++ text_of_forms (header_forms v config)) none ∙ ap (λ (c : Config). text_of_forms (header_forms v c)) same)
+            ∙ ap (λ (es : List Event). text_of_forms (header_forms v new.config) ++ flat_map event_line es) journal ∙ sym (journal_text v new);
       }
 
-  pub journal_whole : (moved : List ℕ) → Adds a b put moved (flat_map event_line events) → Whole (record { config = old.config; lines = lines }) show.Journal a b moved
+  pub journal_whole : (moved : List ℕ) → Adds a b put moved (flat_map event_line events) → Whole (record { version = v; config = old.config; lines = lines }) show.Journal a b moved
   journal_whole moved more = record {
-    answers = (taken (first_number old.config)).0;
+    answers = (taken (first_number v old.config)).0;
     whole = put ++ flat_map event_line events;
     is = journal_output;
     printed = record { written = more.written; appended = more.appended; joined = more.joined };
   }
 
-  pub journal_cut : AddsPart a b (put ++ flat_map event_line events) → WritesPart (record { config = old.config; lines = lines }) show.Journal a b
-  journal_cut stopped = output_cut (record { config = old.config; lines = lines }) show.Journal (taken (first_number old.config)).0 (put ++ flat_map event_line events) a b journal_output stopped
+  pub journal_cut : AddsPart a b (put ++ flat_map event_line events) → WritesPart (record { version = v; config = old.config; lines = lines }) show.Journal a b
+  journal_cut stopped = output_cut (record { version = v; config = old.config; lines = lines }) show.Journal (taken (first_number v old.config)).0 (put ++ flat_map event_line events) a b journal_output stopped
 
 -- ---- the whole replay
 
 -- the parts are those of the recording
-whole_of : (r : RecordingValue) (config : Config) (lines : List Line) → config ≡ r.config → lines ≡ r.lines → record { config = config; lines = lines } ≡ r
-whole_of r config lines same_config same_lines = λ i. record { config = same_config i; lines = same_lines i }
+whole_of : (r : RecordingValue) (v : Version) (config : Config) (lines : List Line) → v ≡ r.version → config ≡ r.config → lines ≡ r.lines → record { version = v; config = config; lines = lines } ≡ r
+whole_of r v config lines same_version same_config same_lines = λ i. record { version = same_version i; config = same_config i; lines = same_lines i }
 
-pub output_of : (s : Show) (old new : Option (List ℕ)) (r : RecordingValue) (config : Config) (lines : List Line) → config ≡ r.config → lines ≡ r.lines
-    → WritesOutput (record { config = config; lines = lines }) s old new → WritesOutput r s old new
-output_of s old new r config lines same_config same_lines h = subst (λ (q : RecordingValue). WritesOutput q s old new) (whole_of r config lines same_config same_lines) h
+pub output_of : (s : Show) (old new : Option (List ℕ)) (r : RecordingValue) (v : Version) (config : Config) (lines : List Line) → v ≡ r.version → config ≡ r.config → lines ≡ r.lines
+    → WritesOutput (record { version = v; config = config; lines = lines }) s old new → WritesOutput r s old new
+output_of s old new r v config lines same_version same_config same_lines h = subst (λ (q : RecordingValue). WritesOutput q s old new) (whole_of r v config lines same_version same_config same_lines) h
 
-pub part_of : (s : Show) (old new : Option (List ℕ)) (r : RecordingValue) (config : Config) (lines : List Line) → config ≡ r.config → lines ≡ r.lines
-    → WritesPart (record { config = config; lines = lines }) s old new → WritesPart r s old new
-part_of s old new r config lines same_config same_lines h = subst (λ (q : RecordingValue). WritesPart q s old new) (whole_of r config lines same_config same_lines) h
+pub part_of : (s : Show) (old new : Option (List ℕ)) (r : RecordingValue) (v : Version) (config : Config) (lines : List Line) → v ≡ r.version → config ≡ r.config → lines ≡ r.lines
+    → WritesPart (record { version = v; config = config; lines = lines }) s old new → WritesPart r s old new
+part_of s old new r v config lines same_version same_config same_lines h = subst (λ (q : RecordingValue). WritesPart q s old new) (whole_of r v config lines same_version same_config same_lines) h
 
 pub replays : (s : Show) (before after old new : Option (List ℕ)) (r : RecordingValue) → IsRead before after r → WritesOutput r s old new → Replays s before after old new
 replays s before after old new r read h =

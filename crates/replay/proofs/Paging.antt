@@ -1,11 +1,9 @@
 -- What is printed line by line: a part of it is written, and the end of it is on the page.
 use Rattle.std.proofs.Common.{◌≡◌, ℕ, suc, ◌<◌, ◌+◌, List, length, get_or, drop, add-one, drop-cons, [], ◌∷◌, ◌++◌, Option, refl, sym, ap, subst, ◌∙◌, append_assoc, append-nil}
 use Rattle.std.specs.List.{flat_map}
-use Rattle.std.specs.Io.KnownBytes.{Appends}
 use Rattle.event_core.specs.Dues.{listed}
 use Rattle.event_core.specs.Lists.{AreaDuesValue}
 use Rattle.replay.specs.Lines.{area_lines}
-use Rattle.replay.specs.Outputs.{IsBeginning}
 use Rattle.replay.specs.Pages.{Adds, AddsPart}
 use Rattle.replay.proofs.Written.{appends_none, appends_more}
 

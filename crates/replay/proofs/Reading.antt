@@ -1,9 +1,14 @@
 -- A recording that was read has few enough lines to be numbered.
-use Rattle.std.proofs.Common.{◌≡◌, ℕ, suc, ◌<◌, ◌≤◌, ◌+◌, ◌^◌, List, [], ◌∷◌, ◌++◌, length, map, drop, Option, ap, subst, sym, arith}
+use Rattle.std.proofs.Common.{◌≡◌, ℕ, Bool, ◌<◌, ◌≤◌, ◌+◌, ◌^◌, List, [], ◌∷◌, length, map, drop, Option, ap, refl, subst, sym, arith}
 use Rattle.std.proofs.lemmas.List.{length-append, length-map}
+use Rattle.std.specs.List.{flat_map}
 use Rattle.std.specs.Io.KnownBytes.{Consumes}
 use Rattle.recording.specs.Forms.{Form, line_text}
-use Rattle.recording.specs.Recordings.{RecordingValue, IsText, text_of_forms, header_forms, forms_of, form_of, ended}
+use Rattle.ospf_types.specs.declared.config.Config.{Config}
+use Rattle.recording.specs.declared.version.Version.{Version}
+use Rattle.recording.specs.declared.version.Version.TheVariants.{One, Two}
+use Rattle.recording.specs.Places.{first_lines}
+use Rattle.recording.specs.Recordings.{RecordingValue, IsText, text_of_forms, area_forms, first_forms, header_forms, forms_of, form_of, ended}
 use Rattle.replay.specs.Lines.{first_number}
 use Rattle.replay.specs.Parts.{IsRead}
 
@@ -12,9 +17,18 @@ forms_fit : (forms : List Form) → length forms ≤ length (text_of_forms forms
 forms_fit [] = omega arith
 forms_fit (form ∷ forms) = omega (arith, forms_fit forms, length-append (ended form) (text_of_forms forms), length-append (line_text form) (10 ∷ []))
 
-lines_fit : (bytes : List ℕ) (r : RecordingValue) → IsText bytes r → first_number r.config + length r.lines ≤ length bytes + 1
+lines_fit : (bytes : List ℕ) (r : RecordingValue) → IsText bytes r → first_number r.version r.config + length r.lines ≤ length bytes + 1
 lines_fit bytes r text =
-    omega (arith, forms_fit (forms_of r), length-append (header_forms r.config) (map form_of r.lines), length-map r.lines form_of, ap length text.spelled)
+    omega (arith, forms_fit (forms_of r), length-append (header_forms r.version r.config) (map form_of r.lines), length-map r.lines form_of, ap length text.spelled)
+
+first_length : (v : Version) (router : ℕ) (compat : Bool) → length (first_forms v router compat) ≡ first_lines v
+first_length One router compat = refl
+first_length Two router compat = refl
+
+-- the lines that come first, and those of the areas
+pub header_length : (v : Version) (config : Config) → (first_lines v + 1) + length (flat_map area_forms config.areas) ≡ first_number v config
+header_length v config =
+    omega (arith, first_length v config.router config.compat, length-append (first_forms v config.router config.compat) (flat_map area_forms config.areas))
 
 -- what was read stands alone, and is the text of the recording
 pub is_read : (before after : Option (List ℕ)) (old new bytes : List ℕ) (r : RecordingValue) → old ≡ [] → bytes ≡ new → Consumes before after (drop (length old) new) → IsText bytes r → length new < 2 ^ 63

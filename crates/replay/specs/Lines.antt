@@ -25,10 +25,11 @@ use Rattle.event_core.specs.Cores.{CoreValue}
 use Rattle.recording.specs.Forms.{scope_text}
 use Rattle.event_state.specs.declared.event.Event.{Event}
 use Rattle.recording.specs.Recordings.{header_forms, event_form, ended}
+use Rattle.recording.specs.declared.version.Version.{Version}
 
 -- the number, in its recording, of the first line behind the header
-abbrev pub first_number : Config → ℕ
-first_number config = length (header_forms config) + 1
+abbrev pub first_number : Version → Config → ℕ
+first_number v config = length (header_forms v config) + 1
 
 -- the match of the address in the table that follows so many events
 abbrev pub lookup_line : (number address serial : ℕ) → Match → List ℕ

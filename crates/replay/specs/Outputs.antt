@@ -1,17 +1,16 @@
 -- What a replay prints.
-use Rattle.std.specs.Prelude.{ℕ, ◌≡◌, ◌++◌, List, [], ◌∷◌, Option, take, map, ◌⊎◌}
+use Rattle.std.specs.Prelude.{ℕ, ◌≡◌, ◌++◌, List, [], Option, take, map, ◌⊎◌}
 use Rattle.std.specs.List.{flat_map}
 use Rattle.std.specs.FinMap.{entries}
 use Rattle.std.specs.Io.KnownBytes.{Appends, Consumes}
 use Rattle.ospf_types.specs.declared.key.Scope.{Scope}
 use Rattle.ospf_types.specs.Lsa.{Lsa}
-use Rattle.event_state.specs.declared.event.Event.{Event}
 use Rattle.event_core.specs.Cores.{CoreValue, state_of}
 use Rattle.event_core.specs.Listings.{AreLsas}
-use Rattle.recording.specs.declared.line.Line.{Line}
 use Rattle.recording.specs.declared.line.Line.TheVariants as line
 use Rattle.recording.specs.Recordings.{RecordingValue, IsText, text_of}
 use Rattle.recording.specs.declared.show.Show.{Show}
+use Rattle.recording.specs.declared.version.Version.{Version}
 use Rattle.recording.specs.declared.show.Show.TheVariants as show
 use Rattle.replay.specs.Lines.{first_number, serial_line, item_line, area_lines, lsa_line}
 use Rattle.replay.specs.Runs.{Answers, Prints, IsOpened}
@@ -20,19 +19,19 @@ use Rattle.replay.specs.Runs.{Answers, Prints, IsOpened}
 pub record IsRun (r : RecordingValue) (answers : Answers) (printed : List ℕ) (closed : CoreValue) : Type 0 where
   pub opened : CoreValue
   pub opening : IsOpened r.config opened
-  pub run : Prints opened (first_number r.config) r.lines answers printed closed
+  pub run : Prints opened (first_number r.version r.config) r.lines answers printed closed
 
--- the recording of the events that were taken
-abbrev pub journal_of : CoreValue → RecordingValue
-journal_of c = record { config = c.config; lines = map line.Event c.journal }
+-- the recording, of the version, of the events that were taken
+abbrev pub journal_of : Version → CoreValue → RecordingValue
+journal_of v c = record { version = v; config = c.config; lines = map line.Event c.journal }
 
 -- The text after the run: the lines of the run, how far it came, and what is shown. What is due is shown in the order of the areas, which ascend in a
--- recording. The journal is shown alone.
-abbrev pub IsShown : Show → (printed : List ℕ) → CoreValue → (text : List ℕ) → Type 0
-IsShown show.Routes printed c text = text ≡ printed ++ serial_line c ++ flat_map item_line (entries c.table.items)
-IsShown show.Due printed c text = text ≡ printed ++ serial_line c ++ flat_map area_lines c.dues
-IsShown show.Lsdb printed c text = (lsas : List (Scope × Lsa)) × AreLsas (state_of c) lsas × (text ≡ printed ++ serial_line c ++ flat_map lsa_line lsas)
-IsShown show.Journal printed c text = text ≡ text_of (journal_of c)
+-- recording. The journal is shown alone, in the version of the recording.
+abbrev pub IsShown : Version → Show → (printed : List ℕ) → CoreValue → (text : List ℕ) → Type 0
+IsShown v show.Routes printed c text = text ≡ printed ++ serial_line c ++ flat_map item_line (entries c.table.items)
+IsShown v show.Due printed c text = text ≡ printed ++ serial_line c ++ flat_map area_lines c.dues
+IsShown v show.Lsdb printed c text = (lsas : List (Scope × Lsa)) × AreLsas (state_of c) lsas × (text ≡ printed ++ serial_line c ++ flat_map lsa_line lsas)
+IsShown v show.Journal printed c text = text ≡ text_of (journal_of v c)
 
 -- The output of a recording for a show, where its events had these answers: of those that the databases take, some may have been refused for want of
 -- memory, and some answered Behind; each of these is one of the answers.
@@ -40,7 +39,7 @@ pub record IsOutput (r : RecordingValue) (s : Show) (answers : Answers) (text : 
   pub printed : List ℕ
   pub closed : CoreValue
   pub run : IsRun r answers printed closed
-  pub shown : IsShown s printed closed text
+  pub shown : IsShown r.version s printed closed text
 
 -- the text is a beginning of the other
 pub record IsBeginning (text whole : List ℕ) : Type 0 where
@@ -61,7 +60,7 @@ pub record IsCutRun (r : RecordingValue) (s : Show) (text : List ℕ) : Type 0 w
   pub answers : Answers
   pub printed : List ℕ
   pub now : CoreValue
-  pub run : IsRun (record { config = r.config; lines = take count r.lines }) answers printed now
+  pub run : IsRun (record r { lines = take count r.lines }) answers printed now
   pub part : IsBeginning text printed
 
 -- the text is a beginning of an output

@@ -1,5 +1,5 @@
 -- The parts of a replay: a recording is read, a core is opened, and the output is printed.
-use Rattle.std.specs.Prelude.{ℕ, ◌≡◌, ◌<◌, ◌+◌, ◌^◌, List, length, Option}
+use Rattle.std.specs.Prelude.{ℕ, ◌<◌, ◌+◌, ◌^◌, List, length, Option}
 use Rattle.std.specs.Io.KnownBytes.{Appends, Consumes}
 use Rattle.recording.specs.Recordings.{RecordingValue, IsText}
 use Rattle.recording.specs.Faults.{IsFaultOf}
@@ -15,7 +15,7 @@ pub record IsRead (before after : Option (List ℕ)) (r : RecordingValue) : Type
   pub bytes : List ℕ
   pub read : Consumes before after bytes
   pub text : IsText bytes r
-  pub few : first_number r.config + length r.lines < 2 ^ 64
+  pub few : first_number r.version r.config + length r.lines < 2 ^ 64
 
 -- why a recording is not read
 abbrev pub IsReadFault : (before after : Option (List ℕ)) → ReplayFault → Type 0

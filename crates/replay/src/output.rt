@@ -10,64 +10,67 @@ use crate::page::{Stop, empty_page, write_page};
 use crate::running::{run_lines, run_silently};
 use crate::showing::{show_dues, show_events, show_items, show_lsas};
 use event_core::Core;
-use recording::{Line, append_header};
+use recording::{Line, Version, append_header};
 use std::alloc::Global;
 use std::io;
 
 /// Runs the lines on a core that was opened, and prints the run and the routing table.
 pub(crate) fn print_routes<W: io::Write>(
     alloc: Global,
+    version: Version,
     core: &mut Core,
     lines: Vec<Line>,
     out: &mut W,
 ) -> Result<(), Stop>
     requires opened { IsOpened core.old.config core.old }
-    requires few { first_number core.old.config + length lines.items < 2 ^ 64 }
-    ensures ok { OnOk result (WritesOutput (record { config = core.old.config; lines = lines.items }) show.Routes (W.contents out.old) (W.contents out.new)) }
-    ensures err { OnErr result (WritesPart (record { config = core.old.config; lines = lines.items }) show.Routes (W.contents out.old) (W.contents out.new)) }
+    requires few { first_number version core.old.config + length lines.items < 2 ^ 64 }
+    ensures ok { OnOk result (WritesOutput (record { version = version; config = core.old.config; lines = lines.items }) show.Routes (W.contents out.old) (W.contents out.new)) }
+    ensures err { OnErr result (WritesPart (record { version = version; config = core.old.config; lines = lines.items }) show.Routes (W.contents out.old) (W.contents out.new)) }
 {
     let mut page = empty_page(alloc)?;
-    run_lines(core, lines, out, &mut page)?;
+    run_lines(version, core, lines, out, &mut page)?;
     put_serial(core, &mut page)?;
     show_items(core.table(), out, &mut page)?;
     write_page(out, &mut page)?;
     Ok(())
 }
 
-/// The same, with what is due in each area.
+/// Runs the lines on a core that was opened, and prints the run and what is due in each area.
 pub(crate) fn print_due<W: io::Write>(
     alloc: Global,
+    version: Version,
     core: &mut Core,
     lines: Vec<Line>,
     out: &mut W,
 ) -> Result<(), Stop>
     requires opened { IsOpened core.old.config core.old }
-    requires few { first_number core.old.config + length lines.items < 2 ^ 64 }
-    ensures ok { OnOk result (WritesOutput (record { config = core.old.config; lines = lines.items }) show.Due (W.contents out.old) (W.contents out.new)) }
-    ensures err { OnErr result (WritesPart (record { config = core.old.config; lines = lines.items }) show.Due (W.contents out.old) (W.contents out.new)) }
+    requires few { first_number version core.old.config + length lines.items < 2 ^ 64 }
+    ensures ok { OnOk result (WritesOutput (record { version = version; config = core.old.config; lines = lines.items }) show.Due (W.contents out.old) (W.contents out.new)) }
+    ensures err { OnErr result (WritesPart (record { version = version; config = core.old.config; lines = lines.items }) show.Due (W.contents out.old) (W.contents out.new)) }
 {
     let mut page = empty_page(alloc)?;
-    run_lines(core, lines, out, &mut page)?;
+    run_lines(version, core, lines, out, &mut page)?;
     put_serial(core, &mut page)?;
     show_dues(core.dues(), out, &mut page)?;
     write_page(out, &mut page)?;
     Ok(())
 }
 
-/// The same, with all LSAs.
+/// Runs the lines on a core that was opened, and prints the run and all LSAs.
 pub(crate) fn print_lsdb<W: io::Write>(
     alloc: Global,
+    version: Version,
     core: &mut Core,
     lines: Vec<Line>,
     out: &mut W,
 ) -> Result<(), Stop>
     requires opened { IsOpened core.old.config core.old }
-    requires few { first_number core.old.config + length lines.items < 2 ^ 64 }
-    ensures ok { OnOk result (WritesOutput (record { config = core.old.config; lines = lines.items }) show.Lsdb (W.contents out.old) (W.contents out.new)) }
-    ensures err { OnErr result (WritesPart (record { config = core.old.config; lines = lines.items }) show.Lsdb (W.contents out.old) (W.contents out.new)) }
+    requires few { first_number version core.old.config + length lines.items < 2 ^ 64 }
+    ensures ok { OnOk result (WritesOutput (record { version = version; config = core.old.config; lines = lines.items }) show.Lsdb (W.contents out.old) (W.contents out.new)) }
+    ensures err { OnErr result (WritesPart (record { version = version; config = core.old.config; lines = lines.items }) show.Lsdb (W.contents out.old) (W.contents out.new)) }
 {
     let mut page = empty_page(alloc)?;
-    run_lines(core, lines, out, &mut page)?;
+    run_lines(version, core, lines, out, &mut page)?;
     let lsas = core.lsas()?;
     put_serial(core, &mut page)?;
     show_lsas(lsas, out, &mut page)?;
@@ -75,20 +78,21 @@ pub(crate) fn print_lsdb<W: io::Write>(
     Ok(())
 }
 
-/// Runs the lines, and prints the events that were taken, as a recording, alone.
+/// Runs the lines, and prints only the events that were taken, as a recording of the version.
 pub(crate) fn print_journal<W: io::Write>(
     alloc: Global,
+    version: Version,
     core: &mut Core,
     lines: Vec<Line>,
     out: &mut W,
 ) -> Result<(), Stop>
     requires { IsOpened core.old.config core.old }
-    ensures ok { OnOk result (WritesOutput (record { config = core.old.config; lines = lines.items }) show.Journal (W.contents out.old) (W.contents out.new)) }
-    ensures err { OnErr result (WritesPart (record { config = core.old.config; lines = lines.items }) show.Journal (W.contents out.old) (W.contents out.new)) }
+    ensures ok { OnOk result (WritesOutput (record { version = version; config = core.old.config; lines = lines.items }) show.Journal (W.contents out.old) (W.contents out.new)) }
+    ensures err { OnErr result (WritesPart (record { version = version; config = core.old.config; lines = lines.items }) show.Journal (W.contents out.old) (W.contents out.new)) }
 {
     let mut page = empty_page(alloc)?;
     run_silently(core, lines);
-    append_header(core.config(), &mut page)?;
+    append_header(version, core.config(), &mut page)?;
     show_events(alloc, core.journal(), out, &mut page)?;
     write_page(out, &mut page)?;
     Ok(())

@@ -16,7 +16,7 @@ use crate::page::Stop;
 use event_core::{ConfigFault, Core};
 use ospf_types::config::Config;
 use ospf_types::memory::Memory;
-use recording::{Line, Recording, Show, parse};
+use recording::{Line, Recording, Show, Version, parse};
 use std::alloc::Global;
 use std::hash::RandomState;
 use std::io;
@@ -72,13 +72,13 @@ fn print_recording<W: io::Write>(
     out: &mut W,
     show: Show,
 ) -> Result<(), Stop>
-    requires few { first_number recording.config + length recording.lines < 2 ^ 64 }
+    requires few { first_number recording.version recording.config + length recording.lines < 2 ^ 64 }
     ensures ok { OnOk result (WritesOutput recording show (W.contents out.old) (W.contents out.new)) }
     ensures err { OnErr result (WritesPart recording show (W.contents out.old) (W.contents out.new)) }
 {
-    let (config, lines) = recording.into_parts();
+    let (version, config, lines) = recording.into_parts();
     let core = open_core(alloc, config, hashing)?;
-    print_replay(alloc, core, lines, out, show)
+    print_replay(alloc, version, core, lines, out, show)
 }
 
 // The core that a run begins with. The configuration of a recording has no fault.
@@ -96,20 +96,21 @@ fn open_core(alloc: Global, config: Config, hashing: RandomState) -> Result<Core
 // Runs the lines on a core that was opened, and prints what is shown.
 fn print_replay<W: io::Write>(
     alloc: Global,
+    version: Version,
     mut core: Core,
     lines: Vec<Line>,
     out: &mut W,
     show: Show,
 ) -> Result<(), Stop>
     requires opened { IsOpened core.config core }
-    requires few { first_number core.config + length lines.items < 2 ^ 64 }
-    ensures ok { OnOk result (WritesOutput (record { config = core.config; lines = lines.items }) show (W.contents out.old) (W.contents out.new)) }
-    ensures err { OnErr result (WritesPart (record { config = core.config; lines = lines.items }) show (W.contents out.old) (W.contents out.new)) }
+    requires few { first_number version core.config + length lines.items < 2 ^ 64 }
+    ensures ok { OnOk result (WritesOutput (record { version = version; config = core.config; lines = lines.items }) show (W.contents out.old) (W.contents out.new)) }
+    ensures err { OnErr result (WritesPart (record { version = version; config = core.config; lines = lines.items }) show (W.contents out.old) (W.contents out.new)) }
 {
     match show {
-        Show::Routes => print_routes(alloc, &mut core, lines, out),
-        Show::Due => print_due(alloc, &mut core, lines, out),
-        Show::Lsdb => print_lsdb(alloc, &mut core, lines, out),
-        Show::Journal => print_journal(alloc, &mut core, lines, out),
+        Show::Routes => print_routes(alloc, version, &mut core, lines, out),
+        Show::Due => print_due(alloc, version, &mut core, lines, out),
+        Show::Lsdb => print_lsdb(alloc, version, &mut core, lines, out),
+        Show::Journal => print_journal(alloc, version, &mut core, lines, out),
     }
 }

@@ -1,5 +1,6 @@
 //! The run of a recording's lines.
-ghost use Rattle.std.specs.Prelude.{◌≡◌, [], ◌∷◌, ◌+◌, ◌^◌, ◌<◌, length, OnOk, OnErr, string_bytes};
+ghost use Rattle.std.specs.Prelude.{◌≡◌, [], ◌∷◌, ◌+◌, ◌^◌, ◌<◌, ◌≤◌, length, OnOk, OnErr, string_bytes};
+ghost use Rattle.recording.specs.Places.{first_lines};
 ghost use Rattle.replay.specs.Lines.{first_number};
 ghost use Rattle.replay.specs.Pages.{Ran, RanPart, RanLine, IsRunTo};
 
@@ -8,21 +9,22 @@ use crate::page::{Stop, spill};
 use event_core::Core;
 use ospf_types::config::Config;
 use ospf_types::memory::Memory;
-use recording::Line;
+use recording::{Line, Version};
 use std::io;
 
 /// Runs the lines behind the header, and prints what comes of them.
 pub(crate) fn run_lines<W: io::Write>(
+    version: Version,
     core: &mut Core,
     lines: Vec<Line>,
     out: &mut W,
     page: &mut String,
 ) -> Result<(), Stop>
-    requires { first_number core.old.config + length lines.items < 2 ^ 64 }
-    ensures ok { OnOk result (Ran core.old (first_number core.old.config) lines.items core.new (W.contents out.old) (W.contents out.new) (string_bytes page.old) (string_bytes page.new)) }
-    ensures err { OnErr result (RanPart core.old (first_number core.old.config) lines.items (W.contents out.old) (W.contents out.new) (string_bytes page.old)) }
+    requires { first_number version core.old.config + length lines.items < 2 ^ 64 }
+    ensures ok { OnOk result (Ran core.old (first_number version core.old.config) lines.items core.new (W.contents out.old) (W.contents out.new) (string_bytes page.old) (string_bytes page.new)) }
+    ensures err { OnErr result (RanPart core.old (first_number version core.old.config) lines.items (W.contents out.old) (W.contents out.new) (string_bytes page.old)) }
 {
-    let mut number = number_of_first(core.config());
+    let mut number = number_of_first(version, core.config());
     for line in lines {
         run_line(core, number, line, page)?;
         spill(out, page)?;
@@ -31,17 +33,28 @@ pub(crate) fn run_lines<W: io::Write>(
     Ok(())
 }
 
-/// The number of the first line behind the header, which has a line for the version, one for the router,
-/// and one for each area and each range.
-pub fn number_of_first(config: &Config) -> usize
-    requires { first_number config.now < 2 ^ 64 }
-    ensures { result ≡ first_number config.now }
+/// The number of the first line behind the header, which has the first lines of its version, and one line for each area
+/// and each range.
+pub fn number_of_first(version: Version, config: &Config) -> usize
+    requires { first_number version config.now < 2 ^ 64 }
+    ensures { result ≡ first_number version config.now }
 {
-    let mut number = 3;
+    let mut number = first_lines(version) + 1;
     for area in config.areas.as_slice() {
         number += 1 + area.ranges.len();
     }
     number
+}
+
+// How many lines come first, each in its place.
+fn first_lines(version: Version) -> usize
+    ensures value { result ≡ first_lines version }
+    ensures few { result ≤ 3 }
+{
+    match version {
+        Version::One => 2,
+        Version::Two => 3,
+    }
 }
 
 // Runs a line, and appends what comes of it.

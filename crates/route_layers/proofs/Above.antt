@@ -2,12 +2,12 @@
 --   configured: the areas of the definitions are those that are configured
 --   apart_areas: no two of them have one Area ID
 --   inter_are, external_are: what inter-area and external routes are calculated from is what the definitions speak of
---   inter_made, external_made: inputs of the same root, areas and LSAs are the same
+--   inter_made, external_made: inputs of the same root, setting, areas and LSAs are the same
 --   examined_there: the examined area has a database
 --   kept_ids: what is kept of the areas has their Area IDs
 --   inter_differ, external_differ: it differs in no more than is named
 use Rattle.std.proofs.Common.{◌≡◌, ◌≢◌, ◌<◌, ℕ, List, [], ◌∷◌, map, Option, Some, None, refl, sym, ap, subst, ◌∙◌, arith}
-use Rattle.std.specs.Prelude.{◌↔◌, IsSome}
+use Rattle.std.specs.Prelude.{◌↔◌, Bool, IsSome}
 use Rattle.std.specs.List.{Contains, AllPairs}
 use Rattle.std.specs.FinMap.{get, values}
 use Rattle.std.proofs.lemmas.List.{get_or-map, length-map}
@@ -86,6 +86,7 @@ module _ (s : State) (fit : AreFit s.config.areas s.databases) where
     pub external_are : (inter : InterValue) → IsInterRight (inputs_of s) inter → ExternalInputsOf (inputs_of s) (external_inputs s intra active inter)
     external_are inter between = record {
       router = refl;
+      compat = refl;
       areas = ids_of s s.config.areas;
       apart = apart_areas s s.config.areas fit.apart;
       lsas = lsas_same (database_of s scope.As);
@@ -95,15 +96,15 @@ module _ (s : State) (fit : AreFit s.config.areas s.databases) where
       inter = between;
     }
 
--- inputs of the same root, areas and LSAs are the same
+-- inputs of the same root, setting, areas and LSAs are the same
 pub inter_made : (s : State) (examined : Option ExaminedValue) (intra : IntraValue) (active : ActiveValue) (root : ℕ) → root ≡ s.config.router
     → record { root = root; examined = examined; intra = intra; active = active } ≡ inter_inputs s examined intra active
 inter_made s examined intra active root same = λ j. record { root = same j; examined = examined; intra = intra; active = active }
 
-pub external_made : (s : State) (intra : IntraValue) (active : ActiveValue) (inter : InterValue) (root : ℕ) (areas : List ℕ) (lsas : Database)
-    → root ≡ s.config.router → areas ≡ map (λ (a : AreaConfig). a.id) s.config.areas → lsas ≡ lsas_in (database_of s scope.As)
-    → record { root = root; areas = areas; lsas = lsas; intra = intra; active = active; inter = inter } ≡ external_inputs s intra active inter
-external_made s intra active inter root areas lsas one listed held = λ j. record { root = one j; areas = listed j; lsas = held j; intra = intra; active = active; inter = inter }
+pub external_made : (s : State) (intra : IntraValue) (active : ActiveValue) (inter : InterValue) (root : ℕ) (compat : Bool) (areas : List ℕ) (lsas : Database)
+    → root ≡ s.config.router → compat ≡ s.config.compat → areas ≡ map (λ (a : AreaConfig). a.id) s.config.areas → lsas ≡ lsas_in (database_of s scope.As)
+    → record { root = root; compat = compat; areas = areas; lsas = lsas; intra = intra; active = active; inter = inter } ≡ external_inputs s intra active inter
+external_made s intra active inter root compat areas lsas one setting listed held = λ j. record { root = one j; compat = setting j; areas = listed j; lsas = held j; intra = intra; active = active; inter = inter }
 
 -- the examined area has a database
 pub examined_there : (s : State) → AreFit s.config.areas s.databases → (id : ℕ) → (a : Area) × IsExamined (inputs_of s) a × (a.id ≡ id) → IsSome (place_of s.config.areas (scope.Area id))
@@ -148,6 +149,7 @@ module _ (s t : State) (keys : List (Scope × Key)) (ids : List ℕ) (differ : S
   pub external_differ : (inter between : InterValue) → ((d : Dest) → (Contains dests d → ⊥) → get between.entries d ≡ get inter.entries d) → ExternalInputsDiffer keys dests (external_inputs s old active inter) (external_inputs t new ranges between)
   external_differ inter between others = record {
     root = router_kept s t keys ids differ;
+    compat = ap (λ (c : Config). c.compat) differ.config;
     areas = ap (λ (c : Config). map (λ (a : AreaConfig). a.id) c.areas) differ.config;
     lsas = λ key not. bodies_differ s t keys ids differ scope.As key not;
     intra = networks;

@@ -32,6 +32,7 @@ inter_inputs s examined intra active = record { root = s.config.router; examined
 abbrev pub external_inputs : State → IntraValue → ActiveValue → InterValue → ExternalInputsValue
 external_inputs s intra active inter = record {
   root = s.config.router;
+  compat = s.config.compat;
   areas = list_map (λ (a : AreaConfig). a.id) s.config.areas;
   lsas = lsas_in (database_of s As);
   intra = intra;

@@ -106,8 +106,10 @@ pub fn build_external(
     ensures right { IfOk result (IsExternalRight (inputs_of state.now)) }
 {
     let areas = area_ids(alloc, state)?;
+    let config = state.config();
     let inputs = ExternalInputs {
-        root: state.config().router,
+        root: config.router,
+        compat: config.compat,
         areas: &areas,
         database: externals(state),
         intra,
@@ -138,8 +140,10 @@ pub fn follow_external(
     ensures exact { IfOk result (λ dests. (d : DestValue) → Contains dests.items d ↔ ExternalDiffersAt external.old external.new d) }
 {
     let areas = area_ids(alloc, state)?;
+    let config = state.config();
     let inputs = ExternalInputs {
-        root: state.config().router,
+        root: config.router,
+        compat: config.compat,
         areas: &areas,
         database: externals(state),
         intra,

@@ -110,8 +110,11 @@ fn opened(rt: &HostRuntime, limits: Option<Limits>) -> Result<State, Fail> {
     let mut areas = Areas::new(rt.alloc());
     areas.push(area(rt.alloc(), 0))?;
     areas.push(area(rt.alloc(), 1))?;
-    let router = ROOT;
-    let config = Config { router, areas };
+    let config = Config {
+        router: ROOT,
+        compat: false,
+        areas,
+    };
     let (alloc, hashing) = (rt.alloc(), RandomState::new(rt)?);
     Ok(match limits {
         None => State::new(alloc, config, hashing)?,

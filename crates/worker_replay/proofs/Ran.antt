@@ -15,6 +15,7 @@ use Rattle.publication.specs.Published.{IsTableFor}
 use Rattle.engine.specs.Answers.{AreAnswered}
 use Rattle.recording.specs.declared.line.Line.{Line}
 use Rattle.recording.specs.Recordings.{RecordingValue}
+use Rattle.recording.specs.declared.version.Version.{Version}
 use Rattle.replay.specs.Lines.{first_number}
 use Rattle.worker_replay.specs.Runs.{Answers, IsAfter, IsPrinted, events_of, lookup_in, reply_of}
 use Rattle.worker_replay.specs.Dealing.{IsDealt, AreAnsweredDealt}
@@ -85,14 +86,14 @@ has_printed name lines events lookups answers f g replies first text events_are 
 
 -- ---- the recording
 
-pub has_run : (r : RecordingValue) (name : Name) (config : Config) (lines : List Line) (first : ℕ) (text : List ℕ) (closed : CoreValue) → config ≡ r.config → lines ≡ r.lines → name.config ≡ config → first ≡ first_number config
+pub has_run : (r : RecordingValue) (name : Name) (v : Version) (config : Config) (lines : List Line) (first : ℕ) (text : List ℕ) (closed : CoreValue) → v ≡ r.version → config ≡ r.config → lines ≡ r.lines → name.config ≡ config → first ≡ first_number v config
     → HasPrinted name lines first text → closed.config ≡ name.config → closed.limits ≡ standard_limits → IsCore closed → HasRun r text closed
-has_run r name config lines first text closed config_is lines_are named number h left limits core = record {
+has_run r name v config lines first text closed version_is config_is lines_are named number h left limits core = record {
   answers = h.answers;
   is = record {
     name = name;
     named = named ∙ config_is;
-    lines = subst (λ (n : ℕ). IsPrinted name r.lines n h.answers text) (number ∙ ap first_number config_is) (subst (λ (ls : List Line). IsPrinted name ls first h.answers text) lines_are h.is);
+    lines = subst (λ (n : ℕ). IsPrinted name r.lines n h.answers text) (number ∙ ap (first_number v) config_is ∙ ap (λ (w : Version). first_number w r.config) version_is) (subst (λ (ls : List Line). IsPrinted name ls first h.answers text) lines_are h.is);
     left = record { config_is = left ∙ named ∙ config_is; limits = limits; core = core };
   };
 }

@@ -3,28 +3,29 @@ use Rattle.std.proofs.Common.{◌≡◌, ℕ, List, [], ◌++◌, Option, refl, 
 use Rattle.std.specs.Io.KnownBytes.{Appends}
 use Rattle.engine.specs.Cores.{CoreValue}
 use Rattle.recording.specs.declared.show.Show.{Show}
+use Rattle.recording.specs.declared.version.Version.{Version}
 use Rattle.replay.specs.Outputs.{IsShown}
 use Rattle.replay.specs.Pages.{Adds, AddsPart}
 use Rattle.replay.proofs.Written.{appends_none}
 use Rattle.replay.proofs.Paging.{adds_moved, part_moved}
 use Rattle.worker_replay.specs.Parts.{Writes, WritesPart}
 
-module _ (s : Show) (printed : List ℕ) (c : CoreValue) (a b : Option (List ℕ)) (front put tail : List ℕ) (same : put ≡ front) (shown : IsShown s printed c (front ++ tail)) where
+module _ (v : Version) (s : Show) (printed : List ℕ) (c : CoreValue) (a b : Option (List ℕ)) (front put tail : List ℕ) (same : put ≡ front) (shown : IsShown v s printed c (front ++ tail)) where
   -- only a beginning of it
-  pub shown_cut : AddsPart a b (put ++ tail) → WritesPart s printed c a b
+  pub shown_cut : AddsPart a b (put ++ tail) → WritesPart v s printed c a b
   shown_cut stopped = record { whole = front ++ tail; shown = shown; part = subst (λ w. AddsPart a b (w ++ tail)) same stopped }
 
   -- the end of it stood on the page, which was written in part
-  pub end_cut : (d : Option (List ℕ)) (moved : List ℕ) → Adds a b put moved tail → AddsPart b d moved → WritesPart s printed c a d
+  pub end_cut : (d : Option (List ℕ)) (moved : List ℕ) → Adds a b put moved tail → AddsPart b d moved → WritesPart v s printed c a d
   end_cut d moved added stopped = record { whole = front ++ tail; shown = shown; part = subst (λ w. AddsPart a d (w ++ tail)) same (part_moved a b d put moved tail added stopped) }
 
   -- the page was written
-  pub shown_whole : (d : Option (List ℕ)) (moved last : List ℕ) → Adds a b put moved tail → Adds b d moved last [] → last ≡ [] → Writes s printed c a d
+  pub shown_whole : (d : Option (List ℕ)) (moved last : List ℕ) → Adds a b put moved tail → Adds b d moved last [] → last ≡ [] → Writes v s printed c a d
   shown_whole d moved last added written none =
       let all = adds_moved a b d put moved last tail added written in
       let whole : all.written ≡ front ++ tail = sym (append-nil all.written) ∙ ap (λ l. all.written ++ l) (sym none) ∙ sym all.joined ∙ ap (λ w. w ++ tail) same in
       record { text = front ++ tail; shown = shown; written = subst (Appends a d) whole all.appended }
 
 -- nothing was written yet
-pub none_written : (s : Show) (printed : List ℕ) (c : CoreValue) (a : Option (List ℕ)) (whole : List ℕ) → IsShown s printed c whole → WritesPart s printed c a a
-none_written s printed c a whole shown = record { whole = whole; shown = shown; part = record { part = []; beginning = record { rest = whole; joined = refl }; appended = appends_none a } }
+pub none_written : (v : Version) (s : Show) (printed : List ℕ) (c : CoreValue) (a : Option (List ℕ)) (whole : List ℕ) → IsShown v s printed c whole → WritesPart v s printed c a a
+none_written v s printed c a whole shown = record { whole = whole; shown = shown; part = record { part = []; beginning = record { rest = whole; joined = refl }; appended = appends_none a } }

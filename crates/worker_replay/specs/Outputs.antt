@@ -13,7 +13,7 @@ pub record IsOutput (r : RecordingValue) (s : Show) (answers : Answers) (text : 
   pub printed : List ℕ
   pub closed : CoreValue
   pub run : IsRun r answers printed closed
-  pub shown : IsShown s printed closed text
+  pub shown : IsShown r.version s printed closed text
 
 -- the text is a beginning of an output
 pub record IsCutOutput (r : RecordingValue) (s : Show) (text : List ℕ) : Type 0 where

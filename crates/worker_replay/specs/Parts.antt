@@ -17,6 +17,7 @@ use Rattle.recording.specs.Recordings.{RecordingValue}
 use Rattle.recording.specs.declared.line.Line.{Line}
 use Rattle.replay.specs.declared.fault.ReplayFault.TheVariants as replay_fault
 use Rattle.recording.specs.declared.show.Show.{Show}
+use Rattle.recording.specs.declared.version.Version.{Version}
 use Rattle.replay.specs.Lines.{lookup_line, answer_line}
 use Rattle.replay.specs.Outputs.{IsShown}
 use Rattle.replay.specs.Pages.{AddsPart}
@@ -90,14 +91,14 @@ pub record HasRun (r : RecordingValue) (printed : List ℕ) (closed : CoreValue)
   pub answers : Answers
   pub is : IsRun r answers printed closed
 
--- a writer's known bytes grew by what is shown
-pub record Writes (s : Show) (printed : List ℕ) (c : CoreValue) (old new : Option (List ℕ)) : Type 0 where
+-- a writer's known bytes grew by what is shown, a journal in this version
+pub record Writes (v : Version) (s : Show) (printed : List ℕ) (c : CoreValue) (old new : Option (List ℕ)) : Type 0 where
   pub text : List ℕ
-  pub shown : IsShown s printed c text
+  pub shown : IsShown v s printed c text
   pub written : Appends old new text
 
 -- a writer's known bytes grew by a beginning of what is shown
-pub record WritesPart (s : Show) (printed : List ℕ) (c : CoreValue) (old new : Option (List ℕ)) : Type 0 where
+pub record WritesPart (v : Version) (s : Show) (printed : List ℕ) (c : CoreValue) (old new : Option (List ℕ)) : Type 0 where
   pub whole : List ℕ
-  pub shown : IsShown s printed c whole
+  pub shown : IsShown v s printed c whole
   pub part : AddsPart old new whole

@@ -86,5 +86,5 @@ pub record IsClosed (config : Config) (c : CoreValue) : Type 0 where
 pub record IsRun (r : RecordingValue) (answers : Answers) (printed : List ℕ) (closed : CoreValue) : Type 0 where
   pub name : Name
   pub named : name.config ≡ r.config
-  pub lines : IsPrinted name r.lines (first_number r.config) answers printed
+  pub lines : IsPrinted name r.lines (first_number r.version r.config) answers printed
   pub left : IsClosed r.config closed

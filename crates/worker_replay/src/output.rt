@@ -4,28 +4,30 @@ ghost use Rattle.engine.specs.Cores.{state_of};
 ghost use Rattle.engine.specs.Listings.{AreLsas};
 ghost use Rattle.replay.specs.declared.page.Stop.TheVariants as stop;
 ghost use Rattle.recording.specs.declared.show.Show.TheVariants as show_value;
+ghost use Rattle.recording.specs.declared.version.Version.{Version as VersionValue};
 ghost use Rattle.worker_replay.specs.Parts.{Writes, WritesPart};
 
 use engine::Core;
 use lsa_codec::Checked;
 use ospf_types::key::Scope;
 use ospf_types::memory::Memory;
-use recording::append_header;
+use recording::{Version, append_header};
 use replay::{Show, Stop, put_serial, show_dues, show_events, show_items, show_lsas, write_page};
 use std::alloc::Global;
 use std::io;
 
-/// Writes what `show` names of a core, and before it what was printed of the lines.
+/// Writes what `show` names of a core, and before it what was printed of the lines. A journal is written in the version.
 pub(crate) fn write_output<W: io::Write>(
     alloc: Global,
+    version: Version,
     core: &Core,
     printed: String,
     out: &mut W,
     show: Show,
 ) -> Result<(), Stop>
-    ensures ok { OnOk result (Writes show (string_bytes printed) core.now (W.contents out.old) (W.contents out.new)) }
-    ensures write { result ≡ Err stop.Write → WritesPart show (string_bytes printed) core.now (W.contents out.old) (W.contents out.new) }
-    ensures memory { result ≡ Err stop.Memory → (out.new ≡ out.old) ⊎ WritesPart show (string_bytes printed) core.now (W.contents out.old) (W.contents out.new) }
+    ensures ok { OnOk result (Writes version show (string_bytes printed) core.now (W.contents out.old) (W.contents out.new)) }
+    ensures write { result ≡ Err stop.Write → WritesPart version show (string_bytes printed) core.now (W.contents out.old) (W.contents out.new) }
+    ensures memory { result ≡ Err stop.Memory → (out.new ≡ out.old) ⊎ WritesPart version show (string_bytes printed) core.now (W.contents out.old) (W.contents out.new) }
 {
     let mut page = printed;
     match show {
@@ -37,14 +39,14 @@ pub(crate) fn write_output<W: io::Write>(
         },
         Show::Journal => {
             page.clear();
-            write_journal(alloc, core, &mut page, out)
+            write_journal(alloc, version, core, &mut page, out)
         }
     }
 }
 
 fn write_routes<W: io::Write>(core: &Core, page: &mut String, out: &mut W) -> Result<(), Stop>
-    ensures ok { OnOk result (Writes show_value.Routes (string_bytes page.old) core.now (W.contents out.old) (W.contents out.new)) }
-    ensures err { OnErr result (WritesPart show_value.Routes (string_bytes page.old) core.now (W.contents out.old) (W.contents out.new)) }
+    ensures ok { OnOk result ((v : VersionValue) → Writes v show_value.Routes (string_bytes page.old) core.now (W.contents out.old) (W.contents out.new)) }
+    ensures err { OnErr result ((v : VersionValue) → WritesPart v show_value.Routes (string_bytes page.old) core.now (W.contents out.old) (W.contents out.new)) }
 {
     put_serial(core, page)?;
     show_items(core.table(), out, page)?;
@@ -53,8 +55,8 @@ fn write_routes<W: io::Write>(core: &Core, page: &mut String, out: &mut W) -> Re
 }
 
 fn write_due<W: io::Write>(core: &Core, page: &mut String, out: &mut W) -> Result<(), Stop>
-    ensures ok { OnOk result (Writes show_value.Due (string_bytes page.old) core.now (W.contents out.old) (W.contents out.new)) }
-    ensures err { OnErr result (WritesPart show_value.Due (string_bytes page.old) core.now (W.contents out.old) (W.contents out.new)) }
+    ensures ok { OnOk result ((v : VersionValue) → Writes v show_value.Due (string_bytes page.old) core.now (W.contents out.old) (W.contents out.new)) }
+    ensures err { OnErr result ((v : VersionValue) → WritesPart v show_value.Due (string_bytes page.old) core.now (W.contents out.old) (W.contents out.new)) }
 {
     put_serial(core, page)?;
     show_dues(core.dues(), out, page)?;
@@ -69,8 +71,8 @@ fn write_lsdb<W: io::Write>(
     out: &mut W,
 ) -> Result<(), Stop>
     requires { AreLsas (state_of core.now) lsas.items }
-    ensures ok { OnOk result (Writes show_value.Lsdb (string_bytes page.old) core.now (W.contents out.old) (W.contents out.new)) }
-    ensures err { OnErr result (WritesPart show_value.Lsdb (string_bytes page.old) core.now (W.contents out.old) (W.contents out.new)) }
+    ensures ok { OnOk result ((v : VersionValue) → Writes v show_value.Lsdb (string_bytes page.old) core.now (W.contents out.old) (W.contents out.new)) }
+    ensures err { OnErr result ((v : VersionValue) → WritesPart v show_value.Lsdb (string_bytes page.old) core.now (W.contents out.old) (W.contents out.new)) }
 {
     put_serial(core, page)?;
     show_lsas(lsas, out, page)?;
@@ -81,15 +83,16 @@ fn write_lsdb<W: io::Write>(
 // On an empty page.
 fn write_journal<W: io::Write>(
     alloc: Global,
+    version: Version,
     core: &Core,
     page: &mut String,
     out: &mut W,
 ) -> Result<(), Stop>
     requires { string_bytes page.old ≡ [] }
-    ensures ok { OnOk result (Writes show_value.Journal [] core.now (W.contents out.old) (W.contents out.new)) }
-    ensures err { OnErr result (WritesPart show_value.Journal [] core.now (W.contents out.old) (W.contents out.new)) }
+    ensures ok { OnOk result (Writes version show_value.Journal [] core.now (W.contents out.old) (W.contents out.new)) }
+    ensures err { OnErr result (WritesPart version show_value.Journal [] core.now (W.contents out.old) (W.contents out.new)) }
 {
-    append_header(core.config(), page)?;
+    append_header(version, core.config(), page)?;
     show_events(alloc, core.journal(), out, page)?;
     write_page(out, page)?;
     Ok(())

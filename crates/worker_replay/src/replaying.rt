@@ -47,8 +47,9 @@ pub fn replay_many<S: Threads + Wait + Sync, R: io::Read, W: io::Write>(
         Ok(recording) => recording,
         Err(fault) => return Err(ManyFault::Replay(fault)),
     };
+    let version = recording.version();
     let (printed, core) = run_recording(rt, alloc, hashing, recording, workers)?;
-    match write_output(alloc, &core, printed, out, show) {
+    match write_output(alloc, version, &core, printed, out, show) {
         Ok(()) => Ok(()),
         Err(Stop::Write) => Err(ManyFault::Replay(ReplayFault::Write)),
         Err(Stop::Memory) => Err(ManyFault::Replay(ReplayFault::Memory)),

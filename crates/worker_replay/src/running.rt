@@ -29,12 +29,12 @@ pub(crate) fn run_recording<S: Threads + Wait + Sync>(
     workers: usize,
 ) -> Result<(String, Core), ManyFault>
     requires workers { AreWorkers workers }
-    requires few { first_number recording.config + length recording.lines < 2 ^ 64 }
+    requires few { first_number recording.version recording.config + length recording.lines < 2 ^ 64 }
     ensures run { IfOk result (λ r. HasRun recording (string_bytes r.0) r.1) }
     ensures fault { IfErr result IsRunFault }
 {
-    let (config, lines) = recording.into_parts();
-    let first = number_of_first(&config);
+    let (version, config, lines) = recording.into_parts();
+    let first = number_of_first(version, &config);
     let (engine, forwarder) = open_engine(rt, alloc, config, hashing)?;
     let printed = run_lines(rt, alloc, &engine, forwarder, lines, first, workers);
     let core = engine.close(rt);

@@ -1,9 +1,10 @@
-use Rattle.std.proofs.Common.{sym, ◌∙◌}
-use Rattle.recording.proofs.Saying.{read_says, read_none}
+use Rattle.recording.specs.Reading.{said_by}
+use Rattle.recording.proofs.Saying.{form_said, no_form_said}
 use Rattle.recording.proofs.form.read_form.Goals as goal
 
-pub returns-clause-says : goal.returns-clause-says
-returns-clause-says c = read_says c.args.line.now _ c.read_behind.result (sym c.of-words.ensures ∙ c.in_ok-verb.ensures) c.read_behind.ensures
+pub returns-in_default-clause-none : goal.returns-in_default-clause-none
+returns-in_default-clause-none c = λ _. no_form_said c.args.version c.args.line.now c.in_default.ensures
 
-pub returns-clause-none : goal.returns-clause-none
-returns-clause-none c = read_none c.args.line.now _ c.read_behind.result (sym c.of-words.ensures ∙ c.in_ok-verb.ensures) c.read_behind.ensures
+pub returns-then-is_of_version-clause-says : goal.returns-then-is_of_version-clause-says
+returns-then-is_of_version-clause-says c =
+    form_said c.args.version c.args.line.now (said_by c.in-Some.form) c.in-Some.ensures.0 (c.is_of_version.ensures.0 c.if-is_of_version.true)

@@ -18,17 +18,17 @@ returns-in_err-end-clause-fault c =
 
 pub returns-in_default-read_form-clause-end : goal.returns-in_default-read_form-clause-end
 returns-in_default-read_form-clause-end c = λ _.
-    no_form_ends c.in-Some.line.now (left_in c.in-Some.after) c.in-Some.ensures.line (c.in_default-read_form.ensures.none refl)
+    no_form_ends c.args.version c.in-Some.line.now (left_in c.in-Some.after) c.in-Some.ensures.line (c.in_default-read_form.ensures.none refl)
 
 pub returns-in-Ok-true-clause-read : goal.returns-in-Ok-true-clause-read
 returns-in-Ok-true-clause-read c =
     let form = said_by c.in-Some-read_form.form in
     let h = added_line c.requires c.in-Some.line.now (left_in c.in-Some.after) c.in-Some.ensures.line form c.in-Some-read_form.ensures.says (c.in-Ok-true.ensures.next c.in-Ok-true.field-0-test) c.add.new.self c.in-Ok-true.ensures.new in
-    at_place (λ text taken. HasHeader text taken (parts_left c.in-Some.after) c.add.new.self) c.args.lines.text.now c.in-Some.after.text.now (c.args.lines.taken + 1) c.in-Some.after.taken c.in-Some.ensures.text c.in-Some.ensures.taken h
+    at_place (λ text taken. HasHeader c.args.version text taken (parts_left c.in-Some.after) c.add.new.self) c.args.lines.text.now c.in-Some.after.text.now (c.args.lines.taken + 1) c.in-Some.after.taken c.in-Some.ensures.text c.in-Some.ensures.taken h
 
 pub returns-in-Ok-false-clause-end : goal.returns-in-Ok-false-clause-end
 returns-in-Ok-false-clause-end c = λ _.
-    other_ends c.in-Some.line.now (left_in c.in-Some.after) c.in-Some.ensures.line (said_by c.in-Some-read_form.form) c.in-Some-read_form.ensures.says (sym c.in-Ok-false.ensures.header ∙ c.in-Ok-false.field-0-test)
+    other_ends c.args.version c.in-Some.line.now (left_in c.in-Some.after) c.in-Some.ensures.line (said_by c.in-Some-read_form.form) c.in-Some-read_form.ensures.says (sym c.in-Ok-false.ensures.header ∙ c.in-Ok-false.field-0-test)
 
 pub returns-in-Err-clause-fault : goal.returns-in-Err-clause-fault
 returns-in-Err-clause-fault c =

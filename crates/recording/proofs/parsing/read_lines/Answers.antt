@@ -27,7 +27,7 @@ loop-line-preserved c =
     let at = c.loop-line.invariant in
     let left = c.loop-line.left in
     let added = c.in_default-add_line.ensures.added in
-    let r : List Line → RecordingValue = λ lines. record { config = c.args.config; lines = lines } in
+    let r : List Line → RecordingValue = λ lines. record { version = c.args.version; config = c.args.config; lines = lines } in
     let next = line_step at.0 c.in-Some.line.now (parts_left c.in-Some.after) c.in-Some.ensures.line (parts_full (left_in c.in-Some.after)) added.0 added.1 in
     let lines = subst (λ (ls : List Line). HasLines left.text.now (left.taken + 1) (parts_left c.in-Some.after) (r ls)) (sym added.2) next in (
       at_place (λ text taken. HasLines text taken (parts_left c.in-Some.after) (r c.add_line.new.lines.items)) left.text.now c.in-Some.after.text.now (left.taken + 1) c.in-Some.after.taken c.in-Some.ensures.text c.in-Some.ensures.taken lines,

@@ -3,7 +3,7 @@ use Rattle.recording.specs.Left.{HasLinesAt}
 use Rattle.recording.proofs.parsing.read_lines.Given as goal
 
 abbrev pub invariant-loop-line : goal.invariant-loop-line
-invariant-loop-line l = HasLinesAt l.left (record { config = l.config; lines = l.found.items }) × (l.left.text.now ≡ l.fn.lines.text.now)
+invariant-loop-line l = HasLinesAt l.left (record { version = l.version; config = l.config; lines = l.found.items }) × (l.left.text.now ≡ l.fn.lines.text.now)
 
 -- the bytes that are left
 abbrev pub decreases-loop-line : goal.decreases-loop-line

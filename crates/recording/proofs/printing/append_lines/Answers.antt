@@ -18,7 +18,7 @@ pub returns : goal.returns
 returns c =
     let header = c.in_ok-append_header.ensures in
     let written = piece_appended _ _ _ _ _ c.in_ok-extend_from_slice.ensures.items (c.as_bytes.ensures.value ∙ header.text) c.new-text.ensures.bytes in
-    let all = recording_appended _ _ _ c.args.recording.now _ _ _ c.config.ensures.value c.lines-line-items.ensures.value c.loop-line-test.false written header.forms c.loop-line.invariant in
+    let all = recording_appended _ _ _ c.args.recording.now _ _ _ _ c.version.ensures.value c.config.ensures.value c.lines-line-items.ensures.value c.loop-line-test.false written header.forms c.loop-line.invariant in
     record {
       ok = all.0.text;
       kept = grind (arith, common_steps);

@@ -1,4 +1,3 @@
-use Rattle.std.proofs.Common.{refl}
 use Rattle.replay.proofs.Written.{on_err}
 use Rattle.replay.proofs.Ends.{none_written, journal_whole, journal_cut, whole_cut, whole_written}
 use Rattle.replay.proofs.output.print_journal.Goals as goal
@@ -12,16 +11,16 @@ returns-in_err-append_header-clause-err g c = on_err c.from_residual-in_err-appe
 pub returns-in_err-show_events-clause-err : goal.returns-in_err-show_events-clause-err
 returns-in_err-show_events-clause-err g c =
     on_err c.from_residual-in_err-show_events.result
-    (journal_cut _ _ _ _ _ _ _ _ _ c.requires c.in_ok-page.ensures c.run_silently.ensures c.config.ensures.value c.in_ok-append_header.ensures.text c.journal.ensures.value c.in_err-show_events.ensures.err)
+    (journal_cut _ _ _ _ _ _ _ _ _ _ c.requires c.in_ok-page.ensures c.run_silently.ensures c.config.ensures.value c.in_ok-append_header.ensures.text c.journal.ensures.value c.in_err-show_events.ensures.err)
 
 pub returns-in_err-write_page-clause-err : goal.returns-in_err-write_page-clause-err
 returns-in_err-write_page-clause-err g c =
     on_err c.from_residual-in_err-write_page.result (whole_cut _ _ _ _ _ _
-    (journal_whole _ _ _ _ _ _ _ _ _ c.requires c.in_ok-page.ensures c.run_silently.ensures c.config.ensures.value c.in_ok-append_header.ensures.text c.journal.ensures.value _ c.in_ok-show_events.ensures.ok)
+    (journal_whole _ _ _ _ _ _ _ _ _ _ c.requires c.in_ok-page.ensures c.run_silently.ensures c.config.ensures.value c.in_ok-append_header.ensures.text c.journal.ensures.value _ c.in_ok-show_events.ensures.ok)
     c.in_err-write_page.ensures.err)
 
 pub returns-clause-ok : goal.returns-clause-ok
 returns-clause-ok g c =
     whole_written _ _ _ _ _ _ _
-    (journal_whole _ _ _ _ _ _ _ _ _ c.requires c.in_ok-page.ensures c.run_silently.ensures c.config.ensures.value c.in_ok-append_header.ensures.text c.journal.ensures.value _ c.in_ok-show_events.ensures.ok)
+    (journal_whole _ _ _ _ _ _ _ _ _ _ c.requires c.in_ok-page.ensures c.run_silently.ensures c.config.ensures.value c.in_ok-append_header.ensures.text c.journal.ensures.value _ c.in_ok-show_events.ensures.ok)
     c.in_ok-write_page.ensures.ok c.in_ok-write_page.ensures.empty

@@ -10,30 +10,30 @@ returns-in_err-page-clause-err g c = on_err c.from_residual.result (none_written
 
 pub returns-in_err-run_lines-clause-err : goal.returns-in_err-run_lines-clause-err
 returns-in_err-run_lines-clause-err g c =
-    on_err c.from_residual-in_err-run_lines.result (run_cut _ _ show.Lsdb _ _ _ c.requires.opened tt c.in_ok-page.ensures c.in_err-run_lines.ensures.err)
+    on_err c.from_residual-in_err-run_lines.result (run_cut _ _ _ show.Lsdb _ _ _ c.requires.opened tt c.in_ok-page.ensures c.in_err-run_lines.ensures.err)
 
 pub returns-in_err-lsas-clause-err : goal.returns-in_err-lsas-clause-err
 returns-in_err-lsas-clause-err g c =
-    on_err c.from_residual-in_err-lsas.result (run_cut _ _ show.Lsdb _ _ _ c.requires.opened tt c.in_ok-page.ensures (ran_whole _ _ _ _ _ _ _ _ c.in_ok-run_lines.ensures.ok))
+    on_err c.from_residual-in_err-lsas.result (run_cut _ _ _ show.Lsdb _ _ _ c.requires.opened tt c.in_ok-page.ensures (ran_whole _ _ _ _ _ _ _ _ c.in_ok-run_lines.ensures.ok))
 
 pub returns-in_err-put_serial-clause-err : goal.returns-in_err-put_serial-clause-err
 returns-in_err-put_serial-clause-err g c =
-    on_err c.from_residual-in_err-put_serial.result (run_cut _ _ show.Lsdb _ _ _ c.requires.opened tt c.in_ok-page.ensures (ran_whole _ _ _ _ _ _ _ _ c.in_ok-run_lines.ensures.ok))
+    on_err c.from_residual-in_err-put_serial.result (run_cut _ _ _ show.Lsdb _ _ _ c.requires.opened tt c.in_ok-page.ensures (ran_whole _ _ _ _ _ _ _ _ c.in_ok-run_lines.ensures.ok))
 
 pub returns-in_err-show_lsas-clause-err : goal.returns-in_err-show_lsas-clause-err
 returns-in_err-show_lsas-clause-err g c =
     on_err c.from_residual-in_err-show_lsas.result
-    (shown_cut _ _ _ show.Lsdb _ _ _ _ _ _ _ c.requires.opened c.in_ok-page.ensures c.in_ok-run_lines.ensures.ok c.in_ok-put_serial.ensures (λ printed. (c.in_ok-lsas.lsas.items, c.in_ok-lsas.ensures, refl))
+    (shown_cut _ _ _ _ show.Lsdb _ _ _ _ _ _ _ c.requires.opened c.in_ok-page.ensures c.in_ok-run_lines.ensures.ok c.in_ok-put_serial.ensures (λ printed. (c.in_ok-lsas.lsas.items, c.in_ok-lsas.ensures, refl))
     c.in_err-show_lsas.ensures.err)
 
 pub returns-in_err-write_page-clause-err : goal.returns-in_err-write_page-clause-err
 returns-in_err-write_page-clause-err g c =
     on_err c.from_residual-in_err-write_page.result (whole_cut _ _ _ _ _ _
-    (shown_whole _ _ _ show.Lsdb _ _ _ _ _ _ _ c.requires.opened c.in_ok-page.ensures c.in_ok-run_lines.ensures.ok c.in_ok-put_serial.ensures (λ printed. (c.in_ok-lsas.lsas.items, c.in_ok-lsas.ensures, refl)) _
+    (shown_whole _ _ _ _ show.Lsdb _ _ _ _ _ _ _ c.requires.opened c.in_ok-page.ensures c.in_ok-run_lines.ensures.ok c.in_ok-put_serial.ensures (λ printed. (c.in_ok-lsas.lsas.items, c.in_ok-lsas.ensures, refl)) _
     c.in_ok-show_lsas.ensures.ok) c.in_err-write_page.ensures.err)
 
 pub returns-clause-ok : goal.returns-clause-ok
 returns-clause-ok g c =
     whole_written _ _ _ _ _ _ _
-    (shown_whole _ _ _ show.Lsdb _ _ _ _ _ _ _ c.requires.opened c.in_ok-page.ensures c.in_ok-run_lines.ensures.ok c.in_ok-put_serial.ensures (λ printed. (c.in_ok-lsas.lsas.items, c.in_ok-lsas.ensures, refl)) _
+    (shown_whole _ _ _ _ show.Lsdb _ _ _ _ _ _ _ c.requires.opened c.in_ok-page.ensures c.in_ok-run_lines.ensures.ok c.in_ok-put_serial.ensures (λ printed. (c.in_ok-lsas.lsas.items, c.in_ok-lsas.ensures, refl)) _
     c.in_ok-show_lsas.ensures.ok) c.in_ok-write_page.ensures.ok c.in_ok-write_page.ensures.empty

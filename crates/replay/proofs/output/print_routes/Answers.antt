@@ -14,26 +14,26 @@ returns-in_err-page-clause-err g c = on_err c.from_residual.result (none_written
 
 pub returns-in_err-run_lines-clause-err : goal.returns-in_err-run_lines-clause-err
 returns-in_err-run_lines-clause-err g c =
-    on_err c.from_residual-in_err-run_lines.result (run_cut _ _ show.Routes _ _ _ c.requires.opened tt c.in_ok-page.ensures c.in_err-run_lines.ensures.err)
+    on_err c.from_residual-in_err-run_lines.result (run_cut _ _ _ show.Routes _ _ _ c.requires.opened tt c.in_ok-page.ensures c.in_err-run_lines.ensures.err)
 
 pub returns-in_err-put_serial-clause-err : goal.returns-in_err-put_serial-clause-err
 returns-in_err-put_serial-clause-err g c =
-    on_err c.from_residual-in_err-put_serial.result (run_cut _ _ show.Routes _ _ _ c.requires.opened tt c.in_ok-page.ensures (ran_whole _ _ _ _ _ _ _ _ c.in_ok-run_lines.ensures.ok))
+    on_err c.from_residual-in_err-put_serial.result (run_cut _ _ _ show.Routes _ _ _ c.requires.opened tt c.in_ok-page.ensures (ran_whole _ _ _ _ _ _ _ _ c.in_ok-run_lines.ensures.ok))
 
 pub returns-in_err-show_items-clause-err : goal.returns-in_err-show_items-clause-err
 returns-in_err-show_items-clause-err g c =
     on_err c.from_residual-in_err-show_items.result
-    (shown_cut _ _ _ show.Routes _ _ _ _ _ _ _ c.requires.opened c.in_ok-page.ensures c.in_ok-run_lines.ensures.ok c.in_ok-put_serial.ensures
+    (shown_cut _ _ _ _ show.Routes _ _ _ _ _ _ _ c.requires.opened c.in_ok-page.ensures c.in_ok-run_lines.ensures.ok c.in_ok-put_serial.ensures
     (λ printed. ap (λ (t : TableValue). (printed ++ serial_line c.run_lines.new.core) ++ flat_map item_line (entries t.items)) c.table.ensures.value) c.in_err-show_items.ensures.err)
 
 pub returns-in_err-write_page-clause-err : goal.returns-in_err-write_page-clause-err
 returns-in_err-write_page-clause-err g c =
     on_err c.from_residual-in_err-write_page.result (whole_cut _ _ _ _ _ _
-    (shown_whole _ _ _ show.Routes _ _ _ _ _ _ _ c.requires.opened c.in_ok-page.ensures c.in_ok-run_lines.ensures.ok c.in_ok-put_serial.ensures
+    (shown_whole _ _ _ _ show.Routes _ _ _ _ _ _ _ c.requires.opened c.in_ok-page.ensures c.in_ok-run_lines.ensures.ok c.in_ok-put_serial.ensures
     (λ printed. ap (λ (t : TableValue). (printed ++ serial_line c.run_lines.new.core) ++ flat_map item_line (entries t.items)) c.table.ensures.value) _ c.in_ok-show_items.ensures.ok) c.in_err-write_page.ensures.err)
 
 pub returns-clause-ok : goal.returns-clause-ok
 returns-clause-ok g c =
     whole_written _ _ _ _ _ _ _
-    (shown_whole _ _ _ show.Routes _ _ _ _ _ _ _ c.requires.opened c.in_ok-page.ensures c.in_ok-run_lines.ensures.ok c.in_ok-put_serial.ensures
+    (shown_whole _ _ _ _ show.Routes _ _ _ _ _ _ _ c.requires.opened c.in_ok-page.ensures c.in_ok-run_lines.ensures.ok c.in_ok-put_serial.ensures
     (λ printed. ap (λ (t : TableValue). (printed ++ serial_line c.run_lines.new.core) ++ flat_map item_line (entries t.items)) c.table.ensures.value) _ c.in_ok-show_items.ensures.ok) c.in_ok-write_page.ensures.ok c.in_ok-write_page.ensures.empty

@@ -6,4 +6,4 @@ use Rattle.replay.proofs.running.number_of_first.Given as goal
 
 -- the number, and the areas that are left
 abbrev pub invariant-loop-area : goal.invariant-loop-area
-invariant-loop-area l = l.number + length (flat_map area_forms (drop l.area-index l.fn.config.areas)) ≡ first_number l.fn.config
+invariant-loop-area l = l.number + length (flat_map area_forms (drop l.area-index l.fn.config.areas)) ≡ first_number l.fn.version l.fn.config

@@ -8,19 +8,19 @@ use Rattle.worker_replay.proofs.Shown.{shown_cut, end_cut, shown_whole, none_wri
 use Rattle.worker_replay.proofs.output.write_due.Goals as goal
 
 pub returns-in_err-put_serial-clause-err : goal.returns-in_err-put_serial-clause-err
-returns-in_err-put_serial-clause-err g c = on_err c.from_residual.result (none_written show.Due _ _ _ _ refl)
+returns-in_err-put_serial-clause-err g c = on_err c.from_residual.result (λ v. none_written v show.Due _ _ _ _ refl)
 
 pub returns-in_err-show_dues-clause-err : goal.returns-in_err-show_dues-clause-err
 returns-in_err-show_dues-clause-err g c =
-    on_err c.from_residual-in_err-show_dues.result (shown_cut show.Due _ _ _ _ _ _ _ c.in_ok-put_serial.ensures
+    on_err c.from_residual-in_err-show_dues.result (λ v. shown_cut v show.Due _ _ _ _ _ _ _ c.in_ok-put_serial.ensures
     (ap (λ (lists : List (ℕ × List Due)). (string_bytes c.args.page.now ++ serial_line c.args.core.now) ++ flat_map area_lines lists) c.dues.ensures.value) c.in_err-show_dues.ensures.err)
 
 pub returns-in_err-write_page-clause-err : goal.returns-in_err-write_page-clause-err
 returns-in_err-write_page-clause-err g c =
-    on_err c.from_residual-in_err-write_page.result (end_cut show.Due _ _ _ _ _ _ _ c.in_ok-put_serial.ensures
+    on_err c.from_residual-in_err-write_page.result (λ v. end_cut v show.Due _ _ _ _ _ _ _ c.in_ok-put_serial.ensures
     (ap (λ (lists : List (ℕ × List Due)). (string_bytes c.args.page.now ++ serial_line c.args.core.now) ++ flat_map area_lines lists) c.dues.ensures.value) _ _ c.in_ok-show_dues.ensures.ok c.in_err-write_page.ensures.err)
 
 pub returns-clause-ok : goal.returns-clause-ok
 returns-clause-ok g c =
-    shown_whole show.Due _ _ _ _ _ _ _ c.in_ok-put_serial.ensures
+    λ v. shown_whole v show.Due _ _ _ _ _ _ _ c.in_ok-put_serial.ensures
     (ap (λ (lists : List (ℕ × List Due)). (string_bytes c.args.page.now ++ serial_line c.args.core.now) ++ flat_map area_lines lists) c.dues.ensures.value) _ _ _ c.in_ok-show_dues.ensures.ok c.in_ok-write_page.ensures.ok c.in_ok-write_page.ensures.empty

@@ -5,6 +5,7 @@ use Rattle.event_state.specs.declared.event.Event.{Event}
 use Rattle.engine.specs.Cores.{CoreValue}
 use Rattle.recording.specs.Recordings.{text_of, text_of_forms, header_forms}
 use Rattle.recording.specs.declared.show.Show.TheVariants as show
+use Rattle.recording.specs.declared.version.Version.{Version}
 use Rattle.replay.specs.Lines.{event_line}
 use Rattle.replay.specs.Outputs.{journal_of}
 use Rattle.replay.proofs.Written.{on_err}
@@ -13,28 +14,28 @@ use Rattle.worker_replay.proofs.Shown.{shown_cut, end_cut, shown_whole, none_wri
 use Rattle.worker_replay.proofs.output.write_journal.Goals as goal
 
 -- the header stands on the page
-headed : (put page : List ℕ) (config : Config) (c : CoreValue) → put ≡ page ++ text_of_forms (header_forms config) → page ≡ [] → config ≡ c.config → put ≡ text_of_forms (header_forms c.config)
-headed put page config c is none same = is ∙ ap (λ w. w ++ text_of_forms (header_forms config)) none ∙ ap (λ (k : Config). text_of_forms (header_forms k)) same
+headed : (v : Version) (put page : List ℕ) (config : Config) (c : CoreValue) → put ≡ page ++ text_of_forms (header_forms v config) → page ≡ [] → config ≡ c.config → put ≡ text_of_forms (header_forms v c.config)
+headed v put page config c is none same = is ∙ ap (λ w. w ++ text_of_forms (header_forms v config)) none ∙ ap (λ (k : Config). text_of_forms (header_forms v k)) same
 
 -- the events behind it are those of the journal
-journal_shown : (c : CoreValue) (events : List Event) → events ≡ c.journal → text_of_forms (header_forms c.config) ++ flat_map event_line events ≡ text_of (journal_of c)
-journal_shown c events is = ap (λ (es : List Event). text_of_forms (header_forms c.config) ++ flat_map event_line es) is ∙ sym (journal_text c)
+journal_shown : (v : Version) (c : CoreValue) (events : List Event) → events ≡ c.journal → text_of_forms (header_forms v c.config) ++ flat_map event_line events ≡ text_of (journal_of v c)
+journal_shown v c events is = ap (λ (es : List Event). text_of_forms (header_forms v c.config) ++ flat_map event_line es) is ∙ sym (journal_text v c)
 
 pub returns-in_err-append_header-clause-err : goal.returns-in_err-append_header-clause-err
-returns-in_err-append_header-clause-err g c = on_err c.from_residual.result (none_written show.Journal [] c.args.core.now _ _ (sym (journal_text c.args.core.now)))
+returns-in_err-append_header-clause-err g c = on_err c.from_residual.result (none_written c.args.version show.Journal [] c.args.core.now _ _ (sym (journal_text c.args.version c.args.core.now)))
 
 pub returns-in_err-show_events-clause-err : goal.returns-in_err-show_events-clause-err
 returns-in_err-show_events-clause-err g c =
-    on_err c.from_residual-in_err-show_events.result (shown_cut show.Journal [] c.args.core.now _ _ _ _ _
-    (headed _ _ _ c.args.core.now c.in_ok-append_header.ensures.text c.requires c.config.ensures.value) (journal_shown c.args.core.now _ c.journal.ensures.value) c.in_err-show_events.ensures.err)
+    on_err c.from_residual-in_err-show_events.result (shown_cut c.args.version show.Journal [] c.args.core.now _ _ _ _ _
+    (headed c.args.version _ _ _ c.args.core.now c.in_ok-append_header.ensures.text c.requires c.config.ensures.value) (journal_shown c.args.version c.args.core.now _ c.journal.ensures.value) c.in_err-show_events.ensures.err)
 
 pub returns-in_err-write_page-clause-err : goal.returns-in_err-write_page-clause-err
 returns-in_err-write_page-clause-err g c =
-    on_err c.from_residual-in_err-write_page.result (end_cut show.Journal [] c.args.core.now _ _ _ _ _
-    (headed _ _ _ c.args.core.now c.in_ok-append_header.ensures.text c.requires c.config.ensures.value) (journal_shown c.args.core.now _ c.journal.ensures.value) _ _ c.in_ok-show_events.ensures.ok c.in_err-write_page.ensures.err)
+    on_err c.from_residual-in_err-write_page.result (end_cut c.args.version show.Journal [] c.args.core.now _ _ _ _ _
+    (headed c.args.version _ _ _ c.args.core.now c.in_ok-append_header.ensures.text c.requires c.config.ensures.value) (journal_shown c.args.version c.args.core.now _ c.journal.ensures.value) _ _ c.in_ok-show_events.ensures.ok c.in_err-write_page.ensures.err)
 
 pub returns-clause-ok : goal.returns-clause-ok
 returns-clause-ok g c =
-    shown_whole show.Journal [] c.args.core.now _ _ _ _ _
-    (headed _ _ _ c.args.core.now c.in_ok-append_header.ensures.text c.requires c.config.ensures.value) (journal_shown c.args.core.now _ c.journal.ensures.value) _ _ _ c.in_ok-show_events.ensures.ok c.in_ok-write_page.ensures.ok
+    shown_whole c.args.version show.Journal [] c.args.core.now _ _ _ _ _
+    (headed c.args.version _ _ _ c.args.core.now c.in_ok-append_header.ensures.text c.requires c.config.ensures.value) (journal_shown c.args.version c.args.core.now _ c.journal.ensures.value) _ _ _ c.in_ok-show_events.ensures.ok c.in_ok-write_page.ensures.ok
     c.in_ok-write_page.ensures.empty

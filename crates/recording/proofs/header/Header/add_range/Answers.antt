@@ -17,12 +17,12 @@ use Rattle.recording.proofs.header.Header.add_range.Goals.{in-None, in-Some}
 pub returns-clause-new : goal.returns-clause-new
 returns-clause-new c =
     let inside = c.self.inside in
-    let more : Config → Config = λ k. record { router = k.router; areas = with_range k.areas c.args.range } in
+    let more : Config → Config = λ k. record k { areas = with_range k.areas c.args.range } in
     let G : Type 0 = the_view c.match-self.self-inside ≡ more c.args.self.now in
     elim c.match-self.branch [
       | in-None w ↦ subst (λ r. OnOk r G) (sym w.result-is) tt
       | in-Some w ↦
-          subst (λ r. OnOk r G) (sym w.result-is) (on_ok_weaker w.add_range_to.result (λ new. ap the_view w.self-inside-is ∙ (λ i. record { router = inside.router; areas = range_added inside.areas inside.last w.in-Some.last w.add_range_to.new.last c.args.range w.in-Some.is new i }) ∙ ap more c.self.view_is) w.add_range_to.ensures.new)
+          subst (λ r. OnOk r G) (sym w.result-is) (on_ok_weaker w.add_range_to.result (λ new. ap the_view w.self-inside-is ∙ (λ i. record { router = inside.router; compat = inside.compat; areas = range_added inside.areas inside.last w.in-Some.last w.add_range_to.new.last c.args.range w.in-Some.is new i }) ∙ ap more c.self.view_is) w.add_range_to.ensures.new)
     ]
 
 refusal : (now : Config) (a : AreaConfig) (area : ℕ) (range : Range) (f : Fault) → last_of now.areas ≡ Some a → (f ≡ fault.Memory) ⊎ ((f ≡ fault.Order) × (is_next_range (Some a) area range ≡ false)) → IsRefusal now.areas (RangeLine area range) f
