@@ -24,15 +24,10 @@ def library(folder):
 def run(words, folder, number=0):
     """The status, the output and the fault lines of a run whose growth of this number is refused, and its count of growths."""
     counted = os.path.join(folder, "counted")
-    if os.path.exists(counted):
-        os.remove(counted)
     more = {"LD_PRELOAD": os.path.join(folder, "refuse.so"), "REFUSED": str(number), "COUNTED": counted}
     done = subprocess.run(words, capture_output=True, timeout=SECONDS, env={**os.environ, **more}, check=False)
-    try:
-        with open(counted, encoding="ascii") as file:
-            count = int(file.read())
-    except (OSError, ValueError):
-        count = None
+    with open(counted, "rb") as file:
+        count = int.from_bytes(file.read(), sys.byteorder)
     return done.returncode, done.stdout, done.stderr, count
 
 
@@ -41,7 +36,7 @@ def each_refusal(words, folder):
     number = 1
     while True:
         status, output, faults, count = run(words, folder, number)
-        if count is not None and count < number:
+        if count < number:
             return
         yield number, status, output, faults
         number += 1

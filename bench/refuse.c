@@ -1,38 +1,42 @@
 /* Put in front of the C library by LD_PRELOAD, this counts the calls of malloc and realloc, from 1, and refuses the one whose
-   number REFUSED says. When the program ends it writes into the file that COUNTED names how many calls there were. */
+   number REFUSED says. The file that COUNTED names has at each moment how many calls there were: a number of this machine, of
+   8 bytes. */
 #define _GNU_SOURCE
 #include <dlfcn.h>
 #include <errno.h>
+#include <fcntl.h>
 #include <stdatomic.h>
-#include <stdio.h>
+#include <stdint.h>
 #include <stdlib.h>
+#include <sys/mman.h>
+#include <unistd.h>
 
-static atomic_ulong calls;
-static unsigned long refused;
+static _Atomic uint64_t unnamed;
+static _Atomic uint64_t *calls = &unnamed;
+static uint64_t refused;
 static void *(*next_malloc)(size_t);
 static void *(*next_realloc)(void *, size_t);
+
+/* The number in the file; where there is none, one that nobody sees. */
+static _Atomic uint64_t *number_in(const char *name) {
+    int file = name ? open(name, O_RDWR | O_CREAT | O_TRUNC, 0600) : -1;
+    if (file < 0 || ftruncate(file, sizeof(uint64_t)) != 0)
+        return &unnamed;
+    void *page = mmap(NULL, sizeof(uint64_t), PROT_READ | PROT_WRITE, MAP_SHARED, file, 0);
+    close(file);
+    return page == MAP_FAILED ? &unnamed : page;
+}
 
 __attribute__((constructor)) static void begin(void) {
     next_malloc = dlsym(RTLD_NEXT, "malloc");
     next_realloc = dlsym(RTLD_NEXT, "realloc");
+    calls = number_in(getenv("COUNTED"));
     const char *number = getenv("REFUSED");
-    refused = number ? strtoul(number, NULL, 10) : 0;
-    atomic_store(&calls, 0);
-}
-
-__attribute__((destructor)) static void end(void) {
-    unsigned long count = atomic_load(&calls);
-    refused = 0;
-    const char *name = getenv("COUNTED");
-    FILE *file = name ? fopen(name, "w") : NULL;
-    if (file) {
-        fprintf(file, "%lu\n", count);
-        fclose(file);
-    }
+    refused = number ? strtoull(number, NULL, 10) : 0;
 }
 
 static int is_refused(void) {
-    if (atomic_fetch_add(&calls, 1) + 1 != refused)
+    if (atomic_fetch_add(calls, 1) + 1 != refused)
         return 0;
     errno = ENOMEM;
     return 1;
