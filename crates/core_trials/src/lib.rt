@@ -4,7 +4,7 @@
 
 mod trial;
 
-pub use trial::{applied, events_of, items};
+pub use trial::{NETWORK, applied, events_of, items, with_stubs};
 
 #[cfg(test)]
 mod answers;
