@@ -1,6 +1,6 @@
 -- Runs of events, and one event more.
 use Rattle.std.proofs.Common.{◌≡◌, ℕ, ◌≤◌, take, List, [], ◌∷◌, ◌++◌, length, Option, Some, None, refl, sym, ap, subst, ◌∙◌, arith}
-use Rattle.std.specs.Prelude.{false, ◌↔◌, ◌<◌, Result, Ok, Err, OnOk, OnErr}
+use Rattle.std.specs.Prelude.{false, ◌↔◌, ◌<◌, Result, Ok, Err, IfOk, OnOk, OnErr}
 use Rattle.std.proofs.lemmas.List.{length-append, take-append-le, take_all}
 use Rattle.ospf_types.specs.declared.config.Config.{Config}
 use Rattle.ospf_types.specs.Lsa.{key_of}
@@ -19,8 +19,9 @@ use Rattle.event_core.specs.Right.{IsRight, AreDue}
 use Rattle.event_core.specs.declared.reply.Reply.{Reply}
 use Rattle.event_core.specs.declared.reply.Standing.{Standing}
 use Rattle.event_core.specs.declared.reply.Standing.TheVariants.{Current, Behind}
-use Rattle.event_core.specs.Cores.{CoreValue, IsCore, IsTaken, Stands, HasBoundedWork, NamesChanges, state_of}
+use Rattle.event_core.specs.Cores.{CoreValue, IsCore, IsTaken, Applies, Tells, Stands, HasBoundedWork, NamesChanges, state_of}
 use Rattle.event_core.specs.Kept.{core_of, IsCoherent}
+use Rattle.event_state.specs.declared.refusal.Refusal.{Refusal}
 use Rattle.config_faults.specs.Configs.{config_fault_of}
 use Rattle.ospf_types.specs.declared.memory.Memory.{Memory}
 use Rattle.calculation.specs.Totals.{IsBuildWork}
@@ -220,3 +221,10 @@ pub record IsOutcome (s u : State) (r : RoutesValue) (built : ℕ) (result : Res
   pub state_is : state ≡ u
   pub still_is : still ≡ built
   pub settled : IsSettled s u r built result new
+
+-- ---- a run of several events
+
+-- what is told after one of them
+pub tells : (old : CoreValue) (e : Event) (r : Result Reply Refusal) (new : CoreValue) → Applies old e r new → IfOk r (λ reply. NamesChanges old reply.state new) → IfOk r (λ reply. HasBoundedWork old reply.state new) → Tells old r new
+tells old e (Ok reply) new applied changes work = (changes, work)
+tells old e (Err refusal) new applied changes work = (ap (λ (c : CoreValue). c.changes) applied.unchanged, ap (λ (c : CoreValue). c.work) applied.unchanged)

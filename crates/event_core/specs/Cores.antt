@@ -86,10 +86,15 @@ abbrev pub HasBoundedWork : CoreValue → Standing → CoreValue → Type 0
 HasBoundedWork old Current new = (IsCurrent old → IsEventWork (state_of old) (state_of new) new.work) × ((IsCurrent old → ⊥) → IsBuildWork (state_of new) new.work)
 HasBoundedWork old Behind new = new.work ≡ no_work
 
--- the answers to events, one after the other
+-- what `changes` and `work` tell after an event: of one that was taken its own, after a refusal what they told before
+abbrev pub Tells : CoreValue → Result Reply Refusal → CoreValue → Type 0
+Tells old (Ok reply) new = NamesChanges old reply.state new × HasBoundedWork old reply.state new
+Tells old (Err refusal) new = (new.changes ≡ old.changes) × (new.work ≡ old.work)
+
+-- the answers to events, one after the other; so what is told in the end is told of the last that was taken, or as before
 abbrev pub Runs : CoreValue → List Event → List (Result Reply Refusal) → CoreValue → Type 0
 Runs old [] [] new = new ≡ old
-Runs old (e ∷ es) (r ∷ rs) new = (mid : CoreValue) × Applies old e r mid × Runs mid es rs new
+Runs old (e ∷ es) (r ∷ rs) new = (mid : CoreValue) × Applies old e r mid × Tells old r mid × Runs mid es rs new
 Runs old [] (r ∷ rs) new = ⊥
 Runs old (e ∷ es) [] new = ⊥
 
