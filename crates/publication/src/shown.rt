@@ -2,7 +2,7 @@
 ghost use Rattle.std.specs.Prelude.{◌≡◌, IfOk};
 ghost use Rattle.publication.specs.Updates.{face_of};
 
-use crate::history::{Front, Token};
+use crate::history::Front;
 use crate::setting::Setting;
 use left_right::Absorb;
 use ospf_types::config::Config;
@@ -11,10 +11,10 @@ use route_table::{Change, Table};
 use std::alloc::{AllocError, Global};
 use std::marker::Model;
 
-/// The name of an engine, for contracts alone. It has no bytes.
+/// The name of an engine, for contracts alone.
 #[derive(Drop)]
 pub struct Tag {
-    seen: Token,
+    front: Front,
     config: Setting,
 }
 
@@ -23,7 +23,7 @@ impl Model for Tag {
 
     ghost Value = { Name };
 
-    ghost view = { λ t. record { book = t.seen.book; config = t.config } };
+    ghost view = { λ t. record { book = t.front.book; config = t.config } };
 }
 
 impl Tag {
@@ -31,7 +31,7 @@ impl Tag {
         ensures { result ≡ record { book = front.now.book; config = config.now } }
     {
         Tag {
-            seen: front.token(),
+            front: front.again(),
             config: Setting::of(config),
         }
     }
