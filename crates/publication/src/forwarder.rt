@@ -161,6 +161,12 @@ impl Seen {
         self.front.len()
     }
 
+    /// How many changes were made to the published table since the engine was opened. Events that change little publish few:
+    /// one for each network whose item differs, and one for the serial. For tests.
+    pub fn changes(&self) -> u64 {
+        self.reading.get().changes
+    }
+
     /// Ends the look. What was seen is known from now on.
     pub fn leave(self) -> Forwarder
         ensures { result ≡ record { name = self.name; known = self.list } }

@@ -43,6 +43,8 @@ pub struct Shown {
     pub table: Table,
     pub front: Front,
     pub config: Setting,
+    /// How many changes were made to the table since the engine was opened.
+    pub changes: u64,
 }
 
 impl Shown {
@@ -54,7 +56,14 @@ impl Shown {
             table: copy_of(alloc, table)?,
             front: front.again(),
             config: Setting::of(config),
+            changes: 0,
         })
+    }
+
+    fn count(&mut self)
+        ensures { face_of self.new ≡ face_of self.old }
+    {
+        self.changes = self.changes.wrapping_add(1);
     }
 }
 
@@ -92,7 +101,10 @@ impl Absorb<Update> for Shown {
 
     fn absorb_first(&mut self, operation: &Update, other: &Shown) -> Result<(), AllocError> {
         match operation {
-            Update::Change(change) => self.table.absorb_first(change, &other.table)?,
+            Update::Change(change) => {
+                self.table.absorb_first(change, &other.table)?;
+                self.count();
+            }
             Update::List(front) => self.front = front.again(),
         }
         Ok(())
@@ -101,7 +113,10 @@ impl Absorb<Update> for Shown {
     fn absorb_second(&mut self, operation: Update, other: &Shown) -> Result<(), Update> {
         match operation {
             Update::Change(change) => match self.table.absorb_second(change, &other.table) {
-                Ok(()) => Ok(()),
+                Ok(()) => {
+                    self.count();
+                    Ok(())
+                }
                 Err(change) => Err(Update::Change(change)),
             },
             Update::List(front) => {
