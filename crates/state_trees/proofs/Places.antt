@@ -5,7 +5,7 @@
 --   fit_lsas: they are fit
 --   interface_at, interface_from: an interface is among the entries just where its id finds it
 use Rattle.std.proofs.Common.{◌≡◌, ℕ, ◌<◌, true, false, List, [], ◌∷◌, ◌++◌, length, get_or, Option, Some, None, Ordering, refl, sym, ap, subst, ◌∙◌, ◌⊎◌, ⊎_elim}
-use Rattle.std.specs.Prelude.{IsSome, is_some, option_map, option_and_then}
+use Rattle.std.specs.Prelude.{IsSome, option_map, option_and_then}
 use Rattle.std.specs.Ordering.{nat_cmp}
 use Rattle.std.specs.Cmp.{nat_cmp_total}
 use Rattle.std.specs.List.{Contains}
@@ -22,7 +22,7 @@ use Rattle.lsdb.specs.Databases.{Database}
 use Rattle.lsdb.specs.Contents.{used_at, contents_of}
 use Rattle.area_trees.specs.Areas.{AreaTreeValue, body_at}
 use Rattle.intra.specs.Inputs.{AreaValue}
-use Rattle.event_state.specs.States.{State, AreApart, place_of, database_of, usable_at}
+use Rattle.event_state.specs.States.{State, place_of, database_of, usable_at}
 use Rattle.event_state.specs.Held.{IsFit, AreFit}
 use Rattle.event_state.proofs.HeldStates.{fit_empty}
 use Rattle.event_state.proofs.Places.{place_there}
