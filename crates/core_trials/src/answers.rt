@@ -90,7 +90,8 @@ fn answers(rt: &HostRuntime, text: &str) -> Result<String, Fail> {
 fn what_no_longer_counts_changes_nothing(rt: HostRuntime) -> Result<(), Fail> {
     let aged = answers(&rt, AGED)?;
     let flushed = answers(&rt, FLUSHED)?;
-    let right = aged.as_str() == "1 true 0\n2 true 1\n26 NotMaxAge\n3 true 0\n4 false 0\n5 false 0\n";
+    let right = aged.as_str()
+        == "1 true 0\n2 true 1\n26 NotMaxAge\n3 true 0\n4 false 0\n5 false 0\n";
     assert!(rt;
         right
             && flushed.as_str()

@@ -97,7 +97,9 @@ fn bytes_behind_the_links_are_no_lsa(rt: HostRuntime) -> Result<(), Fail> {
     longest.extend_from_slice(&[0; 3])?;
     put(&mut longest, 18, &[0xff, 0xff])?;
     seal(&mut longest)?;
-    assert!(rt; longest.len() == 65535 && read(rt.alloc(), &longest).err() == Some(WireFault::Shape));
+    assert!(rt;
+        longest.len() == 65535 && read(rt.alloc(), &longest).err() == Some(WireFault::Shape)
+    );
     Ok(())
 }
 
