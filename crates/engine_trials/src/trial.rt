@@ -76,7 +76,7 @@ pub fn look(forwarder: Forwarder) -> (Forwarder, Option<u64>)
             let serial = seen.serial();
             (seen.leave(), Some(serial))
         }
-        Err(forwarder) => (forwarder, None),
+        Err(unseen) => (unseen.into_forwarder(), None),
     }
 }
 
