@@ -24,6 +24,9 @@ use std::hash::RandomState;
 use std::marker::Model;
 use std::sync::{Mutex, Wait};
 
+#[cfg(test)]
+mod tests;
+
 const MOST_READERS: usize = 64;
 
 /// The databases, the routing table and the due summaries of an area border router, for threads that share them. One event
