@@ -1,0 +1,11 @@
+pub use Rattle.engine.specs.Answers
+pub use Rattle.engine.specs.Bytes
+pub use Rattle.engine.specs.Opens
+pub use Rattle.engine.specs.Cores
+pub use Rattle.engine.specs.Right
+pub use Rattle.engine.specs.Listings
+pub use Rattle.publication.specs.Names
+pub use Rattle.publication.specs.Published
+pub use Rattle.publication.specs.Forwarders
+pub use Rattle.publication.specs.Told
+pub use Rattle.route_table.specs.Tables
