@@ -7,7 +7,8 @@ pub use engine::{
     Answer, BytesFault, ConfigFault, Core, Due, DueList, Engine, Event, Forwarder, Gate, Open,
     OpenFault, Refusal, Refused, Reply, Seen, Standing, Told,
 };
-pub use lsa_codec::{Checked, WireFault, read, sum_of, write};
+pub use event_core::{Touched, fault_in};
+pub use lsa_codec::{Checked, External, Header, Link, LinkKind, WireFault, read, sum_of, write};
 pub use ospf_types::address::Address;
 pub use ospf_types::config::{AreaConfig, Areas, Config, Range, Ranges, Stub};
 pub use ospf_types::entry::{Entry, PathType, Paths};
