@@ -1,5 +1,6 @@
 pub use Rattle.engine.specs.Answers
 pub use Rattle.engine.specs.Bytes
+pub use Rattle.engine.specs.Gates
 pub use Rattle.engine.specs.Opens
 pub use Rattle.engine.specs.Cores
 pub use Rattle.engine.specs.Right
@@ -7,5 +8,6 @@ pub use Rattle.engine.specs.Listings
 pub use Rattle.publication.specs.Names
 pub use Rattle.publication.specs.Published
 pub use Rattle.publication.specs.Forwarders
+pub use Rattle.publication.specs.Unseen
 pub use Rattle.publication.specs.Told
 pub use Rattle.route_table.specs.Tables

@@ -1,11 +1,10 @@
-//! All that a program needs which links an OSPF area border router (RFC 2328): the core or the engine, with the events,
-//! the configuration and the answers that they speak of. No code stands here; each name is that of the crate below, with
-//! its contract.
+//! What a program needs to link an OSPF area border router (RFC 2328): the core, the engine, and their events,
+//! configuration and answers. No code stands here; each name is that of a crate below, with its contract.
 #![tactic(auto)]
 
 pub use engine::{
     Answer, BytesFault, ConfigFault, Core, Due, DueList, Engine, Event, Forwarder, Gate, Open,
-    OpenFault, Refusal, Refused, Reply, Seen, Standing, Told,
+    OpenFault, Refusal, Refused, Reply, Seen, Standing, Told, Unseen,
 };
 pub use event_core::{Touched, fault_in};
 pub use lsa_codec::{Checked, External, Header, Link, LinkKind, WireFault, read, sum_of, write};

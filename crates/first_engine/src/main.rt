@@ -42,7 +42,7 @@ fn main(rt: HostRuntime) -> anyhow::Result<()> {
             drop(seen.leave());
             printed
         }
-        Err(_) => println!(rt; "no entry to the table"),
+        Err(_) => println!(rt; "nothing was seen"),
     };
     let core = engine.close(&rt);
     // readme: end
