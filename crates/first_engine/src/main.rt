@@ -34,7 +34,7 @@ fn main(rt: HostRuntime) -> anyhow::Result<()> {
     // readme: begin engine
     // Two workers hand in the bytes of an LSA each, and are told a token.
     let (one, two) = work(&rt, &engine);
-    // Whichever was first, from here on each look is at a table that has both LSAs.
+    // From here on each look is at a table that has the events of both tokens.
     let forwarder = learn(learn(forwarder, one), two);
     let printed = match forwarder.lookup(0xcb00_71c8) {
         Ok(seen) => {
