@@ -1,10 +1,7 @@
 -- The work in an area is small: each vertex that a link leads to has a number below 2^32, and a repair or a build takes and writes each vertex so often at most.
-use Rattle.std.proofs.Common.{◌≡◌, ◌≢◌, ℕ, zero, suc, ◌+◌, ◌*◌, ◌<◌, ◌≤◌, List, [], ◌∷◌, length, refl, sym, ap, subst, ◌∙◌, ◌⊎◌, inl, inr, arith}
-use Rattle.std.specs.Prelude.{◌↔◌}
+use Rattle.std.proofs.Common.{◌≡◌, ◌≢◌, ℕ, zero, suc, ◌*◌, ◌<◌, ◌≤◌, List, [], ◌∷◌, length, refl, sym, ap, subst, ◌∙◌, ◌⊎◌, inl, inr, arith}
 use Rattle.std.specs.List.{Contains}
-use Rattle.std.specs.FinMap.{get}
 use Rattle.std.proofs.lemmas.Bool.{cases_lt}
-use Rattle.ospf_types.specs.declared.config.AreaConfig.{AreaConfig}
 use Rattle.ospf_types.specs.declared.entry.Vertex.{Vertex}
 use Rattle.ospf_types.specs.declared.entry.Vertex.TheVariants.{Router, Network}
 use Rattle.ospf_types.specs.declared.hop.NextHop.{NextHop}
@@ -13,15 +10,14 @@ use Rattle.ospf_types.specs.Distances.{Links, TakenLink, Leads, IsPath, IsFirst,
 use Rattle.ospf_types.specs.Inputs.{Inputs, Area}
 use Rattle.ospf_types.specs.Links.{IsRouter, IsNetwork, IsLink}
 use Rattle.ospf_types.specs.Lsa.{Lsa, RouterLink}
-use Rattle.ospf_types.proofs.Elements.{no_element, first_element, later_element, first_or_later}
+use Rattle.ospf_types.proofs.Elements.{first_element, later_element}
 use Rattle.lsdb.specs.Databases.{Database}
 use Rattle.vertex_graph.specs.Graphs.{number_of}
 use Rattle.vertex_graph.specs.Up.{Up}
-use Rattle.spf.specs.Touched.{Touched}
 use Rattle.spf.specs.TreeValues.{IsWorkForAll}
 use Rattle.spf.proofs.Counting.{no_longer}
 use Rattle.area_trees.specs.Areas.{AreaTreeValue, IsAreaTree, IsAreaOf}
-use Rattle.area_trees.specs.Work.{IsWorkOf, HasOtherHops}
+use Rattle.area_trees.specs.Work.{IsWorkOf}
 use Rattle.area_trees.proofs.Held.{under_key}
 use Rattle.area_trees.proofs.Inside.{distance_in}
 
@@ -106,9 +102,9 @@ change_small n root s t a b had has taken sets small other_small work =
     let written : (v : Vertex) → Contains work.written v → Contains (below n) v = λ v c. elim (cases_lt (number_of v) n) [
       | inl less ↦ is_below n v less
       | inr more ↦ absurd ((work.written_exact v).0 c (λ h. (
-          λ after. absurd (omega (arith, more, hop_small n t b other_small root has v h after)),
-          λ before. absurd (omega (arith, more, hop_small n s a small root had v h before)),
-        )))
+        λ after. absurd (omega (arith, more, hop_small n t b other_small root has v h after)),
+        λ before. absurd (omega (arith, more, hop_small n s a small root had v h before)),
+      )))
     ] in (
       omega (arith, twice n, work.taken_twice_most (below n) (λ v d other distance. is_below n v (path_small n t b other_small root has v distance.reached.0 other distance.reached.1))),
       omega (arith, twice n, work.sets_are, no_longer work.written (below n) work.written_apart written),

@@ -1,5 +1,5 @@
 -- The sum of the works of an event is never cut.
-use Rattle.std.proofs.Common.{◌≡◌, ℕ, suc, ◌*◌, ◌≤◌, ◌<◌, List, [], ◌∷◌, length, sym, ap, ◌∙◌, ⊎_elim, inl, inr, subst, refl, arith}
+use Rattle.std.proofs.Common.{◌≡◌, ℕ, suc, ◌*◌, ◌≤◌, List, [], ◌∷◌, length, sym, ap, ◌∙◌, ⊎_elim, subst, refl, arith}
 use Rattle.std.specs.Prelude.{min, None}
 use Rattle.std.specs.List.{Contains, sum_by}
 use Rattle.std.proofs.lemmas.List.Elements.{All-weaker, All-contains_itself}
@@ -79,8 +79,8 @@ module _ (s t : State) (fit : AreFit s.config.areas s.databases) (other_fit : Ar
       let after = small_area (inputs_of t) (area_of t a) _ two.0.0 (area_is t other_fit a two.0.0 two.0.1) in
       let rest = changes_small areas trees others works one.1 two.1 done.1 in (
         more_small w works
-        (change_small 4294967296 s.config.router (inputs_of s) (inputs_of t) (area_of s a) (area_of t a) (IsVertex (area_of s a) (Router s.config.router)) (IsVertex (area_of t a) (Router t.config.router)) w.taken w.hop_sets before after done.0)
-        rest.0,
+            (change_small 4294967296 s.config.router (inputs_of s) (inputs_of t) (area_of s a) (area_of t a) (IsVertex (area_of s a) (Router s.config.router)) (IsVertex (area_of t a) (Router t.config.router)) w.taken w.hop_sets before after done.0)
+            rest.0,
         ap (λ (n : ℕ). suc n) rest.1,
       )
 
