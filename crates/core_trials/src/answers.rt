@@ -111,12 +111,10 @@ fn is_followed(core: &mut Core, event: Event) -> bool {
 #[test]
 fn each_event_is_followed(rt: HostRuntime) -> Result<(), Fail> {
     let (mut core, events) = opened(&rt, ALL)?;
-    let mut followed = 0u64;
+    let mut are_followed = true;
     for event in events {
-        if is_followed(&mut core, event) {
-            followed += 1;
-        }
+        are_followed &= is_followed(&mut core, event);
     }
-    assert!(rt; followed == 23 && core.built() == 23);
+    assert!(rt; are_followed && core.built() == 23);
     Ok(())
 }

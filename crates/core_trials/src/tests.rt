@@ -129,13 +129,19 @@ install as 0e0f0205644000000a0000028000000126b40024ffc00000000000070000000000000
 install as 000102050a0200000a0000028000000190a50024ffff0000000000050000000000000000\n\
 install as 0e1002050a0200000a0000028000000190a50024ffff0000000000050000000000000000\n";
 
-// Whether the answer fits what the table then has: the old routes after a refusal and where it is behind, else the new,
-// with nothing built anew.
+// Whether the answer fits what the table then has: the old routes after a refusal and where it is behind, else the new.
 fn fits(core: &Core, answer: Result<Reply, Refusal>, is_old: bool, is_new: bool) -> bool {
     match answer {
         Err(refusal) => refusal == Refusal::Memory && is_old && core.journal().len() == 9,
         Ok(reply) if reply.state == Standing::Behind => is_old && core.built() == 9,
-        Ok(_) => is_new && core.builds() == 1,
+        Ok(_) => is_new,
+    }
+}
+
+fn is_current(answer: Result<Reply, Refusal>) -> bool {
+    match answer {
+        Ok(reply) => reply.state == Standing::Current,
+        Err(_) => false,
     }
 }
 
@@ -188,9 +194,11 @@ fn event_of(rt: &HostRuntime, line: &str) -> Result<Event, Fail> {
 }
 
 // One more event where memory may be refused: it is refused and nothing has changed, or taken and the table is
-// behind, or all is as it is with ample memory. In the end table and due summaries are those of a fresh core.
+// behind, or all is as it is with ample memory, and nothing was built anew. In the end table and due summaries are those
+// of a fresh core.
 fn withstands(rt: &HostRuntime, line: &str) -> Result<bool, Fail> {
     let mut core = follows(rt, BORDER, "")?;
+    core.catch_up();
     let old = items(rt.alloc(), &core)?;
     let new = fresh_items(rt, line)?;
     goes_on(rt, &mut core, line, old.as_str(), new.as_str())
@@ -204,11 +212,13 @@ fn goes_on(
     new: &str,
 ) -> Result<bool, Fail> {
     let event = event_of(rt, line)?;
+    let builds = core.builds();
     let answer = core.apply(event);
+    let followed = !is_current(answer) || core.builds() == builds;
     let right = is_as_answered(rt, core, answer, old, new)?;
     let caught_up = catches_up(rt, core, answer.is_err(), line)?;
     let last = has_items(rt, core, new)?;
-    Ok(right && caught_up && last && core.built() == 10)
+    Ok(followed && right && caught_up && last && core.built() == 10)
 }
 
 // The peer's last network goes, and with it the active range.

@@ -2,8 +2,7 @@
 
 use crate::trial::{opened, published, taken};
 use core_trials::{NETWORK, with_stubs};
-use engine::{Engine, Forwarder};
-use std::sync::Wait;
+use engine::Forwarder;
 use std::test::Fail;
 
 // How many changes made the table that is seen.
@@ -17,23 +16,17 @@ fn changes(forwarder: Forwarder) -> (Forwarder, Option<u64>) {
     }
 }
 
-// The router-LSA with a hundred stub links, one of them at this metric, by its sequence number.
-fn submits<R: Wait + AllocGlobal>(rt: &R, engine: &Engine, seq: u8, metric: u8) -> bool {
-    match with_stubs(rt.alloc(), seq, metric) {
-        Ok(event) => published(rt, engine, event).is_some(),
-        Err(_) => false,
-    }
-}
-
 // The hundred networks come in the place of one: 101 changes, and the serial. Then one of them gets another cost: it is
 // set, and the serial.
 #[test]
 fn of_a_hundred_networks_one_is_published(rt: HostRuntime) -> Result<(), Fail> {
+    let hundred = with_stubs(rt.alloc(), 2, 1)?;
+    let dearer = with_stubs(rt.alloc(), 3, 7)?;
     let (engine, one, _two) = opened(&rt, NETWORK)?;
     let (one, first) = changes(one);
-    let are_many = submits(&rt, &engine, 2, 1);
+    let are_many = published(&rt, &engine, hundred).is_some();
     let (one, second) = changes(one);
-    let is_one = submits(&rt, &engine, 3, 7);
+    let is_one = published(&rt, &engine, dearer).is_some();
     let (_one, third) = changes(one);
     let count = taken(&rt, engine);
     let first = first.ok_or("a look")?;

@@ -27,9 +27,11 @@ use Rattle.ospf_types.specs.declared.memory.Memory.{Memory}
 use Rattle.calculation.specs.Totals.{IsBuildWork}
 use Rattle.calculation.specs.Works.{IsEventWork}
 use Rattle.event_core.specs.Following.{RoutesValue, AreRoutesOf, AreChanges, no_work}
+use Rattle.event_core.specs.Sums.{IsFollowingWork, IsBuildingWork}
 use Rattle.event_state.specs.Held.{AreFit}
 use Rattle.event_core.proofs.DueRight.{routes_due}
 use Rattle.event_core.proofs.RoutesRight.{routes_right}
+use Rattle.event_core.proofs.Uncut.{event_uncut, build_uncut}
 
 -- what no event changes
 pub record SameSetting (s t : State) : Type 0 where
@@ -198,9 +200,12 @@ module _ (s u : State) (r new : RoutesValue) (built : ℕ) (e : Event) (kept : I
 
   pub bounded_ok : (result : Result (Unit {0}) Memory) (now : ℕ) → now ≡ length u.journal → result ≡ Ok tt → IsSettled s u r built result new → HasBoundedWork (core_of s r built) Current (core_of u new now)
   bounded_ok (Ok x) now all ok h =
-      let after = settled_ok now all h.right in (
-        λ current. subst (λ (v : State). IsEventWork v (state_of (core_of u new now)) new.work) kept.run (subst (λ (v : State). IsEventWork s v new.work) after.run (h.bounded current)),
-        λ behind. subst (λ (v : State). IsBuildWork v new.work) after.run (h.anew behind),
+      let after = settled_ok now all h.right in
+      let config : u.config ≡ s.config = ap (λ (v : State). v.config) is ∙ (step_setting s e).config in
+      let sound : config_fault_of u.config ≡ None = ap config_fault_of config ∙ kept.core.sound in
+      let follows : built ≡ length s.journal → IsFollowingWork s u new.work = λ current. event_uncut s u r.calculation new.calculation new.work kept.core.sound config (kept.fresh current).calculation h.right.calculation (h.bounded current) in (
+        λ current. subst (λ (v : State). IsFollowingWork v (state_of (core_of u new now)) new.work) kept.run (subst (λ (v : State). IsFollowingWork s v new.work) after.run (follows current)),
+        λ behind. subst (λ (v : State). IsBuildingWork v new.work) after.run (build_uncut u new.work sound (h.anew behind)),
       )
   bounded_ok (Err m) now all ok h = absurd cc
 
