@@ -1,7 +1,9 @@
 -- What `abr replay` wrote.
 use Rattle.std.specs.Prelude.{ℕ, ◌≡◌, ◌≢◌, ◌⊎◌, ◌<◌, List, Option, Result, MatchResult}
 use Rattle.std.specs.Borrow.{Bor}
-use Rattle.std.specs.Io.KnownBytes.{Consumes}
+use Rattle.replay.specs.Inputs.{ReadsAll}
+use Rattle.replay.specs.declared.page.Stop.{Stop}
+use Rattle.replay.specs.declared.page.Stop.TheVariants as stop
 use Rattle.recording.specs.Faults.{IsFaultOf}
 use Rattle.replay.specs.declared.fault.ReplayFault.TheVariants.{Read, Write, Memory, Line}
 use Rattle.recording.specs.declared.show.Show.{Show}
@@ -27,16 +29,16 @@ fault_from file NoEntry = fault.NoEntry
 abbrev pub IsReplayed : ℕ → Show → (i i' o o' : Option (List ℕ)) → Type 0
 IsReplayed workers s i i' o o' = ((workers ≡ 1) × one.Replays s i i' o o') ⊎ ((1 < workers) × many.Replays s i i' o o')
 
--- a beginning of its output was written
-abbrev pub IsReplayedPart : ℕ → Show → (i i' o o' : Option (List ℕ)) → Type 0
-IsReplayedPart workers s i i' o o' = ((workers ≡ 1) × one.ReplaysPart s i i' o o') ⊎ ((1 < workers) × many.ReplaysPart s i i' o o')
+-- the beginning of its output was written that such a stop leaves
+abbrev pub IsReplayedPart : ℕ → Stop → Show → (i i' o o' : Option (List ℕ)) → Type 0
+IsReplayedPart workers why s i i' o o' = ((workers ≡ 1) × one.ReplaysPart why s i i' o o') ⊎ ((1 < workers) × many.ReplaysPart why s i i' o o')
 
 -- What a replay that ended early for this fault made of the input and the output. Only of several workers one may not start, or get no entry.
 abbrev pub EndsEarly : ℕ → ManyFault → Show → (i i' o o' : Option (List ℕ)) → Type 0
 EndsEarly workers (Replay Read) s i i' o o' = o' ≡ o
-EndsEarly workers (Replay Write) s i i' o o' = IsReplayedPart workers s i i' o o'
-EndsEarly workers (Replay Memory) s i i' o o' = (o' ≡ o) ⊎ IsReplayedPart workers s i i' o o'
-EndsEarly workers (Replay (Line f)) s i i' o o' = (o' ≡ o) × ((bytes : List ℕ) × Consumes i i' bytes × IsFaultOf bytes f)
+EndsEarly workers (Replay Write) s i i' o o' = IsReplayedPart workers stop.Write s i i' o o'
+EndsEarly workers (Replay Memory) s i i' o o' = (o' ≡ o) ⊎ IsReplayedPart workers stop.Memory s i i' o o'
+EndsEarly workers (Replay (Line f)) s i i' o o' = (o' ≡ o) × ((bytes : List ℕ) × ReadsAll i i' bytes × IsFaultOf bytes f)
 EndsEarly workers Spawn s i i' o o' = (1 < workers) × (o' ≡ o)
 EndsEarly workers Place s i i' o o' = (1 < workers) × (o' ≡ o)
 EndsEarly workers NoEntry s i i' o o' = (1 < workers) × (o' ≡ o)

@@ -4,16 +4,18 @@
 //! |---|---|
 //! | `$` | begins a row: the words behind `abr`, with one space between each two; `""` is a word of no letters |
 //! | `<` | a line of the input, which has its line feed |
-//! | `\|` | the end of the input, which has none |
+//! | `\|` | a part of the input, or its end, which has none |
+//! | `<*` | a part of the input, so many times: the number, and the part |
 //! | `x` | the input cannot be read |
 //! | `>` | a line of the output that is wanted |
+//! | `>*` | a part of that output, so many times |
 //! | `!` | a line that is wanted on standard error |
 //! | `?` | whatever is printed is as it is wanted |
 //! | `=` | the status that is wanted, and the end of the row |
 //! | `#` | a remark |
 
 use std::alloc::{AllocError, AllocFailed, Global};
-use std::fmt;
+use thiserror::Error;
 
 /// A command, and what is wanted of it.
 #[derive(Debug, Drop)]
@@ -30,20 +32,13 @@ pub struct Row<'a> {
 }
 
 /// Why there are no rows.
-#[derive(Clone, Copy, Debug)]
+#[derive(Clone, Copy, Debug, Error)]
 pub enum RowFault {
     /// The line has no mark, or one that may not stand there.
+    #[error("line {0} is none of a row")]
     Line(usize),
+    #[error("no memory")]
     Memory,
-}
-
-impl fmt::Display for RowFault {
-    fn fmt<W: fmt::Write>(&self, f: &mut fmt::Formatter<W>) -> fmt::Result {
-        match self {
-            RowFault::Line(line) => write!(f, "line {line} is none of a row"),
-            RowFault::Memory => f.write_str("no memory"),
-        }
-    }
 }
 
 impl From<AllocError> for RowFault {
@@ -134,6 +129,10 @@ fn go_on<'a>(mut row: Row<'a>, number: usize, line: &str) -> Result<Step<'a>, Ro
     }
     if let Some(text) = line.strip_prefix("< ") {
         add_line(&mut row.input, text)?;
+    } else if let Some(text) = line.strip_prefix("<* ") {
+        add_often(&mut row.input, number, text)?;
+    } else if let Some(text) = line.strip_prefix(">* ") {
+        add_often(&mut row.output, number, text)?;
     } else if let Some(text) = line.strip_prefix("| ") {
         row.input.extend_from_slice(text.as_bytes())?;
     } else if let Some(text) = line.strip_prefix("> ") {
@@ -154,5 +153,15 @@ fn go_on<'a>(mut row: Row<'a>, number: usize, line: &str) -> Result<Step<'a>, Ro
 fn add_line(to: &mut Vec<u8>, text: &str) -> Result<(), RowFault> {
     to.extend_from_slice(text.as_bytes())?;
     to.push(b'\n')?;
+    Ok(())
+}
+
+// Adds a part so many times.
+fn add_often(to: &mut Vec<u8>, number: usize, text: &str) -> Result<(), RowFault> {
+    let (times, part) = text.split_once(' ').ok_or(RowFault::Line(number))?;
+    let times: u16 = times.parse().map_err(|_| RowFault::Line(number))?;
+    for _ in 0..times {
+        to.extend_from_slice(part.as_bytes())?;
+    }
     Ok(())
 }

@@ -1,11 +1,12 @@
 -- The work of a change of graph and tree is that of the links before and after, as the definitions give them.
-use Rattle.std.proofs.Common.{◌≡◌, ℕ, ◌≢◌, ◌≤◌, List, length, sym, subst, ◌∙◌}
+use Rattle.std.proofs.Common.{◌≡◌, ℕ, ◌+◌, ◌*◌, ◌≢◌, ◌≤◌, List, length, sym, subst, ◌∙◌, ◌⊎◌, inl, inr}
 use Rattle.std.specs.Prelude.{◌↔◌}
 use Rattle.std.specs.FinMap.{get}
 use Rattle.std.specs.List.{Contains}
 use Rattle.ospf_types.specs.declared.entry.Vertex.{Vertex}
 use Rattle.ospf_types.specs.declared.entry.Vertex.TheVariants.{Router}
-use Rattle.ospf_types.specs.Distances.{Links}
+use Rattle.ospf_types.specs.declared.hop.NextHop.{NextHop}
+use Rattle.ospf_types.specs.Distances.{Links, IsDistance, IsHop}
 use Rattle.ospf_types.specs.Inputs.{Inputs, Area}
 use Rattle.ospf_types.specs.Links.{IsVertex, IsLink}
 use Rattle.lsdb.specs.Databases.{Database}
@@ -18,12 +19,13 @@ use Rattle.spf.specs.Members.{HasNoDoubles}
 use Rattle.spf.specs.Parts.{HadRoot, LinksBefore, hops_of}
 use Rattle.spf.specs.Repairs.{Between, IsSame, HasDiffering, AreOwed}
 use Rattle.spf.specs.Trees.{IsTree}
-use Rattle.spf.specs.TreeValues.{TreeValue, IsBounded, IsWorkDone}
+use Rattle.spf.specs.TreeValues.{TreeValue, IsReachedIn, Differs, IsBounded, IsWorkDone}
 use Rattle.spf.proofs.Before.{earlier_is}
+use Rattle.spf.proofs.Caller.{hop_of}
 use Rattle.spf.proofs.SameLinks.{same_back, distance_same, hop_same}
 use Rattle.spf.proofs.Values.{value_at, root_zero, root_has}
 use Rattle.area_trees.specs.Areas.{AreaTreeValue, IsAreaTree, IsAreaOf, IsWorkBounded}
-use Rattle.area_trees.specs.Work.{HasNewDistance, HasNewHops, IsWorkOf}
+use Rattle.area_trees.specs.Work.{HasNewDistance, HasOtherHops, IsReachedOtherwise, IsWorkOf}
 use Rattle.area_trees.proofs.Inside.{graph_ends, links_in, root_in, tree_in}
 
 -- ---- what is owed over links is owed over the same links
@@ -100,23 +102,49 @@ other_than_root r root is v = subst (λ (n : ℕ). v ≢ Router n) (sym is)
 module _ {g : GraphValue} {old new : TreeValue} {root : ℕ} {before after : Links} {had_root has_root : Type 0} {taken hop_sets : ℕ} (root_is : g.root ≡ root)
     (tree_before : IsTree before root had_root (get old.distances) (hops_of old.hops)) (tree_after : IsTree after root has_root (get new.distances) (hops_of new.hops))
     (work : IsWorkDone g old new taken hop_sets) where
-  taken_over : (vertices : List Vertex) → HasNoDoubles vertices → ((v : Vertex) → Contains vertices v → HasNewDistance root before after had_root has_root v) → length vertices ≤ taken
-  taken_over vertices apart are = work.taken_least vertices apart (λ v c.
-      let w = are v c in
+  moved_over : (v : Vertex) → HasNewDistance root before after had_root has_root v → IsReachedIn g new v × (get new.distances v ≢ get old.distances v)
+  moved_over v w =
       let at = value_at tree_after.distances v w.1.0 w.1.1 in
-      (((w.1.0, at), other_than_root g.root root root_is v w.0), λ same. w.1.2 (tree_before.distances.right v w.1.0 (sym same ∙ at))))
+      (((w.1.0, at), other_than_root g.root root root_is v w.0), λ same. w.1.2 (tree_before.distances.right v w.1.0 (sym same ∙ at)))
 
-  sets_over : (vertices : List Vertex) → HasNoDoubles vertices → ((v : Vertex) → Contains vertices v → HasNewHops root before after had_root has_root v) → length vertices ≤ hop_sets
-  sets_over vertices apart are = work.sets_least vertices apart (λ v c.
-      let w = are v c in
-      let at = value_at tree_after.distances v w.1.0 w.1.1 in (
-        ((w.1.0, at), other_than_root g.root root root_is v w.0),
-        λ same. w.2 (λ h.
-            let x = tree_after.right v h in
-            let y = tree_before.right v h in
-            let e = same h in
-            (λ now. y.0 (e.0 (x.1 now)), λ then. x.0 (e.1 (y.1 then)))),
-      ))
+  -- the next hops of a vertex are others in the trees where they are others over the links
+  hops_over : (v : Vertex) → ((h : NextHop) → hops_of new.hops v h ↔ hops_of old.hops v h) → (h : NextHop) → IsHop after root has_root v h ↔ IsHop before root had_root v h
+  hops_over v same h =
+      let x = tree_after.right v h in
+      let y = tree_before.right v h in
+      let e = same h in
+      (λ now. y.0 (e.0 (x.1 now)), λ then. x.0 (e.1 (y.1 then)))
+
+  hops_in_trees : (v : Vertex) → ((h : NextHop) → IsHop after root has_root v h ↔ IsHop before root had_root v h) → (h : NextHop) → hops_of new.hops v h ↔ hops_of old.hops v h
+  hops_in_trees v same h =
+      let x = tree_after.right v h in
+      let y = tree_before.right v h in
+      let e = same h in
+      (λ now. y.1 (e.0 (x.0 now)), λ then. x.1 (e.1 (y.0 then)))
+
+  differs_over : (v : Vertex) → IsReachedOtherwise root before after had_root has_root v → IsReachedIn g new v × Differs old new v
+  differs_over v (inl w) = let m = moved_over v w in (m.0, λ same. m.1 same.0)
+  differs_over v (inr w) = (((w.1.0, value_at tree_after.distances v w.1.0 w.1.1), other_than_root g.root root root_is v w.0), λ same. w.2 (hops_over v same.1))
+
+  taken_over : (moved differing : List Vertex) → HasNoDoubles moved → HasNoDoubles differing → ((v : Vertex) → Contains moved v → HasNewDistance root before after had_root has_root v)
+      → ((v : Vertex) → Contains differing v → IsReachedOtherwise root before after had_root has_root v) → length moved + length differing ≤ taken
+  taken_over moved differing moved_apart differing_apart are_moved differ = work.taken_least moved differing moved_apart differing_apart (λ v c. moved_over v (are_moved v c)) (λ v c. differs_over v (differ v c))
+
+  twice_over : (reached : List Vertex) → ((v : Vertex) (d : ℕ) → v ≢ Router root → IsDistance after root has_root v d → Contains reached v) → taken ≤ 2 * length reached
+  twice_over reached all = work.taken_twice_most reached (λ v r. all v r.0.0 (other_than_root root g.root (sym root_is) v r.1) (tree_after.distances.right v r.0.0 r.0.1))
+
+  -- each vertex that was reached had a next hop, so what is reached no more has others
+  written_over : ((v : Vertex) → IsReachedIn g old v → (h : NextHop) × hops_of old.hops v h) → (v : Vertex) → Contains work.written v ↔ HasOtherHops root before after had_root has_root v
+  written_over had_hop v = (
+    λ c same. elim ((work.written_exact v).0 c) [
+      | inl other ↦ other (hops_in_trees v same)
+      | inr away ↦
+          let hop = had_hop v away.0 in
+          let now = (same hop.0).1 ((tree_before.right v hop.0).0 hop.1) in
+          tree_after.distances.unreached v away.1 now.path.0 now.path.1
+    ],
+    λ other. (work.written_exact v).1 (inl (λ same. other (hops_over v same))),
+  )
 
 -- the links before are those that the graph after and the changes give
 module _ {was g : GraphValue} {before : Links} {gone come : List Link} (same_before : SameLinks (LinksOf was) before) (decided_before : AreDecided (LinksOf was)) (decided_after : AreDecided (LinksOf g)) (exact : AreExact was g gone come) where
@@ -132,7 +160,7 @@ module _ {was g : GraphValue} {before : Links} {gone come : List Link} (same_bef
   module _ {old new : TreeValue} {root : ℕ} {after : Links} {had_root has_root : Type 0} {taken hop_sets : ℕ}
       (root_is : g.root ≡ root) (same_after : SameLinks (LinksOf g) after) (same_root : HasRoot g ↔ has_root)
       (tree_before : IsTree before root had_root (get old.distances) (hops_of old.hops)) (tree_after : IsTree after root has_root (get new.distances) (hops_of new.hops))
-      (bounded : IsBounded g gone come old taken hop_sets) (work : IsWorkDone g old new taken hop_sets) where
+      (bounded : IsBounded g gone come old taken hop_sets) (work : IsWorkDone g old new taken hop_sets) (had_hop : (v : Vertex) → IsReachedIn g old v → (h : NextHop) × hops_of old.hops v h) where
     -- the work is that of the links before and after
     work_over : IsWorkOf root before after had_root has_root taken hop_sets
     work_over = record {
@@ -142,7 +170,11 @@ module _ {was g : GraphValue} {before : Links} {gone come : List Link} (same_bef
       taken_most = λ first second heads first_out second_out owed. bounded.taken_most first second heads first_out second_out (owed_here first second heads first_out second_out owed);
       sets_most = λ first second heads first_out second_out owed. bounded.sets_most first second heads first_out second_out (owed_here first second heads first_out second_out owed);
       taken_least = taken_over root_is tree_before tree_after work;
-      sets_least = sets_over root_is tree_before tree_after work;
+      taken_twice_most = twice_over root_is tree_before tree_after work;
+      written = work.written;
+      written_apart = work.written_apart;
+      written_exact = written_over root_is tree_before tree_after work had_hop;
+      sets_are = work.sets_are;
     }
       where
         root_before : had_root ↔ HadRoot root (get old.distances)
@@ -165,4 +197,4 @@ module _ {s other : Inputs} {a b : Area} {d e : Database} {ups others : List Up}
       work_over (links_in area is) (link_decided old.area.graph (graph_ends is.graph)) (link_decided new.area.graph (graph_ends is_after.graph)) bounded.2
       (is_after.root_is ∙ sym one_root) (links_in area_after is_after) (root_in area_after is_after) (tree_in area is)
       (subst (λ (r : ℕ). IsTree (IsLink other b) r (IsVertex b (Router other.router)) (get new.tree.distances) (hops_of new.tree.hops)) (sym one_root) (tree_in area_after is_after))
-      bounded.3 work
+      bounded.3 work (λ v r. hop_of is.tree v (r.0, other_than_root old.area.graph.root new.area.graph.root (is.root_is ∙ one_root ∙ sym is_after.root_is) v r.1))

@@ -1,5 +1,5 @@
 -- The work of a change, said of the links before and after alone.
-use Rattle.std.specs.Prelude.{◌↔◌, ℕ, ◌+◌, ◌*◌, ◌≢◌, ◌≤◌, List, length, Contains}
+use Rattle.std.specs.Prelude.{◌↔◌, ◌⊎◌, ℕ, ◌+◌, ◌*◌, ◌≡◌, ◌≢◌, ◌≤◌, List, length, Contains}
 use Rattle.ospf_types.specs.declared.entry.Vertex.{Vertex}
 use Rattle.ospf_types.specs.declared.entry.Vertex.TheVariants.{Router}
 use Rattle.ospf_types.specs.declared.hop.NextHop.{NextHop}
@@ -14,13 +14,25 @@ abbrev pub HasNewDistance : ℕ → Links → Links → Type 0 → Type 0 → Ve
 HasNewDistance root before after had_root has_root v =
     (v ≢ Router root) × ((d : ℕ) × IsDistance after root has_root v d × (IsDistance before root had_root v d → ⊥))
 
+-- a vertex with other next hops than before
+abbrev pub HasOtherHops : ℕ → Links → Links → Type 0 → Type 0 → Vertex → Type 0
+HasOtherHops root before after had_root has_root v =
+    ((h : NextHop) → IsHop after root has_root v h ↔ IsHop before root had_root v h) → ⊥
+
 -- a vertex other than the root, reached after, with other next hops than before
 abbrev pub HasNewHops : ℕ → Links → Links → Type 0 → Type 0 → Vertex → Type 0
 HasNewHops root before after had_root has_root v =
-    (v ≢ Router root) × ((d : ℕ) × IsDistance after root has_root v d)
-    × (((h : NextHop) → IsHop after root has_root v h ↔ IsHop before root had_root v h) → ⊥)
+    (v ≢ Router root) × ((d : ℕ) × IsDistance after root has_root v d) × HasOtherHops root before after had_root has_root v
 
--- What is taken, and how often next hops are written: no more than twice what differs, the heads of the links that differ and those of the links out of what differs, and no less than the vertices that are reached otherwise than before.
+-- a vertex that is reached after otherwise than before
+abbrev pub IsReachedOtherwise : ℕ → Links → Links → Type 0 → Type 0 → Vertex → Type 0
+IsReachedOtherwise root before after had_root has_root v =
+    HasNewDistance root before after had_root has_root v ⊎ HasNewHops root before after had_root has_root v
+
+-- What is taken, and how often next hops are written.
+-- No more are taken than twice what differs, the heads of the links that differ and those of the links out of what differs; and no more than twice as many as are reached.
+-- No fewer are taken than are reached at another distance than before, and besides as many as are reached otherwise than before.
+-- As many sets are written as there are vertices that have other next hops.
 pub record IsWorkOf (root : ℕ) (before after : Links) (had_root has_root : Type 0) (taken hop_sets : ℕ) : Type 0 where
   pub gone : List Link
   pub come : List Link
@@ -31,7 +43,13 @@ pub record IsWorkOf (root : ℕ) (before after : Links) (had_root has_root : Typ
   pub sets_most : (first second heads first_out second_out : List Vertex)
       → AreOwed root before after (Among gone) (Among come) had_root has_root first second heads first_out second_out
       → hop_sets ≤ length first + length second
-  pub taken_least : (vertices : List Vertex) → HasNoDoubles vertices
-      → ((v : Vertex) → Contains vertices v → HasNewDistance root before after had_root has_root v) → length vertices ≤ taken
-  pub sets_least : (vertices : List Vertex) → HasNoDoubles vertices
-      → ((v : Vertex) → Contains vertices v → HasNewHops root before after had_root has_root v) → length vertices ≤ hop_sets
+  pub taken_least : (moved differing : List Vertex) → HasNoDoubles moved → HasNoDoubles differing
+      → ((v : Vertex) → Contains moved v → HasNewDistance root before after had_root has_root v)
+      → ((v : Vertex) → Contains differing v → IsReachedOtherwise root before after had_root has_root v)
+      → length moved + length differing ≤ taken
+  pub taken_twice_most : (reached : List Vertex)
+      → ((v : Vertex) (d : ℕ) → v ≢ Router root → IsDistance after root has_root v d → Contains reached v) → taken ≤ 2 * length reached
+  pub written : List Vertex
+  pub written_apart : HasNoDoubles written
+  pub written_exact : (v : Vertex) → Contains written v ↔ HasOtherHops root before after had_root has_root v
+  pub sets_are : hop_sets ≡ length written

@@ -15,7 +15,7 @@ ghost use Rattle.dues.specs.Carrying.{IsCarriedOut, IsReady};
 ghost use Rattle.dues.specs.Dues.{DuesValue, lists_of};
 ghost use Rattle.route_table.specs.declared.table.Item.{Item as ItemValue};
 ghost use Rattle.event_state.specs.Held.{AreFit};
-ghost use Rattle.event_state.specs.States.{State as StateValue, inputs_of};
+ghost use Rattle.event_state.specs.States.{AreApart, State as StateValue, inputs_of};
 ghost use Rattle.calculation.specs.Calculations.{CalculationValue, IsCalculationOf, IsItemOf, IsTableOf, AreItemsKept, entry_at};
 ghost use Rattle.state_trees.specs.Trees.{StatesDifferAmong, AreTreesOf, inputs_with};
 ghost use Rattle.calculation.specs.Due.{AreDuesFor, RoutesDifferAmong, due_inputs};
@@ -108,6 +108,7 @@ impl Calculation {
         hashing: RandomState,
     ) -> Result<(Calculation, Touched), Memory>
         requires few { state.now.limits.area_lsas ≤ most_routers }
+        requires apart { AreApart state.now.config.areas }
         ensures right { IfOk result (λ built. IsCalculationOf state.now built.0) }
         ensures work { IfOk result (λ built. (works : List TouchedValue) × AreWorksForAll built.0.trees works × IsTotal works built.1) }
     {
@@ -298,6 +299,7 @@ fn follow_intra(
     trees: &[AreaTree],
     dirty: &Dirty,
 ) -> Result<Vec<Dest>, Memory>
+    requires apart { AreApart state.now.config.areas }
     requires trees { AreTreesOf state.now state.now.config.areas trees.now }
     requires before { (before : InputsValue) × IsIntraOf before intra.old × InputsDifferAmong dirty.now.keys.items dirty.now.vertices.items dirty.now.interfaces.items before (inputs_with state.now trees.now) }
     ensures kept { OnOk result (IsIntraOf (inputs_with state.now trees.now) intra.new) }
@@ -323,7 +325,8 @@ fn build_intra(
     trees: &[AreaTree],
     hashing: RandomState,
 ) -> Result<Intra, Memory>
-    requires { AreTreesOf state.now state.now.config.areas trees.now }
+    requires apart { AreApart state.now.config.areas }
+    requires trees { AreTreesOf state.now state.now.config.areas trees.now }
     ensures kept { IfOk result (IsIntraOf (inputs_with state.now trees.now)) }
     ensures routed { IfOk result (IsRightFor (inputs_of state.now)) }
     ensures fit { IfOk result (λ intra. AreFit state.now.config.areas state.now.databases) }

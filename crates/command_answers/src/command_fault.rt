@@ -7,11 +7,11 @@ use lsa_codec::WireFault;
 use ospf_types::memory::Memory;
 use recording::LineFault;
 use std::alloc::AllocError;
-use std::error::Error;
 use std::fmt;
+use thiserror::Error;
 
 /// What went wrong with a command.
-#[derive(Clone, Copy, Debug, PartialEq, Eq)]
+#[derive(Clone, Copy, Debug, PartialEq, Eq, Error)]
 pub enum CommandFault<'a> {
     /// A word cannot be read.
     Word(WordFault),
@@ -68,8 +68,6 @@ impl fmt::Display for CommandFault<'_> {
         }
     }
 }
-
-impl Error for CommandFault<'_> {}
 
 impl<'a> From<WordFault> for CommandFault<'a> {
     ghost use Rattle.command_answers.specs.declared.command_fault.CommandFault.TheVariants.{Word};

@@ -8,8 +8,8 @@ use command_line::OneWords;
 use hex::FromHexError;
 use ospf_types::address::Address;
 use std::alloc::Global;
-use std::error::Error;
 use std::fmt;
+use thiserror::Error;
 
 /// What `abr one` works on. Addresses are numbers in host order.
 #[derive(Debug, Drop)]
@@ -26,7 +26,7 @@ pub struct OneInput {
 }
 
 /// A word that cannot be read, or a growth that was refused.
-#[derive(Clone, Copy, Debug, PartialEq, Eq)]
+#[derive(Clone, Copy, Debug, PartialEq, Eq, Error)]
 pub enum WordFault {
     NotAnAddress,
     NotHexadecimal,
@@ -44,8 +44,6 @@ impl fmt::Display for WordFault {
         })
     }
 }
-
-impl Error for WordFault {}
 
 /// Reads the words in their order; the first that cannot be read decides.
 pub fn read_one(alloc: Global, words: &OneWords<'_>) -> Result<OneInput, WordFault>

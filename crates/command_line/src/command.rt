@@ -1,9 +1,9 @@
 //! The commands of the program.
 ghost use Rattle.std.specs.Prelude.{◌≡◌};
 
-use clap::Error;
 use recording::Show;
 use std::alloc::AllocError;
+use thiserror::Error;
 
 /// The words of `abr one`, as they were given.
 #[derive(Clone, Copy, Debug, PartialEq, Eq)]
@@ -32,12 +32,14 @@ pub enum Job<'a> {
 }
 
 /// Why there is no job.
-#[derive(Debug, Drop)]
+#[derive(Debug, Drop, Error)]
 pub enum Usage {
     /// What the reader of command lines says, its `Display`. `use_stderr` and `exit_code` say where
     /// it goes and the status: 2 for a mistake in the words, and 0 for help.
-    Told(Error),
+    #[error(transparent)]
+    Told(clap::Error),
     /// A growth was refused.
+    #[error("30 Memory")]
     Memory,
 }
 

@@ -1,11 +1,11 @@
 ghost use Rattle.std.specs.Prelude.{Some};
 ghost use Rattle.config_faults.specs.Texts.{config_fault_text};
 
-use std::error::Error;
 use std::fmt;
+use thiserror::Error;
 
 /// What is wrong with a configuration: the first of these in this order.
-#[derive(Clone, Copy, Debug, PartialEq, Eq)]
+#[derive(Clone, Copy, Debug, PartialEq, Eq, Error)]
 pub enum ConfigFault {
     /// No area, more than 16, or two with one Area ID.
     Areas,
@@ -36,5 +36,3 @@ impl fmt::Display for ConfigFault {
         })
     }
 }
-
-impl Error for ConfigFault {}

@@ -1,9 +1,12 @@
-//! Trials of the event core on recordings: what the last event changed of the table, and the work that it was.
+//! Trials of the event core on recordings: what the last event changed of the table, the work that it was,
+//! and what the core answered.
 #![tactic(auto)]
 
 mod trial;
 
-pub use trial::{applied, events_of, items};
+pub use trial::{NETWORK, applied, events_of, items, with_stubs};
 
+#[cfg(test)]
+mod answers;
 #[cfg(test)]
 mod tests;

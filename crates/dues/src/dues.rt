@@ -95,6 +95,7 @@ impl Dues {
         ensures in_order { IfOk result (λ named. IsStrictlySortedBy dest_cmp named.items) }
         ensures exact { IfOk result (λ named. (d : DestValue) → Contains named.items d ↔ DiffersAt self.old self.new d) }
         ensures unchanged { OnErr result (lists_of self.new ≡ lists_of self.old) }
+        ensures active { OnErr result (self.new.active ≡ self.old.active) }
     {
         let (plan, named) = self.plan(alloc, inputs, dests)?;
         self.carry_out(plan);

@@ -4,6 +4,7 @@
 --   shown_kept: something was published, or it was refused
 --   shown_fresh: what was published is that of the whole journal
 --   opened_right: what is shown first is right
+--   caught_up: what catching up answered
 use Rattle.std.proofs.Common.{◌≡◌, ◌≤◌, ℕ, zero, suc, Bool, true, false, List, [], ◌∷◌, length, Option, Some, None, MatchBool, refl, sym, ap, subst, ◌∙◌, arith}
 use Rattle.std.specs.Prelude.{not}
 use mathlib.Core.List.{IsPrefix}
@@ -24,7 +25,7 @@ use Rattle.publication.specs.declared.shown.Update.{Update}
 use Rattle.publication.specs.Updates.{face_of}
 use Rattle.route_table.specs.Tables.{TableValue}
 use Rattle.publication.proofs.Prefixes.{prefix_length, prefix_trans}
-use Rattle.engine.specs.Desks.{IsBegun, IsKept, IsFresh}
+use Rattle.engine.specs.Desks.{Held, IsBegun, IsKept, IsFresh, CatchesUp}
 use Rattle.engine.proofs.Runs.{table_whole}
 
 -- table and due summaries are of no fewer events than before
@@ -103,3 +104,8 @@ opened_right core front x is limits none first face =
 pub none_named : (name : Name) (seat : ℕ) (n : Name) → get_elem? (None ∷ []) seat ≡ some (Some n) → n ≡ name
 none_named name zero n e = absurd (cc e)
 none_named name (suc k) n e = absurd (cc e)
+
+-- what the core's catching up answered, as the desk tells it
+pub caught_up : (old new : CoreValue) (s : Standing) (before after : Held) → before.built ≡ old.built → after.journal ≡ new.journal → after.built ≡ new.built → Stands old s new → CatchesUp before s after
+caught_up old new Current before after built journal now stands = now ∙ stands.0 ∙ sym (ap length journal)
+caught_up old new Behind before after built journal now stands = (now ∙ stands.0 ∙ sym built, omega (arith, now, ap length journal, stands.3))

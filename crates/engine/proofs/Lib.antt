@@ -7,3 +7,4 @@ pub mod Replying
 pub mod Duing
 pub mod Keeping
 pub mod Working
+pub mod Passing

@@ -1,5 +1,5 @@
 -- What a token shows of the answer that it comes with.
-use Rattle.std.proofs.Common.{◌≡◌, ◌≢◌, ◌≤◌, ℕ, Bool, false, List, [], ◌∷◌, ◌++◌, length, take, Option, Some, None, IfSome, IfNone, MatchOption, sym, ap, subst, ◌∙◌, arith, length-append}
+use Rattle.std.proofs.Common.{◌≡◌, ◌≢◌, ◌≤◌, ℕ, Bool, false, List, [], ◌∷◌, ◌++◌, length, take, Option, Some, None, IfSome, IfNone, MatchOption, refl, sym, ap, subst, ◌∙◌, arith, length-append}
 use Rattle.std.specs.Prelude.{◌↔◌}
 use Rattle.std.proofs.Math.Seq.{take-length}
 use Rattle.event_state.specs.declared.event.Event.{Event}
@@ -73,3 +73,10 @@ pub tells_beside : (called : Name) (had : List Event) (n : ℕ) (told : Option H
     → IfNone told (¬ (n ≡ length published)) → IfSome told (Tells called had n) → MatchOption told (list ≢ []) (λ t. (t.name ≡ name) × (t.list ≡ list))
 tells_beside called had n None published name list same_name same count short none some = unpublished n list published count short none
 tells_beside called had n (Some t) published name list same_name same count short none some = (some.0 ∙ same_name, some.1 ∙ same)
+
+-- a token for the whole journal has its list, and it is the published one. Where there is none, less is published
+pub told_whole : (n : ℕ) (told : Option Heard) (called : Name) (journal published : List Event) → n ≡ length journal
+    → IfNone told (¬ (n ≡ length published)) → IfSome told (Tells called journal n) → IfSome told (λ t. t.list ≡ published)
+    → MatchOption told (¬ (length journal ≡ length published)) (λ t. (t.list ≡ journal) × (t.list ≡ published))
+told_whole n None called journal published count none some same = λ e. none (count ∙ e)
+told_whole n (Some t) called journal published count none some same = (some.1 ∙ taken_whole n journal journal refl count, same)

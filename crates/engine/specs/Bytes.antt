@@ -12,11 +12,15 @@ use Rattle.engine.specs.declared.answer.Answer.{Answer}
 use Rattle.engine.specs.declared.answer.BytesFault.{BytesFault}
 use Rattle.engine.specs.declared.answer.BytesFault.TheVariants as bytes
 
--- they spell an LSA, and the answer is that of its install
-abbrev pub AreInstalled : Name → Scope → List ℕ → Answer → Type 0
-AreInstalled name at given answer = (l : Lsa) × Spells given l × Answers name (event.Install at l) answer
+-- they have no fault, and spell this LSA and no other: it is what `read` gives for them
+abbrev pub AreReadAs : List ℕ → Lsa → Type 0
+AreReadAs given l = (fault_of given ≡ None) × Spells given l
 
--- they have this fault as their first, or memory was refused; or they spell an LSA, and its install is refused
+-- the answer is that of the install of what is read
+abbrev pub AreInstalled : Name → Scope → List ℕ → Answer → Type 0
+AreInstalled name at given answer = (l : Lsa) × AreReadAs given l × Answers name (event.Install at l) answer
+
+-- they have this fault as their first, or memory was refused; or the install of what is read is refused
 abbrev pub AreRefused : Name → Scope → List ℕ → BytesFault → Type 0
 AreRefused name at given (bytes.Wire f) = (fault_of given ≡ Some f) ⊎ ((f ≡ wire.Memory) × (fault_of given ≡ None))
-AreRefused name at given (bytes.Refused r) = (l : Lsa) × Spells given l × Refusals name (event.Install at l) r
+AreRefused name at given (bytes.Refused r) = (l : Lsa) × AreReadAs given l × Refusals name (event.Install at l) r

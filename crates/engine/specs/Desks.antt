@@ -1,9 +1,11 @@
 -- What lies under the lock.
-use Rattle.std.specs.Prelude.{◌≡◌, ℕ, ◌≤◌, Bool, false, List, [], length, Option, Some}
+use Rattle.std.specs.Prelude.{◌≡◌, ℕ, ◌<◌, ◌≤◌, Bool, false, List, [], length, Option, Some}
 use mathlib.Core.List.{IsPrefix}
 use Rattle.event_state.specs.declared.event.Event.{Event}
 use Rattle.event_state.specs.Steps.{standard_limits}
 use Rattle.event_core.specs.Cores.{CoreValue}
+use Rattle.event_core.specs.declared.reply.Standing.{Standing}
+use Rattle.event_core.specs.declared.reply.Standing.TheVariants.{Current, Behind}
 use Rattle.route_table.specs.Deltas.{Lead}
 use Rattle.publication.specs.Lines.{Line}
 use Rattle.publication.specs.Names.{Name}
@@ -18,6 +20,11 @@ pub record Held : Type 0 where
   pub journal : List Event
   pub built : ℕ
   pub published : List Event
+
+-- what the core's catching up answers: all of the journal is built, or what was built is, and less than that
+abbrev pub CatchesUp : Held → Standing → Held → Type 0
+CatchesUp old Current new = new.built ≡ length new.journal
+CatchesUp old Behind new = (new.built ≡ old.built) × (new.built < length new.journal)
 
 -- a beginning of the journal, no longer than what was built
 abbrev pub IsBegun : List Event → CoreValue → Type 0

@@ -1,4 +1,5 @@
 pub mod Answers
+pub mod Gates
 pub mod Bytes
 pub mod Desks
 pub mod Rooms

@@ -1,7 +1,12 @@
 //! What an engine answers.
+ghost use Rattle.std.specs.Prelude.{Some};
+ghost use Rattle.engine.specs.Texts.{bytes_fault_text, refused_text};
+
 use event_core::{Due, Refusal, Reply};
 use lsa_codec::WireFault;
 use publication::Told;
+use std::fmt;
+use thiserror::Error;
 
 /// The answer to a taken event. The token is there exactly where the published table has the event.
 #[derive(Drop)]
@@ -12,19 +17,40 @@ pub struct Answer {
 
 /// The answer to an event that was not taken. The token is there exactly where the published table is that of the whole
 /// journal.
-#[derive(Drop)]
+#[derive(Debug, Drop, Error)]
 pub struct Refused {
     pub refusal: Refusal,
     pub told: Option<Told>,
 }
 
+/// The number and the name of the refusal, as `23 Same`.
+impl fmt::Display for Refused {
+    ghost output = { λ refused. Some (refused_text refused) };
+
+    fn fmt<W: fmt::Write>(&self, f: &mut fmt::Formatter<W>) -> fmt::Result {
+        self.refusal.fmt(f)
+    }
+}
+
 /// Why an LSA's bytes were not installed.
-#[derive(Drop)]
+#[derive(Debug, Drop, Error)]
 pub enum BytesFault {
     /// They are no LSA.
     Wire(WireFault),
     /// The event was refused.
     Refused(Refused),
+}
+
+/// The number and the name, as `2 Checksum`.
+impl fmt::Display for BytesFault {
+    ghost output = { λ fault. Some (bytes_fault_text fault) };
+
+    fn fmt<W: fmt::Write>(&self, f: &mut fmt::Formatter<W>) -> fmt::Result {
+        match self {
+            BytesFault::Wire(fault) => fault.fmt(f),
+            BytesFault::Refused(refused) => refused.fmt(f),
+        }
+    }
 }
 
 /// A copy of the summary-LSAs that are due in an area (RFC 2328, 12.4.3), ascending by LS type and destination, with the

@@ -1,11 +1,11 @@
 //! What lies under the lock: the core, and the writer of what is published.
-ghost use Rattle.std.specs.Prelude.{◌≡◌, ◌⊎◌, ◌↔◌, ◌≤◌, ◌<◌, ◌^◌, [], ◌∷◌, ◌++◌, length, take, drop, false, IsTrue, IfOk, IfErr, IfNone, MatchOption, MatchResult, IfSome};
+ghost use Rattle.std.specs.Prelude.{◌≡◌, ◌⊎◌, ◌↔◌, ◌≤◌, ◌<◌, ◌^◌, [], ◌∷◌, ◌++◌, length, take, drop, false, MatchBool, IfOk, IfErr, IfNone, MatchOption, MatchResult, IfSome};
 ghost use mathlib.Core.List.{IsPrefix};
 ghost use Rattle.left_right.specs.Sides.{view as known_to};
 ghost use Rattle.event_state.specs.Steps.{standard_limits};
 ghost use Rattle.engine.specs.Answers.{Answers, Refusals, Dues, HasArea};
 ghost use Rattle.event_core.specs.Cores.{IsCore};
-ghost use Rattle.engine.specs.Desks.{IsKept, IsBegun, CanFollow};
+ghost use Rattle.engine.specs.Desks.{IsKept, IsBegun, CanFollow, CatchesUp};
 ghost use Rattle.engine.specs.Opens.{AreReaders};
 ghost use Rattle.event_state.specs.declared.refusal.Refusal.TheVariants.{Memory as NoMemory, NoArea};
 ghost use Rattle.event_core.specs.declared.reply.Standing.TheVariants.{Current, Behind};
@@ -45,35 +45,32 @@ impl Model for Desk {
 }
 
 #[tactic(auto, using(publication::proofs::Prefixes::prefix_take, publication::proofs::Prefixes::take_prefix))]
-// Adds what the history lacks of the journal. The answer is false where another had added to the history.
-fn follow(author: &mut Author, journal: &[Event]) -> bool
+// Adds what the history lacks of the journal.
+fn follow(author: &mut Author, journal: &[Event])
     requires begun { IsPrefix author.old.list journal.now }
     requires short { length journal.now < 2 ^ 62 }
     ensures book { author.new.book ≡ author.old.book }
     ensures begun { IsPrefix author.new.list journal.now }
-    ensures whole { IsTrue result → author.new.list ≡ journal.now }
+    ensures whole { author.new.list ≡ journal.now }
 {
     for k in author.len() as usize..journal.len() {
-        if !author.add(&journal[k]) {
-            return false;
-        }
+        author.add(&journal[k]);
     }
-    true
 }
 
-// Adds what the history lacks of the journal, where all of it was built. The answer is false where it was not, or where
-// another had added to the history.
+// Adds what the history lacks of the journal, where all of it was built. The answer is false where it was not.
 fn follow_built(author: &mut Author, core: &Core) -> bool
     requires written { IsBegun author.old.list core.now }
     ensures kept { IsCore core.now }
     ensures book { author.new.book ≡ author.old.book }
     ensures written { IsBegun author.new.list core.now }
-    ensures whole { IsTrue result → (author.new.list ≡ core.now.journal) × (core.now.built ≡ length core.now.journal) }
+    ensures whole { MatchBool result ((author.new.list ≡ core.now.journal) × (core.now.built ≡ length core.now.journal)) (core.now.built < length core.now.journal) }
 {
     if core.built() < core.journal().len() as u64 {
         return false;
     }
-    follow(author, core.journal())
+    follow(author, core.journal());
+    true
 }
 
 // Publishes the table of the whole journal, where it was built. It may be refused.
@@ -85,7 +82,8 @@ fn publish_whole<R: Wait>(
     writer: ShownWriter,
 ) -> Desk
     requires { IsKept core author writer.desk.shown.value (known_to writer.desk.place) }
-    ensures { (result.name ≡ record { book = author.book; config = core.config }) × (result.journal ≡ core.journal) × (result.built ≡ core.built) }
+    ensures same { (result.name ≡ record { book = author.book; config = core.config }) × (result.journal ≡ core.journal) × (result.built ≡ core.built) }
+    ensures grows { IsPrefix writer.desk.shown.value.front.list result.published }
 {
     let mut author = author;
     if !follow_built(&mut author, &core) {
@@ -97,7 +95,7 @@ fn publish_whole<R: Wait>(
             stale: true,
         };
     }
-    let (writer, done) = show(rt, alloc, writer, core.table(), &author.front());
+    let (writer, done) = show(rt, alloc, writer, core.table(), &mut author);
     Desk {
         alloc,
         core,
@@ -117,7 +115,8 @@ fn publish_changes<R: Wait>(
 ) -> Desk
     requires kept { IsKept core author writer.desk.shown.value (known_to writer.desk.place) }
     requires follows { CanFollow core writer.desk.shown.value (drop writer.behind writer.log.items) }
-    ensures { (result.name ≡ record { book = author.book; config = core.config }) × (result.journal ≡ core.journal) × (result.built ≡ core.built) }
+    ensures same { (result.name ≡ record { book = author.book; config = core.config }) × (result.journal ≡ core.journal) × (result.built ≡ core.built) }
+    ensures grows { IsPrefix writer.desk.shown.value.front.list result.published }
 {
     let mut author = author;
     if !follow_built(&mut author, &core) {
@@ -129,7 +128,7 @@ fn publish_changes<R: Wait>(
             stale: true,
         };
     }
-    let (writer, done) = show_changes(rt, writer, core.changes(), core.table(), &author.front());
+    let (writer, done) = show_changes(rt, writer, core.changes(), core.table(), &mut author);
     Desk {
         alloc,
         core,
@@ -150,7 +149,8 @@ fn publish<R: Wait>(
 ) -> Desk
     requires kept { IsKept core author writer.desk.shown.value (known_to writer.desk.place) }
     requires follows { whole ≡ false → CanFollow core writer.desk.shown.value (drop writer.behind writer.log.items) }
-    ensures { (result.name ≡ record { book = author.book; config = core.config }) × (result.journal ≡ core.journal) × (result.built ≡ core.built) }
+    ensures same { (result.name ≡ record { book = author.book; config = core.config }) × (result.journal ≡ core.journal) × (result.built ≡ core.built) }
+    ensures grows { IsPrefix writer.desk.shown.value.front.list result.published }
 {
     if whole {
         publish_whole(rt, alloc, core, author, writer)
@@ -185,7 +185,9 @@ impl Desk {
         ensures name { result.0.name ≡ self.name }
         ensures journal { MatchResult result.1 (λ _. result.0.journal ≡ self.journal ++ event ∷ []) (λ _. result.0.journal ≡ self.journal) }
         ensures answer { MatchResult result.1 (Answers self.name event) (Refusals self.name event) }
-        ensures told { IfErr result.1 (λ r. MatchOption r.told (¬ (length result.0.journal ≡ length result.0.published)) (λ t. t.list ≡ result.0.published)) }
+        ensures told { IfErr result.1 (λ r. MatchOption r.told (¬ (length result.0.journal ≡ length result.0.published)) (λ t. (t.list ≡ result.0.journal) × (t.list ≡ result.0.published))) }
+        ensures grows { IsPrefix self.published result.0.published }
+        ensures gate { IfOk result.1 (λ _. G.passed gate.now worker place) }
     {
         let Desk {
             alloc,
@@ -216,12 +218,14 @@ impl Desk {
         }
     }
 
-    // Builds and publishes what is behind.
-    fn follow_up<R: Wait>(self, rt: &R) -> Desk
-        ensures { (result.name ≡ self.name) × (result.journal ≡ self.journal) }
+    // Builds and publishes what is behind. The answer is the core's.
+    fn follow_up<R: Wait>(self, rt: &R) -> (Desk, Standing)
+        ensures same { (result.0.name ≡ self.name) × (result.0.journal ≡ self.journal) }
+        ensures state { CatchesUp self result.1 result.0 }
+        ensures grows { IsPrefix self.published result.0.published }
     {
         if !self.stale {
-            return self;
+            return (self, Standing::Current);
         }
         let Desk {
             alloc,
@@ -230,19 +234,23 @@ impl Desk {
             writer,
             stale: _,
         } = self;
-        core.catch_up();
-        publish_whole(rt, alloc, core, author, writer)
+        let state = core.catch_up();
+        let desk = publish_whole(rt, alloc, core, author, writer);
+        (desk, state)
     }
 
-    /// Builds and publishes what is behind. The token is that of the whole journal.
-    pub fn catch_up<R: Wait>(self, rt: &R) -> (Desk, Option<Told>)
+    /// Builds and publishes what is behind. The answer is what the core's `catch_up` answered, and the token of the whole
+    /// journal, if its table is published.
+    pub fn catch_up<R: Wait>(self, rt: &R) -> (Desk, Standing, Option<Told>)
         ensures same { (result.0.name ≡ self.name) × (result.0.journal ≡ self.journal) }
-        ensures told { IfSome result.1 (λ t. (t.name ≡ self.name) × (t.list ≡ self.journal)) }
-        ensures none { IfNone result.1 (¬ (length result.0.journal ≡ length result.0.published)) }
+        ensures state { CatchesUp self result.1 result.0 }
+        ensures told { IfSome result.2 (λ t. (t.name ≡ self.name) × (t.list ≡ self.journal)) }
+        ensures none { IfNone result.2 (¬ (length result.0.journal ≡ length result.0.published)) }
+        ensures grows { IsPrefix self.published result.0.published }
     {
-        let desk = self.follow_up(rt);
+        let (desk, state) = self.follow_up(rt);
         let told = desk.told(desk.core.journal().len() as u64);
-        (desk, told)
+        (desk, state, told)
     }
 
     /// A copy of what is due in an area.
@@ -271,11 +279,11 @@ impl Desk {
         requires limits { core.limits ≡ standard_limits }
         ensures { IfOk result (λ d. (d.name.config ≡ core.config) × (d.journal ≡ []) × (d.published ≡ [])) }
     {
-        let author = Author::open();
+        let mut author = Author::open();
         let first = Shown::of(alloc, core.table(), &author.front(), core.config())?;
         let second = Shown::of(alloc, core.table(), &author.front(), core.config())?;
         let writer = ShownWriter::new(alloc, first, second, readers)?;
-        let (writer, done) = show(rt, alloc, writer, core.table(), &author.front());
+        let (writer, done) = show(rt, alloc, writer, core.table(), &mut author);
         if !done {
             drop(writer.take(rt));
             return Err(Memory);

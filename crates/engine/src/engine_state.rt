@@ -24,6 +24,9 @@ use std::hash::RandomState;
 use std::marker::Model;
 use std::sync::{Mutex, Wait};
 
+#[cfg(test)]
+mod tests;
+
 const MOST_READERS: usize = 64;
 
 /// The databases, the routing table and the due summaries of an area border router, for threads that share them. One event
@@ -77,8 +80,8 @@ impl Engine {
         self.submit_gated(rt, event, &Open, 0, 0)
     }
 
-    /// Takes the event, or refuses it. Before the publication of a taken event it calls `inside` of the gate, under the
-    /// lock; the other two methods are the caller's to call.
+    /// Takes the event, or refuses it. It calls the gate before it takes the lock, under the lock before the publication of a
+    /// taken event, and after the answer, each once.
     pub fn submit_gated<R: Wait, G: Gate>(
         &self,
         rt: &R,
@@ -87,13 +90,16 @@ impl Engine {
         worker: usize,
         place: usize,
     ) -> Result<Answer, Refused>
-        ensures { IsAnswered self.now event result }
+        ensures answered { IsAnswered self.now event result }
+        ensures gate { G.came gate.now worker place × IfOk result (λ _. G.passed gate.now worker place) × G.left gate.now worker place }
     {
+        gate.before(worker, place);
         let door = self.door.lock(rt);
         let desk = self.room.take(rt);
         let (desk, answer) = desk.submit(rt, event, gate, worker, place);
         self.room.put(rt, desk);
         drop(door);
+        gate.after(worker, place);
         answer
     }
 
@@ -102,7 +108,7 @@ impl Engine {
         ensures { IfSome result (λ t. (t.name ≡ self.now) × IsLegal self.now.config t.list) }
     {
         let door = self.door.lock(rt);
-        let (desk, told) = self.room.take(rt).catch_up(rt);
+        let (desk, _state, told) = self.room.take(rt).catch_up(rt);
         self.room.put(rt, desk);
         drop(door);
         told

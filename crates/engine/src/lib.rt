@@ -16,4 +16,4 @@ pub use engine_state::Engine;
 pub use event_core::{ConfigFault, Core, Due, Event, Refusal, Reply, Standing};
 pub use gate::{Gate, Open};
 pub use open_fault::OpenFault;
-pub use publication::{Forwarder, Seen, Told};
+pub use publication::{Forwarder, Seen, Told, Unseen};

@@ -3,11 +3,11 @@ ghost use Rattle.std.specs.Prelude.{Some};
 ghost use Rattle.engine.specs.Texts.{open_fault_text};
 
 use event_core::ConfigFault;
-use std::error::Error;
 use std::fmt;
+use thiserror::Error;
 
 /// Why an engine was not opened: the first of these that holds.
-#[derive(Clone, Copy, Debug, PartialEq, Eq)]
+#[derive(Clone, Copy, Debug, PartialEq, Eq, Error)]
 pub enum OpenFault {
     /// The configuration has this fault, or a growth was refused.
     Config(ConfigFault),
@@ -29,5 +29,3 @@ impl fmt::Display for OpenFault {
         }
     }
 }
-
-impl Error for OpenFault {}

@@ -2,6 +2,7 @@
 ghost use Rattle.std.specs.Prelude.{◌≡◌, ◌<◌, ◌≤◌, ◌⊎◌, [], length, vec_len, vec_capacity, IfOk, IfErr, IfSome, IsTrue};
 ghost use Rattle.std.specs.List.{AllZip};
 ghost use Rattle.engine.specs.Answers.{AreAnswered};
+ghost use Rattle.engine.specs.Gates.{HavePassed};
 ghost use Rattle.event_state.specs.declared.refusal.Refusal.TheVariants.{Memory, Spawn, Workers};
 
 use crate::answer::{Answer, Refused};
@@ -35,9 +36,10 @@ fn prepared(alloc: Global, events: Vec<Event>) -> Result<Job, AllocError>
     Ok(Job { events, answers })
 }
 
-// Submits a worker's events in turn.
+// Submits a worker's events in turn, each through the gate.
 fn work<R: Wait, G: Gate>(rt: &R, engine: &Engine, gate: &G, worker: usize, job: Job) -> Answers
-    ensures { AreAnswered engine.now job.events.items result.items }
+    ensures answered { AreAnswered engine.now job.events.items result.items }
+    ensures gate { HavePassed (G.came gate.now) (G.passed gate.now) (G.left gate.now) worker 0 result.items }
 {
     let Job {
         events,
@@ -45,9 +47,7 @@ fn work<R: Wait, G: Gate>(rt: &R, engine: &Engine, gate: &G, worker: usize, job:
     } = job;
     let mut place = 0;
     for event in events {
-        gate.before(worker, place);
         let answer = engine.submit_gated(rt, event, gate, worker, place);
-        gate.after(worker, place);
         let Ok(()) = answers.push(answer) else {
             unreachable!()
         };

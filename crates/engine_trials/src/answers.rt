@@ -1,6 +1,6 @@
 //! What an engine answers to one thread.
 
-use crate::trial::{BACKBONE, BORDER, OWN, ROOT, SUMMARY, is_told, opened, taken};
+use crate::trial::{BACKBONE, BORDER, OWN, ROOT, SUMMARY, is_told, look, opened, taken};
 use core_trials::events_of;
 use engine::{
     Answer, BytesFault, ConfigFault, Due, DueList, Engine, Open, OpenFault, Refusal, Refused,
@@ -105,5 +105,15 @@ fn readers_are_1_to_64_and_the_configuration_comes_first(rt: HostRuntime) -> Res
         let (config, _) = events_of(rt.alloc(), ROOT)?;
         assert!(rt; fault_of(&rt, config, readers)? == wanted, "{readers}");
     }
+    Ok(())
+}
+
+#[test]
+fn a_closed_engine_leaves_no_entry(rt: HostRuntime) -> Result<(), Fail> {
+    let (engine, one, _two) = opened(&rt, BORDER)?;
+    let (one, before) = look(one);
+    let count = taken(&rt, engine);
+    let (_one, after) = look(one);
+    assert!(rt; before == Some(4) && count == 4 && after.is_none());
     Ok(())
 }

@@ -1,4 +1,5 @@
-//! Gates: that lists run side by side, and that neither a look nor the reading of bytes waits for the lock.
+//! Gates: that lists run side by side, that neither a look nor the reading of bytes waits for the lock, and that each event passes
+//! once.
 
 use crate::trial::{BACKBONE, ROOT, SUMMARY, install_of, look, opened, taken};
 use engine::{BytesFault, Engine, Event, Forwarder, Gate, Open, Refusal};
@@ -63,6 +64,12 @@ struct Meeting<'a, R: Clock> {
 }
 
 impl<'a, R: Clock + Sync> Gate for Meeting<'a, R> {
+    ghost came = { λ gate worker place. Unit {0} };
+
+    ghost passed = { λ gate worker place. Unit {0} };
+
+    ghost left = { λ gate worker place. Unit {0} };
+
     fn before(&self, worker: usize, place: usize) {
         let flags = self.flags;
         match (worker, place) {
@@ -191,5 +198,102 @@ fn looks_and_readings_wait_for_no_lock(rt: HostRuntime) -> Result<(), Fail> {
     let answers = beside(&rt, &engine, &flags, one);
     let count = taken(&rt, engine);
     assert!(rt; answers == (true, true) && flags.have_met() && count == 1);
+    Ok(())
+}
+
+// How often each event was before, inside and after, in numbers with a digit for each event, and whether one was inside or after
+// out of turn.
+#[derive(Drop)]
+struct Passing {
+    before: AtomicU64,
+    inside: AtomicU64,
+    after: AtomicU64,
+    is_astray: AtomicBool,
+}
+
+// The digit of an event, to the base 8.
+fn digit(worker: usize, place: usize) -> u64 {
+    match (worker, place) {
+        (0, 0) => 0o1,
+        (0, 1) => 0o10,
+        (0, 2) => 0o100,
+        (1, 0) => 0o1000,
+        (1, 1) => 0o10000,
+        (1, 2) => 0o100000,
+        _ => 0o1000000,
+    }
+}
+
+impl Passing {
+    fn new() -> Passing {
+        Passing {
+            before: AtomicU64::new(0),
+            inside: AtomicU64::new(0),
+            after: AtomicU64::new(0),
+            is_astray: AtomicBool::new(false),
+        }
+    }
+
+    // The event was before, and is not after yet.
+    fn is_between(&self, digit: u64) -> bool {
+        let (before, after) = (&self.before, &self.after);
+        before.load(Ordering::SeqCst) & digit != 0 && after.load(Ordering::SeqCst) & digit == 0
+    }
+
+    fn pass(&self, count: &AtomicU64, digit: u64) {
+        if !self.is_between(digit) {
+            self.is_astray.store(true, Ordering::SeqCst);
+        }
+        count.fetch_add(digit, Ordering::SeqCst);
+    }
+
+    // Whether each event was before and after once, and each but the last of the first worker inside.
+    fn is_right(&self) -> bool {
+        self.before.load(Ordering::SeqCst) == 0o111111
+            && self.inside.load(Ordering::SeqCst) == 0o111011
+            && self.after.load(Ordering::SeqCst) == 0o111111
+            && !self.is_astray.load(Ordering::SeqCst)
+    }
+}
+
+impl Gate for Passing {
+    ghost came = { λ gate worker place. Unit {0} };
+
+    ghost passed = { λ gate worker place. Unit {0} };
+
+    ghost left = { λ gate worker place. Unit {0} };
+
+    fn before(&self, worker: usize, place: usize) {
+        self.before
+            .fetch_add(digit(worker, place), Ordering::SeqCst);
+    }
+
+    fn inside(&self, worker: usize, place: usize) {
+        self.pass(&self.inside, digit(worker, place));
+    }
+
+    fn after(&self, worker: usize, place: usize) {
+        self.pass(&self.after, digit(worker, place));
+    }
+}
+
+// Three installs for each of two workers. The last of the first worker is its second again.
+fn with_a_refused_one(alloc: Global) -> Option<Vec<Vec<Event>>> {
+    let mut lists = Vec::new(alloc);
+    let mut first = list_of(alloc, 0, 2)?;
+    first.push(install_of(alloc, 0, 1)?).ok()?;
+    lists.push(first).ok()?;
+    lists.push(list_of(alloc, 1, 3)?).ok()?;
+    Some(lists)
+}
+
+#[test]
+fn each_event_passes_the_gate_once(rt: HostRuntime) -> Result<(), Fail> {
+    let gate = Passing::new();
+    let lists = with_a_refused_one(rt.alloc()).ok_or("the lists")?;
+    let (engine, _one, _two) = opened(&rt, ROOT)?;
+    let is_run = engine.submit_all(&rt, rt.alloc(), lists, &gate).is_ok();
+    let count = taken(&rt, engine);
+    assert!(rt; is_run && gate.is_right() && count == 5);
     Ok(())
 }

@@ -38,7 +38,7 @@ pub const SUMMARY: [u8; 28] = [
     0, 10,
 ];
 
-/// The engine of a recording, which was handed its events, and two forwarders.
+/// The engine of a copy of a recording's configuration, which was handed the recording's events, and two forwarders.
 pub fn opened<R: Wait + RandomSource + AllocGlobal>(
     rt: &R,
     text: &str,
@@ -46,7 +46,8 @@ pub fn opened<R: Wait + RandomSource + AllocGlobal>(
     ensures { IfOk result (λ r. (r.1.name ≡ r.0) × (r.2.name ≡ r.0)) }
 {
     let (config, events) = events_of(rt.alloc(), text)?;
-    let (engine, mut all) = Engine::open(rt, rt.alloc(), config, 2, RandomState::new(rt)?)?;
+    let copy = config.copy(rt.alloc())?;
+    let (engine, mut all) = Engine::open(rt, rt.alloc(), copy, 2, RandomState::new(rt)?)?;
     for event in events {
         drop(published(rt, &engine, event));
     }
@@ -75,7 +76,7 @@ pub fn look(forwarder: Forwarder) -> (Forwarder, Option<u64>)
             let serial = seen.serial();
             (seen.leave(), Some(serial))
         }
-        Err(forwarder) => (forwarder, None),
+        Err(unseen) => (unseen.into_forwarder(), None),
     }
 }
 

@@ -46,7 +46,7 @@ impl Watch {
     }
 }
 
-// Submits so many installs, and looks after each.
+// Submits copies of so many installs, and looks after each.
 fn watches<R: Wait + AllocGlobal>(
     rt: &R,
     engine: &Engine,
@@ -65,7 +65,8 @@ fn watches<R: Wait + AllocGlobal>(
     };
     for number in 0..count {
         let event = install_of(rt.alloc(), worker, number)?;
-        watch = watch.learn(published(rt, engine, event)?)?;
+        let copy = event.copy(rt.alloc()).ok()?;
+        watch = watch.learn(published(rt, engine, copy)?)?;
     }
     Some(watch)
 }

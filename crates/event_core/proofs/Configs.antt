@@ -1,8 +1,8 @@
 -- What a configuration without a fault is.
-use Rattle.std.proofs.Common.{◌≡◌, ◌≢◌, ℕ, zero, suc, ◌<◌, Bool, true, false, List, [], ◌∷◌, length, get_or, None, refl, sym, arith, inl, inr}
+use Rattle.std.proofs.Common.{◌≡◌, ◌≢◌, ℕ, zero, suc, ◌<◌, ◌≤◌, Bool, true, false, List, [], ◌∷◌, length, get_or, None, refl, sym, arith, inl, inr}
 use Rattle.std.specs.Prelude.{◌==◌, ◌||◌, nat_lt}
 use Rattle.std.specs.List.{list_any}
-use Rattle.std.proofs.lemmas.Bool.Decides.{eqb_tells}
+use Rattle.std.proofs.lemmas.Bool.Decides.{eqb_tells, nat_tests}
 use Rattle.ospf_types.specs.declared.config.Config.{Config}
 use Rattle.ospf_types.specs.declared.config.AreaConfig.{AreaConfig}
 use Rattle.config_faults.specs.declared.fault.ConfigFault.{ConfigFault}
@@ -53,3 +53,12 @@ pub sound_apart : (config : Config) → config_fault_of config ≡ None → AreA
 sound_apart config e =
     let h = left_false (length config.areas == 0) (nat_lt 16 (length config.areas) || has_alike config.areas) (no_wrong_areas config e) in
     apart_from_alike config.areas (left_false (nat_lt 16 (length config.areas)) (has_alike config.areas) h.1).1
+
+at_most : (m n : ℕ) → nat_lt m n ≡ false → n ≤ m
+at_most m n e = grind (arith, nat_tests)
+
+-- and there are at most 16 of them
+pub sound_few : (config : Config) → config_fault_of config ≡ None → length config.areas ≤ 16
+sound_few config e =
+    let h = left_false (length config.areas == 0) (nat_lt 16 (length config.areas) || has_alike config.areas) (no_wrong_areas config e) in
+    at_most 16 (length config.areas) (left_false (nat_lt 16 (length config.areas)) (has_alike config.areas) h.1).0

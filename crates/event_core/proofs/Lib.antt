@@ -7,4 +7,6 @@ pub mod RoutesRight
 pub mod DueRight
 pub mod Settled
 pub mod NoWork
+pub mod SmallWorks
+pub mod Uncut
 pub mod OtherItems

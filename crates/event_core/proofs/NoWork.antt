@@ -1,5 +1,5 @@
 -- No work is due between states whose areas have the same trees.
-use Rattle.std.proofs.Common.{◌≡◌, ◌≤◌, ℕ, List, [], ◌∷◌, length, map, refl, sym, ap, subst, arith}
+use Rattle.std.proofs.Common.{◌≡◌, ◌≤◌, ℕ, List, [], ◌∷◌, length, map, refl, sym, ap, subst, inl, inr, arith}
 use Rattle.std.specs.Prelude.{◌↔◌, min}
 use Rattle.std.specs.List.{Contains, sum_by}
 use Rattle.ospf_types.specs.declared.config.AreaConfig.{AreaConfig}
@@ -11,9 +11,10 @@ use Rattle.ospf_types.specs.Links.{IsLink, IsVertex}
 use Rattle.ospf_types.proofs.Elements.{no_element, first_element}
 use Rattle.spf.specs.Touched.{Touched}
 use Rattle.spf.specs.Changes.{SameLinks, link_value}
+use Rattle.spf.proofs.Counting.{no_doubles_nil}
 use Rattle.spf.proofs.SameLinks.{distance_same, hop_same}
 use Rattle.area_trees.specs.Areas.{AreaTreeValue}
-use Rattle.area_trees.specs.Work.{IsWorkOf, HasNewDistance, HasNewHops}
+use Rattle.area_trees.specs.Work.{IsWorkOf, HasNewDistance, HasOtherHops}
 use Rattle.area_trees.proofs.Inside.{links_in, root_in}
 use Rattle.event_state.specs.Held.{AreFit}
 use Rattle.event_state.specs.States.{State, inputs_of}
@@ -32,8 +33,8 @@ module _ (root : ℕ) (A B : Links) (had has : Type 0) (same : SameLinks A B) (r
   not_new : (v : Vertex) → HasNewDistance root A B had has v → ⊥
   not_new v w = w.1.2 ((distance_same root same rooted v w.1.0).1 w.1.1)
 
-  not_other : (v : Vertex) → HasNewHops root A B had has v → ⊥
-  not_other v w = w.2 (λ h. let is = hop_same root same rooted v h in (is.1, is.0))
+  not_other : (v : Vertex) → HasOtherHops root A B had has v → ⊥
+  not_other v other = other (λ h. let is = hop_same root same rooted v h in (is.1, is.0))
 
   -- over the same links there is nothing to do
   nothing_due : IsWorkOf root A B had has 0 0
@@ -46,8 +47,16 @@ module _ (root : ℕ) (A B : Links) (had has : Type 0) (same : SameLinks A B) (r
     };
     taken_most = λ first second heads first_out second_out owed. omega arith;
     sets_most = λ first second heads first_out second_out owed. omega arith;
-    taken_least = λ vertices once each. none_in vertices (λ v c. not_new v (each v c));
-    sets_least = λ vertices once each. none_in vertices (λ v c. not_other v (each v c));
+    taken_least = λ moved differing moved_once differing_once each each_differs. omega (
+      arith,
+      none_in moved (λ v c. not_new v (each v c)),
+      none_in differing (λ v c. elim (each_differs v c) [ inl new ↦ not_new v new | inr other ↦ not_other v other.2 ]),
+    );
+    taken_twice_most = λ reached all. omega arith;
+    written = [];
+    written_apart = no_doubles_nil;
+    written_exact = λ v. (λ c. absurd (no_element v c), λ other. absurd (not_other v other));
+    sets_are = refl;
   }
 
 -- no work for each of the areas

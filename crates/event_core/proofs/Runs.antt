@@ -1,6 +1,6 @@
 -- Runs of events, and one event more.
 use Rattle.std.proofs.Common.{◌≡◌, ℕ, ◌≤◌, take, List, [], ◌∷◌, ◌++◌, length, Option, Some, None, refl, sym, ap, subst, ◌∙◌, arith}
-use Rattle.std.specs.Prelude.{false, ◌↔◌, ◌<◌, Result, Ok, Err, OnOk, OnErr}
+use Rattle.std.specs.Prelude.{false, ◌↔◌, ◌<◌, Result, Ok, Err, IfOk, OnOk, OnErr}
 use Rattle.std.proofs.lemmas.List.{length-append, take-append-le, take_all}
 use Rattle.ospf_types.specs.declared.config.Config.{Config}
 use Rattle.ospf_types.specs.Lsa.{key_of}
@@ -19,16 +19,19 @@ use Rattle.event_core.specs.Right.{IsRight, AreDue}
 use Rattle.event_core.specs.declared.reply.Reply.{Reply}
 use Rattle.event_core.specs.declared.reply.Standing.{Standing}
 use Rattle.event_core.specs.declared.reply.Standing.TheVariants.{Current, Behind}
-use Rattle.event_core.specs.Cores.{CoreValue, IsCore, IsTaken, Stands, HasBoundedWork, NamesChanges, state_of}
+use Rattle.event_core.specs.Cores.{CoreValue, IsCore, IsTaken, Applies, Tells, Stands, HasBoundedWork, NamesChanges, state_of}
 use Rattle.event_core.specs.Kept.{core_of, IsCoherent}
+use Rattle.event_state.specs.declared.refusal.Refusal.{Refusal}
 use Rattle.config_faults.specs.Configs.{config_fault_of}
 use Rattle.ospf_types.specs.declared.memory.Memory.{Memory}
 use Rattle.calculation.specs.Totals.{IsBuildWork}
 use Rattle.calculation.specs.Works.{IsEventWork}
 use Rattle.event_core.specs.Following.{RoutesValue, AreRoutesOf, AreChanges, no_work}
+use Rattle.event_core.specs.Sums.{IsFollowingWork, IsBuildingWork}
 use Rattle.event_state.specs.Held.{AreFit}
 use Rattle.event_core.proofs.DueRight.{routes_due}
 use Rattle.event_core.proofs.RoutesRight.{routes_right}
+use Rattle.event_core.proofs.Uncut.{event_uncut, build_uncut}
 
 -- what no event changes
 pub record SameSetting (s t : State) : Type 0 where
@@ -197,9 +200,12 @@ module _ (s u : State) (r new : RoutesValue) (built : ℕ) (e : Event) (kept : I
 
   pub bounded_ok : (result : Result (Unit {0}) Memory) (now : ℕ) → now ≡ length u.journal → result ≡ Ok tt → IsSettled s u r built result new → HasBoundedWork (core_of s r built) Current (core_of u new now)
   bounded_ok (Ok x) now all ok h =
-      let after = settled_ok now all h.right in (
-        λ current. subst (λ (v : State). IsEventWork v (state_of (core_of u new now)) new.work) kept.run (subst (λ (v : State). IsEventWork s v new.work) after.run (h.bounded current)),
-        λ behind. subst (λ (v : State). IsBuildWork v new.work) after.run (h.anew behind),
+      let after = settled_ok now all h.right in
+      let config : u.config ≡ s.config = ap (λ (v : State). v.config) is ∙ (step_setting s e).config in
+      let sound : config_fault_of u.config ≡ None = ap config_fault_of config ∙ kept.core.sound in
+      let follows : built ≡ length s.journal → IsFollowingWork s u new.work = λ current. event_uncut s u r.calculation new.calculation new.work kept.core.sound config (kept.fresh current).calculation h.right.calculation (h.bounded current) in (
+        λ current. subst (λ (v : State). IsFollowingWork v (state_of (core_of u new now)) new.work) kept.run (subst (λ (v : State). IsFollowingWork s v new.work) after.run (follows current)),
+        λ behind. subst (λ (v : State). IsBuildingWork v new.work) after.run (build_uncut u new.work sound (h.anew behind)),
       )
   bounded_ok (Err m) now all ok h = absurd cc
 
@@ -220,3 +226,10 @@ pub record IsOutcome (s u : State) (r : RoutesValue) (built : ℕ) (result : Res
   pub state_is : state ≡ u
   pub still_is : still ≡ built
   pub settled : IsSettled s u r built result new
+
+-- ---- a run of several events
+
+-- what is told after one of them
+pub tells : (old : CoreValue) (e : Event) (r : Result Reply Refusal) (new : CoreValue) → Applies old e r new → IfOk r (λ reply. NamesChanges old reply.state new) → IfOk r (λ reply. HasBoundedWork old reply.state new) → Tells old r new
+tells old e (Ok reply) new applied changes work = (changes, work)
+tells old e (Err refusal) new applied changes work = (ap (λ (c : CoreValue). c.changes) applied.unchanged, ap (λ (c : CoreValue). c.work) applied.unchanged)

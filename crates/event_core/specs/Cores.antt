@@ -18,9 +18,8 @@ use Rattle.dues.specs.Due.{Due}
 use Rattle.event_core.specs.Right.{IsRight, AreDue}
 use Rattle.ospf_types.specs.declared.prefix.Prefix.{Prefix}
 use Rattle.spf.specs.Touched.{Touched}
-use Rattle.calculation.specs.Totals.{IsBuildWork}
-use Rattle.calculation.specs.Works.{IsEventWork}
 use Rattle.event_core.specs.Following.{AreChanges, no_work}
+use Rattle.event_core.specs.Sums.{IsFollowingWork, IsBuildingWork}
 
 pub record CoreValue : Type 0 where
   pub config : Config
@@ -81,15 +80,20 @@ abbrev pub NamesChanges : CoreValue → Standing → CoreValue → Type 0
 NamesChanges old Current new = (IsCurrent old → AreChanges old.table.items new.table.items new.changes) × ((IsCurrent old → ⊥) → new.changes ≡ [])
 NamesChanges old Behind new = new.changes ≡ []
 
--- Of an event that finds the table current and leaves it current, the work is bounded by what differs in the areas. One that finds it behind builds all.
+-- Of an event that finds the table current and leaves it current, the work is the sum over the areas, in each of which it is bounded by what differs. One that finds it behind builds all: the sum over the areas of what is reached.
 abbrev pub HasBoundedWork : CoreValue → Standing → CoreValue → Type 0
-HasBoundedWork old Current new = (IsCurrent old → IsEventWork (state_of old) (state_of new) new.work) × ((IsCurrent old → ⊥) → IsBuildWork (state_of new) new.work)
+HasBoundedWork old Current new = (IsCurrent old → IsFollowingWork (state_of old) (state_of new) new.work) × ((IsCurrent old → ⊥) → IsBuildingWork (state_of new) new.work)
 HasBoundedWork old Behind new = new.work ≡ no_work
 
--- the answers to events, one after the other
+-- what `changes` and `work` tell after an event: of one that was taken its own, after a refusal what they told before
+abbrev pub Tells : CoreValue → Result Reply Refusal → CoreValue → Type 0
+Tells old (Ok reply) new = NamesChanges old reply.state new × HasBoundedWork old reply.state new
+Tells old (Err refusal) new = (new.changes ≡ old.changes) × (new.work ≡ old.work)
+
+-- the answers to events, one after the other; so what is told in the end is told of the last that was taken, or as before
 abbrev pub Runs : CoreValue → List Event → List (Result Reply Refusal) → CoreValue → Type 0
 Runs old [] [] new = new ≡ old
-Runs old (e ∷ es) (r ∷ rs) new = (mid : CoreValue) × Applies old e r mid × Runs mid es rs new
+Runs old (e ∷ es) (r ∷ rs) new = (mid : CoreValue) × Applies old e r mid × Tells old r mid × Runs mid es rs new
 Runs old [] (r ∷ rs) new = ⊥
 Runs old (e ∷ es) [] new = ⊥
 

@@ -3,6 +3,7 @@ pub mod Cores
 pub mod Kept
 pub mod Listings
 pub mod Following
+pub mod Sums
 pub use Rattle.config_faults.specs.Configs
 pub use Rattle.config_faults.specs.Texts
 pub use Rattle.config_faults.specs.declared.fault.ConfigFault

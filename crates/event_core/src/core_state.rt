@@ -172,7 +172,8 @@ impl Core {
     }
 
     /// Applies the events one after the other. Room for all answers is made first: where it is
-    /// refused, no event is applied.
+    /// refused, no event is applied. Afterwards `changes` and `work` tell of the last event that was taken, and where
+    /// none was, what they told before.
     pub fn run(&mut self, events: Vec<Event>) -> Result<Vec<Result<Reply, Refusal>>, Memory>
         ensures runs { IfOk result (λ replies. Runs self.old events.items replies.items self.new) }
         ensures err { OnErr result (self.new ≡ self.old) }

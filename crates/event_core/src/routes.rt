@@ -5,7 +5,7 @@ ghost use Rattle.std.specs.Map.{keys_of};
 ghost use Rattle.ospf_types.specs.Network.{network_cmp};
 ghost use Rattle.vertex_graph.specs.Graphs.{most_routers};
 ghost use Rattle.event_state.specs.Held.{AreFit};
-ghost use Rattle.event_state.specs.States.{State as StateValue, LooksAlike};
+ghost use Rattle.event_state.specs.States.{AreApart, State as StateValue, LooksAlike};
 ghost use Rattle.dues.specs.Dues.{lists_of};
 ghost use Rattle.calculation.specs.Calculations.{IsCalculationOf, IsTableOf};
 ghost use Rattle.calculation.specs.Trees.{StatesDifferAmong};
@@ -74,6 +74,7 @@ impl Routes {
         hashing: RandomState,
     ) -> Result<Routes, Memory>
         requires few { state.now.limits.area_lsas ≤ most_routers }
+        requires apart { AreApart state.now.config.areas }
         ensures right { IfOk result (AreRoutesOf state.now) }
         ensures work { IfOk result (λ routes. routes.work ≡ no_work) }
         ensures changes { IfOk result (λ routes. routes.changes ≡ []) }
@@ -98,6 +99,7 @@ impl Routes {
         hashing: RandomState,
     ) -> Result<Touched, Memory>
         requires few { state.now.limits.area_lsas ≤ most_routers }
+        requires apart { AreApart state.now.config.areas }
         ensures right { OnOk result (AreRoutesOf state.now self.new) }
         ensures fit { OnOk result (AreFit state.now.config.areas state.now.databases) }
         ensures built { IfOk result (IsBuildWork state.now) }
@@ -122,6 +124,7 @@ impl Routes {
         hashing: RandomState,
     ) -> Result<(), Memory>
         requires few { state.now.limits.area_lsas ≤ most_routers }
+        requires apart { AreApart state.now.config.areas }
         ensures right { OnOk result (AreRoutesOf state.now self.new) }
         ensures fit { OnOk result (AreFit state.now.config.areas state.now.databases) }
         ensures built { OnOk result (IsBuildWork state.now self.new.work) }
@@ -239,6 +242,7 @@ fn from_scratch(
     hashing: RandomState,
 ) -> Result<(Calculation, Table, Dues, Touched), Memory>
     requires few { state.now.limits.area_lsas ≤ most_routers }
+    requires apart { AreApart state.now.config.areas }
     ensures calculation { IfOk result (λ built. IsCalculationOf state.now built.0) }
     ensures items { IfOk result (λ built. IsTableOf built.0 built.1.items) }
     ensures serial { IfOk result (λ built. built.1.serial ≡ length state.now.journal) }

@@ -33,7 +33,7 @@ allowed_at ds k key e = sym (ap (λ (d : Database). purge_refusal_of (get d key)
 
 -- there is a database at the place of a scope
 pub place_held : (config : Config) (limits : Limits) (ds : List DatabaseValue) (at : Scope) (k : ℕ) → IsHeld config limits ds → place_of config.areas at ≡ Some k → k < length (lsas_in ds)
-place_held config limits ds at k h place = omega (arith, place_within config.areas at k place, h.fit.places)
+place_held config limits ds at k h place = omega (arith, place_within config.areas at k place, h.kept.places)
 
 module _ (config : Config) (limits : Limits) (v : Vec DatabaseValue) (new : List DatabaseValue) (at : Scope) (k : ℕ) (change : Database → Database) (held : IsHeld config limits v.items) (place : place_of config.areas at ≡ Some k) where
   -- the databases after a change that keeps its database fit

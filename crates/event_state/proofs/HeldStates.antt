@@ -26,7 +26,7 @@ use Rattle.event_state.proofs.Aging.{get-all_aged, all_aged_empty}
 use Rattle.event_state.specs.declared.limits.Limits.{Limits}
 use Rattle.event_state.specs.Changes.{lsas_in, limits_in, empty_values, aged_value}
 use Rattle.event_state.specs.States.{AreApart, place_of}
-use Rattle.event_state.specs.Held.{IsHeld, IsFit, AreFit, AreLimited}
+use Rattle.event_state.specs.Held.{IsHeld, IsFit, AreFit, AreKept, AreLimited}
 use Rattle.event_state.specs.Steps.{is_out_of_scope}
 use Rattle.ospf_types.proofs.Maps.{entries-from_entries}
 use Rattle.event_state.proofs.Places.{place_within, places_apart, area_at}
@@ -131,20 +131,33 @@ fit_new areas scope.As k e =
 places_new : (areas : List AreaConfig) → length (map (λ (a : AreaConfig). let none : Database = empty in none) areas ++ empty ∷ []) ≡ length areas + 1
 places_new areas = length-append _ _ ∙ ap (λ (n : ℕ). n + 1) (length-map areas (λ (a : AreaConfig). empty))
 
-pub held_new : (config : Config) (limits : Limits) (ds : List DatabaseValue) → AreApart config.areas → ds ≡ empty_values config.areas limits → IsHeld config limits ds
-held_new config limits ds apart is =
+all_empty : (areas : List AreaConfig) (k : ℕ) → get_or (map (λ (a : AreaConfig). let none : Database = empty in none) areas ++ empty ∷ []) k empty ≡ empty
+all_empty [] zero = refl
+all_empty [] (suc k) = refl
+all_empty (a ∷ areas) zero = refl
+all_empty (a ∷ areas) (suc k) = all_empty areas k
+
+pub held_new : (config : Config) (limits : Limits) (ds : List DatabaseValue) → ds ≡ empty_values config.areas limits → IsHeld config limits ds
+held_new config limits ds is =
     let lsas : lsas_in ds ≡ map (λ (a : AreaConfig). empty) config.areas ++ empty ∷ [] = ap lsas_in is ∙ lsas_of_empty config.areas limits in
     let most : limits_in ds ≡ map (λ (a : AreaConfig). limits.area_lsas) config.areas ++ limits.externals ∷ [] = ap limits_in is ∙ limits_of_empty config.areas limits in
     record {
-      fit = subst (AreFit config.areas) (sym lsas) (record { apart = apart; places = places_new config.areas; fit = λ at k e. fit_new config.areas at k e });
+      kept = subst (AreKept config.areas) (sym lsas) (record { places = places_new config.areas; fit = λ at k e. fit_new config.areas at k e; reached = λ k lt. inr (all_empty config.areas k) });
       limited = subst (AreLimited config.areas limits) (sym most) (limited_new config.areas limits);
     }
 
 -- ---- a change to one database
 
-fit_changed : (areas : List AreaConfig) (ds : List Database) (at : Scope) (k : ℕ) (d : Database) → AreFit areas ds → place_of areas at ≡ Some k → IsFit at d → AreFit areas (set ds k d)
-fit_changed areas ds at k d h place new = record {
-  apart = h.apart;
+kept_changed : (areas : List AreaConfig) (ds : List Database) (at : Scope) (k : ℕ) (d : Database) → AreKept areas ds → place_of areas at ≡ Some k → IsFit at d → AreKept areas (set ds k d)
+kept_changed areas ds at k d h place new = record {
+  reached = λ j lt.
+      elim (cases_eq j k) [
+        | inl same ↦ inl (at, place ∙ ap Some (sym same))
+        | inr differs ↦ elim (h.reached j (omega (arith, lt, length-set ds k d))) [
+          | inl there ↦ inl there
+          | inr none ↦ inr (get_or-set_other ds k j d empty differs ∙ none)
+        ]
+      ];
   places = length-set ds k d ∙ h.places;
   fit = λ other j e.
       elim (cases_eq j k) [
@@ -161,7 +174,7 @@ fit_changed areas ds at k d h place new = record {
 pub held_change : (config : Config) (limits : Limits) (ds new : List DatabaseValue) (at : Scope) (k : ℕ) (change : Database → Database) → IsHeld config limits ds → place_of config.areas at ≡ Some k
     → (IsFit at (get_or (lsas_in ds) k empty) → IsFit at (change (get_or (lsas_in ds) k empty))) → lsas_in new ≡ set (lsas_in ds) k (change (get_or (lsas_in ds) k empty)) → limits_in new ≡ limits_in ds → IsHeld config limits new
 held_change config limits ds new at k change h place keeps lsas most = record {
-  fit = subst (AreFit config.areas) (sym lsas) (fit_changed config.areas (lsas_in ds) at k _ h.fit place (keeps (h.fit.fit at k place)));
+  kept = subst (AreKept config.areas) (sym lsas) (kept_changed config.areas (lsas_in ds) at k _ h.kept place (keeps (h.kept.fit at k place)));
   limited = subst (AreLimited config.areas limits) (sym most) h.limited;
 }
 
@@ -175,9 +188,15 @@ limits_later : (ds : List DatabaseValue) → limits_in (map aged_value ds) ≡ l
 limits_later [] = refl
 limits_later (d ∷ ds) = ap (λ (ns : List ℕ). d.limit ∷ ns) (limits_later ds)
 
-fit_later : (areas : List AreaConfig) (ds : List Database) → AreFit areas ds → AreFit areas (map all_aged ds)
-fit_later areas ds h = record {
-  apart = h.apart;
+kept_later : (areas : List AreaConfig) (ds : List Database) → AreKept areas ds → AreKept areas (map all_aged ds)
+kept_later areas ds h = record {
+  reached = λ k lt.
+      elim (h.reached k (omega (arith, lt, length-map ds all_aged))) [
+        | inl there ↦ inl there
+        | inr none ↦
+            let empty_too : all_aged empty ≡ empty = all_aged_empty in
+            inr (ap (get_or (map all_aged ds) k) (sym empty_too) ∙ mapped_at all_aged ds k empty ∙ ap all_aged none ∙ empty_too)
+      ];
   places = length-map ds all_aged ∙ h.places;
   fit = λ at k e.
       let none : all_aged empty ≡ empty = all_aged_empty in
@@ -187,6 +206,11 @@ fit_later areas ds h = record {
 
 pub held_later : (config : Config) (limits : Limits) (ds : List DatabaseValue) → IsHeld config limits ds → IsHeld config limits (map aged_value ds)
 held_later config limits ds h = record {
-  fit = subst (AreFit config.areas) (sym (lsas_later ds)) (fit_later config.areas (lsas_in ds) h.fit);
+  kept = subst (AreKept config.areas) (sym (lsas_later ds)) (kept_later config.areas (lsas_in ds) h.kept);
   limited = subst (AreLimited config.areas limits) (sym (limits_later ds)) h.limited;
 }
+
+-- ---- areas of different Area IDs
+
+pub fit_apart : (areas : List AreaConfig) (ds : List Database) → AreKept areas ds → AreApart areas → AreFit areas ds
+fit_apart areas ds h apart = record { apart = apart; places = h.places; fit = h.fit }

@@ -18,14 +18,14 @@ use Rattle.ospf_types.proofs.Orders.{key_total, key_exact}
 use Rattle.lsa_codec.specs.Readers.{with_age}
 use Rattle.lsdb.specs.Databases.{Database, DatabaseValue, all_aged, aged_out, changed_at, purge_refusal_of}
 use Rattle.lsdb.specs.Contents.{contents_of, used_at, NoneComes, IsUsedAlike}
-use Rattle.event_state.proofs.Aging.{none_same, same_none}
+use Rattle.event_state.proofs.Aging.{none_same, same_none, none_empty}
 use Rattle.event_state.specs.declared.event.Event.{Event}
 use Rattle.event_state.specs.declared.event.Event.TheVariants as event
 use Rattle.event_state.specs.Changes.{lsas_in}
 use Rattle.event_state.specs.States.{State, LooksAlike, place_of, changed_at_place, with_change}
 use Rattle.event_state.specs.Steps.{changed_by, with_interface}
-use Rattle.event_state.specs.Held.{AreFit}
-use Rattle.event_state.proofs.Places.{place_within, scope_at}
+use Rattle.event_state.specs.Held.{AreKept}
+use Rattle.event_state.proofs.Places.{place_within}
 use Rattle.event_state.proofs.OneChange.{mapped_at}
 
 -- what is used of the database at a place that may be there
@@ -126,19 +126,21 @@ used_later databases (Some k) key within none =
     let lt = within k refl in
     sym (ap (λ (d : Database). used_at d key) (get_or-map all_aged databases k empty empty lt) ∙ none_same (get_or databases k empty) key (none k empty lt))
 
-pub looks_later : (s : State) → AreFit s.config.areas s.databases → All NoneComes s.databases ↔ LooksAlike s (changed_by s event.Second)
-looks_later s fit = (
+pub looks_later : (s : State) → AreKept s.config.areas s.databases → All NoneComes s.databases ↔ LooksAlike s (changed_by s event.Second)
+looks_later s kept = (
   λ none. record {
-    usable = λ at key. used_later s.databases (place_of s.config.areas at) key (λ k e. omega (arith, place_within s.config.areas at k e, fit.places)) none;
+    usable = λ at key. used_later s.databases (place_of s.config.areas at) key (λ k e. omega (arith, place_within s.config.areas at k e, kept.places)) none;
     interfaces = refl;
   },
   λ looks. λ k d lt.
-      let at = scope_at s.config.areas k fit.apart (omega (arith, lt, fit.places)) in
       let same : get_or s.databases k empty ≡ get_or s.databases k d = get_or_default s.databases k empty d lt in
-      subst NoneComes same (same_none (get_or s.databases k empty) (λ key.
-      let stays : used_at (get_or s.databases k empty) key ≡ used_at (get_or (map all_aged s.databases) k empty) key =
-      ap (λ (o : Option ℕ). used_in s.databases o key) (sym at.1) ∙ looks.usable at.0 key ∙ ap (λ (o : Option ℕ). used_in (map all_aged s.databases) o key) at.1 in
-      ap (λ (e : Database). used_at e key) (sym (get_or-map all_aged s.databases k empty empty lt)) ∙ sym stays)),
+      subst NoneComes same (elim (kept.reached k lt) [
+        | inl at ↦ same_none (get_or s.databases k empty) (λ key.
+            let stays : used_at (get_or s.databases k empty) key ≡ used_at (get_or (map all_aged s.databases) k empty) key =
+            ap (λ (o : Option ℕ). used_in s.databases o key) (sym at.1) ∙ looks.usable at.0 key ∙ ap (λ (o : Option ℕ). used_in (map all_aged s.databases) o key) at.1 in
+            ap (λ (e : Database). used_at e key) (sym (get_or-map all_aged s.databases k empty empty lt)) ∙ sym stays)
+        | inr none ↦ subst NoneComes (sym none) none_empty
+      ]),
 )
 
 -- none of these databases has an LSA that comes to MaxAge

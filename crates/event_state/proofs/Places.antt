@@ -1,15 +1,15 @@
 -- Where the database of a scope stands.
-use Rattle.std.proofs.Common.{◌≡◌, ◌≢◌, ℕ, ◌+◌, ◌<◌, true, false, List, [], length, get_or, Some, None, refl, sym, ap, ◌∙◌, arith, inl, inr}
-use Rattle.std.specs.Prelude.{◌==◌, nat_lt}
+use Rattle.std.proofs.Common.{◌≡◌, ◌≢◌, ℕ, ◌+◌, ◌<◌, ◌≤◌, Bool, true, false, List, [], length, get_or, Some, None, refl, sym, ap, ◌∙◌, arith, inl, inr}
+use Rattle.std.specs.Prelude.{◌==◌, IsSome, nat_lt, not}
 use Rattle.std.specs.List.{position_or_len}
 use Rattle.std.proofs.lemmas.Bool.{cases_lt}
 use Rattle.std.proofs.lemmas.Bool.Decides.{nat_tests, eqb_tells}
-use Rattle.std.proofs.lemmas.List.Sums.{position_or_len_is}
+use Rattle.std.proofs.lemmas.List.Sums.{prefix_len_passes}
 use Rattle.std.proofs.lemmas.List.Quantifiers.{position-Some}
 use Rattle.ospf_types.specs.declared.config.AreaConfig.{AreaConfig}
 use Rattle.ospf_types.specs.declared.key.Scope.{Scope}
 use Rattle.ospf_types.specs.declared.key.Scope.TheVariants as scope
-use Rattle.event_state.specs.States.{AreApart, place_of}
+use Rattle.event_state.specs.States.{place_of}
 
 not_same : (x y : ℕ) → x ≢ y → (x == y) ≡ false
 not_same x y h = elim (eqb_tells x y) [ inl t ↦ absurd (h t.1) | inr t ↦ t.0 ]
@@ -23,14 +23,18 @@ same_number x y h = elim (eqb_tells x y) [ inl t ↦ t.1 | inr t ↦ absurd cc ]
 abbrev pub no_area : AreaConfig
 no_area = record { id = 0; stub = None; ranges = [] }
 
--- an area stands where its Area ID is found
-pub place_at : (areas : List AreaConfig) (k : ℕ) (d : AreaConfig) → AreApart areas → k < length areas → place_of areas (scope.Area (get_or areas k d).id) ≡ Some k
-place_at areas k d apart lt =
+-- a configured area has a place
+pub place_there : (areas : List AreaConfig) (k : ℕ) (d : AreaConfig) → k < length areas → IsSome (place_of areas (scope.Area (get_or areas k d).id))
+place_there areas k d lt =
     let id = (get_or areas k d).id in
-    let at : position_or_len (λ (a : AreaConfig). a.id == id) areas ≡ k =
-    position_or_len_is (λ (a : AreaConfig). a.id == id) areas k d (omega arith) (λ j below. not_same (get_or areas j d).id id (apart j k d below lt)) (λ _. itself id) in
-    let within : nat_lt k (length areas) ≡ true = grind (arith, nat_tests) in
-    rw (at, within) refl
+    let test : AreaConfig → Bool = λ a. a.id == id in
+    let n = position_or_len test areas in
+    let early : n ≤ k = elim (cases_lt k n) [
+      | inl past ↦ let fails : not (test (get_or areas k d)) ≡ true = prefix_len_passes (λ a. not (test a)) areas k d past in let wrong : not true ≡ true = sym (ap not (itself id)) ∙ fails in absurd cc
+      | inr within ↦ within
+    ] in
+    let within : nat_lt n (length areas) ≡ true = grind (arith, nat_tests) in
+    rw within refl
 
 -- the place of a configured area is one of the areas', and the area there has the Area ID
 pub area_at : (areas : List AreaConfig) (id k : ℕ) → place_of areas (scope.Area id) ≡ Some k → (k < length areas) × ((get_or areas k no_area).id ≡ id)
@@ -49,10 +53,3 @@ places_apart areas (scope.Area a) (scope.Area b) k e f = ap scope.Area (sym (are
 places_apart areas (scope.Area a) scope.As k e f = let last : length areas ≡ k = cc in absurd (omega (arith, (area_at areas a k e).0))
 places_apart areas scope.As (scope.Area b) k e f = let last : length areas ≡ k = cc in absurd (omega (arith, (area_at areas b k f).0))
 places_apart areas scope.As scope.As k e f = refl
-
--- every place is that of some scope
-pub scope_at : (areas : List AreaConfig) (k : ℕ) → AreApart areas → k < length areas + 1 → (at : Scope) × (place_of areas at ≡ Some k)
-scope_at areas k apart lt = elim (cases_lt k (length areas)) [
-  | inl inside ↦ (scope.Area (get_or areas k no_area).id, place_at areas k no_area apart inside)
-  | inr past ↦ (scope.As, let last : length areas ≡ k = omega arith in ap Some last)
-]

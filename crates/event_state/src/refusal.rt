@@ -3,12 +3,12 @@ ghost use Rattle.event_state.specs.Texts.{refusal_text};
 ghost use Rattle.event_state.specs.Refusals.{refusal_for};
 
 use lsdb::InstallRefusal;
-use std::error::Error;
 use std::fmt;
+use thiserror::Error;
 
 /// Why an event was not taken: the first of these, in this order, that holds. It left everything as it
 /// was. The last two are refusals of several workers at once, never of an event.
-#[derive(Clone, Copy, Debug, PartialEq, Eq)]
+#[derive(Clone, Copy, Debug, PartialEq, Eq, Error)]
 pub enum Refusal {
     /// The area of the scope or of the interface is not configured.
     NoArea,
@@ -74,5 +74,3 @@ impl fmt::Display for Refusal {
         })
     }
 }
-
-impl Error for Refusal {}

@@ -79,7 +79,6 @@ impl Model for State {
 impl State {
     /// No interfaces, empty databases and an empty journal, with the standard limits.
     pub fn new(alloc: Global, config: Config, hashing: RandomState) -> Result<State, Memory>
-        requires { AreApart config.areas }
         ensures { IfOk result (λ state. state ≡ opening config standard_limits) }
     {
         State::within(alloc, config, Limits::STANDARD, hashing)
@@ -92,7 +91,6 @@ impl State {
         limits: Limits,
         hashing: RandomState,
     ) -> Result<State, Memory>
-        requires { AreApart config.areas }
         ensures { IfOk result (λ state. state ≡ opening config limits) }
     {
         let databases = empty_databases(alloc, config.areas.as_slice(), limits, hashing)?;
@@ -107,7 +105,7 @@ impl State {
 
     pub fn config(&self) -> &Config
         ensures value { result.now ≡ self.now.config }
-        ensures fit { AreFit self.now.config.areas self.now.databases }
+        ensures fit { AreApart self.now.config.areas → AreFit self.now.config.areas self.now.databases }
     {
         &self.config
     }
@@ -122,7 +120,7 @@ impl State {
     /// The events that were taken, in their order.
     pub fn journal(&self) -> &[Event]
         ensures value { result.now ≡ self.now.journal }
-        ensures fit { AreFit self.now.config.areas self.now.databases }
+        ensures fit { AreApart self.now.config.areas → AreFit self.now.config.areas self.now.databases }
     {
         self.journal.as_slice()
     }

@@ -1,5 +1,6 @@
-ghost use Rattle.std.specs.Prelude.{ℕ, ◌≡◌, ◌↔◌, List, Contains, IsSome, IfOk, OnOk, OnErr, false, option_copied};
+ghost use Rattle.std.specs.Prelude.{ℕ, ◌≡◌, ◌≢◌, ◌↔◌, List, Contains, IsSome, IfOk, OnOk, OnErr, false, option_copied};
 ghost use Rattle.std.specs.FinMap as map;
+ghost use Rattle.std.specs.List.{AllPairs};
 ghost use Rattle.std.specs.List.Sorted.{IsStrictlySortedBy};
 ghost use Rattle.ospf_types.specs.declared.hop.NextHop.{NextHop as HopValue};
 ghost use Rattle.ospf_types.specs.declared.key.Dest.{Dest as DestValue};
@@ -130,7 +131,8 @@ impl External {
 
     /// The networks that have an entry, in no stated order, each once.
     pub fn networks(&self, alloc: Global) -> Result<Vec<Prefix>, Memory>
-        ensures { IfOk result (λ networks. (p : PrefixValue) → Contains networks.items p ↔ IsSome (map.get self.now.entries p)) }
+        ensures exact { IfOk result (λ networks. (p : PrefixValue) → Contains networks.items p ↔ IsSome (map.get self.now.entries p)) }
+        ensures each_once { IfOk result (λ networks. AllPairs (λ p q. p ≢ q) networks.items) }
     {
         self.entries.keys(alloc)
     }
@@ -144,7 +146,8 @@ impl External {
 
     /// The AS boundary routers that have a preferred entry, in no stated order, each once.
     pub fn routers(&self, alloc: Global) -> Result<Vec<u32>, Memory>
-        ensures { IfOk result (λ routers. (r : ℕ) → Contains routers.items r ↔ IsSome (map.get self.now.preferred r)) }
+        ensures exact { IfOk result (λ routers. (r : ℕ) → Contains routers.items r ↔ IsSome (map.get self.now.preferred r)) }
+        ensures each_once { IfOk result (λ routers. AllPairs (λ q r. q ≢ r) routers.items) }
     {
         self.preferred.keys(alloc)
     }

@@ -1,4 +1,4 @@
--- Links that are added to a list.
+-- What is added to a list, and the ways of a router that are.
 use Rattle.std.proofs.Common.{◌≡◌, ℕ, ◌<◌, ◌≤◌, ◌+◌, List, [], ◌∷◌, ◌++◌, length, get_or, take, Result, Ok, Err, sym, subst, ◌⊎◌, inl, inr, ⊎_elim}
 use Rattle.std.specs.Prelude.{◌↔◌, OnOk}
 use Rattle.std.specs.List.{Contains}
@@ -7,25 +7,34 @@ use Rattle.std.proofs.lemmas.List.Elements.{Contains-append_left, Contains-appen
 use Rattle.ospf_types.specs.declared.label.Label.{Label}
 use Rattle.ospf_types.specs.declared.label.Label.TheVariants.{Over, At, Plain}
 use Rattle.ospf_types.specs.declared.memory.Memory.{Memory}
-use Rattle.ospf_types.proofs.Elements.{first_element}
+use Rattle.ospf_types.proofs.Elements.{no_element, first_element}
 use Rattle.graph_links.specs.declared.end.End.{End}
 use Rattle.graph_links.specs.declared.link.Link.{Link}
 use Rattle.graph_links.specs.declared.link.Up.{Up}
-use Rattle.graph_links.specs.Pairs.{Adds, IsOutLabel, IsOver}
+use Rattle.graph_links.specs.declared.ways.Way.{Way}
+use Rattle.graph_links.specs.Pairs.{Adds, IsOutLabel, IsWay, IsWayOver, label_over}
 
--- where there is one to be added, it goes to the end
-pub adds_one : (xs : List Link) (x : Link) (Is : Link → Type 0) → Is x → ((l : Link) → Is l → l ≡ x) → Adds xs (xs ++ x ∷ []) Is
-adds_one xs x Is here only l = (
-  λ c. ⊎_elim (λ (old : Contains xs l). inl old) (λ (e : x ≡ l). inr (subst Is e here)) (Contains-push_cases xs x l c),
-  λ h. ⊎_elim (λ (old : Contains xs l). Contains-append_left xs (x ∷ []) l old) (λ (i : Is l). subst (Contains (xs ++ x ∷ [])) (sym (only l i)) (Contains-append_right xs (x ∷ []) x (first_element x []))) h,
-)
+module _ {X : Type 0} where
+  -- where there is one to be added, it goes to the end
+  pub adds_one : (xs : List X) (x : X) (Is : X → Type 0) → Is x → ((l : X) → Is l → l ≡ x) → Adds xs (xs ++ x ∷ []) Is
+  adds_one xs x Is here only l = (
+    λ c. ⊎_elim (λ (old : Contains xs l). inl old) (λ (e : x ≡ l). inr (subst Is e here)) (Contains-push_cases xs x l c),
+    λ h. ⊎_elim (λ (old : Contains xs l). Contains-append_left xs (x ∷ []) l old) (λ (i : Is l). subst (Contains (xs ++ x ∷ [])) (sym (only l i)) (Contains-append_right xs (x ∷ []) x (first_element x []))) h,
+  )
 
--- these are added, and then those
-pub adds_both : (xs ys zs : List Link) (P Q R : Link → Type 0) → Adds xs ys P → Adds ys zs Q → ((l : Link) → R l ↔ (P l ⊎ Q l)) → Adds xs zs R
-adds_both xs ys zs P Q R first then join l = (
-  λ c. ⊎_elim (λ (y : Contains ys l). ⊎_elim (λ (x : Contains xs l). inl x) (λ (p : P l). inr ((join l).1 (inl p))) ((first l).0 y)) (λ (q : Q l). inr ((join l).1 (inr q))) ((then l).0 c),
-  λ h. ⊎_elim (λ (x : Contains xs l). (then l).1 (inl ((first l).1 (inl x)))) (λ (r : R l). ⊎_elim (λ (p : P l). (then l).1 (inl ((first l).1 (inr p)))) (λ (q : Q l). (then l).1 (inr q)) ((join l).0 r)) h,
-)
+  -- these are added, and then those
+  pub adds_both : (xs ys zs : List X) (P Q R : X → Type 0) → Adds xs ys P → Adds ys zs Q → ((l : X) → R l ↔ (P l ⊎ Q l)) → Adds xs zs R
+  adds_both xs ys zs P Q R first then join l = (
+    λ c. ⊎_elim (λ (y : Contains ys l). ⊎_elim (λ (x : Contains xs l). inl x) (λ (p : P l). inr ((join l).1 (inl p))) ((first l).0 y)) (λ (q : Q l). inr ((join l).1 (inr q))) ((then l).0 c),
+    λ h. ⊎_elim (λ (x : Contains xs l). (then l).1 (inl ((first l).1 (inl x)))) (λ (r : R l). ⊎_elim (λ (p : P l). (then l).1 (inl ((first l).1 (inr p)))) (λ (q : Q l). (then l).1 (inr q)) ((join l).0 r)) h,
+  )
+
+  -- all of a list
+  pub adds_list : (xs ys : List X) (P : X → Type 0) → ((l : X) → Contains ys l ↔ P l) → Adds xs (xs ++ ys) P
+  adds_list xs ys P are l = (
+    λ c. ⊎_elim (λ (early : Contains xs l). inl early) (λ (late : Contains ys l). inr ((are l).0 late)) (Contains-append_cases xs ys l c),
+    λ h. ⊎_elim (λ (early : Contains xs l). Contains-append_left xs ys l early) (λ (p : P l). Contains-append_right xs ys l ((are l).1 p)) h,
+  )
 
 -- the same links said another way
 pub adds_same : (xs ys : List Link) (P Q : Link → Type 0) → ((l : Link) → P l ↔ Q l) → Adds xs ys P → Adds xs ys Q
@@ -57,42 +66,51 @@ module _ (root router : ℕ) (detail : ℕ) where
   label_right us vs Plain h = h
   label_right us vs (At addresses) h = h
 
--- a link goes over some of the interfaces or over others
-pub over_either : (root router : ℕ) (us vs : List Up) (e : End) (l : Link) → IsOver root (us ++ vs) router e l ↔ (IsOver root us router e l ⊎ IsOver root vs router e l)
-over_either root router us vs e l = (
-  λ h. ⊎_elim (λ (i : IsOutLabel root us router e.detail l.label). inl (h.0, h.1, h.2, h.3, i)) (λ (i : IsOutLabel root vs router e.detail l.label). inr (h.0, h.1, h.2, h.3, i)) (label_either root router e.detail us vs l.label h.4),
-  λ h. ⊎_elim (λ (i : IsOver root us router e l). (i.0, i.1, i.2, i.3, label_left root router e.detail us vs l.label i.4)) (λ (i : IsOver root vs router e l). (i.0, i.1, i.2, i.3, label_right root router e.detail us vs l.label i.4)) h,
+-- a way goes over some of the interfaces or over others
+pub over_either : (root router : ℕ) (us vs : List Up) (e : End) (w : Way) → IsWay root (us ++ vs) router e w ↔ (IsWay root us router e w ⊎ IsWay root vs router e w)
+over_either root router us vs e w = (
+  λ h. ⊎_elim (λ (i : IsOutLabel root us router e.detail (label_over w.interface)). inl (h.0, h.1, i)) (λ (i : IsOutLabel root vs router e.detail (label_over w.interface)). inr (h.0, h.1, i)) (label_either root router e.detail us vs (label_over w.interface) h.2),
+  λ h. ⊎_elim (λ (i : IsWay root us router e w). (i.0, i.1, label_left root router e.detail us vs (label_over w.interface) i.2)) (λ (i : IsWay root vs router e w). (i.0, i.1, label_right root router e.detail us vs (label_over w.interface) i.2)) h,
 )
 
--- a link over one of some ends
-abbrev pub IsOverOne : ℕ → List Up → ℕ → List End → Link → Type 0
-IsOverOne root ups router ends l = (e : End) × Contains ends e × IsOver root ups router e l
-
--- a link over one end more
-pub over_one_more : (root router : ℕ) (ups : List Up) (es : List End) (e : End) (l : Link) → IsOverOne root ups router (es ++ e ∷ []) l ↔ (IsOverOne root ups router es l ⊎ IsOver root ups router e l)
-over_one_more root router ups es e l = (
-  λ h. ⊎_elim (λ (c : Contains es h.0). inl (h.0, c, h.2)) (λ (s : e ≡ h.0). inr (subst (λ (x : End). IsOver root ups router x l) (sym s) h.2)) (Contains-push_cases es e h.0 h.1),
-  λ h. ⊎_elim (λ (o : IsOverOne root ups router es l). (o.0, Contains-append_left es (e ∷ []) o.0 o.1, o.2)) (λ (i : IsOver root ups router e l). (e, Contains-append_right es (e ∷ []) e (first_element e []), i)) h,
+-- a way over one end more
+pub over_one_more : (root router : ℕ) (ups : List Up) (es : List End) (e : End) (w : Way) → IsWayOver root ups router (es ++ e ∷ []) w ↔ (IsWayOver root ups router es w ⊎ IsWay root ups router e w)
+over_one_more root router ups es e w = (
+  λ h. ⊎_elim (λ (c : Contains es h.0). inl (h.0, c, h.2)) (λ (s : e ≡ h.0). inr (subst (λ (x : End). IsWay root ups router x w) (sym s) h.2)) (Contains-push_cases es e h.0 h.1),
+  λ h. ⊎_elim (λ (o : IsWayOver root ups router es w). (o.0, Contains-append_left es (e ∷ []) o.0 o.1, o.2)) (λ (i : IsWay root ups router e w). (e, Contains-append_right es (e ∷ []) e (first_element e []), i)) h,
 )
 
 -- the loop over interfaces, one on
-pub over_on : (root : ℕ) (e : End) (ups : List Up) (i : ℕ) (none : Up) (xs ys zs : List Link) → i < length ups
-    → Adds xs ys (IsOver root (take i ups) root e) → Adds ys zs (IsOver root (get_or ups i none ∷ []) root e) → Adds xs zs (IsOver root (take (i + 1) ups) root e)
+pub over_on : (root : ℕ) (e : End) (ups : List Up) (i : ℕ) (none : Up) (xs ys zs : List Way) → i < length ups
+    → Adds xs ys (IsWay root (take i ups) root e) → Adds ys zs (IsWay root (get_or ups i none ∷ []) root e) → Adds xs zs (IsWay root (take (i + 1) ups) root e)
 over_on root e ups i none xs ys zs lt first then =
-    adds_both xs ys zs (IsOver root (take i ups) root e) (IsOver root (get_or ups i none ∷ []) root e) (IsOver root (take (i + 1) ups) root e) first then
-    (λ l. subst (λ (us : List Up). IsOver root us root e l ↔ (IsOver root (take i ups) root e l ⊎ IsOver root (get_or ups i none ∷ []) root e l)) (sym (take_more ups i none lt)) (over_either root root (take i ups) (get_or ups i none ∷ []) e l))
+    adds_both xs ys zs (IsWay root (take i ups) root e) (IsWay root (get_or ups i none ∷ []) root e) (IsWay root (take (i + 1) ups) root e) first then
+    (λ w. subst (λ (us : List Up). IsWay root us root e w ↔ (IsWay root (take i ups) root e w ⊎ IsWay root (get_or ups i none ∷ []) root e w)) (sym (take_more ups i none lt)) (over_either root root (take i ups) (get_or ups i none ∷ []) e w))
 
 -- and at its end
-pub over_all : (root : ℕ) (e : End) (ups : List Up) (i : ℕ) (xs ys : List Link) → length ups ≤ i → Adds xs ys (IsOver root (take i ups) root e) → Adds xs ys (IsOver root ups root e)
-over_all root e ups i xs ys le adds = subst (λ (us : List Up). Adds xs ys (IsOver root us root e)) (take_all i ups le) adds
+pub over_all : (root : ℕ) (e : End) (ups : List Up) (i : ℕ) (xs ys : List Way) → length ups ≤ i → Adds xs ys (IsWay root (take i ups) root e) → Adds xs ys (IsWay root ups root e)
+over_all root e ups i xs ys le adds = subst (λ (us : List Up). Adds xs ys (IsWay root us root e)) (take_all i ups le) adds
+
+-- the ways are those over these ends
+abbrev pub AreWays : ℕ → List Up → ℕ → List End → List Way → Type 0
+AreWays root ups router ends ways = (w : Way) → Contains ways w ↔ IsWayOver root ups router ends w
+
+pub ways_none : (root router : ℕ) (ups : List Up) (ways : List Way) → ways ≡ [] → AreWays root ups router [] ways
+ways_none root router ups ways none w = (
+  λ c. absurd (no_element w (subst (λ (ws : List Way). Contains ws w) none c)),
+  λ h. absurd (no_element h.0 h.1),
+)
 
 -- the loop over ends, one on
-pub one_on : (root router : ℕ) (ups : List Up) (es : List End) (i : ℕ) (none : End) (xs ys zs : List Link) → i < length es
-    → Adds xs ys (IsOverOne root ups router (take i es)) → Adds ys zs (IsOver root ups router (get_or es i none)) → Adds xs zs (IsOverOne root ups router (take (i + 1) es))
-one_on root router ups es i none xs ys zs lt first then =
-    adds_both xs ys zs (IsOverOne root ups router (take i es)) (IsOver root ups router (get_or es i none)) (IsOverOne root ups router (take (i + 1) es)) first then
-    (λ l. subst (λ (fs : List End). IsOverOne root ups router fs l ↔ (IsOverOne root ups router (take i es) l ⊎ IsOver root ups router (get_or es i none) l)) (sym (take_more es i none lt)) (over_one_more root router ups (take i es) (get_or es i none) l))
+pub ways_on : (root router : ℕ) (ups : List Up) (es : List End) (i : ℕ) (d : End) (ways ways_new : List Way) → i < length es
+    → AreWays root ups router (take i es) ways → Adds ways ways_new (IsWay root ups router (get_or es i d)) → AreWays root ups router (take (i + 1) es) ways_new
+ways_on root router ups es i d ways ways_new lt before then w =
+    let more : IsWayOver root ups router (take (i + 1) es) w ↔ (IsWayOver root ups router (take i es) w ⊎ IsWay root ups router (get_or es i d) w) =
+    subst (λ (fs : List End). IsWayOver root ups router fs w ↔ (IsWayOver root ups router (take i es) w ⊎ IsWay root ups router (get_or es i d) w)) (sym (take_more es i d lt)) (over_one_more root router ups (take i es) (get_or es i d) w) in (
+      λ c. more.1 (elim ((then w).0 c) [ inl was ↦ inl ((before w).0 was) | inr one ↦ inr one ]),
+      λ h. (then w).1 (elim (more.0 h) [ inl was ↦ inl ((before w).1 was) | inr one ↦ inr one ]),
+    )
 
 -- and at its end
-pub one_all : (root router : ℕ) (ups : List Up) (es : List End) (i : ℕ) (xs ys : List Link) → length es ≤ i → Adds xs ys (IsOverOne root ups router (take i es)) → Adds xs ys (IsOverOne root ups router es)
-one_all root router ups es i xs ys le adds = subst (λ (fs : List End). Adds xs ys (IsOverOne root ups router fs)) (take_all i es le) adds
+pub ways_all : (root router : ℕ) (ups : List Up) (es : List End) (i : ℕ) (ways : List Way) → length es ≤ i → AreWays root ups router (take i es) ways → AreWays root ups router es ways
+ways_all root router ups es i ways le are = subst (λ (fs : List End). AreWays root ups router fs ways) (take_all i es le) are

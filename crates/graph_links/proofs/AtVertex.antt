@@ -17,7 +17,7 @@ use Rattle.graph_links.specs.Pairs.{Names}
 use Rattle.graph_links.proofs.EndOrders.{vertex_total, vertex_exact, end_total}
 
 -- an end that stands before another is not at a greater vertex
-before : (a b : End) → end_cmp a b ≡ Less → (vertex_cmp a.to b.to ≡ Less) ⊎ (a.to ≡ b.to)
+pub before : (a b : End) → end_cmp a b ≡ Less → (vertex_cmp a.to b.to ≡ Less) ⊎ (a.to ≡ b.to)
 before a b less =
     elim (vertex_cmp a.to b.to) as (λ o. vertex_cmp a.to b.to ≡ o → ordering_then o (ordering_then (nat_cmp a.detail b.detail) (nat_cmp a.metric b.metric)) ≡ Less → (vertex_cmp a.to b.to ≡ Less) ⊎ (a.to ≡ b.to)) [
       | Less ↦ λ e h. inl e

@@ -2,6 +2,9 @@ pub mod EndOrders
 pub mod VertexTests
 pub mod AtVertex
 pub mod Adding
+pub mod Apart
+pub mod WaysOnce
+pub mod Neighbouring
 pub mod ByCost
 pub mod Details
 pub mod Growing

@@ -1,11 +1,10 @@
 -- The vertices that a vertex leads to, and its links found by way of them.
-use Rattle.std.proofs.Common.{◌≡◌, ◌⊎◌, inl, inr, ⊎_elim, ℕ, ◌+◌, ◌<◌, ◌≤◌, true, List, [], ◌∷◌, length, get_or, take, Ok, Err, Result, Ordering, refl, sym, ap, subst, ◌∙◌}
+use Rattle.std.proofs.Common.{◌≡◌, ◌⊎◌, inl, inr, ⊎_elim, ℕ, true, List, [], ◌∷◌, length, get_or, Ok, Err, Result, Ordering, refl, sym, ap, subst, ◌∙◌}
 use Rattle.std.specs.Prelude.{◌↔◌, Contains, IfOk}
 use Rattle.std.specs.List.{HoldsAt}
 use Rattle.std.specs.List.Sorted.{IsSearchInRange}
 use Rattle.std.specs.Result.{is_ok}
 use Rattle.std.specs.declared.cmp.Ordering.TheVariants.{Equal}
-use Rattle.std.proofs.lemmas.List.{take_all}
 use Rattle.ospf_types.specs.declared.entry.Vertex.{Vertex}
 use Rattle.ospf_types.specs.declared.label.Label.{Label}
 use Rattle.ospf_types.specs.Distances.{Links}
@@ -17,31 +16,8 @@ use Rattle.graph_links.specs.contracts.end.EndOrd.TheImpl as end_order
 use Rattle.graph_links.specs.Pairs.{Names, IsPairLink}
 use Rattle.graph_links.specs.Sides.{Leading, LinksBy, ends_or, AreOut, AreInto, AreMissing, IsOutTo, IsIntoFrom, IsMissingTo, IsMissing}
 use Rattle.graph_links.proofs.EndOrders.{end_exact, end_cmp_is}
-use Rattle.graph_links.proofs.Growing.{IsGrown, more_at, front}
+use Rattle.graph_links.proofs.Growing.{IsGrown, front}
 use Rattle.graph_links.proofs.PairAlike.{pair_names, pair_named}
-
--- ---- the vertices that ends are at
-
-pub names_none : (found : List Vertex) → found ≡ [] → (v : Vertex) → Contains found v ↔ Names [] v
-names_none found none v = (
-  λ c. absurd (no_element v (subst (λ (vs : List Vertex). Contains vs v) none c)),
-  λ named. absurd (no_element named.0 named.1),
-)
-
-pub names_more : (ends : List End) (i : ℕ) (d : End) (found found_new : List Vertex) → i < length ends → ((v : Vertex) → Contains found v ↔ Names (take i ends) v)
-    → ((v : Vertex) → Contains found_new v ↔ (Contains found v ⊎ (v ≡ (get_or ends i d).to))) → (v : Vertex) → Contains found_new v ↔ Names (take (i + 1) ends) v
-names_more ends i d found found_new within before one v =
-    let all = more_at ends i d within in (
-      λ c.
-          ⊎_elim (λ (early : Contains found v). let named = (before v).0 early in (named.0, (all named.0).1 (inl named.1), named.2))
-          (λ (e : v ≡ (get_or ends i d).to). (get_or ends i d, (all (get_or ends i d)).1 (inr refl), sym e)) ((one v).0 c),
-      λ named.
-          ⊎_elim (λ (early : Contains (take i ends) named.0). (one v).1 (inl ((before v).1 (named.0, early, named.2))))
-          (λ (e : named.0 ≡ get_or ends i d). (one v).1 (inr (sym named.2 ∙ ap (λ (end : End). end.to) e))) ((all named.0).0 named.1),
-    )
-
-pub names_all : (ends : List End) (i : ℕ) (found : List Vertex) → length ends ≤ i → ((v : Vertex) → Contains found v ↔ Names (take i ends) v) → (v : Vertex) → Contains found v ↔ Names ends v
-names_all ends i found past before v = subst (λ (es : List End). Contains found v ↔ Names es v) (take_all i ends past) (before v)
 
 -- an end that a search comes upon is there
 pub searched : (r : Result ℕ ℕ) (ends : List End) (end : End) → IfOk r (HoldsAt (λ y. end_order.ghosts.cmp y end ≡ Equal) ends) → IsSearchInRange r (length ends) → is_ok r ≡ true → Contains ends end
@@ -113,7 +89,7 @@ unlike_all others initial has rest new done before k = (
 )
 
 module _ (Here There : Links) where
-  only_pushed : (Link_of : Links) (v w : Vertex) (none links : List Link) → none ≡ [] → IsPushed Link_of v w none links → (l : Link) → Contains links l ↔ IsOutTo Link_of v l w
+  pub only_pushed : (Link_of : Links) (v w : Vertex) (none links : List Link) → none ≡ [] → IsPushed Link_of v w none links → (l : Link) → Contains links l ↔ IsOutTo Link_of v l w
   only_pushed Link_of v w none links is pushes l = (
     λ c. ⊎_elim (λ (n : Contains none l). absurd (no_element l (subst (λ (ls : List Link). Contains ls l) is n))) (λ (o : IsOutTo Link_of v l w). o) ((pushes l).0 c),
     λ o. (pushes l).1 (inr o),

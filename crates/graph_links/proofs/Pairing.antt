@@ -1,29 +1,21 @@
 -- The links of two vertices that name each other.
-use Rattle.std.proofs.Common.{◌≡◌, ℕ, List, [], ◌∷◌, ◌++◌, refl, sym, subst, ◌∙◌}
-use Rattle.std.specs.Prelude.{◌↔◌}
-use Rattle.std.specs.List.{Contains}
+use Rattle.std.proofs.Common.{◌≡◌, ℕ, List, [], ◌∷◌, ◌++◌, Result, refl, sym, subst, ◌∙◌}
+use Rattle.std.specs.Prelude.{◌↔◌, OnOk}
 use Rattle.ospf_types.specs.declared.entry.Vertex.{Vertex}
 use Rattle.ospf_types.specs.declared.entry.Vertex.TheVariants.{Router, Network}
 use Rattle.ospf_types.specs.declared.label.Label.TheVariants.{At}
+use Rattle.ospf_types.specs.declared.memory.Memory.{Memory}
 use Rattle.graph_links.specs.declared.end.End.{End}
 use Rattle.graph_links.specs.declared.link.Link.{Link}
 use Rattle.graph_links.specs.declared.link.Up.{Up}
-use Rattle.graph_links.specs.Pairs.{Adds, AreDetailsTo, IsOnto, IsPairLink, Names}
-use Rattle.graph_links.proofs.Adding.{adds_one, IsOverOne}
+use Rattle.graph_links.specs.Pairs.{Adds, AreApart, AreDetailsTo, IsOnto, IsPairLink, KeepsApart, Names}
+use Rattle.graph_links.proofs.Adding.{adds_one}
+use Rattle.graph_links.proofs.Apart.{apart_push}
 use Rattle.graph_links.proofs.Details.{one_list_of_details}
 
 -- a link from one vertex to the other
 abbrev pub IsFromTo : ℕ → List Up → Vertex → List End → Vertex → List End → Link → Type 0
 IsFromTo root ups from ends to back l = (l.from ≡ from) × (l.to ≡ to) × IsPairLink root ups from ends to back l.cost l.label
-
--- the links of a router to a vertex that leads back are those over its ends there
-pub router_pair : (root : ℕ) (ups : List Up) (router : ℕ) (from to : Vertex) (ends back here : List End) → from ≡ Router router → Names back from
-    → ((e : End) → Contains here e ↔ (Contains ends e × (e.to ≡ to))) → (l : Link) → IsOverOne root ups router here l ↔ IsFromTo root ups from ends to back l
-router_pair root ups router from to ends back here is named exact l =
-    subst (λ (v : Vertex). Names back v → IsOverOne root ups router here l ↔ IsFromTo root ups v ends to back l) (sym is) (λ back_named. (
-      λ h. let at = (exact h.0).0 h.1 in (h.2.0, h.2.1 ∙ at.1, (h.0, at.0, at.1, h.2.2, h.2.3, h.2.4, back_named)),
-      λ h. (h.2.0, (exact h.2.0).1 (h.2.1, h.2.2), (h.0, h.1 ∙ sym h.2.2, h.2.3, h.2.4, h.2.5)),
-    )) named
 
 onto_pair : (root : ℕ) (ups : List Up) (network : ℕ) (to : Vertex) (ends back : List End) → Names ends to → Names back (Network network) → (l : Link) → IsOnto network to back l ↔ IsFromTo root ups (Network network) ends to back l
 onto_pair root ups network (Router t) ends back named back_named l = (
@@ -46,3 +38,11 @@ onto_added network router to back addresses xs ys is are pushed =
     (refl, refl, (router, is), refl, (addresses, are, refl))
     (λ l h. let same : h.4.0 ≡ addresses = one_list_of_details (Network network) back h.4.0 addresses h.4.1 are in
     λ i. record { from = h.0 i; to = h.1 i; cost = h.3 i; label = (h.4.2 ∙ (λ j. At (same j))) i }))
+
+-- and that is one link alone
+pub onto_apart : (network : ℕ) (to : Vertex) (old new : List Link) (l : Link) → new ≡ old ++ l ∷ [] → l.from ≡ Network network → l.to ≡ to → KeepsApart (Network network) to old new
+onto_apart network to old new l pushed from_is to_is apart none = subst AreApart (sym pushed) (apart_push old l apart (λ c. none l c from_is to_is))
+
+-- the vertex that links are from by another name
+pub apart_from : (r : Result (Unit {0}) Memory) (from v to : Vertex) (old new : List Link) → from ≡ v → OnOk r (KeepsApart v to old new) → OnOk r (KeepsApart from to old new)
+apart_from r from v to old new is keeps = subst (λ (u : Vertex). OnOk r (KeepsApart u to old new)) (sym is) keeps

@@ -1,6 +1,6 @@
 -- The links from one vertex to another, by what the two lead to.
 use Rattle.std.specs.Prelude.{◌↔◌, ◌⊎◌, ℕ, ◌≡◌, ◌≢◌, ◌<◌, ◌==◌, Bool, false, List, Option, Some, None, Contains}
-use Rattle.std.specs.List.{All}
+use Rattle.std.specs.List.{All, AllPairs}
 use Rattle.std.specs.List.Sorted.{IsStrictlyIncreasing}
 use Rattle.ospf_types.specs.declared.entry.Vertex.{Vertex}
 use Rattle.ospf_types.specs.declared.entry.Vertex.TheVariants.{Router, Network}
@@ -10,6 +10,7 @@ use Rattle.graph_links.specs.declared.link.Link.{Link}
 use Rattle.graph_links.specs.declared.link.Up.{Up}
 use Rattle.graph_links.specs.declared.end.End.{End}
 use Rattle.graph_links.specs.declared.pair.Local.{Local}
+use Rattle.graph_links.specs.declared.ways.Way.{Way}
 
 -- one of the ends is at the vertex
 abbrev pub Names : List End → Vertex → Type 0
@@ -30,9 +31,22 @@ pub record AreDetailsTo (v : Vertex) (ends : List End) (addresses : List ℕ) : 
   pub ascending : IsStrictlyIncreasing addresses
   pub same : (address : ℕ) → Contains addresses address ↔ ((e : End) × Contains ends e × (e.to ≡ v) × (e.detail ≡ address))
 
--- a link of a router over one of its ends, whether that leads back or not
-abbrev pub IsOver : ℕ → List Up → ℕ → End → Link → Type 0
-IsOver root ups router e l = (l.from ≡ Router router) × (l.to ≡ e.to) × (e.metric ≡ l.cost) × (0 < l.cost) × IsOutLabel root ups router e.detail l.label
+-- the label of a link of a router: over this interface at the root, plain elsewhere
+abbrev pub label_over : Option ℕ → Label
+label_over None = Plain
+label_over (Some id) = Over id
+
+-- the link of a router to a vertex by this way
+abbrev pub link_by : ℕ → Vertex → Way → Link
+link_by router to way = record { from = Router router; to = to; cost = way.cost; label = label_over way.interface }
+
+-- a way of a router over one of its ends, whether that leads back or not
+abbrev pub IsWay : ℕ → List Up → ℕ → End → Way → Type 0
+IsWay root ups router e way = (e.metric ≡ way.cost) × (0 < way.cost) × IsOutLabel root ups router e.detail (label_over way.interface)
+
+-- a way over one of some ends
+abbrev pub IsWayOver : ℕ → List Up → ℕ → List End → Way → Type 0
+IsWayOver root ups router ends way = (e : End) × Contains ends e × IsWay root ups router e way
 
 -- the link of a network to a vertex that leads to these ends, whether the network leads back or not
 abbrev pub IsOnto : ℕ → Vertex → List End → Link → Type 0
@@ -40,9 +54,21 @@ IsOnto network to back l =
     (l.from ≡ Network network) × (l.to ≡ to) × ((router : ℕ) × (to ≡ Router router)) × (l.cost ≡ 0)
     × ((addresses : List ℕ) × AreDetailsTo (Network network) back addresses × (l.label ≡ At addresses))
 
--- the list has these links beside those that it had
-abbrev pub Adds : List Link → List Link → (Link → Type 0) → Type 0
-Adds old new Is = (l : Link) → Contains new l ↔ (Contains old l ⊎ Is l)
+-- the list has these beside those that it had
+abbrev pub Adds : {X : Type 0} → List X → List X → (X → Type 0) → Type 0
+Adds {X} old new Is = (x : X) → Contains new x ↔ (Contains old x ⊎ Is x)
+
+-- no link stands twice
+abbrev pub AreApart : List Link → Type 0
+AreApart links = AllPairs (λ k l. k ≢ l) links
+
+-- none stands twice in a list to which links from the one vertex to the other are added that it did not have
+abbrev pub KeepsApart : Vertex → Vertex → List Link → List Link → Type 0
+KeepsApart from to old new = AreApart old → ((l : Link) → Contains old l → l.from ≡ from → l.to ≡ to → ⊥) → AreApart new
+
+-- nor in one to which links out of a vertex are added that it did not have
+abbrev pub KeepsApartFrom : Vertex → List Link → List Link → Type 0
+KeepsApartFrom from old new = AreApart old → ((l : Link) → Contains old l → l.from ≡ from → ⊥) → AreApart new
 
 -- whether the number that came last is this one
 abbrev pub is_last : Option ℕ → ℕ → Bool

@@ -17,7 +17,7 @@ use Rattle.graph_links.specs.declared.pair.Named.{Named}
 use Rattle.graph_links.specs.declared.row.Row.{Row}
 use Rattle.graph_links.specs.declared.side.Side.{Side}
 use Rattle.graph_links.specs.EndOrder.{end_cmp}
-use Rattle.graph_links.specs.Pairs.{AreCheap}
+use Rattle.graph_links.specs.Pairs.{AreApart, AreCheap}
 use Rattle.graph_links.specs.Pairs.{IsPairLink, IsSameLocal}
 
 -- where each vertex leads, where it is there
@@ -103,12 +103,14 @@ AreOut Link_of v links = (l : Link) → Contains links l ↔ ((l.from ≡ v) × 
 abbrev pub AreInto : Links → Vertex → List Link → Type 0
 AreInto Link_of v links = (l : Link) → Contains links l ↔ ((l.to ≡ v) × Link_of l.from l.to l.cost l.label)
 
--- the row has the links of its vertex
+-- the row has the links of its vertex, each once
 pub record IsRow (Link_of : Links) (v : Vertex) (row : Row) : Type 0 where
   pub out : AreOut Link_of v row.out.items
   pub into : AreInto Link_of v row.into.items
   pub out_cheap : AreCheap row.out.items
   pub into_cheap : AreCheap row.into.items
+  pub out_once : AreApart row.out.items
+  pub into_once : AreApart row.into.items
 
 -- what a vertex has after a change: a row, where it is there
 abbrev pub IsFreshRow : Leading → Links → Vertex → Option Row → Type 0

@@ -11,6 +11,7 @@ mod neighbours;
 mod pair;
 mod row;
 mod side;
+mod ways;
 
 pub use end::End;
 pub use fresh::{Fresh, fresh_rows, place};

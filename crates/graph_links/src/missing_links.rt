@@ -1,11 +1,12 @@
 //! The links that are in the graph before a change or after it, and not in the other.
-ghost use Rattle.std.specs.Prelude.{◌≡◌, ◌↔◌, ◌⊎◌, ◌<◌, ◌≤◌, length, IsTrue, OnOk, IfOk, Contains};
+ghost use Rattle.std.specs.Prelude.{◌≡◌, ◌≢◌, ◌↔◌, ◌⊎◌, ◌<◌, ◌≤◌, ◌++◌, ◌∷◌, [], length, IsTrue, OnOk, IfOk, Contains};
 ghost use Rattle.ospf_types.specs.declared.entry.Vertex.{Vertex as VertexValue};
 ghost use Rattle.graph_links.specs.declared.link.Link.{Link as LinkValue};
+ghost use Rattle.std.specs.List.{AllPairs};
 ghost use Rattle.std.specs.List.Sorted.{IsPartitionPoint, IsStrictlySortedBy};
 ghost use Rattle.ospf_types.specs.declared.entry.Vertex.TheVariants.{Router};
 ghost use Rattle.graph_links.specs.EndOrder.{end_cmp};
-ghost use Rattle.graph_links.specs.Pairs.{AreAlikeAt, IsSameLocal};
+ghost use Rattle.graph_links.specs.Pairs.{AreAlikeAt, AreApart, IsSameLocal, KeepsApart, KeepsApartFrom};
 ghost use Rattle.graph_links.specs.Sides.{ends_in, LinksIn, IsInOrder, HasSameRows, IsOnBoth, IsKept, IsByCost, IsMissing, IsMissingTo, AreMissing};
 
 use crate::at_vertex::ends_at;
@@ -19,7 +20,7 @@ use ospf_types::label::Label;
 use ospf_types::memory::Memory;
 use std::alloc::Global;
 
-/// The links out of the vertices that are here and not there.
+/// The links out of the vertices that are here and not there, each once.
 pub fn missing(
     alloc: Global,
     here: Side<'_>,
@@ -29,7 +30,8 @@ pub fn missing(
     requires here { IsInOrder (ends_in here) }
     requires there { IsInOrder (ends_in there) }
     requires rows { HasSameRows here there }
-    ensures { IfOk result (λ links. AreMissing vertices.now (LinksIn here.entry) (LinksIn there.entry) links.items) }
+    ensures exact { IfOk result (λ links. AreMissing vertices.now (LinksIn here.entry) (LinksIn there.entry) links.items) }
+    ensures each_once { AllPairs (λ v w. v ≢ w) vertices.now → IfOk result (λ links. AreApart links.items) }
 {
     let mut links = Vec::new(alloc);
     for vertex in vertices {
@@ -60,8 +62,9 @@ fn push_missing(
     requires here { IsInOrder (ends_in here) }
     requires there { IsInOrder (ends_in there) }
     requires rows { HasSameRows here there }
-    ensures { OnOk result ((l : LinkValue) → Contains links.new.items l
+    ensures missing { OnOk result ((l : LinkValue) → Contains links.new.items l
         ↔ (Contains links.old.items l ⊎ IsMissing (LinksIn here.entry) (LinksIn there.entry) l vertex)) }
+    ensures apart { OnOk result (KeepsApartFrom vertex links.old.items links.new.items) }
 {
     let from = on_both(here, there, vertex);
     let found = neighbours(alloc, from.here.ends)?;
@@ -99,8 +102,9 @@ fn push_missing_to(
     requires there { IsInOrder (ends_in there) }
     requires rows { HasSameRows here there }
     requires from { IsOnBoth here there from }
-    ensures { OnOk result ((l : LinkValue) → Contains links.new.items l
+    ensures missing { OnOk result ((l : LinkValue) → Contains links.new.items l
         ↔ (Contains links.old.items l ⊎ IsMissingTo (LinksIn here.entry) (LinksIn there.entry) from.entry.here.vertex l to)) }
+    ensures apart { OnOk result (KeepsApart from.entry.here.vertex to links.old.items links.new.items) }
 {
     if is_kept(here, there, from, to) {
         return Ok(());
@@ -182,7 +186,8 @@ fn is_same_interfaces(one: &[Up], other: &[Up]) -> bool
 // Adds the links that are not among others.
 fn push_unlike(has: Vec<Link>, others: &[Link], links: &mut Vec<Link>) -> Result<(), Memory>
     requires { IsByCost others.now }
-    ensures { OnOk result ((l : LinkValue) → Contains links.new.items l ↔ (Contains links.old.items l ⊎ (Contains has.items l × (Contains others.now l → ⊥)))) }
+    ensures unlike { OnOk result ((l : LinkValue) → Contains links.new.items l ↔ (Contains links.old.items l ⊎ (Contains has.items l × (Contains others.now l → ⊥)))) }
+    ensures apart { OnOk result (AreApart (links.old.items ++ has.items) → AreApart links.new.items) }
 {
     for link in has {
         push_unless(link, others, links)?;
@@ -193,7 +198,8 @@ fn push_unlike(has: Vec<Link>, others: &[Link], links: &mut Vec<Link>) -> Result
 // Adds the link, unless it is among others.
 fn push_unless(link: Link, others: &[Link], links: &mut Vec<Link>) -> Result<(), Memory>
     requires { IsByCost others.now }
-    ensures { OnOk result ((l : LinkValue) → Contains links.new.items l ↔ (Contains links.old.items l ⊎ ((l ≡ link) × (Contains others.now l → ⊥)))) }
+    ensures unlike { OnOk result ((l : LinkValue) → Contains links.new.items l ↔ (Contains links.old.items l ⊎ ((l ≡ link) × (Contains others.now l → ⊥)))) }
+    ensures once { OnOk result ((links.new.items ≡ links.old.items) ⊎ (links.new.items ≡ links.old.items ++ link ∷ [])) }
 {
     if is_among(&link, others) {
         return Ok(());

@@ -1,5 +1,8 @@
 //! The vertices that a vertex leads to.
-ghost use Rattle.std.specs.Prelude.{◌≡◌, ◌↔◌, ◌⊎◌, IsTrue, OnOk, IfOk, Contains};
+ghost use Rattle.std.specs.Prelude.{◌≡◌, ◌≢◌, ◌↔◌, IfOk, Contains, map as list_map};
+ghost use Rattle.std.specs.List.{AllPairs};
+ghost use Rattle.std.specs.List.Sorted.{IsStrictlySortedBy};
+ghost use Rattle.graph_links.specs.EndOrder.{end_cmp};
 ghost use Rattle.graph_links.specs.Pairs.{Names};
 ghost use Rattle.ospf_types.specs.declared.entry.Vertex.{Vertex as VertexValue};
 
@@ -8,34 +11,20 @@ use ospf_types::entry::Vertex;
 use ospf_types::memory::Memory;
 use std::alloc::Global;
 
-/// The vertices that ends are at. Ends at one vertex that follow one another give it once.
+/// The vertices that ends are at, each once where the ends are in order.
 pub(crate) fn neighbours(alloc: Global, ends: &[End]) -> Result<Vec<Vertex>, Memory>
-    ensures { IfOk result (λ found. (v : VertexValue) → Contains found.items v ↔ Names ends.now v) }
+    ensures exact { IfOk result (λ found. (v : VertexValue) → Contains found.items v ↔ Names ends.now v) }
+    ensures each_once { IsStrictlySortedBy end_cmp ends.now → IfOk result (λ found. AllPairs (λ v w. v ≢ w) found.items) }
 {
-    let mut found = Vec::with_capacity(alloc, ends.len())?;
-    for end in ends {
-        push_new(&mut found, end.to)?;
-    }
+    let mut found = vertices_at(alloc, ends)?;
+    found.dedup();
     Ok(found)
 }
 
-// Adds the vertex, unless it was added last.
-fn push_new(found: &mut Vec<Vertex>, vertex: Vertex) -> Result<(), Memory>
-    ensures { OnOk result ((v : VertexValue) → Contains found.new.items v ↔ (Contains found.old.items v ⊎ (v ≡ vertex))) }
+// The vertices that the ends are at, one for each end.
+fn vertices_at(alloc: Global, ends: &[End]) -> Result<Vec<Vertex>, Memory>
+    ensures { IfOk result (λ found. found.items ≡ list_map (λ e. e.to) ends.now) }
 {
-    if is_last(found.as_slice(), vertex) {
-        return Ok(());
-    }
-    found.push(vertex)?;
-    Ok(())
-}
-
-// Whether the vertex was added last.
-fn is_last(found: &[Vertex], vertex: Vertex) -> bool
-    ensures { IsTrue result → Contains found.now vertex }
-{
-    match found.last() {
-        Some(last) => *last == vertex,
-        None => false,
-    }
+    let found = ends.iter().map(|end| end.to).collect(alloc)?;
+    Ok(found)
 }

@@ -4,13 +4,14 @@ ghost use Rattle.std.specs.List.{dedup};
 ghost use Rattle.std.specs.List.Sorted.{IsStrictlySortedBy};
 ghost use Rattle.graph_links.specs.EndOrder.{end_cmp};
 ghost use Rattle.graph_links.specs.Pairs.{AreCheap};
-ghost use Rattle.graph_links.specs.Pairs.{Adds, AreDetailsTo, IsOnto, IsOver, IsPairLink, is_last};
+ghost use Rattle.graph_links.specs.Pairs.{Adds, AreDetailsTo, IsOnto, IsPairLink, KeepsApart, is_last, link_by};
 ghost use Rattle.graph_links.specs.declared.end.End.{End as EndValue};
 ghost use Rattle.graph_links.specs.declared.link.Link.{Link as LinkValue};
 
 use crate::at_vertex::{ends_at, names};
 use crate::end::End;
 use crate::link::{Link, Up};
+use crate::ways::{Way, ways_over};
 use ospf_types::entry::Vertex;
 use ospf_types::label::Label;
 use ospf_types::listed::Listed;
@@ -31,7 +32,7 @@ pub struct Local<'a> {
     pub interfaces: &'a [Up],
 }
 
-/// Adds the links from one vertex to another.
+/// Adds the links from one vertex to another, each once.
 pub(crate) fn push_links(
     alloc: Global,
     local: Local<'_>,
@@ -43,13 +44,15 @@ pub(crate) fn push_links(
     requires to_in_order { IsStrictlySortedBy end_cmp to.ends.now }
     ensures pushed { OnOk result (Adds links.old.items links.new.items (λ (l : LinkValue). (l.from ≡ from.entry.vertex) × (l.to ≡ to.entry.vertex) × IsPairLink local.entry.root local.entry.interfaces.now from.entry.vertex from.entry.ends.now to.entry.vertex to.entry.ends.now l.cost l.label)) }
     ensures cheap { OnOk result (AreCheap links.old.items → AreCheap links.new.items) }
+    ensures apart { OnOk result (KeepsApart from.entry.vertex to.entry.vertex links.old.items links.new.items) }
 {
     if !names(to.ends, from.vertex) {
         return Ok(());
     }
     match from.vertex {
         Vertex::Router(router) => {
-            push_from_router(local, router, ends_at(from.ends, to.vertex), links)
+            let ways = ways_over(alloc, local, router, ends_at(from.ends, to.vertex))?;
+            push_ways(router, to.vertex, ways.as_slice(), links)
         }
         Vertex::Network(network) => {
             if !names(from.ends, to.vertex) {
@@ -60,77 +63,30 @@ pub(crate) fn push_links(
     }
 }
 
-/// Adds the links of a router over these of its ends.
-fn push_from_router(
-    local: Local<'_>,
-    router: u32,
-    ends: &[End],
-    links: &mut Vec<Link>,
-) -> Result<(), Memory>
-    ensures pushed { OnOk result (Adds links.old.items links.new.items (λ (l : LinkValue). (e : EndValue) × Contains ends.now e × IsOver local.entry.root local.entry.interfaces.now router e l)) }
+/// Adds the links of a router to a vertex by these ways.
+fn push_ways(router: u32, to: Vertex, ways: &[Way], links: &mut Vec<Link>) -> Result<(), Memory>
+    ensures pushed { OnOk result (links.new.items ≡ links.old.items ++ list_map (link_by router to) ways.now) }
     ensures cheap { OnOk result (AreCheap links.old.items → AreCheap links.new.items) }
 {
-    for end in ends {
-        push_over(local, router, *end, links)?;
+    for way in ways {
+        links.push(link_by(router, to, *way))?;
     }
     Ok(())
 }
 
-/// Adds the links of a router over one of its ends: none where the metric is 0, else one, or at the root
-/// one for each interface that has the address.
-fn push_over(local: Local<'_>, router: u32, end: End, links: &mut Vec<Link>) -> Result<(), Memory>
-    ensures pushed { OnOk result (Adds links.old.items links.new.items (IsOver local.entry.root local.entry.interfaces.now router end)) }
-    ensures cheap { OnOk result (AreCheap links.old.items → AreCheap links.new.items) }
-{
-    if end.metric == 0 {
-        return Ok(());
-    }
-    if router == local.root {
-        return push_over_interfaces(local.interfaces, router, end, links);
-    }
-    links.push(link_over(router, end, Label::Plain))?;
-    Ok(())
-}
-
-/// Adds a link of the root over one of its ends for each interface that has the address.
-fn push_over_interfaces(
-    interfaces: &[Up],
-    root: u32,
-    end: End,
-    links: &mut Vec<Link>,
-) -> Result<(), Memory>
-    requires { 0 < end.metric }
-    ensures pushed { OnOk result (Adds links.old.items links.new.items (IsOver root interfaces.now root end)) }
-    ensures cheap { OnOk result (AreCheap links.old.items → AreCheap links.new.items) }
-{
-    for up in interfaces {
-        push_over_interface(*up, root, end, links)?;
-    }
-    Ok(())
-}
-
-/// Adds a link of the root over one of its ends if the interface has the address.
-fn push_over_interface(up: Up, root: u32, end: End, links: &mut Vec<Link>) -> Result<(), Memory>
-    requires { 0 < end.metric }
-    ensures pushed { OnOk result (Adds links.old.items links.new.items (IsOver root (up ∷ []) root end)) }
-    ensures cheap { OnOk result (AreCheap links.old.items → AreCheap links.new.items) }
-{
-    if up.address != end.detail {
-        return Ok(());
-    }
-    links.push(link_over(root, end, Label::Over(up.id)))?;
-    Ok(())
-}
-
-/// The link of a router over one of its ends.
-fn link_over(router: u32, end: End, label: Label) -> Link
-    ensures value { result ≡ record { from = Vertex.Router router; to = end.to; cost = end.metric; label = label } }
+/// The link of a router to a vertex by this way.
+fn link_by(router: u32, to: Vertex, way: Way) -> Link
+    ensures value { result ≡ link_by router to way }
     ensures cheap { result.cost < 65536 }
 {
+    let label = match way.interface {
+        Some(interface) => Label::Over(interface),
+        None => Label::Plain,
+    };
     Link {
         from: Vertex::Router(router),
-        to: end.to,
-        cost: end.metric,
+        to,
+        cost: way.cost,
         label,
     }
 }
@@ -145,6 +101,7 @@ fn push_from_network(
     requires { IsStrictlySortedBy end_cmp to.ends.now }
     ensures pushed { OnOk result (Adds links.old.items links.new.items (IsOnto network to.entry.vertex to.entry.ends.now)) }
     ensures cheap { OnOk result (AreCheap links.old.items → AreCheap links.new.items) }
+    ensures apart { OnOk result (KeepsApart (Vertex.Network network) to.entry.vertex links.old.items links.new.items) }
 {
     let Vertex::Router(_) = to.vertex else {
         return Ok(());

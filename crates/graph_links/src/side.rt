@@ -3,7 +3,7 @@ ghost use Rattle.std.specs.Prelude.{◌≡◌, ◌↔◌, ◌⊎◌, OnOk, Conta
 ghost use Rattle.std.specs.FinMap.{find};
 ghost use Rattle.ospf_types.specs.Vertices.{vertex_cmp};
 ghost use Rattle.graph_links.specs.declared.link.Link.{Link as LinkValue};
-ghost use Rattle.graph_links.specs.Pairs.{AreCheap};
+ghost use Rattle.graph_links.specs.Pairs.{AreCheap, KeepsApart};
 ghost use Rattle.graph_links.specs.Sides as sides;
 
 use crate::end::End;
@@ -88,7 +88,7 @@ impl<'a> Side<'a> {
         Named { vertex, ends }
     }
 
-    /// Adds the links from one vertex to another.
+    /// Adds the links from one vertex to another, each once.
     pub fn push_links(
         self,
         alloc: Global,
@@ -101,6 +101,7 @@ impl<'a> Side<'a> {
         requires to { sides.IsNamed self to }
         ensures pushed { OnOk result ((l : LinkValue) → Contains links.new.items l ↔ (Contains links.old.items l ⊎ sides.IsOutTo (sides.LinksIn self.entry) from.entry.vertex l to.entry.vertex)) }
         ensures cheap { OnOk result (AreCheap links.old.items → AreCheap links.new.items) }
+        ensures apart { OnOk result (KeepsApart from.entry.vertex to.entry.vertex links.old.items links.new.items) }
     {
         push_links(alloc, self.local, from, to, links)?;
         Ok(())

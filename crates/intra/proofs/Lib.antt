@@ -5,7 +5,9 @@ pub mod Nearest
 pub mod SourceMaps
 pub mod StubOffers
 pub mod OfferTests
+pub mod Often
 pub mod SourceLists
+pub mod KeptSources
 pub mod IndexSteps
 pub mod Following
 pub mod Placing

@@ -1,7 +1,7 @@
 -- The offers that are taken from the LSA of a vertex are those of the definition.
-use Rattle.std.proofs.Common.{◌≡◌, ℕ, Bool, true, false, cond, List, [], ◌∷◌, map, Option, Some, None, refl, sym, ap, subst, ◌∙◌, ⊎_elim}
+use Rattle.std.proofs.Common.{◌≡◌, ◌≢◌, ℕ, Bool, true, false, cond, List, [], ◌∷◌, map, Option, Some, None, refl, sym, ap, subst, ◌∙◌, ⊎_elim, arith}
 use Rattle.std.specs.Prelude.{◌↔◌, ◌==◌, unwrap_or}
-use Rattle.std.specs.List.{Contains, filter_map, cons_option}
+use Rattle.std.specs.List.{AllPairs, Contains, filter_map, cons_option}
 use Rattle.ospf_types.specs.declared.entry.Vertex.{Vertex}
 use Rattle.ospf_types.specs.declared.entry.Vertex.TheVariants.{Router, Network}
 use Rattle.ospf_types.specs.declared.lsa.LinkKind.{LinkKind}
@@ -9,7 +9,7 @@ use Rattle.ospf_types.specs.declared.lsa.LinkKind.TheVariants as kind
 use Rattle.ospf_types.specs.declared.prefix.Prefix.{Prefix}
 use Rattle.ospf_types.specs.Lsa.{Body, Lsa, RouterLink, key_of, network_of}
 use Rattle.ospf_types.proofs.Elements.{no_element, first_element, first_or_later}
-use Rattle.lsa_codec.specs.Readers.{links_of, prefix_in, prefix_of, without_tos}
+use Rattle.lsa_codec.specs.Readers.{links_of, prefix_of, without_tos}
 use Rattle.area_trees.specs.Areas.{vertex_of}
 use Rattle.vertex_graph.proofs.Gathered.{given_from, given}
 use Rattle.intra.specs.declared.offered.Offer.{Offer}
@@ -72,6 +72,17 @@ network_number false false r n m e = absurd cc
 pub network_has_at : (n : ℕ) (l : Lsa) → vertex_of (key_of l) ≡ Some (Network n) → HasOffersOf (Network n) l.body (transit_offers (prefix_of l))
 network_has_at n l own =
     subst (λ (id : ℕ). HasOffersOf (Network id) l.body (transit_offers (prefix_of l))) (network_number (l.header.kind == 1) (l.header.kind == 2) l.header.router l.header.id n own) (network_has l)
+
+pub has_offers_of_same : (v w : Vertex) (body : Body) (given is : List Offer) → v ≡ w → ((o : Offer) → Contains given o ↔ Contains is o) → HasOffersOf w body is → HasOffersOf v body given
+has_offers_of_same v w body given is same alike has p metric =
+    let at = alike (record_of p metric) in
+    let there = subst (λ (x : Vertex). HasOffersOf x body is) (sym same) has p metric in
+    (λ c. there.0 (at.0 c), λ offers. at.1 (there.1 offers))
+
+-- a transit network offers one prefix at most
+pub transit_once : (o : Option Prefix) → AllPairs (λ a b. a ≢ b) (transit_offers o)
+transit_once None i j d lt within = absurd (omega (arith, within))
+transit_once (Some p) i j d lt within = absurd (omega (arith, lt, within))
 
 pub has_offers_of_eq : (v w : Vertex) (body : Body) (given is : List Offer) → v ≡ w → given ≡ is → HasOffersOf w body is → HasOffersOf v body given
 has_offers_of_eq v w body given is same equal has = subst (λ (x : Vertex). HasOffersOf x body given) (sym same) (subst (HasOffersOf w body) (sym equal) has)

@@ -1,6 +1,6 @@
 -- The index of an area: what each vertex offers, and who offers each prefix.
-use Rattle.std.specs.Prelude.{ℕ, ◌≡◌, ◌↔◌, ◌⊎◌, List, [], ◌∷◌, Contains, Option, Some, None}
-use Rattle.std.specs.Option.{option_or}
+use Rattle.std.specs.Prelude.{ℕ, ◌≡◌, ◌≢◌, ◌↔◌, ◌⊎◌, List, [], ◌∷◌, Contains, Option, Some, None}
+use Rattle.std.specs.List.{AllPairs}
 use Rattle.std.specs.FinMap.{FinMap, get}
 use Rattle.ospf_types.specs.declared.entry.Vertex.{Vertex}
 use Rattle.ospf_types.specs.declared.hop.Path.{Path}
@@ -39,6 +39,10 @@ offers_of (Some o) = o.offers
 abbrev pub sources_of : Option (List Source) → List Source
 sources_of None = []
 sources_of (Some sources) = sources
+
+-- no prefix is kept without a source, or with one twice
+abbrev pub AreSourceLists : SourcesByPrefix → Type 0
+AreSourceLists sources = (p : Prefix) (list : List Source) → get sources p ≡ Some list → (list ≢ []) × AllPairs (λ a b. a ≢ b) list
 
 -- the vertex is among those that offer the prefix
 abbrev pub IsSource : IndexValue → Offering

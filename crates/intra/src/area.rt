@@ -1,5 +1,5 @@
 //! What is kept of an area: the index of its LSAs, and the routers that are reached in it.
-ghost use Rattle.std.specs.Prelude.{◌≡◌, ◌≢◌, ◌↔◌, ◌⊎◌, ℕ, List, Contains, OnOk, IfOk, IfSome, IfNone, IsSome, option_copied, option_map};
+ghost use Rattle.std.specs.Prelude.{◌≡◌, ◌≢◌, ◌↔◌, ◌⊎◌, ◌+◌, ◌==◌, ℕ, List, Contains, OnOk, IfOk, IfSome, IfNone, IsSome, is_some, count_by, option_copied, option_map, if◌then◌else◌};
 ghost use Rattle.std.specs.FinMap as map;
 ghost use Rattle.ospf_types.specs.declared.entry.Vertex.{Vertex as VertexValue};
 ghost use Rattle.ospf_types.specs.declared.entry.Vertex.TheVariants as vertex_value;
@@ -97,9 +97,10 @@ impl AreaIntra {
         self.reached.get(&router)
     }
 
-    /// Adds the routers of which something is kept.
+    /// Adds the routers of which something is kept, each once.
     pub(crate) fn push_routers(&self, routers: &mut Vec<u32>) -> Result<(), Memory>
-        ensures { OnOk result ((router : ℕ) → Contains routers.new.items router ↔ (Contains routers.old.items router ⊎ IsSome (map.get self.now.reached router))) }
+        ensures as_often { OnOk result ((router : ℕ) → count_by (λ r. r == router) routers.new.items ≡ count_by (λ r. r == router) routers.old.items + (if is_some (map.get self.now.reached router) then 1 else 0)) }
+        ensures exact { OnOk result ((router : ℕ) → Contains routers.new.items router ↔ (Contains routers.old.items router ⊎ IsSome (map.get self.now.reached router))) }
     {
         routers.extend_from_slice(self.reached.keys().as_slice())?;
         Ok(())

@@ -1,11 +1,13 @@
 //! The index of an area: what each vertex offers, and who offers each prefix. It follows the area's LSAs alone.
 ghost use Rattle.std.specs.Prelude.{◌≡◌, ◌≢◌, ◌↔◌, ℕ, List, Option, None, Contains, IfOk, OnOk, option_copied};
 ghost use Rattle.std.specs.FinMap as map;
+ghost use Rattle.std.specs.List.{AllPairs};
 ghost use Rattle.vertex_graph.specs.Up.{Up as UpValue};
 ghost use Rattle.ospf_types.specs.declared.entry.Vertex.{Vertex as VertexValue};
 ghost use Rattle.ospf_types.specs.Lsa.{Body};
 ghost use Rattle.area_trees.specs.Areas.{IsAreaTree, IsStanding};
-ghost use Rattle.intra.specs.Indexes.{IsIndex, IsOfferedFor, AreTouched, sources_of};
+ghost use Rattle.ospf_types.specs.declared.prefix.Prefix.{Prefix as PrefixValue};
+ghost use Rattle.intra.specs.Indexes.{IsIndex, IsSource, IsOfferedFor, AreTouched, sources_of};
 ghost use Rattle.intra.specs.IndexSteps.{AreGone, HaveCome, IsPrefixOf, IsOfferOf, AreNamed};
 
 use crate::inputs::AreaInputs;
@@ -61,6 +63,11 @@ impl Model for AreaIndex {
         Prim.hlevel (codes, offered, sources) };
 
     ghost view = { λ i. record { offered = map.from_entries i.offered.entries; sources = map.from_entries (list_map (λ e. (e.0, e.1.items)) i.sources.entries) } };
+
+    ghost use Rattle.intra.specs.Indexes.{AreSourceLists};
+
+    // A prefix that nobody offers any more is forgotten, and each source is kept once.
+    ghost invariant = { λ i. AreSourceLists (map.from_entries (list_map (λ e. (e.0, e.1.items)) i.sources.entries)) };
 }
 
 impl AreaIndex {
@@ -196,6 +203,8 @@ impl AreaIndex {
         offers: &[Offer],
         dirty: &mut Vec<Prefix>,
     ) -> Result<(), Memory>
+        requires absent { (p : PrefixValue) (metric : ℕ) → IsSource self.old vertex p metric → ⊥ }
+        requires each_once { AllPairs (λ a b. a ≢ b) offers.now }
         ensures offered { OnOk result (self.new.offered ≡ self.old.offered) }
         ensures come { OnOk result (HaveCome (IsOfferOf vertex offers.now) self.old self.new) }
         ensures named { OnOk result (AreNamed offers.now dirty.old.items dirty.new.items) }
@@ -209,6 +218,7 @@ impl AreaIndex {
 
     // The vertex offers the prefix too.
     fn add_source(&mut self, vertex: Vertex, offer: Offer) -> Result<(), Memory>
+        requires { IsSource self.old vertex offer.prefix offer.metric → ⊥ }
         ensures offered { OnOk result (self.new.offered ≡ self.old.offered) }
         ensures come { OnOk result (HaveCome (λ w p metric. (w ≡ vertex) × (p ≡ offer.prefix) × (metric ≡ offer.metric)) self.old self.new) }
     {
@@ -245,7 +255,8 @@ fn standing_offers(
 
 // Leaves out all of the vertex.
 fn leave_out(sources: &mut Vec<Source>, vertex: Vertex)
-    ensures { (w : VertexValue) (metric : ℕ) → Contains sources.new.items (record { vertex = w; metric = metric }) ↔ (Contains sources.old.items (record { vertex = w; metric = metric }) × (w ≢ vertex)) }
+    ensures each_once { AllPairs (λ a b. a ≢ b) sources.old.items → AllPairs (λ a b. a ≢ b) sources.new.items }
+    ensures left { (w : VertexValue) (metric : ℕ) → Contains sources.new.items (record { vertex = w; metric = metric }) ↔ (Contains sources.old.items (record { vertex = w; metric = metric }) × (w ≢ vertex)) }
 {
     sources.retain(|source| source.vertex != vertex);
 }

@@ -1,4 +1,4 @@
-ghost use Rattle.std.specs.Prelude.{◌≡◌, ◌≢◌, ◌↔◌, ◌<◌, ◌++◌, ℕ, [], Some, true, false, length, map as list_map, IfOk, OnOk, OnErr, IfSome, IsSome, Contains, option_copied};
+ghost use Rattle.std.specs.Prelude.{◌≡◌, ◌≢◌, ◌↔◌, ◌<◌, ◌++◌, ◌==◌, ℕ, [], Some, true, false, length, map as list_map, IfOk, OnOk, OnErr, IfSome, IsSome, is_some, count_by, Contains, option_copied};
 ghost use Rattle.std.specs.FinMap as map;
 ghost use Rattle.std.specs.List.{AllPairs};
 ghost use Rattle.std.specs.Ordering.{nat_cmp};
@@ -156,7 +156,8 @@ impl Intra {
     /// The border routers and AS boundary routers that are reached, in no stated order, each as often as there are areas
     /// where it is.
     pub fn routers(&self, alloc: Global) -> Result<Vec<u32>, Memory>
-        ensures { IfOk result (λ routers. (router : ℕ) → Contains routers.items router ↔ IsKeptIn self.now.areas router) }
+        ensures as_often { IfOk result (λ routers. (router : ℕ) → count_by (λ r. r == router) routers.items ≡ count_by (λ a. is_some (map.get a.reached router)) self.now.areas) }
+        ensures exact { IfOk result (λ routers. (router : ℕ) → Contains routers.items router ↔ IsKeptIn self.now.areas router) }
     {
         let mut routers = Vec::new(alloc);
         for kept in &self.areas {

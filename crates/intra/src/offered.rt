@@ -1,9 +1,10 @@
 //! What the LSA of a vertex offers: the prefixes of stub links, or that of the transit network.
-ghost use Rattle.std.specs.Prelude.{◌≡◌, Some, IfOk};
-ghost use Rattle.std.specs.List.{filter_map};
+ghost use Rattle.std.specs.Prelude.{◌≡◌, ◌≢◌, ◌↔◌, Some, Contains, IfOk};
+ghost use Rattle.std.specs.List.{AllPairs, filter_map};
 ghost use Rattle.ospf_types.specs.Lsa.{key_of};
 ghost use Rattle.lsa_codec.specs.Readers.{links_of, prefix_of};
 ghost use Rattle.area_trees.specs.Areas.{vertex_of};
+ghost use Rattle.intra.specs.declared.offered.Offer.{Offer as OfferValue};
 ghost use Rattle.intra.specs.Indexes.{IsOfferedBy};
 ghost use Rattle.intra.specs.Stubs.{offer_of_link, stub_of_link, transit_offers};
 
@@ -17,7 +18,7 @@ use std::alloc::Global;
 use std::marker::Model;
 
 /// A prefix that a vertex offers, at a metric beside its distance: 0 for a transit network.
-#[derive(Clone, Copy, PartialEq, Eq)]
+#[derive(Clone, Copy, PartialEq, Eq, PartialOrd, Ord)]
 pub(crate) struct Offer {
     pub(crate) prefix: Prefix,
     pub(crate) metric: u16,
@@ -27,7 +28,7 @@ pub(crate) struct Offer {
 pub(crate) struct Offered {
     /// The bits of a router-LSA (RFC 2328, A.4.2); 0 for a network.
     flags: u8,
-    // In the order of the links.
+    // Each once.
     offers: Vec<Offer>,
 }
 
@@ -47,6 +48,11 @@ impl Model for Offered {
     ghost Value = { OfferedValue };
 
     ghost view = { λ o. record { flags = o.flags; offers = o.offers.items } };
+
+    ghost use Rattle.std.specs.Prelude.{◌≢◌};
+    ghost use Rattle.std.specs.List.{AllPairs};
+
+    ghost invariant = { λ o. AllPairs (λ a b. a ≢ b) o.offers.items };
 }
 
 impl Offered {
@@ -56,8 +62,10 @@ impl Offered {
         self.flags
     }
 
+    /// The prefixes with their metrics, each once.
     pub(crate) fn offers(&self) -> &[Offer]
-        ensures { result.now ≡ self.now.offers }
+        ensures value { result.now ≡ self.now.offers }
+        ensures each_once { AllPairs (λ a b. a ≢ b) self.now.offers }
     {
         self.offers.as_slice()
     }
@@ -82,8 +90,19 @@ pub(crate) fn offers_in(alloc: Global, vertex: Vertex, lsa: &Checked) -> Result<
     Ok(Offered { flags, offers })
 }
 
-// The stub networks of a router-LSA, in the order of the links.
+// The stub networks of a router-LSA, each once.
 fn stub_offers(alloc: Global, lsa: &Checked) -> Result<Vec<Offer>, Memory>
+    ensures exact { IfOk result (λ offers. (o : OfferValue) → Contains offers.items o ↔ Contains (filter_map stub_of_link (links_of lsa.now.body)) o) }
+    ensures each_once { IfOk result (λ offers. AllPairs (λ a b. a ≢ b) offers.items) }
+{
+    let mut offers = each_stub(alloc, lsa)?;
+    offers.sort_unstable();
+    offers.dedup();
+    Ok(offers)
+}
+
+// The stub networks of a router-LSA, link by link.
+fn each_stub(alloc: Global, lsa: &Checked) -> Result<Vec<Offer>, Memory>
     ensures { IfOk result (λ offers. offers.items ≡ filter_map stub_of_link (links_of lsa.now.body)) }
 {
     let mut offers = Vec::new(alloc);

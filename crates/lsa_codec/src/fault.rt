@@ -2,12 +2,12 @@ ghost use Rattle.std.specs.Prelude.{◌≡◌, Some};
 ghost use Rattle.lsa_codec.specs.Text.{wire_fault_text};
 
 use std::alloc::AllocError;
-use std::error::Error;
 use std::fmt;
+use thiserror::Error;
 
 /// Why bytes are no link-state advertisement: the first of these, in this order, that holds. `Memory`
 /// says nothing of the bytes.
-#[derive(Clone, Copy, Debug, PartialEq, Eq)]
+#[derive(Clone, Copy, Debug, PartialEq, Eq, Error)]
 pub enum WireFault {
     /// Fewer than 20 bytes, or the length field is not the number of bytes.
     Length,
@@ -55,8 +55,6 @@ impl fmt::Display for WireFault {
         })
     }
 }
-
-impl Error for WireFault {}
 
 impl From<AllocError> for WireFault {
     ghost use Rattle.lsa_codec.specs.declared.fault.WireFault.TheVariants.{Memory};

@@ -90,6 +90,19 @@ fn large_ones_come_back(rt: HostRuntime) -> Result<(), Fail> {
     Ok(())
 }
 
+// The longest that a length field can tell has three bytes behind its links.
+#[test]
+fn bytes_behind_the_links_are_no_lsa(rt: HostRuntime) -> Result<(), Fail> {
+    let mut longest = with_links(rt.alloc(), 5459)?;
+    longest.extend_from_slice(&[0; 3])?;
+    put(&mut longest, 18, &[0xff, 0xff])?;
+    seal(&mut longest)?;
+    assert!(rt;
+        longest.len() == 65535 && read(rt.alloc(), &longest).err() == Some(WireFault::Shape)
+    );
+    Ok(())
+}
+
 fn shows_router(lsa: &Checked) -> bool {
     let link = Link {
         id: 0x0a00_0001,
@@ -106,6 +119,13 @@ fn shows_network(lsa: &Checked) -> bool {
         && lsa.prefix() == Some(Prefix::of_mask(0xc000_0200, 0xffff_ff00))
 }
 
+fn shows_summary(lsa: &Checked) -> bool {
+    lsa.prefix() == Some(Prefix::of_mask(0x0a01_0000, 0xffff_0000))
+        && lsa.metric() == Some(10)
+        && lsa.header().kind == 3
+        && lsa.header().age == 1
+}
+
 fn shows_external(lsa: &Checked) -> bool {
     let first = External {
         is_type_2: true,
@@ -118,8 +138,14 @@ fn shows_external(lsa: &Checked) -> bool {
 fn readers(rt: HostRuntime) -> Result<(), Fail> {
     let router = read(rt.alloc(), &BOUNDARY)?;
     let network = read(rt.alloc(), &NETWORK)?;
+    let summary = read(rt.alloc(), &SUMMARY)?;
     let external = read(rt.alloc(), &EXTERNAL)?;
-    assert!(rt; shows_router(&router) && shows_network(&network) && shows_external(&external));
+    assert!(rt;
+        shows_router(&router)
+            && shows_network(&network)
+            && shows_summary(&summary)
+            && shows_external(&external)
+    );
     Ok(())
 }
 

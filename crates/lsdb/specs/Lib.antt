@@ -1,3 +1,4 @@
 pub mod Columns
 pub mod Contents
 pub mod Databases
+pub mod Texts

@@ -1,28 +1,43 @@
 -- What the keys of groups lead to, gathered key by key.
-use Rattle.std.proofs.Common.{◌≡◌, ℕ, List, [], ◌∷◌, refl, sym, ap, subst, ◌∙◌, ◌⊎◌, inl, inr, arith}
+use Rattle.std.proofs.Common.{◌≡◌, ◌≢◌, ℕ, ◌<◌, List, [], ◌∷◌, ◌++◌, map, length, get_or, sym, ap, subst, ◌∙◌, ◌⊎◌, inl, inr, arith}
 use Rattle.std.specs.Prelude.{◌↔◌, Contains, Some, None}
+use Rattle.std.specs.List.{AllPairs}
 use Rattle.std.specs.FinMap.{get, find, from_entries, get-from_entries}
 use Rattle.ospf_types.specs.declared.key.Dest.{Dest}
 use Rattle.ospf_types.specs.declared.key.Key.{Key}
 use Rattle.ospf_types.specs.declared.prefix.Prefix.{Prefix}
 use Rattle.ospf_types.specs.Address.{HasAddress}
 use Rattle.ospf_types.specs.Keys.{key_cmp}
-use Rattle.ospf_types.proofs.Elements.{no_element, first_element, later_element, first_or_later}
+use Rattle.std.proofs.lemmas.List.{get_or-map, length-map}
+use Rattle.std.proofs.lemmas.List.Elements.{Contains-append_left, Contains-append_right, Contains-append_cases, Contains-get_or}
+use Rattle.ospf_types.proofs.Elements.{no_element, first_element, later_element, first_or_later, mapped_element, mapped_from}
 use Rattle.ospf_types.proofs.Orders.{key_total}
 use Rattle.offer_index.specs.Advertised.{AdvertisedValue}
 use Rattle.offer_index.specs.Indexes.{AdvertisedByKey, OfferIndexValue, IsOfGroup, IsInGroup, GroupLeadsTo, IsForwardedInto}
 use Rattle.offer_index.specs.declared.group.Group.{Group}
 use Rattle.offer_index.specs.declared.group.Group.TheVariants.{Forwarded}
-use Rattle.offer_index.specs.Members.{AreListed}
+use Rattle.offer_index.specs.Members.{AreMembersOf}
 use Rattle.offer_index.proofs.Groups.{Member}
 
--- a key of a group stands in it
-pub listed_there : (routes : AdvertisedByKey) (ms : List Member) (i : OfferIndexValue) → record { routes = routes } ≡ i → AreListed routes ms → (group : Group) (k : Key) → IsInGroup i group k → Contains ms (group, k)
-listed_there routes ms i is listed group k in_group = listed k in_group.0 (ap (λ (j : OfferIndexValue). get j.routes k) is ∙ in_group.1) group in_group.2
+-- ---- the members of one group
 
--- where there are no routes, none has to stand anywhere
-pub nothing_listed : (es : List (Key × AdvertisedValue)) (ms : List Member) → es ≡ [] → AreListed (from_entries es) ms
-nothing_listed es ms none k a stands = absurd (let wrong : Some a ≡ None = sym stands ∙ get-from_entries key_total es k ∙ ap (find key_cmp k) none in cc)
+module _ (routes : AdvertisedByKey) (ms : List Member) (i : OfferIndexValue) (is : record { routes = routes } ≡ i) (are : AreMembersOf routes ms) where
+  -- a key of a group stands in it
+  pub listed_there : (group : Group) (k : Key) → IsInGroup i group k → Contains ms (group, k)
+  listed_there group k in_group = (are (group, k)).1 (in_group.0, ap (λ (j : OfferIndexValue). get j.routes k) is ∙ in_group.1, in_group.2)
+
+  -- and only such keys
+  pub listed_of : (group : Group) (m : Member) → m.0 ≡ group → Contains ms m → IsInGroup i group m.1
+  listed_of group m at c =
+      let of = (are m).0 c in
+      (of.0, ap (λ (j : OfferIndexValue). get j.routes m.1) (sym is) ∙ of.1, subst (λ (g : Group). IsOfGroup g m.1 of.0) at of.2)
+
+-- where there are no routes, none stands anywhere
+pub nothing_listed : (es : List (Key × AdvertisedValue)) (ms : List Member) → es ≡ [] → ms ≡ [] → AreMembersOf (from_entries es) ms
+nothing_listed es ms none empty m = (
+  λ c. absurd (no_element m (subst (λ (ns : List Member). Contains ns m) empty c)),
+  λ of. absurd (let wrong : Some of.0 ≡ None = sym of.1 ∙ get-from_entries key_total es m.1 ∙ ap (find key_cmp m.1) none in cc),
+)
 
 module _ {X : Type 0} (R : Key → X → Type 0) where
   -- one of these keys gives it
@@ -63,27 +78,54 @@ module _ {X : Type 0} (R : Key → X → Type 0) where
         elim h [ inl was ↦ back (inl was) | inr p ↦ back (inr (complete x p)) ],
   )
 
+-- in one group no key stands twice
+pub keys_apart : (group : Group) (all : List Member) → ((m : Member) → Contains all m → m.0 ≡ group) → AllPairs (λ m n. m ≢ n) all → AllPairs (λ j k. j ≢ k) (map (λ (m : Member). m.1) all)
+keys_apart group all in_group apart a b d lt within =
+    let long = length-map all (λ (m : Member). m.1) in
+    let at : (n : ℕ) → n < length all → get_or (map (λ (m : Member). m.1) all) n d ≡ (get_or all n (group, d)).1 = λ n lt. get_or-map (λ (m : Member). m.1) all n (group, d) d lt in
+    let inside : b < length all = omega (arith, within, long) in
+    let before : a < length all = omega (arith, lt, inside) in
+    λ same.
+    apart a b (group, d) lt inside (λ i. (
+      (in_group (get_or all a (group, d)) (Contains-get_or all a (group, d) before) ∙ sym (in_group (get_or all b (group, d)) (Contains-get_or all b (group, d) inside))) i,
+      (sym (at a before) ∙ same ∙ at b inside) i,
+    ))
+
 -- ---- what each key gives
 
 module _ (i : OfferIndexValue) where
-  abbrev pub GivesKey : Group → Key → Key → Type 0
-  GivesKey group key k = IsInGroup i group key × (k ≡ key)
-
-  abbrev pub GivesDest : Group → Key → Dest → Type 0
-  GivesDest group key dest = (a : AdvertisedValue) × (get i.routes key ≡ Some a) × IsOfGroup group key a × (a.dest ≡ dest)
+  abbrev pub GivesDest : Key → Dest → Type 0
+  GivesDest key dest = (a : AdvertisedValue) × (get i.routes key ≡ Some a) × (a.dest ≡ dest)
 
   abbrev pub GivesAddress : Prefix → Key → ℕ → Type 0
   GivesAddress network key address = IsInGroup i (Forwarded address) key × HasAddress network address
 
-  -- the keys in a range in which each key of the group is
-  module _ (group : Group) (all : List Member) (there : (k : Key) → IsInGroup i group k → Contains all (group, k)) where
-    pub keys_given : (before now : List Key) (left : List Member) → left ≡ [] → AreGathered (GivesKey group) before now all left → (k : Key) → Contains now k ↔ (Contains before k ⊎ IsInGroup i group k)
-    keys_given before now left none are =
-        all_gathered (GivesKey group) (IsInGroup i group) before now all left none are (λ k w. subst (IsInGroup i group) (sym w.2.1) w.2.0) (λ k in_group. ((group, k), there k in_group, (in_group, refl)))
+  -- all members of the group, and no others
+  module _ (group : Group) (all : List Member) (there : (k : Key) → IsInGroup i group k → Contains all (group, k)) (only : (m : Member) → Contains all m → IsInGroup i group m.1) where
+    abbrev pub keys_in : List Member → List Key
+    keys_in ms = map (λ (m : Member). m.1) ms
 
-    pub dests_given : (before now : List Dest) (left : List Member) → left ≡ [] → AreGathered (GivesDest group) before now all left → (d : Dest) → Contains now d ↔ (Contains before d ⊎ GroupLeadsTo i group d)
+    pub keys_given : (before now : List Key) → now ≡ before ++ keys_in all → (k : Key) → Contains now k ↔ (Contains before k ⊎ IsInGroup i group k)
+    keys_given before now is k = (
+      λ c. elim (Contains-append_cases before (keys_in all) k (subst (λ (ks : List Key). Contains ks k) is c)) [
+        | inl was ↦ inl was
+        | inr new ↦ let m = mapped_from (λ (m : Member). m.1) all k new in inr (subst (IsInGroup i group) m.2 (only m.0 m.1))
+      ],
+      λ h. subst (λ (ks : List Key). Contains ks k) (sym is) (elim h [
+        | inl was ↦ Contains-append_left before (keys_in all) k was
+        | inr in_group ↦ Contains-append_right before (keys_in all) k (mapped_element (λ (m : Member). m.1) all (group, k) (there k in_group))
+      ]),
+    )
+
+    pub dests_given : (before now : List Dest) (left : List Member) → left ≡ [] → AreGathered GivesDest before now all left → (d : Dest) → Contains now d ↔ (Contains before d ⊎ GroupLeadsTo i group d)
     dests_given before now left none are =
-        all_gathered (GivesDest group) (GroupLeadsTo i group) before now all left none are (λ d w. (w.0.1, w.2.0, w.2.1, w.2.2, w.2.3)) (λ d to. ((group, to.0), there to.0 (to.1, to.2, to.3), (to.1, to.2, to.3, to.4)))
+        all_gathered GivesDest (GroupLeadsTo i group) before now all left none are
+        (λ d w.
+        let in_group = only w.0 w.1 in
+        let both : Some in_group.0 ≡ Some w.2.0 = sym in_group.1 ∙ w.2.1 in
+        let same : in_group.0 ≡ w.2.0 = cc in
+        (w.0.1, w.2.0, w.2.1, subst (λ (a : AdvertisedValue). IsOfGroup group w.0.1 a) same in_group.2, w.2.2))
+        (λ d to. ((group, to.0), there to.0 (to.1, to.2, to.3), (to.1, to.2, to.4)))
 
   -- the forwarding addresses in a range in which each group of an address of the network is
   pub addresses_given : (network : Prefix) (all : List Member) → ((k : Key) (a : ℕ) → HasAddress network a → IsInGroup i (Forwarded a) k → Contains all (Forwarded a, k)) → (before now : List ℕ) (left : List Member) → left ≡ []
@@ -107,19 +149,3 @@ module _ (i : OfferIndexValue) where
           inr (sym gives.0.2.1 ∙ ap (λ (b : AdvertisedValue). b.forwarding) (sym same) ∙ sym is)
     ]),
   )
-
-  -- ---- whether there is a key in the group
-
-  -- the keys of the group are among what is left
-  abbrev pub AreAhead : Group → List Member → Type 0
-  AreAhead group left = (k : Key) → IsInGroup i group k → Contains left (group, k)
-
-  pub still_ahead : (group : Group) (left more : List Member) (m : Member) → left ≡ m ∷ more → (IsInGroup i group m.1 → ⊥) → AreAhead group left → AreAhead group more
-  still_ahead group left more m is outside ahead k in_group =
-      elim (first_or_later m (group, k) more (subst (λ (ms : List Member). Contains ms (group, k)) is (ahead k in_group))) [
-        | inl first ↦ absurd (outside (subst (λ (n : Member). IsInGroup i group n.1) first in_group))
-        | inr later ↦ later
-      ]
-
-  pub none_ahead : (group : Group) (left : List Member) → left ≡ [] → AreAhead group left → (k : Key) → IsInGroup i group k → ⊥
-  none_ahead group left none ahead k in_group = no_element (group, k) (subst (λ (ms : List Member). Contains ms (group, k)) none (ahead k in_group))

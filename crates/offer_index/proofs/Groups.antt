@@ -1,5 +1,5 @@
 -- The derived order of the members of groups, and what stands between two groups.
-use Rattle.std.proofs.Common.{◌≡◌, ℕ, ◌≤◌, true, Ordering, refl, sym, ap, subst, arith}
+use Rattle.std.proofs.Common.{◌≡◌, ℕ, ◌≤◌, true, Ordering, refl, sym, ap, subst, ◌∙◌, arith}
 use Rattle.std.specs.declared.cmp.Ordering.TheVariants.{Less, Equal, Greater}
 use Rattle.std.specs.Ordering.{ordering_then, ordering_reverse, is_le}
 use Rattle.std.specs.Cmp.{nat_cmp_total}
@@ -7,7 +7,7 @@ use Rattle.std.proofs.lemmas.Map.Lookups.{CmpEqualImpliesEq, exact_pairs, exact_
 use Rattle.ospf_types.specs.declared.key.Key.{Key}
 use Rattle.ospf_types.specs.Keys.{key_cmp}
 use Rattle.ospf_types.proofs.DerivedOrders.{dest_cmp_is}
-use Rattle.ospf_types.proofs.Orders.{dest_total, dest_exact, key_exact}
+use Rattle.ospf_types.proofs.Orders.{dest_total, dest_exact, key_total, key_exact}
 use Rattle.offer_index.specs.declared.group.Group.{Group}
 use Rattle.offer_index.specs.declared.group.Group.TheVariants.{To, By, Forwarded}
 use Rattle.offer_index.specs.contracts.group.GroupOrd.TheImpl as group_order
@@ -79,6 +79,30 @@ own_turn Greater e = absurd cc
 -- a group is not after itself
 pub not_after_itself : (g : Group) → IsNotAfter g g
 not_after_itself g = own_turn (group_cmp g g) (group_turned g g)
+
+-- a member ties with itself
+tied_turn : (o : Ordering) → o ≡ ordering_reverse o → o ≡ Equal
+tied_turn Less e = absurd cc
+tied_turn Equal e = refl
+tied_turn Greater e = absurd cc
+
+member_ties : (m : Member) → member_cmp m m ≡ Equal
+member_ties m =
+    let groups : group_cmp m.0 m.0 ≡ Equal = tied_turn (group_cmp m.0 m.0) (group_turned m.0 m.0) in
+    let keys : key_cmp m.1 m.1 ≡ Equal = tied_turn (key_cmp m.1 m.1) (key_total.antisymm m.1 m.1) in
+    λ i. ordering_then (groups i) (keys i)
+
+pub derived_ties : (m : Member) → derived_cmp m m ≡ Equal
+derived_ties m = (λ i. derived_cmp_is i m m) ∙ member_ties m
+
+-- of two groups neither is after the other
+level : (o : Ordering) → is_le o ≡ true → is_le (ordering_reverse o) ≡ true → o ≡ Equal
+level Less le turned = absurd cc
+level Equal le turned = refl
+level Greater le turned = absurd cc
+
+pub neither_after : (g h : Group) → IsNotAfter g h → IsNotAfter h g → h ≡ g
+neither_after g h one other = group_exact h g (level (group_cmp h g) other (sym (ap is_le (group_turned g h)) ∙ one))
 
 -- addresses are in the order of their numbers
 pub not_after : (a b : ℕ) → a ≤ b → IsNotAfter (Forwarded a) (Forwarded b)

@@ -1,16 +1,20 @@
 -- The list of a set: what stays in it and what comes as a key is put in or taken out, and what a range of it has.
-use Rattle.std.proofs.Common.{◌≡◌, ◌<◌, ◌^◌, ◌&&◌, Bool, true, false, not, cond, List, [], ◌∷◌, Ordering, refl, sym, ap, subst, ◌∙◌, inl, inr, arith}
+use Rattle.std.proofs.Common.{◌≡◌, ◌≢◌, ◌⊎◌, ◌<◌, ◌^◌, ◌&&◌, Bool, true, false, true≢false, not, cond, List, [], ◌∷◌, Ordering, refl, sym, ap, subst, ◌∙◌, inl, inr, arith}
 use Rattle.std.specs.Prelude.{filter, Contains}
 use Rattle.std.specs.declared.cmp.Ordering.TheVariants.{Less, Equal, Greater}
 use Rattle.std.specs.declared.ops.Bound.TheVariants.{Included}
-use Rattle.std.specs.Ordering.{ordering_then, ordering_reverse, match_ordering, is_lt, is_le}
-use Rattle.std.specs.List.{All}
+use Rattle.std.specs.Ordering.{ordering_then, ordering_reverse, match_ordering, eq_by_cmp, is_eq, is_lt, is_le}
+use Rattle.std.specs.List.{All, AllPairs, list_any}
+use Rattle.std.specs.List.Sorted.{IsStrictlySortedBy}
 use Rattle.std.specs.BTreeMap.{is_at}
 use Rattle.std.specs.BTreeMap.Range.{range_contains}
 use Rattle.std.specs.BTreeSet.{insert_key}
 use Rattle.std.specs.Set.{remove_key}
 use Rattle.std.proofs.lemmas.List.Elements.{All-contains}
+use Rattle.std.proofs.lemmas.List.Folds.{list_any-from_Any}
+use Rattle.std.proofs.lemmas.Map.Keys.{IsDistinct-from_sorted}
 use Rattle.std.proofs.lemmas.Map.Lookups.{CmpEqualImpliesEq}
+use Rattle.std.proofs.lemmas.Map.Made.{AllPairs-from_IsDistinct}
 use Rattle.std.proofs.lemmas.Map.Views.{tells_apart}
 use Rattle.ospf_types.specs.declared.key.Key.{Key}
 use Rattle.ospf_types.specs.Keys.{key_cmp}
@@ -22,6 +26,31 @@ use Rattle.offer_index.proofs.Groups.{Member, member_cmp, derived_cmp, derived_c
 module _ {K : Type 0} where
   at_first : (y x : K) (rest : List K) → x ≡ y → Contains (y ∷ rest) x
   at_first y x rest first = subst (λ (z : K). Contains (z ∷ rest) x) first (first_element x rest)
+
+  -- what is picked by a test was there, and passes it
+  pub picked_from : (test : K → Bool) (xs : List K) (x : K) → Contains (filter test xs) x → Contains xs x × (test x ≡ true)
+  picked_from test [] x c = absurd (no_element x c)
+  picked_from test (y ∷ ys) x c =
+      elim (test y) as (λ b. test y ≡ b → Contains (cond b (y ∷ filter test ys) (filter test ys)) x → Contains (y ∷ ys) x × (test x ≡ true)) [
+        | true ↦ λ passes has. elim (first_or_later y x (filter test ys) has) [
+          | inl first ↦ (at_first y x ys first, ap test first ∙ passes)
+          | inr later ↦ let rest = picked_from test ys x later in (later_element y x ys rest.0, rest.1)
+        ]
+        | false ↦ λ fails has. let rest = picked_from test ys x has in (later_element y x ys rest.0, rest.1)
+      ] refl c
+
+  -- what is left when one is taken out was there
+  pub was_there : (test : K → Bool) (xs : List K) (x : K) → Contains (remove_key test xs) x → Contains xs x
+  was_there test [] x c = c
+  was_there test (y ∷ ys) x c =
+      elim (test y) as (λ b. Contains (cond b ys (y ∷ remove_key test ys)) x → Contains (y ∷ ys) x) [
+        | true ↦ λ has. later_element y x ys has
+        | false ↦ λ has. elim (first_or_later y x (remove_key test ys) has) [ inl first ↦ at_first y x ys first | inr later ↦ later_element y x ys (was_there test ys x later) ]
+      ] c
+
+  -- where none passes a test, an element does not
+  pub none_passes : (test : K → Bool) (xs : List K) (x : K) → list_any test xs ≡ false → Contains xs x → test x ≡ true → ⊥
+  none_passes test xs x none c passes = true≢false (sym (list_any-from_Any test xs (c.0, x, c.1, c.2, passes)) ∙ none)
 
   -- what passes a test is picked by it
   pub picked : (test : K → Bool) (xs : List K) (x : K) → Contains xs x → test x ≡ true → Contains (filter test xs) x
@@ -42,6 +71,24 @@ module _ {K : Type 0} (cmp : K → K → Ordering) where
         | Equal ↦ c
         | Greater ↦ elim (first_or_later y x ys c) [ inl first ↦ at_first y x (insert_key cmp ys k) first | inr later ↦ later_element y x (insert_key cmp ys k) (stays_with ys k x later) ]
       ]
+
+  -- what is there then was there, or is the key that is put in
+  pub came_or_was : (xs : List K) (k x : K) → Contains (insert_key cmp xs k) x → Contains xs x ⊎ (x ≡ k)
+  came_or_was [] k x c = elim (first_or_later k x [] c) [ inl first ↦ inr first | inr later ↦ inl later ]
+  came_or_was (y ∷ ys) k x c =
+      elim (cmp k y) as (λ o. Contains (match_ordering o (k ∷ y ∷ ys) (y ∷ ys) (y ∷ insert_key cmp ys k)) x → Contains (y ∷ ys) x ⊎ (x ≡ k)) [
+        | Less ↦ λ has. elim (first_or_later k x (y ∷ ys) has) [ inl first ↦ inr first | inr later ↦ inl later ]
+        | Equal ↦ λ has. inl has
+        | Greater ↦ λ has. elim (first_or_later y x (insert_key cmp ys k) has) [
+          | inl first ↦ inl (at_first y x ys first)
+          | inr later ↦ elim (came_or_was ys k x later) [ inl was ↦ inl (later_element y x ys was) | inr is ↦ inr is ]
+        ]
+      ] c
+
+  -- no key stands twice in order, where each ties with itself and with no other
+  pub apart_in_order : CmpEqualImpliesEq cmp → ((k : K) → cmp k k ≡ Equal) → (xs : List K) → IsStrictlySortedBy cmp xs → AllPairs (λ x y. x ≢ y) xs
+  apart_in_order exact ties xs order =
+      AllPairs-from_IsDistinct (λ (a b : K). (λ tied. tells_apart exact a b tied, λ same. subst (λ (z : K). eq_by_cmp cmp a z ≡ true) same (ap is_eq (ties a)))) xs (IsDistinct-from_sorted cmp xs order)
 
   module _ (exact : CmpEqualImpliesEq cmp) where
     -- the key that is put in is there
@@ -94,6 +141,23 @@ not_past Greater p le rest = absurd cc
 both : (a b : Bool) → a ≡ true → b ≡ false → a && not b ≡ true
 both a b one other = λ i. one i && not (other i)
 
+-- the way back
+
+from_le : (o p : Ordering) → is_le (ordering_then o p) ≡ true → is_le o ≡ true
+from_le Less p le = refl
+from_le Equal p le = refl
+from_le Greater p le = le
+
+from_not_past : (o p : Ordering) → is_lt (ordering_then (ordering_reverse o) p) ≡ false → is_le o ≡ true
+from_not_past Less p not_past = refl
+from_not_past Equal p not_past = refl
+from_not_past Greater p not_past = sym not_past
+
+from_both : (a b : Bool) → a && not b ≡ true → (a ≡ true) × (b ≡ false)
+from_both true true both = absurd cc
+from_both true false both = (refl, refl)
+from_both false b both = absurd cc
+
 is_between : (first last : Group) (m : Member) → HasSmallKey m → IsNotAfter first m.0 → IsNotAfter m.0 last
     → range_contains member_cmp (Included (at_key first_key first)) (Included (at_key last_key last)) m ≡ true
 is_between first last m small after before =
@@ -112,3 +176,18 @@ ranged ms small first last lo hi lo_is hi_is m c after before =
     let here = is_between first last m (All-contains HasSmallKey ms m small c) after before in
     let passes : within lo hi m ≡ true = (λ i. range_contains (derived_cmp_is i) (Included (lo_is i)) (Included (hi_is i)) m) ∙ here in
     picked (within lo hi) ms m c passes
+
+-- what the range has is a member of a group between the two
+was_between : (first last : Group) (m : Member) → range_contains member_cmp (Included (at_key first_key first)) (Included (at_key last_key last)) m ≡ true → IsNotAfter first m.0 × IsNotAfter m.0 last
+was_between first last m in_range =
+    let parts = from_both (is_le (member_cmp (at_key first_key first) m)) (is_lt (member_cmp (at_key last_key last) m)) in_range in (
+      from_le (group_cmp first m.0) (key_cmp first_key m.1) parts.0,
+      from_not_past (group_cmp m.0 last) (key_cmp last_key m.1) (sym (ap (λ o. is_lt (ordering_then o (key_cmp last_key m.1))) (group_turned last m.0)) ∙ parts.1),
+    )
+
+pub ranged_from : (ms : List Member) (first last : Group) (lo hi : Member) → lo ≡ at_key first_key first → hi ≡ at_key last_key last
+    → (m : Member) → Contains (filter (within lo hi) ms) m → Contains ms m × IsNotAfter first m.0 × IsNotAfter m.0 last
+ranged_from ms first last lo hi lo_is hi_is m c =
+    let found = picked_from (within lo hi) ms m c in
+    let between = was_between first last m (sym (λ i. range_contains (derived_cmp_is i) (Included (lo_is i)) (Included (hi_is i)) m) ∙ found.1) in
+    (found.0, between.0, between.1)

@@ -1,5 +1,5 @@
 -- Groups of keys, and which of them a route is listed in.
-use Rattle.std.specs.Prelude.{◌≡◌, ◌<◌, ◌^◌, List, Contains, Some, IsTrue}
+use Rattle.std.specs.Prelude.{◌≡◌, ◌↔◌, ◌<◌, ◌^◌, List, Contains, Option, Some, IsTrue}
 use Rattle.std.specs.FinMap.{get}
 use Rattle.std.specs.Ordering.{nat_cmp, is_le}
 use Rattle.std.specs.declared.cmp.Ordering.{Ordering}
@@ -33,9 +33,14 @@ IsSmall k = (k.kind < 2 ^ 8) × (k.id < 2 ^ 32) × (k.router < 2 ^ 32)
 abbrev pub HasSmallKey : Group × Key → Type 0
 HasSmallKey m = IsSmall m.1
 
--- the key stands in each group that the route is of
-abbrev pub IsListed : List (Group × Key) → Key → AdvertisedValue → Type 0
-IsListed members k a = (g : Group) → IsOfGroup g k a → Contains members (g, k)
+-- there is a route, and it is of the group
+abbrev pub IsOf : Option AdvertisedValue → Key → Group → Type 0
+IsOf route k g = (a : AdvertisedValue) × (route ≡ Some a) × IsOfGroup g k a
 
-abbrev pub AreListed : AdvertisedByKey → List (Group × Key) → Type 0
-AreListed routes members = (k : Key) (a : AdvertisedValue) → get routes k ≡ Some a → IsListed members k a
+-- the key, in a group that its route is of
+abbrev pub IsMemberBy : Option AdvertisedValue → Key → Group × Key → Type 0
+IsMemberBy route k m = (m.1 ≡ k) × IsOf route k m.0
+
+-- each key stands in the groups that its route is of, and nothing else stands there
+abbrev pub AreMembersOf : AdvertisedByKey → List (Group × Key) → Type 0
+AreMembersOf routes members = (m : Group × Key) → Contains members m ↔ IsOf (get routes m.1) m.1 m.0

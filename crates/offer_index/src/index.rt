@@ -1,14 +1,19 @@
 //! The index of what is advertised.
-ghost use Rattle.std.specs.Prelude.{◌≡◌, ◌≢◌, ◌↔◌, ◌⊎◌, ◌≤◌, ◌<◌, ℕ, Some, Contains, IsTrue, OnOk, option_copied};
+ghost use Rattle.std.specs.Prelude.{◌≡◌, ◌≢◌, ◌↔◌, ◌⊎◌, ◌≤◌, ◌<◌, ◌++◌, ℕ, List, Some, Contains, IsTrue, OnOk, OnErr, option_copied};
 ghost use Rattle.std.specs.FinMap as map;
+ghost use Rattle.std.specs.List.{AllPairs};
 ghost use Rattle.ospf_types.specs.declared.key.Dest.{Dest as DestValue};
 ghost use Rattle.ospf_types.specs.declared.key.Key.{Key as KeyValue};
 ghost use Rattle.ospf_types.specs.Address.{HasAddress};
+ghost use Rattle.ospf_types.specs.Keys.{key_cmp};
 ghost use Rattle.lsdb.specs.Contents.{body_at};
 ghost use Rattle.lsdb.specs.Databases.{Database as Lsas};
 ghost use Rattle.offer_index.specs.Advertised.{AdvertisedValue, advertised_at};
 ghost use Rattle.offer_index.specs.declared.group.Group.TheVariants as group_value;
-ghost use Rattle.offer_index.specs.Indexes.{IsIndexOf, LsasDifferAmong, IsOfGroup, IsInGroup, GroupLeadsTo, IsForwardedTo, IsForwardedInto, AreTouched};
+ghost use Rattle.offer_index.specs.declared.group.Group.{Group as GroupValue};
+ghost use Rattle.offer_index.specs.Indexes.{IsIndexOf, LsasDifferAmong, IsInGroup, GroupLeadsTo, IsForwardedTo, IsForwardedInto, AreTouched};
+ghost use Rattle.offer_index.specs.Members.{IsMemberBy};
+ghost use Rattle.result_map.specs.Results.{result_at};
 
 use crate::advertised::{Advertised, advertised_under};
 use crate::affected::{Affected, push_new};
@@ -50,11 +55,12 @@ impl Model for OfferIndex {
 
     ghost coded = { let routes : Coded AdvertisedByKey = map.code key_code (Prim.hlevel (codes, dest.the_row.coded)) in Prim.hlevel (codes, routes) };
 
-    ghost use Rattle.offer_index.specs.Members.{AreListed};
+    ghost use Rattle.offer_index.specs.Members.{AreMembersOf};
 
     ghost view = { λ i. record { routes = map.from_entries i.routes.entries } };
 
-    ghost invariant = { λ i. AreListed (map.from_entries i.routes.entries) i.members };
+    // What is found again is just what the routes are of: no key stays in a group.
+    ghost invariant = { λ i. AreMembersOf (map.from_entries i.routes.entries) i.members };
 }
 
 impl OfferIndex {
@@ -126,10 +132,11 @@ impl OfferIndex {
 
     /// Adds the keys of the group, in no stated order, each once.
     pub fn push_keys(&self, group: Group, keys: &mut Vec<Key>) -> Result<(), Memory>
-        ensures { OnOk result ((k : KeyValue) → Contains keys.new.items k ↔ (Contains keys.old.items k ⊎ IsInGroup self.now group k)) }
+        ensures exact { OnOk result ((k : KeyValue) → Contains keys.new.items k ↔ (Contains keys.old.items k ⊎ IsInGroup self.now group k)) }
+        ensures each_once { OnOk result ((added : List KeyValue) × (keys.new.items ≡ keys.old.items ++ added) × AllPairs (λ j k. j ≢ k) added) }
     {
         for (_, key) in self.members.among(&group, &group) {
-            self.push_key(&group, *key, keys)?;
+            keys.push(*key)?;
         }
         Ok(())
     }
@@ -139,7 +146,7 @@ impl OfferIndex {
         ensures { OnOk result ((d : DestValue) → Contains dests.new.items d ↔ (Contains dests.old.items d ⊎ GroupLeadsTo self.now group d)) }
     {
         for (_, key) in self.members.among(&group, &group) {
-            self.push_dest(&group, *key, dests)?;
+            self.push_dest(*key, dests)?;
         }
         Ok(())
     }
@@ -161,12 +168,10 @@ impl OfferIndex {
         ensures { IsTrue result ↔ IsForwardedTo self.now address }
     {
         let group = Group::Forwarded(address);
-        for (_, key) in self.members.among(&group, &group) {
-            if self.has(&group, *key) {
-                return true;
-            }
+        match self.members.among(&group, &group).next() {
+            Some(_) => true,
+            None => false,
         }
-        false
     }
 }
 
@@ -225,19 +230,32 @@ impl OfferIndex {
         let old = self.route(key).copied();
         affected.add(old.as_ref())?;
         affected.add(fresh.as_ref())?;
-        self.put(key, fresh)?;
-        self.leave(key, old);
+        self.put(key, old.as_ref(), fresh.as_ref())?;
         Ok(())
     }
 
-    // This is advertised under the key.
-    fn put(&mut self, key: Key, fresh: Option<Advertised>) -> Result<(), Memory>
-        ensures taken { OnOk result (map.get self.new.routes key ≡ fresh) }
+    // This is advertised under the key in the place of what was. Where memory is refused, all is as it was.
+    fn put(
+        &mut self,
+        key: Key,
+        old: Option<&Advertised>,
+        fresh: Option<&Advertised>,
+    ) -> Result<(), Memory>
+        requires { map.get self.old.routes key ≡ option_copied old }
+        ensures taken { OnOk result (map.get self.new.routes key ≡ option_copied fresh.entry) }
         ensures others { OnOk result ((k : KeyValue) → k ≢ key → map.get self.new.routes k ≡ map.get self.old.routes k) }
+        ensures unchanged { OnErr result (self.new ≡ self.old) }
     {
-        self.members.list(key, fresh.as_ref())?;
-        self.routes.renew(key, fresh)?;
-        Ok(())
+        match put_in(&mut self.members, &mut self.routes, key, fresh) {
+            Ok(()) => {
+                self.members.leave(key, old, fresh);
+                Ok(())
+            }
+            Err(memory) => {
+                self.members.leave(key, fresh, old);
+                Err(memory)
+            }
+        }
     }
 
     // All that is advertised is affected.
@@ -251,58 +269,13 @@ impl OfferIndex {
         Ok(())
     }
 
-    // Takes the key out of the groups of what was advertised under it, but for those of what is now.
-    fn leave(&mut self, key: Key, old: Option<Advertised>)
-        ensures { self.new ≡ self.old }
-    {
-        let Some(old) = old else {
-            return;
-        };
-        self.leave_group(&Group::To(old.dest()), key);
-        self.leave_group(&Group::By(key.router), key);
-        self.leave_group(&Group::Forwarded(old.forwarding()), key);
-    }
-
-    fn leave_group(&mut self, group: &Group, key: Key)
-        ensures { self.new ≡ self.old }
-    {
-        if self.has(group, key) {
-            return;
-        }
-        self.members.remove(group, key);
-    }
-
-    // Whether the key is one of the group.
-    fn has(&self, group: &Group, key: Key) -> bool
-        ensures { IsTrue result ↔ IsInGroup self.now group.now key }
-    {
-        match self.route(key) {
-            Some(route) => route.is_of(group, key),
-            None => false,
-        }
-    }
-
-    // Adds the key, if it is one of the group.
-    fn push_key(&self, group: &Group, key: Key, keys: &mut Vec<Key>) -> Result<(), Memory>
-        ensures { OnOk result ((k : KeyValue) → Contains keys.new.items k ↔ (Contains keys.old.items k ⊎ (IsInGroup self.now group.now key × (k ≡ key)))) }
-    {
-        if !self.has(group, key) {
-            return Ok(());
-        }
-        keys.push(key)?;
-        Ok(())
-    }
-
-    // Adds what the key leads to, if it is one of the group.
-    fn push_dest(&self, group: &Group, key: Key, dests: &mut Vec<Dest>) -> Result<(), Memory>
-        ensures { OnOk result ((d : DestValue) → Contains dests.new.items d ↔ (Contains dests.old.items d ⊎ ((a : AdvertisedValue) × (map.get self.now.routes key ≡ Some a) × IsOfGroup group.now key a × (a.dest ≡ d)))) }
+    // Adds what the key leads to.
+    fn push_dest(&self, key: Key, dests: &mut Vec<Dest>) -> Result<(), Memory>
+        ensures { OnOk result ((d : DestValue) → Contains dests.new.items d ↔ (Contains dests.old.items d ⊎ ((a : AdvertisedValue) × (map.get self.now.routes key ≡ Some a) × (a.dest ≡ d)))) }
     {
         let Some(route) = self.route(key) else {
             return Ok(());
         };
-        if !route.is_of(group, key) {
-            return Ok(());
-        }
         dests.push(route.dest())?;
         Ok(())
     }
@@ -326,6 +299,26 @@ impl OfferIndex {
         push_new(addresses, address)?;
         Ok(())
     }
+}
+
+// The route comes to stand under the key, and the key in the groups that it is of, beside those where it was. Where memory
+// is refused, the routes are as they were, and the key stands in some of the groups.
+fn put_in(
+    members: &mut Members,
+    routes: &mut ResultMap<Key, Advertised>,
+    key: Key,
+    fresh: Option<&Advertised>,
+) -> Result<(), Memory>
+    ensures kept { (m : GroupValue × KeyValue) → Contains members.old m → Contains members.new m }
+    ensures only { (m : GroupValue × KeyValue) → Contains members.new m → Contains members.old m ⊎ IsMemberBy (option_copied fresh.entry) key m }
+    ensures listed { OnOk result ((m : GroupValue × KeyValue) → IsMemberBy (option_copied fresh.entry) key m → Contains members.new m) }
+    ensures here { OnOk result (result_at key_cmp routes.new key ≡ option_copied fresh.entry) }
+    ensures others { OnOk result ((k : KeyValue) → k ≢ key → result_at key_cmp routes.new k ≡ result_at key_cmp routes.old k) }
+    ensures unchanged { OnErr result (routes.new.entries ≡ routes.old.entries) }
+{
+    members.list(key, fresh)?;
+    routes.renew(key, fresh.copied())?;
+    Ok(())
 }
 
 // The last address of the network.

@@ -1,9 +1,9 @@
 //! The keys of each group.
-ghost use Rattle.std.specs.Prelude.{◌≡◌, [], Some, OnOk, Contains, option_copied};
+ghost use Rattle.std.specs.Prelude.{◌≡◌, ◌≢◌, ◌↔◌, ◌⊎◌, [], IsTrue, OnOk, Contains, option_copied};
+ghost use Rattle.std.specs.List.{AllPairs};
 ghost use Rattle.ospf_types.specs.declared.key.Key.{Key as KeyValue};
-ghost use Rattle.offer_index.specs.Advertised.{AdvertisedValue};
 ghost use Rattle.offer_index.specs.declared.group.Group.{Group as GroupValue};
-ghost use Rattle.offer_index.specs.Members.{IsSmall, IsNotAfter, IsListed};
+ghost use Rattle.offer_index.specs.Members.{IsSmall, IsNotAfter, IsOf, IsMemberBy};
 
 use crate::advertised::Advertised;
 use crate::group::Group;
@@ -30,7 +30,7 @@ const LAST: Key = Key {
 /// A group and a key in it.
 pub(crate) type Member = (Group, Key);
 
-/// The keys of each group. A key may stand in more groups than what is advertised under it is of.
+/// The keys of each group, in the order of the groups.
 pub(crate) struct Members {
     members: BTreeSet<Member>,
 }
@@ -69,10 +69,11 @@ impl Members {
         }
     }
 
-    /// Puts the key into each group that the route is of.
+    /// Puts the key into each group that the route is of; where memory is refused, into some of them.
     pub(crate) fn list(&mut self, key: Key, route: Option<&Advertised>) -> Result<(), Memory>
         ensures kept { (m : GroupValue × KeyValue) → Contains self.old m → Contains self.new m }
-        ensures listed { OnOk result ((a : AdvertisedValue) → option_copied route.entry ≡ Some a → IsListed self.new key a) }
+        ensures only { (m : GroupValue × KeyValue) → Contains self.new m → Contains self.old m ⊎ IsMemberBy (option_copied route.entry) key m }
+        ensures listed { OnOk result ((m : GroupValue × KeyValue) → IsMemberBy (option_copied route.entry) key m → Contains self.new m) }
     {
         let Some(route) = route else {
             return Ok(());
@@ -86,19 +87,20 @@ impl Members {
         Ok(())
     }
 
-    fn add(&mut self, group: Group, key: Key) -> Result<(), Memory>
-        ensures kept { (m : GroupValue × KeyValue) → Contains self.old m → Contains self.new m }
-        ensures added { OnOk result (Contains self.new (group, key)) }
+    /// Takes the key out of the groups that the one route is of and the other is not.
+    pub(crate) fn leave(&mut self, key: Key, gone: Option<&Advertised>, stays: Option<&Advertised>)
+        ensures kept { (m : GroupValue × KeyValue) → Contains self.old m → (IsMemberBy (option_copied gone.entry) key m → IsMemberBy (option_copied stays.entry) key m) → Contains self.new m }
+        ensures only { (m : GroupValue × KeyValue) → Contains self.new m → Contains self.old m × (IsMemberBy (option_copied gone.entry) key m → IsMemberBy (option_copied stays.entry) key m) }
     {
-        self.members.insert((group, small(key)))?;
-        Ok(())
-    }
-
-    /// Takes the key out of the group.
-    pub(crate) fn remove(&mut self, group: &Group, key: Key)
-        ensures { (m : GroupValue × KeyValue) → Contains self.old m → (m ≡ (group.now, key) → ⊥) → Contains self.new m }
-    {
-        self.members.remove(&(*group, key));
+        let Some(gone) = gone else {
+            return;
+        };
+        self.leave_group(Group::To(gone.dest()), key, stays);
+        self.leave_group(Group::By(key.router), key, stays);
+        if gone.forwarding() == 0 {
+            return;
+        }
+        self.leave_group(Group::Forwarded(gone.forwarding()), key, stays);
     }
 
     pub(crate) fn clear(&mut self)
@@ -110,9 +112,44 @@ impl Members {
     /// The keys of the groups from the first to the last.
     pub(crate) fn among(&self, first: &Group, last: &Group) -> Range<'_, Member>
         requires { IsNotAfter first.now last.now }
-        ensures { (m : GroupValue × KeyValue) → Contains self.now m → IsNotAfter first.now m.0 → IsNotAfter m.0 last.now → Contains result m }
+        ensures all { (m : GroupValue × KeyValue) → Contains self.now m → IsNotAfter first.now m.0 → IsNotAfter m.0 last.now → Contains result m }
+        ensures only { (m : GroupValue × KeyValue) → Contains result m → Contains self.now m × IsNotAfter first.now m.0 × IsNotAfter m.0 last.now }
+        ensures each_once { AllPairs (λ m n. m ≢ n) result }
     {
         self.members.range((*first, FIRST)..=(*last, LAST))
+    }
+}
+
+impl Members {
+    // Puts the key into the group.
+    fn add(&mut self, group: Group, key: Key) -> Result<(), Memory>
+        ensures kept { (m : GroupValue × KeyValue) → Contains self.old m → Contains self.new m }
+        ensures only { (m : GroupValue × KeyValue) → Contains self.new m → Contains self.old m ⊎ (m ≡ (group, key)) }
+        ensures added { OnOk result (Contains self.new (group, key)) }
+    {
+        self.members.insert((group, small(key)))?;
+        Ok(())
+    }
+
+    // Takes the key out of the group, unless the route is of it.
+    fn leave_group(&mut self, group: Group, key: Key, stays: Option<&Advertised>)
+        ensures kept { (m : GroupValue × KeyValue) → Contains self.old m → (m ≡ (group, key) → IsOf (option_copied stays.entry) key group) → Contains self.new m }
+        ensures only { (m : GroupValue × KeyValue) → Contains self.new m → Contains self.old m × (m ≡ (group, key) → IsOf (option_copied stays.entry) key group) }
+    {
+        if is_of(stays, &group, key) {
+            return;
+        }
+        self.members.remove(&(group, key));
+    }
+}
+
+// Whether there is a route, and it is of the group.
+fn is_of(route: Option<&Advertised>, group: &Group, key: Key) -> bool
+    ensures { IsTrue result ↔ IsOf (option_copied route.entry) key group.now }
+{
+    match route {
+        Some(route) => route.is_of(group, key),
+        None => false,
     }
 }
 

@@ -2,11 +2,11 @@ ghost use Rattle.std.specs.Prelude.{Some};
 ghost use Rattle.ospf_types.specs.Text.{memory_text};
 
 use std::alloc::{AllocError, AllocFailed};
-use std::error::Error;
 use std::fmt;
+use thiserror::Error;
 
 /// A growth was refused.
-#[derive(Clone, Copy, Debug, PartialEq, Eq)]
+#[derive(Clone, Copy, Debug, PartialEq, Eq, Error)]
 pub struct Memory;
 
 /// The number and the name, `30 Memory`.
@@ -17,8 +17,6 @@ impl fmt::Display for Memory {
         f.write_str("30 Memory")
     }
 }
-
-impl Error for Memory {}
 
 impl From<AllocError> for Memory {
     fn from(_e: AllocError) -> Memory {

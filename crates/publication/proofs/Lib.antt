@@ -1,4 +1,5 @@
 pub mod Prefixes
+pub mod Written
 pub mod Adding
 pub mod Rules
 pub mod Folds

@@ -1,9 +1,11 @@
 -- Each step keeps the rule of what is published.
 use Rattle.std.proofs.Common.{◌≡◌, ◌≢◌, ℕ, [], ◌∷◌, Option, Some, None, set, refl, sym, ap, ◌∙◌, subst, ⊎_elim}
+use mathlib.Core.List.{IsPrefix}
 use mathlib.Core.Option.{some, some-ne-none}
 use lib.ListN.{get_elem?}
 use Rattle.crossbeam_utils.specs.Register.{Admits, TurnsAt, Turns, Forks, Merges}
 use Rattle.atomic_table.proofs.Lists.{at_set, at_snoc, set_again}
+use Rattle.publication.proofs.Prefixes.{prefix_self}
 use Rattle.publication.specs.declared.shown.Shown.{Shown}
 use Rattle.publication.specs.Names.{Name}
 use Rattle.publication.specs.Published.{IsShownRight, name_of, Holds, Saw}
@@ -18,9 +20,9 @@ begins x right = (right, λ seat n at. ⊎_elim (λ (e : get_elem? [] seat ≡ s
 pub admits : Admits Holds None
 admits x views h = (h.0, λ seat n at. ⊎_elim (h.1 seat n) (λ (e : None ≡ Some n). absurd (cc e)) (at_snoc views None (Some n) seat at))
 
--- what is shown becomes another table of the same engine
-pub publishes : (seat : ℕ) (v : Option Name) (x y : Shown) → name_of y ≡ name_of x → IsShownRight y → TurnsAt Holds seat v x y Saw
-publishes seat v x y same right views h at = (
+-- what is shown becomes another table of the same engine, for a list that goes on
+pub publishes : (seat : ℕ) (v : Option Name) (x y : Shown) → name_of y ≡ name_of x → IsShownRight y → IsPrefix x.front.list y.front.list → TurnsAt Holds seat v x y Saw
+publishes seat v x y same right grows views h at = (
   Some (name_of y),
   (
     right,
@@ -29,12 +31,12 @@ publishes seat v x y same right views h at = (
         (λ (t : (j ≢ seat) × (get_elem? views j ≡ some (Some n))). h.1 j n t.1 ∙ sym same)
         (at_set views seat j (Some (name_of y)) (Some n) e),
   ),
-  (refl, right, λ n is. h.1 seat n (at ∙ ap some is) ∙ sym same),
+  (refl, right, (λ n is. h.1 seat n (at ∙ ap some is) ∙ sym same), grows),
 )
 
 -- a reader sees what is shown
 pub enters : (seat : ℕ) (v : Option Name) → Turns Holds seat v (λ x. x) Saw
-enters seat v x views h at = publishes seat v x x refl h.0 views h at
+enters seat v x views h at = publishes seat v x x refl h.0 (prefix_self x.front.list) views h at
 
 pub forks : (seat : ℕ) (v : Option Name) → Forks Holds seat v v v
 forks seat v x views h at = (

@@ -1,6 +1,7 @@
 -- What is shown after a publication.
 use Rattle.std.proofs.Common.{◌≡◌, List, fold, Option, Some, Result, Ok, Err, MatchResult, MatchBool, sym, ap, ◌∙◌, subst}
 use Rattle.std.specs.Result.{is_ok}
+use mathlib.Core.List.{IsPrefix}
 use Rattle.ospf_types.specs.declared.config.Config.{Config}
 use Rattle.route_table.specs.Tables.{TableValue}
 use Rattle.publication.specs.declared.shown.Shown.{Shown}
@@ -8,6 +9,7 @@ use Rattle.publication.specs.declared.shown.Update.{Update}
 use Rattle.publication.specs.Lines.{Line}
 use Rattle.publication.specs.Names.{Name}
 use Rattle.publication.specs.Updates.{updated, face_of, IsRightFace}
+use Rattle.publication.proofs.Prefixes.{prefix_self}
 use Rattle.publication.specs.Published.{IsShownRight, IsTableFor, name_of, Saw}
 
 -- what the pending updates give is right, and has the name of what is shown
@@ -15,7 +17,7 @@ pub gives_right : (x next : Shown) (us : List Update) (line : Line)
     → face_of next ≡ fold updated (face_of x) us
     → IsRightFace line x.config (fold updated (face_of x) us)
     → line.book ≡ x.front.book
-    → (name_of next ≡ name_of x) × IsShownRight next
+    → (name_of next ≡ name_of x) × IsShownRight next × (next.front ≡ line)
 gives_right x next us line is face book =
     let right : IsRightFace line x.config (face_of next) = subst (IsRightFace line x.config) (sym is) face in
     let front : next.front ≡ line = right.front in
@@ -23,6 +25,7 @@ gives_right x next us line is face book =
     let same_book : next.front.book ≡ x.front.book = ap (λ (l : Line). l.book) front ∙ book in (
       (λ i. record { book = same_book i; config = config i }),
       subst (λ (z : Config × Line). IsTableFor z.0 z.1.list next.table) (λ i. (sym config i, sym front i)) right.right,
+      front,
     )
 
 -- whether it was published or not, the name stays, and the writer knows it if it was
@@ -35,3 +38,11 @@ pub known_after : {U E : Type 0} (r : Result U E) (Q Q' : Type 0) (x y : Shown) 
 known_after (Ok u) Q Q' x y v w us line values rule face book =
     let all = gives_right x y us line values.0 face book in (all.0, rule.0 ∙ ap Some all.0)
 known_after (Err e) Q Q' x y v w us line values rule face book = (ap name_of values.0, rule)
+
+-- whether it was published or not, the list that is shown begins with that of before
+pub grows_after : {U E : Type 0} (r : Result U E) (P Q Q' : Type 0) (x y : Shown) (v w : Option Name)
+    → MatchResult r (λ _. P × Q) (λ _. (y ≡ x) × Q')
+    → MatchResult r (λ _. Saw v x y w) (λ _. w ≡ v)
+    → IsPrefix x.front.list y.front.list
+grows_after (Ok u) P Q Q' x y v w values rule = rule.3
+grows_after (Err e) P Q Q' x y v w values rule = subst (λ (z : Shown). IsPrefix x.front.list z.front.list) (sym values.0) (prefix_self x.front.list)

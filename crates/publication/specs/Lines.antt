@@ -1,8 +1,13 @@
 -- A list of events in a history.
-use Rattle.std.specs.Prelude.{List}
+use Rattle.std.specs.Prelude.{ℕ, List}
 use Rattle.logbook.specs.Pages.{Book}
 use Rattle.event_state.specs.declared.event.Event.{Event}
 
-pub record Line : Type 0 where
+-- one author's part of a book, by the key of the author's first pen
+pub record History : Type 0 where
   pub book : Book
+  pub first : ℕ
+
+pub record Line : Type 0 where
+  pub book : History
   pub list : List Event

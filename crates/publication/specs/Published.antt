@@ -1,5 +1,6 @@
 -- The rule of what is published, and what its two steps tell.
 use Rattle.std.specs.Prelude.{◌≡◌, ℕ, List, length, Option, Some}
+use mathlib.Core.List.{IsPrefix}
 use mathlib.Core.Option.{some}
 use lib.ListN.{get_elem?}
 use Rattle.ospf_types.specs.declared.config.Config.{Config}
@@ -30,6 +31,6 @@ name_of x = record { book = x.front.book; config = x.config }
 abbrev pub Holds : Shown → List (Option Name) → Type 0
 Holds x views = IsShownRight x × ((seat : ℕ) (n : Name) → get_elem? views seat ≡ some (Some n) → n ≡ name_of x)
 
--- what is shown after the step is right, and its name is known, and was the name before
+-- what is shown after the step is right, and its name is known, and was the name before; its list begins with that of before
 abbrev pub Saw : Option Name → Shown → Shown → Option Name → Type 0
-Saw v x y w = (w ≡ Some (name_of y)) × IsShownRight y × ((n : Name) → v ≡ Some n → n ≡ name_of y)
+Saw v x y w = (w ≡ Some (name_of y)) × IsShownRight y × ((n : Name) → v ≡ Some n → n ≡ name_of y) × IsPrefix x.front.list y.front.list

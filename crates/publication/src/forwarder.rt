@@ -5,11 +5,13 @@ ghost use Rattle.left_right.specs.Sides.{view};
 ghost use Rattle.route_table.specs.Tables.{IsMatch};
 ghost use Rattle.publication.specs.Published.{IsLegal, IsTableFor};
 ghost use Rattle.publication.specs.Forwarders.{Sights};
+ghost use Rattle.publication.specs.Unseen.{IsUnseen};
 
 use crate::history::Front;
 use crate::rule::{Sees, ShownReader, ShownReading};
 use crate::setting::Setting;
 use crate::told::Told;
+use crate::unseen::Unseen;
 use route_table::Match;
 use std::marker::Model;
 
@@ -96,10 +98,9 @@ impl Forwarder {
         }
     }
 
-    /// Looks an address (host order) up in the table that is published now. The forwarder comes back as it
-    /// was where there was no entry to the table.
-    pub fn lookup(self, address: u32) -> Result<Seen, Forwarder>
-        ensures { MatchResult result (Sights self address) (λ f. f ≡ self) }
+    /// Looks an address (host order) up in the table that is published now.
+    pub fn lookup(self, address: u32) -> Result<Seen, Unseen>
+        ensures { MatchResult result (Sights self address) (IsUnseen self) }
     {
         let Forwarder {
             reader,
@@ -111,12 +112,14 @@ impl Forwarder {
                 let front = reading.get().front.again();
                 if front.len() < known.len() {
                     // What was told was published before, so this does not happen.
+                    let told = Told::of(front, reading.get().config.again());
                     let reader = reading.leave();
-                    return Err(Forwarder {
+                    let forwarder = Forwarder {
                         reader,
                         known,
                         config,
-                    });
+                    };
+                    return Err(Unseen::Shorter(forwarder, told));
                 }
                 Ok(Seen {
                     reading,
@@ -125,11 +128,11 @@ impl Forwarder {
                     address,
                 })
             }
-            Err(reader) => Err(Forwarder {
+            Err(reader) => Err(Unseen::NoEntry(Forwarder {
                 reader,
                 known,
                 config,
-            }),
+            })),
         }
     }
 }
@@ -156,6 +159,12 @@ impl Seen {
         ensures { result ≡ length self.now.list }
     {
         self.front.len()
+    }
+
+    /// How many changes were made to the published table since the engine was opened. Events that change little publish few:
+    /// one for each network whose item differs, and one for the serial. For tests.
+    pub fn changes(&self) -> u64 {
+        self.reading.get().changes
     }
 
     /// Ends the look. What was seen is known from now on.

@@ -1,16 +1,29 @@
-//! The history of what was published, which only grows. It exists in the proofs alone: what is stored is its length.
-ghost use Rattle.std.specs.Prelude.{◌≡◌, ◌+◌, ◌<◌, ◌≤◌, ◌^◌, ◌++◌, ◌∷◌, ◌⊎◌, [], length, MatchBool, take};
+//! The history of what was published, which only grows, and to which its author alone adds. It exists in the proofs alone: what is
+//! stored is its length.
+//!
+//! The history is a part of a book's log. A page of the log is an event, written by a pen, and it names the pen that may write the next.
+//! The book keeps that the word of each pen that wrote is at home. A pen whose word is away has written nothing, so what its
+//! holder knows of its own pages is all that there is.
+ghost use Rattle.std.specs.Prelude.{◌≡◌, ◌<◌, ◌≤◌, ◌^◌, ◌++◌, ◌∷◌, ◌⊎◌, [], length};
 ghost use mathlib.Core.List.{IsPrefix};
+ghost use Rattle.logbook.specs.Pages.{may_write};
 ghost use Rattle.publication.specs.Law.{head_of};
 
 use event_state::Event;
-use logbook::{Gain, Offer, Plain, Play, Rule, Seen, Start, Word};
+use logbook::{Gain, Offer, Opening, Pen, Plain, Play, Rule, Seen, Start, Word};
 use std::marker::Model;
 
-/// The rule of the history: its word is its length.
+/// An event, with the key of the pen that wrote it and of the one that may write the next. No value of it is made.
+pub struct Page {
+    pub event: Event,
+    pub pen: u64,
+    pub next: u64,
+}
+
+/// The rule of the book: the word of each pen that wrote is at home.
 pub struct Law;
 
-impl Rule<Event, u64> for Law {
+impl Rule<Page, u64> for Law {
     ghost use Rattle.std.specs.Prelude.{[]};
     ghost use base.Fml.{ftrue};
     ghost use Rattle.publication.specs.Law.{IsKept};
@@ -28,50 +41,120 @@ impl Rule<Event, u64> for Law {
     ghost moves = { λ ask before after answer. Unit {0} };
 }
 
+/// A log of one entry, to which nothing is added: the key of an author's first pen.
+pub struct First;
+
+impl Rule<u64, u64> for First {
+    ghost use Rattle.std.specs.Prelude.{[]};
+    ghost use base.Fml.{ftrue};
+
+    ghost holds = { λ cells log. Unit {0} };
+
+    ghost first = { [] };
+
+    ghost hinted = { λ n log. Unit {0} };
+
+    ghost shows = { λ log. [] };
+
+    ghost keeps = { λ names log. ftrue };
+
+    ghost moves = { λ ask before after answer. Unit {0} };
+}
+
+impl Opening<Pen, u64> for First {
+    ghost use Rattle.std.specs.Prelude.{[], ◌∷◌};
+
+    ghost log = { λ n pen. pen.nib.key ∷ [] };
+}
+
 /// Callers trade nothing.
 pub struct Nothing;
 
-impl Gain<Event, u64> for Nothing {
+impl Gain<Page, u64> for Nothing {
     ghost use base.Fml.{ftrue};
 
     ghost after = { λ names about answer. ftrue };
 }
 
-/// The step that adds an event.
+/// The step that adds a word, with its pen.
+pub struct Make;
+
+impl Play<Page, u64> for Make {
+    ghost use Rattle.publication.specs.Law.{Makes};
+
+    ghost then = { Makes };
+}
+
+/// The step that looks at the log, and leaves it as it is.
+pub struct Look;
+
+impl Play<Page, u64> for Look {
+    ghost use Rattle.publication.specs.Law.{Looks};
+
+    ghost then = { Looks };
+}
+
+/// These two steps write no page.
+pub struct Blank;
+
+impl Plain<u64, Page, u64> for Blank {
+    ghost use Rattle.std.specs.Prelude.{None};
+    ghost use Rattle.event_state.specs.declared.event.Event.TheVariants.{Second};
+
+    ghost ask = { λ n. record { event = Second; pen = 0; next = 0 } };
+
+    ghost state = { λ n. None };
+}
+
+/// What an author writes: an event, with its pen and the one that may write the next.
+#[derive(Drop)]
+pub struct Writing<'a> {
+    event: &'a Event,
+    pen: &'a Pen,
+    next: &'a Pen,
+}
+
+/// The step that adds a page.
 pub struct Add;
 
-impl Play<Event, u64> for Add {
+impl Play<Page, u64> for Add {
     ghost use Rattle.publication.specs.Law.{Adds};
 
     ghost then = { Adds };
 }
 
-impl Plain<Event, Event, u64> for Add {
+impl<'a> Plain<Writing<'a>, Page, u64> for Add {
     ghost use Rattle.std.specs.Prelude.{None};
 
-    ghost ask = { λ e. e };
+    ghost ask = { λ w. record { event = w.event.now; pen = w.pen.now.nib.key; next = w.next.now.nib.key } };
 
-    ghost state = { λ e. None };
+    ghost state = { λ w. None };
 }
 
-pub type Token = Seen<Event, u64, Law>;
+type Log = Seen<Page, u64, Law>;
+
+type Head = Word<Page, u64, Law>;
+
+type FirstPen = Seen<u64, u64, First>;
 
 /// A beginning of a history, with its length.
 #[derive(Drop)]
 pub struct Front {
     count: u64,
-    seen: Token,
+    log: Log,
+    first: FirstPen,
 }
 
 impl Model for Front {
     ghost use Rattle.std.specs.Prelude.{◌≡◌, length};
     ghost use Rattle.publication.specs.Lines.{Line};
+    ghost use Rattle.publication.specs.Law.{line_of};
 
     ghost Value = { Line };
 
-    ghost view = { λ f. record { book = f.seen.book; list = f.seen.log } };
+    ghost view = { λ f. line_of f.log.book f.first.log f.log.log };
 
-    ghost invariant = { λ f. f.count ≡ length f.seen.log };
+    ghost invariant = { λ f. f.count ≡ length (line_of f.log.book f.first.log f.log.log).list };
 }
 
 impl Front {
@@ -87,14 +170,9 @@ impl Front {
     {
         Front {
             count: self.count,
-            seen: self.seen.again(),
+            log: self.log.again(),
+            first: self.first.again(),
         }
-    }
-
-    pub(crate) fn token(&self) -> Token
-        ensures { (result.book ≡ self.now.book) × (result.log ≡ self.now.list) }
-    {
-        self.seen.again()
     }
 
     /// The longer of two, which the other begins.
@@ -105,8 +183,8 @@ impl Front {
         ensures this { IsPrefix self.now.list result.list }
         ensures that { IsPrefix other.now.list result.list }
     {
-        let mut both = self.seen.again();
-        both.learn(&other.seen);
+        let mut both = self.log.again();
+        both.learn(&other.log);
         if self.count < other.count {
             other.again()
         } else {
@@ -115,23 +193,40 @@ impl Front {
     }
 }
 
-/// The one who adds to a history, with all of it.
+/// The one who adds to a history, with all of it. The pen may write its next page.
 #[derive(Drop)]
 pub struct Author {
-    head: Word<Event, u64, Law>,
-    front: Front,
+    head: Head,
+    pen: Pen,
+    count: u64,
+    log: Log,
+    first: FirstPen,
 }
 
 impl Model for Author {
-    ghost use Rattle.std.specs.Prelude.{◌≡◌};
+    ghost use Rattle.std.specs.Prelude.{◌≡◌, length};
+    ghost use Rattle.logbook.specs.Pages.{may_write};
     ghost use Rattle.publication.specs.Lines.{Line};
-    ghost use Rattle.publication.specs.Law.{head_of};
+    ghost use Rattle.publication.specs.Law.{line_of, head_of, IsAuthor};
 
     ghost Value = { Line };
 
-    ghost view = { λ a. a.front };
+    ghost view = { λ a. line_of a.log.book a.first.log a.log.log };
 
-    ghost invariant = { λ a. a.head ≡ head_of a.front.book };
+    ghost invariant = { λ a. (a.head ≡ head_of a.log.book) × (a.count ≡ length (line_of a.log.book a.first.log a.log.log).list) × IsAuthor a.pen.book a.pen.nib a.log.book a.first.log a.log.log };
+}
+
+// A pen that wrote nothing, of a new word.
+fn new_pen(head: &Head, log: &Log) -> Pen
+    requires { head.now ≡ head_of log.now.book }
+    ensures { (result.book ≡ log.now.book) × (result.nib.right ≡ may_write) }
+{
+    let mut log = log.again();
+    let mut offer: Offer<Page, u64, Law, Nothing> = log.plain::<Nothing, u64, Blank>(&0);
+    let mut pen = log.no_pen();
+    head.compare_exchange::<Make, Nothing>(0, 0, &mut log, &mut offer, &mut pen);
+    let _word: Head = Word::tracked(0, &mut pen);
+    pen
 }
 
 impl Author {
@@ -139,50 +234,65 @@ impl Author {
     pub fn open() -> Author
         ensures { result.list ≡ [] }
     {
-        let (seen, mut first, _second) = Seen::open(Start::alone(), 0, 0);
+        let (log, mut first, _second) = Seen::open(Start::alone(), 0, 0);
+        let head = Word::tracked(0, &mut first);
+        let pen = new_pen(&head, &log);
+        let (first, _pens) = Seen::open_row::<Pen, First>(&pen, Start::alone(), 0);
         Author {
-            head: Word::tracked(0, &mut first),
-            front: Front { count: 0, seen },
+            head,
+            pen,
+            count: 0,
+            log,
+            first,
         }
     }
 
     pub fn len(&self) -> u64
         ensures { result ≡ length self.now.list }
     {
-        self.front.len()
+        self.count
     }
 
     pub fn front(&self) -> Front
         ensures { result ≡ self.now }
     {
-        self.front.again()
+        Front {
+            count: self.count,
+            log: self.log.again(),
+            first: self.first.again(),
+        }
     }
 
-    /// Adds an event. The answer is false only where another had added to the history.
-    pub fn add(&mut self, event: &Event) -> bool
-        requires { length self.old.list < 2 ^ 62 }
-        ensures { MatchBool result ((self.new.book ≡ self.old.book) × (self.new.list ≡ self.old.list ++ event.now ∷ [])) (self.new ≡ self.old) }
+    /// A beginning of the history is a beginning of what its author has.
+    pub(crate) fn look(&mut self, front: &Front)
+        requires { front.now.book ≡ self.old.book }
+        ensures same { self.new ≡ self.old }
+        ensures begun { IsPrefix front.now.list self.old.list }
     {
-        let mut front = self.front.again();
-        let mut offer: Offer<Event, u64, Law, Nothing> = front
-            .seen
-            .plain::<Nothing, Event, Add>(event);
-        let mut pen = front.seen.no_pen();
-        let count = front.count;
-        let found = self
-            .head
-            .compare_exchange::<Add, Nothing>(
-                count,
-                count + 1,
-                &mut front.seen,
-                &mut offer,
-                &mut pen,
-            );
-        if found != count {
-            return false;
-        }
-        front.count = count + 1;
-        self.front = front;
-        true
+        // proof: the pen has written nothing of this longer log.
+        self.log.learn(&front.log);
+        let mut offer: Offer<Page, u64, Law, Nothing> = self.log.plain::<Nothing, u64, Blank>(&0);
+        self.head
+            .compare_exchange::<Look, Nothing>(0, 0, &mut self.log, &mut offer, &mut self.pen);
+    }
+
+    /// Adds an event.
+    pub fn add(&mut self, event: &Event)
+        requires { length self.old.list < 2 ^ 62 }
+        ensures { (self.new.book ≡ self.old.book) × (self.new.list ≡ self.old.list ++ event.now ∷ []) }
+    {
+        let next = new_pen(&self.head, &self.log);
+        let writing = Writing {
+            event,
+            pen: &self.pen,
+            next: &next,
+        };
+        let mut offer: Offer<Page, u64, Law, Nothing> = self
+            .log
+            .plain::<Nothing, Writing<'_>, Add>(&writing);
+        self.head
+            .compare_exchange::<Add, Nothing>(0, 0, &mut self.log, &mut offer, &mut self.pen);
+        self.pen = next;
+        self.count += 1;
     }
 }

@@ -8,6 +8,7 @@ mod rule;
 mod setting;
 mod shown;
 mod told;
+mod unseen;
 mod writing;
 
 pub use forwarder::{Forwarder, Seen};
@@ -16,4 +17,5 @@ pub use rule::{Named, ShownWriter};
 pub use setting::Setting;
 pub use shown::{Shown, Tag};
 pub use told::Told;
+pub use unseen::Unseen;
 pub use writing::{show, show_changes};

@@ -53,4 +53,13 @@ impl Setting {
         let (seen, _pens) = Seen::open_row::<Config, Fixed>(config, Start::alone(), 0);
         Setting { seen }
     }
+
+    /// A copy.
+    pub fn again(&self) -> Setting
+        ensures { result ≡ self.now }
+    {
+        Setting {
+            seen: self.seen.again(),
+        }
+    }
 }

@@ -2,7 +2,7 @@
 ghost use Rattle.std.specs.Prelude.{◌≡◌, IfOk};
 ghost use Rattle.publication.specs.Updates.{face_of};
 
-use crate::history::{Front, Token};
+use crate::history::Front;
 use crate::setting::Setting;
 use left_right::Absorb;
 use ospf_types::config::Config;
@@ -11,10 +11,10 @@ use route_table::{Change, Table};
 use std::alloc::{AllocError, Global};
 use std::marker::Model;
 
-/// The name of an engine, for contracts alone. It has no bytes.
+/// The name of an engine, for contracts alone.
 #[derive(Drop)]
 pub struct Tag {
-    seen: Token,
+    front: Front,
     config: Setting,
 }
 
@@ -23,7 +23,7 @@ impl Model for Tag {
 
     ghost Value = { Name };
 
-    ghost view = { λ t. record { book = t.seen.book; config = t.config } };
+    ghost view = { λ t. record { book = t.front.book; config = t.config } };
 }
 
 impl Tag {
@@ -31,7 +31,7 @@ impl Tag {
         ensures { result ≡ record { book = front.now.book; config = config.now } }
     {
         Tag {
-            seen: front.token(),
+            front: front.again(),
             config: Setting::of(config),
         }
     }
@@ -43,6 +43,8 @@ pub struct Shown {
     pub table: Table,
     pub front: Front,
     pub config: Setting,
+    /// How many changes were made to the table since the engine was opened.
+    pub changes: u64,
 }
 
 impl Shown {
@@ -54,7 +56,14 @@ impl Shown {
             table: copy_of(alloc, table)?,
             front: front.again(),
             config: Setting::of(config),
+            changes: 0,
         })
+    }
+
+    fn count(&mut self)
+        ensures { face_of self.new ≡ face_of self.old }
+    {
+        self.changes = self.changes.wrapping_add(1);
     }
 }
 
@@ -92,7 +101,10 @@ impl Absorb<Update> for Shown {
 
     fn absorb_first(&mut self, operation: &Update, other: &Shown) -> Result<(), AllocError> {
         match operation {
-            Update::Change(change) => self.table.absorb_first(change, &other.table)?,
+            Update::Change(change) => {
+                self.table.absorb_first(change, &other.table)?;
+                self.count();
+            }
             Update::List(front) => self.front = front.again(),
         }
         Ok(())
@@ -101,7 +113,10 @@ impl Absorb<Update> for Shown {
     fn absorb_second(&mut self, operation: Update, other: &Shown) -> Result<(), Update> {
         match operation {
             Update::Change(change) => match self.table.absorb_second(change, &other.table) {
-                Ok(()) => Ok(()),
+                Ok(()) => {
+                    self.count();
+                    Ok(())
+                }
                 Err(change) => Err(Update::Change(change)),
             },
             Update::List(front) => {

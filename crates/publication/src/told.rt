@@ -5,6 +5,7 @@ ghost use Rattle.publication.specs.Told.{Heard};
 
 use crate::history::Front;
 use crate::setting::Setting;
+use std::fmt;
 use std::marker::Model;
 
 /// A token: this list of events was published by the engine of this name. Any thread may pass it on. It
@@ -24,6 +25,14 @@ impl Model for Told {
     ghost view = { λ t. record { name = record { book = t.front.book; config = t.config }; list = t.front.list } };
 
     ghost invariant = { λ t. IsLegal t.config t.front.list };
+}
+
+/// The length of its list, as `Told(3)`.
+impl fmt::Debug for Told {
+    fn fmt<W: fmt::Write>(&self, f: &mut fmt::Formatter<W>) -> fmt::Result {
+        let serial = self.serial();
+        write!(f, "Told({serial})")
+    }
 }
 
 impl Told {

@@ -1,13 +1,14 @@
 //! What the writer does: it appends a whole table or what changed of it, and publishes that in one step.
 ghost use Rattle.std.specs.Prelude.{◌≡◌, ◌++◌, [], ◌∷◌, map, drop, fold, Some, IsTrue, MatchBool};
 ghost use Rattle.std.specs.FinMap.{get};
+ghost use mathlib.Core.List.{IsPrefix};
 ghost use Rattle.left_right.specs.Sides.{view};
 ghost use Rattle.route_table.specs.Deltas.{Lead};
 ghost use Rattle.publication.specs.Updates.{gifts, all_of, those_of, ends, whole, deltas, updated, face_of, IsRightFace};
 ghost use Rattle.publication.specs.Published.{IsTableFor, IsShownRight, name_of};
 ghost use Rattle.publication.specs.declared.shown.Update.TheVariants as update;
 
-use crate::history::Front;
+use crate::history::{Author, Front};
 use crate::rule::{Sees, ShownWriter};
 use crate::shown::Update;
 use ospf_types::prefix::Prefix;
@@ -100,36 +101,42 @@ fn lay_changes(writer: &mut ShownWriter, networks: &[Prefix], table: &Table, fro
 fn publish<R: Wait>(rt: &R, writer: ShownWriter, front: &Front) -> (ShownWriter, bool)
     requires history { front.now.book ≡ writer.desk.shown.value.front.book }
     requires laid { IsRightFace front.now writer.desk.shown.value.config (fold updated (face_of writer.desk.shown.value) (drop writer.behind writer.log.items)) }
+    requires grows { IsPrefix writer.desk.shown.value.front.list front.now.list }
     ensures name { name_of result.0.desk.shown.value ≡ name_of writer.desk.shown.value }
     ensures shown { MatchBool result.1 ((result.0.desk.shown.value.front ≡ front.now) × IsShownRight result.0.desk.shown.value) (result.0.desk.shown.value ≡ writer.desk.shown.value) }
     ensures known { MatchBool result.1 (view result.0.desk.place ≡ Some (name_of writer.desk.shown.value)) (view result.0.desk.place ≡ view writer.desk.place) }
+    ensures grows { IsPrefix writer.desk.shown.value.front.list result.0.desk.shown.value.front.list }
     ensures pending { IsTrue result.1 → drop result.0.behind result.0.log.items ≡ [] }
 {
     let (writer, done) = writer.publish_as::<Sees, R>(rt);
     (writer, done.is_ok())
 }
 
-/// Publishes a whole table, whatever is pending. It is right for a list of the same history. The answer is
+/// Publishes a whole table, whatever is pending. It is right for all that the author of the history has. The answer is
 /// false where it was refused, and then readers see what they saw.
 pub fn show<R: Wait>(
     rt: &R,
     alloc: Global,
     writer: ShownWriter,
     table: &Table,
-    front: &Front,
+    author: &mut Author,
 ) -> (ShownWriter, bool)
-    requires history { front.now.book ≡ writer.desk.shown.value.front.book }
-    requires right { IsTableFor writer.desk.shown.value.config front.now.list table.now }
+    requires history { author.old.book ≡ writer.desk.shown.value.front.book }
+    requires right { IsTableFor writer.desk.shown.value.config author.old.list table.now }
     ensures name { name_of result.0.desk.shown.value ≡ name_of writer.desk.shown.value }
-    ensures shown { MatchBool result.1 ((result.0.desk.shown.value.front ≡ front.now) × IsShownRight result.0.desk.shown.value) (result.0.desk.shown.value ≡ writer.desk.shown.value) }
+    ensures shown { MatchBool result.1 ((result.0.desk.shown.value.front ≡ author.old) × IsShownRight result.0.desk.shown.value) (result.0.desk.shown.value ≡ writer.desk.shown.value) }
     ensures known { MatchBool result.1 (view result.0.desk.place ≡ Some (name_of writer.desk.shown.value)) (view result.0.desk.place ≡ view writer.desk.place) }
+    ensures author { author.new ≡ author.old }
+    ensures grows { IsPrefix writer.desk.shown.value.front.list result.0.desk.shown.value.front.list }
     ensures pending { IsTrue result.1 → drop result.0.behind result.0.log.items ≡ [] }
 {
     let mut writer = writer;
-    if !lay_whole(&mut writer, alloc, table, front) {
+    author.look(&writer.published().front);
+    let front = author.front();
+    if !lay_whole(&mut writer, alloc, table, &front) {
         return (writer, false);
     }
-    publish(rt, writer, front)
+    publish(rt, writer, &front)
 }
 
 /// Publishes what changed of the table: these networks, and no others. Nothing may be pending.
@@ -138,20 +145,24 @@ pub fn show_changes<R: Wait>(
     writer: ShownWriter,
     networks: &[Prefix],
     table: &Table,
-    front: &Front,
+    author: &mut Author,
 ) -> (ShownWriter, bool)
     requires clean { drop writer.behind writer.log.items ≡ [] }
-    requires history { front.now.book ≡ writer.desk.shown.value.front.book }
-    requires right { IsTableFor writer.desk.shown.value.config front.now.list table.now }
+    requires history { author.old.book ≡ writer.desk.shown.value.front.book }
+    requires right { IsTableFor writer.desk.shown.value.config author.old.list table.now }
     requires changes { Lead writer.desk.shown.value.table.items table.now.items (those_of table.now.items networks.now) }
     ensures name { name_of result.0.desk.shown.value ≡ name_of writer.desk.shown.value }
-    ensures shown { MatchBool result.1 ((result.0.desk.shown.value.front ≡ front.now) × IsShownRight result.0.desk.shown.value) (result.0.desk.shown.value ≡ writer.desk.shown.value) }
+    ensures shown { MatchBool result.1 ((result.0.desk.shown.value.front ≡ author.old) × IsShownRight result.0.desk.shown.value) (result.0.desk.shown.value ≡ writer.desk.shown.value) }
     ensures known { MatchBool result.1 (view result.0.desk.place ≡ Some (name_of writer.desk.shown.value)) (view result.0.desk.place ≡ view writer.desk.place) }
+    ensures author { author.new ≡ author.old }
+    ensures grows { IsPrefix writer.desk.shown.value.front.list result.0.desk.shown.value.front.list }
     ensures pending { IsTrue result.1 → drop result.0.behind result.0.log.items ≡ [] }
 {
     let mut writer = writer;
-    if !lay_changes(&mut writer, networks, table, front) {
+    author.look(&writer.published().front);
+    let front = author.front();
+    if !lay_changes(&mut writer, networks, table, &front) {
         return (writer, false);
     }
-    publish(rt, writer, front)
+    publish(rt, writer, &front)
 }

@@ -13,11 +13,11 @@ use Rattle.recording.specs.declared.version.Version.{Version}
 use Rattle.recording.specs.declared.version.Version.TheVariants.{One, Two}
 use Rattle.recording.specs.Forms.{Form, VersionLine, RouterLine, CompatLine, AreaLine, RangeLine, BodyLine, Says, AllSay}
 use Rattle.recording.specs.Places.{Front, AreSaid, IsPlaced, first_lines, front_of, headed, is_of_header, is_next, with_form}
-use Rattle.recording.specs.Faults.{EndsHeader, HasConfigFault, HasFault, IsFirstFault, AreRightBefore, number_of}
+use Rattle.recording.specs.Faults.{EndsHeader, HasConfigFault, HasFault, IsFirstFault, IsMemoryAt, AreRightBefore, number_of}
 use Rattle.recording.specs.Recordings.{IsOrdered, HasKind, HasWholeLsa, area_forms, first_forms, header_forms}
 use Rattle.recording.specs.Progress.{HasRead, HasHeader, HasLines}
 use Rattle.recording.proofs.Areas.{areas_of_said, areas_not_begun, front_of_said, said_more, ordered_more, ordered_none}
-use Rattle.recording.proofs.Parts.{IsLineAt, HasNoWireFault, line_fault, has_line_fault, none_before, right_more, below_config, form_fault, order_fault, end_fault, two_first, version_push}
+use Rattle.recording.proofs.Parts.{IsLineAt, HasNoWireFault, line_fault, has_line_fault, line_there, none_before, right_more, below_config, form_fault, order_fault, end_fault, two_first, version_push}
 use Rattle.recording.proofs.AllSaid.{said_push, said_length, said_header, forms_behind}
 
 all_faults : (P : Fault → Type 0) → ((f : Fault) → number_of f < 55 → P f) → ((c : ConfigFault) → P (fault.Config c)) → (f : Fault) → P f
@@ -237,9 +237,15 @@ module _ {v : Version} {text : List ℕ} {taken : ℕ} {left : List (List ℕ)} 
       }
 
   -- where want of memory comes at a line of the header
-  pub header_more : (line : List ℕ) (rest : List (List ℕ)) → left ≡ line ∷ rest → 0 < length rest → (form : Form) → Says v line form → is_of_header form ≡ true → AreRightBefore text (taken + 1)
-  header_more line rest is full form said here =
-      read_right h.read (omega (arith, ap length is)) (goes_on line rest is full form said here)
+  pub header_more : (line : List ℕ) (rest : List (List ℕ)) → left ≡ line ∷ rest → 0 < length rest → (form : Form) → Says v line form → is_of_header form ≡ true → IsMemoryAt text (taken + 1)
+  header_more line rest is full form said here = record {
+    there = line_there (read_line h.read line rest is full);
+    lines = read_right h.read (omega (arith, ap length is)) (goes_on line rest is full form said here);
+  }
+
+  -- or at the last of those that were read
+  pub header_last : 0 < length left → IsMemoryAt text taken
+  header_last full = record { there = line_there (last_at h.read full); lines = h.read.right }
 
   pub header_order : (line : List ℕ) (rest : List (List ℕ)) → left ≡ line ∷ rest → 0 < length rest → (form : Form) → Says v line form → is_of_header form ≡ true → is_next (headed config.areas) form ≡ false → IsFirstFault text (taken + 1) fault.Order
   header_order line rest is full form said here other =

@@ -22,7 +22,7 @@ use Rattle.recording.specs.Recordings.{RecordingValue, IsText, HasKind, HasWhole
 use Rattle.recording.specs.Progress.{HasLines, IsLineOf, IsFaultBehind}
 use Rattle.recording.proofs.Areas.{begun_behind}
 use Rattle.recording.proofs.HeaderSteps.{not_both, right_past, of_end}
-use Rattle.recording.proofs.Parts.{IsLineAt, HasNoWireFault, line_fault, below_config, form_fault, order_fault, wire_fault, end_fault, two_first, version_push}
+use Rattle.recording.proofs.Parts.{IsLineAt, HasNoWireFault, line_fault, line_there, below_config, form_fault, order_fault, wire_fault, end_fault, two_first, version_push}
 use Rattle.recording.proofs.AllSaid.{begun_with, said_push, said_legal, said_behind, forms_behind}
 
 -- ---- what stands behind the header
@@ -113,7 +113,7 @@ module _ {text : List ℕ} {taken : ℕ} {left : List (List ℕ)} {r : Recording
   fault_behind line rest is full (fault.Wire f) has =
       inr (wire_fault (line_at line rest is full) h.right has.0 has.1 f has.2 many_lines has.3)
   fault_behind line rest is full (fault.Config f) has = absurd has
-  fault_behind line rest is full fault.Memory has = inl (refl, h.right)
+  fault_behind line rest is full fault.Memory has = inl (refl, record { there = line_there (line_at line rest is full); lines = h.right })
 
   pub cut_behind : (cut : List ℕ) → left ≡ cut ∷ [] → cut ≢ [] → IsFaultOf text (record { line = taken + 1; fault = fault.Truncated })
   cut_behind cut is some =

@@ -1,7 +1,7 @@
 -- The faults of one line, at its one place in a text.
 use Rattle.std.proofs.Common.{ℕ, ◌≡◌, ◌≢◌, ◌⊎◌, ◌+◌, ◌<◌, ◌≤◌, ◌==◌, ◌++◌, List, [], ◌∷◌, length, take, drop, Some, None, Option, codes, refl, sym, ap, subst, ◌∙◌, inl, inr, arith}
 use Rattle.std.proofs.lemmas.Bool.{cases_lt}
-use Rattle.std.proofs.lemmas.List.{take_at, drop_at}
+use Rattle.std.proofs.lemmas.List.{length-append, take_at, drop_at}
 use Rattle.std.proofs.lemmas.List.Splits.{length-slice_split}
 use Rattle.lsa_codec.specs.Faults.{fault_of}
 use Rattle.lsa_codec.specs.declared.fault.WireFault.{WireFault}
@@ -12,7 +12,7 @@ use Rattle.recording.specs.declared.version.Version.{Version}
 use Rattle.recording.specs.declared.version.Version.TheVariants.{One, Two}
 use Rattle.recording.specs.Forms.{Form, VersionLine, RouterLine, CompatLine, AreaLine, RangeLine, BodyLine, InstallLine, Says, line_text}
 use Rattle.recording.specs.Places.{IsPlaced, first_lines, version_of}
-use Rattle.recording.specs.Faults.{parts_of, IsFaultAt, IsFaultIn, IsFaultOfLine, HasFault, IsFirstFault, AreRightBefore, number_of}
+use Rattle.recording.specs.Faults.{parts_of, IsFaultAt, IsFaultIn, IsFaultOfLine, HasFault, HasLine, IsFirstFault, AreRightBefore, number_of}
 use Rattle.recording.proofs.Forms.{says_one}
 
 -- ---- places
@@ -72,6 +72,14 @@ has_line_fault {v} {text} {number} {before} {line} {rest} at f h = record {
   counted = at.counted;
   has = to_line before line rest f at.full (subst (λ w. IsFaultIn w before line rest f) (sym at.version) h);
 }
+
+-- the parts in front of the last are lines of the text
+pub line_among : (text : List ℕ) (number : ℕ) (before here : List (List ℕ)) → parts_of text ≡ before ++ here → 1 ≤ number → number < length before + length here → HasLine text number
+line_among text number before here parts first last = record { first = first; last = omega (arith, last, ap length parts, length-append before here) }
+
+pub line_there : {v : Version} {text : List ℕ} {number : ℕ} {before : List (List ℕ)} {line : List ℕ} {rest : List (List ℕ)} → IsLineAt v text number before line rest → HasLine text number
+line_there {v} {text} {number} {before} {line} {rest} at =
+    line_among text number before (line ∷ rest) at.parts (omega (arith, at.counted)) (omega (arith, at.counted, at.full))
 
 -- no line has a number below 1
 pub none_before : (text : List ℕ) (number : ℕ) → number ≤ 1 → AreRightBefore text number

@@ -1,5 +1,5 @@
 -- Why bytes are no recording: the first line that has a fault, and of its faults the first in their order.
-use Rattle.std.specs.Prelude.{ℕ, ◌≡◌, ◌≢◌, ◌<◌, ◌+◌, ◌==◌, ◌⊎◌, ◌++◌, List, [], ◌∷◌, length, Some, codes, true, false}
+use Rattle.std.specs.Prelude.{ℕ, ◌≡◌, ◌≢◌, ◌<◌, ◌≤◌, ◌+◌, ◌==◌, ◌⊎◌, ◌++◌, List, [], ◌∷◌, length, Some, codes, true, false}
 use Rattle.std.specs.List.{slice_split}
 use Rattle.ospf_types.specs.declared.key.Scope.{Scope}
 use Rattle.lsa_codec.specs.Faults.{fault_of}
@@ -81,6 +81,16 @@ number_of fault.Memory = 30
 abbrev pub AreRightBefore : List ℕ → ℕ → Type 0
 AreRightBefore bytes number = (n : ℕ) (f : Fault) → n < number → ¬ HasFault bytes n f
 
+-- the text has a line of this number, with its line feed
+pub record HasLine (bytes : List ℕ) (number : ℕ) : Type 0 where
+  pub first : 1 ≤ number
+  pub last : number < length (parts_of bytes)
+
+-- memory ran out at this line of the text, and no line before it has a fault
+pub record IsMemoryAt (bytes : List ℕ) (number : ℕ) : Type 0 where
+  pub there : HasLine bytes number
+  pub lines : AreRightBefore bytes number
+
 -- the line has this fault, and no fault comes before it
 pub record IsFirstFault (bytes : List ℕ) (number : ℕ) (f : Fault) : Type 0 where
   pub has : HasFault bytes number f
@@ -89,4 +99,4 @@ pub record IsFirstFault (bytes : List ℕ) (number : ℕ) (f : Fault) : Type 0 w
 
 -- want of memory may come at any line that is read, and all others where they are first
 abbrev pub IsFaultOf : List ℕ → LineFault → Type 0
-IsFaultOf bytes l = ((l.fault ≡ fault.Memory) × AreRightBefore bytes l.line) ⊎ IsFirstFault bytes l.line l.fault
+IsFaultOf bytes l = ((l.fault ≡ fault.Memory) × IsMemoryAt bytes l.line) ⊎ IsFirstFault bytes l.line l.fault

@@ -4,11 +4,11 @@ ghost use Rattle.recording.specs.Texts.{fault_text, line_fault_text};
 use config_faults::ConfigFault;
 use lsa_codec::WireFault;
 use ospf_types::memory::Memory;
-use std::error::Error;
 use std::fmt;
+use thiserror::Error;
 
 /// What is wrong with a line: the first of these, in this order, that holds.
-#[derive(Clone, Copy, Debug, PartialEq, Eq)]
+#[derive(Clone, Copy, Debug, PartialEq, Eq, Error)]
 pub enum Fault {
     /// The line has no line feed, or it is the first or the second and is missing.
     Truncated,
@@ -43,10 +43,8 @@ impl fmt::Display for Fault {
     }
 }
 
-impl Error for Fault {}
-
 /// Why bytes are no recording.
-#[derive(Clone, Copy, Debug, PartialEq, Eq)]
+#[derive(Clone, Copy, Debug, PartialEq, Eq, Error)]
 pub struct LineFault {
     /// The line, counted from 1.
     pub line: usize,
@@ -62,5 +60,3 @@ impl fmt::Display for LineFault {
         write!(f, "line {line}: {fault}")
     }
 }
-
-impl Error for LineFault {}

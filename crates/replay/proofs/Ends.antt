@@ -14,24 +14,32 @@ use Rattle.recording.specs.declared.version.Version.{Version}
 use Rattle.recording.specs.declared.show.Show.TheVariants as show
 use Rattle.replay.specs.Lines.{first_number, serial_line, event_line}
 use Rattle.replay.specs.Runs.{Answers, Prints, IsOpened}
-use Rattle.replay.specs.Outputs.{IsRun, IsShown, IsOutput, PrintsRun, Replays, ReplaysPart, journal_of}
+use Rattle.replay.specs.declared.fault.ReplayFault.{ReplayFault}
+use Rattle.replay.specs.declared.fault.ReplayFault.TheVariants as fault
+use Rattle.replay.specs.declared.page.Stop.{Stop}
+use Rattle.replay.specs.declared.page.Stop.TheVariants as stop
+use Rattle.replay.specs.Stops.{AreWhole, fault_of}
+use Rattle.replay.specs.Outputs.{IsRun, IsShown, IsOutput, Replays, ReplaysPart, journal_of}
 use Rattle.replay.specs.Pages.{Adds, AddsPart, Ran, RanPart, IsRunTo}
-use Rattle.replay.specs.Parts.{IsRead, WritesOutput, WritesPart}
+use Rattle.replay.specs.Parts.{IsRead, PrintsRun, WritesOutput, WritesPart}
 use Rattle.replay.proofs.Written.{appends_none}
-use Rattle.replay.proofs.Paging.{adds_put, adds_more, adds_moved, part_more, part_moved}
+use Rattle.replay.proofs.Wholes.{none_whole, append_whole, serial_whole, forms_whole}
+use Rattle.replay.proofs.Completing.{completed}
+use Rattle.replay.proofs.Paging.{adds_put, adds_more, adds_moved, page_whole, part_more, part_moved}
 
-pub none_written : (r : RecordingValue) (s : Show) (a : Option (List ℕ)) → WritesPart r s a a
-none_written r s a = record { part = []; is = inl refl; written = appends_none a }
+-- memory ran out before anything was written
+pub none_written : (v : Version) (old : CoreValue) (lines : List Line) (s : Show) (a : Option (List ℕ)) → IsOpened old.config old → WritesPart stop.Memory (record { version = v; config = old.config; lines = lines }) s a a
+none_written v old lines s a opening = record { part = []; is = inl (record { opened = old; opening = opening; cause = refl; none = refl }); written = appends_none a }
 
 is_run : (v : Version) (old new : CoreValue) (lines : List Line) (answers : Answers) (text : List ℕ) → IsOpened old.config old → Prints old (first_number v old.config) lines answers text new
     → IsRun (record { version = v; config = old.config; lines = lines }) answers text new
 is_run v old new lines answers text opening run = record { opened = old; opening = opening; run = run }
 
 -- the run ended early
-pub run_cut : (v : Version) (old : CoreValue) (lines : List Line) (s : Show) (a b : Option (List ℕ)) (before : List ℕ) → IsOpened old.config old → PrintsRun s → before ≡ []
-    → RanPart old (first_number v old.config) lines a b before → WritesPart (record { version = v; config = old.config; lines = lines }) s a b
-run_cut v old lines s a b before opening prints none h =
-    let part : AddsPart a b h.text = subst (λ w. AddsPart a b (w ++ h.text)) none h.part in
+pub run_cut : (why : Stop) (v : Version) (old : CoreValue) (lines : List Line) (s : Show) (a b : Option (List ℕ)) (before : List ℕ) → IsOpened old.config old → PrintsRun s → before ≡ []
+    → RanPart why old (first_number v old.config) lines a b before → WritesPart why (record { version = v; config = old.config; lines = lines }) s a b
+run_cut why v old lines s a b before opening prints none h =
+    let part : AddsPart why a b h.text = subst (λ w. AddsPart why a b (w ++ h.text)) none h.part in
     record {
       part = part.part;
       is = inr (inl (record {
@@ -53,12 +61,12 @@ pub record Whole (r : RecordingValue) (s : Show) (a b : Option (List ℕ)) (page
   pub is : IsOutput r s answers whole
   pub printed : Adds a b [] page whole
 
-output_cut : (r : RecordingValue) (s : Show) (answers : Answers) (whole : List ℕ) (a b : Option (List ℕ)) → IsOutput r s answers whole → AddsPart a b whole → WritesPart r s a b
-output_cut r s answers whole a b is h =
+output_cut : (why : Stop) (r : RecordingValue) (s : Show) (answers : Answers) (whole : List ℕ) (a b : Option (List ℕ)) → IsOutput r s answers whole → AddsPart why a b whole → WritesPart why r s a b
+output_cut why r s answers whole a b is h =
     record { part = h.part; is = inr (inr (record { answers = answers; whole = whole; output = is; part = h.beginning })); written = h.appended }
 
-pub whole_cut : (r : RecordingValue) (s : Show) (a b c : Option (List ℕ)) (page : List ℕ) → Whole r s a b page → AddsPart b c page → WritesPart r s a c
-whole_cut r s a b c page h stopped = output_cut r s h.answers h.whole a c h.is (part_moved a b c [] page h.whole h.printed stopped)
+pub whole_cut : (why : Stop) (r : RecordingValue) (s : Show) (a b c : Option (List ℕ)) (page : List ℕ) → Whole r s a b page → AddsPart why b c page → WritesPart why r s a c
+whole_cut why r s a b c page h stopped = output_cut why r s h.answers h.whole a c h.is (part_moved why a b c [] page h.whole none_whole h.printed stopped)
 
 pub whole_written : (r : RecordingValue) (s : Show) (a b c : Option (List ℕ)) (page last : List ℕ) → Whole r s a b page → Adds b c page last [] → last ≡ [] → WritesOutput r s a c
 whole_written r s a b c page last h moved none =
@@ -68,13 +76,18 @@ whole_written r s a b c page last h moved none =
 
 -- ---- a run whose lines are printed, and behind it what is shown
 
+-- what stands on a page that was empty
+pub ran_page : (old new : CoreValue) (first : ℕ) (lines : List Line) (a b : Option (List ℕ)) (before page put : List ℕ) → before ≡ [] → Ran old first lines new a b before page → put ≡ page ++ serial_line new → AreWhole put
+ran_page old new first lines a b before page put none ran serial =
+    subst AreWhole (sym serial) (append_whole page (serial_line new) (page_whole a b before page ran.text ran.printed (inl none)) (serial_whole new))
+
 module _ (v : Version) (old new : CoreValue) (lines : List Line) (s : Show) (a b c : Option (List ℕ)) (before page put tail : List ℕ) (opening : IsOpened old.config old)
     (none : before ≡ []) (ran : Ran old (first_number v old.config) lines new a b before page) (serial : put ≡ page ++ serial_line new) (shown : (printed : List ℕ) → IsShown v s printed new ((printed ++ serial_line new) ++ tail)) where
   output : IsOutput (record { version = v; config = old.config; lines = lines }) s ran.answers ((ran.text ++ serial_line new) ++ tail)
   output = record { printed = ran.text; closed = new; run = is_run v old new lines ran.answers ran.text opening ran.run; shown = shown ran.text }
 
   printed : Adds a b [] put (ran.text ++ serial_line new)
-  printed = adds_put a b [] page ran.text put (serial_line new) (subst (λ w. Adds a b w page ran.text) none ran.printed) serial
+  printed = adds_put a b [] page ran.text put (serial_line new) (subst (λ w. Adds a b w page ran.text) none ran.printed) serial (serial_whole new)
 
   pub shown_whole : (moved : List ℕ) → Adds b c put moved tail → Whole (record { version = v; config = old.config; lines = lines }) s a c moved
   shown_whole moved more = record {
@@ -84,8 +97,10 @@ module _ (v : Version) (old new : CoreValue) (lines : List Line) (s : Show) (a b
     printed = adds_more a b c [] put moved (ran.text ++ serial_line new) tail printed more;
   }
 
-  pub shown_cut : AddsPart b c (put ++ tail) → WritesPart (record { version = v; config = old.config; lines = lines }) s a c
-  shown_cut stopped = output_cut (record { version = v; config = old.config; lines = lines }) s ran.answers ((ran.text ++ serial_line new) ++ tail) a c output (part_more a b c [] put (ran.text ++ serial_line new) tail printed stopped)
+  pub shown_cut : (why : Stop) → (AreWhole put → AddsPart why b c (put ++ tail)) → WritesPart why (record { version = v; config = old.config; lines = lines }) s a c
+  shown_cut why stopped =
+      output_cut why (record { version = v; config = old.config; lines = lines }) s ran.answers ((ran.text ++ serial_line new) ++ tail) a c output
+      (part_more why a b c [] put (ran.text ++ serial_line new) tail none_whole printed (stopped (ran_page old new (first_number v old.config) lines a b before page put none ran serial)))
 
 -- ---- the journal, alone
 
@@ -109,16 +124,26 @@ module _ (v : Version) (old new : CoreValue) (lines : List Line) (a b : Option (
             ∙ ap (λ (es : List Event). text_of_forms (header_forms v new.config) ++ flat_map event_line es) journal ∙ sym (journal_text v new);
       }
 
+  put_whole : AreWhole put
+  put_whole = subst AreWhole (sym (header ∙ ap (λ l. l ++ text_of_forms (header_forms v config)) none)) (forms_whole (header_forms v config))
+
   pub journal_whole : (moved : List ℕ) → Adds a b put moved (flat_map event_line events) → Whole (record { version = v; config = old.config; lines = lines }) show.Journal a b moved
   journal_whole moved more = record {
     answers = (taken (first_number v old.config)).0;
     whole = put ++ flat_map event_line events;
     is = journal_output;
-    printed = record { written = more.written; appended = more.appended; joined = more.joined };
+    printed = record {
+      written = more.written;
+      appended = more.appended;
+      joined = more.joined;
+      lines = append_whole put (flat_map event_line events) put_whole more.lines;
+      pages = λ _. more.pages put_whole;
+    };
   }
 
-  pub journal_cut : AddsPart a b (put ++ flat_map event_line events) → WritesPart (record { version = v; config = old.config; lines = lines }) show.Journal a b
-  journal_cut stopped = output_cut (record { version = v; config = old.config; lines = lines }) show.Journal (taken (first_number v old.config)).0 (put ++ flat_map event_line events) a b journal_output stopped
+  pub journal_cut : (why : Stop) → (AreWhole put → AddsPart why a b (put ++ flat_map event_line events)) → WritesPart why (record { version = v; config = old.config; lines = lines }) show.Journal a b
+  journal_cut why stopped =
+      output_cut why (record { version = v; config = old.config; lines = lines }) show.Journal (taken (first_number v old.config)).0 (put ++ flat_map event_line events) a b journal_output (stopped put_whole)
 
 -- ---- the whole replay
 
@@ -130,14 +155,25 @@ pub output_of : (s : Show) (old new : Option (List ℕ)) (r : RecordingValue) (v
     → WritesOutput (record { version = v; config = config; lines = lines }) s old new → WritesOutput r s old new
 output_of s old new r v config lines same_version same_config same_lines h = subst (λ (q : RecordingValue). WritesOutput q s old new) (whole_of r v config lines same_version same_config same_lines) h
 
-pub part_of : (s : Show) (old new : Option (List ℕ)) (r : RecordingValue) (v : Version) (config : Config) (lines : List Line) → v ≡ r.version → config ≡ r.config → lines ≡ r.lines
-    → WritesPart (record { version = v; config = config; lines = lines }) s old new → WritesPart r s old new
-part_of s old new r v config lines same_version same_config same_lines h = subst (λ (q : RecordingValue). WritesPart q s old new) (whole_of r v config lines same_version same_config same_lines) h
+pub part_of : (why : Stop) (s : Show) (old new : Option (List ℕ)) (r : RecordingValue) (v : Version) (config : Config) (lines : List Line) → v ≡ r.version → config ≡ r.config → lines ≡ r.lines
+    → WritesPart why (record { version = v; config = config; lines = lines }) s old new → WritesPart why r s old new
+part_of why s old new r v config lines same_version same_config same_lines h =
+    subst (λ (q : RecordingValue). WritesPart why q s old new) (whole_of r v config lines same_version same_config same_lines) h
 
 pub replays : (s : Show) (before after old new : Option (List ℕ)) (r : RecordingValue) → IsRead before after r → WritesOutput r s old new → Replays s before after old new
 replays s before after old new r read h =
     record { bytes = read.bytes; read = read.read; recording = r; text = read.text; answers = h.answers; output = h.output; is = h.is; written = h.written }
 
-pub replays_part : (s : Show) (before after old new : Option (List ℕ)) (r : RecordingValue) → IsRead before after r → WritesPart r s old new → ReplaysPart s before after old new
-replays_part s before after old new r read h =
-    record { bytes = read.bytes; read = read.read; recording = r; text = read.text; part = h.part; is = h.is; written = h.written }
+pub replays_part : (why : Stop) (s : Show) (before after old new : Option (List ℕ)) (r : RecordingValue) → IsRead before after r → WritesPart why r s old new → ReplaysPart why s before after old new
+replays_part why s before after old new r read h =
+    record { bytes = read.bytes; read = read.read; recording = r; text = read.text; part = h.part; is = completed why r s h.part read.text.kept.ordered h.is; written = h.written }
+
+-- ---- the stop of a fault
+
+pub stop_of_write : (why : Stop) (given : ReplayFault) → given ≡ fault_of why → given ≡ fault.Write → why ≡ stop.Write
+stop_of_write stop.Write given is h = refl
+stop_of_write stop.Memory given is h = cc
+
+pub stop_of_memory : (why : Stop) (given : ReplayFault) → given ≡ fault_of why → given ≡ fault.Memory → why ≡ stop.Memory
+stop_of_memory stop.Write given is h = cc
+stop_of_memory stop.Memory given is h = refl

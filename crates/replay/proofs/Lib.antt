@@ -1,6 +1,9 @@
 pub mod Written
+pub mod Wholes
 pub mod LineTexts
 pub mod Paging
 pub mod RunSteps
+pub mod Matching
+pub mod Completing
 pub mod Ends
 pub mod Reading

@@ -5,53 +5,68 @@ use Rattle.event_core.specs.Dues.{listed}
 use Rattle.event_core.specs.Lists.{AreaDuesValue}
 use Rattle.replay.specs.Lines.{area_lines}
 use Rattle.replay.specs.Pages.{Adds, AddsPart}
+use Rattle.replay.specs.Stops.{AreWhole}
+use Rattle.replay.specs.declared.page.Stop.{Stop}
+use Rattle.replay.specs.declared.page.Stop.TheVariants as stop
 use Rattle.replay.proofs.Written.{appends_none, appends_more}
+use Rattle.replay.proofs.Wholes.{none_whole, append_whole, end_whole, left_longer, left_behind}
 
 pub adds_none : (a : Option (List ℕ)) (page : List ℕ) → Adds a a page page []
-adds_none a page = record { written = []; appended = appends_none a; joined = append-nil page }
+adds_none a page = record { written = []; appended = appends_none a; joined = append-nil page; lines = none_whole; pages = λ _. none_whole }
 
 -- a line behind the page
-pub adds_put : (a b : Option (List ℕ)) (before page text next line : List ℕ) → Adds a b before page text → next ≡ page ++ line → Adds a b before next (text ++ line)
-adds_put a b before page text next line h put = record {
+pub adds_put : (a b : Option (List ℕ)) (before page text next line : List ℕ) → Adds a b before page text → next ≡ page ++ line → AreWhole line → Adds a b before next (text ++ line)
+adds_put a b before page text next line h put whole = record {
   written = h.written;
   appended = h.appended;
   joined = sym (append_assoc before text line) ∙ ap (λ l. l ++ line) h.joined ∙ append_assoc h.written page line ∙ ap (λ l. h.written ++ l) (sym put);
+  lines = append_whole text line h.lines whole;
+  pages = h.pages;
 }
+
+-- what is on the page is whole lines too
+pub page_whole : (a b : Option (List ℕ)) (before page text : List ℕ) → Adds a b before page text → AreWhole before → AreWhole page
+page_whole a b before page text h whole = end_whole h.written page (subst AreWhole h.joined (append_whole before text whole h.lines))
 
 pub adds_more : (a b c : Option (List ℕ)) (x y z t u : List ℕ) → Adds a b x y t → Adds b c y z u → Adds a c x z (t ++ u)
 adds_more a b c x y z t u p q = record {
   written = p.written ++ q.written;
   appended = appends_more a b c p.written q.written p.appended q.appended;
   joined = sym (append_assoc x t u) ∙ ap (λ l. l ++ u) p.joined ∙ append_assoc p.written y u ∙ ap (λ l. p.written ++ l) q.joined ∙ sym (append_assoc p.written q.written z);
+  lines = append_whole t u p.lines q.lines;
+  pages = λ whole. append_whole p.written q.written (p.pages whole) (q.pages (page_whole a b x y t p whole));
 }
 
 -- the page may be written in part
 pub adds_moved : (a b c : Option (List ℕ)) (x y z t : List ℕ) → Adds a b x y t → Adds b c y z [] → Adds a c x z t
 adds_moved a b c x y z t p q = subst (λ l. Adds a c x z l) (append-nil t) (adds_more a b c x y z t [] p q)
 
-pub part_now : (a b : Option (List ℕ)) (before page text : List ℕ) → Adds a b before page text → AddsPart a b (before ++ text)
-part_now a b before page text h = record { part = h.written; beginning = record { rest = page; joined = h.joined }; appended = h.appended }
+-- memory ran out, so that the page is not written
+pub part_now : (a b : Option (List ℕ)) (before page text : List ℕ) → AreWhole before → Adds a b before page text → AddsPart stop.Memory a b (before ++ text)
+part_now a b before page text whole h = record { part = h.written; beginning = record { rest = page; joined = h.joined; left = h.pages whole }; appended = h.appended }
 
-pub part_more : (a b c : Option (List ℕ)) (x y t u : List ℕ) → Adds a b x y t → AddsPart b c (y ++ u) → AddsPart a c (x ++ (t ++ u))
-part_more a b c x y t u p q = record {
+pub part_more : (why : Stop) (a b c : Option (List ℕ)) (x y t u : List ℕ) → AreWhole x → Adds a b x y t → AddsPart why b c (y ++ u) → AddsPart why a c (x ++ (t ++ u))
+part_more why a b c x y t u whole p q = record {
   part = p.written ++ q.part;
   beginning = record {
     rest = q.beginning.rest;
     joined = sym (append_assoc x t u) ∙ ap (λ l. l ++ u) p.joined ∙ append_assoc p.written y u ∙ ap (λ l. p.written ++ l) q.beginning.joined ∙ sym (append_assoc p.written q.part q.beginning.rest);
+    left = left_behind why p.written q.part q.beginning.rest (p.pages whole) q.beginning.left;
   };
   appended = appends_more a b c p.written q.part p.appended q.appended;
 }
 
-pub part_moved : (a b c : Option (List ℕ)) (x y t : List ℕ) → Adds a b x y t → AddsPart b c y → AddsPart a c (x ++ t)
-part_moved a b c x y t p q =
-    subst (λ l. AddsPart a c (x ++ l)) (append-nil t) (part_more a b c x y t [] p (subst (λ l. AddsPart b c l) (sym (append-nil y)) q))
+pub part_moved : (why : Stop) (a b c : Option (List ℕ)) (x y t : List ℕ) → AreWhole x → Adds a b x y t → AddsPart why b c y → AddsPart why a c (x ++ t)
+part_moved why a b c x y t whole p q =
+    subst (λ l. AddsPart why a c (x ++ l)) (append-nil t) (part_more why a b c x y t [] whole p (subst (λ l. AddsPart why b c l) (sym (append-nil y)) q))
 
-pub part_longer : (a b : Option (List ℕ)) (x t u : List ℕ) → AddsPart a b (x ++ t) → AddsPart a b (x ++ (t ++ u))
-part_longer a b x t u h = record {
+pub part_longer : (why : Stop) (a b : Option (List ℕ)) (x t u : List ℕ) → AddsPart why a b (x ++ t) → AddsPart why a b (x ++ (t ++ u))
+part_longer why a b x t u h = record {
   part = h.part;
   beginning = record {
     rest = h.beginning.rest ++ u;
     joined = sym (append_assoc x t u) ∙ ap (λ l. l ++ u) h.beginning.joined ∙ append_assoc h.part h.beginning.rest u;
+    left = left_longer why h.part h.beginning.rest u h.beginning.left;
   };
   appended = h.appended;
 }
@@ -67,23 +82,24 @@ adding_none a page all rest is = record { text = []; adds = adds_none a page; le
 
 -- a line is put behind the page, and the page may be written in part
 pub adding_more : (a b c : Option (List ℕ)) (before page put moved all rest line more : List ℕ) → Adding a b before page all rest → rest ≡ line ++ more → put ≡ page ++ line
-    → Adds b c put moved [] → Adding a c before moved all more
-adding_more a b c before page put moved all rest line more h next is spilled = record {
+    → AreWhole line → Adds b c put moved [] → Adding a c before moved all more
+adding_more a b c before page put moved all rest line more h next is whole spilled = record {
   text = h.text ++ line;
-  adds = adds_moved a b c before put moved (h.text ++ line) (adds_put a b before page h.text put line h.adds is) spilled;
+  adds = adds_moved a b c before put moved (h.text ++ line) (adds_put a b before page h.text put line h.adds is whole) spilled;
   left = h.left ∙ ap (λ l. h.text ++ l) next ∙ sym (append_assoc h.text line more);
 }
 
-pub adding_part : (a b : Option (List ℕ)) (before page all rest : List ℕ) → Adding a b before page all rest → AddsPart a b (before ++ all)
-adding_part a b before page all rest h =
-    subst (λ l. AddsPart a b (before ++ l)) (sym h.left) (part_longer a b before h.text rest (part_now a b before page h.text h.adds))
+-- memory ran out
+pub adding_part : (a b : Option (List ℕ)) (before page all rest : List ℕ) → AreWhole before → Adding a b before page all rest → AddsPart stop.Memory a b (before ++ all)
+adding_part a b before page all rest whole h =
+    subst (λ l. AddsPart stop.Memory a b (before ++ l)) (sym h.left) (part_longer stop.Memory a b before h.text rest (part_now a b before page h.text whole h.adds))
 
 -- the page could not be written behind a line
-pub adding_stopped : (a b c : Option (List ℕ)) (before page put all rest line more : List ℕ) → Adding a b before page all rest → rest ≡ line ++ more → put ≡ page ++ line
-    → AddsPart b c put → AddsPart a c (before ++ all)
-adding_stopped a b c before page put all rest line more h next is stopped =
-    let here = part_moved a b c before put (h.text ++ line) (adds_put a b before page h.text put line h.adds is) stopped in
-    subst (λ l. AddsPart a c (before ++ l)) (append_assoc h.text line more ∙ ap (λ l. h.text ++ l) (sym next) ∙ sym h.left) (part_longer a c before (h.text ++ line) more here)
+pub adding_stopped : (why : Stop) (a b c : Option (List ℕ)) (before page put all rest line more : List ℕ) → AreWhole before → Adding a b before page all rest → rest ≡ line ++ more → put ≡ page ++ line
+    → AreWhole line → AddsPart why b c put → AddsPart why a c (before ++ all)
+adding_stopped why a b c before page put all rest line more whole h next is whole_line stopped =
+    let here = part_moved why a b c before put (h.text ++ line) whole (adds_put a b before page h.text put line h.adds is whole_line) stopped in
+    subst (λ l. AddsPart why a c (before ++ l)) (append_assoc h.text line more ∙ ap (λ l. h.text ++ l) (sym next) ∙ sym h.left) (part_longer why a c before (h.text ++ line) more here)
 
 -- lines are printed behind the page
 pub adding_lines : (a b c : Option (List ℕ)) (before page moved all rest lines more : List ℕ) → Adding a b before page all rest → rest ≡ lines ++ more → Adds b c page moved lines
@@ -94,12 +110,16 @@ adding_lines a b c before page moved all rest lines more h next added = record {
   left = h.left ∙ ap (λ l. h.text ++ l) next ∙ sym (append_assoc h.text lines more);
 }
 
+-- the page is whole lines, wherever printing is
+pub adding_page : (a b : Option (List ℕ)) (before page all rest : List ℕ) → Adding a b before page all rest → AreWhole before → AreWhole page
+adding_page a b before page all rest h whole = page_whole a b before page h.text h.adds whole
+
 -- and only a part of them could be
-pub adding_cut : (a b c : Option (List ℕ)) (before page all rest lines more : List ℕ) → Adding a b before page all rest → rest ≡ lines ++ more → AddsPart b c (page ++ lines)
-    → AddsPart a c (before ++ all)
-adding_cut a b c before page all rest lines more h next cut =
-    let here = part_more a b c before page h.text lines h.adds cut in
-    subst (λ l. AddsPart a c (before ++ l)) (append_assoc h.text lines more ∙ ap (λ l. h.text ++ l) (sym next) ∙ sym h.left) (part_longer a c before (h.text ++ lines) more here)
+pub adding_cut : (why : Stop) (a b c : Option (List ℕ)) (before page all rest lines more : List ℕ) → AreWhole before → Adding a b before page all rest → rest ≡ lines ++ more
+    → AddsPart why b c (page ++ lines) → AddsPart why a c (before ++ all)
+adding_cut why a b c before page all rest lines more whole h next cut =
+    let here = part_more why a b c before page h.text lines whole h.adds cut in
+    subst (λ l. AddsPart why a c (before ++ l)) (append_assoc h.text lines more ∙ ap (λ l. h.text ++ l) (sym next) ∙ sym h.left) (part_longer why a c before (h.text ++ lines) more here)
 
 -- the text is the same as another
 pub adding_as : (a b : Option (List ℕ)) (before page all other rest : List ℕ) → Adding a b before page all rest → all ≡ other → Adding a b before page other rest

@@ -2,7 +2,7 @@
 use Rattle.std.proofs.Common.{◌≡◌, ℕ, Bool, ◌<◌, ◌≤◌, ◌+◌, ◌^◌, List, [], ◌∷◌, length, map, drop, Option, ap, refl, subst, sym, arith}
 use Rattle.std.proofs.lemmas.List.{length-append, length-map}
 use Rattle.std.specs.List.{flat_map}
-use Rattle.std.specs.Io.KnownBytes.{Consumes}
+use Rattle.std.specs.Io.KnownBytes.{Consumes, IsAtEnd}
 use Rattle.recording.specs.Forms.{Form, line_text}
 use Rattle.ospf_types.specs.declared.config.Config.{Config}
 use Rattle.recording.specs.declared.version.Version.{Version}
@@ -30,14 +30,14 @@ pub header_length : (v : Version) (config : Config) → (first_lines v + 1) + le
 header_length v config =
     omega (arith, first_length v config.router config.compat, length-append (first_forms v config.router config.compat) (flat_map area_forms config.areas))
 
--- what was read stands alone, and is the text of the recording
-pub is_read : (before after : Option (List ℕ)) (old new bytes : List ℕ) (r : RecordingValue) → old ≡ [] → bytes ≡ new → Consumes before after (drop (length old) new) → IsText bytes r → length new < 2 ^ 63
+-- what was read stands alone, is all, and is the text of the recording
+pub is_read : (before after : Option (List ℕ)) (old new bytes : List ℕ) (r : RecordingValue) → old ≡ [] → bytes ≡ new → Consumes before after (drop (length old) new) → IsAtEnd after → IsText bytes r → length new < 2 ^ 63
     → IsRead before after r
-is_read before after old new bytes r none same read text small =
+is_read before after old new bytes r none same read end text small =
     let bound = lines_fit bytes r text in
     record {
       bytes = bytes;
-      read = subst (λ l. Consumes before after l) (sym same) (subst (λ l. Consumes before after (drop (length l) new)) none read);
+      read = record { read = subst (λ l. Consumes before after l) (sym same) (subst (λ l. Consumes before after (drop (length l) new)) none read); end = end };
       text = text;
       few = omega (arith, bound, ap length same);
     }

@@ -13,6 +13,10 @@ use Rattle.recording.specs.declared.line.Line.TheVariants as line
 use Rattle.replay.specs.Lines.{lookup_line, answer_line}
 use Rattle.replay.specs.Runs.{Answers, Prints}
 use Rattle.replay.specs.Pages.{Adds, AddsPart, RanLine, Ran, RanPart, IsRunTo}
+use Rattle.replay.specs.Stops.{AreWhole}
+use Rattle.replay.specs.declared.page.Stop.{Stop}
+use Rattle.replay.specs.declared.page.Stop.TheVariants as stop
+use Rattle.replay.proofs.Wholes.{answer_whole, lookup_whole}
 use Rattle.replay.proofs.Paging.{adds_none, adds_put, adds_moved, part_now, part_moved}
 
 -- ---- one line
@@ -32,6 +36,7 @@ event_ran old new number l e answer before after is applies printed = record {
   text = answer_line number answer;
   run = subst (λ (x : Line). Prints old number (x ∷ []) (answer ∷ []) (answer_line number answer) new) (sym is) (event_prints old new number e answer applies);
   printed = printed;
+  lines = answer_whole number answer;
 }
 
 pub lookup_ran : (old : CoreValue) (table : TableValue) (number : ℕ) (l : Line) (address : ℕ) (before after : List ℕ) → l ≡ line.Lookup address → table ≡ old.table
@@ -42,6 +47,7 @@ lookup_ran old table number l address before after is same (found, matched, prin
   run = subst (λ (x : Line). Prints old number (x ∷ []) [] (lookup_line number address old.table.serial found) old) (sym is)
       (lookup_prints old number address found (subst (λ (t : TableValue). IsMatch t.items address found) same matched));
   printed = printed ∙ ap (λ (t : TableValue). before ++ lookup_line number address t.serial found) same;
+  lines = lookup_whole number address old.table.serial found;
 }
 
 pub event_taken : (old new : CoreValue) (l : Line) (e : Event) (answer : Result Reply Refusal) → l ≡ line.Event e → Applies old e answer new → IsRunTo old (l ∷ []) new
@@ -97,7 +103,7 @@ ran_more old mid new first number done l from to before page put counted ran mor
   answers = ran.answers ++ more.answers;
   text = ran.text ++ more.text;
   run = prints_more old mid new first done (l ∷ []) ran.answers more.answers ran.text more.text ran.run (subst (λ n. Prints mid n (l ∷ []) more.answers more.text new) counted more.run);
-  printed = adds_put from to before page ran.text put more.text ran.printed more.printed;
+  printed = adds_put from to before page ran.text put more.text ran.printed more.printed more.lines;
 }
 
 pub running_more : (old mid new : CoreValue) (first number : ℕ) (lines rest more : List Line) (l : Line) (from to on : Option (List ℕ)) (before page put moved : List ℕ) → Running old first lines rest number mid from to before page
@@ -124,9 +130,9 @@ running_all old now first number lines rest from to before page h none =
     subst (λ (done : List Line). Ran old first done now from to before page) (sym (h.left ∙ ap (λ w. h.done ++ w) none ∙ append-nil h.done)) h.ran
 
 -- a run of the first of the lines
-ran_part : (old now : CoreValue) (first : ℕ) (lines done rest : List Line) (from to : Option (List ℕ)) (before text : List ℕ) (answers : Answers) → lines ≡ done ++ rest → Prints old first done answers text now
-    → AddsPart from to (before ++ text) → RanPart old first lines from to before
-ran_part old now first lines done rest from to before text answers left run part = record {
+ran_part : (why : Stop) (old now : CoreValue) (first : ℕ) (lines done rest : List Line) (from to : Option (List ℕ)) (before text : List ℕ) (answers : Answers) → lines ≡ done ++ rest → Prints old first done answers text now
+    → AddsPart why from to (before ++ text) → RanPart why old first lines from to before
+ran_part why old now first lines done rest from to before text answers left run part = record {
   count = length done;
   answers = answers;
   text = text;
@@ -136,18 +142,20 @@ ran_part old now first lines done rest from to before text answers left run part
   part = part;
 }
 
-pub running_part : (old now : CoreValue) (first number : ℕ) (lines rest : List Line) (from to : Option (List ℕ)) (before page : List ℕ) → Running old first lines rest number now from to before page
-    → RanPart old first lines from to before
-running_part old now first number lines rest from to before page h =
-    ran_part old now first lines h.done rest from to before h.ran.text h.ran.answers h.left h.ran.run (part_now from to before page h.ran.text h.ran.printed)
+-- memory ran out
+pub running_part : (old now : CoreValue) (first number : ℕ) (lines rest : List Line) (from to : Option (List ℕ)) (before page : List ℕ) → AreWhole before
+    → Running old first lines rest number now from to before page → RanPart stop.Memory old first lines from to before
+running_part old now first number lines rest from to before page whole h =
+    ran_part stop.Memory old now first lines h.done rest from to before h.ran.text h.ran.answers h.left h.ran.run (part_now from to before page h.ran.text whole h.ran.printed)
 
 -- the page could not be written behind a line
-pub running_stopped : (old mid new : CoreValue) (first number : ℕ) (lines rest more : List Line) (l : Line) (from to on : Option (List ℕ)) (before page put : List ℕ)
-    → Running old first lines rest number mid from to before page → rest ≡ l ∷ more → RanLine mid number l new page put → AddsPart to on put → RanPart old first lines from on before
-running_stopped old mid new first number lines rest more l from to on before page put h next line stopped =
+pub running_stopped : (why : Stop) (old mid new : CoreValue) (first number : ℕ) (lines rest more : List Line) (l : Line) (from to on : Option (List ℕ)) (before page put : List ℕ)
+    → AreWhole before → Running old first lines rest number mid from to before page → rest ≡ l ∷ more → RanLine mid number l new page put → AddsPart why to on put
+    → RanPart why old first lines from on before
+running_stopped why old mid new first number lines rest more l from to on before page put whole h next line stopped =
     let ran = ran_more old mid new first number h.done l from to before page put h.counted h.ran line in
-    ran_part old new first lines (h.done ++ l ∷ []) more from on before ran.text ran.answers (h.left ∙ ap (λ w. h.done ++ w) next ∙ sym (append_assoc h.done (l ∷ []) more)) ran.run
-    (part_moved from to on before put ran.text ran.printed stopped)
+    ran_part why old new first lines (h.done ++ l ∷ []) more from on before ran.text ran.answers (h.left ∙ ap (λ w. h.done ++ w) next ∙ sym (append_assoc h.done (l ∷ []) more)) ran.run
+    (part_moved why from to on before put ran.text whole ran.printed stopped)
 
 -- ---- a run that prints nothing
 
@@ -173,7 +181,8 @@ taking_more old mid new lines rest more l h next line = record {
 pub taking_all : (old now : CoreValue) (lines rest : List Line) → Taking old lines rest now → rest ≡ [] → IsRunTo old lines now
 taking_all old now lines rest h none = subst (λ (done : List Line). IsRunTo old done now) (sym (h.left ∙ ap (λ w. h.done ++ w) none ∙ append-nil h.done)) h.run
 
--- a whole run is a part of itself
-pub ran_whole : (old now : CoreValue) (first : ℕ) (lines : List Line) (from to : Option (List ℕ)) (before page : List ℕ) → Ran old first lines now from to before page → RanPart old first lines from to before
-ran_whole old now first lines from to before page h =
-    ran_part old now first lines lines [] from to before h.text h.answers (sym (append-nil lines)) h.run (part_now from to before page h.text h.printed)
+-- memory ran out behind the last line
+pub ran_whole : (old now : CoreValue) (first : ℕ) (lines : List Line) (from to : Option (List ℕ)) (before page : List ℕ) → AreWhole before → Ran old first lines now from to before page
+    → RanPart stop.Memory old first lines from to before
+ran_whole old now first lines from to before page whole h =
+    ran_part stop.Memory old now first lines lines [] from to before h.text h.answers (sym (append-nil lines)) h.run (part_now from to before page h.text whole h.printed)

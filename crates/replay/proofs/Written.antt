@@ -1,7 +1,8 @@
 -- What a writer's known bytes grew by.
 use Rattle.std.proofs.Common.{◌≡◌, ◌≢◌, ℕ, List, [], ◌++◌, length, take, drop, Option, Some, None, refl, sym, ap, subst, ◌∙◌, append_assoc, append-nil, take-append-drop, ◌-◌}
 use Rattle.std.proofs.lemmas.List.{take_rest, nil_from_length}
-use Rattle.std.specs.Prelude.{Result, Ok, Err, OnErr}
+use Rattle.std.specs.Prelude.{Result, Ok, Err, OnErr, IfErr}
+use Rattle.std.specs.Result.{IsErrAnd}
 use Rattle.std.specs.Io.KnownBytes.{Appends}
 use Rattle.replay.specs.Writing.{AppendsPart}
 
@@ -42,6 +43,11 @@ gone_part a b c bytes rest some h more = record {
   lacks = λ none. some (ap length none);
   written = subst (Appends a c) (append-nil h.front) (appends_more a b c h.front [] h.written more);
 }
+
+-- what the exit of a `?` returns, where its error is known
+pub err_as : {T E : Type 0} (Q : E → Type 0) (r : Result T E) (e : E) → IsErrAnd r (λ given. given ≡ e) → Q e → IfErr r Q
+err_as Q (Ok x) e given q = tt
+err_as Q (Err x) e given q = subst Q (sym given) q
 
 pub on_err : {T E P : Type 0} (r : Result T E) → P → OnErr r P
 on_err (Ok x) p = tt

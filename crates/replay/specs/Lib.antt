@@ -1,5 +1,7 @@
 pub mod Lines
 pub mod Runs
+pub mod Inputs
+pub mod Stops
 pub mod Outputs
 pub mod Texts
 pub mod Writing

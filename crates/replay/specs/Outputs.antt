@@ -1,8 +1,8 @@
 -- What a replay prints.
-use Rattle.std.specs.Prelude.{ℕ, ◌≡◌, ◌++◌, List, [], Option, take, map, ◌⊎◌}
+use Rattle.std.specs.Prelude.{ℕ, ◌≡◌, ◌++◌, List, Option, map}
 use Rattle.std.specs.List.{flat_map}
 use Rattle.std.specs.FinMap.{entries}
-use Rattle.std.specs.Io.KnownBytes.{Appends, Consumes}
+use Rattle.std.specs.Io.KnownBytes.{Appends}
 use Rattle.ospf_types.specs.declared.key.Scope.{Scope}
 use Rattle.ospf_types.specs.Lsa.{Lsa}
 use Rattle.event_core.specs.Cores.{CoreValue, state_of}
@@ -14,6 +14,9 @@ use Rattle.recording.specs.declared.version.Version.{Version}
 use Rattle.recording.specs.declared.show.Show.TheVariants as show
 use Rattle.replay.specs.Lines.{first_number, serial_line, item_line, area_lines, lsa_line}
 use Rattle.replay.specs.Runs.{Answers, Prints, IsOpened}
+use Rattle.replay.specs.Inputs.{ReadsAll}
+use Rattle.replay.specs.Stops.{IsBeginning}
+use Rattle.replay.specs.declared.page.Stop.{Stop}
 
 -- the recording was run with these answers to its events, and its lines printed this
 pub record IsRun (r : RecordingValue) (answers : Answers) (printed : List ℕ) (closed : CoreValue) : Type 0 where
@@ -41,43 +44,17 @@ pub record IsOutput (r : RecordingValue) (s : Show) (answers : Answers) (text : 
   pub run : IsRun r answers printed closed
   pub shown : IsShown r.version s printed closed text
 
--- the text is a beginning of the other
-pub record IsBeginning (text whole : List ℕ) : Type 0 where
-  pub rest : List ℕ
-  pub joined : whole ≡ text ++ rest
-
--- the lines of the run are printed with this show
-abbrev pub PrintsRun : Show → Type 0
-PrintsRun show.Routes = Unit {0}
-PrintsRun show.Due = Unit {0}
-PrintsRun show.Lsdb = Unit {0}
-PrintsRun show.Journal = ⊥
-
--- the run came so far, where its lines are printed, and the text is a beginning of what these printed
-pub record IsCutRun (r : RecordingValue) (s : Show) (text : List ℕ) : Type 0 where
-  pub prints : PrintsRun s
-  pub count : ℕ
-  pub answers : Answers
-  pub printed : List ℕ
-  pub now : CoreValue
-  pub run : IsRun (record r { lines = take count r.lines }) answers printed now
-  pub part : IsBeginning text printed
-
--- the text is a beginning of an output
-pub record IsCutOutput (r : RecordingValue) (s : Show) (text : List ℕ) : Type 0 where
+-- the text is the beginning of an output that such a stop leaves
+pub record IsCutOutput (why : Stop) (r : RecordingValue) (s : Show) (text : List ℕ) : Type 0 where
   pub answers : Answers
   pub whole : List ℕ
   pub output : IsOutput r s answers whole
-  pub part : IsBeginning text whole
+  pub part : IsBeginning why text whole
 
--- what may have been written where a replay ends early: nothing, or a beginning
-abbrev pub IsCut : RecordingValue → Show → List ℕ → Type 0
-IsCut r s text = (text ≡ []) ⊎ IsCutRun r s text ⊎ IsCutOutput r s text
-
--- the bytes that a reader had left were a recording, and a writer's known bytes grew by its output
+-- all the bytes that a reader had were a recording, and a writer's known bytes grew by its output
 pub record Replays (s : Show) (before after : Option (List ℕ)) (old new : Option (List ℕ)) : Type 0 where
   pub bytes : List ℕ
-  pub read : Consumes before after bytes
+  pub read : ReadsAll before after bytes
   pub recording : RecordingValue
   pub text : IsText bytes recording
   pub answers : Answers
@@ -85,12 +62,12 @@ pub record Replays (s : Show) (before after : Option (List ℕ)) (old new : Opti
   pub is : IsOutput recording s answers output
   pub written : Appends old new output
 
--- the same, and a writer's known bytes grew by a beginning of what is to be written
-pub record ReplaysPart (s : Show) (before after : Option (List ℕ)) (old new : Option (List ℕ)) : Type 0 where
+-- all the bytes that a reader had were a recording, and a writer's known bytes grew by the beginning of its output that such a stop leaves
+pub record ReplaysPart (why : Stop) (s : Show) (before after : Option (List ℕ)) (old new : Option (List ℕ)) : Type 0 where
   pub bytes : List ℕ
-  pub read : Consumes before after bytes
+  pub read : ReadsAll before after bytes
   pub recording : RecordingValue
   pub text : IsText bytes recording
   pub part : List ℕ
-  pub is : IsCut recording s part
+  pub is : IsCutOutput why recording s part
   pub written : Appends old new part

@@ -4,18 +4,22 @@ use Rattle.std.specs.Io.KnownBytes.{Appends}
 use Rattle.event_core.specs.Cores.{CoreValue}
 use Rattle.recording.specs.declared.line.Line.{Line}
 use Rattle.replay.specs.Runs.{Answers, Prints}
-use Rattle.replay.specs.Outputs.{IsBeginning}
+use Rattle.replay.specs.Stops.{AreWhole, IsBeginning}
+use Rattle.replay.specs.declared.page.Stop.{Stop}
 
--- The text was printed: what a writer's known bytes grew by, and behind it the page now, is the page of before with the text behind it.
+-- The text, which is whole lines, was printed: what a writer's known bytes grew by, and behind it the page now, is the page of before with the text
+-- behind it. Where the page of before was whole lines, so is what was written.
 pub record Adds (old new : Option (List ℕ)) (before page text : List ℕ) : Type 0 where
   pub written : List ℕ
   pub appended : Appends old new written
   pub joined : before ++ text ≡ written ++ page
+  pub lines : AreWhole text
+  pub pages : AreWhole before → AreWhole written
 
--- a writer's known bytes grew by a beginning of this
-pub record AddsPart (old new : Option (List ℕ)) (whole : List ℕ) : Type 0 where
+-- a writer's known bytes grew by the beginning of this that such a stop leaves
+pub record AddsPart (why : Stop) (old new : Option (List ℕ)) (whole : List ℕ) : Type 0 where
   pub part : List ℕ
-  pub beginning : IsBeginning part whole
+  pub beginning : IsBeginning why part whole
   pub appended : Appends old new part
 
 -- ---- runs
@@ -26,6 +30,7 @@ pub record RanLine (old : CoreValue) (number : ℕ) (line : Line) (new : CoreVal
   pub text : List ℕ
   pub run : Prints old number (line ∷ []) answers text new
   pub printed : after ≡ before ++ text
+  pub lines : AreWhole text
 
 -- the lines were run, from this number on, and printed
 pub record Ran (old : CoreValue) (number : ℕ) (lines : List Line) (new : CoreValue) (from to : Option (List ℕ)) (before page : List ℕ) : Type 0 where
@@ -35,13 +40,13 @@ pub record Ran (old : CoreValue) (number : ℕ) (lines : List Line) (new : CoreV
   pub printed : Adds from to before page text
 
 -- so many of the lines were run, and a beginning of what they printed was written
-pub record RanPart (old : CoreValue) (number : ℕ) (lines : List Line) (from to : Option (List ℕ)) (before : List ℕ) : Type 0 where
+pub record RanPart (why : Stop) (old : CoreValue) (number : ℕ) (lines : List Line) (from to : Option (List ℕ)) (before : List ℕ) : Type 0 where
   pub count : ℕ
   pub answers : Answers
   pub text : List ℕ
   pub now : CoreValue
   pub run : Prints old number (take count lines) answers text now
-  pub part : AddsPart from to (before ++ text)
+  pub part : AddsPart why from to (before ++ text)
 
 -- the lines lead from one core to the other, whatever their numbers
 abbrev pub IsRunTo : CoreValue → List Line → CoreValue → Type 0

@@ -1,19 +1,25 @@
 -- The parts of a replay: a recording is read, a core is opened, and the output is printed.
-use Rattle.std.specs.Prelude.{ℕ, ◌<◌, ◌+◌, ◌^◌, List, length, Option}
-use Rattle.std.specs.Io.KnownBytes.{Appends, Consumes}
+use Rattle.std.specs.Prelude.{ℕ, ◌≡◌, ◌<◌, ◌+◌, ◌^◌, ◌⊎◌, List, [], length, take, Option}
+use Rattle.std.specs.Io.KnownBytes.{Appends}
 use Rattle.recording.specs.Recordings.{RecordingValue, IsText}
 use Rattle.recording.specs.Faults.{IsFaultOf}
+use Rattle.event_core.specs.Cores.{CoreValue}
 use Rattle.replay.specs.declared.fault.ReplayFault.{ReplayFault}
 use Rattle.replay.specs.declared.fault.ReplayFault.TheVariants as fault
+use Rattle.replay.specs.declared.page.Stop.{Stop}
+use Rattle.replay.specs.declared.page.Stop.TheVariants as stop
 use Rattle.recording.specs.declared.show.Show.{Show}
+use Rattle.recording.specs.declared.show.Show.TheVariants as show
 use Rattle.replay.specs.Lines.{first_number}
-use Rattle.replay.specs.Runs.{Answers}
-use Rattle.replay.specs.Outputs.{IsOutput, IsCut}
+use Rattle.replay.specs.Runs.{Answers, IsOpened}
+use Rattle.replay.specs.Inputs.{ReadsAll}
+use Rattle.replay.specs.Stops.{IsBeginning}
+use Rattle.replay.specs.Outputs.{IsRun, IsOutput, IsCutOutput}
 
--- the bytes that a reader had left were the recording's text; its lines are few enough to be numbered
+-- all the bytes that a reader had were the recording's text; its lines are few enough to be numbered
 pub record IsRead (before after : Option (List ℕ)) (r : RecordingValue) : Type 0 where
   pub bytes : List ℕ
-  pub read : Consumes before after bytes
+  pub read : ReadsAll before after bytes
   pub text : IsText bytes r
   pub few : first_number r.version r.config + length r.lines < 2 ^ 64
 
@@ -22,7 +28,7 @@ abbrev pub IsReadFault : (before after : Option (List ℕ)) → ReplayFault → 
 IsReadFault before after fault.Read = Unit {0}
 IsReadFault before after fault.Write = ⊥
 IsReadFault before after fault.Memory = Unit {0}
-IsReadFault before after (fault.Line f) = (bytes : List ℕ) × Consumes before after bytes × IsFaultOf bytes f
+IsReadFault before after (fault.Line f) = (bytes : List ℕ) × ReadsAll before after bytes × IsFaultOf bytes f
 
 -- a writer's known bytes grew by an output of the recording
 pub record WritesOutput (r : RecordingValue) (s : Show) (old new : Option (List ℕ)) : Type 0 where
@@ -31,8 +37,38 @@ pub record WritesOutput (r : RecordingValue) (s : Show) (old new : Option (List 
   pub is : IsOutput r s answers output
   pub written : Appends old new output
 
--- a writer's known bytes grew by nothing, or by a beginning of what is to be written
-pub record WritesPart (r : RecordingValue) (s : Show) (old new : Option (List ℕ)) : Type 0 where
+-- ---- where printing stops
+
+-- a core was opened, and memory ran out before anything was written
+pub record IsBegun (why : Stop) (r : RecordingValue) (text : List ℕ) : Type 0 where
+  pub opened : CoreValue
+  pub opening : IsOpened r.config opened
+  pub cause : why ≡ stop.Memory
+  pub none : text ≡ []
+
+-- the lines of the run are printed with this show
+abbrev pub PrintsRun : Show → Type 0
+PrintsRun show.Routes = Unit {0}
+PrintsRun show.Due = Unit {0}
+PrintsRun show.Lsdb = Unit {0}
+PrintsRun show.Journal = ⊥
+
+-- the run came so far, where its lines are printed, and the text is the beginning of what these printed
+pub record IsCutRun (why : Stop) (r : RecordingValue) (s : Show) (text : List ℕ) : Type 0 where
+  pub prints : PrintsRun s
+  pub count : ℕ
+  pub answers : Answers
+  pub printed : List ℕ
+  pub now : CoreValue
+  pub run : IsRun (record r { lines = take count r.lines }) answers printed now
+  pub part : IsBeginning why text printed
+
+-- what may have been written where printing stops
+abbrev pub IsCut : Stop → RecordingValue → Show → List ℕ → Type 0
+IsCut why r s text = IsBegun why r text ⊎ IsCutRun why r s text ⊎ IsCutOutput why r s text
+
+-- a writer's known bytes grew by what such a stop leaves of what is to be written
+pub record WritesPart (why : Stop) (r : RecordingValue) (s : Show) (old new : Option (List ℕ)) : Type 0 where
   pub part : List ℕ
-  pub is : IsCut r s part
+  pub is : IsCut why r s part
   pub written : Appends old new part

@@ -3,11 +3,11 @@ ghost use Rattle.replay.specs.Texts.{replay_fault_text};
 
 use ospf_types::memory::Memory;
 use recording::LineFault;
-use std::error::Error;
 use std::fmt;
+use thiserror::Error;
 
 /// Why a replay ended early.
-#[derive(Clone, Copy, Debug, PartialEq, Eq)]
+#[derive(Clone, Copy, Debug, PartialEq, Eq, Error)]
 pub enum ReplayFault {
     /// The recording could not be read.
     Read,
@@ -31,5 +31,3 @@ impl fmt::Display for ReplayFault {
         }
     }
 }
-
-impl Error for ReplayFault {}

@@ -12,7 +12,7 @@ mod writing;
 
 pub use fault::ReplayFault;
 pub use lines::{put_answer, put_serial};
-pub use page::{Stop, write_page};
+pub use page::{Stop, fault_of, write_page};
 pub use recording::Show;
 pub use replaying::{read_recording, replay_one};
 pub use running::number_of_first;

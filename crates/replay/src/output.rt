@@ -1,5 +1,5 @@
 //! The output of a replay, printed: the run, and what is shown after it.
-ghost use Rattle.std.specs.Prelude.{◌+◌, ◌^◌, ◌<◌, length, OnOk, OnErr};
+ghost use Rattle.std.specs.Prelude.{◌+◌, ◌^◌, ◌<◌, length, OnOk, IfErr};
 ghost use Rattle.replay.specs.Lines.{first_number};
 ghost use Rattle.replay.specs.Runs.{IsOpened};
 ghost use Rattle.replay.specs.Parts.{WritesOutput, WritesPart};
@@ -25,7 +25,7 @@ pub(crate) fn print_routes<W: io::Write>(
     requires opened { IsOpened core.old.config core.old }
     requires few { first_number version core.old.config + length lines.items < 2 ^ 64 }
     ensures ok { OnOk result (WritesOutput (record { version = version; config = core.old.config; lines = lines.items }) show.Routes (W.contents out.old) (W.contents out.new)) }
-    ensures err { OnErr result (WritesPart (record { version = version; config = core.old.config; lines = lines.items }) show.Routes (W.contents out.old) (W.contents out.new)) }
+    ensures err { IfErr result (λ why. WritesPart why (record { version = version; config = core.old.config; lines = lines.items }) show.Routes (W.contents out.old) (W.contents out.new)) }
 {
     let mut page = empty_page(alloc)?;
     run_lines(version, core, lines, out, &mut page)?;
@@ -46,7 +46,7 @@ pub(crate) fn print_due<W: io::Write>(
     requires opened { IsOpened core.old.config core.old }
     requires few { first_number version core.old.config + length lines.items < 2 ^ 64 }
     ensures ok { OnOk result (WritesOutput (record { version = version; config = core.old.config; lines = lines.items }) show.Due (W.contents out.old) (W.contents out.new)) }
-    ensures err { OnErr result (WritesPart (record { version = version; config = core.old.config; lines = lines.items }) show.Due (W.contents out.old) (W.contents out.new)) }
+    ensures err { IfErr result (λ why. WritesPart why (record { version = version; config = core.old.config; lines = lines.items }) show.Due (W.contents out.old) (W.contents out.new)) }
 {
     let mut page = empty_page(alloc)?;
     run_lines(version, core, lines, out, &mut page)?;
@@ -67,7 +67,7 @@ pub(crate) fn print_lsdb<W: io::Write>(
     requires opened { IsOpened core.old.config core.old }
     requires few { first_number version core.old.config + length lines.items < 2 ^ 64 }
     ensures ok { OnOk result (WritesOutput (record { version = version; config = core.old.config; lines = lines.items }) show.Lsdb (W.contents out.old) (W.contents out.new)) }
-    ensures err { OnErr result (WritesPart (record { version = version; config = core.old.config; lines = lines.items }) show.Lsdb (W.contents out.old) (W.contents out.new)) }
+    ensures err { IfErr result (λ why. WritesPart why (record { version = version; config = core.old.config; lines = lines.items }) show.Lsdb (W.contents out.old) (W.contents out.new)) }
 {
     let mut page = empty_page(alloc)?;
     run_lines(version, core, lines, out, &mut page)?;
@@ -88,7 +88,7 @@ pub(crate) fn print_journal<W: io::Write>(
 ) -> Result<(), Stop>
     requires { IsOpened core.old.config core.old }
     ensures ok { OnOk result (WritesOutput (record { version = version; config = core.old.config; lines = lines.items }) show.Journal (W.contents out.old) (W.contents out.new)) }
-    ensures err { OnErr result (WritesPart (record { version = version; config = core.old.config; lines = lines.items }) show.Journal (W.contents out.old) (W.contents out.new)) }
+    ensures err { IfErr result (λ why. WritesPart why (record { version = version; config = core.old.config; lines = lines.items }) show.Journal (W.contents out.old) (W.contents out.new)) }
 {
     let mut page = empty_page(alloc)?;
     run_silently(core, lines);

@@ -1,7 +1,10 @@
 //! The page: what is printed is collected, and written where it has become long.
 ghost use Rattle.std.specs.Prelude.{IfOk, OnOk, OnErr, [], ◌≡◌, string_bytes};
 ghost use Rattle.replay.specs.Pages.{Adds, AddsPart};
+ghost use Rattle.replay.specs.Stops.{fault_of};
+ghost use Rattle.replay.specs.declared.page.Stop.TheVariants as stop;
 
+use crate::fault::ReplayFault;
 use crate::writing::{CannotWrite, write_whole};
 use ospf_types::memory::Memory;
 use std::alloc::Global;
@@ -17,14 +20,34 @@ pub enum Stop {
 }
 
 impl From<CannotWrite> for Stop {
+    ghost use Rattle.std.specs.Prelude.{◌≡◌};
+    ghost use Rattle.replay.specs.declared.page.Stop.TheVariants.{Write};
+
+    ghost from_gives = { λ _ given. given ≡ Write };
+
     fn from(_e: CannotWrite) -> Stop {
         Stop::Write
     }
 }
 
 impl From<Memory> for Stop {
+    ghost use Rattle.std.specs.Prelude.{◌≡◌};
+    ghost use Rattle.replay.specs.declared.page.Stop.TheVariants.{Memory as OutOfMemory};
+
+    ghost from_gives = { λ _ given. given ≡ OutOfMemory };
+
     fn from(_e: Memory) -> Stop {
         Stop::Memory
+    }
+}
+
+/// The fault of a replay that stops so.
+pub fn fault_of(stop: Stop) -> ReplayFault
+    ensures { result ≡ fault_of stop }
+{
+    match stop {
+        Stop::Write => ReplayFault::Write,
+        Stop::Memory => ReplayFault::Memory,
     }
 }
 
@@ -41,7 +64,7 @@ pub fn empty_page(alloc: Global) -> Result<String, Memory>
 /// Writes the page where it has become long.
 pub fn spill<W: io::Write>(out: &mut W, page: &mut String) -> Result<(), CannotWrite>
     ensures ok { OnOk result (Adds (W.contents out.old) (W.contents out.new) (string_bytes page.old) (string_bytes page.new) []) }
-    ensures err { OnErr result (AddsPart (W.contents out.old) (W.contents out.new) (string_bytes page.old)) }
+    ensures err { OnErr result (AddsPart stop.Write (W.contents out.old) (W.contents out.new) (string_bytes page.old)) }
 {
     if page.len() < LENGTH {
         return Ok(());
@@ -53,7 +76,7 @@ pub fn spill<W: io::Write>(out: &mut W, page: &mut String) -> Result<(), CannotW
 pub fn write_page<W: io::Write>(out: &mut W, page: &mut String) -> Result<(), CannotWrite>
     ensures ok { OnOk result (Adds (W.contents out.old) (W.contents out.new) (string_bytes page.old) (string_bytes page.new) []) }
     ensures empty { OnOk result (string_bytes page.new ≡ []) }
-    ensures err { OnErr result (AddsPart (W.contents out.old) (W.contents out.new) (string_bytes page.old)) }
+    ensures err { OnErr result (AddsPart stop.Write (W.contents out.old) (W.contents out.new) (string_bytes page.old)) }
 {
     write_whole(out, page.as_bytes())?;
     page.clear();

@@ -1,18 +1,19 @@
 //! A replay.
-ghost use Rattle.std.specs.Prelude.{◌≡◌, ◌⊎◌, ◌+◌, ◌^◌, ◌<◌, ℕ, List, length, IfOk, IfErr, OnOk, OnErr, None};
-ghost use Rattle.std.specs.Io.KnownBytes.{Consumes};
+ghost use Rattle.std.specs.Prelude.{◌≡◌, ◌⊎◌, ◌+◌, ◌^◌, ◌<◌, ℕ, List, length, IfOk, IfErr, OnOk, None};
 ghost use Rattle.recording.specs.Faults.{IsFaultOf};
 ghost use Rattle.event_core.specs.Configs.{config_fault_of};
 ghost use Rattle.replay.specs.declared.fault.ReplayFault.TheVariants as replay_fault;
 ghost use Rattle.recording.specs.declared.fault.LineFault.{LineFault};
 ghost use Rattle.replay.specs.Lines.{first_number};
 ghost use Rattle.replay.specs.Runs.{IsOpened};
+ghost use Rattle.replay.specs.Inputs.{ReadsAll};
+ghost use Rattle.replay.specs.declared.page.Stop.TheVariants as stop;
 ghost use Rattle.replay.specs.Outputs.{Replays, ReplaysPart};
 ghost use Rattle.replay.specs.Parts.{IsRead, IsReadFault, WritesOutput, WritesPart};
 
 use crate::fault::ReplayFault;
 use crate::output::{print_due, print_journal, print_lsdb, print_routes};
-use crate::page::Stop;
+use crate::page::{Stop, fault_of};
 use event_core::{ConfigFault, Core};
 use ospf_types::config::Config;
 use ospf_types::memory::Memory;
@@ -21,8 +22,9 @@ use std::alloc::Global;
 use std::hash::RandomState;
 use std::io;
 
-/// Reads a recording to its end, runs it on one thread, and writes what `show` names. Where it ends
-/// early, nothing is written for a fault of the input; else a beginning of the output.
+/// Reads its input to the end as a recording, runs it on one thread, and writes what `show` names. For a
+/// fault of the input nothing is written. Where a write fails or memory runs out, a beginning of the output
+/// is written: something is missing where a write failed, and no line is cut where memory ran out.
 pub fn replay_one<R: io::Read, W: io::Write>(
     alloc: Global,
     hashing: RandomState,
@@ -33,16 +35,15 @@ pub fn replay_one<R: io::Read, W: io::Write>(
     ensures ok { OnOk result (Replays show (R.remaining input.old) (R.remaining input.new) (W.contents out.old) (W.contents out.new)) }
     ensures read { result ≡ Err replay_fault.Read → out.new ≡ out.old }
     ensures line { (f : LineFault) → result ≡ Err (replay_fault.Line f) → (out.new ≡ out.old)
-        × ((bytes : List ℕ) × Consumes (R.remaining input.old) (R.remaining input.new) bytes × IsFaultOf bytes f) }
-    ensures write { result ≡ Err replay_fault.Write → ReplaysPart show (R.remaining input.old) (R.remaining input.new) (W.contents out.old) (W.contents out.new) }
+        × ((bytes : List ℕ) × ReadsAll (R.remaining input.old) (R.remaining input.new) bytes × IsFaultOf bytes f) }
+    ensures write { result ≡ Err replay_fault.Write → ReplaysPart stop.Write show (R.remaining input.old) (R.remaining input.new) (W.contents out.old) (W.contents out.new) }
     ensures memory { result ≡ Err replay_fault.Memory → (out.new ≡ out.old)
-        ⊎ ReplaysPart show (R.remaining input.old) (R.remaining input.new) (W.contents out.old) (W.contents out.new) }
+        ⊎ ReplaysPart stop.Memory show (R.remaining input.old) (R.remaining input.new) (W.contents out.old) (W.contents out.new) }
 {
     let recording = read_recording(alloc, input)?;
     match print_recording(alloc, hashing, recording, out, show) {
         Ok(()) => Ok(()),
-        Err(Stop::Write) => Err(ReplayFault::Write),
-        Err(Stop::Memory) => Err(ReplayFault::Memory),
+        Err(stop) => Err(fault_of(stop)),
     }
 }
 
@@ -74,7 +75,8 @@ fn print_recording<W: io::Write>(
 ) -> Result<(), Stop>
     requires few { first_number recording.version recording.config + length recording.lines < 2 ^ 64 }
     ensures ok { OnOk result (WritesOutput recording show (W.contents out.old) (W.contents out.new)) }
-    ensures err { OnErr result (WritesPart recording show (W.contents out.old) (W.contents out.new)) }
+    ensures write { result ≡ Err stop.Write → WritesPart stop.Write recording show (W.contents out.old) (W.contents out.new) }
+    ensures memory { result ≡ Err stop.Memory → (out.new ≡ out.old) ⊎ WritesPart stop.Memory recording show (W.contents out.old) (W.contents out.new) }
 {
     let (version, config, lines) = recording.into_parts();
     let core = open_core(alloc, config, hashing)?;
@@ -105,7 +107,7 @@ fn print_replay<W: io::Write>(
     requires opened { IsOpened core.config core }
     requires few { first_number version core.config + length lines.items < 2 ^ 64 }
     ensures ok { OnOk result (WritesOutput (record { version = version; config = core.config; lines = lines.items }) show (W.contents out.old) (W.contents out.new)) }
-    ensures err { OnErr result (WritesPart (record { version = version; config = core.config; lines = lines.items }) show (W.contents out.old) (W.contents out.new)) }
+    ensures err { IfErr result (λ why. WritesPart why (record { version = version; config = core.config; lines = lines.items }) show (W.contents out.old) (W.contents out.new)) }
 {
     match show {
         Show::Routes => print_routes(alloc, version, &mut core, lines, out),

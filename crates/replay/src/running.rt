@@ -1,8 +1,9 @@
 //! The run of a recording's lines.
-ghost use Rattle.std.specs.Prelude.{◌≡◌, [], ◌∷◌, ◌+◌, ◌^◌, ◌<◌, ◌≤◌, length, OnOk, OnErr, string_bytes};
+ghost use Rattle.std.specs.Prelude.{◌≡◌, [], ◌∷◌, ◌+◌, ◌^◌, ◌<◌, ◌≤◌, length, OnOk, IfErr, string_bytes};
 ghost use Rattle.recording.specs.Places.{first_lines};
 ghost use Rattle.replay.specs.Lines.{first_number};
 ghost use Rattle.replay.specs.Pages.{Ran, RanPart, RanLine, IsRunTo};
+ghost use Rattle.replay.specs.Stops.{AreWhole};
 
 use crate::lines::{put_answer, put_lookup};
 use crate::page::{Stop, spill};
@@ -22,7 +23,7 @@ pub(crate) fn run_lines<W: io::Write>(
 ) -> Result<(), Stop>
     requires { first_number version core.old.config + length lines.items < 2 ^ 64 }
     ensures ok { OnOk result (Ran core.old (first_number version core.old.config) lines.items core.new (W.contents out.old) (W.contents out.new) (string_bytes page.old) (string_bytes page.new)) }
-    ensures err { OnErr result (RanPart core.old (first_number version core.old.config) lines.items (W.contents out.old) (W.contents out.new) (string_bytes page.old)) }
+    ensures err { AreWhole (string_bytes page.old) → IfErr result (λ why. RanPart why core.old (first_number version core.old.config) lines.items (W.contents out.old) (W.contents out.new) (string_bytes page.old)) }
 {
     let mut number = number_of_first(version, core.config());
     for line in lines {

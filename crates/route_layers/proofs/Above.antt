@@ -111,7 +111,7 @@ pub examined_there : (s : State) → AreFit s.config.areas s.databases → (id :
 examined_there s fit id w =
     let b = area_from s w.0 w.1.area in
     let same : b.0.id ≡ id = ap (λ (z : Area). z.id) b.2 ∙ w.2 in
-    subst (λ (n : ℕ). IsSome (place_of s.config.areas (scope.Area n))) same (area_there s.config.areas b.1.0 b.0 b.0 fit.apart b.1.1 (sym b.1.2))
+    subst (λ (n : ℕ). IsSome (place_of s.config.areas (scope.Area n))) same (area_there s.config.areas b.1.0 b.0 b.0 b.1.1 (sym b.1.2))
 
 -- what is kept of the areas has their Area IDs
 pub kept_ids : (s : State) (root : ℕ) (areas : List AreaConfig) (trees : List AreaTreeValue) (kept : List AreaIntraValue) → AreTreesOf s areas trees → AreAreaIntras root (areas_with s areas trees) kept

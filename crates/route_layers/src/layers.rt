@@ -204,6 +204,7 @@ fn examined(state: &State) -> Option<Examined<'_>>
 
 // Its Area ID.
 fn examined_area(state: &State) -> Option<u32>
+    requires { AreFit state.now.config.areas state.now.databases }
     ensures some { IfSome result (λ area. (a : Area) × IsExamined (inputs_of state.now) a × (a.id ≡ area)) }
     ensures none { IfNone result ((a : Area) → IsExamined (inputs_of state.now) a → ⊥) }
 {

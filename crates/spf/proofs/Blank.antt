@@ -16,11 +16,11 @@ use Rattle.spf.specs.TreeValues.{TreeValue, IsTreeBefore, IsBegun, blank_value}
 use Rattle.spf.proofs.Renewed.{graph_links}
 
 -- nothing has a distance
-unset : (v : Vertex) (d : ℕ) → get blank_value.distances v ≡ Some d → ⊥
+pub unset : (v : Vertex) (d : ℕ) → get blank_value.distances v ≡ Some d → ⊥
 unset v d at = let differ : Some d ≡ None = sym at ∙ get-empty vertex_cmp v in cc
 
 -- nothing has a next hop
-hopless : (v : Vertex) (h : NextHop) → hops_of blank_value.hops v h → ⊥
+pub hopless : (v : Vertex) (h : NextHop) → hops_of blank_value.hops v h → ⊥
 hopless v h x = let differ : Some x.0 ≡ None = sym x.1 ∙ get-empty vertex_cmp v in cc
 
 module _ {g : GraphValue} {came : List Link} where

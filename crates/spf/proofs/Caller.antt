@@ -1,25 +1,27 @@
--- What callers of a tree use: it is right before the changes that the graph names, and what its building does is no less than the vertices that are reached.
-use Rattle.std.proofs.Common.{◌≡◌, ℕ, ◌≤◌, List, length, Some, None, sym, subst, ◌∙◌}
+-- What callers of a tree use: it is right before the changes that the graph names, and its building is work for each vertex that is reached.
+use Rattle.std.proofs.Common.{◌≡◌, ◌≢◌, ℕ, List, Some, None, sym, subst, ◌∙◌, inl, inr, arith}
 use Rattle.std.specs.Prelude.{◌↔◌}
-use Rattle.std.specs.FinMap.{get, get-empty}
+use Rattle.std.specs.FinMap.{get}
 use Rattle.std.specs.List.{Contains}
 use Rattle.ospf_types.specs.declared.entry.Vertex.{Vertex}
 use Rattle.ospf_types.specs.declared.entry.Vertex.TheVariants.{Router}
 use Rattle.ospf_types.specs.declared.hop.NextHop.{NextHop}
-use Rattle.ospf_types.specs.Vertices.{vertex_cmp}
+use Rattle.ospf_types.specs.Distances.{IsHop}
 use Rattle.vertex_graph.specs.Link.{Link}
 use Rattle.vertex_graph.specs.Graphs.{GraphValue, graph_view, LinksOf, HasRoot, AreExact}
-use Rattle.tree_parts.specs.Members.{HasNoDoubles}
+use Rattle.tree_parts.proofs.Elements.{cases_vertex}
 use Rattle.spf.specs.Changes.{link_value, SameLinks, AreDecided}
 use Rattle.spf.specs.Parts.{HadRoot, LinksBefore, hops_of}
 use Rattle.spf.specs.Trees.{AreLinks, HaveAddresses, IsTree}
-use Rattle.spf.specs.TreeValues.{TreeValue, IsTreeOf, IsTreeBefore, IsReachedIn, IsWorkDone, blank_value}
+use Rattle.spf.specs.TreeValues.{TreeValue, IsTreeOf, IsTreeBefore, IsReachedIn, HasOtherHops, IsWorkDone, IsWorkForAll, blank_value}
 use Rattle.spf.proofs.AreaLinks.{area_addresses}
 use Rattle.spf.proofs.Before.{earlier_is}
-use Rattle.spf.proofs.Hops.{has_hop}
+use Rattle.spf.proofs.Blank.{unset, hopless}
+use Rattle.spf.proofs.Hops.{has_hop, no_hop_of_root}
+use Rattle.spf.proofs.OptionCases.{cases_value}
 use Rattle.spf.proofs.Renewed.{graph_links}
 use Rattle.spf.proofs.SameLinks.{same_back, tree_same, links_same}
-use Rattle.spf.proofs.Values.{root_zero, root_has}
+use Rattle.spf.proofs.Values.{root_zero, root_has, within_path}
 
 module _ {before after : GraphValue} {gone come : List Link} (decided_before : AreDecided (LinksOf before)) (decided_after : AreDecided (LinksOf after)) (exact : AreExact before after gone come) where
   -- the links before are those of the graph before
@@ -50,20 +52,60 @@ graph_addresses g = area_addresses (graph_view g) (λ router flags other xs ys x
     let same : Some x.0 ≡ Some y.0 = sym x.1 ∙ y.1 in
     cc)
 
-module _ {g : GraphValue} {t : TreeValue} {taken hop_sets : ℕ} (is : IsTreeOf g t) (work : IsWorkDone g blank_value t taken hop_sets) where
-  -- Each reached vertex but the root has a next hop, and a blank tree has none.
-  other_hops : (v : Vertex) → IsReachedIn g t v → ((h : NextHop) → hops_of t.hops v h ↔ hops_of blank_value.hops v h) → ⊥
-  other_hops v reached same =
+module _ {g : GraphValue} {t : TreeValue} (is : IsTreeOf g t) where
+  -- each reached vertex but the root has a next hop
+  pub hop_of : (v : Vertex) → IsReachedIn g t v → (h : NextHop) × hops_of t.hops v h
+  hop_of v reached =
       let hop = has_hop (graph_links g) (get t.distances) (graph_addresses g) is.tree.distances v reached.0.0 reached.0.1 reached.1 in
-      let blank : hops_of blank_value.hops v hop.0 = (same hop.0).0 ((is.tree.right v hop.0).1 hop.1) in
-      let differ : Some blank.0 ≡ None = sym blank.1 ∙ get-empty vertex_cmp v in
-      cc
+      (hop.0, (is.tree.right v hop.0).1 hop.1)
 
-  -- So building a tree takes each reached vertex but the root, and writes next hops for each.
-  pub built_work : (vertices : List Vertex) → HasNoDoubles vertices → ((v : Vertex) → Contains vertices v → IsReachedIn g t v) → (length vertices ≤ taken) × (length vertices ≤ hop_sets)
-  built_work vertices apart reached = (
-    work.taken_least vertices apart (λ v c.
-        let r = reached v c in
-        (r, λ same. let differ : Some r.0.0 ≡ None = sym r.0.1 ∙ same ∙ get-empty vertex_cmp v in cc)),
-    work.sets_least vertices apart (λ v c. (reached v c, other_hops v (reached v c))),
-  )
+  -- and what has one is reached, and not the root
+  reached_of_hop : (v : Vertex) (h : NextHop) → hops_of t.hops v h → IsReachedIn g t v
+  reached_of_hop v h x =
+      let hop = (is.tree.right v h).0 x in
+      let within = within_path is.tree.distances v hop.path.0 hop.path.1 in (
+        (within.number, within.is),
+        λ same. no_hop_of_root (LinksOf g) g.root (HasRoot g) h (subst (λ w. IsHop (LinksOf g) g.root (HasRoot g) w h) same hop),
+      )
+
+  -- What has other next hops than none is reached.
+  reached_of_other : (v : Vertex) → HasOtherHops blank_value t v → IsReachedIn g t v
+  reached_of_other v other = elim (cases_vertex v (Router g.root)) [
+    | inl is_root ↦ absurd (other (λ h. (λ x. absurd ((reached_of_hop v h x).1 is_root), λ x. absurd (hopless v h x))))
+    | inr not_root ↦ elim (cases_value (get t.distances v)) [
+      | inl at ↦ (at, not_root)
+      | inr none ↦ absurd (other (λ h. (
+        λ x. let at = (reached_of_hop v h x).0 in let differ : Some at.0 ≡ None = sym at.1 ∙ none in absurd cc,
+        λ x. absurd (hopless v h x),
+      )))
+    ]
+  ]
+
+  module _ {taken hop_sets : ℕ} (work : IsWorkDone g blank_value t taken hop_sets) where
+    -- a blank tree has no distances
+    farther : (v : Vertex) → IsReachedIn g t v → get t.distances v ≢ get blank_value.distances v
+    farther v reached same = unset v reached.0.0 (sym same ∙ reached.0.1)
+
+    -- and no next hops
+    other_hops : (v : Vertex) → IsReachedIn g t v → HasOtherHops blank_value t v
+    other_hops v reached same = let hop = hop_of v reached in hopless v hop.0 ((same hop.0).0 hop.1)
+
+    -- So just what is reached is written.
+    built : (v : Vertex) → Contains work.written v ↔ IsReachedIn g t v
+    built v = (
+      λ c. elim ((work.written_exact v).0 c) [ inl other ↦ reached_of_other v other | inr away ↦ absurd (unset v away.0.0.0 away.0.0.1) ],
+      λ reached. (work.written_exact v).1 (inl (other_hops v reached)),
+    )
+
+    -- And building a tree takes each reached vertex but the root twice, and writes next hops for each.
+    pub built_work : IsWorkForAll g t taken hop_sets
+    built_work =
+        let least = work.taken_least work.written work.written work.written_apart work.written_apart (λ v c. let r = (built v).0 c in (r, farther v r)) (λ v c. let r = (built v).0 c in (r, λ same. farther v r same.0)) in
+        let most = work.taken_twice_most work.written (λ v r. (built v).1 r) in
+        record {
+          reached = work.written;
+          reached_apart = work.written_apart;
+          reached_exact = built;
+          taken_are = omega (arith, least, most);
+          sets_are = work.sets_are;
+        }

@@ -80,7 +80,14 @@ listed_tree u changed is = record { fresh = is.fresh; tree = is.tree }
 
 -- and the work is the same
 pub listed_work : {g : GraphValue} {t : TreeValue} (u : TreeValue) (changed : List Vertex) {taken hop_sets : ℕ} → IsWorkDone g t u taken hop_sets → IsWorkDone g t (with_changed u changed) taken hop_sets
-listed_work u changed work = record { taken_least = work.taken_least; sets_least = work.sets_least }
+listed_work u changed work = record {
+  taken_least = work.taken_least;
+  taken_twice_most = work.taken_twice_most;
+  written = work.written;
+  written_apart = work.written_apart;
+  written_exact = work.written_exact;
+  sets_are = work.sets_are;
+}
 
 -- what the tree is seen as, and the links that came, given another way
 pub renewed_at : {g : GraphValue} {slice come : List Link} {t : TreeValue} (u new : TreeValue) {lost stale moved written : List Vertex} {taken hop_sets : ℕ} → u ≡ new → slice ≡ come → IsRenewed g slice t new lost stale moved written taken hop_sets

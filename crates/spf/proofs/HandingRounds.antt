@@ -155,6 +155,7 @@ module _ {g : GraphValue} {distance : Vertex → Option ℕ} {old mid : HopMap} 
     written_apart = b.apart;
     count = omega arith;
     counted = counted;
+    moved_taken = λ v r m. inr (put.all v (inl (v, m, (refl, r))));
     why_taken = λ v c. absurd (no_element v c);
     why_queued = λ v k at. why_due v blanked (only v k at).0;
   }
@@ -252,6 +253,10 @@ module _ {g : GraphValue} {distance : Vertex → Option ℕ} {begun now : Vertex
       written_apart = apart;
       count = omega (arith, count, a.count, length-append a.taken (v ∷ []));
       counted = counted;
+      moved_taken = λ w r m. elim (a.moved_taken w r m) [
+        | inl was ↦ inl (Contains-append_left a.taken (v ∷ []) w was)
+        | inr waits ↦ elim (cases_vertex w v) [ inl same ↦ inl (subst (λ (u : Vertex). Contains (a.taken ++ v ∷ []) u) (sym same) (Contains-push a.taken v)) | inr other ↦ inr (t.keeps w other waits) ]
+      ];
       why_taken = λ w c. elim (Contains-push_cases a.taken v w c) [
         | inl was ↦ taken_wider g moved stale written wider w widens (a.why_taken w was)
         | inr same ↦ subst (λ (u : Vertex). IsTakenBy g moved stale wider u) same (taken_wider g moved stale written wider v widens (a.why_queued v k first.waits))
@@ -314,6 +319,10 @@ module _ {g : GraphValue} {distance : Vertex → Option ℕ} {old mid : HopMap} 
     taken_apart = a.apart;
     why = a.why_taken;
     taken_reached = a.handing.reached;
+    moved_taken = λ v r m. elim (a.moved_taken v r m) [
+      | inl c ↦ c
+      | inr waits ↦ let differ : None ≡ Some waits.0 = sym (get-empty {X = ℕ} vertex_cmp v) ∙ ap (λ (q : Queue). get q v) (sym none) ∙ waits.1 in absurd cc
+    ];
     written_apart = a.written_apart;
     written_for = λ v c. elim (blank_or_set v c) [
       | inl blank ↦ inl ((b.exact v).0 blank)

@@ -1,5 +1,5 @@
 -- What is said of a value that is there, or of one that is not.
-use Rattle.std.proofs.Common.{◌≡◌, Option, Some, None, refl}
+use Rattle.std.proofs.Common.{◌≡◌, Option, Some, None, refl, ◌⊎◌, inl, inr}
 use Rattle.std.specs.Prelude.{is_some, IfSome, IfNone, true, false}
 
 module _ {X : Type 0} where
@@ -14,3 +14,8 @@ module _ {X : Type 0} where
   pub none_there : (o : Option X) → is_some o ≡ false → o ≡ None
   none_there None none = refl
   none_there (Some x) none = absurd (let wrong : true ≡ false = none in cc)
+
+  -- a value is there or not
+  pub cases_value : (o : Option X) → ((x : X) × (o ≡ Some x)) ⊎ (o ≡ None)
+  cases_value None = inr refl
+  cases_value (Some x) = inl (x, refl)

@@ -19,7 +19,7 @@ use Rattle.spf.specs.Trees.{AreLinks, AreDistances, IsWithin}
 use Rattle.spf.specs.Repairs.{AreChanges, AreOwed, IsDue, Moved, Went, Came, OutOfLost, OutOfMoved, OutOfWritten}
 use Rattle.spf.specs.Changes.{Among}
 use Rattle.spf.specs.Parts.{HadRoot, LinksBefore, IsBefore, AreLost, StartsAt, AreStarted, AreNeared, AreUnsettled, AreSettled, hops_of}
-use Rattle.spf.specs.TreeValues.{TreeValue, IsTreeOf, IsTreeBefore, Differs, IsChangedBy, IsBounded, IsWorkDone}
+use Rattle.spf.specs.TreeValues.{TreeValue, IsTreeOf, IsTreeBefore, Differs, IsChangedBy, IsBounded, IsReachedIn, IsWritten, IsWorkDone}
 use Rattle.spf.proofs.AreaLinks.{area_links}
 use Rattle.spf.proofs.Before.{earlier_changes}
 use Rattle.spf.proofs.Bounds.{lost_differs, written_differs, taken_bound, written_bound}
@@ -142,16 +142,62 @@ module _ {g : GraphValue} {gone come : List Link} {t : TreeValue} (u : TreeValue
       sets_most = λ first second heads first_out second_out owed. written_bound owed written s.written_apart (written_owed owed);
     }
 
-    -- And no less is done than what differs.
+    -- What is reached and differs was taken for its next hops.
+    taken_if_differs : (v : Vertex) → IsReachedIn g u v → Differs t u v → Contains s.taken v
+    taken_if_differs v r differs = elim (cases_contains moved v) [
+      | inl m ↦ s.moved_taken v (record { number = r.0.0; at = r.0.1; other = r.1 }) m
+      | inr still ↦ elim (cases_contains written v) [
+        | inl w ↦ elim (s.written_for v w) [ inl away ↦ let differ : Some r.0.0 ≡ None = sym r.0.1 ∙ away.1 in absurd cc | inr by ↦ by.0 ]
+        | inr none ↦ elim (cases_distance (get u.distances v) (get t.distances v)) [
+          | inl same ↦ absurd (differs (same, s.unwritten v none))
+          | inr other ↦ absurd (still (moved_if_other b.links (graph_links g) b.tree l.losing n.reset n.nearing (λ w. refl) v r.0.0 r.1 r.0.1 (λ was. other (r.0.1 ∙ sym was))))
+        ]
+      ]
+    ]
+
+    -- What was reached and is so no more was lost.
+    lost_if_unreached : (v : Vertex) (d : ℕ) → v ≢ Router g.root → get t.distances v ≡ Some d → get u.distances v ≡ None → Contains lost v
+    lost_if_unreached v d other was none = elim (cases_contains lost v) [
+      | inl c ↦ c
+      | inr kept ↦ elim (cases_contains moved v) [
+        | inl m ↦ let e = n.nearing.ended.reached v m in let differ : Some e.0 ≡ None = sym e.1 ∙ none in absurd cc
+        | inr still ↦
+            let stays : get u.distances v ≡ get t.distances v = distance_stays b.links (graph_links g) b.tree l.losing n.reset n.nearing (λ w. refl) v other kept still in
+            let differ : Some d ≡ None = sym was ∙ sym stays ∙ none in
+            absurd cc
+      ]
+    ]
+
+    -- Exactly what has other next hops, or is reached no more, was written.
+    written_is : (v : Vertex) → Contains written v ↔ IsWritten g t u v
+    written_is v = (
+      λ c. elim (s.written_for v c) [
+        | inl w ↦ let r = l.losing.reached v w.0 in inr (((r.number, r.at), r.other), w.1)
+        | inr w ↦ inl w.1
+      ],
+      λ w. elim w [
+        | inl other ↦ elim (cases_contains written v) [ inl c ↦ c | inr none ↦ absurd (other (s.unwritten v none)) ]
+        | inr away ↦ s.lost_written v (lost_if_unreached v away.0.0.0 away.0.1 away.0.0.1 away.1) away.1
+      ],
+    )
+
+    -- And it is what differs.
     pub work_done : IsWorkDone g t u (length moved + count) (length written)
     work_done = record {
-      taken_least = λ vertices apart each.
-          let most = no_longer vertices moved apart (λ v c.
+      taken_least = λ nearer differing nearer_apart differing_apart each each_differs.
+          let near = no_longer nearer moved nearer_apart (λ v c.
           let e = each v c in
           moved_if_other b.links (graph_links g) b.tree l.losing n.reset n.nearing (λ w. refl) v e.0.0.0 e.0.1 e.0.0.1 (λ was. e.1 (e.0.0.1 ∙ sym was))) in
-          omega (arith, most);
-      sets_least = λ vertices apart each.
-          no_longer vertices written apart (λ v c. elim (cases_contains written v) [ inl w ↦ w | inr none ↦ absurd ((each v c).1 (s.unwritten v none)) ]);
+          let handed = no_longer differing s.taken differing_apart (λ v c. let e = each_differs v c in taken_if_differs v e.0 e.1) in
+          omega (arith, near, handed, s.count);
+      taken_twice_most = λ reached all.
+          let near = no_longer moved reached n.apart (λ v c. let e = n.nearing.ended.reached v c in all v ((e.0, e.1), n.nearing.moved_other v c)) in
+          let handed = no_longer s.taken reached s.taken_apart (λ v c. let r = s.taken_reached v c in all v ((r.number, r.at), r.other)) in
+          omega (arith, near, handed, s.count);
+      written = written;
+      written_apart = s.written_apart;
+      written_exact = written_is;
+      sets_are = refl;
     }
 
     -- The tree is that of the graph.

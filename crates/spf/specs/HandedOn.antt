@@ -87,5 +87,6 @@ pub record IsAmidst (g : GraphValue) (distance : Vertex → Option ℕ) (begun n
   pub written_apart : HasNoDoubles written
   pub count : number ≡ start + length taken
   pub counted : sets ≡ length written
+  pub moved_taken : (v : Vertex) → IsReached g.root distance v → Contains moved v → Contains taken v ⊎ IsQueued (get queue) v
   pub why_taken : (v : Vertex) → Contains taken v → IsTakenBy g moved stale written v
   pub why_queued : (v : Vertex) (k : ℕ) → get queue v ≡ Some k → IsTakenBy g moved stale written v

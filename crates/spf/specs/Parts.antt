@@ -104,6 +104,7 @@ pub record AreSettled (g : GraphValue) (distance : Vertex → Option ℕ) (befor
   pub taken_apart : HasNoDoubles taken
   pub why : (v : Vertex) → Contains taken v → IsTakenBy g moved stale written v
   pub taken_reached : (v : Vertex) → Contains taken v → IsReached g.root distance v
+  pub moved_taken : (v : Vertex) → IsReached g.root distance v → Contains moved v → Contains taken v
   pub written_apart : HasNoDoubles written
   pub written_for : (v : Vertex) → Contains written v
       → (Contains lost v × (distance v ≡ None))

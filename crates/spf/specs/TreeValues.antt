@@ -77,16 +77,34 @@ pub record IsBounded (g : GraphValue) (gone come : List Link) (old : TreeValue) 
 abbrev pub IsReachedIn : GraphValue → TreeValue → Vertex → Type 0
 IsReachedIn g t v = ((d : ℕ) × (get t.distances v ≡ Some d)) × (v ≢ Router g.root)
 
--- And it is no less than what differs: no list of different vertices that are reached at another distance than before is longer than what was taken, none of those that have other next hops longer than the sets that were written.
-pub record IsWorkDone (g : GraphValue) (old new : TreeValue) (taken hop_sets : ℕ) : Type 0 where
-  pub taken_least : (vertices : List Vertex) → HasNoDoubles vertices
-      → ((v : Vertex) → Contains vertices v → IsReachedIn g new v × (get new.distances v ≢ get old.distances v)) → length vertices ≤ taken
-  pub sets_least : (vertices : List Vertex) → HasNoDoubles vertices
-      → ((v : Vertex) → Contains vertices v → IsReachedIn g new v × (((h : NextHop) → hops_of new.hops v h ↔ hops_of old.hops v h) → ⊥)) → length vertices ≤ hop_sets
+-- the vertex has other next hops than before
+abbrev pub HasOtherHops : TreeValue → TreeValue → Vertex → Type 0
+HasOtherHops old new v = ((h : NextHop) → hops_of new.hops v h ↔ hops_of old.hops v h) → ⊥
 
--- It is no less than the vertices that are reached: no list of different ones, the root left out, is longer than either count.
-abbrev pub IsWorkForAll : GraphValue → TreeValue → ℕ → ℕ → Type 0
-IsWorkForAll g t taken hop_sets = (vertices : List Vertex) → HasNoDoubles vertices → ((v : Vertex) → Contains vertices v → IsReachedIn g t v) → (length vertices ≤ taken) × (length vertices ≤ hop_sets)
+-- its next hops are written: they are others than before, or the vertex is reached no more
+abbrev pub IsWritten : GraphValue → TreeValue → TreeValue → Vertex → Type 0
+IsWritten g old new v = HasOtherHops old new v ⊎ (IsReachedIn g old v × (get new.distances v ≡ None))
+
+-- And it is what differs.
+-- No fewer are taken than are reached at another distance than before, and besides as many as are reached and differ; and no more than twice as many as are reached.
+-- As many sets are written as there are vertices that have other next hops, or are reached no more.
+pub record IsWorkDone (g : GraphValue) (old new : TreeValue) (taken hop_sets : ℕ) : Type 0 where
+  pub taken_least : (moved differing : List Vertex) → HasNoDoubles moved → HasNoDoubles differing
+      → ((v : Vertex) → Contains moved v → IsReachedIn g new v × (get new.distances v ≢ get old.distances v))
+      → ((v : Vertex) → Contains differing v → IsReachedIn g new v × Differs old new v) → length moved + length differing ≤ taken
+  pub taken_twice_most : (reached : List Vertex) → ((v : Vertex) → IsReachedIn g new v → Contains reached v) → taken ≤ 2 * length reached
+  pub written : List Vertex
+  pub written_apart : HasNoDoubles written
+  pub written_exact : (v : Vertex) → Contains written v ↔ IsWritten g old new v
+  pub sets_are : hop_sets ≡ length written
+
+-- Of building a tree: twice as many vertices are taken as are reached, the root left out, each once for its distance and once for its next hops; and as many sets are written.
+pub record IsWorkForAll (g : GraphValue) (t : TreeValue) (taken hop_sets : ℕ) : Type 0 where
+  pub reached : List Vertex
+  pub reached_apart : HasNoDoubles reached
+  pub reached_exact : (v : Vertex) → Contains reached v ↔ IsReachedIn g t v
+  pub taken_are : taken ≡ 2 * length reached
+  pub sets_are : hop_sets ≡ length reached
 
 -- What a repair that is begun comes to, with what was moved and what was written: the tree, its work, and why vertices differ.
 pub record IsRenewed (g : GraphValue) (come : List Link) (old new : TreeValue) (lost stale moved written : List Vertex) (taken hop_sets : ℕ) : Type 0 where

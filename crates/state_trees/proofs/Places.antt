@@ -5,7 +5,7 @@
 --   fit_lsas: they are fit
 --   interface_at, interface_from: an interface is among the entries just where its id finds it
 use Rattle.std.proofs.Common.{◌≡◌, ℕ, ◌<◌, true, false, List, [], ◌∷◌, ◌++◌, length, get_or, Option, Some, None, Ordering, refl, sym, ap, subst, ◌∙◌, ◌⊎◌, ⊎_elim}
-use Rattle.std.specs.Prelude.{IsSome, is_some, option_map, option_and_then}
+use Rattle.std.specs.Prelude.{IsSome, option_map, option_and_then}
 use Rattle.std.specs.Ordering.{nat_cmp}
 use Rattle.std.specs.Cmp.{nat_cmp_total}
 use Rattle.std.specs.List.{Contains}
@@ -22,18 +22,16 @@ use Rattle.lsdb.specs.Databases.{Database}
 use Rattle.lsdb.specs.Contents.{used_at, contents_of}
 use Rattle.area_trees.specs.Areas.{AreaTreeValue, body_at}
 use Rattle.intra.specs.Inputs.{AreaValue}
-use Rattle.event_state.specs.States.{State, AreApart, place_of, database_of, usable_at}
+use Rattle.event_state.specs.States.{State, place_of, database_of, usable_at}
 use Rattle.event_state.specs.Held.{IsFit, AreFit}
 use Rattle.event_state.proofs.HeldStates.{fit_empty}
-use Rattle.event_state.proofs.Places.{place_at}
+use Rattle.event_state.proofs.Places.{place_there}
 use Rattle.event_state.proofs.Sorted.{value_at, value_from}
 use Rattle.state_trees.specs.Trees.{lsas_in, areas_with}
 
 -- a configured area has a database
-pub area_there : (areas : List AreaConfig) (k : ℕ) (d a : AreaConfig) → AreApart areas → k < length areas → a ≡ get_or areas k d → IsSome (place_of areas (scope.Area a.id))
-area_there areas k d a apart lt is =
-    let there : place_of areas (scope.Area a.id) ≡ Some k = subst (λ (x : AreaConfig). place_of areas (scope.Area x.id) ≡ Some k) (sym is) (place_at areas k d apart lt) in
-    ap is_some there
+pub area_there : (areas : List AreaConfig) (k : ℕ) (d a : AreaConfig) → k < length areas → a ≡ get_or areas k d → IsSome (place_of areas (scope.Area a.id))
+area_there areas k d a lt is = subst (λ (x : AreaConfig). IsSome (place_of areas (scope.Area x.id))) (sym is) (place_there areas k d lt)
 
 pub some_there : {X Y : Type 0} (f : X → Y) (o : Option X) → IsSome o → option_map f o ≡ None → ⊥
 some_there f None some e = let wrong : false ≡ true = some in cc

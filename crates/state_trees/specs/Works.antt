@@ -25,7 +25,7 @@ AreWorksOf s t (a ∷ areas) (w ∷ works) =
 AreWorksOf s t [] (w ∷ works) = ⊥
 AreWorksOf s t (a ∷ areas) [] = ⊥
 
--- the work of building each of these trees is no less than what is reached
+-- the work of building each of these trees, by what is reached
 abbrev pub AreWorksForAll : List AreaTreeValue → List Touched → Type 0
 AreWorksForAll [] [] = Unit {0}
 AreWorksForAll (t ∷ trees) (w ∷ works) = IsWorkForAll t.area.graph t.tree w.taken w.hop_sets × AreWorksForAll trees works

@@ -17,7 +17,7 @@ use Rattle.graph_links.specs.declared.link.Link.{Link}
 use Rattle.graph_links.specs.declared.link.Up.{Up}
 use Rattle.graph_links.specs.declared.row.Row.{Row}
 use Rattle.vertex_graph.specs.Graphs.{GraphValue, link_of, LinksOf, HasRoot, AreLinksFrom, AreLinksTo, HasEnds, HasFewRouters, AreExact, most_routers}
-use Rattle.graph_links.specs.Pairs.{Names}
+use Rattle.graph_links.specs.Pairs.{AreApart, Names}
 use Rattle.vertex_graph.specs.Rows.{graph_of, AreRows}
 use Rattle.graph_links.specs.Sides.{Leading, RowList, row_ends, ends_or, LinksBy, AreOut, AreInto, IsRow, IsFreshRow, AreMissing}
 use Rattle.graph_links.specs.Sides.{IsChanged}
@@ -85,6 +85,8 @@ row_alike Here There v alike row is = record {
   into = into_alike Here There v alike row.into.items is.into;
   out_cheap = is.out_cheap;
   into_cheap = is.into_cheap;
+  out_once = is.out_once;
+  into_once = is.into_once;
 }
 
 turned : (Here There : Links) → AreSame Here There → AreSame There Here
@@ -149,8 +151,10 @@ module _ (root : ℕ) (rows rows_new : RowList) (ups ups_new : List Up) (after :
           (λ (u : (Contains touched v → ⊥) × (find vertex_cmp v rows_new ≡ find vertex_cmp v rows)). inr u.0) (changed v)
 
       -- the links that are missing of the touched vertices are all that are
-      pub changed_exact : (gone came : List Link) → AreMissing touched Was Is gone → AreMissing touched Is Was came → AreExact Old New gone came
-      changed_exact gone came went brought = record {
+      pub changed_exact : (gone came : List Link) → AreMissing touched Was Is gone → AreMissing touched Is Was came → AreApart gone → AreApart came → AreExact Old New gone came
+      changed_exact gone came went brought went_once came_once = record {
+        went_once = went_once;
+        came_once = came_once;
         went = λ l. let old_is = old_same l.from l.to l.cost l.label in let new_is = new_same l.from l.to l.cost l.label in (
           λ c. let h = (went l).0 c in (old_is.1 h.1, λ n. h.2 (new_is.0 n)),
           λ h. ⊎_elim (λ (t : Contains touched l.from). (went l).1 (t, old_is.0 h.0, λ n. h.1 (new_is.1 n)))

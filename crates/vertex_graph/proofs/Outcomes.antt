@@ -7,7 +7,7 @@ use Rattle.ospf_types.specs.declared.entry.Vertex.TheVariants.{Router}
 use Rattle.graph_links.specs.declared.link.Link.{Link}
 use Rattle.graph_links.specs.declared.link.Up.{Up}
 use Rattle.vertex_graph.specs.Graphs.{GraphValue, Handed, HasEnds, AreFewAfter, IsReplaced, AreExact}
-use Rattle.graph_links.specs.Pairs.{Names}
+use Rattle.graph_links.specs.Pairs.{AreApart, Names}
 use Rattle.vertex_graph.specs.Rows.{graph_of, AreRows}
 use Rattle.graph_links.specs.Sides.{RowList, StagedList, row_ends, ends_after, ends_or, LinksBy, AreMissing, IsInOrder}
 use Rattle.graph_links.specs.Sides.{IsChanged}
@@ -54,12 +54,12 @@ module _ (root : ℕ) (rows rows_new : RowList) (ups ups_new was is : List Up) (
   ups_map = map_alike Old New ups_lead
 
   pub ups_exact : (gone came : List Link) → AreMissing touched (LinksBy root was (row_ends rows)) (LinksBy root is (ends_after rows staged)) gone
-      → AreMissing touched (LinksBy root is (ends_after rows staged)) (LinksBy root was (row_ends rows)) came → AreExact Old New gone came
-  ups_exact gone came went brought =
+      → AreMissing touched (LinksBy root is (ends_after rows staged)) (LinksBy root was (row_ends rows)) came → AreApart gone → AreApart came → AreExact Old New gone came
+  ups_exact gone came went brought went_once came_once =
       let Both : StagedList × (List Up × List Up) → Type 0 = λ t.
       AreMissing touched (LinksBy root t.1.0 (row_ends rows)) (LinksBy root t.1.1 (ends_after rows t.0)) gone × AreMissing touched (LinksBy root t.1.1 (ends_after rows t.0)) (LinksBy root t.1.0 (row_ends rows)) came in
       let both : Both ([], (ups, ups_new)) = subst Both (λ i. (none i, (was_are i, is_are i))) (went, brought) in
-      changed_exact root rows rows_new ups ups_new (row_ends rows) touched ups_stay ups_change old ups_ends gone came both.0 both.1
+      changed_exact root rows rows_new ups ups_new (row_ends rows) touched ups_stay ups_change old ups_ends gone came both.0 both.1 went_once came_once
 
 -- ---- other LSAs
 
@@ -93,9 +93,9 @@ module _ (root : ℕ) (rows rows_new : RowList) (ups was : List Up) (staged : St
   ends_replaced = handed_replaced Before (row_ends rows) (ends_after rows staged) handed old.ends (get_graph root rows ups) h After ends_lead refl refl
 
   pub ends_exact : (gone came : List Link) → AreMissing touched (LinksBy root was (row_ends rows)) (LinksBy root was (ends_after rows staged)) gone
-      → AreMissing touched (LinksBy root was (ends_after rows staged)) (LinksBy root was (row_ends rows)) came → AreExact Before After gone came
-  ends_exact gone came went brought =
+      → AreMissing touched (LinksBy root was (ends_after rows staged)) (LinksBy root was (row_ends rows)) came → AreApart gone → AreApart came → AreExact Before After gone came
+  ends_exact gone came went brought went_once came_once =
       let Both : List Up → Type 0 = λ us.
       AreMissing touched (LinksBy root us (row_ends rows)) (LinksBy root us (ends_after rows staged)) gone × AreMissing touched (LinksBy root us (ends_after rows staged)) (LinksBy root us (row_ends rows)) came in
       let both : Both ups = subst Both was_are (went, brought) in
-      changed_exact root rows rows_new ups ups (ends_after rows staged) touched ends_stay ends_change old ends_are gone came both.0 both.1
+      changed_exact root rows rows_new ups ups (ends_after rows staged) touched ends_stay ends_change old ends_are gone came both.0 both.1 went_once came_once

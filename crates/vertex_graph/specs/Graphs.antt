@@ -113,7 +113,9 @@ pub record IsReplaced (old new : GraphValue) (handed : List Handed) : Type 0 whe
   pub root : new.root ≡ old.root
   pub interfaces : new.interfaces ≡ old.interfaces
 
--- exactly the links that went and those that came; one with another cost or label is one of each
+-- exactly the links that went and those that came, each once; one with another cost or label is one of each
 pub record AreExact (old new : GraphValue) (gone come : List Link) : Type 0 where
   pub went : (l : Link) → Contains gone l ↔ (LinksOf old l.from l.to l.cost l.label × (LinksOf new l.from l.to l.cost l.label → ⊥))
   pub came : (l : Link) → Contains come l ↔ (LinksOf new l.from l.to l.cost l.label × (LinksOf old l.from l.to l.cost l.label → ⊥))
+  pub went_once : AllPairs (λ k l. k ≢ l) gone
+  pub came_once : AllPairs (λ k l. k ≢ l) come

@@ -1,5 +1,7 @@
 //! A change of a graph's rows.
-ghost use Rattle.std.specs.Prelude.{◌≡◌, OnOk, OnErr, IfOk};
+ghost use Rattle.std.specs.Prelude.{◌≡◌, ◌≢◌, OnOk, OnErr, IfOk};
+ghost use Rattle.std.specs.List.{AllPairs};
+ghost use Rattle.graph_links.specs.Pairs.{AreApart};
 ghost use Rattle.graph_links.specs.Sides.{row_ends, ends_after, ends_in, LinksBy, LinksIn, IsInOrder, HasSameRows, AreFresh, IsPlaced, AreMissing};
 ghost use Rattle.graph_links.specs.Sides.{IsChanged};
 
@@ -26,6 +28,8 @@ pub(crate) fn change(
         (LinksBy is.entry.root is.entry.interfaces.now (ends_after rows.old.entries staging.now.ends.entries)) changes.gone.items) }
     ensures came { IfOk result (λ changes. AreMissing staging.now.touched.keys (LinksBy is.entry.root is.entry.interfaces.now (ends_after rows.old.entries staging.now.ends.entries))
         (LinksBy was.entry.root was.entry.interfaces.now (row_ends rows.old.entries)) changes.came.items) }
+    ensures gone_once { IfOk result (λ changes. AreApart changes.gone.items) }
+    ensures came_once { IfOk result (λ changes. AreApart changes.came.items) }
     ensures unchanged { OnErr result (rows.new.entries ≡ rows.old.entries) }
 {
     let none = StagedEnds::with_hasher(alloc, *rows.hasher());
@@ -64,6 +68,8 @@ fn prepare(
     ensures fresh { IfOk result (λ p. AreFresh (ends_in after.entry) (LinksIn after.entry) touched.now p.fresh.items) }
     ensures gone { IfOk result (λ p. AreMissing touched.now (LinksIn before.entry) (LinksIn after.entry) p.changes.gone.items) }
     ensures came { IfOk result (λ p. AreMissing touched.now (LinksIn after.entry) (LinksIn before.entry) p.changes.came.items) }
+    ensures gone_once { AllPairs (λ v w. v ≢ w) touched.now → IfOk result (λ p. AreApart p.changes.gone.items) }
+    ensures came_once { AllPairs (λ v w. v ≢ w) touched.now → IfOk result (λ p. AreApart p.changes.came.items) }
 {
     let fresh = fresh_rows(alloc, after, touched)?;
     let gone = missing(alloc, before, after, touched)?;

@@ -1,5 +1,6 @@
 //! The graph of an area: the vertices that are there, and their links.
-ghost use Rattle.std.specs.Prelude.{◌≡◌, ◌↔◌, [], ◌∷◌, IsTrue, OnOk, OnErr, IfOk, option_map};
+ghost use Rattle.std.specs.Prelude.{◌≡◌, ◌≢◌, ◌↔◌, [], ◌∷◌, IsTrue, OnOk, OnErr, IfOk, option_map};
+ghost use Rattle.std.specs.List.{AllPairs};
 ghost use Rattle.std.specs.FinMap as map;
 ghost use Rattle.vertex_graph.specs.Graphs.{HasRoot, AreLinksFrom, AreLinksTo, HasFewRouters, HasCheapLinks, handed_of, AreApartHanded, AreFewAfter, IsReplaced, AreExact, HasEnds};
 ghost use Rattle.graph_links.specs.Pairs.{AreCheap};
@@ -86,9 +87,10 @@ impl Graph {
         self.rows.contains_key(&Vertex::Router(self.root))
     }
 
-    /// The links out of a vertex, none where it is not there.
+    /// The links out of a vertex, each once, none where it is not there.
     pub fn links_from(&self, vertex: Vertex) -> &[Link]
         ensures exact { AreLinksFrom self.now vertex result.now }
+        ensures each_once { AllPairs (λ k l. k ≢ l) result.now }
         ensures cheap { AreCheap result.now }
     {
         match self.rows.get(&vertex) {
@@ -97,9 +99,10 @@ impl Graph {
         }
     }
 
-    /// The links into a vertex, none where it is not there.
+    /// The links into a vertex, each once, none where it is not there.
     pub fn links_to(&self, vertex: Vertex) -> &[Link]
         ensures exact { AreLinksTo self.now vertex result.now }
+        ensures each_once { AllPairs (λ k l. k ≢ l) result.now }
         ensures cheap { AreCheap result.now }
     {
         match self.rows.get(&vertex) {

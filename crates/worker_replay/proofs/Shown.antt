@@ -1,9 +1,12 @@
 -- What is shown was written, or a beginning of it.
-use Rattle.std.proofs.Common.{◌≡◌, ℕ, List, [], ◌++◌, Option, refl, sym, ap, subst, ◌∙◌, append-nil}
+use Rattle.std.proofs.Common.{◌≡◌, ℕ, List, [], ◌++◌, Option, refl, sym, ap, subst, inl, ◌∙◌, append-nil}
 use Rattle.std.specs.Io.KnownBytes.{Appends}
 use Rattle.engine.specs.Cores.{CoreValue}
 use Rattle.recording.specs.declared.show.Show.{Show}
 use Rattle.recording.specs.declared.version.Version.{Version}
+use Rattle.replay.specs.declared.page.Stop.{Stop}
+use Rattle.replay.specs.declared.page.Stop.TheVariants as stop
+use Rattle.replay.specs.Stops.{AreWhole}
 use Rattle.replay.specs.Outputs.{IsShown}
 use Rattle.replay.specs.Pages.{Adds, AddsPart}
 use Rattle.replay.proofs.Written.{appends_none}
@@ -12,12 +15,16 @@ use Rattle.worker_replay.specs.Parts.{Writes, WritesPart}
 
 module _ (v : Version) (s : Show) (printed : List ℕ) (c : CoreValue) (a b : Option (List ℕ)) (front put tail : List ℕ) (same : put ≡ front) (shown : IsShown v s printed c (front ++ tail)) where
   -- only a beginning of it
-  pub shown_cut : AddsPart a b (put ++ tail) → WritesPart v s printed c a b
-  shown_cut stopped = record { whole = front ++ tail; shown = shown; part = subst (λ w. AddsPart a b (w ++ tail)) same stopped }
+  pub shown_cut : (why : Stop) → AreWhole front → (AreWhole put → AddsPart why a b (put ++ tail)) → WritesPart why v s printed c a b
+  shown_cut why whole stopped = record { whole = front ++ tail; shown = shown; part = subst (λ w. AddsPart why a b (w ++ tail)) same (stopped (subst AreWhole (sym same) whole)) }
 
   -- the end of it stood on the page, which was written in part
-  pub end_cut : (d : Option (List ℕ)) (moved : List ℕ) → Adds a b put moved tail → AddsPart b d moved → WritesPart v s printed c a d
-  end_cut d moved added stopped = record { whole = front ++ tail; shown = shown; part = subst (λ w. AddsPart a d (w ++ tail)) same (part_moved a b d put moved tail added stopped) }
+  pub end_cut : (why : Stop) → AreWhole front → (d : Option (List ℕ)) (moved : List ℕ) → Adds a b put moved tail → AddsPart why b d moved → WritesPart why v s printed c a d
+  end_cut why whole d moved added stopped = record {
+    whole = front ++ tail;
+    shown = shown;
+    part = subst (λ w. AddsPart why a d (w ++ tail)) same (part_moved why a b d put moved tail (subst AreWhole (sym same) whole) added stopped);
+  }
 
   -- the page was written
   pub shown_whole : (d : Option (List ℕ)) (moved last : List ℕ) → Adds a b put moved tail → Adds b d moved last [] → last ≡ [] → Writes v s printed c a d
@@ -26,6 +33,7 @@ module _ (v : Version) (s : Show) (printed : List ℕ) (c : CoreValue) (a b : Op
       let whole : all.written ≡ front ++ tail = sym (append-nil all.written) ∙ ap (λ l. all.written ++ l) (sym none) ∙ sym all.joined ∙ ap (λ w. w ++ tail) same in
       record { text = front ++ tail; shown = shown; written = subst (Appends a d) whole all.appended }
 
--- nothing was written yet
-pub none_written : (v : Version) (s : Show) (printed : List ℕ) (c : CoreValue) (a : Option (List ℕ)) (whole : List ℕ) → IsShown v s printed c whole → WritesPart v s printed c a a
-none_written v s printed c a whole shown = record { whole = whole; shown = shown; part = record { part = []; beginning = record { rest = whole; joined = refl }; appended = appends_none a } }
+-- memory ran out before anything was written
+pub none_written : (v : Version) (s : Show) (printed : List ℕ) (c : CoreValue) (a : Option (List ℕ)) (whole : List ℕ) → IsShown v s printed c whole → WritesPart stop.Memory v s printed c a a
+none_written v s printed c a whole shown =
+    record { whole = whole; shown = shown; part = record { part = []; beginning = record { rest = whole; joined = refl; left = inl refl }; appended = appends_none a } }

@@ -1,11 +1,19 @@
 -- A whole replay.
-use Rattle.std.proofs.Common.{ℕ, ◌≡◌, List, Option, ◌⊎◌, inl, inr, subst}
+use Rattle.std.proofs.Common.{ℕ, ◌≡◌, ◌+◌, List, [], ◌∷◌, length, Option, ◌⊎◌, inl, inr, sym, subst}
 use Rattle.engine.specs.Cores.{CoreValue}
 use Rattle.recording.specs.Recordings.{RecordingValue}
 use Rattle.recording.specs.declared.show.Show.{Show}
 use Rattle.recording.specs.declared.version.Version.{Version}
+use Rattle.recording.specs.declared.line.Line.{Line}
+use Rattle.recording.specs.declared.line.Line.TheVariants as line
+use Rattle.route_table.specs.Tables.{TableValue}
+use Rattle.replay.specs.declared.page.Stop.{Stop}
+use Rattle.replay.specs.Lines.{first_number, lookup_line, answer_line}
+use Rattle.replay.specs.Stops.{AreWhole}
 use Rattle.replay.specs.Outputs.{IsShown}
 use Rattle.replay.specs.Parts.{IsRead}
+use Rattle.replay.proofs.Wholes.{append_whole, lookup_whole, answer_whole}
+use Rattle.worker_replay.specs.Runs.{Answers, Prints, reply_of}
 use Rattle.worker_replay.specs.Outputs.{Replays, ReplaysPart}
 use Rattle.worker_replay.specs.Parts.{HasRun, Writes, WritesPart}
 
@@ -22,8 +30,8 @@ module _ (s : Show) (before after old new : Option (List ℕ)) (r : RecordingVal
     written = h.written;
   }
 
-  pub replays_part : WritesPart v s printed c old new → ReplaysPart s before after old new
-  replays_part h = record {
+  pub replays_part : (why : Stop) → WritesPart why v s printed c old new → ReplaysPart why s before after old new
+  replays_part why h = record {
     bytes = read.bytes;
     read = read.read;
     recording = r;
@@ -32,6 +40,20 @@ module _ (s : Show) (before after old new : Option (List ℕ)) (r : RecordingVal
     is = record { answers = run.answers; whole = h.whole; output = record { printed = printed; closed = c; run = run.is; shown = subst (λ w. IsShown w s printed c h.whole) same h.shown }; part = h.part.beginning };
     written = h.part.appended;
   }
+
+-- what the lines of a run print is whole lines
+prints_whole : (table : TableValue) (serial number : ℕ) (lines : List Line) (answers : Answers) (text : List ℕ) → Prints table serial number lines answers text → AreWhole text
+prints_whole table serial number [] [] text none = inl none
+prints_whole table serial number [] (answer ∷ answers) text h = absurd h
+prints_whole table serial number (line.Lookup address ∷ lines) answers text (found, rest, matched, is, more) =
+    subst AreWhole (sym is) (append_whole (lookup_line number address serial found) rest (lookup_whole number address serial found) (prints_whole table serial (number + 1) lines answers rest more))
+prints_whole table serial number (line.Event e ∷ lines) [] text h = absurd h
+prints_whole table serial number (line.Event e ∷ lines) (answer ∷ answers) text (rest, is, more) =
+    subst AreWhole (sym is) (append_whole (answer_line number (reply_of answer)) rest (answer_whole number (reply_of answer)) (prints_whole table serial (number + 1) lines answers rest more))
+
+pub run_whole : (r : RecordingValue) (printed : List ℕ) (c : CoreValue) → HasRun r printed c → AreWhole printed
+run_whole r printed c h =
+    let lines = h.is.lines in prints_whole lines.table (length lines.seen) (first_number r.version r.config) r.lines h.answers printed lines.prints
 
 pub or_else : {P A B : Type 0} → (A → B) → P ⊎ A → P ⊎ B
 or_else f (inl p) = inl p

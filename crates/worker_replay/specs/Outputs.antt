@@ -1,10 +1,13 @@
 -- What a replay over several workers writes.
 use Rattle.std.specs.Prelude.{ℕ, List, Option}
-use Rattle.std.specs.Io.KnownBytes.{Appends, Consumes}
+use Rattle.std.specs.Io.KnownBytes.{Appends}
 use Rattle.engine.specs.Cores.{CoreValue}
 use Rattle.recording.specs.Recordings.{RecordingValue, IsText}
 use Rattle.recording.specs.declared.show.Show.{Show}
-use Rattle.replay.specs.Outputs.{IsShown, IsBeginning}
+use Rattle.replay.specs.declared.page.Stop.{Stop}
+use Rattle.replay.specs.Inputs.{ReadsAll}
+use Rattle.replay.specs.Stops.{IsBeginning}
+use Rattle.replay.specs.Outputs.{IsShown}
 use Rattle.worker_replay.specs.Runs.{Answers, IsRun}
 
 -- The output of a recording for a show, where its events had these answers: they may have been taken in any order that keeps that of each worker's, some may have
@@ -15,17 +18,17 @@ pub record IsOutput (r : RecordingValue) (s : Show) (answers : Answers) (text : 
   pub run : IsRun r answers printed closed
   pub shown : IsShown r.version s printed closed text
 
--- the text is a beginning of an output
-pub record IsCutOutput (r : RecordingValue) (s : Show) (text : List ℕ) : Type 0 where
+-- the text is the beginning of an output that such a stop leaves
+pub record IsCutOutput (why : Stop) (r : RecordingValue) (s : Show) (text : List ℕ) : Type 0 where
   pub answers : Answers
   pub whole : List ℕ
   pub output : IsOutput r s answers whole
-  pub part : IsBeginning text whole
+  pub part : IsBeginning why text whole
 
--- the bytes that a reader had left were a recording, and a writer's known bytes grew by its output
+-- all the bytes that a reader had were a recording, and a writer's known bytes grew by its output
 pub record Replays (s : Show) (before after : Option (List ℕ)) (old new : Option (List ℕ)) : Type 0 where
   pub bytes : List ℕ
-  pub read : Consumes before after bytes
+  pub read : ReadsAll before after bytes
   pub recording : RecordingValue
   pub text : IsText bytes recording
   pub answers : Answers
@@ -33,12 +36,12 @@ pub record Replays (s : Show) (before after : Option (List ℕ)) (old new : Opti
   pub is : IsOutput recording s answers output
   pub written : Appends old new output
 
--- the same, and a writer's known bytes grew by a beginning of the output
-pub record ReplaysPart (s : Show) (before after : Option (List ℕ)) (old new : Option (List ℕ)) : Type 0 where
+-- all the bytes that a reader had were a recording, and a writer's known bytes grew by the beginning of its output that such a stop leaves
+pub record ReplaysPart (why : Stop) (s : Show) (before after : Option (List ℕ)) (old new : Option (List ℕ)) : Type 0 where
   pub bytes : List ℕ
-  pub read : Consumes before after bytes
+  pub read : ReadsAll before after bytes
   pub recording : RecordingValue
   pub text : IsText bytes recording
   pub part : List ℕ
-  pub is : IsCutOutput recording s part
+  pub is : IsCutOutput why recording s part
   pub written : Appends old new part

@@ -21,6 +21,7 @@ use Rattle.recording.specs.declared.version.Version.{Version}
 use Rattle.replay.specs.Lines.{lookup_line, answer_line}
 use Rattle.replay.specs.Outputs.{IsShown}
 use Rattle.replay.specs.Pages.{AddsPart}
+use Rattle.replay.specs.declared.page.Stop.{Stop}
 use Rattle.worker_replay.specs.declared.fault.ManyFault.{ManyFault}
 use Rattle.worker_replay.specs.declared.fault.ManyFault.TheVariants as fault
 use Rattle.worker_replay.specs.Runs.{Answers, IsPrinted, IsRun, told_of}
@@ -97,8 +98,8 @@ pub record Writes (v : Version) (s : Show) (printed : List ℕ) (c : CoreValue) 
   pub shown : IsShown v s printed c text
   pub written : Appends old new text
 
--- a writer's known bytes grew by a beginning of what is shown
-pub record WritesPart (v : Version) (s : Show) (printed : List ℕ) (c : CoreValue) (old new : Option (List ℕ)) : Type 0 where
+-- a writer's known bytes grew by the beginning of what is shown that such a stop leaves
+pub record WritesPart (why : Stop) (v : Version) (s : Show) (printed : List ℕ) (c : CoreValue) (old new : Option (List ℕ)) : Type 0 where
   pub whole : List ℕ
   pub shown : IsShown v s printed c whole
-  pub part : AddsPart old new whole
+  pub part : AddsPart why old new whole

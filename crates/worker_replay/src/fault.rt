@@ -3,11 +3,11 @@ ghost use Rattle.worker_replay.specs.Texts.{many_fault_text};
 
 use ospf_types::memory::Memory;
 use replay::ReplayFault;
-use std::error::Error;
 use std::fmt;
+use thiserror::Error;
 
 /// Why a replay over several workers ended early.
-#[derive(Clone, Copy, Debug, PartialEq, Eq)]
+#[derive(Clone, Copy, Debug, PartialEq, Eq, Error)]
 pub enum ManyFault {
     /// What ends a replay on one thread too.
     Replay(ReplayFault),
@@ -31,8 +31,6 @@ impl fmt::Display for ManyFault {
         }
     }
 }
-
-impl Error for ManyFault {}
 
 impl From<Memory> for ManyFault {
     ghost use Rattle.std.specs.Prelude.{◌≡◌};

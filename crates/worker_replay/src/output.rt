@@ -1,10 +1,11 @@
 //! The output, written: what the lines printed, and what is shown behind it.
-ghost use Rattle.std.specs.Prelude.{◌≡◌, ◌⊎◌, [], OnOk, OnErr, string_bytes};
+ghost use Rattle.std.specs.Prelude.{◌≡◌, ◌⊎◌, [], OnOk, IfErr, string_bytes};
 ghost use Rattle.engine.specs.Cores.{state_of};
 ghost use Rattle.engine.specs.Listings.{AreLsas};
 ghost use Rattle.replay.specs.declared.page.Stop.TheVariants as stop;
 ghost use Rattle.recording.specs.declared.show.Show.TheVariants as show_value;
 ghost use Rattle.recording.specs.declared.version.Version.{Version as VersionValue};
+ghost use Rattle.replay.specs.Stops.{AreWhole};
 ghost use Rattle.worker_replay.specs.Parts.{Writes, WritesPart};
 
 use engine::Core;
@@ -26,8 +27,8 @@ pub(crate) fn write_output<W: io::Write>(
     show: Show,
 ) -> Result<(), Stop>
     ensures ok { OnOk result (Writes version show (string_bytes printed) core.now (W.contents out.old) (W.contents out.new)) }
-    ensures write { result ≡ Err stop.Write → WritesPart version show (string_bytes printed) core.now (W.contents out.old) (W.contents out.new) }
-    ensures memory { result ≡ Err stop.Memory → (out.new ≡ out.old) ⊎ WritesPart version show (string_bytes printed) core.now (W.contents out.old) (W.contents out.new) }
+    ensures write { AreWhole (string_bytes printed) → result ≡ Err stop.Write → WritesPart stop.Write version show (string_bytes printed) core.now (W.contents out.old) (W.contents out.new) }
+    ensures memory { AreWhole (string_bytes printed) → result ≡ Err stop.Memory → (out.new ≡ out.old) ⊎ WritesPart stop.Memory version show (string_bytes printed) core.now (W.contents out.old) (W.contents out.new) }
 {
     let mut page = printed;
     match show {
@@ -46,7 +47,7 @@ pub(crate) fn write_output<W: io::Write>(
 
 fn write_routes<W: io::Write>(core: &Core, page: &mut String, out: &mut W) -> Result<(), Stop>
     ensures ok { OnOk result ((v : VersionValue) → Writes v show_value.Routes (string_bytes page.old) core.now (W.contents out.old) (W.contents out.new)) }
-    ensures err { OnErr result ((v : VersionValue) → WritesPart v show_value.Routes (string_bytes page.old) core.now (W.contents out.old) (W.contents out.new)) }
+    ensures err { AreWhole (string_bytes page.old) → IfErr result (λ why. (v : VersionValue) → WritesPart why v show_value.Routes (string_bytes page.old) core.now (W.contents out.old) (W.contents out.new)) }
 {
     put_serial(core, page)?;
     show_items(core.table(), out, page)?;
@@ -56,7 +57,7 @@ fn write_routes<W: io::Write>(core: &Core, page: &mut String, out: &mut W) -> Re
 
 fn write_due<W: io::Write>(core: &Core, page: &mut String, out: &mut W) -> Result<(), Stop>
     ensures ok { OnOk result ((v : VersionValue) → Writes v show_value.Due (string_bytes page.old) core.now (W.contents out.old) (W.contents out.new)) }
-    ensures err { OnErr result ((v : VersionValue) → WritesPart v show_value.Due (string_bytes page.old) core.now (W.contents out.old) (W.contents out.new)) }
+    ensures err { AreWhole (string_bytes page.old) → IfErr result (λ why. (v : VersionValue) → WritesPart why v show_value.Due (string_bytes page.old) core.now (W.contents out.old) (W.contents out.new)) }
 {
     put_serial(core, page)?;
     show_dues(core.dues(), out, page)?;
@@ -72,7 +73,7 @@ fn write_lsdb<W: io::Write>(
 ) -> Result<(), Stop>
     requires { AreLsas (state_of core.now) lsas.items }
     ensures ok { OnOk result ((v : VersionValue) → Writes v show_value.Lsdb (string_bytes page.old) core.now (W.contents out.old) (W.contents out.new)) }
-    ensures err { OnErr result ((v : VersionValue) → WritesPart v show_value.Lsdb (string_bytes page.old) core.now (W.contents out.old) (W.contents out.new)) }
+    ensures err { AreWhole (string_bytes page.old) → IfErr result (λ why. (v : VersionValue) → WritesPart why v show_value.Lsdb (string_bytes page.old) core.now (W.contents out.old) (W.contents out.new)) }
 {
     put_serial(core, page)?;
     show_lsas(lsas, out, page)?;
@@ -90,7 +91,7 @@ fn write_journal<W: io::Write>(
 ) -> Result<(), Stop>
     requires { string_bytes page.old ≡ [] }
     ensures ok { OnOk result (Writes version show_value.Journal [] core.now (W.contents out.old) (W.contents out.new)) }
-    ensures err { OnErr result (WritesPart version show_value.Journal [] core.now (W.contents out.old) (W.contents out.new)) }
+    ensures err { IfErr result (λ why. WritesPart why version show_value.Journal [] core.now (W.contents out.old) (W.contents out.new)) }
 {
     append_header(version, core.config(), page)?;
     show_events(alloc, core.journal(), out, page)?;

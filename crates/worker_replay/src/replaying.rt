@@ -1,6 +1,7 @@
 //! A replay over several workers.
 ghost use Rattle.std.specs.Prelude.{◌≡◌, ◌≤◌, ◌⊎◌, ℕ, List, OnOk};
-ghost use Rattle.std.specs.Io.KnownBytes.{Consumes};
+ghost use Rattle.replay.specs.Inputs.{ReadsAll};
+ghost use Rattle.replay.specs.declared.page.Stop.TheVariants as stop;
 ghost use Rattle.recording.specs.declared.fault.LineFault.{LineFault};
 ghost use Rattle.recording.specs.Faults.{IsFaultOf};
 ghost use Rattle.replay.specs.declared.fault.ReplayFault.TheVariants as replay_fault;
@@ -11,17 +12,17 @@ ghost use Rattle.worker_replay.specs.Parts.{AreWorkers};
 use crate::fault::ManyFault;
 use crate::output::write_output;
 use crate::running::run_recording;
-use replay::{ReplayFault, Show, Stop, read_recording};
+use replay::{Show, fault_of, read_recording};
 use std::alloc::Global;
 use std::hash::RandomState;
 use std::io;
 use std::sync::Wait;
 use std::thread::Threads;
 
-/// Reads a recording to its end, submits its events to an engine from so many threads, and writes what `show` names. The
-/// events of a thread are submitted in their order, those of two threads in any; the look-ups see all that were answered
-/// `Current`. Where it ends early nothing is written, but for a failed write, or want of memory while writing: then a
-/// beginning of the output.
+/// Reads its input to the end as a recording, submits its events to an engine from so many threads, and writes what `show`
+/// names. The events of a thread are submitted in their order, those of two threads in any; the look-ups see all that were
+/// answered `Current`. Where it ends early nothing is written, but for a failed write, or want of memory while writing: then
+/// a beginning of the output. Something is missing where a write failed, and no line is cut where memory ran out.
 pub fn replay_many<S: Threads + Wait + Sync, R: io::Read, W: io::Write>(
     rt: &S,
     alloc: Global,
@@ -35,13 +36,13 @@ pub fn replay_many<S: Threads + Wait + Sync, R: io::Read, W: io::Write>(
     ensures ok { OnOk result (Replays show (R.remaining input.old) (R.remaining input.new) (W.contents out.old) (W.contents out.new)) }
     ensures read { result ≡ Err (many_fault.Replay replay_fault.Read) → out.new ≡ out.old }
     ensures line { (f : LineFault) → result ≡ Err (many_fault.Replay (replay_fault.Line f)) → (out.new ≡ out.old)
-        × ((bytes : List ℕ) × Consumes (R.remaining input.old) (R.remaining input.new) bytes × IsFaultOf bytes f) }
+        × ((bytes : List ℕ) × ReadsAll (R.remaining input.old) (R.remaining input.new) bytes × IsFaultOf bytes f) }
     ensures spawn { result ≡ Err many_fault.Spawn → out.new ≡ out.old }
     ensures place { result ≡ Err many_fault.Place → out.new ≡ out.old }
     ensures no_entry { result ≡ Err many_fault.NoEntry → out.new ≡ out.old }
-    ensures write { result ≡ Err (many_fault.Replay replay_fault.Write) → ReplaysPart show (R.remaining input.old) (R.remaining input.new) (W.contents out.old) (W.contents out.new) }
+    ensures write { result ≡ Err (many_fault.Replay replay_fault.Write) → ReplaysPart stop.Write show (R.remaining input.old) (R.remaining input.new) (W.contents out.old) (W.contents out.new) }
     ensures memory { result ≡ Err (many_fault.Replay replay_fault.Memory) → (out.new ≡ out.old)
-        ⊎ ReplaysPart show (R.remaining input.old) (R.remaining input.new) (W.contents out.old) (W.contents out.new) }
+        ⊎ ReplaysPart stop.Memory show (R.remaining input.old) (R.remaining input.new) (W.contents out.old) (W.contents out.new) }
 {
     let recording = match read_recording(alloc, input) {
         Ok(recording) => recording,
@@ -51,7 +52,6 @@ pub fn replay_many<S: Threads + Wait + Sync, R: io::Read, W: io::Write>(
     let (printed, core) = run_recording(rt, alloc, hashing, recording, workers)?;
     match write_output(alloc, version, &core, printed, out, show) {
         Ok(()) => Ok(()),
-        Err(Stop::Write) => Err(ManyFault::Replay(ReplayFault::Write)),
-        Err(Stop::Memory) => Err(ManyFault::Replay(ReplayFault::Memory)),
+        Err(stop) => Err(ManyFault::Replay(fault_of(stop))),
     }
 }

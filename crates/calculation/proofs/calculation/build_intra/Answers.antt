@@ -10,18 +10,18 @@ use Rattle.state_trees.proofs.Turns.{trees_long}
 use Rattle.calculation.proofs.calculation.build_intra.Goals as goal
 
 pub area_inputs-requires : goal.area_inputs-requires
-area_inputs-requires c = trees_long c.args.state.now c.args.state.now.config.areas c.args.trees.now c.requires
+area_inputs-requires c = trees_long c.args.state.now c.args.state.now.config.areas c.args.trees.now c.requires.trees
 
 pub build-requires : goal.build-requires
 build-requires c =
     let v : InputsValue = record { root = c.config.result.now.router; areas = c.deref.result.now; interfaces = c.deref-2.result.now } in
     let is : v ≡ inputs_with c.args.state.now c.args.trees.now =
     inputs_made c.args.state.now c.args.trees.now v (ap (λ (k : Config). k.router) c.config.ensures.value) (c.deref.ensures.value ∙ c.in_ok-areas.ensures) (c.deref-2.ensures.value ∙ c.in_ok-interfaces.ensures) in
-    subst AreReady (sym is) (ready_of c.args.state.now c.args.trees.now c.requires)
+    subst AreReady (sym is) (ready_of c.args.state.now c.args.trees.now c.requires.trees)
 
 pub returns-clause-routed : goal.returns-clause-routed
 returns-clause-routed c =
     let v : InputsValue = record { root = c.config.result.now.router; areas = c.deref.result.now; interfaces = c.deref-2.result.now } in
     let is : v ≡ inputs_with c.args.state.now c.args.trees.now =
     inputs_made c.args.state.now c.args.trees.now v (ap (λ (k : Config). k.router) c.config.ensures.value) (c.deref.ensures.value ∙ c.in_ok-areas.ensures) (c.deref-2.ensures.value ∙ c.in_ok-interfaces.ensures) in
-    IfOk-weaker c.build.result _ _ (λ intra right. right (inputs_of c.args.state.now) (subst (AreInputsOf (inputs_of c.args.state.now)) (sym is) (inputs_are c.args.state.now c.args.trees.now c.config.ensures.fit c.requires))) c.build.ensures.right
+    IfOk-weaker c.build.result _ _ (λ intra right. right (inputs_of c.args.state.now) (subst (AreInputsOf (inputs_of c.args.state.now)) (sym is) (inputs_are c.args.state.now c.args.trees.now (c.config.ensures.fit c.requires.apart) c.requires.trees))) c.build.ensures.right

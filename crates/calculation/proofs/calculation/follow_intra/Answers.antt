@@ -33,4 +33,4 @@ returns-clause-routed c =
     let v : InputsValue = record { root = c.config.result.now.router; areas = c.deref.result.now; interfaces = c.deref-2.result.now } in
     let is : v ≡ inputs_with c.args.state.now c.args.trees.now =
     inputs_made c.args.state.now c.args.trees.now v (ap (λ (k : Config). k.router) c.config.ensures.value) (c.deref.ensures.value ∙ c.in_ok-areas.ensures) (c.deref-2.ensures.value ∙ c.in_ok-interfaces.ensures) in
-    on_ok_weaker c.update.result (λ right. right (inputs_of c.args.state.now) (subst (AreInputsOf (inputs_of c.args.state.now)) (sym is) (inputs_are c.args.state.now c.args.trees.now c.config.ensures.fit c.requires.trees))) c.update.ensures.right
+    on_ok_weaker c.update.result (λ right. right (inputs_of c.args.state.now) (subst (AreInputsOf (inputs_of c.args.state.now)) (sym is) (inputs_are c.args.state.now c.args.trees.now (c.config.ensures.fit c.requires.apart) c.requires.trees))) c.update.ensures.right

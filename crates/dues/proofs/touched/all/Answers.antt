@@ -33,5 +33,5 @@ returns c =
     (λ d is. after_second d (one d (inl ((subst (λ (w : DueInputsValue). Contains first d ↔ IsSome (get w.inter.entries d)) told (c.in_ok-dests.ensures.exact d)).1 is))))
     (λ p is. after_second (Net p) (one (Net p) (inr (p, (subst (λ (w : DueInputsValue). Contains networks p ↔ IsSome (get w.intra.entries p)) told (c.in_ok-networks.ensures.exact p)).1 is, refl))))
     (λ p is. four (Net p) (inl (three (Net p) (inl (two (Net p) (inr (p, (subst (λ (w : DueInputsValue). Contains prefixes p ↔ IsActiveIn w.ranges p) told (c.in_ok-prefixes.ensures.exact p)).1 is, refl)))))))
-    (λ r is. four (Router r) (inl (three (Router r) (inr (r, (subst (λ (w : DueInputsValue). Contains routers r ↔ IsSome (get w.external.preferred r)) told (c.in_ok-routers.ensures r)).1 is, refl)))))
+    (λ r is. four (Router r) (inl (three (Router r) (inr (r, (subst (λ (w : DueInputsValue). Contains routers r ↔ IsSome (get w.external.preferred r)) told (c.in_ok-routers.ensures.exact r)).1 is, refl)))))
     (subst (λ (p : Prefix). Contains last (Net p)) c.default_network.ensures (four default (inr refl)))

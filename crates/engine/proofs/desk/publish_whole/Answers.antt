@@ -12,21 +12,22 @@ invariant_of-result g c =
 pub show-writer-requires-clause-right : goal.show-writer-requires-clause-right
 show-writer-requires-clause-right g c =
     let followed = c.follow_built.ensures in
-    let whole = c.if-not-follow_built.ensures.whole refl in
+    let whole = c.if-not-follow_built.ensures.whole in
     let shown = c.args.writer.desk.shown.value in
     let kept = author_kept c.args.core c.args.author c.follow_built.new.author shown _ followed.book followed.written c.requires in
     let right = table_shown c.args.core c.follow_built.new.author shown _ followed.kept kept whole.0 whole.1 in
-    rw c.front.ensures (subst (λ (t : TableValue). IsTableFor shown.config c.follow_built.new.author.list t) (sym c.table.ensures.value) right)
+    subst (λ (t : TableValue). IsTableFor shown.config c.follow_built.new.author.list t) (sym c.table.ensures.value) right
 
 pub invariant_of-result-2 : goal.invariant_of-result-2
 invariant_of-result-2 g c =
     let followed = c.follow_built.ensures in
-    let whole = c.if-not-follow_built.ensures.whole refl in
+    let whole = c.if-not-follow_built.ensures.whole in
     let shown = c.args.writer.desk.shown.value in
     let author = c.follow_built.new.author in
     let kept = author_kept c.args.core c.args.author author shown _ followed.book followed.written c.requires in
     let published = c.show-writer.ensures in (
       followed.kept,
-      shown_kept c.args.core author c.front.result shown c.show-writer.result.0.desk.shown.value _ _ c.show-writer.result.1 c.front.ensures published.name published.shown published.known kept,
-      shown_fresh c.args.core author c.front.result shown c.show-writer.result.0.desk.shown.value _ c.show-writer.result.1 c.front.ensures whole.0 published.shown (λ (e : c.show-writer.result.1 ≡ true). published.pending e),
+      rw published.author
+          (shown_kept c.args.core author author shown c.show-writer.result.0.desk.shown.value _ _ c.show-writer.result.1 refl published.name published.shown published.known kept),
+      shown_fresh c.args.core author author shown c.show-writer.result.0.desk.shown.value _ c.show-writer.result.1 refl whole.0 published.shown (λ (e : c.show-writer.result.1 ≡ true). published.pending e),
     )

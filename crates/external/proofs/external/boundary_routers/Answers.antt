@@ -16,7 +16,7 @@ returns c = λ r preference h offered.
     let pushed = c.in_ok-push_routers.ensures in
     let routers = c.push_routers.new.routers.items in
     let there : Contains routers r = elim (offering c.args.inputs.now r preference h offered) [
-      | inl kept ↦ pushed.kept r ((c.in_ok-routers.ensures r).1 (subst (λ (v : ExternalInputsValue). IsKeptIn v.intra.areas r) (sym c.inputs.view_is) kept))
+      | inl kept ↦ pushed.kept r ((c.in_ok-routers.ensures.exact r).1 (subst (λ (v : ExternalInputsValue). IsKeptIn v.intra.areas r) (sym c.inputs.view_is) kept))
       | inr some ↦
           let listed = (c.in_ok-others.ensures.exact (Router r)).1 (subst (λ (v : ExternalInputsValue). IsSome (get v.inter.entries (Router r))) (sym c.inputs.view_is) some) in
           pushed.all r (subst (λ (ds : List Dest). Contains ds (Router r)) (sym c.as_slice.ensures.value) listed)

@@ -1,11 +1,8 @@
-use Rattle.graph_links.proofs.Linking.{names_none, names_more, names_all}
+use Rattle.graph_links.proofs.Neighbouring.{all_named, named_once}
 use Rattle.graph_links.proofs.neighbours.neighbours.Goals as goal
 
-pub loop-end-init : goal.loop-end-init
-loop-end-init c = names_none c.in_ok-found.found.items c.in_ok-found.ensures.items
+pub returns-clause-exact : goal.returns-clause-exact
+returns-clause-exact c = all_named c.args.ends.now c.in_ok-found.found.items c.dedup.new.self.items c.in_ok-found.ensures c.dedup.ensures.filtered
 
-pub loop-end-preserved : goal.loop-end-preserved
-loop-end-preserved c = names_more c.args.ends.now c.loop-end.end-index _ c.loop-end.found.items c.push_new.new.found.items c.loop-end-test.true c.loop-end.invariant c.in_ok-push_new.ensures
-
-pub returns : goal.returns
-returns c = names_all c.args.ends.now c.loop-end.end-index c.loop-end.found.items c.loop-end-test.false c.loop-end.invariant
+pub returns-clause-each_once : goal.returns-clause-each_once
+returns-clause-each_once c = named_once c.args.ends.now c.in_ok-found.found.items c.dedup.new.self.items c.in_ok-found.ensures c.dedup.ensures.filtered

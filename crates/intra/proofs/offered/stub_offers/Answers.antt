@@ -1,16 +1,17 @@
-use Rattle.std.proofs.Common.{◌++◌, ap, sym, ◌∙◌, List}
-use Rattle.std.specs.List.{filter_map}
-use Rattle.std.proofs.lemmas.List.{append-nil}
-use Rattle.ospf_types.specs.declared.lsa.Link.{Link}
-use Rattle.lsa_codec.specs.Readers.{links_of}
-use Rattle.intra.specs.Stubs.{offer_of_link}
-use Rattle.intra.proofs.StubOffers.{stubs_without_tos}
+-- Sorted, and each kept once.
+use Rattle.std.proofs.Common.{List, subst}
+use Rattle.std.specs.Prelude.{◌↔◌, Contains}
+use Rattle.intra.specs.declared.offered.Offer.{Offer}
+use Rattle.intra.proofs.OfferTests.{offer_total, offer_exact, offers_order, once_in_order}
+use Rattle.intra.proofs.SortedOnce.{strictly, same_items}
 use Rattle.intra.proofs.offered.stub_offers.Goals as goal
 
-pub returns : goal.returns
-returns c =
-    sym (append-nil c.loop-link.offers.items)
-    ∙ ap (λ (rest : List Link). c.loop-link.offers.items ++ filter_map offer_of_link rest) (sym c.in-None.ensures.steps.0)
-    ∙ c.loop-link.invariant
-    ∙ ap (filter_map offer_of_link) (c.into_iter-link-iterator.ensures.into_iter_gives ∙ c.links-link-items.ensures)
-    ∙ stubs_without_tos (links_of c.args.lsa.now.body)
+pub returns-clause-exact : goal.returns-clause-exact
+returns-clause-exact c o =
+    subst (λ (all : List Offer). Contains c.dedup.new.self.items o ↔ Contains all o) c.in_ok-offers.ensures
+    (same_items offer_total offer_exact offers_order c.in_ok-offers.offers.items c.sort_unstable.new.self.items c.dedup.new.self.items c.sort_unstable.ensures.permutation c.sort_unstable.ensures.sorted c.dedup.ensures.filtered o)
+
+pub returns-clause-each_once : goal.returns-clause-each_once
+returns-clause-each_once c =
+    once_in_order c.dedup.new.self.items
+    (strictly offer_total offer_exact offers_order c.in_ok-offers.offers.items c.sort_unstable.new.self.items c.dedup.new.self.items c.sort_unstable.ensures.permutation c.sort_unstable.ensures.sorted c.dedup.ensures.filtered)

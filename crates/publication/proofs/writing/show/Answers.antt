@@ -1,6 +1,8 @@
-use Rattle.std.proofs.Common.{refl, sym, ap, drop, subst, List, fold}
+use Rattle.std.proofs.Common.{refl, sym, ap, ◌∙◌, drop, subst, List, fold}
 use Rattle.publication.specs.declared.shown.Shown.{Shown}
 use Rattle.publication.specs.declared.shown.Update.{Update}
+use Rattle.publication.specs.Lines.{Line}
+use Rattle.publication.specs.Published.{IsTableFor}
 use Rattle.publication.specs.Updates.{updated, face_of, IsRightFace}
 use Rattle.publication.proofs.Folds.{gives_whole}
 use Rattle.publication.proofs.writing.show.Goals as goal
@@ -8,5 +10,7 @@ use Rattle.publication.proofs.writing.show.Goals as goal
 pub publish-requires-clause-laid : goal.publish-requires-clause-laid
 publish-requires-clause-laid g c =
     let w = c.args.writer in
+    let front = c.front-front.ensures ∙ c.look.ensures.same in
     let same = ap (λ d. d.shown.value) c.lay_whole.ensures.desk in
-    subst (λ (z : Shown × List Update). IsRightFace c.args.front.now z.0.config (fold updated (face_of z.0) z.1)) (λ i. (sym same i, sym (c.if-not-lay_whole.ensures.pending refl) i)) (gives_whole (face_of w.desk.shown.value) (drop w.behind w.log.items) c.args.table.now c.args.front.now c.requires.right)
+    subst (λ (z : Shown × List Update). IsRightFace c.front-front.result z.0.config (fold updated (face_of z.0) z.1)) (λ i. (sym same i, sym (c.if-not-lay_whole.ensures.pending refl) i))
+    (gives_whole (face_of w.desk.shown.value) (drop w.behind w.log.items) c.args.table.now c.front-front.result (subst (λ (l : Line). IsTableFor w.desk.shown.value.config l.list c.args.table.now) (sym front) c.requires.right))

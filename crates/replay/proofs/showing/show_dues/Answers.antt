@@ -4,8 +4,8 @@ use Rattle.std.proofs.lemmas.List.{drop_all}
 use Rattle.event_core.specs.Dues.{listed}
 use Rattle.event_core.specs.Lists.{AreaDuesValue}
 use Rattle.replay.specs.Lines.{area_lines}
-use Rattle.replay.proofs.Written.{on_err}
-use Rattle.replay.proofs.Paging.{adding_none, adding_lines, adding_as, adding_whole, adding_cut, line_next, lines_in, lines_listed}
+use Rattle.replay.proofs.Written.{err_as}
+use Rattle.replay.proofs.Paging.{adding_none, adding_lines, adding_as, adding_whole, adding_page, adding_cut, line_next, lines_in, lines_listed}
 use Rattle.replay.proofs.showing.show_dues.Goals as goal
 
 pub loop-area-init : goal.loop-area-init
@@ -28,7 +28,8 @@ returns-in_err-show_area-clause-err g c =
     let printed : area_lines (c.area.result, c.as_slice.result.now) ≡ lines_in w = λ j. area_lines (c.area.ensures j, c.as_slice.ensures.value j) in
     let next = line_next lines_in items i w c.loop-area-test.true c.area-item.is ∙ ap (λ l. l ++ flat_map lines_in (drop (i + 1) items)) (sym printed) in
     let all : flat_map lines_in items ≡ flat_map area_lines (listed c.args.dues.now.areas) = lines_listed items ∙ ap (λ (areas : List AreaDuesValue). flat_map area_lines (listed areas)) c.areas-area-items.ensures in
-    on_err c.from_residual.result (adding_cut _ _ _ _ _ _ _ _ _ (adding_as _ _ _ _ _ _ _ c.loop-area.invariant all) next c.in_err-show_area.ensures.err)
+    λ whole. err_as _ c.from_residual.result c.in_err-show_area.field-0.0 c.from_residual.ensures.1
+    (adding_cut _ _ _ _ _ _ _ _ _ _ whole (adding_as _ _ _ _ _ _ _ c.loop-area.invariant all) next (c.in_err-show_area.ensures.err (adding_page _ _ _ _ _ _ c.loop-area.invariant whole)))
 
 pub returns-clause-ok : goal.returns-clause-ok
 returns-clause-ok g c =

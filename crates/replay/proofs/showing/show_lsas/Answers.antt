@@ -1,7 +1,9 @@
 use Rattle.std.proofs.Common.{ap, sym}
 use Rattle.std.specs.List.{flat_map}
 use Rattle.replay.specs.Lines.{lsa_line}
-use Rattle.replay.proofs.Written.{on_err}
+use Rattle.replay.specs.declared.page.Stop.TheVariants as stop
+use Rattle.replay.proofs.Written.{err_as}
+use Rattle.replay.proofs.Wholes.{lsa_whole}
 use Rattle.replay.proofs.Paging.{adding_none, adding_more, adding_part, adding_stopped}
 use Rattle.replay.proofs.showing.show_lsas.Goals as goal
 
@@ -9,11 +11,12 @@ pub loop-scope-init : goal.loop-scope-init
 loop-scope-init g c = adding_none _ _ _ _ (ap (flat_map lsa_line) (sym c.into_iter-scope-iterator.ensures.into_iter_gives.0))
 
 pub loop-scope-preserved : goal.loop-scope-preserved
-loop-scope-preserved g c = adding_more _ _ _ _ _ _ _ _ _ _ _ c.loop-scope.invariant (ap (flat_map lsa_line) c.in-Some.ensures.steps.0) c.in_ok-put_lsa.ensures c.in_ok-spill.ensures.ok
+loop-scope-preserved g c = adding_more _ _ _ _ _ _ _ _ _ _ _ c.loop-scope.invariant (ap (flat_map lsa_line) c.in-Some.ensures.steps.0) c.in_ok-put_lsa.ensures (lsa_whole (c.in-Some.scope, c.in-Some.lsa)) c.in_ok-spill.ensures.ok
 
 pub returns-in_err-put_lsa-clause-err : goal.returns-in_err-put_lsa-clause-err
-returns-in_err-put_lsa-clause-err g c = on_err c.from_residual.result (adding_part _ _ _ _ _ _ c.loop-scope.invariant)
+returns-in_err-put_lsa-clause-err g c = λ whole. err_as _ c.from_residual.result stop.Memory c.from_residual.ensures.1 (adding_part _ _ _ _ _ _ whole c.loop-scope.invariant)
 
 pub returns-in_err-spill-clause-err : goal.returns-in_err-spill-clause-err
 returns-in_err-spill-clause-err g c =
-    on_err c.from_residual-in_err-spill.result (adding_stopped _ _ _ _ _ _ _ _ _ _ c.loop-scope.invariant (ap (flat_map lsa_line) c.in-Some.ensures.steps.0) c.in_ok-put_lsa.ensures c.in_err-spill.ensures.err)
+    λ whole. err_as _ c.from_residual-in_err-spill.result stop.Write c.from_residual-in_err-spill.ensures.1
+    (adding_stopped stop.Write _ _ _ _ _ _ _ _ _ _ whole c.loop-scope.invariant (ap (flat_map lsa_line) c.in-Some.ensures.steps.0) c.in_ok-put_lsa.ensures (lsa_whole (c.in-Some.scope, c.in-Some.lsa)) c.in_err-spill.ensures.err)

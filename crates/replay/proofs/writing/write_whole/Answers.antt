@@ -6,13 +6,13 @@ pub loop-init : goal.loop-init
 loop-init g c = gone_none _ _
 
 pub loop-preserved : goal.loop-preserved
-loop-preserved g c = gone_more _ _ _ _ _ c.in_ok-count.count c.loop.invariant c.in_ok-count.ensures.ok
+loop-preserved g c = gone_more _ _ _ _ _ c.in_ok-step.step.count c.loop.invariant c.in_ok-step.ensures.ok
 
 pub returns-then-is_empty-clause-ok : goal.returns-then-is_empty-clause-ok
 returns-then-is_empty-clause-ok g c = gone_all _ _ _ _ (search rules) c.loop.invariant
 
-pub returns-in_err-count-clause-err : goal.returns-in_err-count-clause-err
-returns-in_err-count-clause-err g c = on_err c.from_residual.result (gone_part _ _ _ _ _ (search rules) c.loop.invariant c.in_err-count.ensures.err)
+pub returns-in_err-step-clause-err : goal.returns-in_err-step-clause-err
+returns-in_err-step-clause-err g c = on_err c.from_residual.result (gone_part _ _ _ _ _ (search rules) c.loop.invariant c.in_err-step.ensures.err)
 
 pub returns-then-is_empty-2-clause-ok : goal.returns-then-is_empty-2-clause-ok
 returns-then-is_empty-2-clause-ok g c = gone_all _ _ _ _ (search rules) c.loop.invariant

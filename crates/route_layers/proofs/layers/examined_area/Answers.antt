@@ -16,7 +16,7 @@ returns-then-is_some-clause-some c =
     let lt : i < length s.config.areas = subst (λ (list : List AreaConfig). i < length list) listed c.loop-area-test.true in
     let here : a ≡ get_or s.config.areas i a = c.area-item.is ∙ ap (λ (list : List AreaConfig). get_or list i a) listed in
     let some : IsSome c.loop-area.active = sym c.is_some.ensures ∙ c.if-is_some.true in
-    backbone_examined s i a lt here c.config.ensures.fit.apart (c.is_active.ensures.0 c.if-is_active.true) c.loop-area.active some c.loop-area.invariant c.backbone.result c.backbone.ensures.some
+    backbone_examined s i a lt here c.requires.apart (c.is_active.ensures.0 c.if-is_active.true) c.loop-area.active some c.loop-area.invariant c.backbone.result c.backbone.ensures.some
 
 pub returns-then-is_some-clause-none : goal.returns-then-is_some-clause-none
 returns-then-is_some-clause-none c =
@@ -27,7 +27,7 @@ returns-then-is_some-clause-none c =
     let lt : i < length s.config.areas = subst (λ (list : List AreaConfig). i < length list) listed c.loop-area-test.true in
     let here : a ≡ get_or s.config.areas i a = c.area-item.is ∙ ap (λ (list : List AreaConfig). get_or list i a) listed in
     let some : IsSome c.loop-area.active = sym c.is_some.ensures ∙ c.if-is_some.true in
-    no_backbone s i a lt here c.config.ensures.fit.apart (c.is_active.ensures.0 c.if-is_active.true) c.loop-area.active some c.loop-area.invariant c.backbone.result c.backbone.ensures.none
+    no_backbone s i a lt here c.requires.apart (c.is_active.ensures.0 c.if-is_active.true) c.loop-area.active some c.loop-area.invariant c.backbone.result c.backbone.ensures.none
 
 pub loop-area-preserved : goal.loop-area-preserved
 loop-area-preserved c =

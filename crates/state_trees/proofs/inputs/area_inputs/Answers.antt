@@ -17,7 +17,7 @@ unreachable-requires c =
     let second : iter_rest (zip_second c.into_iter-area-iterator.result) ≡ c.args.trees.now = search rules in
     let turn = zip_turn areas c.args.trees.now c.loop-area.yielded c.into_iter-area-iterator.result c.loop-area.area-iterator c.next.new.self c.next.result first second c.loop-area.yielded_by (c.in-Some.area, c.in-Some.tree) c.in-Some.is c.next.ensures.steps in
     let a : AreaConfig = c.in-Some.area.now in
-    let there = area_there areas (length c.loop-area.yielded) a a c.config.ensures.fit.apart turn.0 (turn.2 a) in
+    let there = area_there areas (length c.loop-area.yielded) a a turn.0 (turn.2 a) in
     some_there (λ (k : ℕ). get_or c.args.state.now.databases k empty) (place_of areas (Area a.id)) there (sym c.in_default.ensures.value)
 
 pub returns : goal.returns

@@ -13,7 +13,7 @@ build_tree-requires-clause-there c =
     let a : AreaConfig = c.area-item.result in
     let listed : c.as_slice-area-items.result.now ≡ areas = c.as_slice-area-items.ensures ∙ ap (λ (k : Config). k.areas) c.config.ensures.value in
     let lt : c.loop-area.area-index < length areas = subst (λ (list : List AreaConfig). c.loop-area.area-index < length list) listed c.loop-area-test.true in
-    area_there areas c.loop-area.area-index a a c.config.ensures.fit.apart lt (c.area-item.is ∙ ap (λ (list : List AreaConfig). get_or list c.loop-area.area-index a) listed)
+    area_there areas c.loop-area.area-index a a lt (c.area-item.is ∙ ap (λ (list : List AreaConfig). get_or list c.loop-area.area-index a) listed)
 
 pub loop-area-preserved : goal.loop-area-preserved
 loop-area-preserved c =

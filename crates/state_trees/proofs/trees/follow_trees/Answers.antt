@@ -26,7 +26,7 @@ follow_tree-requires-clause-there c =
     let a : AreaConfig = c.area-item.result in
     let listed : c.as_slice-area-items.result.now ≡ areas = c.as_slice-area-items.ensures ∙ ap (λ (k : Config). k.areas) c.config.ensures.value in
     let lt : c.loop-place.place < length areas = subst (λ (list : List AreaConfig). c.loop-place.place < length list) listed c.loop-place-test.true in
-    area_there areas c.loop-place.place a a c.config.ensures.fit.apart lt (c.area-item.is ∙ ap (λ (list : List AreaConfig). get_or list c.loop-place.place a) listed)
+    area_there areas c.loop-place.place a a lt (c.area-item.is ∙ ap (λ (list : List AreaConfig). get_or list c.loop-place.place a) listed)
 
 pub follow_tree-requires-clause-before : goal.follow_tree-requires-clause-before
 follow_tree-requires-clause-before c =

@@ -1,4 +1,7 @@
-use Rattle.std.proofs.Common.{List, subst}
+use Rattle.std.proofs.Common.{◌≡◌, ◌≢◌, List, sym, subst}
+use Rattle.std.specs.List.{AllPairs, IsDistinct}
+use Rattle.std.proofs.lemmas.Map.Made.{AllPairs-from_IsDistinct}
+use Rattle.ospf_types.proofs.VertexOrder.{vertices_equal, vertices_decided}
 use Rattle.ospf_types.specs.declared.entry.Vertex.{Vertex}
 use Rattle.graph_links.specs.Sides.{StagedList, ends_after, LinksBy, AreFresh, AreMissing}
 use Rattle.graph_links.proofs.Placing.{placed_changed}
@@ -27,3 +30,13 @@ returns-clause-came c =
     let Is = LinksBy c.args.is.root c.args.is.interfaces.now after in
     subst (λ (t : StagedList × List Vertex). AreMissing t.1 Is (LinksBy c.args.was.root c.args.was.interfaces.now (ends_after rows t.0)) c.in_ok-fresh.field-0.changes.came.items)
     (λ k. (c.with_hasher-none.ensures.empty k, c.as_slice.ensures.keys k)) c.in_ok-fresh.ensures.came
+
+-- no vertex is touched twice
+touched_once : (keys touched : List Vertex) → touched ≡ keys → IsDistinct vertices_equal keys → AllPairs (λ v w. v ≢ w) touched
+touched_once keys touched same unique = subst (λ (vs : List Vertex). AllPairs (λ v w. v ≢ w) vs) (sym same) (AllPairs-from_IsDistinct vertices_decided keys unique)
+
+pub returns-clause-gone_once : goal.returns-clause-gone_once
+returns-clause-gone_once c = c.in_ok-fresh.ensures.gone_once (touched_once c.args.staging.now.touched.keys c.as_slice.result.now c.as_slice.ensures.keys c.as_slice.ensures.unique)
+
+pub returns-clause-came_once : goal.returns-clause-came_once
+returns-clause-came_once c = c.in_ok-fresh.ensures.came_once (touched_once c.args.staging.now.touched.keys c.as_slice.result.now c.as_slice.ensures.keys c.as_slice.ensures.unique)

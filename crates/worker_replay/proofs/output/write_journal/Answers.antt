@@ -8,7 +8,9 @@ use Rattle.recording.specs.declared.show.Show.TheVariants as show
 use Rattle.recording.specs.declared.version.Version.{Version}
 use Rattle.replay.specs.Lines.{event_line}
 use Rattle.replay.specs.Outputs.{journal_of}
-use Rattle.replay.proofs.Written.{on_err}
+use Rattle.replay.specs.declared.page.Stop.TheVariants as stop
+use Rattle.replay.proofs.Written.{err_as}
+use Rattle.replay.proofs.Wholes.{forms_whole}
 use Rattle.replay.proofs.Ends.{journal_text}
 use Rattle.worker_replay.proofs.Shown.{shown_cut, end_cut, shown_whole, none_written}
 use Rattle.worker_replay.proofs.output.write_journal.Goals as goal
@@ -22,17 +24,20 @@ journal_shown : (v : Version) (c : CoreValue) (events : List Event) → events �
 journal_shown v c events is = ap (λ (es : List Event). text_of_forms (header_forms v c.config) ++ flat_map event_line es) is ∙ sym (journal_text v c)
 
 pub returns-in_err-append_header-clause-err : goal.returns-in_err-append_header-clause-err
-returns-in_err-append_header-clause-err g c = on_err c.from_residual.result (none_written c.args.version show.Journal [] c.args.core.now _ _ (sym (journal_text c.args.version c.args.core.now)))
+returns-in_err-append_header-clause-err g c =
+    err_as _ c.from_residual.result stop.Memory c.from_residual.ensures.1 (none_written c.args.version show.Journal [] c.args.core.now _ _ (sym (journal_text c.args.version c.args.core.now)))
 
 pub returns-in_err-show_events-clause-err : goal.returns-in_err-show_events-clause-err
 returns-in_err-show_events-clause-err g c =
-    on_err c.from_residual-in_err-show_events.result (shown_cut c.args.version show.Journal [] c.args.core.now _ _ _ _ _
-    (headed c.args.version _ _ _ c.args.core.now c.in_ok-append_header.ensures.text c.requires c.config.ensures.value) (journal_shown c.args.version c.args.core.now _ c.journal.ensures.value) c.in_err-show_events.ensures.err)
+    err_as _ c.from_residual-in_err-show_events.result c.in_err-show_events.field-0.0 c.from_residual-in_err-show_events.ensures.1 (shown_cut c.args.version show.Journal [] c.args.core.now _ _ _ _ _
+    (headed c.args.version _ _ _ c.args.core.now c.in_ok-append_header.ensures.text c.requires c.config.ensures.value) (journal_shown c.args.version c.args.core.now _ c.journal.ensures.value)
+    c.in_err-show_events.field-0.0 (forms_whole (header_forms c.args.version c.args.core.now.config)) c.in_err-show_events.ensures.err)
 
 pub returns-in_err-write_page-clause-err : goal.returns-in_err-write_page-clause-err
 returns-in_err-write_page-clause-err g c =
-    on_err c.from_residual-in_err-write_page.result (end_cut c.args.version show.Journal [] c.args.core.now _ _ _ _ _
-    (headed c.args.version _ _ _ c.args.core.now c.in_ok-append_header.ensures.text c.requires c.config.ensures.value) (journal_shown c.args.version c.args.core.now _ c.journal.ensures.value) _ _ c.in_ok-show_events.ensures.ok c.in_err-write_page.ensures.err)
+    err_as _ c.from_residual-in_err-write_page.result stop.Write c.from_residual-in_err-write_page.ensures.1 (end_cut c.args.version show.Journal [] c.args.core.now _ _ _ _ _
+    (headed c.args.version _ _ _ c.args.core.now c.in_ok-append_header.ensures.text c.requires c.config.ensures.value) (journal_shown c.args.version c.args.core.now _ c.journal.ensures.value)
+    stop.Write (forms_whole (header_forms c.args.version c.args.core.now.config)) _ _ c.in_ok-show_events.ensures.ok c.in_err-write_page.ensures.err)
 
 pub returns-clause-ok : goal.returns-clause-ok
 returns-clause-ok g c =

@@ -4,22 +4,26 @@ use Rattle.std.specs.FinMap.{entries}
 use Rattle.route_table.specs.Tables.{TableValue}
 use Rattle.replay.specs.Lines.{serial_line, item_line}
 use Rattle.recording.specs.declared.show.Show.TheVariants as show
-use Rattle.replay.proofs.Written.{on_err}
+use Rattle.replay.specs.declared.page.Stop.TheVariants as stop
+use Rattle.replay.proofs.Written.{err_as}
+use Rattle.replay.proofs.Wholes.{append_whole, serial_whole}
 use Rattle.worker_replay.proofs.Shown.{shown_cut, end_cut, shown_whole, none_written}
 use Rattle.worker_replay.proofs.output.write_routes.Goals as goal
 
 pub returns-in_err-put_serial-clause-err : goal.returns-in_err-put_serial-clause-err
-returns-in_err-put_serial-clause-err g c = on_err c.from_residual.result (λ v. none_written v show.Routes _ _ _ _ refl)
+returns-in_err-put_serial-clause-err g c = λ whole. err_as _ c.from_residual.result stop.Memory c.from_residual.ensures.1 (λ v. none_written v show.Routes _ _ _ _ refl)
 
 pub returns-in_err-show_items-clause-err : goal.returns-in_err-show_items-clause-err
 returns-in_err-show_items-clause-err g c =
-    on_err c.from_residual-in_err-show_items.result (λ v. shown_cut v show.Routes _ _ _ _ _ _ _ c.in_ok-put_serial.ensures
-    (ap (λ (t : TableValue). (string_bytes c.args.page.now ++ serial_line c.args.core.now) ++ flat_map item_line (entries t.items)) c.table.ensures.value) c.in_err-show_items.ensures.err)
+    λ whole. err_as _ c.from_residual-in_err-show_items.result c.in_err-show_items.field-0.0 c.from_residual-in_err-show_items.ensures.1 (λ v. shown_cut v show.Routes _ _ _ _ _ _ _ c.in_ok-put_serial.ensures
+    (ap (λ (t : TableValue). (string_bytes c.args.page.now ++ serial_line c.args.core.now) ++ flat_map item_line (entries t.items)) c.table.ensures.value)
+    c.in_err-show_items.field-0.0 (append_whole _ _ whole (serial_whole c.args.core.now)) c.in_err-show_items.ensures.err)
 
 pub returns-in_err-write_page-clause-err : goal.returns-in_err-write_page-clause-err
 returns-in_err-write_page-clause-err g c =
-    on_err c.from_residual-in_err-write_page.result (λ v. end_cut v show.Routes _ _ _ _ _ _ _ c.in_ok-put_serial.ensures
-    (ap (λ (t : TableValue). (string_bytes c.args.page.now ++ serial_line c.args.core.now) ++ flat_map item_line (entries t.items)) c.table.ensures.value) _ _ c.in_ok-show_items.ensures.ok c.in_err-write_page.ensures.err)
+    λ whole. err_as _ c.from_residual-in_err-write_page.result stop.Write c.from_residual-in_err-write_page.ensures.1 (λ v. end_cut v show.Routes _ _ _ _ _ _ _ c.in_ok-put_serial.ensures
+    (ap (λ (t : TableValue). (string_bytes c.args.page.now ++ serial_line c.args.core.now) ++ flat_map item_line (entries t.items)) c.table.ensures.value)
+    stop.Write (append_whole _ _ whole (serial_whole c.args.core.now)) _ _ c.in_ok-show_items.ensures.ok c.in_err-write_page.ensures.err)
 
 pub returns-clause-ok : goal.returns-clause-ok
 returns-clause-ok g c =

@@ -10,7 +10,7 @@ use Rattle.area_trees.specs.Areas.{AreaTreeValue}
 use Rattle.intra.specs.Intras.{IsIntraOf}
 use Rattle.summaries.specs.Active.{AreRangesOf, EntriesDifferAmong}
 use Rattle.summaries.specs.Right.{AreConfigured}
-use Rattle.event_state.specs.States.{inputs_of}
+use Rattle.event_state.specs.States.{AreApart, inputs_of}
 use Rattle.calculation.specs.Calculations.{CalculationValue, AreItemsKept}
 use Rattle.state_trees.specs.Trees.{AreTreesOf, inputs_with}
 use Rattle.calculation.specs.Due.{RoutesDifferAmong}
@@ -18,6 +18,9 @@ use Rattle.calculation.specs.Followed.{AreLayersBehind, routers_in}
 use Rattle.route_layers.proofs.Above.{configured}
 use Rattle.calculation.proofs.Following.{ranges_before, inter_before, external_before, items_kept, routes_kept}
 use Rattle.calculation.proofs.calculation.Calculation.follow_layers.Goals as goal
+
+pub follow_intra-requires-clause-apart : goal.follow_intra-requires-clause-apart
+follow_intra-requires-clause-apart c = subst (λ (k : Config). AreApart k.areas) (sym c.requires.before.3.config) c.requires.before.2.fit.apart
 
 pub update-requires : goal.update-requires
 update-requires c =

@@ -1,4 +1,4 @@
-use Rattle.std.proofs.Common.{ap, ◌∙◌}
+use Rattle.std.proofs.Common.{ap, ◌∙◌, rules}
 use Rattle.publication.specs.Lines.{Line}
 use Rattle.engine.proofs.Keeping.{opened_right, none_named}
 use Rattle.engine.proofs.desk.Desk.open.Goals as goal
@@ -8,3 +8,6 @@ new-requires-clause-rule g c =
     let face = c.in_ok-first.ensures ∙ (λ i. record { table = c.table.ensures.value i; front = c.front.result; config = c.config.ensures.value i }) in
     let first = ap (λ (l : Line). l.list) c.front.ensures ∙ c.open-author.ensures in
     (opened_right c.args.core c.front.result c.in_ok-first.first c.table.ensures.kept c.requires.limits c.requires.journal first face, none_named _)
+
+pub invariant_of-result : goal.invariant_of-result
+invariant_of-result g c = rw c.show-writer.ensures.author (search rules)

@@ -1,4 +1,5 @@
 use Rattle.std.proofs.Common.{◌≡◌, length, ap, ◌∙◌, subst, arith, [], ◌∷◌, sym}
+use mathlib.Core.List.{IsPrefix}
 use Rattle.event_state.specs.declared.limits.Limits.{Limits}
 use Rattle.event_state.specs.Refusals.{IsRefusalOf}
 use Rattle.event_state.specs.States.{State}
@@ -7,12 +8,13 @@ use Rattle.event_core.specs.Cores.{CoreValue, Stands, NamesChanges}
 use Rattle.event_core.specs.declared.reply.Standing.{Standing}
 use Rattle.event_core.specs.declared.reply.Standing.TheVariants.{Current}
 use Rattle.publication.specs.Names.{Name}
+use Rattle.publication.proofs.Prefixes.{prefix_self}
 use Rattle.engine.specs.Answers.{Answers}
 use Rattle.engine.specs.Desks.{Held}
 use Rattle.engine.proofs.Following.{follows}
 use Rattle.engine.proofs.Keeping.{core_kept}
 use Rattle.engine.proofs.Runs.{legal_core}
-use Rattle.engine.proofs.Replying.{answers, replied, tells_beside, taken_whole}
+use Rattle.engine.proofs.Replying.{answers, replied, tells_beside, taken_whole, told_whole}
 use Rattle.engine.proofs.desk.Desk.submit.Goals as goal
 
 pub returns-in-Ok-clause-answer : goal.returns-in-Ok-clause-answer
@@ -27,7 +29,7 @@ returns-in-Ok-clause-answer g c =
     let replies = replied core c.apply.new.self event c.in-Ok.reply c.answer.result.reply c.self.invariant.0 kept.limits taken same.0 same.1 in
     subst (λ (n : Name). Answers n event c.answer.result) (ap (λ (h : Held). h.name) c.self.view_is)
     (answers name core.journal event c.answer.result c.told-told.result c.publish-desk.result c.in-Ok.reply.serial same.0 replies same.2 c.answer.ensures.state
-    (p.0 ∙ (λ i. record { book = c.self.inside.author.book; config = taken.config i })) (p.1 ∙ taken.joins) c.told-told.ensures.some)
+    (p.same.0 ∙ (λ i. record { book = c.self.inside.author.book; config = taken.config i })) (p.same.1 ∙ taken.joins) c.told-told.ensures.some)
 
 pub returns-in-Err-clause-answer : goal.returns-in-Err-clause-answer
 returns-in-Err-clause-answer g c =
@@ -51,6 +53,19 @@ returns-in-Err-clause-answer g c =
           told.ensures.none
           told.ensures.some,
     )
+
+pub returns-in-Err-clause-told : goal.returns-in-Err-clause-told
+returns-in-Err-clause-told g c =
+    let told = c.told-told-in-Err in
+    told_whole _ told.result _ c.apply.new.self.journal c.self.inside.writer.desk.shown.value.front.list (ap length c.journal.ensures.value) told.ensures.none told.ensures.some told.ensures.published
+
+pub returns-in-Ok-clause-grows : goal.returns-in-Ok-clause-grows
+returns-in-Ok-clause-grows g c = subst (λ (h : Held). IsPrefix h.published c.publish-desk.result.published) c.self.view_is c.publish-desk.ensures.grows
+
+pub returns-in-Err-clause-grows : goal.returns-in-Err-clause-grows
+returns-in-Err-clause-grows g c =
+    let shown = c.self.inside.writer.desk.shown.value.front.list in
+    subst (λ (h : Held). IsPrefix h.published shown) c.self.view_is (prefix_self shown)
 
 pub publish-desk-requires-clause-follows : goal.publish-desk-requires-clause-follows
 publish-desk-requires-clause-follows g c alone =

@@ -1,8 +1,9 @@
-use Rattle.std.proofs.Common.{length, ap, subst, sym, refl, ◌∙◌}
+use Rattle.std.proofs.Common.{◌≡◌, length, ap, subst, sym, refl, ◌∙◌}
 use Rattle.std.specs.Prelude.{Result}
 use Rattle.std.proofs.lemmas.Result.{on_ok_weaker, on_err_weaker}
 use Rattle.ospf_types.specs.declared.memory.Memory.{Memory}
-use Rattle.event_state.specs.States.{State}
+use Rattle.ospf_types.specs.declared.config.Config.{Config}
+use Rattle.event_state.specs.States.{State, AreApart}
 use Rattle.calculation.specs.Trees.{StatesDifferAmong}
 use Rattle.event_core.specs.declared.core_state.Core.TheInside.{Inside}
 use Rattle.event_core.specs.declared.reply.Reply.{Reply}
@@ -10,7 +11,8 @@ use Rattle.event_core.specs.declared.reply.Standing.{Standing}
 use Rattle.event_core.specs.declared.reply.Standing.TheVariants.{Current, Behind}
 use Rattle.event_core.specs.Cores.{CoreValue, IsTaken, HasBoundedWork, NamesChanges}
 use Rattle.event_core.specs.Kept.{IsCoherent, core_of}
-use Rattle.event_core.proofs.Runs.{IsSettled, IsOutcome, coherent_ok, coherent_err, taken_ok, taken_err, bounded_ok, bounded_err, named_ok, named_err}
+use Rattle.event_core.proofs.Configs.{sound_apart}
+use Rattle.event_core.proofs.Runs.{step_setting, IsSettled, IsOutcome, coherent_ok, coherent_err, taken_ok, taken_err, bounded_ok, bounded_err, named_ok, named_err}
 use Rattle.event_core.proofs.core_state.Core.apply.Goals as goal
 use Rattle.event_core.proofs.core_state.Core.apply.Goals.{then-is_current, else-is_current, in-Ok, in-Err, Joined-is_current}
 
@@ -20,7 +22,13 @@ settle-settled-requires-clause-before c =
     let told = c.in_ok-serial.ensures in
     let named = c.in_ok-named.named in
     let differ = subst (λ (u : State). StatesDifferAmong named.keys.items named.interfaces.items s u) (sym told.taken) c.in_ok-named.ensures.named in
-    (s, c.journal.ensures.fit, c.self.invariant.fresh (c.if-is_current.true ∙ ap length c.journal.ensures.value), differ, told.changed.0)
+    (s, c.journal.ensures.fit (sound_apart s.config c.self.invariant.core.sound), c.self.invariant.fresh (c.if-is_current.true ∙ ap length c.journal.ensures.value), differ, told.changed.0)
+
+pub start_anew-settled-requires-clause-apart : goal.start_anew-settled-requires-clause-apart
+start_anew-settled-requires-clause-apart c =
+    let s = c.self.inside.state in
+    let same : c.step.new.self.config ≡ s.config = ap (λ (u : State). u.config) c.in_ok-serial.ensures.taken ∙ (step_setting s c.args.event).config in
+    subst (λ (k : Config). AreApart k.areas) (sym same) (sound_apart s.config c.self.invariant.core.sound)
 
 outcome : (c : Joined-is_current) → IsOutcome c.self.inside.state c.step.new.self c.self.inside.routes c.self.inside.built c.if-is_current.settled c.if-is_current.self-inside.state c.if-is_current.self-inside.routes c.if-is_current.self-inside.built
 outcome c =
@@ -38,7 +46,7 @@ outcome c =
           let settled : IsSettled s u i.routes i.built result w.settle-settled.new.self = record {
             right = did.right;
             fit = did.fit;
-            bounded = on_ok_weaker result (λ bounded. λ all. bounded s c.journal.ensures.fit (c.self.invariant.fresh all) differ told.changed.0) did.bounded;
+            bounded = on_ok_weaker result (λ bounded. λ all. bounded s (c.journal.ensures.fit (sound_apart s.config c.self.invariant.core.sound)) (c.self.invariant.fresh all) differ told.changed.0) did.bounded;
             exact = on_ok_weaker result (λ exact. λ all. exact) did.exact;
             anew = on_ok_weaker result (λ right. λ behind. absurd (behind (w.if-is_current.true ∙ serial))) did.right;
             unnamed = on_ok_weaker result (λ right. λ behind. absurd (behind (w.if-is_current.true ∙ serial))) did.right;

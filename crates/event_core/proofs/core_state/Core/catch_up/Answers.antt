@@ -1,6 +1,10 @@
 use Rattle.std.proofs.Common.{ap, length}
+use Rattle.event_core.proofs.Configs.{sound_apart}
 use Rattle.event_core.proofs.Runs.{kept_current, stands_current}
 use Rattle.event_core.proofs.core_state.Core.catch_up.Goals as goal
+
+pub rebuild-requires-clause-apart : goal.rebuild-requires-clause-apart
+rebuild-requires-clause-apart c = sound_apart c.self.inside.state.config c.self.invariant.core.sound
 
 pub invariant_of-self : goal.invariant_of-self
 invariant_of-self c =

@@ -1,10 +1,12 @@
+use Rattle.std.proofs.Common.{sym, subst}
+use Rattle.event_state.specs.States.{State, AreApart}
 use Rattle.event_core.specs.Kept.{IsCoherent}
 use Rattle.event_core.proofs.Configs.{sound_apart}
 use Rattle.event_core.proofs.Runs.{kept_open}
 use Rattle.event_core.proofs.core_state.Core.open_sound.Goals as goal
 
-pub within-requires : goal.within-requires
-within-requires c = sound_apart c.args.config c.requires.sound
+pub build-requires-clause-apart : goal.build-requires-clause-apart
+build-requires-clause-apart c = subst (λ (s : State). AreApart s.config.areas) (sym c.in_ok-state.ensures) (sound_apart c.args.config c.requires.sound)
 
 kept : (c : goal.In_ok-routes) → IsCoherent c.in_ok-state.state c.in_ok-routes.routes 0
 kept c =

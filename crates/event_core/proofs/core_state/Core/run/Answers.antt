@@ -6,6 +6,7 @@ use Rattle.event_state.specs.declared.event.Event.{Event}
 use Rattle.event_core.specs.declared.reply.Reply.{Reply}
 use Rattle.event_state.specs.declared.refusal.Refusal.{Refusal}
 use Rattle.event_core.specs.Cores.{Runs}
+use Rattle.event_core.proofs.Runs.{tells}
 use Rattle.event_core.proofs.core_state.Core.run.Goals as goal
 
 pub loop-event-preserved : goal.loop-event-preserved
@@ -14,9 +15,10 @@ loop-event-preserved c =
     let steps = c.in-Some.ensures.steps.0 in
     let answer = c.apply.result in
     let pushed = c.in-Ok.ensures in
+    let told = tells turn.self c.in-Some.event answer c.apply.new.self c.apply.ensures.applied c.apply.ensures.changes c.apply.ensures.work in
     record {
       rest = λ replies new h.
-          let whole : Runs turn.self (into_iter_items turn.event-iterator) (answer ∷ replies) new = subst (λ (events : List Event). Runs turn.self events (answer ∷ replies) new) (sym steps) (c.apply.new.self, c.apply.ensures.applied, h) in
+          let whole : Runs turn.self (into_iter_items turn.event-iterator) (answer ∷ replies) new = subst (λ (events : List Event). Runs turn.self events (answer ∷ replies) new) (sym steps) (c.apply.new.self, c.apply.ensures.applied, told, h) in
           subst (λ (rs : List (Result Reply Refusal)). Runs c.args.self.now c.args.events.items rs new)
           (sym (ap (λ (rs : List (Result Reply Refusal)). rs ++ replies) pushed.items ∙ append_assoc turn.replies.items (answer ∷ []) replies)) (turn.invariant.rest (answer ∷ replies) new whole);
       room = omega (arith, pushed.capacity);

@@ -36,7 +36,7 @@ pub returns-clause-changed : goal.returns-clause-changed
 returns-clause-changed c =
     let i = c.self.inside in
     let told : (c.age_all.result ≡ false) ↔ All (λ (d : DatabaseValue). NoneComes d.lsas) i.databases.items = rw c.as_mut_slice.ensures.value at c.age_all.ensures.changed in
-    let looks = looks_later (the_view i) c.self.invariant.fit in
+    let looks = looks_later (the_view i) c.self.invariant.kept in
     let none = none_in i.databases.items in
     subst (λ (s : State). (c.age_all.result ≡ false) ↔ LooksAlike s (changed_by s event.Second)) c.self.view_is
     (λ e. looks.0 (none.0 (told.0 e)), λ t. told.1 (none.1 (looks.1 t)))

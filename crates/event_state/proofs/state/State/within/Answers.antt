@@ -8,7 +8,7 @@ use Rattle.event_state.proofs.state.State.within.Goals as goal
 
 pub invariant_of-result : goal.invariant_of-result
 invariant_of-result c =
-    held_new c.args.config c.args.limits c.in_ok-databases.databases.items c.requires (c.in_ok-databases.ensures ∙ ap (λ (areas : List AreaConfig). empty_values areas c.args.limits) c.as_slice.ensures)
+    held_new c.args.config c.args.limits c.in_ok-databases.databases.items (c.in_ok-databases.ensures ∙ ap (λ (areas : List AreaConfig). empty_values areas c.args.limits) c.as_slice.ensures)
 
 pub returns : goal.returns
 returns c =

@@ -11,7 +11,7 @@ use Rattle.intra.proofs.area.AreaIntra.name_prefixes.Goals as goal
 pub returns : goal.returns
 returns c =
     let here : c.offers.result.now ≡ offers_of (get c.args.self.now.index.offered c.args.vertex) =
-    c.offers.ensures ∙ ap offers_of (c.in-Some.ensures ∙ ap (λ (a : AreaIntraValue). get a.index.offered c.args.vertex) c.self.view_is) in
+    c.offers.ensures.value ∙ ap offers_of (c.in-Some.ensures ∙ ap (λ (a : AreaIntraValue). get a.index.offered c.args.vertex) c.self.view_is) in
     record {
       kept = c.in_ok-push_prefixes.ensures.kept;
       offered = λ v e p metric d.

@@ -1,6 +1,17 @@
-use Rattle.std.proofs.Common.{◌∙◌}
+use Rattle.std.proofs.Common.{◌∙◌, inl, inr}
+use Rattle.intra.proofs.KeptSources.{not_before}
 use Rattle.intra.proofs.IndexSteps.{come_more, come_end, named_more}
 use Rattle.intra.proofs.area_index.AreaIndex.add_sources.Goals as goal
+
+-- the vertex offers none of the offers that are left
+pub add_source-requires : goal.add_source-requires
+add_source-requires c = λ there.
+    let offer = c.offer-item.result in
+    let os = c.args.offers.now in
+    elim ((c.loop-offer.invariant.1 c.args.vertex offer.prefix offer.metric).0 there) [
+      | inl was ↦ c.requires.absent offer.prefix offer.metric was
+      | inr before ↦ not_before os c.requires.each_once c.loop-offer.offer-index offer c.loop-offer-test.true c.offer-item.is before.1
+    ]
 
 pub loop-offer-preserved : goal.loop-offer-preserved
 loop-offer-preserved c =

@@ -21,7 +21,7 @@ returns-in_ok-remove_sources-in-Some-clause-index c =
     let there : Some c.in-Some.gone ≡ get c.args.self.now.offered v =
     c.in-Some.ensures.value ∙ looked_up vertex_total vertex_exact vertices_order c.self.inside.offered.entries v ∙ ap (λ (i : IndexValue). get i.offered v) c.self.view_is in
     taken_out c.args.self.now c.remove_sources.new.self v c.in-Some.gone.offers (ap offers_of there) c.requires (returns-in_ok-remove_sources-in-Some-clause-offered c)
-    (gone_kept v c.offers.result.now c.in-Some.gone.offers c.offers.ensures c.args.self.now mid c.remove_sources.new.self (ap (λ (i : IndexValue). i.sources) c.self.view_is) c.in_ok-remove_sources-in-Some.ensures.gone)
+    (gone_kept v c.offers.result.now c.in-Some.gone.offers c.offers.ensures.value c.args.self.now mid c.remove_sources.new.self (ap (λ (i : IndexValue). i.sources) c.self.view_is) c.in_ok-remove_sources-in-Some.ensures.gone)
 
 pub returns-in_ok-remove_sources-in-Some-clause-touched : goal.returns-in_ok-remove_sources-in-Some-clause-touched
 returns-in_ok-remove_sources-in-Some-clause-touched c =

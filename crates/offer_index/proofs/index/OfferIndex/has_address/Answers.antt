@@ -1,22 +1,24 @@
-use Rattle.std.proofs.Common.{List, subst, sym, true, false, ◌≡◌, ◌∙◌}
+use Rattle.std.proofs.Common.{◌≡◌, true, false, List, refl, sym, subst}
 use Rattle.std.specs.Prelude.{Contains}
+use Rattle.ospf_types.proofs.Elements.{no_element, first_element}
 use Rattle.offer_index.specs.declared.group.Group.TheVariants.{Forwarded}
-use Rattle.offer_index.proofs.Groups.{Member, not_after_itself}
-use Rattle.offer_index.proofs.Gathering.{listed_there, still_ahead, none_ahead}
+use Rattle.offer_index.proofs.Groups.{Member, not_after_itself, neither_after}
+use Rattle.offer_index.proofs.Gathering.{listed_there, listed_of}
 use Rattle.offer_index.proofs.index.OfferIndex.has_address.Goals as goal
 
-pub loop-key-init : goal.loop-key-init
-loop-key-init c = λ k in_group.
+pub returns-in-Some : goal.returns-in-Some
+returns-in-Some c =
     let group = Forwarded c.args.address in
-    let listed = listed_there _ c.self.inside.members c.args.self.now c.self.view_is c.self.invariant group k in_group in
-    subst (λ (ms : List Member). Contains ms (group, k)) (sym c.into_iter-key-iterator.ensures.into_iter_gives) (c.among-key-items.ensures (group, k) listed (not_after_itself group) (not_after_itself group))
+    let m : Member = c.in-Some.field-0.now in
+    let found = c.among.ensures.only m (subst (λ (ms : List Member). Contains ms m) (sym c.in-Some.ensures.steps) (first_element m c.next.new.self)) in
+    let in_group = listed_of _ c.self.inside.members c.args.self.now c.self.view_is c.self.invariant group m (neither_after group m.0 found.1 found.2) found.0 in
+    (λ _. (m.1, in_group), λ _. refl)
 
-pub loop-key-preserved : goal.loop-key-preserved
-loop-key-preserved c =
-    still_ahead c.args.self.now (Forwarded c.args.address) c.loop-key.key-iterator c.next.new.self c.in-Some.field-0.now c.in-Some.ensures.steps (λ in_group. let wrong : true ≡ false = sym (c.has.ensures.1 in_group) ∙ c.if-has.false in cc) c.loop-key.invariant
-
-pub returns : goal.returns
-returns c = (
-  λ wrong. absurd (let e : false ≡ true = wrong in cc),
-  λ forwarded. absurd (none_ahead c.args.self.now (Forwarded c.args.address) c.loop-key.key-iterator c.in-None.ensures.steps.0 c.loop-key.invariant forwarded.0 forwarded.1),
-)
+pub returns-in-None : goal.returns-in-None
+returns-in-None c =
+    let group = Forwarded c.args.address in (
+      λ wrong. absurd (let e : false ≡ true = wrong in cc),
+      λ forwarded.
+          let listed = listed_there _ c.self.inside.members c.args.self.now c.self.view_is c.self.invariant group forwarded.0 forwarded.1 in
+          absurd (no_element (group, forwarded.0) (subst (λ (ms : List Member). Contains ms (group, forwarded.0)) c.in-None.ensures.steps.0 (c.among.ensures.all (group, forwarded.0) listed (not_after_itself group) (not_after_itself group)))),
+    )

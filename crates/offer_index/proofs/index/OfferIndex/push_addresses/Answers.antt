@@ -18,7 +18,7 @@ returns c =
     let listed = listed_there _ c.self.inside.members i c.self.view_is c.self.invariant (Forwarded a) k in_group in
     let bounds = c.last_address.ensures.within a inside in
     subst (λ (ms : List Member). Contains ms (Forwarded a, k)) (sym c.into_iter-key-iterator.ensures.into_iter_gives)
-    (c.among-key-items.ensures (Forwarded a, k) listed (not_after c.address.result a (omega (arith, bounds.0, c.address.ensures.value))) (not_after a c.last_address.result bounds.1)) in
+    (c.among-key-items.ensures.all (Forwarded a, k) listed (not_after c.address.result a (omega (arith, bounds.0, c.address.ensures.value))) (not_after a c.last_address.result bounds.1)) in
     addresses_given i network all there c.args.addresses.now.items c.loop-key.addresses.items c.loop-key.key-iterator c.in-None.ensures.steps.0 c.loop-key.invariant
 
 pub loop-key-preserved : goal.loop-key-preserved

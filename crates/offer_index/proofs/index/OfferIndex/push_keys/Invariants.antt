@@ -1,5 +1,6 @@
-use Rattle.offer_index.proofs.Gathering.{AreGathered, GivesKey}
+use Rattle.std.proofs.Common.{◌≡◌, ◌++◌, map}
+use Rattle.offer_index.proofs.Groups.{Member}
 use Rattle.offer_index.proofs.index.OfferIndex.push_keys.Given as goal
 
 abbrev pub invariant-loop-key : goal.invariant-loop-key
-invariant-loop-key l = AreGathered (GivesKey l.self l.group) l.initial.keys.items l.keys.items l.initial.key-iterator l.key-iterator
+invariant-loop-key l = l.keys.items ++ map (λ (m : Member). m.1) l.key-iterator ≡ l.initial.keys.items ++ map (λ (m : Member). m.1) l.initial.key-iterator

@@ -1,19 +1,29 @@
-use Rattle.std.proofs.Common.{◌≤◌, ap, subst, arith, length, List}
+use Rattle.std.proofs.Common.{◌≡◌, ◌≤◌, ap, subst, sym, arith, length, List, ◌∙◌}
 use mathlib.Core.List.{IsPrefix}
-use Rattle.event_state.specs.declared.event.Event.{Event}
-use Rattle.publication.proofs.Prefixes.{prefix_shorter}
+use Rattle.publication.specs.declared.history.Page.{Page}
+use Rattle.publication.specs.Lines.{Line}
+use Rattle.publication.specs.Law.{key_in, written}
+use Rattle.publication.proofs.Written.{shorter_begins}
 use Rattle.publication.proofs.history.Front.longer.Goals as goal
 
 pub returns-then-self-other-clause-this : goal.returns-then-self-other-clause-this
 returns-then-self-other-clause-this c =
+    let mine = c.self.inside in
+    let theirs = c.other.inside in
     let both = c.learn.new.self.log in
-    let this : IsPrefix c.self.inside.seen.log both = subst (λ (l : List Event). IsPrefix l both) (ap (λ s. s.log) c.again-both.ensures) c.learn.ensures.2 in
-    let less : length c.self.inside.seen.log ≤ length c.other.inside.seen.log = omega (arith, c.self.invariant, c.other.invariant) in
-    rw (ap (λ l. l.list) c.again.ensures, ← ap (λ l. l.list) c.self.view_is, ← ap (λ l. l.list) c.other.view_is) (prefix_shorter c.self.inside.seen.log c.other.inside.seen.log both this c.learn.ensures.3 less)
+    let this : IsPrefix mine.log.log both = subst (λ (l : List Page). IsPrefix l both) (ap (λ s. s.log) c.again-both.ensures) c.learn.ensures.2 in
+    rw (c.again.ensures, ← c.self.view_is, ← c.other.view_is)
+    (shorter_begins (key_in mine.first.log) (key_in theirs.first.log) mine.log.log theirs.log.log both
+    (ap (λ (l : Line). l.book.first) c.self.view_is ∙ ap (λ h. h.first) (sym c.requires) ∙ sym (ap (λ (l : Line). l.book.first) c.other.view_is))
+    this c.learn.ensures.3 (omega (arith, c.self.invariant, c.other.invariant)))
 
 pub returns-clause-that : goal.returns-clause-that
 returns-clause-that c =
+    let mine = c.self.inside in
+    let theirs = c.other.inside in
     let both = c.learn.new.self.log in
-    let this : IsPrefix c.self.inside.seen.log both = subst (λ (l : List Event). IsPrefix l both) (ap (λ s. s.log) c.again-both.ensures) c.learn.ensures.2 in
-    let less : length c.other.inside.seen.log ≤ length c.self.inside.seen.log = omega (arith, c.self.invariant, c.other.invariant) in
-    rw (ap (λ l. l.list) c.again-else-self-other.ensures, ← ap (λ l. l.list) c.self.view_is, ← ap (λ l. l.list) c.other.view_is) (prefix_shorter c.other.inside.seen.log c.self.inside.seen.log both c.learn.ensures.3 this less)
+    let this : IsPrefix mine.log.log both = subst (λ (l : List Page). IsPrefix l both) (ap (λ s. s.log) c.again-both.ensures) c.learn.ensures.2 in
+    rw (c.again-else-self-other.ensures, ← c.self.view_is, ← c.other.view_is)
+    (shorter_begins (key_in theirs.first.log) (key_in mine.first.log) theirs.log.log mine.log.log both
+    (ap (λ (l : Line). l.book.first) c.other.view_is ∙ ap (λ h. h.first) c.requires ∙ sym (ap (λ (l : Line). l.book.first) c.self.view_is))
+    c.learn.ensures.3 this (omega (arith, c.self.invariant, c.other.invariant)))

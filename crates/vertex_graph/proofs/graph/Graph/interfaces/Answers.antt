@@ -34,4 +34,4 @@ returns-clause-exact c =
     subst (λ (g : GraphValue). AreExact g (graph_of i.root c.change.new.rows.entries c.in_ok-ups.ups.items) gone came) c.self.view_is
     (ups_exact i.root i.rows.entries c.change.new.rows.entries i.interfaces.items c.in_ok-ups.ups.items c.deref.result.now c.deref-2.result.now staging.staging.ends.entries staging.staging.touched.keys
     c.self.invariant c.deref.ensures.value c.deref-2.ensures.value staging.ensures.ends staging.ensures.root staging.ensures.neighbours c.in_ok-changes.ensures.changed
-    gone came c.in_ok-changes.ensures.gone c.in_ok-changes.ensures.came)
+    gone came c.in_ok-changes.ensures.gone c.in_ok-changes.ensures.came c.in_ok-changes.ensures.gone_once c.in_ok-changes.ensures.came_once)

@@ -3,7 +3,7 @@ use Rattle.std.specs.Prelude.{option_map}
 use Rattle.graph_links.specs.declared.link.Link.{Link}
 use Rattle.graph_links.specs.declared.row.Row.{Row}
 use Rattle.vertex_graph.specs.Graphs.{GraphValue, AreLinksFrom}
-use Rattle.graph_links.specs.Pairs.{AreCheap}
+use Rattle.graph_links.specs.Pairs.{AreApart, AreCheap}
 use Rattle.vertex_graph.specs.Rows.{graph_of}
 use Rattle.graph_links.proofs.VertexTests.{found}
 use Rattle.vertex_graph.proofs.Changed.{get_graph, no_links_from}
@@ -20,6 +20,11 @@ pub returns-in-Some-clause-cheap : goal.returns-in-Some-clause-cheap
 returns-in-Some-clause-cheap c =
     let is = c.self.invariant.right c.args.vertex c.in-Some.row.now (sym (c.in-Some.ensures.value ∙ found c.args.vertex c.self.inside.rows.entries)) in
     subst AreCheap (sym c.deref.ensures.value) is.out_cheap
+
+pub returns-in-Some-clause-each_once : goal.returns-in-Some-clause-each_once
+returns-in-Some-clause-each_once c =
+    let is = c.self.invariant.right c.args.vertex c.in-Some.row.now (sym (c.in-Some.ensures.value ∙ found c.args.vertex c.self.inside.rows.entries)) in
+    subst AreApart (sym c.deref.ensures.value) is.out_once
 
 pub returns-in-None-clause-exact : goal.returns-in-None-clause-exact
 returns-in-None-clause-exact c =

@@ -38,4 +38,4 @@ returns-clause-exact c =
     subst (λ (g : GraphValue). AreExact g (graph_of i.root c.change.new.rows.entries i.interfaces.items) gone came) c.self.view_is
     (ends_exact i.root i.rows.entries c.change.new.rows.entries i.interfaces.items c.deref.result.now staging.staging.ends.entries staging.staging.touched.keys handed
     c.self.invariant c.deref.ensures.value staging.ensures.handed staging.ensures.touched c.in_ok-changes.ensures.changed (subst (λ (g : GraphValue). AreFewAfter g handed) (sym c.self.view_is) c.requires.few)
-    gone came c.in_ok-changes.ensures.gone c.in_ok-changes.ensures.came)
+    gone came c.in_ok-changes.ensures.gone c.in_ok-changes.ensures.came c.in_ok-changes.ensures.gone_once c.in_ok-changes.ensures.came_once)

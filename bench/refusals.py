@@ -1,0 +1,42 @@
+"""Runs a program many times, and refuses it one growth of memory in each run: the first, the second, and so on."""
+
+import os
+import subprocess
+import sys
+
+BENCH = os.path.dirname(os.path.abspath(__file__))
+TOP = os.path.dirname(BENCH)
+# A run of these programs takes milliseconds.
+SECONDS = 60
+
+
+def library(folder):
+    """The library that refuses, compiled into the folder."""
+    name = os.path.join(folder, "refuse.so")
+    words = ["cc", "-O2", "-shared", "-fPIC", "-o", name, os.path.join(BENCH, "refuse.c"), "-ldl"]
+    try:
+        subprocess.run(words, check=True)
+    except (OSError, subprocess.CalledProcessError) as error:
+        sys.exit(f"refuse.c was not compiled: {error}")
+    return name
+
+
+def run(words, folder, number=0):
+    """The status, the output and the fault lines of a run whose growth of this number is refused, and its count of growths."""
+    counted = os.path.join(folder, "counted")
+    more = {"LD_PRELOAD": os.path.join(folder, "refuse.so"), "REFUSED": str(number), "COUNTED": counted}
+    done = subprocess.run(words, capture_output=True, timeout=SECONDS, env={**os.environ, **more}, check=False)
+    with open(counted, "rb") as file:
+        count = int.from_bytes(file.read(), sys.byteorder)
+    return done.returncode, done.stdout, done.stderr, count
+
+
+def each_refusal(words, folder):
+    """Each run that was refused a growth: its number, and what `run` gives of it. It ends with the last growth."""
+    number = 1
+    while True:
+        status, output, faults, count = run(words, folder, number)
+        if count < number:
+            return
+        yield number, status, output, faults
+        number += 1

@@ -1,0 +1,158 @@
+-- The ways of a router, sorted, of which each is kept once, and the links by them.
+use Rattle.std.proofs.Common.{◌≡◌, ℕ, ◌+◌, ◌<◌, ◌≤◌, ◌∷◌, length, get_or, take, append_assoc, Bool, List, [], ◌++◌, map, Option, Some, None, Ordering, refl, sym, ap, subst, ◌∙◌}
+use Rattle.std.specs.Prelude.{◌↔◌, ◌==◌, Contains}
+use Rattle.std.specs.List.{dedup}
+use Rattle.std.specs.List.Retain.{IsFiltered, DiffersFromLast}
+use Rattle.std.specs.List.Sorted.{IsSorted, IsStrictlySortedBy, IsPermutation}
+use Rattle.std.specs.Option.{option_cmp, option_eq}
+use Rattle.std.specs.Ordering.{nat_cmp, is_eq, ordering_then, eq_by_cmp}
+use Rattle.std.specs.Cmp.{IsTotalOrder, nat_cmp_total, both_tied, unsigned_ties, eq_by_cmp_equiv}
+use Rattle.std.specs.Cmp.Lexicographic.{options_total}
+use Rattle.std.proofs.lemmas.Cmp.{on_total, then_total}
+use Rattle.std.proofs.lemmas.List.{take_more, take_all, map-append}
+use Rattle.std.proofs.lemmas.List.Elements.{All-push}
+use Rattle.std.proofs.lemmas.List.Filters.{dedup_is}
+use Rattle.std.proofs.lemmas.List.Kept.{IsStrictlySortedBy-dedup, Contains-dedup, Contains-from_dedup}
+use Rattle.std.proofs.lemmas.List.Sorted.{Contains-permutation, IsPermutation-sym}
+use Rattle.std.proofs.lemmas.Map.Lookups.{CmpEqualImpliesEq, exact_pairs, exact_unsigned}
+use Rattle.std.proofs.lemmas.Map.Views.{tells_apart}
+use Rattle.ospf_types.specs.declared.entry.Vertex.{Vertex}
+use Rattle.ospf_types.specs.declared.entry.Vertex.TheVariants.{Router}
+use Rattle.ospf_types.specs.declared.label.Label.{Label}
+use Rattle.ospf_types.specs.declared.label.Label.TheVariants.{Over, At, Plain}
+use Rattle.ospf_types.proofs.Elements.{mapped_element, mapped_from}
+use Rattle.graph_links.specs.contracts.ways.WayOrd.TheImpl as way_order
+use Rattle.graph_links.specs.contracts.ways.WayPartialEq.TheImpl as way_equality
+use Rattle.graph_links.specs.declared.end.End.{End}
+use Rattle.graph_links.specs.declared.link.Link.{Link}
+use Rattle.graph_links.specs.declared.link.Up.{Up}
+use Rattle.graph_links.specs.declared.ways.Way.{Way}
+use Rattle.graph_links.specs.Pairs.{Adds, AreApart, AreCheap, IsOutLabel, KeepsApart, Names, label_over, link_by}
+use Rattle.graph_links.proofs.Adding.{AreWays, adds_list}
+use Rattle.graph_links.proofs.Apart.{Apart, apart_append, apart_mapped, apart_strict}
+use Rattle.graph_links.proofs.Pairing.{IsFromTo}
+
+-- ---- the order of ways
+
+abbrev way_cmp : Way → Way → Ordering
+way_cmp a b = ordering_then (nat_cmp a.cost b.cost) (option_cmp nat_cmp a.interface b.interface)
+
+way_cmp_is : way_order.ghosts.cmp ≡ way_cmp
+way_cmp_is = refl
+
+way_total : IsTotalOrder way_cmp
+way_total = then_total (on_total (λ w. w.cost) nat_cmp_total) (on_total (λ w. w.interface) (options_total nat_cmp_total))
+
+exact_options : CmpEqualImpliesEq (option_cmp nat_cmp)
+exact_options None None h = refl
+exact_options None (Some b) h = absurd cc
+exact_options (Some a) None h = absurd cc
+exact_options (Some a) (Some b) h = ap Some (exact_unsigned a b h)
+
+way_exact : CmpEqualImpliesEq way_cmp
+way_exact a b h =
+    ap (λ (p : ℕ × Option ℕ). let w : Way = record { cost = p.0; interface = p.1 } in w)
+    (exact_pairs nat_cmp (option_cmp nat_cmp) exact_unsigned exact_options (a.cost, a.interface) (b.cost, b.interface) h)
+
+options_tied : (a b : Option ℕ) → option_eq (λ x y. x == y) a b ≡ is_eq (option_cmp nat_cmp a b)
+options_tied None None = refl
+options_tied None (Some b) = refl
+options_tied (Some a) None = refl
+options_tied (Some a) (Some b) = unsigned_ties a b
+
+way_tied : (a b : Way) → (way_equality.eq-value).it a b ≡ eq_by_cmp way_cmp a b
+way_tied a b =
+    both_tied (a.cost == b.cost) (option_eq (λ x y. x == y) a.interface b.interface) (nat_cmp a.cost b.cost) (option_cmp nat_cmp a.interface b.interface)
+    (unsigned_ties a.cost b.cost) (options_tied a.interface b.interface)
+
+way_tied_is : (way_equality.eq-value).it ≡ eq_by_cmp way_cmp
+way_tied_is i a b = way_tied a b i
+
+module _ (all sorted kept : List Way) (moved : IsPermutation all sorted) (in_order : IsSorted way_order.ghosts.cmp sorted) (filtered : IsFiltered (DiffersFromLast (way_equality.eq-value).it) [] sorted kept) where
+  kept_is : kept ≡ dedup (eq_by_cmp way_cmp) sorted
+  kept_is = dedup_is (way_equality.eq-value).it sorted kept filtered ∙ ap (λ (same : Way → Way → Bool). dedup same sorted) way_tied_is
+
+  -- each is kept once
+  pub ways_once : Apart kept
+  ways_once = apart_strict way_total kept (subst (IsStrictlySortedBy way_cmp) (sym kept_is) (IsStrictlySortedBy-dedup way_total (λ v w. refl) sorted (subst (λ (c : Way → Way → Ordering). IsSorted c sorted) way_cmp_is in_order)))
+
+  same_ways : (w : Way) → Contains kept w ↔ Contains all w
+  same_ways w = (
+    λ c. Contains-permutation sorted all w (IsPermutation-sym all sorted moved) (Contains-from_dedup (eq_by_cmp way_cmp) sorted w (subst (λ (ws : List Way). Contains ws w) kept_is c)),
+    λ c. subst (λ (ws : List Way). Contains ws w) (sym kept_is) (Contains-dedup (eq_by_cmp_equiv way_total) (tells_apart way_exact) sorted w (Contains-permutation all sorted w moved c)),
+  )
+
+  -- and they are the ways that there were
+  pub ways_kept : (root router : ℕ) (ups : List Up) (ends : List End) → AreWays root ups router ends all → AreWays root ups router ends kept
+  ways_kept root router ups ends are w = (λ c. (are w).0 ((same_ways w).0 c), λ h. (same_ways w).1 ((are w).1 h))
+
+-- ---- the links by ways
+
+abbrev interface_of : Label → Option ℕ
+interface_of (Over id) = Some id
+interface_of (At addresses) = None
+interface_of Plain = None
+
+interface_back : (o : Option ℕ) → interface_of (label_over o) ≡ o
+interface_back None = refl
+interface_back (Some id) = refl
+
+label_back : (root router detail : ℕ) (ups : List Up) (label : Label) → IsOutLabel root ups router detail label → label_over (interface_of label) ≡ label
+label_back root router detail ups (Over id) is = refl
+label_back root router detail ups (At addresses) is = absurd is
+label_back root router detail ups Plain is = refl
+
+abbrev way_of : Link → Way
+way_of l = record { cost = l.cost; interface = interface_of l.label }
+
+way_back : (router : ℕ) (to : Vertex) (w : Way) → way_of (link_by router to w) ≡ w
+way_back router to w = λ i. record { cost = w.cost; interface = interface_back w.interface i }
+
+link_one : (router : ℕ) (to : Vertex) (v w : Way) → link_by router to v ≡ link_by router to w → v ≡ w
+link_one router to v w same = sym (way_back router to v) ∙ ap way_of same ∙ way_back router to w
+
+module _ (root router : ℕ) (ups : List Up) (to : Vertex) (ends back here : List End) (ways : List Way) (exact : (e : End) → Contains here e ↔ (Contains ends e × (e.to ≡ to))) (are : AreWays root ups router here ways) where
+  by_ways : Names back (Router router) → (l : Link) → Contains (map (link_by router to) ways) l ↔ IsFromTo root ups (Router router) ends to back l
+  by_ways named l = (
+    λ c.
+        let from = mapped_from (link_by router to) ways l c in
+        let over = (are from.0).0 from.1 in
+        let at = (exact over.0).0 over.1 in
+        subst (IsFromTo root ups (Router router) ends to back) from.2 (refl, refl, (over.0, at.0, at.1, over.2.0, over.2.1, over.2.2, named)),
+    λ h.
+        let label : label_over (interface_of l.label) ≡ l.label = label_back root router h.2.0.detail ups l.label h.2.5 in
+        let there : Contains ways (way_of l) = (are (way_of l)).1 (h.2.0, (exact h.2.0).1 (h.2.1, h.2.2), (h.2.3, h.2.4, subst (IsOutLabel root ups router h.2.0.detail) (sym label) h.2.5)) in
+        let same : link_by router to (way_of l) ≡ l = λ i. record { from = sym h.0 i; to = sym h.1 i; cost = l.cost; label = label i } in
+        subst (Contains (map (link_by router to) ways)) same (mapped_element (link_by router to) ways (way_of l) there),
+  )
+
+  module _ (from : Vertex) (old new : List Link) (is : from ≡ Router router) (pushed : new ≡ old ++ map (link_by router to) ways) where
+    -- the links of a router to a vertex that leads back are those by its ways there
+    pub adds_ways : Names back from → Adds old new (IsFromTo root ups from ends to back)
+    adds_ways named =
+        let links : (l : Link) → Contains (map (link_by router to) ways) l ↔ IsFromTo root ups from ends to back l =
+        subst (λ (v : Vertex). Names back v → (l : Link) → Contains (map (link_by router to) ways) l ↔ IsFromTo root ups v ends to back l) (sym is) by_ways named in
+        subst (λ (ls : List Link). Adds old ls (IsFromTo root ups from ends to back)) (sym pushed) (adds_list old (map (link_by router to) ways) (IsFromTo root ups from ends to back) links)
+
+    -- none of which is there twice
+    pub apart_ways : Apart ways → KeepsApart from to old new
+    apart_ways once apart none =
+        subst AreApart (sym pushed)
+        (apart_append old (map (link_by router to) ways) apart (apart_mapped (link_by router to) (link_one router to) ways once)
+        (λ l early late. let by = mapped_from (link_by router to) ways l late in none l early (sym (ap (λ (k : Link). k.from) by.2) ∙ sym is) (sym (ap (λ (k : Link). k.to) by.2))))
+
+-- the loop over ways, one on
+pub links_on : (router : ℕ) (to : Vertex) (ways : List Way) (i : ℕ) (d : Way) (old now new : List Link) (l : Link) → i < length ways
+    → now ≡ old ++ map (link_by router to) (take i ways) → new ≡ now ++ l ∷ [] → l ≡ link_by router to (get_or ways i d) → new ≡ old ++ map (link_by router to) (take (i + 1) ways)
+links_on router to ways i d old now new l lt before pushed is =
+    let f = link_by router to in
+    pushed ∙ (λ k. before k ++ is k ∷ []) ∙ append_assoc old (map f (take i ways)) (f (get_or ways i d) ∷ [])
+    ∙ ap (λ (ls : List Link). old ++ ls) (sym (map-append f (take i ways) (get_or ways i d ∷ [])) ∙ ap (λ (ws : List Way). map f ws) (sym (take_more ways i d lt)))
+
+-- and at its end
+pub links_all : (router : ℕ) (to : Vertex) (ways : List Way) (i : ℕ) (old now : List Link) → length ways ≤ i → now ≡ old ++ map (link_by router to) (take i ways) → now ≡ old ++ map (link_by router to) ways
+links_all router to ways i old now le before = before ∙ ap (λ (ws : List Way). old ++ map (link_by router to) ws) (take_all i ways le)
+
+-- a link more leaves metrics of 16 bits
+pub cheap_on : (now new : List Link) (l : Link) → new ≡ now ++ l ∷ [] → AreCheap now → l.cost < 65536 → AreCheap new
+cheap_on now new l pushed cheap one = subst AreCheap (sym pushed) (All-push (λ (k : Link). k.cost < 65536) now l cheap one)

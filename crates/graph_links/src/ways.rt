@@ -1,0 +1,94 @@
+//! The ways from a router to a vertex that it leads to.
+ghost use Rattle.std.specs.Prelude.{◌<◌, ◌≢◌, ◌↔◌, ◌∷◌, [], OnOk, IfOk, Contains};
+ghost use Rattle.std.specs.List.{AllPairs};
+ghost use Rattle.graph_links.specs.Pairs.{Adds, IsWay, IsWayOver};
+ghost use Rattle.graph_links.specs.declared.ways.Way.{Way as WayValue};
+
+use crate::end::End;
+use crate::link::Up;
+use crate::pair::Local;
+use ospf_types::memory::Memory;
+use std::alloc::Global;
+
+/// What tells a router's links to one vertex apart: the metric, and at the root the interface.
+#[derive(Clone, Copy, PartialEq, Eq, PartialOrd, Ord)]
+pub(crate) struct Way {
+    pub(crate) cost: u16,
+    pub(crate) interface: Option<u8>,
+}
+
+/// The ways of a router over these of its ends, each once: there may be thousands of ends at one vertex.
+pub(crate) fn ways_over(
+    alloc: Global,
+    local: Local<'_>,
+    router: u32,
+    ends: &[End],
+) -> Result<Vec<Way>, Memory>
+    ensures exact { IfOk result (λ ways. (w : WayValue) → Contains ways.items w ↔ IsWayOver local.entry.root local.entry.interfaces.now router ends.now w) }
+    ensures each_once { IfOk result (λ ways. AllPairs (λ v w. v ≢ w) ways.items) }
+{
+    let mut ways = all_ways(alloc, local, router, ends)?;
+    ways.sort_unstable();
+    ways.dedup();
+    Ok(ways)
+}
+
+/// The ways over each of the ends in turn.
+fn all_ways(alloc: Global, local: Local<'_>, router: u32, ends: &[End]) -> Result<Vec<Way>, Memory>
+    ensures { IfOk result (λ ways. (w : WayValue) → Contains ways.items w ↔ IsWayOver local.entry.root local.entry.interfaces.now router ends.now w) }
+{
+    let mut ways = Vec::new(alloc);
+    for end in ends {
+        push_over(local, router, *end, &mut ways)?;
+    }
+    Ok(ways)
+}
+
+/// Adds the ways of a router over one of its ends: none where the metric is 0, else one, or at the root
+/// one for each interface that has the address.
+fn push_over(local: Local<'_>, router: u32, end: End, ways: &mut Vec<Way>) -> Result<(), Memory>
+    ensures { OnOk result (Adds ways.old.items ways.new.items (IsWay local.entry.root local.entry.interfaces.now router end)) }
+{
+    if end.metric == 0 {
+        return Ok(());
+    }
+    if router == local.root {
+        return push_over_interfaces(local.interfaces, router, end, ways);
+    }
+    ways.push(Way {
+        cost: end.metric,
+        interface: None,
+    })?;
+    Ok(())
+}
+
+/// Adds a way of the root over one of its ends for each interface that has the address.
+fn push_over_interfaces(
+    interfaces: &[Up],
+    root: u32,
+    end: End,
+    ways: &mut Vec<Way>,
+) -> Result<(), Memory>
+    requires { 0 < end.metric }
+    ensures { OnOk result (Adds ways.old.items ways.new.items (IsWay root interfaces.now root end)) }
+{
+    for up in interfaces {
+        push_over_interface(*up, root, end, ways)?;
+    }
+    Ok(())
+}
+
+/// Adds a way of the root over one of its ends if the interface has the address.
+fn push_over_interface(up: Up, root: u32, end: End, ways: &mut Vec<Way>) -> Result<(), Memory>
+    requires { 0 < end.metric }
+    ensures { OnOk result (Adds ways.old.items ways.new.items (IsWay root (up ∷ []) root end)) }
+{
+    if up.address != end.detail {
+        return Ok(());
+    }
+    ways.push(Way {
+        cost: end.metric,
+        interface: Some(up.id),
+    })?;
+    Ok(())
+}

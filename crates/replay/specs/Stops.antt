@@ -1,0 +1,32 @@
+-- Why nothing more is printed, and what a stop leaves of a text.
+use Rattle.std.specs.Prelude.{ℕ, ◌≡◌, ◌≢◌, ◌⊎◌, ◌++◌, List, [], ◌∷◌}
+use Rattle.replay.specs.declared.fault.ReplayFault.{ReplayFault}
+use Rattle.replay.specs.declared.fault.ReplayFault.TheVariants as fault
+use Rattle.replay.specs.declared.page.Stop.{Stop}
+use Rattle.replay.specs.declared.page.Stop.TheVariants as stop
+
+-- the fault of a replay that stops so
+abbrev pub fault_of : Stop → ReplayFault
+fault_of stop.Write = fault.Write
+fault_of stop.Memory = fault.Memory
+
+-- the text is a line, or several, and ends with a line feed
+pub record IsEnded (text : List ℕ) : Type 0 where
+  pub front : List ℕ
+  pub ends : text ≡ front ++ 10 ∷ []
+
+-- the text is whole lines, or nothing
+abbrev pub AreWhole : List ℕ → Type 0
+AreWhole text = (text ≡ []) ⊎ IsEnded text
+
+-- What a stop leaves of a text, of which this was written and that was not. A failed write leaves something unwritten; and where memory runs out,
+-- no line was written in part.
+abbrev pub IsLeft : Stop → (written unwritten : List ℕ) → Type 0
+IsLeft stop.Write written unwritten = unwritten ≢ []
+IsLeft stop.Memory written unwritten = AreWhole written
+
+-- the text is the beginning of the whole that such a stop leaves
+pub record IsBeginning (why : Stop) (text whole : List ℕ) : Type 0 where
+  pub rest : List ℕ
+  pub joined : whole ≡ text ++ rest
+  pub left : IsLeft why text rest
