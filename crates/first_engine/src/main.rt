@@ -58,10 +58,7 @@ fn run<R: Threads + Wait + Sync + Print>(
         move || engine.submit_bytes(rt, BACKBONE, &PEER),
     );
     let forwarder = learn(learn(forwarder, one?), two?);
-    match forwarder.lookup(u32::from_be_bytes([203, 0, 113, 9])) {
-        Ok(seen) => print_route(rt, seen)?,
-        Err(_) => println!(rt; "no entry to the table")?,
-    }
+    print_route(rt, forwarder, u32::from_be_bytes([203, 0, 113, 9]))?;
     // readme: end
     Ok(())
 }
@@ -77,11 +74,16 @@ fn learn(forwarder: Forwarder, answer: Answer) -> Forwarder
     }
 }
 
-// Prints what is seen, and ends the look, since a publication may wait for it.
-fn print_route(rt: &impl Print, seen: Seen) -> io::Result<()> {
-    let printed = print_found(rt, &seen);
-    drop(seen.leave());
-    printed
+// Prints what is seen of the address, and ends the look, since a publication may wait for it.
+fn print_route(rt: &impl Print, forwarder: Forwarder, address: u32) -> io::Result<()> {
+    match forwarder.lookup(address) {
+        Ok(seen) => {
+            let printed = print_found(rt, &seen);
+            drop(seen.leave());
+            printed
+        }
+        Err(_) => println!(rt; "no entry to the table"),
+    }
 }
 
 fn print_found(rt: &impl Print, seen: &Seen) -> io::Result<()> {
