@@ -1,6 +1,10 @@
 #!/bin/sh
 # Makes a repository that links the router, in the folder that is given, and runs its program. Run it in this repository.
 set -eu
+if [ $# -ne 1 ] || [ -e "$1/crates" ]; then
+    echo "usage: examples/link.sh FOLDER (in the top folder of abr; the folder has no crates yet)" >&2
+    exit 2
+fi
 abr=$PWD
 mkdir -p "$1/crates/my_router/src"
 cd "$1"
