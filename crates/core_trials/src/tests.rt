@@ -163,7 +163,8 @@ fn is_as_answered(
     Ok(fits(core, answer, is_old, is_new))
 }
 
-// Brings the table up to the event, which is applied once more where it was refused.
+// Brings the table up to the event, which is applied once more where it was refused. A table that was behind is built anew,
+// and no other.
 fn catches_up(
     rt: &HostRuntime,
     core: &mut Core,
@@ -174,7 +175,10 @@ fn catches_up(
         let event = event_of(rt, line)?;
         return Ok(core.apply(event).is_ok());
     }
-    Ok(core.catch_up() == Standing::Current)
+    let is_behind = core.built() < core.journal().len() as u64;
+    let builds = core.builds();
+    let is_current = core.catch_up() == Standing::Current;
+    Ok(is_current && (core.builds() > builds) == is_behind)
 }
 
 // What a core tells after the event, with ample memory.

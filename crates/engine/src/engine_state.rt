@@ -1,5 +1,5 @@
 //! The engine that threads share.
-ghost use Rattle.std.specs.Prelude.{◌≡◌, ◌⊎◌, ◌↔◌, ◌++◌, [], ◌∷◌, length, All, None, IfOk, IfErr, IfSome, OnOk, MatchResult};
+ghost use Rattle.std.specs.Prelude.{◌≡◌, ◌⊎◌, ◌↔◌, ◌++◌, [], ◌∷◌, length, All, None, Ok, Err, IfOk, IfErr, IfSome, OnOk, MatchResult};
 ghost use Rattle.event_core.specs.Cores.{IsCore};
 ghost use Rattle.event_core.specs.Configs.{config_fault_of};
 ghost use Rattle.event_state.specs.Steps.{standard_limits};
@@ -19,13 +19,10 @@ use crate::room::Room;
 use event_core::{ConfigFault, Core, Event, Refusal, fault_in};
 use ospf_types::config::Config;
 use publication::{Forwarder, Told};
-use std::alloc::Global;
+use std::alloc::{AllocError, Global};
 use std::hash::RandomState;
 use std::marker::Model;
 use std::sync::{Mutex, Wait};
-
-#[cfg(test)]
-mod tests;
 
 const MOST_READERS: usize = 64;
 
@@ -257,8 +254,15 @@ fn add_forwarder(desk: &mut Desk, all: &mut Vec<Forwarder>) -> Result<(), OpenFa
     ensures added { OnOk result ((f : Looker) × (all.new.items ≡ all.old.items ++ f ∷ []) × (f.name ≡ desk.old.name) × (f.known ≡ [])) }
     ensures fault { IfErr result (λ e. (e ≡ open_value.Place) ⊎ (e ≡ open_value.Config fault.Memory)) }
 {
-    match desk.forwarder() {
-        Ok(forwarder) => keep(forwarder, all),
+    keep(placed(desk.forwarder())?, all)
+}
+
+// The forwarder, or that there was no place for it.
+fn placed(found: Result<Forwarder, AllocError>) -> Result<Forwarder, OpenFault>
+    ensures { MatchResult found (λ forwarder. result ≡ Ok forwarder) (λ _. result ≡ Err open_value.Place) }
+{
+    match found {
+        Ok(forwarder) => Ok(forwarder),
         Err(_) => Err(OpenFault::Place),
     }
 }

@@ -1,0 +1,15 @@
+pub use Rattle.engine.specs.Answers
+pub use Rattle.engine.specs.Bytes
+pub use Rattle.engine.specs.Gates
+pub use Rattle.engine.specs.Opens
+pub use Rattle.engine.specs.Texts
+pub use Rattle.event_core.specs.Cores
+pub use Rattle.event_core.specs.Right
+pub use Rattle.event_core.specs.Listings
+pub use Rattle.publication.specs.Forwarders
+pub use Rattle.publication.specs.Published
+pub use Rattle.publication.specs.Told
+pub use Rattle.publication.specs.Unseen
+pub use Rattle.route_table.specs.Tables
+pub use Rattle.event_state.specs.Steps
+pub use Rattle.config_faults.specs.Configs

@@ -1,0 +1,26 @@
+//! What a program names that links the router: the databases, the routing table and the due summary-LSAs of an OSPF area
+//! border router (RFC 2328). It has no code of its own: each name comes from a crate below it.
+#![tactic(auto)]
+
+// One thread has a core; threads share an engine, and look up by forwarders.
+pub use engine::{
+    Answer, BytesFault, ConfigFault, Core, Due, DueList, Engine, Event, Forwarder, Gate, Open,
+    OpenFault, Refusal, Refused, Reply, Seen, Standing, Told, Unseen,
+};
+// What the core shows beside its table.
+pub use due_lists::AreaDues;
+pub use event_core::{Dues, Touched, fault_in};
+// LSAs and their bytes (A.4).
+pub use lsa_codec::{
+    Checked, External, Header, Link, LinkKind, Links, Routers, WireFault, read, sum_of, write,
+};
+// The vocabulary of configurations, keys and routes.
+pub use ospf_types::address::Address;
+pub use ospf_types::config::{AreaConfig, Areas, Config, Interface, Range, Ranges, Stub};
+pub use ospf_types::entry::{Entry, PathType, Paths};
+pub use ospf_types::hop::{NextHop, Path};
+pub use ospf_types::key::{Dest, Key, Scope};
+pub use ospf_types::memory::Memory;
+pub use ospf_types::prefix::Prefix;
+// The routing table (11).
+pub use route_table::{Item, Items, Match, Table};

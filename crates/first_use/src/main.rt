@@ -1,0 +1,72 @@
+//! A border router of two areas on one thread. It takes its interfaces and an LSA, looks an address up, and prints the route,
+//! and what is due in the backbone. README quotes it.
+#![tactic(auto)]
+
+use abr_router::{
+    Address, AreaConfig, Areas, Config, Core, Dest, Due, Event, Memory, Ranges, Scope, read,
+};
+use anyhow::Result;
+use std::alloc::Global;
+use std::hash::RandomState;
+use std::io;
+use std::io::Print;
+
+/// The router-LSA of 10.0.0.1, with a stub link to 203.0.113.128/25 at metric 10 (RFC 2328, A.4.2).
+const OWN: [u8; 36] = [
+    0, 1, 2, 1, 10, 0, 0, 1, 10, 0, 0, 1, 0x80, 0, 0, 1, 0x31, 0xc2, 0, 36, 1, 0, 0, 1, 203, 0,
+    113, 128, 255, 255, 255, 128, 3, 0, 0, 10,
+];
+
+fn main(rt: HostRuntime) -> Result<()> {
+    // readme: begin core
+    let (alloc, hashing) = (rt.alloc(), RandomState::new(&rt)?);
+    let mut core = Core::open(alloc, two_areas(alloc)?, hashing)?;
+    core.apply(up(1, 0, [192, 0, 2, 1]))?;
+    core.apply(up(2, 1, [203, 0, 113, 129]))?;
+    let (scope, lsa) = (Scope::Area(1), read(alloc, &OWN)?);
+    core.apply(Event::Install { scope, lsa })?;
+    let address = u32::from_be_bytes([203, 0, 113, 200]);
+    println!(rt; "{}", core.table().lookup(address))?;
+    for due in core.due(0).unwrap_or(&[]) {
+        print_due(&rt, due)?;
+    }
+    // readme: end
+    Ok(())
+}
+
+// A router with a backbone and the area 0.0.0.1 (C.1, C.2).
+fn two_areas(alloc: Global) -> Result<Config, Memory> {
+    let mut areas = Areas::new(alloc);
+    for id in 0..2 {
+        areas.push(AreaConfig {
+            id,
+            stub: None,
+            ranges: Ranges::new(alloc),
+        })?;
+    }
+    Ok(Config {
+        router: u32::from_be_bytes([10, 0, 0, 1]),
+        compat: false,
+        areas,
+    })
+}
+
+// An interface to a network comes up.
+fn up(id: u8, area: u32, address: [u8; 4]) -> Event {
+    Event::Interface {
+        id,
+        area,
+        address: u32::from_be_bytes(address),
+        peer: 0,
+        up: true,
+    }
+}
+
+// The LS type of a summary-LSA, its destination and its metric (12.4.3).
+fn print_due(rt: &impl Print, due: &Due) -> io::Result<()> {
+    let (kind, metric) = (due.kind, due.metric);
+    match due.dest {
+        Dest::Net(network) => println!(rt; "due {kind} {network} {metric}"),
+        Dest::Router(router) => println!(rt; "due {kind} {} {metric}", Address(router)),
+    }
+}
