@@ -6,5 +6,6 @@ pub mod OneChange
 pub mod HeldStates
 pub mod Looks
 pub mod Accepted
+pub mod Lasting
 pub mod Carried
 pub mod Naming

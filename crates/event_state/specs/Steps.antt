@@ -127,9 +127,9 @@ is_address_taken s (event.Purge at key) = false
 is_address_taken s (event.Interface id area address peer up) = up && list_any (has_address id address) (entries s.interfaces)
 is_address_taken s event.Second = false
 
--- the table of refusals, in its order
-abbrev pub tests_of : State → Event → List (Bool × Refusal)
-tests_of s e =
+-- the table of refusals, in its order: the tests before that of the journal
+abbrev pub early_tests_of : State → Event → List (Bool × Refusal)
+early_tests_of s e =
     (lacks_area s e, refusal.NoArea)
     ∷ (is_misplaced e, refusal.Scope)
     ∷ (is_older s e, refusal.Older)
@@ -138,13 +138,22 @@ tests_of s e =
     ∷ (is_not_own s e, refusal.NotOwn)
     ∷ (is_young s e, refusal.NotMaxAge)
     ∷ (is_full s e, refusal.Full)
-    ∷ (is_journal_full s, refusal.JournalFull)
-    ∷ (is_address_taken s e, refusal.AddressTaken)
     ∷ []
+
+-- and those behind it
+abbrev pub late_tests_of : State → Event → List (Bool × Refusal)
+late_tests_of s e = (is_address_taken s e, refusal.AddressTaken) ∷ []
+
+abbrev pub tests_of : State → Event → List (Bool × Refusal)
+tests_of s e = early_tests_of s e ++ (is_journal_full s, refusal.JournalFull) ∷ late_tests_of s e
 
 -- the first refusal of the table that holds; none where the event is taken
 abbrev pub refusal_of : State → Event → Option Refusal
 refusal_of s e = first_of (tests_of s e)
+
+-- the first refusal that does not rest on how many events were taken
+abbrev pub lasting_refusal_of : State → Event → Option Refusal
+lasting_refusal_of s e = first_of (early_tests_of s e ++ late_tests_of s e)
 
 -- what is known of an event that is taken, whatever the journal
 pub record IsAccepted (s : State) (e : Event) : Type 0 where
