@@ -60,9 +60,9 @@ pub due_right : (s : State) (c : CalculationValue) (w : DuesValue) → IsCalcula
 due_right s c w is due = dues_right (inputs_of s) (due_inputs s due.0 c) w (due_are s due.0 due.1 c is) due.2
 
 -- it rests on the configuration, the interfaces and what is kept alone
-pub due_alike : (s t : State) (c : CalculationValue) (w : DuesValue) → LooksAlike s t → t.config ≡ s.config → AreDuesFor s c w → AreDuesFor t c w
-due_alike s t c w looks config due =
-    let areas : s.config.areas ≡ t.config.areas = ap (λ (k : Config). k.areas) (sym config) in
+pub due_alike : (s t : State) (c : CalculationValue) (w : DuesValue) → LooksAlike s t → AreDuesFor s c w → AreDuesFor t c w
+due_alike s t c w looks due =
+    let areas : s.config.areas ≡ t.config.areas = ap (λ (k : Config). k.areas) looks.config in
     let there : (area : ℕ) → IsUpIn s area → IsUpIn t area = λ area up.
     subst (λ (list : List (ℕ × Interface)). (id : ℕ) × (i : Interface) × Contains list (id, i) × (i.area ≡ area) × IsTrue i.up) (ap entries looks.interfaces) up in
     let back : (area : ℕ) → IsUpIn t area → IsUpIn s area = λ area up.

@@ -52,13 +52,13 @@ module _ (t : State) (keys : List (Scope × Key)) (ids : List ℕ) (changed : Bo
 
   pub stayed : changed ≡ false → AreFit t.config.areas t.databases → (before : State) → GoesOn keys ids changed before t → AreRoutesOf before old → HasFollowed t keys ids changed old mid
   stayed same fit before goes are =
-      let alike = calculation_alike before t old.calculation (goes.alike same) goes.differ.config fit are.calculation in
+      let alike = calculation_alike before t old.calculation (goes.alike same) fit are.calculation in
       subst (HasFollowed t keys ids changed old) (sym is) (record {
         calculation = alike;
         items = are.table;
-        dues = due_alike before t old.calculation old.dues (goes.alike same) goes.differ.config are.dues;
+        dues = due_alike before t old.calculation old.dues (goes.alike same) are.dues;
         exact = nothing_changes old.table.items;
-        bounded = λ other on others. no_event_work other t old.calculation on.fit fit on.differ.config others.calculation alike;
+        bounded = λ other on others. no_event_work other t old.calculation on.fit fit (sym (on.alike same).config) others.calculation alike;
       })
 
 -- with the serial of the state, the routes are those of the state

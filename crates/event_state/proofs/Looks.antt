@@ -55,7 +55,7 @@ module _ (s : State) (at : Scope) (k : ℕ) (place : place_of s.config.areas at 
 
   looks_set : (d : Database) → ((key : Key) → used_at d key ≡ used_at here key) ↔ LooksAlike s (record s { databases = set s.databases k d })
   looks_set d = (
-    λ alike. record { usable = λ other key. used_set s.databases k d (place_of s.config.areas other) key lt (alike key); interfaces = refl },
+    λ alike. record { config = refl; usable = λ other key. used_set s.databases k d (place_of s.config.areas other) key lt (alike key); interfaces = refl },
     λ looks. λ key.
         let same : used_at here key ≡ used_at (get_or (set s.databases k d) k empty) key = ap (λ (o : Option ℕ). used_in s.databases o key) (sym place) ∙ looks.usable at key ∙ ap (λ (o : Option ℕ). used_in (set s.databases k d) o key) place in
         sym (same ∙ ap (λ (e : Database). used_at e key) (get_or-set_same s.databases k d empty lt)),
@@ -129,6 +129,7 @@ used_later databases (Some k) key within none =
 pub looks_later : (s : State) → AreKept s.config.areas s.databases → All NoneComes s.databases ↔ LooksAlike s (changed_by s event.Second)
 looks_later s kept = (
   λ none. record {
+    config = refl;
     usable = λ at key. used_later s.databases (place_of s.config.areas at) key (λ k e. omega (arith, place_within s.config.areas at k e, kept.places)) none;
     interfaces = refl;
   },
@@ -165,6 +166,7 @@ put_again s id i has q =
 looks_interface : (s : State) (id : ℕ) (i : Interface) → (get s.interfaces id ≡ Some i) ↔ LooksAlike s (with_interface s id i)
 looks_interface s id i = (
   λ has. record {
+    config = refl;
     usable = λ at key. refl;
     interfaces = same_map nat_cmp_total nat_cmp-IsAntisymmetric s.interfaces (insert s.interfaces id i) (λ q. put_again s id i has q);
   },
@@ -182,8 +184,8 @@ interface_looks s (Err e) id i alike = tt
 -- what is used, and the interfaces, do not depend on the journal
 pub looks_step : (s t : State) (journal : List Event) → LooksAlike s t ↔ LooksAlike s (record t { journal = journal })
 looks_step s t journal = (
-  λ looks. record { usable = λ at key. looks.usable at key; interfaces = looks.interfaces },
-  λ looks. record { usable = λ at key. looks.usable at key; interfaces = looks.interfaces },
+  λ looks. record { config = looks.config; usable = λ at key. looks.usable at key; interfaces = looks.interfaces },
+  λ looks. record { config = looks.config; usable = λ at key. looks.usable at key; interfaces = looks.interfaces },
 )
 
 changed_place_journal : (s : State) (journal : List Event) (change : Database → Database) (o : Option ℕ) → changed_at_place (record s { journal = journal }) change o ≡ record (changed_at_place s change o) { journal = journal }
@@ -202,6 +204,6 @@ changed_journal s journal event.Second = refl
 pub looks_journal : (s : State) (journal : List Event) (e : Event) → LooksAlike (record s { journal = journal }) (changed_by (record s { journal = journal }) e) ↔ LooksAlike s (changed_by s e)
 looks_journal s journal e =
     let is = changed_journal s journal e in (
-      λ looks. let w = subst (λ (t : State). LooksAlike (record s { journal = journal }) t) is looks in record { usable = λ at key. w.usable at key; interfaces = w.interfaces },
-      λ looks. subst (λ (t : State). LooksAlike (record s { journal = journal }) t) (sym is) (record { usable = λ at key. looks.usable at key; interfaces = looks.interfaces }),
+      λ looks. let w = subst (λ (t : State). LooksAlike (record s { journal = journal }) t) is looks in record { config = w.config; usable = λ at key. w.usable at key; interfaces = w.interfaces },
+      λ looks. subst (λ (t : State). LooksAlike (record s { journal = journal }) t) (sym is) (record { config = looks.config; usable = λ at key. looks.usable at key; interfaces = looks.interfaces }),
     )

@@ -67,7 +67,8 @@ inputs_of s = record {
 abbrev pub usable_at : State → Scope → Key → Option (ℕ × Body)
 usable_at s at key = option_and_then (λ d. used_at d key) (database_of s at)
 
--- the same usable LSAs (key, Options, body), and the same interfaces
+-- the same usable LSAs (key, Options, body), the same interfaces, and the same configuration
 pub record LooksAlike (s t : State) : Type 0 where
+  pub config : s.config ≡ t.config
   pub usable : (at : Scope) (key : Key) → usable_at s at key ≡ usable_at t at key
   pub interfaces : s.interfaces ≡ t.interfaces
