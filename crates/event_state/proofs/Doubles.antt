@@ -1,12 +1,13 @@
 -- Lists whose elements are put into a set one after the other, and lists that ascend: no two elements are alike.
-use Rattle.std.proofs.Common.{◌≡◌, ℕ, ◌+◌, ◌<◌, ◌≤◌, Bool, true, false, not, cond, List, [], ◌∷◌, ◌++◌, length, get_or, take, drop, BTreeSet, Ordering, refl, sym, ap, ◌∙◌, inl, inr}
-use Rattle.std.specs.Prelude.{◌&&◌, ◌||◌}
+use Rattle.std.proofs.Common.{◌≡◌, ℕ, ◌+◌, ◌<◌, ◌≤◌, Bool, true, false, not, cond, List, [], ◌∷◌, ◌++◌, length, get_or, take, drop, BTreeSet, Ordering, refl, sym, ap, ◌∙◌, inl, inr, arith}
+use Rattle.std.specs.Prelude.{◌==◌, ◌&&◌, ◌||◌}
 use Rattle.std.specs.List.{list_any, Contains}
 use Rattle.std.specs.Ordering.{nat_cmp, eq_by_cmp, is_eq, is_lt, ordering_then}
 use Rattle.std.specs.declared.cmp.Ordering.TheVariants.{Less, Equal, Greater}
 use Rattle.std.specs.Cmp.{IsTotalOrder, unsigned_ties}
 use Rattle.std.specs.BTreeSet.{contains, Updates}
-use Rattle.std.proofs.lemmas.Bool.{or_from, and_parts}
+use Rattle.std.proofs.lemmas.Bool.{or_from, and_parts, ltb-true}
+use Rattle.std.proofs.lemmas.Bool.Decides.{nat_tests}
 use Rattle.std.proofs.lemmas.Cmp.{on_total, then_total}
 use Rattle.std.proofs.lemmas.List.{take_more, take_all, take-append-drop}
 use Rattle.std.proofs.lemmas.List.Folds.{list_any-append}
@@ -19,9 +20,10 @@ use Rattle.ospf_types.proofs.DerivedOrders.{scope_cmp_is}
 use Rattle.ospf_types.proofs.Elements.{no_element, first_or_later}
 use Rattle.ospf_types.proofs.Orders.{key_total, scope_total}
 use Rattle.event_state.specs.contracts.base_checks.ScopedKeyOrd.TheImpl as scoped_order
-use Rattle.event_state.specs.Ascending.{scoped_key, scoped_cmp, is_before_first, is_ascending}
+use Rattle.event_state.specs.declared.base.Base.{Base}
+use Rattle.event_state.specs.Ascending.{scoped_key, scoped_cmp, is_before_first, is_ascending, is_before_first_id, ids_ascend, is_ordered}
 use Rattle.event_state.specs.Bases.{is_scope}
-use Rattle.event_state.specs.BaseFaults.{has_twice, is_same_id, is_same_place}
+use Rattle.event_state.specs.BaseFaults.{has_twice, is_same_id, is_same_place, is_doubled}
 use Rattle.event_state.proofs.Twice.{all_fail, twice_push, twice_front}
 
 -- ---- a set of what was there
@@ -133,3 +135,31 @@ ascending_once (x ∷ xs) ascending =
     or_from (list_any (is_same_place x) xs) (has_twice is_same_place xs)
     (all_fail (is_same_place x) xs (λ y c. scoped_is x y ∙ ap is_eq (first_before x xs ascending y c)))
     (ascending_once xs (and_parts (is_before_first x xs) (is_ascending xs) ascending).1)
+
+-- ---- interfaces that ascend
+
+first_id_before : (x : ℕ × Interface) (xs : List (ℕ × Interface)) → ids_ascend (x ∷ xs) ≡ true → (y : ℕ × Interface) → Contains xs y → x.0 < y.0
+first_id_before x [] ascending y c = absurd (no_element y c)
+first_id_before x (z ∷ xs) ascending y c =
+    let parts = and_parts (is_before_first_id x (z ∷ xs)) (ids_ascend (z ∷ xs)) ascending in
+    let next : x.0 < z.0 = ltb-true x.0 z.0 parts.0 in
+    elim (first_or_later z y xs c) [
+      | inl first ↦ omega (arith, next, ap (λ (w : ℕ × Interface). w.0) first)
+      | inr later ↦ omega (arith, next, first_id_before z xs parts.1 y later)
+    ]
+
+apart_ids : (m n : ℕ) → m < n → (m == n) ≡ false
+apart_ids m n lt = grind (arith, nat_tests)
+
+ids_once : (xs : List (ℕ × Interface)) → ids_ascend xs ≡ true → has_twice is_same_id xs ≡ false
+ids_once [] ascending = refl
+ids_once (x ∷ xs) ascending =
+    or_from (list_any (is_same_id x) xs) (has_twice is_same_id xs)
+    (all_fail (is_same_id x) xs (λ y c. apart_ids x.0 y.0 (first_id_before x xs ascending y c)))
+    (ids_once xs (and_parts (is_before_first_id x xs) (ids_ascend xs) ascending).1)
+
+-- nothing is listed twice in a base that is ordered
+pub ordered_once : (b : Base) → is_ordered b ≡ true → is_doubled b ≡ false
+ordered_once b ordered =
+    let parts = and_parts (ids_ascend b.interfaces) (is_ascending b.lsas) ordered in
+    or_from (has_twice is_same_id b.interfaces) (has_twice is_same_place b.lsas) (ids_once b.interfaces parts.0) (ascending_once b.lsas parts.1)

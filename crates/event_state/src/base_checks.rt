@@ -1,10 +1,9 @@
 //! Whether a state can be made from a base.
-ghost use Rattle.std.specs.Prelude.{◌≡◌, false, IfOk, length, is_none, nat_lt};
-ghost use Rattle.std.specs.Bool.{OnTrue};
+ghost use Rattle.std.specs.Prelude.{◌≡◌, true, IfOk, length, is_none, nat_lt};
 ghost use Rattle.std.specs.List.{list_any};
 ghost use Rattle.event_state.specs.Bases.{lsas_under};
-ghost use Rattle.event_state.specs.BaseFaults.{base_fault_of, unfit_of, is_doubled, has_twice, is_same_id, is_same_place, is_same_address, lacks_an_area, is_overfull};
-ghost use Rattle.event_state.specs.Ascending.{scoped_key, scoped_cmp, is_ascending, is_before_first};
+ghost use Rattle.event_state.specs.BaseFaults.{base_fault_of, unfit_of, unfit_fault, is_doubled, has_twice, is_same_id, is_same_place, is_same_address, lacks_an_area, is_overfull};
+ghost use Rattle.event_state.specs.Ascending.{scoped_key, scoped_cmp, is_ascending, is_before_first, ids_ascend, is_before_first_id, is_ordered};
 ghost use Rattle.event_state.specs.States.{place_of};
 ghost use Rattle.event_state.specs.Steps.{is_out_of_scope};
 
@@ -45,7 +44,35 @@ impl ScopedKey {
     }
 }
 
-/// The first fault that the base has, which is never `Memory`.
+/// Whether the interfaces ascend by id, and the LSAs by scope, LS type, Link State ID and Advertising Router. None is
+/// listed twice then.
+pub fn is_ordered(base: &Base) -> bool
+    ensures { result ≡ is_ordered base.now }
+{
+    ids_ascend(base.interfaces.as_slice()) && is_ascending(base.lsas.as_slice())
+}
+
+/// The first fault of a base that is ordered. It takes no memory.
+pub fn fault_in_ordered(base: &Base, limits: Limits) -> Option<BaseFault>
+    requires { is_ordered base.now ≡ true }
+    ensures { result ≡ base_fault_of limits base.now }
+{
+    if let Some(fault) = fault_in(&base.config) {
+        return Some(BaseFault::Config(fault));
+    }
+    as_fault(unfit_in(base, limits))
+}
+
+fn as_fault(unfit: Option<Unfit>) -> Option<BaseFault>
+    ensures { result ≡ unfit_fault unfit }
+{
+    match unfit {
+        Some(unfit) => Some(BaseFault::Unfit(unfit)),
+        None => None,
+    }
+}
+
+/// The first fault that the base has, which is never `Memory`. A base that is ordered takes no memory.
 pub fn fault_in_base(
     alloc: Global,
     base: &Base,
@@ -53,6 +80,9 @@ pub fn fault_in_base(
 ) -> Result<Option<BaseFault>, Memory>
     ensures { IfOk result (λ fault. fault ≡ base_fault_of limits base.now) }
 {
+    if is_ordered(base) {
+        return Ok(fault_in_ordered(base, limits));
+    }
     if let Some(fault) = fault_in(&base.config) {
         return Ok(Some(BaseFault::Config(fault)));
     }
@@ -87,14 +117,10 @@ fn has_doubled_id(alloc: Global, interfaces: &[(u8, Interface)]) -> Result<bool,
     Ok(false)
 }
 
-// Whether two LSAs have one scope and one key. Where they are listed in the order of these, neighbours
-// tell; else a set does.
+// Whether two LSAs have one scope and one key.
 fn has_doubled_lsa(alloc: Global, lsas: &[(Scope, Checked)]) -> Result<bool, Memory>
     ensures { IfOk result (λ doubled. doubled ≡ has_twice is_same_place lsas.now) }
 {
-    if is_ascending(lsas) {
-        return Ok(false);
-    }
     let mut places = BTreeSet::new(alloc);
     for (scope, lsa) in lsas {
         if !places.insert(ScopedKey::of(*scope, lsa))? {
@@ -104,10 +130,30 @@ fn has_doubled_lsa(alloc: Global, lsas: &[(Scope, Checked)]) -> Result<bool, Mem
     Ok(false)
 }
 
+// Whether each interface stands before the next one, by id.
+fn ids_ascend(interfaces: &[(u8, Interface)]) -> bool
+    ensures { result ≡ ids_ascend interfaces.now }
+{
+    for i in 0..interfaces.len() {
+        if !is_before_first_id(interfaces[i], &interfaces[i + 1..]) {
+            return false;
+        }
+    }
+    true
+}
+
+fn is_before_first_id(interface: (u8, Interface), interfaces: &[(u8, Interface)]) -> bool
+    ensures { result ≡ is_before_first_id interface interfaces.now }
+{
+    match interfaces.first() {
+        None => true,
+        Some(next) => interface.0 < next.0,
+    }
+}
+
 // Whether each LSA stands before the next one, by scope and then by key.
 fn is_ascending(lsas: &[(Scope, Checked)]) -> bool
-    ensures value { result ≡ is_ascending lsas.now }
-    ensures each_once { OnTrue result (has_twice is_same_place lsas.now ≡ false) }
+    ensures { result ≡ is_ascending lsas.now }
 {
     for i in 0..lsas.len() {
         if !is_before_first(&lsas[i], &lsas[i + 1..]) {
