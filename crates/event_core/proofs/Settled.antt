@@ -1,10 +1,10 @@
 -- Routes after an event: what is kept, the items of the table and what is due have followed, or nothing that is calculated from differs.
-use Rattle.std.proofs.Common.{◌≡◌, ℕ, Bool, false, List, [], length, refl, sym, subst}
+use Rattle.std.proofs.Common.{◌≡◌, ℕ, Bool, false, List, [], refl, sym, subst}
 use Rattle.ospf_types.specs.declared.key.Key.{Key}
 use Rattle.ospf_types.specs.declared.key.Scope.{Scope}
 use Rattle.route_table.specs.Tables.{TableValue}
 use Rattle.event_state.specs.Held.{AreFit}
-use Rattle.event_state.specs.States.{State, LooksAlike}
+use Rattle.event_state.specs.States.{State, LooksAlike, serial_of}
 use Rattle.calculation.specs.Calculations.{IsCalculationOf, IsTableOf}
 use Rattle.calculation.specs.Trees.{StatesDifferAmong}
 use Rattle.calculation.specs.Due.{AreDuesFor}
@@ -62,7 +62,7 @@ module _ (t : State) (keys : List (Scope × Key)) (ids : List ℕ) (changed : Bo
       })
 
 -- with the serial of the state, the routes are those of the state
-pub with_serial : (t : State) (new : RoutesValue) (table : TableValue) → IsCalculationOf t new.calculation → IsTableOf new.calculation new.table.items → AreDuesFor t new.calculation new.dues → table ≡ record new.table { serial = length t.journal }
+pub with_serial : (t : State) (new : RoutesValue) (table : TableValue) → IsCalculationOf t new.calculation → IsTableOf new.calculation new.table.items → AreDuesFor t new.calculation new.dues → table ≡ record new.table { serial = serial_of t }
     → AreRoutesOf t (record new { table = table })
 with_serial t new table calculation items dues is =
     subst (λ (v : TableValue). AreRoutesOf t (record new { table = v })) (sym is) (record { calculation = calculation; table = items; serial = refl; dues = dues })

@@ -1,6 +1,6 @@
 //! The LSAs of a state in the order in which they are listed.
 ghost use Rattle.std.specs.Prelude.{◌≡◌, ◌++◌, IfOk, OnOk, map as list_map};
-ghost use Rattle.event_core.specs.Listings.{AreAreaIds, AreLsas, lsas_at, lsas_of_areas};
+ghost use Rattle.event_state.specs.Listings.{AreAreaIds, AreLsas, lsas_at, lsas_of_areas};
 
 use event_state::State;
 use lsa_codec::Checked;

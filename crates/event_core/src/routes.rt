@@ -1,11 +1,11 @@
 //! The routing table and due summaries, and what is kept to follow events (RFC 2328, 16 and 12.4.3).
-ghost use Rattle.std.specs.Prelude.{◌≡◌, ◌↔◌, ◌≤◌, [], false, length, IfOk, IsTrue, OnOk, OnErr, option_copied};
+ghost use Rattle.std.specs.Prelude.{◌≡◌, ◌↔◌, ◌≤◌, [], false, IfOk, IsTrue, OnOk, OnErr, option_copied};
 ghost use Rattle.std.specs.List.Sorted.{IsStrictlySortedBy};
 ghost use Rattle.std.specs.Map.{keys_of};
 ghost use Rattle.ospf_types.specs.Network.{network_cmp};
 ghost use Rattle.vertex_graph.specs.Graphs.{most_routers};
 ghost use Rattle.event_state.specs.Held.{AreFit};
-ghost use Rattle.event_state.specs.States.{AreApart, State as StateValue, LooksAlike};
+ghost use Rattle.event_state.specs.States.{AreApart, State as StateValue, LooksAlike, serial_of};
 ghost use Rattle.dues.specs.Dues.{lists_of};
 ghost use Rattle.calculation.specs.Calculations.{IsCalculationOf, IsTableOf};
 ghost use Rattle.calculation.specs.Trees.{StatesDifferAmong};
@@ -162,7 +162,9 @@ impl Routes {
         if changed {
             self.follow(alloc, state, named)?;
         }
-        self.table.set_serial(state.journal().len() as u64);
+        // proof: what holds of the databases of every state.
+        let _ = state.config();
+        self.table.set_serial(state.serial());
         Ok(())
     }
 
@@ -245,13 +247,15 @@ fn from_scratch(
     requires apart { AreApart state.now.config.areas }
     ensures calculation { IfOk result (λ built. IsCalculationOf state.now built.0) }
     ensures items { IfOk result (λ built. IsTableOf built.0 built.1.items) }
-    ensures serial { IfOk result (λ built. built.1.serial ≡ length state.now.journal) }
+    ensures serial { IfOk result (λ built. built.1.serial ≡ serial_of state.now) }
     ensures dues { IfOk result (λ built. AreDuesFor state.now built.0 built.2) }
     ensures fit { IfOk result (λ built. AreFit state.now.config.areas state.now.databases) }
     ensures work { IfOk result (λ built. IsBuildWork state.now built.3) }
 {
     let (calculation, work) = Calculation::build(alloc, state, hashing)?;
-    let table = calculation.table(alloc, state.journal().len() as u64)?;
+    // proof: what holds of the databases of every state.
+    let _ = state.config();
+    let table = calculation.table(alloc, state.serial())?;
     let dues = calculation.dues(alloc, state)?;
     Ok((calculation, table, dues, work))
 }

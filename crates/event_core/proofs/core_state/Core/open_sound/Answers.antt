@@ -1,4 +1,5 @@
 use Rattle.std.proofs.Common.{sym, subst}
+use Rattle.event_state.specs.Bases.{bare}
 use Rattle.event_state.specs.States.{State, AreApart}
 use Rattle.event_core.specs.Kept.{IsCoherent}
 use Rattle.event_state.proofs.Configs.{sound_apart}
@@ -10,7 +11,7 @@ build-requires-clause-apart c = subst (λ (s : State). AreApart s.config.areas) 
 
 kept : (c : goal.In_ok-routes) → IsCoherent c.in_ok-state.state c.in_ok-routes.routes 0
 kept c =
-    kept_open c.args.config c.args.limits c.in_ok-state.state c.in_ok-routes.routes c.in_ok-state.ensures c.requires.sound c.requires.few c.in_ok-routes.ensures.right
+    kept_open (bare c.args.config) c.args.limits c.in_ok-state.state c.in_ok-routes.routes c.in_ok-state.ensures c.requires.sound c.requires.few c.in_ok-routes.ensures.right
 
 pub invariant_of-result : goal.invariant_of-result
 invariant_of-result c = kept c
