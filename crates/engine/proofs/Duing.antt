@@ -16,9 +16,9 @@ use Rattle.engine.specs.Answers.{HasArea}
 
 -- what is due in the built state is due after the list that was built
 pub due_after : (core : CoreValue) (area : ℕ) (list : List Due) (found : Option (List Due)) → core.limits ≡ standard_limits → found ≡ Some list → IsDueIn (built_state core) area found
-    → IsDueIn (run_of core.config standard_limits (take core.built core.journal)) area (Some list)
+    → IsDueIn (run_of core.base standard_limits (take core.built core.journal)) area (Some list)
 due_after core area list found limits is due =
-    subst (λ (z : Limits × Option (List Due)). IsDueIn (run_of core.config z.0 (take core.built core.journal)) area z.1) (λ i. (limits i, is i)) due
+    subst (λ (z : Limits × Option (List Due)). IsDueIn (run_of core.base z.0 (take core.built core.journal)) area z.1) (λ i. (limits i, is i)) due
 
 -- an area of the state, as it was configured
 abbrev area_in : State → AreaConfig → Area
@@ -32,15 +32,15 @@ in_state s area list due =
 not_in_state : (s : State) (area : ℕ) → IsDueIn s area None → ¬ HasArea s.config area
 not_in_state s area none has = none (area_in s has.0) (mapped_element (area_in s) s.config.areas has.0 has.1) has.2
 
-built_config : (core : CoreValue) → (built_state core).config ≡ core.config
-built_config core = (run_setting (opening core.config core.limits) (take core.built core.journal)).config
+built_config : (core : CoreValue) → (built_state core).config ≡ core.base.config
+built_config core = (run_setting (opening core.base core.limits) (take core.built core.journal)).config
 
 -- where something is due, be it an empty list, the area is configured
-pub has_area : (core : CoreValue) (area : ℕ) (list : List Due) (found : Option (List Due)) → found ≡ Some list → IsDueIn (built_state core) area found → HasArea core.config area
+pub has_area : (core : CoreValue) (area : ℕ) (list : List Due) (found : Option (List Due)) → found ≡ Some list → IsDueIn (built_state core) area found → HasArea core.base.config area
 has_area core area list found is due =
     subst (λ (c : Config). HasArea c area) (built_config core) (in_state (built_state core) area list (subst (IsDueIn (built_state core) area) is due))
 
 -- where there is no list, it is not
-pub has_no_area : (core : CoreValue) (area : ℕ) (found : Option (List Due)) → found ≡ None → IsDueIn (built_state core) area found → ¬ HasArea core.config area
+pub has_no_area : (core : CoreValue) (area : ℕ) (found : Option (List Due)) → found ≡ None → IsDueIn (built_state core) area found → ¬ HasArea core.base.config area
 has_no_area core area found is due =
     subst (λ (c : Config). ¬ HasArea c area) (built_config core) (not_in_state (built_state core) area (subst (IsDueIn (built_state core) area) is due))

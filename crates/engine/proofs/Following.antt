@@ -1,7 +1,7 @@
 -- The changes of an event lead from the published table to the new one, where the published list was the whole journal.
-use Rattle.std.proofs.Common.{◌≡◌, List, length, subst}
+use Rattle.std.proofs.Common.{◌≡◌, ◌+◌, List, length, subst}
 use Rattle.std.specs.FinMap.{FinMap}
-use Rattle.ospf_types.specs.declared.config.Config.{Config}
+use Rattle.event_state.specs.declared.base.Base.{Base}
 use Rattle.ospf_types.specs.Network.{network_cmp}
 use Rattle.event_state.specs.declared.event.Event.{Event}
 use Rattle.event_state.specs.States.{inputs_of}
@@ -16,11 +16,11 @@ use Rattle.publication.specs.declared.shown.Shown.{Shown}
 use Rattle.engine.proofs.Runs.{table_whole}
 use Rattle.engine.proofs.Tabling.{same_items, changes_lead}
 
-pub follows : (before after : CoreValue) (shown : Shown) → IsCore before → before.limits ≡ standard_limits → IsShownRight shown → shown.config ≡ before.config → shown.front.list ≡ before.journal → before.built ≡ length before.journal
+pub follows : (before after : CoreValue) (shown : Shown) → IsCore before → before.limits ≡ standard_limits → IsShownRight shown → shown.base ≡ before.base → shown.front.list ≡ before.journal → before.built ≡ length before.journal
     → AreChanges before.table.items after.table.items after.changes
     → Lead shown.table.items after.table.items (those_of after.table.items after.changes)
-follows before after shown core limits right config fresh built changes =
+follows before after shown core limits right base fresh built changes =
     let whole = table_whole before core limits built in
-    let mine : IsTableFor before.config before.journal shown.table = subst (λ (z : Config × List Event). IsTableFor z.0 z.1 shown.table) (λ i. (config i, fresh i)) right in
-    let same = same_items (inputs_of (run_of before.config standard_limits before.journal)) (length before.journal) before.table shown.table whole.1 mine.1 in
+    let mine : IsTableFor before.base before.journal shown.table = subst (λ (z : Base × List Event). IsTableFor z.0 z.1 shown.table) (λ i. (base i, fresh i)) right in
+    let same = same_items (inputs_of (run_of before.base standard_limits before.journal)) (before.base.serial + length before.journal) before.table shown.table whole.1 mine.1 in
     subst (λ (m : FinMap network_cmp Item). Lead m after.table.items (those_of after.table.items after.changes)) same (changes_lead before.table.items after.table.items after.changes changes)

@@ -10,7 +10,7 @@ use Rattle.std.specs.Prelude.{not}
 use mathlib.Core.List.{IsPrefix}
 use mathlib.Core.Option.{some}
 use lib.ListN.{get_elem?}
-use Rattle.ospf_types.specs.declared.config.Config.{Config}
+use Rattle.event_state.specs.declared.base.Base.{Base}
 use Rattle.event_state.specs.declared.event.Event.{Event}
 use Rattle.event_state.specs.Steps.{standard_limits}
 use Rattle.event_core.specs.Cores.{CoreValue, IsCore, Stands}
@@ -38,10 +38,11 @@ begun_stays old new s list more stands begun =
     let prefix = prefix_trans list old.journal new.journal begun.0 more in
     (prefix, built_stays old new s (length list) begun.1 (prefix_length list new.journal prefix) stands)
 
-pub core_kept : (old new : CoreValue) (s : Standing) (author : Line) (shown : Shown) (known : Option Name) → new.config ≡ old.config → new.limits ≡ old.limits → IsPrefix old.journal new.journal → Stands old s new
+pub core_kept : (old new : CoreValue) (s : Standing) (author : Line) (shown : Shown) (known : Option Name) → new.base ≡ old.base → new.limits ≡ old.limits → IsPrefix old.journal new.journal → Stands old s new
     → IsKept old author shown known → IsKept new author shown known
-core_kept old new s author shown known config limits more stands kept = record {
-  name = kept.name ∙ (λ i. record { book = author.book; config = (sym config) i });
+core_kept old new s author shown known base limits more stands kept = record {
+  book = kept.book;
+  base = base ∙ kept.base;
   known_is = kept.known_is;
   limits = limits ∙ kept.limits;
   right = kept.right;
@@ -51,7 +52,8 @@ core_kept old new s author shown known config limits more stands kept = record {
 
 pub author_kept : (core : CoreValue) (old new : Line) (shown : Shown) (known : Option Name) → new.book ≡ old.book → IsBegun new.list core → IsKept core old shown known → IsKept core new shown known
 author_kept core old new shown known book begun kept = record {
-  name = kept.name ∙ (λ i. record { book = (sym book) i; config = core.config });
+  book = book ∙ kept.book;
+  base = kept.base;
   known_is = kept.known_is;
   limits = kept.limits;
   right = kept.right;
@@ -63,7 +65,8 @@ pub shown_kept : (core : CoreValue) (author front : Line) (old new : Shown) (was
     → MatchBool done ((new.front ≡ front) × IsShownRight new) (new ≡ old) → MatchBool done (known ≡ Some (name_of old)) (known ≡ was)
     → IsKept core author old was → IsKept core author new known
 shown_kept core author front old new was known true lent name shown told kept = record {
-  name = name ∙ kept.name;
+  book = kept.book ∙ sym (ap (λ (n : Name). n.book) name);
+  base = kept.base ∙ sym (ap (λ (n : Name). n.base) name);
   known_is = told ∙ ap Some (sym name);
   limits = kept.limits;
   right = shown.1;
@@ -71,7 +74,8 @@ shown_kept core author front old new was known true lent name shown told kept = 
   written = kept.written;
 }
 shown_kept core author front old new was known false lent name shown told kept = record {
-  name = name ∙ kept.name;
+  book = kept.book ∙ sym (ap (λ (n : Name). n.book) name);
+  base = kept.base ∙ sym (ap (λ (n : Name). n.base) name);
   known_is = told ∙ kept.known_is ∙ ap Some (sym name);
   limits = kept.limits;
   right = subst IsShownRight (sym shown) kept.right;
@@ -86,18 +90,17 @@ shown_fresh core author front old new pending false lent whole shown empty = λ 
 
 -- a table of the whole journal may be published for the history
 pub table_shown : (core : CoreValue) (author : Line) (shown : Shown) (known : Option Name) → IsCore core → IsKept core author shown known → author.list ≡ core.journal → core.built ≡ length core.journal
-    → IsTableFor shown.config author.list core.table
+    → IsTableFor shown.base author.list core.table
 table_shown core author shown known is kept whole built =
-    let config : shown.config ≡ core.config = ap (λ (n : Name). n.config) kept.name in
-    subst (λ (z : Config × List Event). IsTableFor z.0 z.1 core.table) (λ i. ((sym config) i, (sym whole) i)) (table_whole core is kept.limits built)
+    subst (λ (z : Base × List Event). IsTableFor z.0 z.1 core.table) (λ i. (kept.base i, (sym whole) i)) (table_whole core is kept.limits built)
 
 -- what is shown first is the opening core's table
 pub opened_right : (core : CoreValue) (front : Line) (x : Shown) → IsCore core → core.limits ≡ standard_limits → core.journal ≡ [] → front.list ≡ []
-    → face_of x ≡ record { table = core.table; front = front; config = core.config } → IsShownRight x
+    → face_of x ≡ record { table = core.table; front = front; base = core.base } → IsShownRight x
 opened_right core front x is limits none first face =
     let built : core.built ≡ length core.journal = omega (arith, is.within, ap length none) in
     let list : core.journal ≡ x.front.list = none ∙ sym (ap (λ (f : Face). f.front.list) face ∙ first) in
-    subst (λ (z : Config × List Event × TableValue). IsTableFor z.0 z.1 z.2) (λ i. ((sym (ap (λ (f : Face). f.config) face)) i, list i, (sym (ap (λ (f : Face). f.table) face)) i))
+    subst (λ (z : Base × List Event × TableValue). IsTableFor z.0 z.1 z.2) (λ i. ((sym (ap (λ (f : Face). f.base) face)) i, list i, (sym (ap (λ (f : Face). f.table) face)) i))
     (table_whole core is limits built)
 
 -- at first nobody knows a name

@@ -1,6 +1,7 @@
 -- What the answers of an engine promise.
 use Rattle.std.specs.Prelude.{ℕ, ◌≡◌, ◌≢◌, ◌↔◌, ◌+◌, false, List, [], ◌∷◌, ◌++◌, length, Contains, Some, None, MatchOption, Result, MatchResult}
 use Rattle.std.specs.List.{AllZip}
+use Rattle.event_state.specs.declared.base.Base.{Base}
 use Rattle.ospf_types.specs.declared.config.Config.{Config}
 use Rattle.ospf_types.specs.declared.config.AreaConfig.{AreaConfig}
 use Rattle.event_state.specs.declared.event.Event.{Event}
@@ -17,26 +18,26 @@ use Rattle.engine.specs.declared.answer.Refused.{Refused}
 use Rattle.engine.specs.declared.answer.DueList.{DueList}
 
 -- databases and interfaces after these events
-abbrev pub after : Config → List Event → State
-after config list = run_of config standard_limits list
+abbrev pub after : Base → List Event → State
+after base list = run_of base standard_limits list
 
 -- the reply is that of the event after these, which are legal
-pub record Replies (config : Config) (before : List Event) (e : Event) (r : Reply) : Type 0 where
-  pub legal : IsLegal config before
-  pub accepted : refusal_of (after config before) e ≡ None
-  pub serial : r.serial ≡ length before + 1
-  pub changed : (r.changed ≡ false) ↔ LooksAlike (after config before) (after config (before ++ e ∷ []))
+pub record Replies (base : Base) (before : List Event) (e : Event) (r : Reply) : Type 0 where
+  pub legal : IsLegal base before
+  pub accepted : refusal_of (after base before) e ≡ None
+  pub serial : r.serial ≡ base.serial + length before + 1
+  pub changed : (r.changed ≡ false) ↔ LooksAlike (after base before) (after base (before ++ e ∷ []))
 
 -- The reply is that of the event after some legal list. A token is there exactly where the state is Current, and its list is that one and the event
 abbrev pub Answers : Name → Event → Answer → Type 0
 Answers name e a =
-    (before : List Event) × Replies name.config before e a.reply
-    × MatchOption a.told (a.reply.state ≡ Behind) (λ t. (a.reply.state ≡ Current) × (t.name ≡ name) × (t.list ≡ before ++ e ∷ []) × IsLegal name.config t.list)
+    (before : List Event) × Replies name.base before e a.reply
+    × MatchOption a.told (a.reply.state ≡ Behind) (λ t. (a.reply.state ≡ Current) × (t.name ≡ name) × (t.list ≡ before ++ e ∷ []) × IsLegal name.base t.list)
 
 -- The event is refused after some legal list, which is the token's where there is one. Where there is none something was taken before
 abbrev pub Refusals : Name → Event → Refused → Type 0
 Refusals name e r =
-    (list : List Event) × IsLegal name.config list × IsRefusalOf (after name.config list) e r.refusal
+    (list : List Event) × IsLegal name.base list × IsRefusalOf (after name.base list) e r.refusal
     × MatchOption r.told (list ≢ []) (λ t. (t.name ≡ name) × (t.list ≡ list))
 
 -- the area is configured
@@ -46,7 +47,7 @@ HasArea config id = (a : AreaConfig) × Contains config.areas a × (a.id ≡ id)
 -- What is due in the area after some legal list, which is the token's where there is one. Where there is none something was taken before
 abbrev pub Dues : Name → ℕ → DueList → Type 0
 Dues name area d =
-    (list : List Event) × IsLegal name.config list × (d.serial ≡ length list) × IsDueIn (after name.config list) area (Some d.list.items)
+    (list : List Event) × IsLegal name.base list × (d.serial ≡ name.base.serial + length list) × IsDueIn (after name.base list) area (Some d.list.items)
     × MatchOption d.told (list ≢ []) (λ t. (t.name ≡ name) × (t.list ≡ list))
 
 -- the answer of one event

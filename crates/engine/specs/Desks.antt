@@ -1,5 +1,5 @@
 -- What lies under the lock.
-use Rattle.std.specs.Prelude.{◌≡◌, ℕ, ◌<◌, ◌≤◌, Bool, false, List, [], length, Option, Some}
+use Rattle.std.specs.Prelude.{◌≡◌, ℕ, ◌<◌, ◌≤◌, ◌+◌, Bool, false, List, [], length, Option, Some}
 use mathlib.Core.List.{IsPrefix}
 use Rattle.event_state.specs.declared.event.Event.{Event}
 use Rattle.event_state.specs.Steps.{standard_limits}
@@ -10,6 +10,7 @@ use Rattle.route_table.specs.Deltas.{Lead}
 use Rattle.publication.specs.Lines.{Line}
 use Rattle.publication.specs.Names.{Name}
 use Rattle.publication.specs.Published.{IsShownRight, name_of}
+use Rattle.publication.specs.Told.{Heard}
 use Rattle.publication.specs.Updates.{those_of}
 use Rattle.publication.specs.declared.shown.Shown.{Shown}
 use Rattle.publication.specs.declared.shown.Update.{Update}
@@ -32,7 +33,8 @@ IsBegun list core = IsPrefix list core.journal × (length list ≤ core.built)
 
 -- The core, the history's author, what is shown, and what the writer knows. Nothing is said of updates that are pending: a whole table clears
 pub record IsKept (core : CoreValue) (author : Line) (shown : Shown) (known : Option Name) : Type 0 where
-  pub name : name_of shown ≡ record { book = author.book; config = core.config }
+  pub book : author.book ≡ shown.front.book
+  pub base : core.base ≡ shown.base
   pub known_is : known ≡ Some (name_of shown)
   pub limits : core.limits ≡ standard_limits
   pub right : IsShownRight shown
@@ -48,3 +50,7 @@ abbrev pub CanFollow : CoreValue → Shown → List Update → Type 0
 CanFollow core shown pending =
     (pending ≡ []) × (core.built ≡ length core.journal)
     × Lead shown.table.items core.table.items (those_of core.table.items core.changes)
+
+-- a token of the desk's for this serial: it is for a beginning of the journal
+abbrev pub Tells : Name → List Event → ℕ → Heard → Type 0
+Tells name journal serial t = (t.name ≡ name) × IsPrefix t.list journal × (serial ≡ name.base.serial + length t.list)

@@ -54,7 +54,7 @@ impl fmt::Display for BytesFault {
 }
 
 /// A copy of the summary-LSAs that are due in an area (RFC 2328, 12.4.3), ascending by LS type and destination, with the
-/// number of events that they follow. The token is there exactly where the published table follows as many.
+/// serial of the last event that they follow. The token is there exactly where the published table has the same serial.
 #[derive(Drop)]
 pub struct DueList {
     pub serial: u64,

@@ -1,12 +1,13 @@
 //! What lies under the lock: the core, and the writer of what is published.
-ghost use Rattle.std.specs.Prelude.{◌≡◌, ◌⊎◌, ◌↔◌, ◌≤◌, ◌<◌, ◌^◌, [], ◌∷◌, ◌++◌, length, take, drop, false, MatchBool, IfOk, IfErr, IfNone, MatchOption, MatchResult, IfSome};
+ghost use Rattle.std.specs.Prelude.{◌≡◌, ◌⊎◌, ◌↔◌, ◌≤◌, ◌+◌, ◌<◌, ◌^◌, [], ◌∷◌, ◌++◌, length, drop, false, MatchBool, IfOk, IfErr, IfNone, MatchOption, MatchResult, IfSome};
 ghost use mathlib.Core.List.{IsPrefix};
 ghost use Rattle.left_right.specs.Sides.{view as known_to};
 ghost use Rattle.event_state.specs.Steps.{standard_limits};
 ghost use Rattle.engine.specs.Answers.{Answers, Refusals, Dues, HasArea};
 ghost use Rattle.event_core.specs.Cores.{IsCore};
-ghost use Rattle.engine.specs.Desks.{IsKept, IsBegun, CanFollow, CatchesUp};
+ghost use Rattle.engine.specs.Desks.{IsKept, IsBegun, CanFollow, CatchesUp, Tells};
 ghost use Rattle.engine.specs.Opens.{AreReaders};
+ghost use Rattle.publication.specs.Published.{name_of};
 ghost use Rattle.event_state.specs.declared.refusal.Refusal.TheVariants.{Memory as NoMemory, NoArea};
 ghost use Rattle.event_core.specs.declared.reply.Standing.TheVariants.{Current, Behind};
 
@@ -36,10 +37,11 @@ impl Model for Desk {
     ghost use Rattle.left_right.specs.Sides.{view as known_to};
     ghost use Rattle.event_core.specs.Cores.{IsCore};
     ghost use Rattle.engine.specs.Desks.{Held, IsKept, IsFresh};
+    ghost use Rattle.publication.specs.Published.{name_of};
 
     ghost Value = { Held };
 
-    ghost view = { λ d. record { name = record { book = d.author.book; config = d.core.config }; journal = d.core.journal; built = d.core.built; published = d.writer.desk.shown.value.front.list } };
+    ghost view = { λ d. record { name = name_of d.writer.desk.shown.value; journal = d.core.journal; built = d.core.built; published = d.writer.desk.shown.value.front.list } };
 
     ghost invariant = { λ d. IsCore d.core × IsKept d.core d.author d.writer.desk.shown.value (known_to d.writer.desk.place) × IsFresh d.stale d.core d.writer.desk.shown.value (drop d.writer.behind d.writer.log.items) };
 }
@@ -66,7 +68,7 @@ fn follow_built(author: &mut Author, core: &Core) -> bool
     ensures written { IsBegun author.new.list core.now }
     ensures whole { MatchBool result ((author.new.list ≡ core.now.journal) × (core.now.built ≡ length core.now.journal)) (core.now.built < length core.now.journal) }
 {
-    if core.built() < core.journal().len() as u64 {
+    if !core.is_current() {
         return false;
     }
     follow(author, core.journal());
@@ -82,7 +84,7 @@ fn publish_whole<R: Wait>(
     writer: ShownWriter,
 ) -> Desk
     requires { IsKept core author writer.desk.shown.value (known_to writer.desk.place) }
-    ensures same { (result.name ≡ record { book = author.book; config = core.config }) × (result.journal ≡ core.journal) × (result.built ≡ core.built) }
+    ensures same { (result.name ≡ name_of writer.desk.shown.value) × (result.journal ≡ core.journal) × (result.built ≡ core.built) }
     ensures grows { IsPrefix writer.desk.shown.value.front.list result.published }
 {
     let mut author = author;
@@ -115,7 +117,7 @@ fn publish_changes<R: Wait>(
 ) -> Desk
     requires kept { IsKept core author writer.desk.shown.value (known_to writer.desk.place) }
     requires follows { CanFollow core writer.desk.shown.value (drop writer.behind writer.log.items) }
-    ensures same { (result.name ≡ record { book = author.book; config = core.config }) × (result.journal ≡ core.journal) × (result.built ≡ core.built) }
+    ensures same { (result.name ≡ name_of writer.desk.shown.value) × (result.journal ≡ core.journal) × (result.built ≡ core.built) }
     ensures grows { IsPrefix writer.desk.shown.value.front.list result.published }
 {
     let mut author = author;
@@ -149,7 +151,7 @@ fn publish<R: Wait>(
 ) -> Desk
     requires kept { IsKept core author writer.desk.shown.value (known_to writer.desk.place) }
     requires follows { whole ≡ false → CanFollow core writer.desk.shown.value (drop writer.behind writer.log.items) }
-    ensures same { (result.name ≡ record { book = author.book; config = core.config }) × (result.journal ≡ core.journal) × (result.built ≡ core.built) }
+    ensures same { (result.name ≡ name_of writer.desk.shown.value) × (result.journal ≡ core.journal) × (result.built ≡ core.built) }
     ensures grows { IsPrefix writer.desk.shown.value.front.list result.published }
 {
     if whole {
@@ -160,17 +162,17 @@ fn publish<R: Wait>(
 }
 
 impl Desk {
-    // A token for the published list, if it has this length.
+    // A token for the published list, if it has this serial.
     fn told(&self, serial: u64) -> Option<Told>
-        ensures none { IfNone result (¬ (serial ≡ length self.now.published)) }
-        ensures some { IfSome result (λ t. (t.name ≡ self.now.name) × (t.list ≡ take serial self.now.journal) × (serial ≡ length t.list)) }
+        ensures none { IfNone result (¬ (serial ≡ self.now.name.base.serial + length self.now.published)) }
+        ensures some { IfSome result (Tells self.now.name self.now.journal serial) }
         ensures published { IfSome result (λ t. t.list ≡ self.now.published) }
     {
         let shown = self.writer.published();
         if shown.table.serial() != serial {
             return None;
         }
-        Some(Told::of(shown.front.again(), Setting::of(self.core.config())))
+        Some(Told::of(shown.front.again(), shown.base.again(), serial))
     }
 
     /// Takes an event, and publishes the table. Between the two it passes the gate.
@@ -212,7 +214,7 @@ impl Desk {
                     writer,
                     stale,
                 };
-                let told = desk.told(desk.core.journal().len() as u64);
+                let told = desk.told(desk.core.serial());
                 (desk, Err(Refused { refusal, told }))
             }
         }
@@ -249,16 +251,16 @@ impl Desk {
         ensures grows { IsPrefix self.published result.0.published }
     {
         let (desk, state) = self.follow_up(rt);
-        let told = desk.told(desk.core.journal().len() as u64);
+        let told = desk.told(desk.core.serial());
         (desk, state, told)
     }
 
     /// A copy of what is due in an area.
     pub fn due(&self, area: u32) -> Result<DueList, Refusal>
         ensures due { IfOk result (Dues self.now.name area) }
-        ensures built { IfOk result (λ d. d.serial ≡ self.now.built) }
-        ensures told { IfOk result (λ d. MatchOption d.told (¬ (d.serial ≡ length self.now.published)) (λ t. t.list ≡ self.now.published)) }
-        ensures area { MatchResult result (λ _. HasArea self.now.name.config area) (λ e. (e ≡ NoArea) ↔ (¬ (HasArea self.now.name.config area))) }
+        ensures built { IfOk result (λ d. d.serial ≡ self.now.name.base.serial + self.now.built) }
+        ensures told { IfOk result (λ d. MatchOption d.told (¬ (d.serial ≡ self.now.name.base.serial + length self.now.published)) (λ t. t.list ≡ self.now.published)) }
+        ensures area { MatchResult result (λ _. HasArea self.now.name.base.config area) (λ e. (e ≡ NoArea) ↔ (¬ (HasArea self.now.name.base.config area))) }
         ensures refused { IfErr result (λ e. (e ≡ NoArea) ⊎ (e ≡ NoMemory)) }
     {
         let Some(due) = self.core.due(area) else {
@@ -277,11 +279,12 @@ impl Desk {
         requires readers { AreReaders readers }
         requires journal { core.journal ≡ [] }
         requires limits { core.limits ≡ standard_limits }
-        ensures { IfOk result (λ d. (d.name.config ≡ core.config) × (d.journal ≡ []) × (d.published ≡ [])) }
+        ensures { IfOk result (λ d. (d.name.base ≡ core.base) × (d.journal ≡ []) × (d.published ≡ [])) }
     {
         let mut author = Author::open();
-        let first = Shown::of(alloc, core.table(), &author.front(), core.config())?;
-        let second = Shown::of(alloc, core.table(), &author.front(), core.config())?;
+        let opening = Setting::of(core.base());
+        let first = Shown::of(alloc, core.table(), &author.front(), &opening)?;
+        let second = Shown::of(alloc, core.table(), &author.front(), &opening)?;
         let writer = ShownWriter::new(alloc, first, second, readers)?;
         let (writer, done) = show(rt, alloc, writer, core.table(), &mut author);
         if !done {
@@ -304,20 +307,21 @@ impl Desk {
     {
         let mut reader = self.writer.factory().reader()?;
         reader.learn::<Named>(self.writer.tell::<Named>());
-        let known = self.writer.published().front.again();
-        Ok(Forwarder::of(reader, known, Setting::of(self.core.config())))
+        let shown = self.writer.published();
+        Ok(Forwarder::of(reader, shown.front.again(), shown.base.again()))
     }
 
     /// The name, to be kept beside the lock.
     pub fn tag(&self) -> Tag
         ensures { result ≡ self.now.name }
     {
-        Tag::of(&self.author.front(), self.core.config())
+        let shown = self.writer.published();
+        Tag::of(&shown.front, &shown.base)
     }
 
     /// Waits for the readers, and gives the core back.
     pub fn end<R: Wait>(self, rt: &R) -> Core
-        ensures { (result.config ≡ self.name.config) × (result.journal ≡ self.journal) × (result.limits ≡ standard_limits) }
+        ensures { (result.base ≡ self.name.base) × (result.journal ≡ self.journal) × (result.limits ≡ standard_limits) }
     {
         let Desk {
             alloc: _,

@@ -2,6 +2,7 @@
 ghost use Rattle.std.specs.Prelude.{◌≡◌, ◌⊎◌, ◌↔◌, ◌++◌, [], ◌∷◌, length, All, None, IfOk, IfErr, IfSome, OnOk, MatchResult};
 ghost use Rattle.event_core.specs.Cores.{IsCore};
 ghost use Rattle.event_core.specs.Configs.{config_fault_of};
+ghost use Rattle.event_state.specs.Bases.{bare};
 ghost use Rattle.event_state.specs.Steps.{standard_limits};
 ghost use Rattle.publication.specs.Forwarders.{Looker};
 ghost use Rattle.publication.specs.Published.{IsLegal};
@@ -30,7 +31,7 @@ mod tests;
 const MOST_READERS: usize = 64;
 
 /// The databases, the routing table and the due summaries of an area border router, for threads that share them. One event
-/// is all between taking and releasing its lock. To a contract the engine is its name: its history, and its configuration.
+/// is all between taking and releasing its lock. To a contract the engine is its name: its history, and the base that it began with.
 /// It is not `Drop`: end it by `close`.
 pub struct Engine {
     alloc: Global,
@@ -57,7 +58,7 @@ impl Engine {
     ) -> Result<(Engine, Vec<Forwarder>), OpenFault>
         ensures fault { IfErr result (IsOpenFaultOf config readers) }
         ensures sound { IfOk result (λ r. (config_fault_of config ≡ None) × AreReaders readers) }
-        ensures config { IfOk result (λ r. r.0.config ≡ config) }
+        ensures base { IfOk result (λ r. r.0.base ≡ bare config) }
         ensures count { IfOk result (λ r. length r.1.items ≡ readers) }
         ensures forwarders { IfOk result (λ r. All (λ f. (f.name ≡ r.0) × (f.known ≡ [])) r.1.items) }
     {
@@ -105,7 +106,7 @@ impl Engine {
 
     /// Builds and publishes what is behind.
     pub fn catch_up<R: Wait>(&self, rt: &R) -> Option<Told>
-        ensures { IfSome result (λ t. (t.name ≡ self.now) × IsLegal self.now.config t.list) }
+        ensures { IfSome result (λ t. (t.name ≡ self.now) × IsLegal self.now.base t.list) }
     {
         let door = self.door.lock(rt);
         let (desk, _state, told) = self.room.take(rt).catch_up(rt);
@@ -117,7 +118,7 @@ impl Engine {
     /// A copy of the summary-LSAs that are due in the area (RFC 2328, 12.4.3).
     pub fn due<R: Wait>(&self, rt: &R, area: u32) -> Result<DueList, Refusal>
         ensures due { IfOk result (Dues self.now area) }
-        ensures area { MatchResult result (λ _. HasArea self.now.config area) (λ e. (e ≡ NoArea) ↔ (¬ (HasArea self.now.config area))) }
+        ensures area { MatchResult result (λ _. HasArea self.now.base.config area) (λ e. (e ≡ NoArea) ↔ (¬ (HasArea self.now.base.config area))) }
         ensures refused { IfErr result (λ e. (e ≡ NoArea) ⊎ (e ≡ NoMemory)) }
     {
         let door = self.door.lock(rt);
@@ -134,9 +135,9 @@ impl Engine {
 
     /// Waits for the forwarders that look, and gives the core back.
     pub fn close<R: Wait>(self, rt: &R) -> Core
-        ensures config { result.config ≡ self.config }
+        ensures base { result.base ≡ self.base }
         ensures limits { result.limits ≡ standard_limits }
-        ensures legal { IsLegal self.config result.journal }
+        ensures legal { IsLegal self.base result.journal }
     {
         let Engine {
             alloc: _,
@@ -162,7 +163,7 @@ fn open_over<R: Wait>(
     requires limits { core.limits ≡ standard_limits }
     requires readers { AreReaders readers }
     ensures fault { IfErr result (λ e. (e ≡ open_value.Place) ⊎ (e ≡ open_value.Config fault.Memory)) }
-    ensures config { IfOk result (λ r. r.0.config ≡ core.config) }
+    ensures base { IfOk result (λ r. r.0.base ≡ core.base) }
     ensures count { IfOk result (λ r. length r.1.items ≡ readers) }
     ensures forwarders { IfOk result (λ r. All (λ f. (f.name ≡ r.0) × (f.known ≡ [])) r.1.items) }
 {

@@ -16,7 +16,7 @@ show-writer-requires-clause-right g c =
     let shown = c.args.writer.desk.shown.value in
     let kept = author_kept c.args.core c.args.author c.follow_built.new.author shown _ followed.book followed.written c.requires in
     let right = table_shown c.args.core c.follow_built.new.author shown _ followed.kept kept whole.0 whole.1 in
-    subst (λ (t : TableValue). IsTableFor shown.config c.follow_built.new.author.list t) (sym c.table.ensures.value) right
+    subst (λ (t : TableValue). IsTableFor shown.base c.follow_built.new.author.list t) (sym c.table.ensures.value) right
 
 pub invariant_of-result-2 : goal.invariant_of-result-2
 invariant_of-result-2 g c =

@@ -9,7 +9,7 @@ pub publish_whole-desk-requires : goal.publish_whole-desk-requires
 publish_whole-desk-requires g c =
     let core = c.self.inside.core in
     let done = c.catch_up-state.ensures in
-    core_kept core c.catch_up-state.new.self c.catch_up-state.result _ _ _ done.config done.limits ([], append-nil core.journal ∙ sym done.journal) done.stands c.self.invariant.1
+    core_kept core c.catch_up-state.new.self c.catch_up-state.result _ _ _ done.base done.limits ([], append-nil core.journal ∙ sym done.journal) done.stands c.self.invariant.1
 
 pub returns-clause-state : goal.returns-clause-state
 returns-clause-state g c =

@@ -7,5 +7,5 @@ use Rattle.engine.proofs.engine_state.Engine.due.Goals as goal
 
 pub returns-clause-area : goal.returns-clause-area
 returns-clause-area g c =
-    subst (λ (n : Name). MatchResult c.due-due.result (λ _. HasArea n.config c.args.area) (λ e. (e ≡ NoArea) ↔ (¬ HasArea n.config c.args.area)))
+    subst (λ (n : Name). MatchResult c.due-due.result (λ _. HasArea n.base.config c.args.area) (λ e. (e ≡ NoArea) ↔ (¬ HasArea n.base.config c.args.area)))
     (c.take-desk.ensures ∙ c.self.view_is) c.due-due.ensures.area
