@@ -1,12 +1,14 @@
 -- What a forwarder learns of two events, and what it sees then.
 use Rattle.std.proofs.Common.{ℕ, ◌≡◌, ◌⊎◌, ◌+◌, ◌++◌, ◌∙◌, List, [], ◌∷◌, Some, None, Result, Ok, Err, IfOk, length, length-append, ap, sym, subst, refl, arith, inl, inr}
 use mathlib.Core.List.{IsPrefix}
-use Rattle.ospf_types.specs.declared.config.Config.{Config}
 use Rattle.ospf_types.specs.Text.{address_text}
+use Rattle.event_state.specs.declared.base.Base.{Base}
 use Rattle.event_state.specs.declared.event.Event.{Event}
+use Rattle.event_state.specs.Bases.{bare}
 use Rattle.event_state.specs.Refusals.{IsRefusalOf}
 use Rattle.event_state.specs.States.{State}
-use Rattle.event_state.specs.Steps.{refusal_of}
+use Rattle.event_state.specs.Steps.{refusal_of, standard_limits}
+use Rattle.event_state.proofs.Rolls.{run_serial}
 use Rattle.config_faults.specs.Configs.{config_fault_of}
 use Rattle.config_faults.specs.declared.fault.ConfigFault.{ConfigFault}
 use Rattle.engine.specs.Answers.{Answers, Refusals, after}
@@ -51,7 +53,7 @@ known_more known told now before e p q one is more =
 
 -- an answer with a token
 told_answer : (name : Name) (e : Event) (a : Answer) (t : Heard) → Answers name e a → a.told ≡ Some t
-    → (before : List Event) × (refusal_of (after name.config before) e ≡ None) × (t.list ≡ before ++ e ∷ [])
+    → (before : List Event) × (refusal_of (after name.base before) e ≡ None) × (t.list ≡ before ++ e ∷ [])
 told_answer name e a t h is = (h.0, h.1.accepted, (rw is at h.2).2)
 
 pub taken : (name : Name) (e : Event) (a : Answer) (t : Heard) (f : Looker) (count : ℕ) (r : Result Looker CommandFault) → Answers name e a → a.told ≡ Some t → f.name ≡ name
@@ -66,30 +68,31 @@ taken name e a t f count (Ok x) h told same len named learned longer =
 
 pub accepted : (name : Name) (e : Event) (a : Answer) (t : Heard) (f : Looker) (count : ℕ) (r : Result Looker CommandFault) → Answers name e a → a.told ≡ Some t
     → length f.known ≡ count → IfOk r (λ x. HasLearned f.known t.list x.known) → IfOk r (λ _. length t.list ≡ count + 1)
-    → IfOk r (λ _. refusal_of (after name.config f.known) e ≡ None)
+    → IfOk r (λ _. refusal_of (after name.base f.known) e ≡ None)
 accepted name e a t f count (Err x) h told len learned longer = tt
 accepted name e a t f count (Ok x) h told len learned longer =
     let of = told_answer name e a t h told in
     let same = known_before f.known t.list x.known of.0 e learned.before learned.told_too of.2 (omega (arith, longer, len)) in
-    subst (λ (list : List Event). refusal_of (after name.config list) e ≡ None) same of.1
+    subst (λ (list : List Event). refusal_of (after name.base list) e ≡ None) same of.1
 
 pub refused_so : (name : Name) (e : Event) (a : Refused) (t : Heard) (known now : List Event) (count : ℕ) → Refusals name e a → a.told ≡ Some t
-    → length known ≡ count → HasLearned known t.list now → length t.list ≡ count → IsRefusalOf (after name.config known) e a.refusal
+    → length known ≡ count → HasLearned known t.list now → length t.list ≡ count → IsRefusalOf (after name.base known) e a.refusal
 refused_so name e a t known now count h told len learned same =
     let list : t.list ≡ h.0 = (rw told at h.3).1 in
     let whole = same_beginning t.list known now learned.told_too learned.before (omega (arith, len, same)) in
-    subst (λ (xs : List Event). IsRefusalOf (after name.config xs) e a.refusal) (sym list ∙ whole) h.2
+    subst (λ (xs : List Event). IsRefusalOf (after name.base xs) e a.refusal) (sym list ∙ whole) h.2
 
 -- ---- what was seen
 
-pub seen_prints : (g : Given) (f : Looker) (s : Sighted) (line : List ℕ) → f.name.config ≡ config_of g → f.known ≡ both_events g → Sights f g.lookup s → PrintsSeen s line → Prints g line
-seen_prints g f s line config known sights h =
+pub seen_prints : (g : Given) (f : Looker) (s : Sighted) (line : List ℕ) → f.name.base ≡ bare (config_of g) → f.known ≡ both_events g → Sights f g.lookup s → PrintsSeen s line → Prints g line
+seen_prints g f s line base known sights h =
     let begun : IsPrefix (both_events g) s.list = subst (λ xs. IsPrefix xs s.list) known sights.2 in
     let whole : both_events g ≡ s.list = prefix_whole (both_events g) s.list begun (omega (arith, h.both)) in
-    let right : IsTableFor (config_of g) (both_events g) s.table = subst (λ (z : Config × List Event). IsTableFor z.0 z.1 s.table) (λ i. ((ap (λ n. n.config) sights.0 ∙ config) i, sym whole i)) h.right in
+    let right : IsTableFor (bare (config_of g)) (both_events g) s.table = subst (λ (z : Base × List Event). IsTableFor z.0 z.1 s.table) (λ i. ((ap (λ n. n.base) sights.0 ∙ base) i, sym whole i)) h.right in
+    let serial = run_serial (bare (config_of g)) standard_limits (both_events g) in
     record {
       table = s.table;
-      right = record { legal = right.0; right = right.1 };
+      right = record { legal = right.0; right = record { routes = right.1.routes; discards = right.1.discards; serial = right.1.serial ∙ sym serial } };
       found = h.found;
       matched = subst (λ (a : ℕ). IsMatch s.table.items a h.found) sights.1 h.matched;
       printed = h.printed ∙ ap (λ (a : ℕ). lookup_line (address_text a) s.table h.found) sights.1;

@@ -1,5 +1,6 @@
 //! The command `one`.
 ghost use Rattle.std.specs.Prelude.{◌≡◌, ◌⊎◌, ◌<◌, ◌++◌, [], ◌∷◌, length, None, IfOk, IfErr, string_bytes};
+ghost use Rattle.event_state.specs.Bases.{bare};
 ghost use Rattle.event_state.specs.Steps.{refusal_of};
 ghost use Rattle.config_faults.specs.Configs.{config_fault_of};
 ghost use Rattle.engine.specs.Answers.{after};
@@ -108,7 +109,7 @@ fn open_engine<S: Wait>(
     hashing: RandomState,
     config: Config,
 ) -> Result<(Engine, Forwarder), CommandFault<'static>>
-    ensures config { IfOk result (λ opened. (opened.0.config ≡ config) × (config_fault_of config ≡ None)) }
+    ensures base { IfOk result (λ opened. (opened.0.base ≡ bare config) × (config_fault_of config ≡ None)) }
     ensures forwarder { IfOk result (λ opened. (opened.1.name ≡ opened.0) × (opened.1.known ≡ [])) }
     ensures fault { IfErr result (IsOpenFault config) }
 {
@@ -134,7 +135,7 @@ fn look_in<S: Wait>(
     input: &OneInput,
     lsa: Checked,
 ) -> Result<String, CommandFault<'static>>
-    requires config { engine.now.config ≡ config_of (given_by input.now lsa) }
+    requires base { engine.now.base ≡ bare (config_of (given_by input.now lsa)) }
     requires sound { config_fault_of (config_of (given_by input.now lsa)) ≡ None }
     requires name { forwarder.name ≡ engine.now }
     requires known { forwarder.known ≡ [] }
@@ -160,7 +161,7 @@ fn take_both<S: Wait>(
     input: &OneInput,
     lsa: Checked,
 ) -> Result<Forwarder, CommandFault<'static>>
-    requires config { engine.now.config ≡ config_of (given_by input.now lsa) }
+    requires base { engine.now.base ≡ bare (config_of (given_by input.now lsa)) }
     requires sound { config_fault_of (config_of (given_by input.now lsa)) ≡ None }
     requires name { forwarder.name ≡ engine.now }
     requires known { forwarder.known ≡ [] }
@@ -190,11 +191,12 @@ fn submit<S: Wait>(
     count: u64,
 ) -> Result<Forwarder, CommandFault<'static>>
     requires name { forwarder.name ≡ engine.now }
+    requires first { engine.now.base.serial ≡ 0 }
     requires count { length forwarder.known ≡ count }
     requires few { count < 2 }
     ensures known { IfOk result (λ f. (f.name ≡ engine.now) × (f.known ≡ forwarder.known ++ event ∷ [])) }
-    ensures accepted { IfOk result (λ _. refusal_of (after engine.now.config forwarder.known) event ≡ None) }
-    ensures fault { IfErr result (IsStepFault (after engine.now.config forwarder.known) event) }
+    ensures accepted { IfOk result (λ _. refusal_of (after engine.now.base forwarder.known) event ≡ None) }
+    ensures fault { IfErr result (IsStepFault (after engine.now.base forwarder.known) event) }
 {
     match engine.submit(rt, event) {
         Ok(Taken { reply: _, told }) => match told {
@@ -213,7 +215,8 @@ fn submit<S: Wait>(
 
 // The forwarder learns a token that is for so many events.
 fn learn(forwarder: Forwarder, told: Told, count: u64) -> Result<Forwarder, CommandFault<'static>>
-    requires { told.name ≡ forwarder.name }
+    requires name { told.name ≡ forwarder.name }
+    requires first { forwarder.name.base.serial ≡ 0 }
     ensures name { IfOk result (λ f. f.name ≡ forwarder.name) }
     ensures learned { IfOk result (λ f. HasLearned forwarder.known told.list f.known) }
     ensures count { IfOk result (λ _. length told.list ≡ count) }
@@ -227,7 +230,8 @@ fn learn(forwarder: Forwarder, told: Told, count: u64) -> Result<Forwarder, Comm
 
 // The line of what was seen of this address, where that follows two events.
 fn line_of(alloc: Global, seen: &Seen, address: u32) -> Result<String, CommandFault<'static>>
-    requires { seen.now.address ≡ address }
+    requires address { seen.now.address ≡ address }
+    requires first { seen.now.name.base.serial ≡ 0 }
     ensures line { IfOk result (λ line. PrintsSeen seen.now (string_bytes line)) }
     ensures fault { IfErr result (λ f. (f ≡ CommandFault.NoEntry) ⊎ (f ≡ CommandFault.Memory)) }
 {

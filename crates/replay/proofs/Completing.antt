@@ -10,6 +10,7 @@ use Rattle.ospf_types.specs.declared.config.Config.{Config}
 use Rattle.ospf_types.specs.declared.key.Scope.{Scope}
 use Rattle.ospf_types.specs.Lsa.{Lsa}
 use Rattle.ospf_types.proofs.Elements.{no_element, first_element, later_element, first_or_later}
+use Rattle.event_state.specs.declared.base.Base.{Base}
 use Rattle.event_state.specs.declared.event.Event.{Event}
 use Rattle.event_state.specs.declared.refusal.Refusal.{Refusal}
 use Rattle.event_state.specs.declared.refusal.Refusal.TheVariants as refusal
@@ -86,12 +87,12 @@ area_ids areas ordered = record {
   same = λ id. (λ has. has_place areas id ∙ to_any areas id has, λ some. from_any areas id (sym (has_place areas id) ∙ some));
 }
 
-applies_config : (old new : CoreValue) (e : Event) (answer : Result Reply Refusal) → Applies old e answer new → new.config ≡ old.config
-applies_config old new e (Ok reply) taken = taken.config
-applies_config old new e (Err refusal) refused = ap (λ (c : CoreValue). c.config) refused.unchanged
+applies_config : (old new : CoreValue) (e : Event) (answer : Result Reply Refusal) → Applies old e answer new → new.base.config ≡ old.base.config
+applies_config old new e (Ok reply) taken = ap (λ (b : Base). b.config) taken.base
+applies_config old new e (Err refusal) refused = ap (λ (c : CoreValue). c.base.config) refused.unchanged
 
-prints_config : (old new : CoreValue) (number : ℕ) (lines : List Line) (answers : Answers) (text : List ℕ) → Prints old number lines answers text new → new.config ≡ old.config
-prints_config old new number [] [] text (none, same) = ap (λ (c : CoreValue). c.config) same
+prints_config : (old new : CoreValue) (number : ℕ) (lines : List Line) (answers : Answers) (text : List ℕ) → Prints old number lines answers text new → new.base.config ≡ old.base.config
+prints_config old new number [] [] text (none, same) = ap (λ (c : CoreValue). c.base.config) same
 prints_config old new number [] (a ∷ answers) text run = absurd run
 prints_config old new number (line.Lookup address ∷ lines) answers text (found, rest, matched, printed, run) = prints_config old new (number + 1) lines answers rest run
 prints_config old new number (line.Event e ∷ lines) [] text run = absurd run
@@ -99,10 +100,10 @@ prints_config old new number (line.Event e ∷ lines) (a ∷ answers) text (mid,
     prints_config mid new (number + 1) lines answers rest run ∙ applies_config old mid e a applies
 
 -- the LSAs can be listed
-some_lsas : (r : RecordingValue) (c : CoreValue) → IsOrdered r.config.areas → c.config ≡ r.config → (lsas : List (Scope × Lsa)) × AreLsas (state_of c) lsas
+some_lsas : (r : RecordingValue) (c : CoreValue) → IsOrdered r.config.areas → c.base.config ≡ r.config → (lsas : List (Scope × Lsa)) × AreLsas (state_of c) lsas
 some_lsas r c ordered config =
     let ids : List ℕ = map (λ (a : AreaConfig). a.id) r.config.areas in
-    let same : r.config ≡ (state_of c).config = sym ((run_setting (opening c.config c.limits) c.journal).config ∙ config) in
+    let same : r.config ≡ (state_of c).config = sym ((run_setting (opening c.base c.limits) c.journal).config ∙ config) in
     (lsas_in (state_of c) ids, (ids, subst (λ (g : Config). AreAreaIds g.areas ids) same (area_ids r.config.areas ordered), refl))
 
 -- what is shown; it begins with the lines of the run, where these are printed
@@ -111,7 +112,7 @@ record Shown (r : RecordingValue) (s : Show) (printed : List ℕ) (c : CoreValue
   shown : IsShown r.version s printed c whole
   behind : PrintsRun s → (tail : List ℕ) × (whole ≡ printed ++ tail)
 
-some_shown : (r : RecordingValue) (s : Show) (printed : List ℕ) (c : CoreValue) → IsOrdered r.config.areas → c.config ≡ r.config → Shown r s printed c
+some_shown : (r : RecordingValue) (s : Show) (printed : List ℕ) (c : CoreValue) → IsOrdered r.config.areas → c.base.config ≡ r.config → Shown r s printed c
 some_shown r show.Routes printed c ordered config =
     let items : List ℕ = flat_map item_line (entries c.table.items) in
     record { whole = printed ++ serial_line c ++ items; shown = refl; behind = λ _. (serial_line c ++ items, append_assoc printed (serial_line c) items) }
@@ -140,7 +141,7 @@ goes_on r s count answers printed now ordered h =
     let both = prints_more h.opened now now first (take count r.lines) (drop count r.lines) answers rest.answers printed rest.text h.run rest.run in
     let run : Prints h.opened first r.lines (answers ++ rest.answers) (printed ++ rest.text) now =
     subst (λ (ls : List Line). Prints h.opened first ls (answers ++ rest.answers) (printed ++ rest.text) now) (take-append-drop count r.lines) both in
-    let text = some_shown r s (printed ++ rest.text) now ordered (prints_config h.opened now first (take count r.lines) answers printed h.run ∙ h.opening.opening.config) in
+    let text = some_shown r s (printed ++ rest.text) now ordered (prints_config h.opened now first (take count r.lines) answers printed h.run ∙ ap (λ (b : Base). b.config) h.opening.opening.base) in
     record {
       answers = answers ++ rest.answers;
       whole = text.whole;

@@ -28,16 +28,16 @@ use Rattle.replay.proofs.Completing.{completed}
 use Rattle.replay.proofs.Paging.{adds_put, adds_more, adds_moved, page_whole, part_more, part_moved}
 
 -- memory ran out before anything was written
-pub none_written : (v : Version) (old : CoreValue) (lines : List Line) (s : Show) (a : Option (List ℕ)) → IsOpened old.config old → WritesPart stop.Memory (record { version = v; config = old.config; lines = lines }) s a a
+pub none_written : (v : Version) (old : CoreValue) (lines : List Line) (s : Show) (a : Option (List ℕ)) → IsOpened old.base.config old → WritesPart stop.Memory (record { version = v; config = old.base.config; lines = lines }) s a a
 none_written v old lines s a opening = record { part = []; is = inl (record { opened = old; opening = opening; cause = refl; none = refl }); written = appends_none a }
 
-is_run : (v : Version) (old new : CoreValue) (lines : List Line) (answers : Answers) (text : List ℕ) → IsOpened old.config old → Prints old (first_number v old.config) lines answers text new
-    → IsRun (record { version = v; config = old.config; lines = lines }) answers text new
+is_run : (v : Version) (old new : CoreValue) (lines : List Line) (answers : Answers) (text : List ℕ) → IsOpened old.base.config old → Prints old (first_number v old.base.config) lines answers text new
+    → IsRun (record { version = v; config = old.base.config; lines = lines }) answers text new
 is_run v old new lines answers text opening run = record { opened = old; opening = opening; run = run }
 
 -- the run ended early
-pub run_cut : (why : Stop) (v : Version) (old : CoreValue) (lines : List Line) (s : Show) (a b : Option (List ℕ)) (before : List ℕ) → IsOpened old.config old → PrintsRun s → before ≡ []
-    → RanPart why old (first_number v old.config) lines a b before → WritesPart why (record { version = v; config = old.config; lines = lines }) s a b
+pub run_cut : (why : Stop) (v : Version) (old : CoreValue) (lines : List Line) (s : Show) (a b : Option (List ℕ)) (before : List ℕ) → IsOpened old.base.config old → PrintsRun s → before ≡ []
+    → RanPart why old (first_number v old.base.config) lines a b before → WritesPart why (record { version = v; config = old.base.config; lines = lines }) s a b
 run_cut why v old lines s a b before opening prints none h =
     let part : AddsPart why a b h.text = subst (λ w. AddsPart why a b (w ++ h.text)) none h.part in
     record {
@@ -81,15 +81,15 @@ pub ran_page : (old new : CoreValue) (first : ℕ) (lines : List Line) (a b : Op
 ran_page old new first lines a b before page put none ran serial =
     subst AreWhole (sym serial) (append_whole page (serial_line new) (page_whole a b before page ran.text ran.printed (inl none)) (serial_whole new))
 
-module _ (v : Version) (old new : CoreValue) (lines : List Line) (s : Show) (a b c : Option (List ℕ)) (before page put tail : List ℕ) (opening : IsOpened old.config old)
-    (none : before ≡ []) (ran : Ran old (first_number v old.config) lines new a b before page) (serial : put ≡ page ++ serial_line new) (shown : (printed : List ℕ) → IsShown v s printed new ((printed ++ serial_line new) ++ tail)) where
-  output : IsOutput (record { version = v; config = old.config; lines = lines }) s ran.answers ((ran.text ++ serial_line new) ++ tail)
+module _ (v : Version) (old new : CoreValue) (lines : List Line) (s : Show) (a b c : Option (List ℕ)) (before page put tail : List ℕ) (opening : IsOpened old.base.config old)
+    (none : before ≡ []) (ran : Ran old (first_number v old.base.config) lines new a b before page) (serial : put ≡ page ++ serial_line new) (shown : (printed : List ℕ) → IsShown v s printed new ((printed ++ serial_line new) ++ tail)) where
+  output : IsOutput (record { version = v; config = old.base.config; lines = lines }) s ran.answers ((ran.text ++ serial_line new) ++ tail)
   output = record { printed = ran.text; closed = new; run = is_run v old new lines ran.answers ran.text opening ran.run; shown = shown ran.text }
 
   printed : Adds a b [] put (ran.text ++ serial_line new)
   printed = adds_put a b [] page ran.text put (serial_line new) (subst (λ w. Adds a b w page ran.text) none ran.printed) serial (serial_whole new)
 
-  pub shown_whole : (moved : List ℕ) → Adds b c put moved tail → Whole (record { version = v; config = old.config; lines = lines }) s a c moved
+  pub shown_whole : (moved : List ℕ) → Adds b c put moved tail → Whole (record { version = v; config = old.base.config; lines = lines }) s a c moved
   shown_whole moved more = record {
     answers = ran.answers;
     whole = (ran.text ++ serial_line new) ++ tail;
@@ -97,10 +97,10 @@ module _ (v : Version) (old new : CoreValue) (lines : List Line) (s : Show) (a b
     printed = adds_more a b c [] put moved (ran.text ++ serial_line new) tail printed more;
   }
 
-  pub shown_cut : (why : Stop) → (AreWhole put → AddsPart why b c (put ++ tail)) → WritesPart why (record { version = v; config = old.config; lines = lines }) s a c
+  pub shown_cut : (why : Stop) → (AreWhole put → AddsPart why b c (put ++ tail)) → WritesPart why (record { version = v; config = old.base.config; lines = lines }) s a c
   shown_cut why stopped =
-      output_cut why (record { version = v; config = old.config; lines = lines }) s ran.answers ((ran.text ++ serial_line new) ++ tail) a c output
-      (part_more why a b c [] put (ran.text ++ serial_line new) tail none_whole printed (stopped (ran_page old new (first_number v old.config) lines a b before page put none ran serial)))
+      output_cut why (record { version = v; config = old.base.config; lines = lines }) s ran.answers ((ran.text ++ serial_line new) ++ tail) a c output
+      (part_more why a b c [] put (ran.text ++ serial_line new) tail none_whole printed (stopped (ran_page old new (first_number v old.base.config) lines a b before page put none ran serial)))
 
 -- ---- the journal, alone
 
@@ -108,28 +108,28 @@ event_lines : (events : List Event) → flat_map ended (map form_of (map line.Ev
 event_lines [] = refl
 event_lines (e ∷ events) = ap (λ l. event_line e ++ l) (event_lines events)
 
-pub journal_text : (v : Version) (c : CoreValue) → text_of (journal_of v c) ≡ text_of_forms (header_forms v c.config) ++ flat_map event_line c.journal
-journal_text v c = flat_map-append ended (header_forms v c.config) (map form_of (map line.Event c.journal)) ∙ ap (λ l. text_of_forms (header_forms v c.config) ++ l) (event_lines c.journal)
+pub journal_text : (v : Version) (c : CoreValue) → text_of (journal_of v c) ≡ text_of_forms (header_forms v c.base.config) ++ flat_map event_line c.journal
+journal_text v c = flat_map-append ended (header_forms v c.base.config) (map form_of (map line.Event c.journal)) ∙ ap (λ l. text_of_forms (header_forms v c.base.config) ++ l) (event_lines c.journal)
 
-module _ (v : Version) (old new : CoreValue) (lines : List Line) (a b : Option (List ℕ)) (before put : List ℕ) (config : Config) (events : List Event) (opening : IsOpened old.config old) (none : before ≡ [])
-    (taken : IsRunTo old lines new) (same : config ≡ new.config) (header : put ≡ before ++ text_of_forms (header_forms v config)) (journal : events ≡ new.journal) where
-  journal_output : IsOutput (record { version = v; config = old.config; lines = lines }) show.Journal (taken (first_number v old.config)).0 (put ++ flat_map event_line events)
+module _ (v : Version) (old new : CoreValue) (lines : List Line) (a b : Option (List ℕ)) (before put : List ℕ) (config : Config) (events : List Event) (opening : IsOpened old.base.config old) (none : before ≡ [])
+    (taken : IsRunTo old lines new) (same : config ≡ new.base.config) (header : put ≡ before ++ text_of_forms (header_forms v config)) (journal : events ≡ new.journal) where
+  journal_output : IsOutput (record { version = v; config = old.base.config; lines = lines }) show.Journal (taken (first_number v old.base.config)).0 (put ++ flat_map event_line events)
   journal_output =
-      let (answers, text, run) = taken (first_number v old.config) in
+      let (answers, text, run) = taken (first_number v old.base.config) in
       record {
         printed = text;
         closed = new;
         run = is_run v old new lines answers text opening run;
         shown = ap (λ l. l ++ flat_map event_line events) (header ∙ ap (λ l. l ++ text_of_forms (header_forms v config)) none ∙ ap (λ (c : Config). text_of_forms (header_forms v c)) same)
-            ∙ ap (λ (es : List Event). text_of_forms (header_forms v new.config) ++ flat_map event_line es) journal ∙ sym (journal_text v new);
+            ∙ ap (λ (es : List Event). text_of_forms (header_forms v new.base.config) ++ flat_map event_line es) journal ∙ sym (journal_text v new);
       }
 
   put_whole : AreWhole put
   put_whole = subst AreWhole (sym (header ∙ ap (λ l. l ++ text_of_forms (header_forms v config)) none)) (forms_whole (header_forms v config))
 
-  pub journal_whole : (moved : List ℕ) → Adds a b put moved (flat_map event_line events) → Whole (record { version = v; config = old.config; lines = lines }) show.Journal a b moved
+  pub journal_whole : (moved : List ℕ) → Adds a b put moved (flat_map event_line events) → Whole (record { version = v; config = old.base.config; lines = lines }) show.Journal a b moved
   journal_whole moved more = record {
-    answers = (taken (first_number v old.config)).0;
+    answers = (taken (first_number v old.base.config)).0;
     whole = put ++ flat_map event_line events;
     is = journal_output;
     printed = record {
@@ -141,9 +141,9 @@ module _ (v : Version) (old new : CoreValue) (lines : List Line) (a b : Option (
     };
   }
 
-  pub journal_cut : (why : Stop) → (AreWhole put → AddsPart why a b (put ++ flat_map event_line events)) → WritesPart why (record { version = v; config = old.config; lines = lines }) show.Journal a b
+  pub journal_cut : (why : Stop) → (AreWhole put → AddsPart why a b (put ++ flat_map event_line events)) → WritesPart why (record { version = v; config = old.base.config; lines = lines }) show.Journal a b
   journal_cut why stopped =
-      output_cut why (record { version = v; config = old.config; lines = lines }) show.Journal (taken (first_number v old.config)).0 (put ++ flat_map event_line events) a b journal_output (stopped put_whole)
+      output_cut why (record { version = v; config = old.base.config; lines = lines }) show.Journal (taken (first_number v old.base.config)).0 (put ++ flat_map event_line events) a b journal_output (stopped put_whole)
 
 -- ---- the whole replay
 

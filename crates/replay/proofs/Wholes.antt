@@ -1,5 +1,5 @@
 -- Whole lines, and what a stop leaves.
-use Rattle.std.proofs.Common.{◌≡◌, ◌∙◌, ℕ, List, [], ◌∷◌, ◌++◌, length, codes, refl, sym, ap, subst, inl, inr, append_assoc, append-nil, arith}
+use Rattle.std.proofs.Common.{◌≡◌, ◌∙◌, ◌+◌, ℕ, List, [], ◌∷◌, ◌++◌, length, codes, refl, sym, ap, subst, inl, inr, append_assoc, append-nil, arith}
 use Rattle.std.specs.Prelude.{Result, Ok, Err, decimal}
 use Rattle.std.specs.List.{flat_map}
 use Rattle.std.proofs.lemmas.List.{length-append, nil_from_length}
@@ -81,7 +81,7 @@ answer_whole number (Ok reply) = standing_whole number reply.state
 answer_whole number (Err refusal) = inr (line_ended (decimal number ++ codes " refused " ++ refusal_text refusal))
 
 pub serial_whole : (c : CoreValue) → AreWhole (serial_line c)
-serial_whole c = inr (line_ended (codes "serial " ++ decimal (length c.journal) ++ codes " built " ++ decimal c.built))
+serial_whole c = inr (line_ended (codes "serial " ++ decimal (c.base.serial + length c.journal) ++ codes " built " ++ decimal (c.base.serial + c.built)))
 
 pub item_whole : (e : Network × Item) → AreWhole (item_line e)
 item_whole (p, item.Route entry) = inr (line_ended (codes "route " ++ prefix_text p ++ codes " " ++ entry_text entry))

@@ -52,9 +52,9 @@ abbrev pub answer_line : ℕ → Result Reply Refusal → List ℕ
 answer_line number (Ok reply) = standing_line number reply.state
 answer_line number (Err refusal) = refused_line number refusal
 
--- how many events were taken, and of how many the table is
+-- the serial, and that of the event which the table is after
 abbrev pub serial_line : CoreValue → List ℕ
-serial_line c = codes "serial " ++ decimal (length c.journal) ++ codes " built " ++ decimal c.built ++ codes "\n"
+serial_line c = codes "serial " ++ decimal (c.base.serial + length c.journal) ++ codes " built " ++ decimal (c.base.serial + c.built) ++ codes "\n"
 
 -- a network with its route, or with a discard
 abbrev pub item_line : Network × Item → List ℕ

@@ -26,7 +26,7 @@ pub record IsRun (r : RecordingValue) (answers : Answers) (printed : List ℕ) (
 
 -- the recording, of the version, of the events that were taken
 abbrev pub journal_of : Version → CoreValue → RecordingValue
-journal_of v c = record { version = v; config = c.config; lines = map line.Event c.journal }
+journal_of v c = record { version = v; config = c.base.config; lines = map line.Event c.journal }
 
 -- The text after the run: the lines of the run, how far it came, and what is shown. What is due is shown in the order of the areas, which ascend in a
 -- recording. The journal is shown alone, in the version of the recording.

@@ -2,6 +2,7 @@
 use Rattle.std.specs.Prelude.{ℕ, ◌≡◌, ◌+◌, ◌++◌, List, [], ◌∷◌, Result}
 use Rattle.ospf_types.specs.declared.config.Config.{Config}
 use Rattle.event_state.specs.declared.refusal.Refusal.{Refusal}
+use Rattle.event_state.specs.Bases.{bare}
 use Rattle.event_state.specs.Steps.{standard_limits}
 use Rattle.route_table.specs.declared.table.Match.{Match}
 use Rattle.route_table.specs.Tables.{IsMatch}
@@ -27,5 +28,5 @@ Prints old number (line.Event e ∷ lines) (answer ∷ answers) text new =
 
 -- what a run begins with: no interfaces, empty databases, and the table of those
 pub record IsOpened (config : Config) (c : CoreValue) : Type 0 where
-  pub opening : IsOpening config standard_limits c
+  pub opening : IsOpening (bare config) standard_limits c
   pub core : IsCore c

@@ -49,11 +49,11 @@ pub fn put_answer(
     Ok(())
 }
 
-/// How many events were taken, and of how many the table is.
+/// The serial, and that of the event which the table is after.
 pub fn put_serial(core: &Core, text: &mut String) -> Result<(), Memory>
     ensures { OnOk result (string_bytes text.new ≡ string_bytes text.old ++ serial_line core.now) }
 {
-    let (serial, built) = (core.journal().len(), core.built());
+    let (serial, built) = (core.serial(), core.built());
     writeln!(text, "serial {serial} built {built}")?;
     Ok(())
 }

@@ -104,10 +104,10 @@ fn print_replay<W: io::Write>(
     out: &mut W,
     show: Show,
 ) -> Result<(), Stop>
-    requires opened { IsOpened core.config core }
-    requires few { first_number version core.config + length lines.items < 2 ^ 64 }
-    ensures ok { OnOk result (WritesOutput (record { version = version; config = core.config; lines = lines.items }) show (W.contents out.old) (W.contents out.new)) }
-    ensures err { IfErr result (λ why. WritesPart why (record { version = version; config = core.config; lines = lines.items }) show (W.contents out.old) (W.contents out.new)) }
+    requires opened { IsOpened core.base.config core }
+    requires few { first_number version core.base.config + length lines.items < 2 ^ 64 }
+    ensures ok { OnOk result (WritesOutput (record { version = version; config = core.base.config; lines = lines.items }) show (W.contents out.old) (W.contents out.new)) }
+    ensures err { IfErr result (λ why. WritesPart why (record { version = version; config = core.base.config; lines = lines.items }) show (W.contents out.old) (W.contents out.new)) }
 {
     match show {
         Show::Routes => print_routes(alloc, version, &mut core, lines, out),

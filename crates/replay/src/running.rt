@@ -21,11 +21,11 @@ pub(crate) fn run_lines<W: io::Write>(
     out: &mut W,
     page: &mut String,
 ) -> Result<(), Stop>
-    requires { first_number version core.old.config + length lines.items < 2 ^ 64 }
-    ensures ok { OnOk result (Ran core.old (first_number version core.old.config) lines.items core.new (W.contents out.old) (W.contents out.new) (string_bytes page.old) (string_bytes page.new)) }
-    ensures err { AreWhole (string_bytes page.old) → IfErr result (λ why. RanPart why core.old (first_number version core.old.config) lines.items (W.contents out.old) (W.contents out.new) (string_bytes page.old)) }
+    requires { first_number version core.old.base.config + length lines.items < 2 ^ 64 }
+    ensures ok { OnOk result (Ran core.old (first_number version core.old.base.config) lines.items core.new (W.contents out.old) (W.contents out.new) (string_bytes page.old) (string_bytes page.new)) }
+    ensures err { AreWhole (string_bytes page.old) → IfErr result (λ why. RanPart why core.old (first_number version core.old.base.config) lines.items (W.contents out.old) (W.contents out.new) (string_bytes page.old)) }
 {
-    let mut number = number_of_first(version, core.config());
+    let mut number = number_of_first(version, &core.base().config);
     for line in lines {
         run_line(core, number, line, page)?;
         spill(out, page)?;

@@ -6,6 +6,7 @@ use Rattle.std.proofs.lemmas.List.{length-map}
 use Rattle.ospf_types.specs.declared.config.Config.{Config}
 use Rattle.event_state.specs.declared.event.Event.{Event}
 use Rattle.event_state.specs.declared.refusal.Refusal.{Refusal}
+use Rattle.event_state.specs.Bases.{bare}
 use Rattle.event_state.specs.Steps.{standard_limits}
 use Rattle.engine.specs.Reply.{Reply}
 use Rattle.engine.specs.Cores.{CoreValue, IsCore}
@@ -39,15 +40,15 @@ answered_dealt name items answers events xs ys dealt all = record { lists = map 
 -- ---- one look
 
 pub looked : (f : Looker) (s : Sighted) (number : ℕ) (lookups : List (Option ℕ)) (given replies : List (Result Reply Refusal)) (old new : List ℕ) → Sights f 0 s
-    → AppendsAll s.table (length s.list) number lookups given old new → old ≡ [] → given ≡ replies → Looks f number lookups replies new
+    → AppendsAll s.table s.table.serial number lookups given old new → old ≡ [] → given ≡ replies → Looks f number lookups replies new
 looked f s number lookups given replies old new sights h none same =
     let whole : new ≡ h.text = h.appended ∙ ap (λ w. w ++ h.text) none in
     record {
       seen = s.list;
       table = s.table;
       after = sights.2;
-      right = subst (λ (n : Name). IsTableFor n.config s.list s.table) sights.0 sights.3;
-      prints = subst (λ (w : List ℕ). PrintsAll s.table (length s.list) number lookups replies w) (sym whole) (subst (λ (rs : List (Result Reply Refusal)). PrintsAll s.table (length s.list) number lookups rs h.text) same h.prints);
+      right = subst (λ (n : Name). IsTableFor n.base s.list s.table) sights.0 sights.3;
+      prints = subst (λ (w : List ℕ). PrintsAll s.table s.table.serial number lookups replies w) (sym whole) (subst (λ (rs : List (Result Reply Refusal)). PrintsAll s.table s.table.serial number lookups rs h.text) same h.prints);
     }
 
 -- ---- the lines
@@ -76,24 +77,24 @@ has_printed name lines events lookups answers f g replies first text events_are 
         answered = of_lines;
         seen = looks.seen;
         table = looks.table;
-        right = subst (λ (n : Name). IsTableFor n.config looks.seen looks.table) (same ∙ named) looks.right;
+        right = subst (λ (n : Name). IsTableFor n.base looks.seen looks.table) (same ∙ named) looks.right;
         after = all_longer g.known looks.seen answers looks.after after;
-        prints = prints_lines name looks.table (length looks.seen) first lines answers text of_lines
-            (subst (λ (ls : List (Option ℕ)). PrintsAll looks.table (length looks.seen) first ls (map reply_of answers) text) lookups_are
-            (subst (λ (rs : List (Result Reply Refusal)). PrintsAll looks.table (length looks.seen) first lookups rs text) replies_are looks.prints));
+        prints = prints_lines name looks.table looks.table.serial first lines answers text of_lines
+            (subst (λ (ls : List (Option ℕ)). PrintsAll looks.table looks.table.serial first ls (map reply_of answers) text) lookups_are
+            (subst (λ (rs : List (Result Reply Refusal)). PrintsAll looks.table looks.table.serial first lookups rs text) replies_are looks.prints));
       };
     }
 
 -- ---- the recording
 
-pub has_run : (r : RecordingValue) (name : Name) (v : Version) (config : Config) (lines : List Line) (first : ℕ) (text : List ℕ) (closed : CoreValue) → v ≡ r.version → config ≡ r.config → lines ≡ r.lines → name.config ≡ config → first ≡ first_number v config
-    → HasPrinted name lines first text → closed.config ≡ name.config → closed.limits ≡ standard_limits → IsCore closed → HasRun r text closed
+pub has_run : (r : RecordingValue) (name : Name) (v : Version) (config : Config) (lines : List Line) (first : ℕ) (text : List ℕ) (closed : CoreValue) → v ≡ r.version → config ≡ r.config → lines ≡ r.lines → name.base ≡ bare config → first ≡ first_number v config
+    → HasPrinted name lines first text → closed.base ≡ name.base → closed.limits ≡ standard_limits → IsCore closed → HasRun r text closed
 has_run r name v config lines first text closed version_is config_is lines_are named number h left limits core = record {
   answers = h.answers;
   is = record {
     name = name;
-    named = named ∙ config_is;
+    named = named ∙ ap bare config_is;
     lines = subst (λ (n : ℕ). IsPrinted name r.lines n h.answers text) (number ∙ ap (first_number v) config_is ∙ ap (λ (w : Version). first_number w r.config) version_is) (subst (λ (ls : List Line). IsPrinted name ls first h.answers text) lines_are h.is);
-    left = record { config_is = left ∙ named ∙ config_is; limits = limits; core = core };
+    left = record { base = left ∙ named ∙ ap bare config_is; limits = limits; core = core };
   };
 }

@@ -53,7 +53,7 @@ prints_whole table serial number (line.Event e ∷ lines) (answer ∷ answers) t
 
 pub run_whole : (r : RecordingValue) (printed : List ℕ) (c : CoreValue) → HasRun r printed c → AreWhole printed
 run_whole r printed c h =
-    let lines = h.is.lines in prints_whole lines.table (length lines.seen) (first_number r.version r.config) r.lines h.answers printed lines.prints
+    let lines = h.is.lines in prints_whole lines.table lines.table.serial (first_number r.version r.config) r.lines h.answers printed lines.prints
 
 pub or_else : {P A B : Type 0} → (A → B) → P ⊎ A → P ⊎ B
 or_else f (inl p) = inl p

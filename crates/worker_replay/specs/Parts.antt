@@ -77,8 +77,8 @@ pub record Looks (f : Looker) (number : ℕ) (lookups : List (Option ℕ)) (repl
   pub seen : List Event
   pub table : TableValue
   pub after : IsPrefix f.known seen
-  pub right : IsTableFor f.name.config seen table
-  pub prints : PrintsAll table (length seen) number lookups replies text
+  pub right : IsTableFor f.name.base seen table
+  pub prints : PrintsAll table table.serial number lookups replies text
 
 -- ---- the parts
 

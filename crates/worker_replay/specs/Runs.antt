@@ -4,6 +4,7 @@ use mathlib.Core.List.{IsPrefix}
 use Rattle.ospf_types.specs.declared.config.Config.{Config}
 use Rattle.event_state.specs.declared.event.Event.{Event}
 use Rattle.event_state.specs.declared.refusal.Refusal.{Refusal}
+use Rattle.event_state.specs.Bases.{bare}
 use Rattle.event_state.specs.Steps.{standard_limits}
 use Rattle.route_table.specs.declared.table.Match.{Match}
 use Rattle.route_table.specs.Tables.{TableValue, IsMatch}
@@ -72,19 +73,19 @@ pub record IsPrinted (name : Name) (lines : List Line) (number : ℕ) (answers :
   pub answered : AreAnswered name (events_of lines) answers
   pub seen : List Event
   pub table : TableValue
-  pub right : IsTableFor name.config seen table
+  pub right : IsTableFor name.base seen table
   pub after : All (IsAfter seen) answers
-  pub prints : Prints table (length seen) number lines answers printed
+  pub prints : Prints table table.serial number lines answers printed
 
 -- what an engine leaves
 pub record IsClosed (config : Config) (c : CoreValue) : Type 0 where
-  pub config_is : c.config ≡ config
+  pub base : c.base ≡ bare config
   pub limits : c.limits ≡ standard_limits
   pub core : IsCore c
 
 -- the recording was run with these answers to its events, its lines printed this, and a core was left
 pub record IsRun (r : RecordingValue) (answers : Answers) (printed : List ℕ) (closed : CoreValue) : Type 0 where
   pub name : Name
-  pub named : name.config ≡ r.config
+  pub named : name.base ≡ bare r.config
   pub lines : IsPrinted name r.lines (first_number r.version r.config) answers printed
   pub left : IsClosed r.config closed

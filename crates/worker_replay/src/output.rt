@@ -93,7 +93,7 @@ fn write_journal<W: io::Write>(
     ensures ok { OnOk result (Writes version show_value.Journal [] core.now (W.contents out.old) (W.contents out.new)) }
     ensures err { IfErr result (λ why. WritesPart why version show_value.Journal [] core.now (W.contents out.old) (W.contents out.new)) }
 {
-    append_header(version, core.config(), page)?;
+    append_header(version, &core.base().config, page)?;
     show_events(alloc, core.journal(), out, page)?;
     write_page(out, page)?;
     Ok(())

@@ -21,7 +21,7 @@ pub(crate) fn put_lines(
 ) -> Result<(), Memory>
     requires replies { HasAllReplies lookups.items replies.now }
     requires few { first + length lookups.items < 2 ^ 64 }
-    ensures { OnOk result (AppendsAll seen.now.table (length seen.now.list) first lookups.items replies.now (string_bytes text.old) (string_bytes text.new)) }
+    ensures { OnOk result (AppendsAll seen.now.table seen.now.table.serial first lookups.items replies.now (string_bytes text.old) (string_bytes text.new)) }
 {
     let mut number = first;
     let mut left = replies;
@@ -41,7 +41,7 @@ fn put_line<'a>(
     text: &mut String,
 ) -> Result<&'a [Result<Reply, Refusal>], Memory>
     requires { HasAllReplies (lookup ∷ []) replies.now }
-    ensures { IfOk result (λ rest. AppendsLine seen.now.table (length seen.now.list) number lookup replies.now rest.now (string_bytes text.old) (string_bytes text.new)) }
+    ensures { IfOk result (λ rest. AppendsLine seen.now.table seen.now.table.serial number lookup replies.now rest.now (string_bytes text.old) (string_bytes text.new)) }
 {
     if let Some(address) = lookup {
         put_lookup(number, address, seen, text)?;
@@ -57,7 +57,7 @@ fn put_line<'a>(
 // The match of the address in the table that is seen.
 fn put_lookup(number: usize, address: u32, seen: &Seen, text: &mut String) -> Result<(), Memory>
     ensures { OnOk result ((found : Match) × IsMatch seen.now.table.items address found
-        × (string_bytes text.new ≡ string_bytes text.old ++ lookup_line number address (length seen.now.list) found)) }
+        × (string_bytes text.new ≡ string_bytes text.old ++ lookup_line number address seen.now.table.serial found)) }
 {
     let (serial, found) = (seen.serial(), seen.find(address));
     let address = Address(address);

@@ -1,6 +1,7 @@
 //! A recording is run over an engine.
 ghost use Rattle.std.specs.Prelude.{◌≡◌, ◌<◌, ◌≤◌, ◌+◌, ◌^◌, [], length, IfOk, IfErr, None, string_bytes};
 ghost use Rattle.config_faults.specs.Configs.{config_fault_of};
+ghost use Rattle.event_state.specs.Bases.{bare};
 ghost use Rattle.engine.specs.Answers.{AreAnswered};
 ghost use Rattle.replay.specs.Lines.{first_number};
 ghost use Rattle.worker_replay.specs.Parts.{AreWorkers, HasRun, HasPrinted, HasAllReplies, Looks, IsRunFault};
@@ -51,7 +52,7 @@ fn open_engine<S: Wait>(
     hashing: RandomState,
 ) -> Result<(Engine, Forwarder), ManyFault>
     requires { config_fault_of config ≡ None }
-    ensures config { IfOk result (λ r. r.0.config ≡ config) }
+    ensures base { IfOk result (λ r. r.0.base ≡ bare config) }
     ensures forwarder { IfOk result (λ r. r.1.name ≡ r.0) }
     ensures fault { IfErr result IsRunFault }
 {
