@@ -3,7 +3,6 @@ use Rattle.std.proofs.Common.{◌≡◌, List, fold, Option, Some, Result, Ok, E
 use Rattle.std.specs.Result.{is_ok}
 use mathlib.Core.List.{IsPrefix}
 use Rattle.event_state.specs.declared.base.Base.{Base}
-use Rattle.route_table.specs.Tables.{TableValue}
 use Rattle.publication.specs.declared.shown.Shown.{Shown}
 use Rattle.publication.specs.declared.shown.Update.{Update}
 use Rattle.publication.specs.Lines.{Line}
