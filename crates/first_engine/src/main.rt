@@ -1,6 +1,7 @@
 //! An engine with two workers and one forwarder. Each worker submits a router-LSA, and the forwarder looks an address up in a
 //! table that follows both. README quotes it.
 #![tactic(auto)]
+
 ghost use Rattle.std.specs.Prelude.{◌≡◌, IfOk, IfSome};
 
 use abr_router::{
@@ -19,14 +20,14 @@ const BACKBONE: Scope = Scope::Area(0);
 
 /// The router-LSA of 10.0.0.1, with a point-to-point link to 10.0.0.2 at metric 10 (RFC 2328, A.4.2).
 const OWN: [u8; 36] = [
-    0, 1, 2, 1, 10, 0, 0, 1, 10, 0, 0, 1, 0x80, 0, 0, 1, 0xe6, 0xe2, 0, 36, 0, 0, 0, 1, 10, 0, 0, 2,
-    198, 51, 100, 1, 1, 0, 0, 10,
+    0, 1, 2, 1, 10, 0, 0, 1, 10, 0, 0, 1, 0x80, 0, 0, 1, 0xe6, 0xe2, 0, 36, 0, 0, 0, 1, 10, 0, 0,
+    2, 198, 51, 100, 1, 1, 0, 0, 10,
 ];
 
 /// That of 10.0.0.2, with the link's other end, and a stub link to 203.0.113.0/24 at metric 1.
 const PEER: [u8; 48] = [
-    0, 1, 2, 1, 10, 0, 0, 2, 10, 0, 0, 2, 0x80, 0, 0, 1, 0xd6, 0xa2, 0, 48, 0, 0, 0, 2, 10, 0, 0, 1,
-    198, 51, 100, 2, 1, 0, 0, 10, 203, 0, 113, 0, 255, 255, 255, 0, 3, 0, 0, 1,
+    0, 1, 2, 1, 10, 0, 0, 2, 10, 0, 0, 2, 0x80, 0, 0, 1, 0xd6, 0xa2, 0, 48, 0, 0, 0, 2, 10, 0, 0,
+    1, 198, 51, 100, 2, 1, 0, 0, 10, 203, 0, 113, 0, 255, 255, 255, 0, 3, 0, 0, 1,
 ];
 
 fn main(rt: HostRuntime) -> Result<()> {
