@@ -2,8 +2,8 @@
 --   due_right: it is what the definitions say
 --   due_alike: it is that of a state that looks alike
 --   due_before: what it rests on differs in no more than is named
-use Rattle.std.proofs.Common.{◌≡◌, ℕ, List, [], ◌∷◌, map, Some, refl, sym, ap, subst, ◌∙◌}
-use Rattle.std.specs.Prelude.{◌↔◌, IsTrue}
+use Rattle.std.proofs.Common.{◌≡◌, ℕ, Bool, true, false, List, [], ◌∷◌, map, Some, None, refl, sym, ap, subst, ◌∙◌}
+use Rattle.std.specs.Prelude.{◌↔◌, IsTrue, if◌then◌else◌}
 use Rattle.std.specs.Cmp.{nat_cmp_total}
 use Rattle.std.specs.FinMap.{entries}
 use Rattle.std.specs.List.{Contains}
@@ -12,7 +12,8 @@ use Rattle.ospf_types.specs.declared.config.Config.{Config}
 use Rattle.ospf_types.specs.declared.config.Interface.{Interface}
 use Rattle.ospf_types.specs.declared.key.Dest.{Dest}
 use Rattle.ospf_types.specs.Inputs.{Area, IsActive}
-use Rattle.dues.specs.Changes.{InputsDifferAmong}
+use Rattle.ospf_types.proofs.RangeChanges.{areas_kept}
+use Rattle.dues.specs.Changes.{MayDiffer}
 use Rattle.dues.specs.Dues.{DuesValue, AreDuesOf}
 use Rattle.dues.specs.Inputs.{DueInputsValue}
 use Rattle.dues.specs.Right.{AreConfigured, AreInputsOf, IsRightFor}
@@ -21,7 +22,7 @@ use Rattle.event_state.specs.States.{State, LooksAlike, inputs_of}
 use Rattle.calculation.specs.Calculations.{CalculationValue, IsCalculationOf}
 use Rattle.route_layers.specs.Layers.{IsUpIn}
 use Rattle.route_layers.specs.Layers.{AreActiveIn, AreActive}
-use Rattle.calculation.specs.Due.{AreDuesFor, RoutesDifferAmong, due_inputs}
+use Rattle.calculation.specs.Due.{AreDuesFor, DuesDifferAmong, due_inputs}
 use Rattle.state_trees.specs.Works.{area_of}
 use Rattle.route_layers.proofs.Above.{apart_areas}
 use Rattle.route_layers.proofs.Examining.{active_in, active_from}
@@ -77,16 +78,18 @@ due_alike s t c w looks due =
     )
 
 -- what it rests on differs in no more than is named
-pub due_before : (s t : State) (dests : List Dest) (old new : CalculationValue) (w : DuesValue) (active : List ℕ) → AreDuesFor s old w → t.config ≡ s.config → RoutesDifferAmong dests old new
-    → (before : DueInputsValue) × AreDuesOf before w × InputsDifferAmong dests before (due_inputs t active new)
-due_before s t dests old new w active due config routes = (
-  due_inputs s due.0 old,
-  due.2,
-  record {
-    areas = ap (λ (k : Config). k.areas) config;
-    intra = routes.intra;
-    members = routes.members;
-    inter = routes.inter;
-    preferred = routes.preferred;
-  },
-)
+pub due_before : (s t : State) (dests : List Dest) (ranged : Bool) (old new : CalculationValue) (w : DuesValue) (active : List ℕ) → AreDuesFor s old w → DuesDifferAmong dests ranged s t old new
+    → (before : DueInputsValue) × AreDuesOf before w × MayDiffer (if ranged then None else Some dests) before (due_inputs t active new)
+due_before s t dests true old new w active due differ = (due_inputs s due.0 old, due.2, areas_kept t.config s.config differ.areas)
+due_before s t dests false old new w active due differ =
+    let routes = differ.routes refl in (
+      due_inputs s due.0 old,
+      due.2,
+      record {
+        areas = ap (λ (k : Config). k.areas) (differ.ranges refl);
+        intra = routes.intra;
+        members = routes.members;
+        inter = routes.inter;
+        preferred = routes.preferred;
+      },
+    )

@@ -1,5 +1,5 @@
 -- What an event may change: the LSAs or the interfaces that it names.
-use Rattle.std.proofs.Common.{◌≡◌, ◌≢◌, ℕ, Bool, cond, List, [], ◌∷◌, Option, Some, None, refl, sym, ap, subst, ◌∙◌, inl, inr}
+use Rattle.std.proofs.Common.{◌≡◌, ◌≢◌, ℕ, Bool, false, cond, List, [], ◌∷◌, Option, Some, None, refl, sym, ap, subst, ◌∙◌, inl, inr}
 use Rattle.std.specs.List.{Contains}
 use Rattle.std.specs.Ordering.{nat_cmp, is_eq}
 use Rattle.std.specs.Cmp.{nat_cmp_total}
@@ -9,6 +9,7 @@ use Rattle.ospf_types.specs.declared.config.Interface.{Interface}
 use Rattle.ospf_types.specs.declared.key.Key.{Key}
 use Rattle.ospf_types.specs.declared.key.Scope.{Scope}
 use Rattle.ospf_types.specs.Lsa.{key_of}
+use Rattle.ospf_types.specs.RangeChanges.{without_ranges}
 use Rattle.ospf_types.proofs.Elements.{first_element}
 use Rattle.lsdb.specs.Databases.{Database, aged_out}
 use Rattle.std.specs.FinMap.{remove}
@@ -28,10 +29,11 @@ other_interface m id i q other =
     ] refl
 
 -- an interface's event changes that interface alone, and no LSA
-pub interface_names : (s : State) (e : Event) (id area address peer : ℕ) (up : Bool) (keys : List (Scope × Key)) (ids : List ℕ) → e ≡ event.Interface id area address peer up → keys ≡ [] → ids ≡ id ∷ [] → StatesDifferAmong keys ids s (step s e)
+pub interface_names : (s : State) (e : Event) (id area address peer : ℕ) (up : Bool) (keys : List (Scope × Key)) (ids : List ℕ) → e ≡ event.Interface id area address peer up → keys ≡ [] → ids ≡ id ∷ [] → StatesDifferAmong keys ids false s (step s e)
 interface_names s e id area address peer up keys ids is none one =
-    subst (λ (x : Event). StatesDifferAmong keys ids s (step s x)) (sym is) (record {
-      config = refl;
+    subst (λ (x : Event). StatesDifferAmong keys ids false s (step s x)) (sym is) (record {
+      areas = refl;
+      ranges = λ unranged. refl;
       usable = λ at key absent. refl;
       interfaces = λ q absent. other_interface s.interfaces id (record { area = area; address = address; peer = peer; up = up }) q (λ same. absent (subst (λ (xs : List ℕ). Contains xs q) (sym one) (subst (Contains (id ∷ [])) (sym same) (first_element id []))));
       one_kind = inl none;
@@ -59,11 +61,12 @@ others_leave s event.Second other = record { config = refl; interfaces = refl }
 
 -- every other event changes no interface
 pub others_name : (s : State) (e : Event) (keys : List (Scope × Key)) (ids : List ℕ) → IsOfDatabases e → ids ≡ []
-    → ((at : Scope) (key : Key) → (Contains keys (at, key) → ⊥) → usable_at (step s e) at key ≡ usable_at s at key) → StatesDifferAmong keys ids s (step s e)
+    → ((at : Scope) (key : Key) → (Contains keys (at, key) → ⊥) → usable_at (step s e) at key ≡ usable_at s at key) → StatesDifferAmong keys ids false s (step s e)
 others_name s e keys ids other none usable =
     let h = others_leave s e other in
     record {
-      config = h.config;
+      areas = ap without_ranges h.config;
+      ranges = λ unranged. h.config;
       usable = usable;
       interfaces = λ id absent. ap (λ (m : FinMap nat_cmp Interface). get m id) h.interfaces;
       one_kind = inr none;

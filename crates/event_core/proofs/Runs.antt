@@ -206,7 +206,7 @@ module _ (s u : State) (r new : RoutesValue) (built : ℕ) (e : Event) (kept : I
       let config : u.config ≡ s.config = ap (λ (v : State). v.config) is ∙ (step_setting s e).config in
       let before : config_fault_of s.config ≡ None = sound_now s r built kept in
       let sound : config_fault_of u.config ≡ None = ap config_fault_of config ∙ before in
-      let follows : built ≡ length s.journal → IsFollowingWork s u new.work = λ current. event_uncut s u r.calculation new.calculation new.work before config (kept.fresh current).calculation h.right.calculation (h.bounded current) in (
+      let follows : built ≡ length s.journal → IsFollowingWork s u new.work = λ current. event_uncut s u r.calculation new.calculation new.work before (kept.fresh current).calculation h.right.calculation (h.bounded current) in (
         λ current. subst (λ (v : State). IsFollowingWork v (state_of (core_of u new now)) new.work) kept.run (subst (λ (v : State). IsFollowingWork s v new.work) after.run (follows current)),
         λ behind. subst (λ (v : State). IsBuildingWork v new.work) after.run (build_uncut u new.work sound (h.anew behind)),
       )

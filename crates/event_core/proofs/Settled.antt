@@ -22,7 +22,7 @@ forgotten r = record r { work = no_work; changes = [] }
 -- the states differ as it is said, and look alike where nothing is changed
 pub record GoesOn (keys : List (Scope × Key)) (ids : List ℕ) (changed : Bool) (before after : State) : Type 0 where
   pub fit : AreFit before.config.areas before.databases
-  pub differ : StatesDifferAmong keys ids before after
+  pub differ : StatesDifferAmong keys ids false before after
   pub alike : changed ≡ false → LooksAlike before after
 
 -- all but the serial of the table is right for the state, and what differs from the routes of before is told
@@ -41,7 +41,7 @@ still_routes s old mid is are = subst (AreRoutesOf s) (sym is) (forgotten_routes
 
 module _ (t : State) (keys : List (Scope × Key)) (ids : List ℕ) (changed : Bool) (old mid : RoutesValue) (is : mid ≡ forgotten old) where
   pub followed : (new : RoutesValue) → IsCalculationOf t new.calculation → IsTableOf new.calculation new.table.items → AreDuesFor t new.calculation new.dues → AreChanges mid.table.items new.table.items new.changes
-      → ((before : State) → AreRoutesOf before mid → StatesDifferAmong keys ids before t → IsEventWork before t new.work) → HasFollowed t keys ids changed old new
+      → ((before : State) → AreRoutesOf before mid → StatesDifferAmong keys ids false before t → IsEventWork before t new.work) → HasFollowed t keys ids changed old new
   followed new calculation items dues exact bounded = record {
     calculation = calculation;
     items = items;
@@ -58,7 +58,7 @@ module _ (t : State) (keys : List (Scope × Key)) (ids : List ℕ) (changed : Bo
         items = are.table;
         dues = due_alike before t old.calculation old.dues (goes.alike same) are.dues;
         exact = nothing_changes old.table.items;
-        bounded = λ other on others. no_event_work other t old.calculation on.fit fit (sym (on.alike same).config) others.calculation alike;
+        bounded = λ other on others. no_event_work other t old.calculation on.fit fit others.calculation alike;
       })
 
 -- with the serial of the state, the routes are those of the state

@@ -1,5 +1,5 @@
 //! What an event may change, known before it is taken.
-ghost use Rattle.std.specs.Prelude.{IfOk, IfErr};
+ghost use Rattle.std.specs.Prelude.{false, IfOk, IfErr};
 ghost use Rattle.event_state.specs.Refusals.{IsRefusalOf};
 ghost use Rattle.event_state.specs.Steps.{step};
 ghost use Rattle.calculation.specs.Trees.{StatesDifferAmong};
@@ -18,7 +18,7 @@ pub(crate) struct Named {
 
 /// What the event may change, or its refusal where there is no room to say it.
 pub(crate) fn named_by(alloc: Global, state: &State, event: &Event) -> Result<Named, Refusal>
-    ensures named { IfOk result (λ named. StatesDifferAmong named.keys.items named.interfaces.items state.now (step state.now event.now)) }
+    ensures named { IfOk result (λ named. StatesDifferAmong named.keys.items named.interfaces.items false state.now (step state.now event.now)) }
     ensures refused { IfErr result (IsRefusalOf state.now event.now) }
 {
     match changed_by(alloc, state, event) {
@@ -28,7 +28,7 @@ pub(crate) fn named_by(alloc: Global, state: &State, event: &Event) -> Result<Na
 }
 
 fn changed_by(alloc: Global, state: &State, event: &Event) -> Result<Named, Memory>
-    ensures { IfOk result (λ named. StatesDifferAmong named.keys.items named.interfaces.items state.now (step state.now event.now)) }
+    ensures { IfOk result (λ named. StatesDifferAmong named.keys.items named.interfaces.items false state.now (step state.now event.now)) }
 {
     if let Event::Interface { id, .. } = event {
         return Ok(Named {

@@ -148,11 +148,11 @@ impl Routes {
         named: Named,
     ) -> Result<(), Memory>
         requires few { state.now.limits.area_lsas ≤ most_routers }
-        requires before { (before : StateValue) × AreFit before.config.areas before.databases × AreRoutesOf before self.old × StatesDifferAmong named.keys.items named.interfaces.items before state.now × (changed ≡ false → LooksAlike before state.now) }
+        requires before { (before : StateValue) × AreFit before.config.areas before.databases × AreRoutesOf before self.old × StatesDifferAmong named.keys.items named.interfaces.items false before state.now × (changed ≡ false → LooksAlike before state.now) }
         ensures right { OnOk result (AreRoutesOf state.now self.new) }
         ensures fit { OnOk result (AreFit state.now.config.areas state.now.databases) }
         ensures exact { OnOk result (AreChanges self.old.table.items self.new.table.items self.new.changes) }
-        ensures bounded { OnOk result ((before : StateValue) → AreFit before.config.areas before.databases → AreRoutesOf before self.old → StatesDifferAmong named.keys.items named.interfaces.items before state.now → (changed ≡ false → LooksAlike before state.now) → IsEventWork before state.now self.new.work) }
+        ensures bounded { OnOk result ((before : StateValue) → AreFit before.config.areas before.databases → AreRoutesOf before self.old → StatesDifferAmong named.keys.items named.interfaces.items false before state.now → (changed ≡ false → LooksAlike before state.now) → IsEventWork before state.now self.new.work) }
         ensures unchanged { OnErr result (self.new.table ≡ self.old.table) }
         ensures due { OnErr result (lists_of self.new.dues ≡ lists_of self.old.dues) }
         ensures work { OnErr result (self.new.work ≡ no_work) }
@@ -211,24 +211,26 @@ impl Routes {
     // be refused memory; due summaries have room for theirs by then.
     fn follow(&mut self, alloc: Global, state: &State, named: Named) -> Result<(), Memory>
         requires few { state.now.limits.area_lsas ≤ most_routers }
-        requires before { (before : StateValue) × AreRoutesOf before self.old × StatesDifferAmong named.keys.items named.interfaces.items before state.now }
+        requires before { (before : StateValue) × AreRoutesOf before self.old × StatesDifferAmong named.keys.items named.interfaces.items false before state.now }
         ensures calculation { OnOk result (IsCalculationOf state.now self.new.calculation) }
         ensures items { OnOk result (IsTableOf self.new.calculation self.new.table.items) }
         ensures dues { OnOk result (AreDuesFor state.now self.new.calculation self.new.dues) }
         ensures exact { OnOk result (AreChanges self.old.table.items self.new.table.items self.new.changes) }
-        ensures bounded { OnOk result ((before : StateValue) → AreRoutesOf before self.old → StatesDifferAmong named.keys.items named.interfaces.items before state.now → IsEventWork before state.now self.new.work) }
+        ensures bounded { OnOk result ((before : StateValue) → AreRoutesOf before self.old → StatesDifferAmong named.keys.items named.interfaces.items false before state.now → IsEventWork before state.now self.new.work) }
         ensures unchanged { OnErr result (self.new.table ≡ self.old.table) }
         ensures due { OnErr result (lists_of self.new.dues ≡ lists_of self.old.dues) }
         ensures work { OnErr result (self.new.work ≡ self.old.work) }
         ensures changes { OnErr result (self.new.changes ≡ self.old.changes) }
     {
         let Named { keys, interfaces } = named;
-        let told = self.calculation.follow(alloc, state, keys, interfaces)?;
+        let told = self
+            .calculation
+            .follow(alloc, state, keys, interfaces, false)?;
         let items = other_items(alloc, &self.calculation, &self.table, &told.networks)?;
         let changes = networks_of(alloc, &items)?;
         let plan = self
             .calculation
-            .plan_dues(alloc, state, &mut self.dues, &told.dests)?;
+            .plan_dues(alloc, state, &mut self.dues, &told.dests, false)?;
         self.table.change(alloc, items)?;
         self.dues.carry_out(plan);
         self.work = told.work;

@@ -21,7 +21,7 @@ settle-settled-requires-clause-before c =
     let s = c.self.inside.state in
     let told = c.in_ok-serial.ensures in
     let named = c.in_ok-named.named in
-    let differ = subst (λ (u : State). StatesDifferAmong named.keys.items named.interfaces.items s u) (sym told.taken) c.in_ok-named.ensures.named in
+    let differ = subst (λ (u : State). StatesDifferAmong named.keys.items named.interfaces.items false s u) (sym told.taken) c.in_ok-named.ensures.named in
     (s, c.journal.ensures.fit (sound_apart s.config (sound_now s c.self.inside.routes c.self.inside.built c.self.invariant)), c.self.invariant.fresh (c.if-is_current.true ∙ ap length c.journal.ensures.value), differ, told.changed.0)
 
 pub start_anew-settled-requires-clause-apart : goal.start_anew-settled-requires-clause-apart
@@ -42,7 +42,7 @@ outcome c =
       | then-is_current w ↦
           let did = w.settle-settled.ensures in
           let result = w.settle-settled.result in
-          let differ = subst (λ (v : State). StatesDifferAmong named.keys.items named.interfaces.items s v) (sym told.taken) c.in_ok-named.ensures.named in
+          let differ = subst (λ (v : State). StatesDifferAmong named.keys.items named.interfaces.items false s v) (sym told.taken) c.in_ok-named.ensures.named in
           let settled : IsSettled s u i.routes i.built result w.settle-settled.new.self = record {
             right = did.right;
             fit = did.fit;

@@ -1,4 +1,4 @@
-use Rattle.std.proofs.Common.{ℕ, sym, subst, ap, ◌∙◌}
+use Rattle.std.proofs.Common.{ℕ, refl, sym, subst, ap, ◌∙◌}
 use Rattle.ospf_types.specs.declared.config.Config.{Config}
 use Rattle.event_state.specs.States.{AreApart}
 use Rattle.route_table.specs.Tables.{TableValue}
@@ -26,7 +26,7 @@ all c =
       | then-changed+in_ok-follow w ↦
           subst (HasFollowed t keys ids changed old) (sym w.self-is) (followed t keys ids changed old mid c.forget.ensures w.follow.new.self w.in_ok-follow.ensures.calculation w.in_ok-follow.ensures.items w.in_ok-follow.ensures.dues w.in_ok-follow.ensures.exact w.in_ok-follow.ensures.bounded)
       | else-changed w ↦
-          subst (HasFollowed t keys ids changed old) (sym w.self-is) (stayed t keys ids changed old mid c.forget.ensures w.if-changed.false (c.config.ensures.fit (subst (λ (k : Config). AreApart k.areas) (sym before.3.config) before.1.apart)) before.0 (record { fit = before.1; differ = before.3; alike = before.4 }) before.2)
+          subst (HasFollowed t keys ids changed old) (sym w.self-is) (stayed t keys ids changed old mid c.forget.ensures w.if-changed.false (c.config.ensures.fit (subst (λ (k : Config). AreApart k.areas) (sym (before.3.ranges refl)) before.1.apart)) before.0 (record { fit = before.1; differ = before.3; alike = before.4 }) before.2)
     ]
 
 -- the same of what self is made of
@@ -40,7 +40,7 @@ returns-clause-right c =
     (c.set_serial.ensures ∙ ap (λ (n : ℕ). let v : TableValue = record c.self.inside.table { serial = n } in v) c.serial.ensures.value)
 
 pub returns-clause-fit : goal.returns-clause-fit
-returns-clause-fit c = c.config.ensures.fit (subst (λ (k : Config). AreApart k.areas) (sym c.requires.before.3.config) c.requires.before.1.apart)
+returns-clause-fit c = c.config.ensures.fit (subst (λ (k : Config). AreApart k.areas) (sym (c.requires.before.3.ranges refl)) c.requires.before.1.apart)
 
 pub returns-clause-exact : goal.returns-clause-exact
 returns-clause-exact c =
