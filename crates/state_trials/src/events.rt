@@ -50,7 +50,13 @@ fn put(bytes: &mut [u8], place: usize, new: &[u8]) -> Result<(), Fail> {
 }
 
 // Installs the router's LSA of these bytes, of the age and the instance, into the backbone.
-pub(crate) fn install(alloc: Global, lsa: &[u8], router: u32, age: u16, instance: u8) -> Result<Event, Fail> {
+pub(crate) fn install(
+    alloc: Global,
+    lsa: &[u8],
+    router: u32,
+    age: u16,
+    instance: u8,
+) -> Result<Event, Fail> {
     let mut bytes = Vec::from_slice(alloc, lsa)?;
     put(&mut bytes, 0, &age.to_be_bytes())?;
     put(&mut bytes, 4, &router.to_be_bytes())?;
