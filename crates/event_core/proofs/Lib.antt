@@ -1,3 +1,4 @@
+pub mod Bases
 pub mod Listings
 pub mod Runs
 pub mod Naming

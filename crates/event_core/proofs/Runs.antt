@@ -9,7 +9,9 @@ use Rattle.event_state.specs.declared.event.Event.{Event}
 use Rattle.event_state.specs.declared.event.Event.TheVariants as event
 use Rattle.event_state.specs.declared.limits.Limits.{Limits}
 use Rattle.lsdb.specs.Databases.{Database, aged_out}
+use Rattle.event_state.specs.BaseFaults.{base_fault_of}
 use Rattle.event_state.specs.States.{State, LooksAlike, place_of, changed_at_place, serial_of}
+use Rattle.event_state.specs.Rolls.{since, IsBaseOf}
 use Rattle.event_state.specs.Steps.{opening, step, refusal_of, run_from, run_of}
 use Rattle.vertex_graph.specs.Graphs.{most_routers}
 use Rattle.route_table.specs.Tables.{TableValue}
@@ -19,7 +21,7 @@ use Rattle.event_core.specs.Right.{IsRight, AreDue}
 use Rattle.event_core.specs.declared.reply.Reply.{Reply}
 use Rattle.event_core.specs.declared.reply.Standing.{Standing}
 use Rattle.event_core.specs.declared.reply.Standing.TheVariants.{Current, Behind}
-use Rattle.event_core.specs.Cores.{CoreValue, IsCore, IsTaken, Applies, Tells, Stands, HasBoundedWork, NamesChanges, state_of}
+use Rattle.event_core.specs.Cores.{CoreValue, IsCore, IsTaken, Rolls, Applies, Tells, Stands, HasBoundedWork, NamesChanges, state_of}
 use Rattle.event_core.specs.Kept.{core_of, IsCoherent}
 use Rattle.event_state.specs.declared.refusal.Refusal.{Refusal}
 use Rattle.config_faults.specs.Configs.{config_fault_of}
@@ -30,8 +32,10 @@ use Rattle.event_core.specs.Following.{RoutesValue, AreRoutesOf, AreChanges, no_
 use Rattle.event_core.specs.Sums.{IsFollowingWork, IsBuildingWork}
 use Rattle.event_state.specs.Held.{AreFit}
 use Rattle.event_state.proofs.Rolls.{run_append, taken_more}
+use Rattle.event_state.proofs.Faultless.{faultless}
 use Rattle.event_core.proofs.DueRight.{routes_due}
 use Rattle.event_core.proofs.RoutesRight.{routes_right}
+use Rattle.event_core.proofs.Settled.{routes_since}
 use Rattle.event_core.proofs.Uncut.{event_uncut, build_uncut}
 
 -- what no event changes
@@ -63,16 +67,16 @@ run_setting s (e ∷ events) =
 pub config_now : (s : State) → s ≡ run_of s.base s.limits s.journal → s.config ≡ s.base.config
 config_now s run = ap (λ (v : State). v.config) run ∙ (run_setting (opening s.base s.limits) s.journal).config
 
--- so it has no fault, where that of the base has none
+-- so it has no fault, as the base has none
 pub sound_now : (s : State) (r : RoutesValue) (built : ℕ) → IsCoherent s r built → config_fault_of s.config ≡ None
-sound_now s r built kept = ap config_fault_of (config_now s kept.run) ∙ kept.core.sound
+sound_now s r built kept = ap config_fault_of (config_now s kept.run) ∙ (faultless s.limits s.base kept.core.sound).config
 
 -- a run of the journal that is one event longer
 step_runs : (s : State) (e : Event) → s ≡ run_of s.base s.limits s.journal → step s e ≡ run_of s.base s.limits (s.journal ++ e ∷ [])
 step_runs s e run = ap (λ (t : State). step t e) run ∙ sym (run_append _ s.journal (e ∷ []))
 
 -- no event was taken, and the routes are those of the opening state
-pub kept_open : (base : Base) (limits : Limits) (s : State) (r : RoutesValue) → s ≡ opening base limits → config_fault_of base.config ≡ None → limits.area_lsas ≤ most_routers → AreRoutesOf s r → IsCoherent s r 0
+pub kept_open : (base : Base) (limits : Limits) (s : State) (r : RoutesValue) → s ≡ opening base limits → base_fault_of limits base ≡ None → limits.area_lsas ≤ most_routers → AreRoutesOf s r → IsCoherent s r 0
 kept_open base limits s r is sound few are =
     let first : State = opening base limits in
     let first_are = subst (λ (v : State). AreRoutesOf v r) is are in
@@ -82,6 +86,31 @@ kept_open base limits s r is sound few are =
       fresh = λ _. first_are;
       few = few;
     })
+
+-- the state is the base, and the routes are still those of the state
+pub kept_roll : (s u : State) (r : RoutesValue) (built : ℕ) (b : Base) → IsCoherent s r built → built ≡ length s.journal → AreFit s.config.areas s.databases → IsBaseOf s b → base_fault_of s.limits b ≡ None
+    → u ≡ since b s → u ≡ opening b s.limits → IsCoherent u r 0
+kept_roll s u r built b kept all fit is sound since_is again =
+    kept_open b s.limits u r again sound kept.few (subst (λ (v : State). AreRoutesOf v r) (sym since_is) (routes_since s b r is fit (kept.fresh all)))
+
+-- and the core is rolled
+pub rolls : (s u : State) (r : RoutesValue) (built : ℕ) (b : Base) → IsCoherent s r built → IsBaseOf s b → u ≡ since b s → u ≡ opening b s.limits → Rolls (core_of s r built) (core_of u r 0)
+rolls s u r built b kept is since_is again =
+    let base : u.base ≡ b = ap (λ (v : State). v.base) since_is in
+    let limits : u.limits ≡ s.limits = ap (λ (v : State). v.limits) since_is in
+    let journal : u.journal ≡ [] = ap (λ (v : State). v.journal) since_is in
+    let now : state_of (core_of u r 0) ≡ since b s = (λ i. run_of (base i) (limits i) (journal i)) ∙ sym again ∙ since_is in
+    record {
+      base = subst (λ (z : State × Base). IsBaseOf z.0 z.1) (λ i. (kept.run i, sym base i)) is;
+      state = now ∙ (λ i. since (sym base i) (kept.run i));
+      limits = limits;
+      journal = journal;
+      built = refl;
+      table = refl;
+      dues = refl;
+      work = refl;
+      changes = refl;
+    }
 
 -- an event more, and table and due summaries are as they were, whatever else is kept
 pub kept_behind : (s : State) (r new : RoutesValue) (built : ℕ) (e : Event) → IsCoherent s r built → refusal_of s e ≡ None → new.table ≡ r.table → lists_of new.dues ≡ lists_of r.dues → IsCoherent (step s e) new built

@@ -1,9 +1,11 @@
 -- Routes after an event: what is kept, the items of the table and what is due have followed, or nothing that is calculated from differs.
-use Rattle.std.proofs.Common.{◌≡◌, ℕ, Bool, false, List, [], refl, sym, subst}
+use Rattle.std.proofs.Common.{◌≡◌, ℕ, Bool, false, List, [], refl, sym, subst, arith}
 use Rattle.ospf_types.specs.declared.key.Key.{Key}
 use Rattle.ospf_types.specs.declared.key.Scope.{Scope}
 use Rattle.route_table.specs.Tables.{TableValue}
 use Rattle.event_state.specs.Held.{AreFit}
+use Rattle.event_state.specs.declared.base.Base.{Base}
+use Rattle.event_state.specs.Rolls.{since, IsBaseOf}
 use Rattle.event_state.specs.States.{State, LooksAlike, serial_of}
 use Rattle.calculation.specs.Calculations.{IsCalculationOf, IsTableOf}
 use Rattle.calculation.specs.Trees.{StatesDifferAmong}
@@ -66,3 +68,14 @@ pub with_serial : (t : State) (new : RoutesValue) (table : TableValue) → IsCal
     → AreRoutesOf t (record new { table = table })
 with_serial t new table calculation items dues is =
     subst (λ (v : TableValue). AreRoutesOf t (record new { table = v })) (sym is) (record { calculation = calculation; table = items; serial = refl; dues = dues })
+
+-- a roll leaves the routes those of the state
+pub routes_since : (s : State) (b : Base) (r : RoutesValue) → IsBaseOf s b → AreFit s.config.areas s.databases → AreRoutesOf s r → AreRoutesOf (since b s) r
+routes_since s b r is fit are =
+    let alike : LooksAlike s (since b s) = record { config = refl; usable = λ at key. refl; interfaces = refl } in
+    record {
+      calculation = calculation_alike s (since b s) r.calculation alike fit are.calculation;
+      table = are.table;
+      serial = omega (arith, are.serial, is.serial);
+      dues = due_alike s (since b s) r.calculation r.dues alike are.dues;
+    }

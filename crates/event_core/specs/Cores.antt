@@ -7,10 +7,15 @@ use Rattle.event_core.specs.declared.reply.Reply.{Reply}
 use Rattle.event_core.specs.declared.reply.Standing.{Standing}
 use Rattle.event_core.specs.declared.reply.Standing.TheVariants.{Current, Behind}
 use Rattle.event_state.specs.declared.refusal.Refusal.{Refusal}
+use Rattle.event_state.specs.declared.refusal.Refusal.TheVariants as refusal
 use Rattle.config_faults.specs.declared.fault.ConfigFault.{ConfigFault}
 use Rattle.config_faults.specs.declared.fault.ConfigFault.TheVariants.{Memory}
 use Rattle.event_state.specs.declared.limits.Limits.{Limits}
 use Rattle.config_faults.specs.Configs.{config_fault_of}
+use Rattle.event_state.specs.declared.base_fault.BaseFault.{BaseFault}
+use Rattle.event_state.specs.declared.base_fault.BaseFault.TheVariants as base_fault
+use Rattle.event_state.specs.BaseFaults.{base_fault_of}
+use Rattle.event_state.specs.Rolls.{since, IsBaseOf}
 use Rattle.event_state.specs.States.{State, LooksAlike, serial_of}
 use Rattle.event_state.specs.Steps.{run_of, refusal_of, IsLegalList}
 use Rattle.event_state.specs.Refusals.{IsRefusalOf}
@@ -40,9 +45,9 @@ state_of c = run_of c.base c.limits c.journal
 abbrev pub built_state : CoreValue → State
 built_state c = run_of c.base c.limits (take c.built c.journal)
 
--- what holds of every core: the configuration of its base has no fault, each event of the journal is taken in its turn, and table and due summaries are right for the first `built`
+-- what holds of every core: its base has no fault, each event of the journal is taken in its turn, and table and due summaries are right for the first `built`
 pub record IsCore (c : CoreValue) : Type 0 where
-  pub sound : config_fault_of c.base.config ≡ None
+  pub sound : base_fault_of c.limits c.base ≡ None
   pub legal : IsLegalList c.base c.limits c.journal
   pub within : c.built ≤ length c.journal
   pub right : IsRight (built_state c) c.table
@@ -102,12 +107,32 @@ Runs old (e ∷ es) [] new = ⊥
 abbrev pub IsFaultOf : Config → ConfigFault → Type 0
 IsFaultOf config f = (config_fault_of config ≡ Some f) ⊎ ((f ≡ Memory) × (config_fault_of config ≡ None))
 
+-- the first fault that the base has; or Memory, before which only a fault of the configuration is looked for
+abbrev pub IsBaseFaultOf : Limits → Base → BaseFault → Type 0
+IsBaseFaultOf limits base f = (base_fault_of limits base ≡ Some f) ⊎ ((f ≡ base_fault.Config Memory) × (config_fault_of base.config ≡ None))
+
 -- no events were taken, and the table is that of the base
 pub record IsOpening (given : Base) (most : Limits) (c : CoreValue) : Type 0 where
-  pub sound : config_fault_of given.config ≡ None
+  pub sound : base_fault_of most given ≡ None
   pub base : c.base ≡ given
   pub limits : c.limits ≡ most
   pub journal : c.journal ≡ []
   pub built : c.built ≡ 0
   pub work : c.work ≡ no_work
   pub changes : c.changes ≡ []
+
+-- the state as it is becomes the base, with no event since; all else is as it was
+pub record Rolls (old new : CoreValue) : Type 0 where
+  pub base : IsBaseOf (state_of old) new.base
+  pub state : state_of new ≡ since new.base (state_of old)
+  pub limits : new.limits ≡ old.limits
+  pub journal : new.journal ≡ []
+  pub built : new.built ≡ 0
+  pub table : new.table ≡ old.table
+  pub dues : new.dues ≡ old.dues
+  pub work : new.work ≡ old.work
+  pub changes : new.changes ≡ old.changes
+
+-- why a core is not rolled: table and due summaries are behind; or they are not, and memory ran out
+abbrev pub IsRollRefusal : CoreValue → Refusal → Type 0
+IsRollRefusal c r = ((r ≡ refusal.NotCurrent) × (¬ IsCurrent c)) ⊎ ((r ≡ refusal.Memory) × IsCurrent c)

@@ -1,21 +1,21 @@
-ghost use Rattle.std.specs.Prelude.{◌≡◌, ◌≤◌, ◌<◌, ◌+◌, length, None, IfErr, IfOk, MatchBool, OnErr, option_map};
+ghost use Rattle.std.specs.Prelude.{◌≡◌, ◌≤◌, ◌<◌, ◌+◌, length, None, IfErr, IfOk, MatchBool, OnOk, OnErr, option_map};
 ghost use Rattle.vertex_graph.specs.Graphs.{most_routers};
-ghost use Rattle.config_faults.specs.Configs.{config_fault_of};
+ghost use Rattle.event_state.specs.BaseFaults.{base_fault_of};
 ghost use Rattle.dues.specs.Dues.{lists_of};
 ghost use Rattle.event_core.specs.Right.{IsDueIn, list_under};
-ghost use Rattle.event_core.specs.Cores.{IsCore, IsCurrent, IsOpening, IsFaultOf, Applies, NamesChanges, HasBoundedWork, Stands, Runs, built_state, state_of};
+ghost use Rattle.event_core.specs.Cores.{IsBaseFaultOf, IsCore, IsCurrent, IsOpening, IsFaultOf, IsRollRefusal, Rolls, Applies, NamesChanges, HasBoundedWork, Stands, Runs, built_state, state_of};
 ghost use Rattle.event_state.specs.Bases.{bare};
 ghost use Rattle.event_state.specs.States.{serial_of};
 ghost use Rattle.event_state.specs.Steps.{standard_limits};
 ghost use Rattle.event_state.specs.Listings.{AreLsas};
 
-use crate::listing::lsas;
+use crate::listing::{base_of, lsas};
 use crate::named::named_by;
 use crate::reply::{Reply, Standing};
 use crate::routes::Routes;
 use config_faults::{ConfigFault, fault_in};
 use dues::{Due, Dues};
-use event_state::{Base, Event, Limits, Refusal, State};
+use event_state::{Base, BaseFault, Event, Limits, Refusal, State, fault_in_base};
 use lsa_codec::Checked;
 use ospf_types::config::Config;
 use ospf_types::key::Scope;
@@ -67,7 +67,7 @@ impl Drop for Core {
 }
 
 impl Core {
-    /// A core with no interfaces, empty databases and an empty journal.
+    /// A core with no interfaces, empty databases and an empty journal: that of a bare configuration.
     pub fn open(alloc: Global, config: Config, hashing: RandomState) -> Result<Core, ConfigFault>
         ensures fault { IfErr result (IsFaultOf config) }
         ensures opens { IfOk result (IsOpening (bare config) standard_limits) }
@@ -91,24 +91,41 @@ impl Core {
         if let Some(fault) = fault_in(&config) {
             return Err(fault);
         }
-        match Core::open_sound(alloc, config, limits, hashing) {
+        match Core::open_sound(alloc, Base::bare(alloc, config), limits, hashing) {
             Ok(core) => Ok(core),
             Err(Memory) => Err(ConfigFault::Memory),
         }
     }
 
+    /// A core with the databases and the interfaces of the base, and an empty journal. Serials go on from that of the base.
+    pub fn open_from(alloc: Global, base: Base, hashing: RandomState) -> Result<Core, BaseFault>
+        ensures fault { IfErr result (IsBaseFaultOf standard_limits base) }
+        ensures opens { IfOk result (IsOpening base standard_limits) }
+        ensures kept { IfOk result IsCore }
+    {
+        let opened = match fault_in_base(alloc, &base, Limits::STANDARD) {
+            Ok(Some(fault)) => return Err(fault),
+            Ok(None) => Core::open_sound(alloc, base, Limits::STANDARD, hashing),
+            Err(Memory) => Err(Memory),
+        };
+        match opened {
+            Ok(core) => Ok(core),
+            Err(Memory) => Err(BaseFault::Config(ConfigFault::Memory)),
+        }
+    }
+
     fn open_sound(
         alloc: Global,
-        config: Config,
+        base: Base,
         limits: Limits,
         hashing: RandomState,
     ) -> Result<Core, Memory>
-        requires sound { config_fault_of config ≡ None }
+        requires sound { base_fault_of limits base ≡ None }
         requires few { limits.area_lsas ≤ most_routers }
-        ensures opens { IfOk result (IsOpening (bare config) limits) }
+        ensures opens { IfOk result (IsOpening base limits) }
         ensures kept { IfOk result IsCore }
     {
-        let state = State::within(alloc, config, limits, hashing)?;
+        let state = State::from_base(alloc, base, limits, hashing)?;
         let routes = Routes::build(alloc, &state, hashing)?;
         Ok(Core {
             alloc,
@@ -188,6 +205,27 @@ impl Core {
             }
         }
         Ok(replies)
+    }
+
+    /// Makes the state as it is the base, and empties the journal; what is due, the table and what is told of the last event
+    /// stay. The answer is the serial, which goes on. Refused are a table that is behind, with 37, and want of memory; then
+    /// everything is as it was.
+    pub fn roll(&mut self) -> Result<u64, Refusal>
+        ensures rolled { OnOk result (Rolls self.old self.new) }
+        ensures serial { IfOk result (λ serial. serial ≡ serial_of (state_of self.old)) }
+        ensures current { OnOk result (IsCurrent self.old) }
+        ensures refused { IfErr result (IsRollRefusal self.old) }
+        ensures unchanged { OnErr result (self.new ≡ self.old) }
+    {
+        if self.built != self.state.journal().len() as u64 {
+            return Err(Refusal::NotCurrent);
+        }
+        let Ok(base) = base_of(self.alloc, &self.state) else {
+            return Err(Refusal::Memory);
+        };
+        self.state.rebase(base);
+        self.built = 0;
+        Ok(self.state.serial())
     }
 
     pub fn table(&self) -> &Table

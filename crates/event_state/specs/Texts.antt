@@ -22,6 +22,7 @@ refusal_text refusal.AddressTaken = codes "29 AddressTaken"
 refusal_text refusal.Memory = codes "30 Memory"
 refusal_text refusal.Spawn = codes "31 Spawn"
 refusal_text refusal.Workers = codes "32 Workers"
+refusal_text refusal.NotCurrent = codes "37 NotCurrent"
 
 abbrev pub unfit_text : Unfit → List ℕ
 unfit_text unfit.NoArea = codes "20 NoArea"

@@ -1,6 +1,7 @@
 //! Whether a state can be made from a base.
-ghost use Rattle.std.specs.Prelude.{◌≡◌, true, IfOk, length, is_none, nat_lt};
+ghost use Rattle.std.specs.Prelude.{◌≡◌, true, None, IfErr, IfOk, length, is_none, nat_lt};
 ghost use Rattle.std.specs.List.{list_any};
+ghost use Rattle.config_faults.specs.Configs.{config_fault_of};
 ghost use Rattle.event_state.specs.Bases.{lsas_under};
 ghost use Rattle.event_state.specs.BaseFaults.{base_fault_of, unfit_of, unfit_fault, is_doubled, has_twice, is_same_id, is_same_place, is_same_address, lacks_an_area, is_overfull};
 ghost use Rattle.event_state.specs.Ascending.{scoped_key, scoped_cmp, is_ascending, is_before_first, ids_ascend, is_before_first_id, is_ordered};
@@ -78,7 +79,8 @@ pub fn fault_in_base(
     base: &Base,
     limits: Limits,
 ) -> Result<Option<BaseFault>, Memory>
-    ensures { IfOk result (λ fault. fault ≡ base_fault_of limits base.now) }
+    ensures fault { IfOk result (λ fault. fault ≡ base_fault_of limits base.now) }
+    ensures memory { IfErr result (λ _. config_fault_of base.now.config ≡ None) }
 {
     if is_ordered(base) {
         return Ok(fault_in_ordered(base, limits));

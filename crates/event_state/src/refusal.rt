@@ -7,7 +7,7 @@ use std::fmt;
 use thiserror::Error;
 
 /// Why an event was not taken: the first of these, in this order, that holds. It left everything as it
-/// was. The last two are refusals of several workers at once, never of an event.
+/// was. The last three are never refusals of an event, but two of several workers at once, and one of a roll.
 #[derive(Clone, Copy, Debug, PartialEq, Eq, Error)]
 pub enum Refusal {
     /// The area of the scope or of the interface is not configured.
@@ -36,6 +36,8 @@ pub enum Refusal {
     Spawn,
     /// More lists than there may be workers: of several workers alone.
     Workers,
+    /// Table, due summaries or publication are behind: of a roll alone.
+    NotCurrent,
 }
 
 impl Refusal {
@@ -71,6 +73,7 @@ impl fmt::Display for Refusal {
             Refusal::Memory => "30 Memory",
             Refusal::Spawn => "31 Spawn",
             Refusal::Workers => "32 Workers",
+            Refusal::NotCurrent => "37 NotCurrent",
         })
     }
 }
