@@ -6,8 +6,8 @@ use Rattle.ospf_types.specs.declared.config.Config.{Config}
 use Rattle.ospf_types.specs.declared.config.AreaConfig.{AreaConfig}
 use Rattle.event_state.specs.declared.event.Event.{Event}
 use Rattle.event_state.specs.States.{State, LooksAlike}
-use Rattle.event_state.specs.Steps.{run_of, refusal_of, standard_limits}
-use Rattle.event_state.specs.Refusals.{IsRefusalOf}
+use Rattle.event_state.specs.Steps.{run_of, lasting_refusal_of, standard_limits}
+use Rattle.event_state.specs.Refusals.{IsLastingRefusalOf}
 use Rattle.event_core.specs.declared.reply.Reply.{Reply}
 use Rattle.event_core.specs.declared.reply.Standing.TheVariants.{Current, Behind}
 use Rattle.event_core.specs.Right.{IsDueIn}
@@ -24,7 +24,7 @@ after base list = run_of base standard_limits list
 -- the reply is that of the event after these, which are legal
 pub record Replies (base : Base) (before : List Event) (e : Event) (r : Reply) : Type 0 where
   pub legal : IsLegal base before
-  pub accepted : refusal_of (after base before) e ≡ None
+  pub accepted : lasting_refusal_of (after base before) e ≡ None
   pub serial : r.serial ≡ base.serial + length before + 1
   pub changed : (r.changed ≡ false) ↔ LooksAlike (after base before) (after base (before ++ e ∷ []))
 
@@ -37,7 +37,7 @@ Answers name e a =
 -- The event is refused after some legal list, which is the token's where there is one. Where there is none something was taken before
 abbrev pub Refusals : Name → Event → Refused → Type 0
 Refusals name e r =
-    (list : List Event) × IsLegal name.base list × IsRefusalOf (after name.base list) e r.refusal
+    (list : List Event) × IsLegal name.base list × IsLastingRefusalOf (after name.base list) e r.refusal
     × MatchOption r.told (list ≢ []) (λ t. (t.name ≡ name) × (t.list ≡ list))
 
 -- the area is configured
