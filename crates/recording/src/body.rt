@@ -1,4 +1,4 @@
-//! A line behind the header.
+//! A line of what happened.
 ghost use Rattle.std.specs.Prelude.{◌≡◌, ◌++◌, [], ◌∷◌, OnOk, IfOk, IfErr};
 ghost use Rattle.hex.specs.Hex.{decode_of};
 ghost use Rattle.lsa_codec.specs.Spelling.{spelling};
@@ -46,8 +46,11 @@ fn read_line(alloc: Global, version: Version, line: &[u8]) -> Result<Line, Fault
         LineForm::Version(_) => Err(Fault::Order),
         LineForm::Router(_) => Err(Fault::Order),
         LineForm::Compat(_) => Err(Fault::Order),
+        LineForm::Serial(_) => Err(Fault::Order),
         LineForm::Area { .. } => Err(Fault::Order),
         LineForm::Range { .. } => Err(Fault::Order),
+        LineForm::HasInterface { .. } => Err(Fault::Order),
+        LineForm::HasLsa { .. } => Err(Fault::Order),
         LineForm::Interface {
             id,
             area,
@@ -69,11 +72,12 @@ fn read_line(alloc: Global, version: Version, line: &[u8]) -> Result<Line, Fault
         LineForm::Purge { scope, key } => Ok(Line::Event(Event::Purge { scope, key })),
         LineForm::Second => Ok(Line::Event(Event::Second)),
         LineForm::Lookup(address) => Ok(Line::Lookup(address)),
+        LineForm::Roll => Ok(Line::Roll),
     }
 }
 
-// The LSA whose bytes the digits write.
-fn read_lsa(alloc: Global, digits: &[u8]) -> Result<Checked, Fault>
+/// The LSA whose bytes the digits write.
+pub(crate) fn read_lsa(alloc: Global, digits: &[u8]) -> Result<Checked, Fault>
     requires { decode_of digits.now ≡ Ok (bytes_of digits.now) }
     ensures spelled { IfOk result (λ lsa. spelling lsa ≡ bytes_of digits.now) }
     ensures whole { IfOk result IsWhole }
