@@ -14,7 +14,7 @@ use Rattle.event_state.specs.declared.event.Event.{Event}
 use Rattle.event_state.specs.declared.event.Event.TheVariants as event
 use Rattle.event_state.specs.declared.refusal.Refusal.TheVariants as refusal
 use Rattle.event_state.specs.States.{State, place_of}
-use Rattle.event_state.specs.Steps.{IsAccepted, refusal_of, tests_of, lacks_area, is_not_own, is_misplaced, is_older, is_repeated, has_no_lsa, is_young, is_full, is_full_in, held_at, limit_of, is_below_max_age}
+use Rattle.event_state.specs.Steps.{IsAccepted, refusal_of, tests_of, lacks_area, is_not_own, is_misplaced, is_older, is_repeated, has_no_lsa, is_young, is_full, is_full_in, is_journal_full, is_address_taken, held_at, limit_of, is_below_max_age}
 
 passed : {X : Type 0} (test : Bool) (x : X) (rest : List (Bool × X)) → first_of ((test, x) ∷ rest) ≡ None → (test ≡ false) × (first_of rest ≡ None)
 passed true x rest e = absurd cc
@@ -30,7 +30,9 @@ accepted s e none =
     let own = passed (is_not_own s e) refusal.NotOwn (drop 6 (tests_of s e)) there.1 in
     let young = passed (is_young s e) refusal.NotMaxAge (drop 7 (tests_of s e)) own.1 in
     let full = passed (is_full s e) refusal.Full (drop 8 (tests_of s e)) young.1 in
-    record { placed = scope.0; newer = older.0; differs = repeated.0; there = there.0; aged = young.0; room = full.0 }
+    let journal = passed (is_journal_full s) refusal.JournalFull (drop 9 (tests_of s e)) full.1 in
+    let taken = passed (is_address_taken s e) refusal.AddressTaken [] journal.1 in
+    record { area = area.0; apart = taken.0; placed = scope.0; newer = older.0; differs = repeated.0; there = there.0; aged = young.0; room = full.0 }
 
 none_of_three : (a b c : Bool) → a ≡ false → b ≡ false → c ≡ false → first_of ((a, install.Older) ∷ (b, install.Same) ∷ (c, install.Full) ∷ []) ≡ None
 none_of_three true b c e f g = absurd cc

@@ -3,9 +3,12 @@ pub mod Aging
 pub mod InPlace
 pub mod Places
 pub mod OneChange
+pub mod Sizes
 pub mod HeldStates
 pub mod Looks
 pub mod Accepted
 pub mod Lasting
 pub mod Carried
 pub mod Naming
+pub mod Bases
+pub mod Rolls

@@ -1,3 +1,4 @@
+pub mod Bases
 pub mod States
 pub mod Steps
 pub mod Changes
@@ -5,3 +6,7 @@ pub mod Refusals
 pub mod Texts
 pub mod Held
 pub mod Named
+pub mod Listings
+pub mod BaseFaults
+pub mod Rolls
+pub mod Ascending

@@ -1,22 +1,22 @@
 -- One event: the first refusal that holds, or what it does to the state; and runs of events (RFC 2328, 13.2 and 14).
-use Rattle.std.specs.Prelude.{ℕ, ◌==◌, ◌&&◌, ◌≡◌, not, Bool, false, nat_le, nat_lt, List, [], ◌∷◌, ◌++◌, map, length, Option, Some, None, is_none, option_and_then}
+use Rattle.std.specs.Prelude.{ℕ, ◌==◌, ◌&&◌, ◌||◌, ◌≡◌, not, Bool, false, nat_le, nat_lt, List, [], ◌∷◌, ◌++◌, map, length, Option, Some, None, is_none, option_and_then}
 use Rattle.std.specs.List.{list_any}
-use Rattle.std.specs.FinMap.{entries, get, insert, remove, empty}
+use Rattle.std.specs.FinMap.{entries, get, insert, remove}
 use Rattle.ospf_types.specs.FirstOf.{first_of}
-use Rattle.ospf_types.specs.declared.config.Config.{Config}
-use Rattle.ospf_types.specs.declared.config.AreaConfig.{AreaConfig}
 use Rattle.ospf_types.specs.declared.config.Interface.{Interface}
 use Rattle.ospf_types.specs.declared.key.Key.{Key}
 use Rattle.ospf_types.specs.declared.key.Scope.{Scope}
 use Rattle.ospf_types.specs.declared.key.Scope.TheVariants as scope
 use Rattle.ospf_types.specs.Lsa.{Lsa, MaxAge, key_of}
 use Rattle.lsdb.specs.Databases.{Database, all_aged, aged_out, is_older_than, is_same_as, is_full_for}
+use Rattle.event_state.specs.declared.base.Base.{Base}
 use Rattle.event_state.specs.declared.event.Event.{Event}
 use Rattle.event_state.specs.declared.event.Event.TheVariants as event
 use Rattle.event_state.specs.declared.limits.Limits.{Limits}
 use Rattle.event_state.specs.declared.refusal.Refusal.{Refusal}
 use Rattle.event_state.specs.declared.refusal.Refusal.TheVariants as refusal
-use Rattle.event_state.specs.States.{State, place_of, database_of, with_change}
+use Rattle.event_state.specs.Bases.{most_serial, databases_in, interfaces_in}
+use Rattle.event_state.specs.States.{State, serial_of, place_of, database_of, with_change}
 
 -- ---- the tests, a line of the table of refusals each
 
@@ -111,9 +111,9 @@ is_full s (event.Purge at key) = false
 is_full s (event.Interface id area address peer up) = false
 is_full s event.Second = false
 
--- as many events were taken as the journal may hold
+-- as many events were taken since the base as the journal may hold, or the last serial is given
 abbrev pub is_journal_full : State → Bool
-is_journal_full s = nat_le s.limits.events (length s.journal)
+is_journal_full s = nat_le s.limits.events (length s.journal) || nat_le most_serial (serial_of s)
 
 -- the interface is up and has this address, and its id is another one
 abbrev pub has_address : ℕ → ℕ → ℕ × Interface → Bool
@@ -161,8 +161,10 @@ pub record IsAccepted (s : State) (e : Event) : Type 0 where
   pub newer : is_older s e ≡ false
   pub differs : is_repeated s e ≡ false
   pub there : has_no_lsa s e ≡ false
+  pub area : lacks_area s e ≡ false
   pub aged : is_young s e ≡ false
   pub room : is_full s e ≡ false
+  pub apart : is_address_taken s e ≡ false
 
 -- ---- what an event does
 
@@ -183,13 +185,14 @@ step s e = record (changed_by s e) { journal = s.journal ++ e ∷ [] }
 
 -- ---- runs
 
--- no interfaces, empty databases, no event
-abbrev pub opening : Config → Limits → State
-opening config limits = record {
-  config = config;
+-- the databases and interfaces of the base, and no event
+abbrev pub opening : Base → Limits → State
+opening base limits = record {
+  base = base;
+  config = base.config;
   limits = limits;
-  databases = map (λ (a : AreaConfig). empty) config.areas ++ empty ∷ [];
-  interfaces = empty;
+  databases = databases_in base.lsas base.config.areas;
+  interfaces = interfaces_in base.interfaces;
   journal = [];
 }
 
@@ -198,14 +201,14 @@ abbrev pub run_from : State → List Event → State
 run_from s [] = s
 run_from s (e ∷ es) = run_from (step s e) es
 
-abbrev pub run_of : Config → Limits → List Event → State
-run_of config limits events = run_from (opening config limits) events
+abbrev pub run_of : Base → Limits → List Event → State
+run_of base limits events = run_from (opening base limits) events
 
--- each of these events is taken in its turn
+-- each of these events is taken in its turn, however many the journal may hold
 abbrev pub AreTaken : State → List Event → Type 0
 AreTaken s [] = Unit {0}
-AreTaken s (e ∷ es) = (refusal_of s e ≡ None) × AreTaken (step s e) es
+AreTaken s (e ∷ es) = (lasting_refusal_of s e ≡ None) × AreTaken (step s e) es
 
--- a list of events of which each is taken in its turn, from the opening state
-abbrev pub IsLegalList : Config → Limits → List Event → Type 0
-IsLegalList config limits events = AreTaken (opening config limits) events
+-- a list of events of which each is taken in its turn, from the base on
+abbrev pub IsLegalList : Base → Limits → List Event → Type 0
+IsLegalList base limits events = AreTaken (opening base limits) events

@@ -3,13 +3,20 @@
 #![tactic(auto)]
 
 mod area_databases;
+mod base;
+mod base_checks;
+mod base_fault;
 mod event;
 mod interfaces;
 mod limits;
 mod named;
 mod refusal;
+mod scopes;
 mod state;
 
+pub use base::Base;
+pub use base_checks::fault_in_base;
+pub use base_fault::{BaseFault, Unfit};
 pub use event::Event;
 pub use limits::Limits;
 pub use refusal::Refusal;

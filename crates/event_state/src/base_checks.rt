@@ -1,0 +1,247 @@
+//! Whether a state can be made from a base.
+ghost use Rattle.std.specs.Prelude.{◌≡◌, ℕ, false, IfOk, length, is_none, nat_lt};
+ghost use Rattle.std.specs.Bool.{OnTrue};
+ghost use Rattle.std.specs.List.{list_any};
+ghost use Rattle.event_state.specs.Bases.{lsas_under};
+ghost use Rattle.event_state.specs.BaseFaults.{base_fault_of, unfit_of, is_doubled, has_twice, is_same_id, is_same_place, is_same_address, lacks_an_area, is_overfull};
+ghost use Rattle.event_state.specs.Ascending.{scoped_key, scoped_cmp, is_ascending, is_before_first};
+ghost use Rattle.event_state.specs.States.{place_of};
+ghost use Rattle.event_state.specs.Steps.{is_out_of_scope};
+
+use crate::base::Base;
+use crate::base_fault::{BaseFault, Unfit};
+use crate::limits::Limits;
+use crate::scopes::{is_out_of_scope, is_scope, place_of};
+use config_faults::fault_in;
+use lsa_codec::Checked;
+use ospf_types::config::{AreaConfig, Interface};
+use ospf_types::key::{Key, Scope};
+use ospf_types::memory::Memory;
+use std::alloc::Global;
+use std::cmp::Ordering;
+use std::collections::BTreeSet;
+
+// Under which scope and which key an LSA is listed.
+#[derive(Clone, Copy, Debug, PartialEq, Eq, PartialOrd, Ord)]
+struct ScopedKey {
+    scope: Scope,
+    key: Key,
+}
+
+impl ScopedKey {
+    fn of(scope: Scope, lsa: &Checked) -> ScopedKey
+        ensures { result ≡ scoped_key (scope, lsa.now) }
+    {
+        ScopedKey {
+            scope,
+            key: lsa.key(),
+        }
+    }
+
+    fn compare(self, other: ScopedKey) -> Ordering
+        ensures { result ≡ scoped_cmp self other }
+    {
+        self.cmp(&other)
+    }
+}
+
+/// The first fault that the base has, which is never `Memory`.
+pub fn fault_in_base(alloc: Global, base: &Base, limits: Limits) -> Result<Option<BaseFault>, Memory>
+    ensures { IfOk result (λ fault. fault ≡ base_fault_of limits base.now) }
+{
+    if let Some(fault) = fault_in(&base.config) {
+        return Ok(Some(BaseFault::Config(fault)));
+    }
+    if is_doubled(alloc, base)? {
+        return Ok(Some(BaseFault::Doubled));
+    }
+    match unfit_in(base, limits) {
+        Some(unfit) => Ok(Some(BaseFault::Unfit(unfit))),
+        None => Ok(None),
+    }
+}
+
+fn is_doubled(alloc: Global, base: &Base) -> Result<bool, Memory>
+    ensures { IfOk result (λ doubled. doubled ≡ is_doubled base.now) }
+{
+    if has_doubled_id(alloc, base.interfaces.as_slice())? {
+        return Ok(true);
+    }
+    has_doubled_lsa(alloc, base.lsas.as_slice())
+}
+
+// Whether two interfaces have one id.
+fn has_doubled_id(alloc: Global, interfaces: &[(u8, Interface)]) -> Result<bool, Memory>
+    ensures { IfOk result (λ doubled. doubled ≡ has_twice is_same_id interfaces.now) }
+{
+    let mut ids = BTreeSet::new(alloc);
+    for (id, _) in interfaces {
+        if !ids.insert(*id)? {
+            return Ok(true);
+        }
+    }
+    Ok(false)
+}
+
+// Whether two LSAs have one scope and one key. Where they are listed in the order of these, neighbours
+// tell; else a set does.
+fn has_doubled_lsa(alloc: Global, lsas: &[(Scope, Checked)]) -> Result<bool, Memory>
+    ensures { IfOk result (λ doubled. doubled ≡ has_twice is_same_place lsas.now) }
+{
+    if is_ascending(lsas) {
+        return Ok(false);
+    }
+    let mut places = BTreeSet::new(alloc);
+    for (scope, lsa) in lsas {
+        if !places.insert(ScopedKey::of(*scope, lsa))? {
+            return Ok(true);
+        }
+    }
+    Ok(false)
+}
+
+// Whether each LSA stands before the next one, by scope and then by key.
+fn is_ascending(lsas: &[(Scope, Checked)]) -> bool
+    ensures value { result ≡ is_ascending lsas.now }
+    ensures each_once { OnTrue result (has_twice is_same_place lsas.now ≡ false) }
+{
+    for i in 0..lsas.len() {
+        if !is_before_first(&lsas[i], &lsas[i + 1..]) {
+            return false;
+        }
+    }
+    true
+}
+
+fn is_before_first(lsa: &(Scope, Checked), lsas: &[(Scope, Checked)]) -> bool
+    ensures { result ≡ is_before_first lsa.now lsas.now }
+{
+    match lsas.first() {
+        None => true,
+        Some(next) => {
+            ScopedKey::of(lsa.0, &lsa.1).compare(ScopedKey::of(next.0, &next.1)) == Ordering::Less
+        }
+    }
+}
+
+fn unfit_in(base: &Base, limits: Limits) -> Option<Unfit>
+    ensures { result ≡ unfit_of limits base.now }
+{
+    if lacks_an_area(base) {
+        Some(Unfit::NoArea)
+    } else if has_misplaced(base.lsas.as_slice()) {
+        Some(Unfit::Scope)
+    } else if is_overfull(base, limits) {
+        Some(Unfit::Full)
+    } else if has_shared_address(base.interfaces.as_slice()) {
+        Some(Unfit::AddressTaken)
+    } else {
+        None
+    }
+}
+
+// Whether the area of an interface, or that of an LSA's scope, is not configured.
+fn lacks_an_area(base: &Base) -> bool
+    ensures { result ≡ lacks_an_area base.now }
+{
+    let areas = base.config.areas.as_slice();
+    has_interface_outside(areas, base.interfaces.as_slice())
+        || has_lsa_outside(areas, base.lsas.as_slice())
+}
+
+fn has_interface_outside(areas: &[AreaConfig], interfaces: &[(u8, Interface)]) -> bool
+    ensures { result ≡ list_any (λ x. is_none (place_of areas.now (Scope.Area x.1.area))) interfaces.now }
+{
+    for (_, interface) in interfaces {
+        if place_of(areas, Scope::Area(interface.area)).is_none() {
+            return true;
+        }
+    }
+    false
+}
+
+fn has_lsa_outside(areas: &[AreaConfig], lsas: &[(Scope, Checked)]) -> bool
+    ensures { result ≡ list_any (λ x. is_none (place_of areas.now x.0)) lsas.now }
+{
+    for (scope, _) in lsas {
+        if place_of(areas, *scope).is_none() {
+            return true;
+        }
+    }
+    false
+}
+
+// Whether an LSA stands in a scope that it does not belong to.
+fn has_misplaced(lsas: &[(Scope, Checked)]) -> bool
+    ensures { result ≡ list_any (λ x. is_out_of_scope x.0 x.1.header.kind) lsas.now }
+{
+    for (scope, lsa) in lsas {
+        if is_out_of_scope(*scope, lsa.key().kind) {
+            return true;
+        }
+    }
+    false
+}
+
+// Whether a configured scope has more LSAs than it may. There are at most 16 areas by then.
+fn is_overfull(base: &Base, limits: Limits) -> bool
+    ensures { result ≡ is_overfull limits base.now }
+{
+    let lsas = base.lsas.as_slice();
+    has_overfull_area(base.config.areas.as_slice(), lsas, limits.area_lsas)
+        || is_more(count_under(lsas, Scope::As), limits.externals)
+}
+
+fn has_overfull_area(areas: &[AreaConfig], lsas: &[(Scope, Checked)], most: u32) -> bool
+    ensures { result ≡ list_any (λ a. nat_lt most (length (lsas_under lsas.now (Scope.Area a.id)))) areas.now }
+{
+    for area in areas {
+        if is_more(count_under(lsas, Scope::Area(area.id)), most) {
+            return true;
+        }
+    }
+    false
+}
+
+fn is_more(count: usize, most: u32) -> bool
+    ensures { result ≡ nat_lt most count }
+{
+    count as u64 > u64::from(most)
+}
+
+// How many LSAs the scope has.
+fn count_under(lsas: &[(Scope, Checked)], scope: Scope) -> usize
+    ensures { result ≡ length (lsas_under lsas.now scope) }
+{
+    let mut count = 0;
+    for (other, _) in lsas {
+        if is_scope(scope, *other) {
+            count += 1;
+        }
+    }
+    count
+}
+
+// Whether two interfaces that are up have one address. There are at most 256 by then.
+fn has_shared_address(interfaces: &[(u8, Interface)]) -> bool
+    ensures { result ≡ has_twice is_same_address interfaces.now }
+{
+    for i in 0..interfaces.len() {
+        if shares_address(interfaces[i].1, &interfaces[i + 1..]) {
+            return true;
+        }
+    }
+    false
+}
+
+fn shares_address(interface: Interface, others: &[(u8, Interface)]) -> bool
+    ensures { (id : ℕ) → result ≡ list_any (is_same_address (id, interface)) others.now }
+{
+    others.iter().any(|other| is_same_address(interface, other.1))
+}
+
+fn is_same_address(interface: Interface, other: Interface) -> bool
+    ensures { (id next : ℕ) → result ≡ is_same_address (id, interface) (next, other) }
+{
+    interface.up && other.up && interface.address == other.address
+}
