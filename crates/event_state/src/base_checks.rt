@@ -124,7 +124,9 @@ fn is_before_first(lsa: &(Scope, Checked), lsas: &[(Scope, Checked)]) -> bool
     }
 }
 
-fn unfit_in(base: &Base, limits: Limits) -> Option<Unfit>
+/// What no event could have made of the base's configuration. Where nothing in the base is listed twice, this is
+/// its fault behind those of the configuration.
+pub fn unfit_in(base: &Base, limits: Limits) -> Option<Unfit>
     ensures { result ≡ unfit_of limits base.now }
 {
     if lacks_an_area(base) {

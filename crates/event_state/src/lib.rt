@@ -15,7 +15,7 @@ mod scopes;
 mod state;
 
 pub use base::Base;
-pub use base_checks::fault_in_base;
+pub use base_checks::{fault_in_base, unfit_in};
 pub use base_fault::{BaseFault, Unfit};
 pub use event::Event;
 pub use limits::Limits;
