@@ -11,7 +11,7 @@ use Rattle.recording.specs.declared.reader.Lines.{Lines}
 use Rattle.recording.specs.declared.version.Version.{Version}
 use Rattle.recording.specs.Faults.{parts_of, EndsHeader}
 use Rattle.recording.specs.Forms.{Form}
-use Rattle.recording.specs.Progress.{HasRead, HasHeader, HasLines, headed_base}
+use Rattle.recording.specs.Progress.{HasRead, HasHeader, HasLines, EndsBase, headed_base}
 use Rattle.recording.specs.Recordings.{RecordingValue, CanSpell, first_forms}
 
 -- how many of a base's LSAs have the scope of the last one
@@ -47,3 +47,6 @@ HasBaseAt v lines b = HasLinesAt lines (record { version = v; base = b; lines = 
 
 abbrev pub EndsHeaderAt : Version → Lines → Type 0
 EndsHeaderAt v lines = EndsHeader v (parts_left lines)
+
+abbrev pub EndsBaseAt : Version → Lines → Type 0
+EndsBaseAt v lines = EndsBase v (parts_left lines)

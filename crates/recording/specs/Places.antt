@@ -107,6 +107,12 @@ abbrev pub is_next_range : Option AreaConfig → ℕ → Range → Bool
 is_next_range None area range = false
 is_next_range (Some a) area range = (a.id == area) && is_past_range (last_of a.ranges) range
 
+-- the line says an area behind these, or a range behind those of the last one
+abbrev pub is_next_area : List AreaConfig → Form → Bool
+is_next_area areas (AreaLine id stub) = is_past_area (last_of areas) id
+is_next_area areas (RangeLine area range) = is_next_range (last_of areas) area range
+is_next_area areas _ = false
+
 -- ---- the order of interfaces and LSAs
 
 -- the id is greater than that of the last interface
@@ -169,14 +175,14 @@ front_of forms = record {
 abbrev pub headed : List AreaConfig → Front
 headed areas = record { areas = areas; interfaces = []; lsas = []; ended = false; begun = false }
 
--- lines that say the base, and nothing that happened; whether one of them is no line of the header is told apart
-abbrev pub based : Base → Bool → Front
-based b ended = record { areas = b.config.areas; interfaces = b.interfaces; lsas = b.lsas; ended = ended; begun = false }
+-- lines that say the base, and nothing that happened
+abbrev pub based : Base → Front
+based b = record { areas = b.config.areas; interfaces = b.interfaces; lsas = b.lsas; ended = true; begun = false }
 
 -- the line of the header or of the base may stand behind what was said so far
 abbrev pub is_next : Front → Form → Bool
-is_next f (AreaLine id stub) = not f.ended && is_past_area (last_of f.areas) id
-is_next f (RangeLine area range) = not f.ended && is_next_range (last_of f.areas) area range
+is_next f (AreaLine id stub) = not f.ended && is_next_area f.areas (AreaLine id stub)
+is_next f (RangeLine area range) = not f.ended && is_next_area f.areas (RangeLine area range)
 is_next f (HasInterfaceLine id interface) = not f.begun && (is_none (last_of f.lsas) && is_past_id (last_of f.interfaces) id)
 is_next f (HasLsaLine at bytes) = not f.begun && is_past_lsa (last_of f.lsas) at bytes
 is_next f _ = false

@@ -3,6 +3,7 @@ use Rattle.std.specs.Prelude.{ℕ, ◌≡◌, ◌≢◌, ◌+◌, ◌++◌, true
 use Rattle.std.specs.List.{flat_map}
 use Rattle.lsa_codec.specs.Decoding.{lsa_of}
 use Rattle.lsa_codec.specs.Faults.{fault_of}
+use Rattle.lsa_codec.specs.Spelling.{spelling}
 use Rattle.ospf_types.specs.declared.config.AreaConfig.{AreaConfig}
 use Rattle.event_state.specs.declared.base.Base.{Base}
 use Rattle.recording.specs.declared.fault.Fault.{Fault}
@@ -12,8 +13,8 @@ use Rattle.recording.specs.declared.line.Line.{Line}
 use Rattle.recording.specs.Faults.{parts_of, EndsHeader, HasFault, AreRightBefore, number_of}
 use Rattle.recording.specs.Forms.{Form, Body, HasInterfaceLine, HasLsaLine, BodyLine, Says, AllSay}
 use Rattle.recording.specs.declared.version.Version.{Version}
-use Rattle.recording.specs.Places.{Front, based, body_wire_fault, has_ended, headed, is_next, unfit_at, version_of, wire_fault_in}
-use Rattle.recording.specs.Recordings.{RecordingValue, CanSpell, HasKind, HasWholeLsa, AreWhole, IsLineIn, IsOrdered, IsRecording, area_forms, form_of, forms_of, has_forms, header_forms}
+use Rattle.recording.specs.Places.{based, body_wire_fault, has_ended, is_of_base, is_next, is_next_area, unfit_at, version_of, wire_fault_in}
+use Rattle.recording.specs.Recordings.{RecordingValue, CanSpell, HasKind, HasWholeLsa, AreWhole, IsLineIn, IsOrdered, IsRecording, IsWhole, area_forms, form_of, forms_of, has_forms, header_forms}
 
 -- Each of these says of a text that so many of its lines were taken, and that the parts in `rest` are left.
 
@@ -27,7 +28,7 @@ pub record HasRead (v : Version) (text : List ℕ) (taken : ℕ) (rest : List (L
   pub version : version_of (earlier ++ last ∷ []) ≡ v
   pub said : AllSay v (earlier ++ last ∷ []) forms
   pub right : AreRightBefore text taken
-  pub low : (f : Fault) → number_of f ≢ 55 → ¬ HasFault text taken f
+  pub others : (f : Fault) → number_of f ≢ 55 → ¬ HasFault text taken f
 
 -- a base of which the header is read
 pub record IsBare (b : Base) : Type 0 where
@@ -77,7 +78,7 @@ abbrev pub IsRefusal : List AreaConfig → Form → Fault → Type 0
 IsRefusal areas form fault.Truncated = ⊥
 IsRefusal areas form fault.Version = ⊥
 IsRefusal areas form fault.Line = ⊥
-IsRefusal areas form fault.Order = is_next (headed areas) form ≡ false
+IsRefusal areas form fault.Order = is_next_area areas form ≡ false
 IsRefusal areas form (fault.Wire f) = ⊥
 IsRefusal areas form (fault.Config f) = ⊥
 IsRefusal areas form (fault.Base u) = ⊥
@@ -91,25 +92,32 @@ with_has b (HasInterfaceLine id interface) = record b { interfaces = b.interface
 with_has b (HasLsaLine at bytes) = record b { lsas = b.lsas ++ (at, lsa_of bytes) ∷ [] }
 with_has b _ = b
 
--- what was said so far of the base alone; a line of it does not ask whether the header has ended
-abbrev pub base_front : Base → Front
-base_front b = based b false
+-- the bytes of the form are those of the LSA that is read from them
+abbrev pub IsWholeForm : Form → Type 0
+IsWholeForm (HasLsaLine at bytes) = IsWhole (lsa_of bytes) × (spelling (lsa_of bytes) ≡ bytes)
+IsWholeForm _ = Unit {0}
 
 -- the base takes the form
 pub record IsTaken (b : Base) (form : Form) : Type 0 where
-  pub next : is_next (base_front b) form ≡ true
+  pub next : is_next (based b) form ≡ true
   pub readable : wire_fault_in form ≡ None
-  pub fit : unfit_at (base_front b) form ≡ None
+  pub whole : IsWholeForm form
+  pub fit : unfit_at (based b) form ≡ None
+
+-- The base ends here: the next line has its line feed and is none of a base, or there is no next line.
+abbrev pub EndsBase : Version → List (List ℕ) → Type 0
+EndsBase v (line ∷ next ∷ more) = (form : Form) → Says v line form → is_of_base form ≢ true
+EndsBase v _ = Unit {0}
 
 -- a base does not take the form: for its place, else for its bytes, else for what it says
 abbrev pub IsBaseRefusal : Base → Form → Fault → Type 0
 IsBaseRefusal b form fault.Truncated = ⊥
 IsBaseRefusal b form fault.Version = ⊥
 IsBaseRefusal b form fault.Line = ⊥
-IsBaseRefusal b form fault.Order = is_next (base_front b) form ≡ false
-IsBaseRefusal b form (fault.Wire f) = (is_next (base_front b) form ≡ true) × (wire_fault_in form ≡ Some f)
+IsBaseRefusal b form fault.Order = is_next (based b) form ≡ false
+IsBaseRefusal b form (fault.Wire f) = (is_next (based b) form ≡ true) × (wire_fault_in form ≡ Some f)
 IsBaseRefusal b form (fault.Config f) = ⊥
-IsBaseRefusal b form (fault.Base u) = (is_next (base_front b) form ≡ true) × (wire_fault_in form ≡ None) × (unfit_at (base_front b) form ≡ Some u)
+IsBaseRefusal b form (fault.Base u) = (is_next (based b) form ≡ true) × (wire_fault_in form ≡ None) × (unfit_at (based b) form ≡ Some u)
 IsBaseRefusal b form fault.Memory = Unit {0}
 
 -- ---- a line of what happened

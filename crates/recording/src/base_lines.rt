@@ -10,7 +10,7 @@ ghost use Rattle.recording.specs.Places.{is_of_base, last_of, is_past_id, is_pas
 ghost use Rattle.recording.specs.Left.{IsCounted};
 ghost use Rattle.recording.specs.Progress.{IsTaken, IsBaseRefusal, with_has};
 ghost use Rattle.recording.specs.Reading.{said_by, bytes_of, HasDigits};
-ghost use Rattle.recording.specs.Recordings.{AreByPlaces, AreWhole};
+ghost use Rattle.recording.specs.Recordings.{AreByPlaces};
 
 use crate::body::read_lsa;
 use crate::fault::Fault;
@@ -42,7 +42,6 @@ impl BaseLines {
         ensures taken { IfOk result (λ added. added ≡ true → IsTaken self.old.base (said_by form.now)) }
         ensures new { OnOk result (self.new.base ≡ with_has self.old.base (said_by form.now)) }
         ensures counted { OnOk result (IsCounted self.new) }
-        ensures whole { OnOk result (AreWhole self.old.base.lsas → AreWhole self.new.base.lsas) }
         ensures fault { IfErr result (IsBaseRefusal self.old.base (said_by form.now)) }
         ensures refused { IfErr result (λ _. is_of_base (said_by form.now) ≡ true) }
     {
@@ -79,7 +78,6 @@ impl BaseLines {
         ensures taken { OnOk result (IsTaken self.old.base (HasLsaLine scope (bytes_of digits.now))) }
         ensures new { OnOk result (self.new.base ≡ with_has self.old.base (HasLsaLine scope (bytes_of digits.now))) }
         ensures counted { OnOk result (IsCounted self.new) }
-        ensures whole { OnOk result (AreWhole self.old.base.lsas → AreWhole self.new.base.lsas) }
         ensures fault { IfErr result (IsBaseRefusal self.old.base (HasLsaLine scope (bytes_of digits.now))) }
     {
         let Some(row) = self.row_under(scope) else {

@@ -1,7 +1,7 @@
 //! The configuration that the lines of a header say, one after the other, and the serial.
 ghost use Rattle.std.specs.Prelude.{◌≡◌, ◌++◌, ◌∷◌, ◌⊎◌, true, false, [], Some, OnOk, IfOk, IfErr};
 ghost use Rattle.recording.specs.Forms.{AreaLine, RangeLine};
-ghost use Rattle.recording.specs.Places.{headed, is_of_header, is_next, with_form, last_of, is_past_area, is_past_range, is_next_range};
+ghost use Rattle.recording.specs.Places.{is_of_header, is_next_area, with_form, last_of, is_past_area, is_past_range, is_next_range};
 ghost use Rattle.recording.specs.Progress.{IsRefusal, with_areas};
 ghost use Rattle.recording.specs.Reading.{said_by};
 
@@ -59,7 +59,7 @@ impl Header {
     /// Adds what a line says; `false` where it is no line of a header.
     pub(crate) fn add(&mut self, alloc: Global, form: &LineForm<'_>) -> Result<bool, Fault>
         ensures header { IfOk result (λ added. added ≡ is_of_header (said_by form.now)) }
-        ensures next { IfOk result (λ added. added ≡ true → is_next (headed self.old.config.areas) (said_by form.now) ≡ true) }
+        ensures next { IfOk result (λ added. added ≡ true → is_next_area self.old.config.areas (said_by form.now) ≡ true) }
         ensures new { OnOk result (self.new ≡ with_areas self.old (with_form self.old.config.areas (said_by form.now))) }
         ensures fault { IfErr result (IsRefusal self.old.config.areas (said_by form.now)) }
         ensures refused { IfErr result (λ _. is_of_header (said_by form.now) ≡ true) }
@@ -73,7 +73,7 @@ impl Header {
 
     fn add_area(&mut self, alloc: Global, id: u32, stub: Option<Stub>) -> Result<bool, Fault>
         ensures header { IfOk result (λ added. added ≡ true) }
-        ensures next { OnOk result (is_next (headed self.old.config.areas) (AreaLine id stub) ≡ true) }
+        ensures next { OnOk result (is_next_area self.old.config.areas (AreaLine id stub) ≡ true) }
         ensures new { OnOk result (self.new ≡ with_areas self.old (with_form self.old.config.areas (AreaLine id stub))) }
         ensures fault { IfErr result (IsRefusal self.old.config.areas (AreaLine id stub)) }
     {
@@ -93,7 +93,7 @@ impl Header {
 
     fn add_range(&mut self, area: u32, range: Range) -> Result<bool, Fault>
         ensures header { IfOk result (λ added. added ≡ true) }
-        ensures next { OnOk result (is_next (headed self.old.config.areas) (RangeLine area range) ≡ true) }
+        ensures next { OnOk result (is_next_area self.old.config.areas (RangeLine area range) ≡ true) }
         ensures new { OnOk result (self.new ≡ with_areas self.old (with_form self.old.config.areas (RangeLine area range))) }
         ensures fault { IfErr result (IsRefusal self.old.config.areas (RangeLine area range)) }
     {

@@ -2,7 +2,7 @@
 ghost use Rattle.std.specs.Prelude.{◌≡◌, ◌≢◌, ◌≤◌, ◌+◌, [], ◌∷◌, IsNone, IfSome, OnOk, IfOk, IfErr, MatchResult};
 ghost use Rattle.recording.specs.Recordings.{RecordingValue, IsText};
 ghost use Rattle.recording.specs.Faults.{IsFaultOf, IsNoVersion};
-ghost use Rattle.recording.specs.Left.{HasReadAt, HasSettingAt, HasHeaderAt, HasBaseAt, EndsHeaderAt, IsCounted};
+ghost use Rattle.recording.specs.Left.{HasReadAt, HasSettingAt, HasHeaderAt, HasBaseAt, EndsHeaderAt, EndsBaseAt, IsCounted};
 ghost use Rattle.recording.specs.declared.fault.Fault.TheVariants as line_fault;
 ghost use Rattle.recording.specs.declared.version.Version.TheVariants as version_value;
 ghost use Rattle.recording.specs.Forms.{VersionLine, RouterLine, CompatLine, line_text};
@@ -240,6 +240,7 @@ fn read_base(
     requires { HasBaseAt version lines base }
     requires { base.lsas ≡ [] }
     ensures read { IfOk result (λ found. HasBaseAt version found.1 found.0) }
+    ensures end { IfOk result (λ found. EndsBaseAt version found.1) }
     ensures text { IfOk result (λ found. found.1.text.now ≡ lines.entry.text.now) }
     ensures fault { IfErr result (IsFaultOf lines.entry.text.now) }
 {
@@ -264,6 +265,7 @@ fn read_base_line<'a>(
     ensures counted { OnOk result (IsCounted held.new) }
     ensures text { IfOk result (λ next. IfSome next (λ after. after.text.now ≡ lines.entry.text.now)) }
     ensures shorter { IfOk result (λ next. IfSome next (λ after. lines.entry.start + 1 ≤ after.start)) }
+    ensures end { IfOk result (λ next. IsNone next → EndsBaseAt version lines.entry) }
     ensures same { IfOk result (λ next. IsNone next → held.new.base ≡ held.old.base) }
     ensures fault { IfErr result (IsFaultOf lines.entry.text.now) }
 {
@@ -288,6 +290,7 @@ fn read_lines(
     lines: Lines<'_>,
 ) -> Result<Recording, LineFault>
     requires { HasBaseAt version lines base }
+    requires { EndsBaseAt version lines }
     ensures text { IfOk result (IsText lines.entry.text.now) }
     ensures fault { IfErr result (IsFaultOf lines.entry.text.now) }
 {
