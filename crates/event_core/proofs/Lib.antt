@@ -1,4 +1,3 @@
-pub mod Configs
 pub mod Listings
 pub mod Runs
 pub mod Naming

@@ -22,7 +22,7 @@ use Rattle.calculation.proofs.InputsAre.{area_is}
 use Rattle.config_faults.specs.Configs.{config_fault_of}
 use Rattle.event_core.proofs.SmallWorks.{small_area, change_small, build_small}
 use Rattle.event_core.specs.Sums.{IsSum, IsFollowingWork, IsBuildingWork}
-use Rattle.event_core.proofs.Configs.{sound_few}
+use Rattle.event_state.proofs.Configs.{sound_few}
 
 -- each of these works is small
 abbrev AreSmall : List Touched → Type 0

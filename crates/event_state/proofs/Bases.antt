@@ -192,22 +192,22 @@ held_again s ids scope.As d sound is there =
     get-from_entries key_total (keyed (lsas_under (lsas_in s ids) scope.As)) q ∙ as_found s q ids
     ∙ ap (λ (o : Option Database). find key_cmp q (under_keys (lsas_of o))) is ∙ found_under d sound q)
 
-same_lists : {X : Type 0} (xs ys : List X) (d : X) → length xs ≡ length ys → ((k : ℕ) → k < length xs → get_or xs k d ≡ get_or ys k d) → xs ≡ ys
+pub same_lists : {X : Type 0} (xs ys : List X) (d : X) → length xs ≡ length ys → ((k : ℕ) → k < length xs → get_or xs k d ≡ get_or ys k d) → xs ≡ ys
 same_lists [] [] d long at = refl
 same_lists [] (y ∷ ys) d long at = absurd (omega arith)
 same_lists (x ∷ xs) [] d long at = absurd (omega arith)
 same_lists (x ∷ xs) (y ∷ ys) d long at = λ i. at 0 (omega arith) i ∷ same_lists xs ys d (omega arith) (λ k lt. at (suc k) (omega arith)) i
 
-front_at : {X : Type 0} (f : AreaConfig → X) (areas : List AreaConfig) (y d : X) (a : AreaConfig) (k : ℕ) → k < length areas → get_or (map f areas ++ y ∷ []) k d ≡ f (get_or areas k a)
+pub front_at : {X : Type 0} (f : AreaConfig → X) (areas : List AreaConfig) (y d : X) (a : AreaConfig) (k : ℕ) → k < length areas → get_or (map f areas ++ y ∷ []) k d ≡ f (get_or areas k a)
 front_at f [] y d a k lt = absurd (omega arith)
 front_at f (b ∷ areas) y d a zero lt = refl
 front_at f (b ∷ areas) y d a (suc k) lt = front_at f areas y d a k (omega arith)
 
-last_at : {X : Type 0} (f : AreaConfig → X) (areas : List AreaConfig) (y d : X) → get_or (map f areas ++ y ∷ []) (length areas) d ≡ y
+pub last_at : {X : Type 0} (f : AreaConfig → X) (areas : List AreaConfig) (y d : X) → get_or (map f areas ++ y ∷ []) (length areas) d ≡ y
 last_at f [] y d = refl
 last_at f (b ∷ areas) y d = last_at f areas y d
 
-front_long : {X : Type 0} (f : AreaConfig → X) (areas : List AreaConfig) (y : X) → length (map f areas ++ y ∷ []) ≡ length areas + 1
+pub front_long : {X : Type 0} (f : AreaConfig → X) (areas : List AreaConfig) (y : X) → length (map f areas ++ y ∷ []) ≡ length areas + 1
 front_long f [] y = refl
 front_long f (b ∷ areas) y = omega (arith, front_long f areas y)
 

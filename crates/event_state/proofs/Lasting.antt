@@ -5,6 +5,7 @@ use Rattle.event_state.specs.declared.event.Event.{Event}
 use Rattle.event_state.specs.declared.refusal.Refusal.{Refusal}
 use Rattle.event_state.specs.declared.refusal.Refusal.TheVariants as refusal
 use Rattle.event_state.specs.States.{State}
+use Rattle.event_state.specs.Refusals.{IsRefusalOf, IsLastingRefusalOf}
 use Rattle.event_state.specs.Steps.{early_tests_of, late_tests_of, is_journal_full, refusal_of, lasting_refusal_of}
 
 -- what is refused by none of the tests is refused by none without one of them
@@ -28,3 +29,8 @@ taken_lasts s e none = none_without (early_tests_of s e) (late_tests_of s e) (is
 -- a refusal lasts, or it is that of a full journal, and no early test refuses
 pub refused_lasts : (s : State) (e : Event) (r : Refusal) → refusal_of s e ≡ Some r → (lasting_refusal_of s e ≡ Some r) ⊎ ((r ≡ refusal.JournalFull) × (first_of (early_tests_of s e) ≡ None))
 refused_lasts s e r some = some_without (early_tests_of s e) (late_tests_of s e) (is_journal_full s) refusal.JournalFull r some
+
+-- a refusal is a lasting one, or it is that of a full journal
+pub refusal_lasts : (s : State) (e : Event) (r : Refusal) → IsRefusalOf s e r → IsLastingRefusalOf s e r
+refusal_lasts s e r (inl some) = elim (refused_lasts s e r some) [ inl lasting ↦ inl lasting | inr journal ↦ inr (inr journal) ]
+refusal_lasts s e r (inr memory) = inr (inl (memory.0, taken_lasts s e memory.1))

@@ -2,6 +2,8 @@ pub mod Sorted
 pub mod Aging
 pub mod InPlace
 pub mod Places
+pub mod Configs
+pub mod Twice
 pub mod OneChange
 pub mod Sizes
 pub mod HeldStates
@@ -12,3 +14,7 @@ pub mod Carried
 pub mod Naming
 pub mod Bases
 pub mod Rolls
+pub mod Faultless
+pub mod Filling
+pub mod Sound
+pub mod Doubles

@@ -3,7 +3,7 @@ use Rattle.std.proofs.Common.{◌≡◌, ℕ, ◌+◌, ◌-◌, ◌≤◌, Bool,
 use Rattle.std.specs.Prelude.{◌&&◌, nat_le, is_some, is_none}
 use Rattle.std.proofs.lemmas.Bool.Decides.{nat_tests}
 use Rattle.std.proofs.lemmas.List.{length-map}
-use Rattle.std.specs.FinMap.{get, insert, remove, entries, empty, len, len-empty, len-insert, len-remove, entries-from_sorted, entries_sorted}
+use Rattle.std.specs.FinMap.{get, insert, remove, entries, empty, len, len-empty, len-entries, len-insert, len-remove, entries-from_sorted, entries_sorted}
 use Rattle.ospf_types.specs.FirstOf.{first_of}
 use Rattle.ospf_types.specs.declared.key.Key.{Key}
 use Rattle.ospf_types.specs.Keys.{key_cmp}
@@ -52,4 +52,4 @@ remove_small d limit k le = subst (λ (n : ℕ). n ≤ limit) (sym (len-remove k
 
 -- a second leaves as many
 pub len-all_aged : (d : Database) → len (all_aged d) ≡ len d
-len-all_aged d = ap length (entries-from_sorted key_cmp (map later (entries d)) (subst T (sym (sorted_later (entries d))) (entries_sorted d))) ∙ length-map (entries d) later
+len-all_aged d = len-entries (all_aged d) ∙ ap length (entries-from_sorted key_cmp (map later (entries d)) (subst T (sym (sorted_later (entries d))) (entries_sorted d))) ∙ length-map (entries d) later ∙ sym (len-entries d)

@@ -1,5 +1,5 @@
 //! Whether a state can be made from a base.
-ghost use Rattle.std.specs.Prelude.{◌≡◌, ℕ, false, IfOk, length, is_none, nat_lt};
+ghost use Rattle.std.specs.Prelude.{◌≡◌, false, IfOk, length, is_none, nat_lt};
 ghost use Rattle.std.specs.Bool.{OnTrue};
 ghost use Rattle.std.specs.List.{list_any};
 ghost use Rattle.event_state.specs.Bases.{lsas_under};
@@ -154,35 +154,34 @@ fn lacks_an_area(base: &Base) -> bool
 fn has_interface_outside(areas: &[AreaConfig], interfaces: &[(u8, Interface)]) -> bool
     ensures { result ≡ list_any (λ x. is_none (place_of areas.now (Scope.Area x.1.area))) interfaces.now }
 {
-    for (_, interface) in interfaces {
-        if place_of(areas, Scope::Area(interface.area)).is_none() {
-            return true;
-        }
-    }
-    false
+    interfaces
+        .iter()
+        .any(|listed| is_outside(areas, Scope::Area(listed.1.area)))
 }
 
 fn has_lsa_outside(areas: &[AreaConfig], lsas: &[(Scope, Checked)]) -> bool
     ensures { result ≡ list_any (λ x. is_none (place_of areas.now x.0)) lsas.now }
 {
-    for (scope, _) in lsas {
-        if place_of(areas, *scope).is_none() {
-            return true;
-        }
-    }
-    false
+    lsas.iter().any(|listed| is_outside(areas, listed.0))
+}
+
+fn is_outside(areas: &[AreaConfig], scope: Scope) -> bool
+    ensures { result ≡ is_none (place_of areas.now scope) }
+{
+    place_of(areas, scope).is_none()
 }
 
 // Whether an LSA stands in a scope that it does not belong to.
 fn has_misplaced(lsas: &[(Scope, Checked)]) -> bool
     ensures { result ≡ list_any (λ x. is_out_of_scope x.0 x.1.header.kind) lsas.now }
 {
-    for (scope, lsa) in lsas {
-        if is_out_of_scope(*scope, lsa.key().kind) {
-            return true;
-        }
-    }
-    false
+    lsas.iter().any(|listed| is_misplaced(listed.0, &listed.1))
+}
+
+fn is_misplaced(scope: Scope, lsa: &Checked) -> bool
+    ensures { result ≡ is_out_of_scope scope lsa.now.header.kind }
+{
+    is_out_of_scope(scope, lsa.header().kind)
 }
 
 // Whether a configured scope has more LSAs than it may. There are at most 16 areas by then.
@@ -197,12 +196,9 @@ fn is_overfull(base: &Base, limits: Limits) -> bool
 fn has_overfull_area(areas: &[AreaConfig], lsas: &[(Scope, Checked)], most: u32) -> bool
     ensures { result ≡ list_any (λ a. nat_lt most (length (lsas_under lsas.now (Scope.Area a.id)))) areas.now }
 {
-    for area in areas {
-        if is_more(count_under(lsas, Scope::Area(area.id)), most) {
-            return true;
-        }
-    }
-    false
+    areas
+        .iter()
+        .any(|area| is_more(count_under(lsas, Scope::Area(area.id)), most))
 }
 
 fn is_more(count: usize, most: u32) -> bool
@@ -217,9 +213,7 @@ fn count_under(lsas: &[(Scope, Checked)], scope: Scope) -> usize
 {
     let mut count = 0;
     for (other, _) in lsas {
-        if is_scope(scope, *other) {
-            count += 1;
-        }
+        count += usize::from(is_scope(scope, *other));
     }
     count
 }
@@ -229,21 +223,21 @@ fn has_shared_address(interfaces: &[(u8, Interface)]) -> bool
     ensures { result ≡ has_twice is_same_address interfaces.now }
 {
     for i in 0..interfaces.len() {
-        if shares_address(interfaces[i].1, &interfaces[i + 1..]) {
+        if shares_address(interfaces[i], &interfaces[i + 1..]) {
             return true;
         }
     }
     false
 }
 
-fn shares_address(interface: Interface, others: &[(u8, Interface)]) -> bool
-    ensures { (id : ℕ) → result ≡ list_any (is_same_address (id, interface)) others.now }
+fn shares_address(one: (u8, Interface), others: &[(u8, Interface)]) -> bool
+    ensures { result ≡ list_any (is_same_address one) others.now }
 {
-    others.iter().any(|other| is_same_address(interface, other.1))
+    others.iter().any(|other| is_same_address(one, *other))
 }
 
-fn is_same_address(interface: Interface, other: Interface) -> bool
-    ensures { (id next : ℕ) → result ≡ is_same_address (id, interface) (next, other) }
+fn is_same_address(one: (u8, Interface), other: (u8, Interface)) -> bool
+    ensures { result ≡ is_same_address one other }
 {
-    interface.up && other.up && interface.address == other.address
+    one.1.up && other.1.up && one.1.address == other.1.address
 }

@@ -47,7 +47,7 @@ pub(crate) fn by_id(alloc: Global, interfaces: &[(u8, Interface)]) -> Result<BTr
 {
     let mut tree = BTreeMap::new(alloc);
     for (id, interface) in interfaces {
-        tree.insert(*id, *interface)?;
+        put_interface(&mut tree, *id, *interface)?;
     }
     Ok(tree)
 }

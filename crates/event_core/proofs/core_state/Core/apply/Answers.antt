@@ -11,7 +11,7 @@ use Rattle.event_core.specs.declared.reply.Standing.{Standing}
 use Rattle.event_core.specs.declared.reply.Standing.TheVariants.{Current, Behind}
 use Rattle.event_core.specs.Cores.{CoreValue, IsTaken, HasBoundedWork, NamesChanges}
 use Rattle.event_core.specs.Kept.{IsCoherent, core_of}
-use Rattle.event_core.proofs.Configs.{sound_apart}
+use Rattle.event_state.proofs.Configs.{sound_apart}
 use Rattle.event_core.proofs.Runs.{step_setting, IsSettled, IsOutcome, coherent_ok, coherent_err, taken_ok, taken_err, bounded_ok, bounded_err, named_ok, named_err}
 use Rattle.event_core.proofs.core_state.Core.apply.Goals as goal
 use Rattle.event_core.proofs.core_state.Core.apply.Goals.{then-is_current, else-is_current, in-Ok, in-Err, Joined-is_current}

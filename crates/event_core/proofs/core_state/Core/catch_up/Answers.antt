@@ -1,5 +1,5 @@
 use Rattle.std.proofs.Common.{ap, length}
-use Rattle.event_core.proofs.Configs.{sound_apart}
+use Rattle.event_state.proofs.Configs.{sound_apart}
 use Rattle.event_core.proofs.Runs.{kept_current, stands_current}
 use Rattle.event_core.proofs.core_state.Core.catch_up.Goals as goal
 

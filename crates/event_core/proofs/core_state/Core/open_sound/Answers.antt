@@ -1,7 +1,7 @@
 use Rattle.std.proofs.Common.{sym, subst}
 use Rattle.event_state.specs.States.{State, AreApart}
 use Rattle.event_core.specs.Kept.{IsCoherent}
-use Rattle.event_core.proofs.Configs.{sound_apart}
+use Rattle.event_state.proofs.Configs.{sound_apart}
 use Rattle.event_core.proofs.Runs.{kept_open}
 use Rattle.event_core.proofs.core_state.Core.open_sound.Goals as goal
 

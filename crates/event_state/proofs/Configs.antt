@@ -29,10 +29,10 @@ left_false true b e = absurd cc
 left_false false b e = (refl, e)
 
 -- no item passes a test that none of the list does
-none_passes : {X : Type 0} (p : X → Bool) (xs : List X) (k : ℕ) (d : X) → list_any p xs ≡ false → k < length xs → p (get_or xs k d) ≡ false
-none_passes p [] k d e lt = absurd (omega arith)
-none_passes p (x ∷ xs) zero d e lt = (left_false (p x) (list_any p xs) e).0
-none_passes p (x ∷ xs) (suc k) d e lt = none_passes p xs k d (left_false (p x) (list_any p xs) e).1 (omega arith)
+fails_at : {X : Type 0} (p : X → Bool) (xs : List X) (k : ℕ) (d : X) → list_any p xs ≡ false → k < length xs → p (get_or xs k d) ≡ false
+fails_at p [] k d e lt = absurd (omega arith)
+fails_at p (x ∷ xs) zero d e lt = (left_false (p x) (list_any p xs) e).0
+fails_at p (x ∷ xs) (suc k) d e lt = fails_at p xs k d (left_false (p x) (list_any p xs) e).1 (omega arith)
 
 differs : (x y : ℕ) → (x == y) ≡ false → x ≢ y
 differs x y e same = elim (eqb_tells x y) [ inl t ↦ absurd (cc t.0) | inr t ↦ absurd (t.1 same) ]
@@ -42,7 +42,7 @@ apart_from_alike [] e i j d lt in' = absurd (omega arith)
 apart_from_alike (a ∷ areas) e zero zero d lt in' = absurd (omega arith)
 apart_from_alike (a ∷ areas) e zero (suc j) d lt in' =
     let h = left_false (list_any (λ (b : AreaConfig). b.id == a.id) areas) (has_alike areas) e in
-    λ same. differs (get_or areas j d).id a.id (none_passes (λ (b : AreaConfig). b.id == a.id) areas j d h.0 (omega arith)) (sym same)
+    λ same. differs (get_or areas j d).id a.id (fails_at (λ (b : AreaConfig). b.id == a.id) areas j d h.0 (omega arith)) (sym same)
 apart_from_alike (a ∷ areas) e (suc i) zero d lt in' = absurd (omega arith)
 apart_from_alike (a ∷ areas) e (suc i) (suc j) d lt in' =
     let h = left_false (list_any (λ (b : AreaConfig). b.id == a.id) areas) (has_alike areas) e in
