@@ -1,5 +1,5 @@
 -- The first lines, each in its place.
-use Rattle.std.proofs.Common.{ℕ, ◌≡◌, ◌≢◌, ◌+◌, ◌<◌, ◌++◌, Bool, List, [], ◌∷◌, length, codes, cond, refl, sym, ap, subst, ◌∙◌, inr, arith}
+use Rattle.std.proofs.Common.{ℕ, ◌≡◌, ◌≢◌, ◌+◌, ◌<◌, ◌++◌, Bool, false, List, [], ◌∷◌, length, codes, cond, refl, sym, ap, subst, ◌∙◌, inr, arith}
 use Rattle.std.specs.Str.{bytes_eq}
 use Rattle.recording.specs.declared.fault.Fault.TheVariants as fault
 use Rattle.recording.specs.declared.version.Version.{Version}
@@ -10,7 +10,9 @@ use Rattle.recording.specs.Places.{IsPlaced, first_lines, version_of}
 use Rattle.recording.specs.declared.form.LineForm.{LineForm}
 use Rattle.recording.specs.declared.form.LineForm.TheVariants as read
 use Rattle.recording.specs.Reading.{said_by}
-use Rattle.recording.specs.Progress.{HasRead}
+use Rattle.recording.specs.declared.header.Setting.{Setting}
+use Rattle.recording.specs.Progress.{HasRead, headed_base}
+use Rattle.recording.specs.Recordings.{CanSpell}
 use Rattle.recording.proofs.AllSaid.{said_length}
 use Rattle.recording.proofs.Forms.{differs}
 use Rattle.recording.proofs.HeaderSteps.{lines_read, version_step, read_step, read_no_form, read_order, read_cut, few_clean}
@@ -93,6 +95,15 @@ other_third _ other n e = cc
 pub other_fourth : (form : LineForm) → ((serial : ℕ) → form ≡ read.Serial serial → ⊥) → (serial : ℕ) → said_by form ≢ SerialLine serial
 other_fourth (read.Serial serial) other n e = other serial refl
 other_fourth _ other n e = cc
+
+-- the first lines alone say no interface and no LSA
+pub spelled_alone : (v : Version) (setting : Setting) → (v ≡ One → setting.compat ≡ false) → (v ≢ Three → setting.serial ≡ 0) → CanSpell v (headed_base setting [])
+spelled_alone v setting compat serial = record { compat = compat; serial = serial; interfaces = λ _. refl; lsas = λ _. refl }
+
+pub no_version : (line : List ℕ) → line ≢ codes "abr 1" → line ≢ codes "abr 2" → line ≢ codes "abr 3" → IsNoVersion line
+no_version line one two three One h = one h
+no_version line one two three Two h = two h
+no_version line one two three Three h = three h
 
 -- what holds, at another name of the text and of the number of lines
 pub at_place : (P : List ℕ → ℕ → Type 0) (text text' : List ℕ) (n n' : ℕ) → text' ≡ text → n' ≡ n → P text n → P text' n'

@@ -91,6 +91,9 @@ behind_first r before said = subst (AllSay r.version before) (first_and_later r)
 all_are : (r : RecordingValue) (before : List (List ℕ)) → AllSay r.version before (forms_of r) → (forms : List Form) → AreSaid r.version before forms → forms ≡ later_forms r
 all_are r before said forms all = forms_behind r.version before r.base (later_forms r) forms (behind_first r before said) all
 
+pub pushed_lines : (lines : List Line) (l : Line) → lines ++ l ∷ [] ≢ []
+pushed_lines lines l e = let n : length (lines ++ l ∷ []) ≡ 0 = ap length e in omega (arith, length_push lines l)
+
 none_or_more : {X : Type 0} (xs : List X) → (xs ≡ []) ⊎ (xs ≢ [])
 none_or_more [] = inl refl
 none_or_more (x ∷ xs) = inr (λ e. cc)

@@ -35,9 +35,9 @@ pub(crate) struct BaseLines {
 impl BaseLines {
     /// Adds what a line says; `false` where it is no line of a base.
     pub(crate) fn add(&mut self, alloc: Global, form: &LineForm<'_>) -> Result<bool, Fault>
-        requires { HasDigits form.now }
-        requires { IsCounted self.old }
-        requires { AreByPlaces self.old.base.lsas }
+        requires digits { HasDigits form.now }
+        requires counted { IsCounted self.old }
+        requires ordered { AreByPlaces self.old.base.lsas }
         ensures base { IfOk result (λ added. added ≡ is_of_base (said_by form.now)) }
         ensures taken { IfOk result (λ added. added ≡ true → IsTaken self.old.base (said_by form.now)) }
         ensures new { OnOk result (self.new.base ≡ with_has self.old.base (said_by form.now)) }
@@ -62,7 +62,10 @@ impl BaseLines {
         if !self.base.lsas.is_empty() || !is_past_id(self.base.interfaces.as_slice(), id) {
             return Err(Fault::Order);
         }
-        let (areas, others) = (self.base.config.areas.as_slice(), self.base.interfaces.as_slice());
+        let (areas, others) = (
+            self.base.config.areas.as_slice(),
+            self.base.interfaces.as_slice(),
+        );
         if let Some(unfit) = unfit_interface(areas, others, interface) {
             return Err(Fault::Base(unfit));
         }
@@ -71,9 +74,9 @@ impl BaseLines {
     }
 
     fn add_lsa(&mut self, alloc: Global, scope: Scope, digits: &[u8]) -> Result<bool, Fault>
-        requires { decode_of digits.now ≡ Ok (bytes_of digits.now) }
-        requires { IsCounted self.old }
-        requires { AreByPlaces self.old.base.lsas }
+        requires digits { decode_of digits.now ≡ Ok (bytes_of digits.now) }
+        requires counted { IsCounted self.old }
+        requires ordered { AreByPlaces self.old.base.lsas }
         ensures base { IfOk result (λ added. added ≡ true) }
         ensures taken { OnOk result (IsTaken self.old.base (HasLsaLine scope (bytes_of digits.now))) }
         ensures new { OnOk result (self.new.base ≡ with_has self.old.base (HasLsaLine scope (bytes_of digits.now))) }
@@ -98,8 +101,8 @@ impl BaseLines {
 
     // How many LSAs of the scope there are; none where it is less than that of the last one.
     fn row_under(&self, scope: Scope) -> Option<usize>
-        requires { IsCounted self.now }
-        requires { AreByPlaces self.now.base.lsas }
+        requires counted { IsCounted self.now }
+        requires ordered { AreByPlaces self.now.base.lsas }
         ensures { MatchOption result (is_past_scope (last_of self.now.base.lsas) scope ≡ false) (λ row. (is_past_scope (last_of self.now.base.lsas) scope ≡ true) × (row ≡ length (lsas_under self.now.base.lsas scope))) }
     {
         let Some(last) = self.base.lsas.as_slice().last() else {
@@ -167,9 +170,9 @@ fn lacks_area(areas: &[AreaConfig], id: u32) -> bool
 fn shares_address(interfaces: &[(u8, Interface)], interface: Interface) -> bool
     ensures { (id : ℕ) → result ≡ list_any (λ y. is_same_address y (id, interface)) interfaces.now }
 {
-    interfaces
-        .iter()
-        .any(|other| other.1.up && interface.up && other.1.address == interface.address)
+    interfaces.iter().any(|other| other.1.up
+        && interface.up
+        && other.1.address == interface.address)
 }
 
 // Why no event could have made an LSA of the LS type in a scope that has so many already.
@@ -177,7 +180,11 @@ fn unfit_under(areas: &[AreaConfig], scope: Scope, kind: u8, row: usize) -> Opti
     ensures { result ≡ unfit_under areas.now scope kind row }
 {
     let (lacks_area, is_out_of_scope, most) = match scope {
-        Scope::Area(id) => (lacks_area(areas, id), kind == AS_EXTERNAL_LSA, Limits::STANDARD.area_lsas),
+        Scope::Area(id) => (
+            lacks_area(areas, id),
+            kind == AS_EXTERNAL_LSA,
+            Limits::STANDARD.area_lsas,
+        ),
         Scope::As => (false, kind != AS_EXTERNAL_LSA, Limits::STANDARD.externals),
     };
     if lacks_area {

@@ -2,7 +2,7 @@
 ghost use Rattle.std.specs.Prelude.{◌≡◌, ◌++◌, ◌∷◌, ◌⊎◌, true, false, [], Some, OnOk, IfOk, IfErr};
 ghost use Rattle.recording.specs.Forms.{AreaLine, RangeLine};
 ghost use Rattle.recording.specs.Places.{is_of_header, is_next_area, with_form, last_of, is_past_area, is_past_range, is_next_range};
-ghost use Rattle.recording.specs.Progress.{IsRefusal, with_areas};
+ghost use Rattle.recording.specs.Progress.{IsRefusal, headed_base, with_areas};
 ghost use Rattle.recording.specs.Reading.{said_by};
 
 use crate::fault::Fault;

@@ -133,8 +133,8 @@ fn read_compat(
     setting: Setting,
     lines: Lines<'_>,
 ) -> Result<(Setting, Lines<'_>), LineFault>
-    requires { HasReadAt version lines (VersionLine version ∷ RouterLine setting.router ∷ []) }
-    requires { version ≢ version_value.One }
+    requires read { HasReadAt version lines (VersionLine version ∷ RouterLine setting.router ∷ []) }
+    requires later { version ≢ version_value.One }
     ensures read { IfOk result (λ found. HasReadAt version found.1 (VersionLine version ∷ RouterLine found.0.router ∷ CompatLine found.0.compat ∷ [])) }
     ensures serial { IfOk result (λ found. found.0.serial ≡ setting.serial) }
     ensures text { IfOk result (λ found. found.1.text.now ≡ lines.entry.text.now) }
@@ -153,10 +153,7 @@ fn read_compat(
 }
 
 // In version 3 the fourth line says the serial.
-fn read_serial(
-    setting: Setting,
-    lines: Lines<'_>,
-) -> Result<(Setting, Lines<'_>), LineFault>
+fn read_serial(setting: Setting, lines: Lines<'_>) -> Result<(Setting, Lines<'_>), LineFault>
     requires { HasReadAt version_value.Three lines (VersionLine version_value.Three ∷ RouterLine setting.router ∷ CompatLine setting.compat ∷ []) }
     ensures read { IfOk result (λ found. HasSettingAt version_value.Three found.1 found.0) }
     ensures text { IfOk result (λ found. found.1.text.now ≡ lines.entry.text.now) }
@@ -237,8 +234,8 @@ fn read_base(
     base: Base,
     lines: Lines<'_>,
 ) -> Result<(Base, Lines<'_>), LineFault>
-    requires { HasBaseAt version lines base }
-    requires { base.lsas ≡ [] }
+    requires read { HasBaseAt version lines base }
+    requires none { base.lsas ≡ [] }
     ensures read { IfOk result (λ found. HasBaseAt version found.1 found.0) }
     ensures end { IfOk result (λ found. EndsBaseAt version found.1) }
     ensures text { IfOk result (λ found. found.1.text.now ≡ lines.entry.text.now) }
@@ -259,8 +256,8 @@ fn read_base_line<'a>(
     lines: Lines<'a>,
     held: &mut BaseLines,
 ) -> Result<Option<Lines<'a>>, LineFault>
-    requires { HasBaseAt version lines held.old.base }
-    requires { IsCounted held.old }
+    requires read { HasBaseAt version lines held.old.base }
+    requires counted { IsCounted held.old }
     ensures read { IfOk result (λ next. IfSome next (λ after. HasBaseAt version after held.new.base)) }
     ensures counted { OnOk result (IsCounted held.new) }
     ensures text { IfOk result (λ next. IfSome next (λ after. after.text.now ≡ lines.entry.text.now)) }
@@ -289,8 +286,8 @@ fn read_lines(
     base: Base,
     lines: Lines<'_>,
 ) -> Result<Recording, LineFault>
-    requires { HasBaseAt version lines base }
-    requires { EndsBaseAt version lines }
+    requires read { HasBaseAt version lines base }
+    requires end { EndsBaseAt version lines }
     ensures text { IfOk result (IsText lines.entry.text.now) }
     ensures fault { IfErr result (IsFaultOf lines.entry.text.now) }
 {

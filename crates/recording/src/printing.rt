@@ -94,7 +94,11 @@ fn append_has_interface(id: u8, interface: Interface, out: &mut String) -> Resul
     ensures text { OnOk result (string_bytes out.new ≡ string_bytes out.old ++ ended (HasInterfaceLine id interface)) }
     ensures form { OnOk result (IsForm (HasInterfaceLine id interface)) }
 {
-    let (area, address, peer) = (Address(interface.area), Address(interface.address), Address(interface.peer));
+    let (area, address, peer) = (
+        Address(interface.area),
+        Address(interface.address),
+        Address(interface.peer),
+    );
     let state = state_word(interface.up);
     write!(out, "has interface {id} {area} {address} {peer} {state}\n")?;
     Ok(())
@@ -169,7 +173,10 @@ fn append_first_of_three(
     ensures serial { OnOk result (IsForm (SerialLine serial)) }
 {
     let (router, state) = (Address(router), enabled_word(compat));
-    write!(out, "abr 3\nrouter {router}\ncompat {state}\nserial {serial}\n")?;
+    write!(
+        out,
+        "abr 3\nrouter {router}\ncompat {state}\nserial {serial}\n"
+    )?;
     Ok(())
 }
 
