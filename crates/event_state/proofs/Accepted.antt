@@ -1,8 +1,10 @@
 -- What is known of an event that no test refuses.
-use Rattle.std.proofs.Common.{◌≡◌, Bool, true, false, List, [], ◌∷◌, Option, Some, None, refl, sym, ap, ◌∙◌}
-use Rattle.std.specs.Prelude.{is_none, option_map, option_and_then, if◌then◌else◌}
+use Rattle.std.proofs.Common.{◌≡◌, ◌<◌, Bool, true, false, List, [], ◌∷◌, ◌++◌, length, Option, Some, None, refl, sym, ap, ◌∙◌, arith}
+use Rattle.std.specs.Prelude.{nat_le, is_none, option_map, option_and_then, if◌then◌else◌}
 use Rattle.std.specs.FinMap.{get, empty}
 use Rattle.std.proofs.Common.{get_or, drop, ℕ}
+use Rattle.std.proofs.lemmas.Bool.{or_parts}
+use Rattle.std.proofs.lemmas.Bool.Decides.{nat_tests}
 use Rattle.ospf_types.specs.FirstOf.{first_of}
 use Rattle.ospf_types.specs.declared.key.Key.{Key}
 use Rattle.ospf_types.specs.declared.key.Scope.{Scope}
@@ -13,8 +15,9 @@ use Rattle.lsdb.specs.declared.refusal.PurgeRefusal.TheVariants as purge
 use Rattle.event_state.specs.declared.event.Event.{Event}
 use Rattle.event_state.specs.declared.event.Event.TheVariants as event
 use Rattle.event_state.specs.declared.refusal.Refusal.TheVariants as refusal
-use Rattle.event_state.specs.States.{State, place_of}
-use Rattle.event_state.specs.Steps.{IsAccepted, refusal_of, tests_of, lacks_area, is_not_own, is_misplaced, is_older, is_repeated, has_no_lsa, is_young, is_full, is_full_in, is_journal_full, is_address_taken, held_at, limit_of, is_below_max_age}
+use Rattle.event_state.specs.Bases.{most_serial}
+use Rattle.event_state.specs.States.{State, serial_of, place_of}
+use Rattle.event_state.specs.Steps.{IsAccepted, refusal_of, tests_of, early_tests_of, late_tests_of, lacks_area, is_not_own, is_misplaced, is_older, is_repeated, has_no_lsa, is_young, is_full, is_full_in, is_journal_full, is_address_taken, held_at, limit_of, is_below_max_age}
 
 passed : {X : Type 0} (test : Bool) (x : X) (rest : List (Bool × X)) → first_of ((test, x) ∷ rest) ≡ None → (test ≡ false) × (first_of rest ≡ None)
 passed true x rest e = absurd cc
@@ -33,6 +36,21 @@ accepted s e none =
     let journal = passed (is_journal_full s) refusal.JournalFull (drop 9 (tests_of s e)) full.1 in
     let taken = passed (is_address_taken s e) refusal.AddressTaken [] journal.1 in
     record { area = area.0; apart = taken.0; placed = scope.0; newer = older.0; differs = repeated.0; there = there.0; aged = young.0; room = full.0 }
+
+not_last : (n m : ℕ) → nat_le m n ≡ false → n < m
+not_last n m e = grind (arith, nat_tests)
+
+-- where no test refuses, there is a serial left
+pub serial_left : (s : State) (e : Event) → refusal_of s e ≡ None → serial_of s < most_serial
+serial_left s e none =
+    let behind : first_of ((is_journal_full s, refusal.JournalFull) ∷ late_tests_of s e) ≡ None = none_behind (early_tests_of s e) ((is_journal_full s, refusal.JournalFull) ∷ late_tests_of s e) none in
+    let full = passed (is_journal_full s) refusal.JournalFull (late_tests_of s e) behind in
+    not_last (serial_of s) most_serial (or_parts (nat_le s.limits.events (length s.journal)) (nat_le most_serial (serial_of s)) full.0).1
+  where
+    none_behind : {X : Type 0} (xs ys : List (Bool × X)) → first_of (xs ++ ys) ≡ None → first_of ys ≡ None
+    none_behind [] ys h = h
+    none_behind ((true, x) ∷ xs) ys h = absurd cc
+    none_behind ((false, x) ∷ xs) ys h = none_behind xs ys h
 
 none_of_three : (a b c : Bool) → a ≡ false → b ≡ false → c ≡ false → first_of ((a, install.Older) ∷ (b, install.Same) ∷ (c, install.Full) ∷ []) ≡ None
 none_of_three true b c e f g = absurd cc

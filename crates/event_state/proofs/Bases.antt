@@ -3,13 +3,12 @@
 --   databases_again, interfaces_again: and so are all of them, and the interfaces
 --   opens_again: and so is the whole state
 use Rattle.std.proofs.Common.{ℕ, zero, suc, ◌≡◌, ◌<◌, ◌+◌, Bool, true, false, cond, List, [], ◌∷◌, ◌++◌, length, map, get_or, Option, Some, None, refl, sym, ap, subst, ◌∙◌, ◌⊎◌, inl, inr, ⊎_elim, arith}
-use Rattle.std.specs.Prelude.{◌↔◌, ◌==◌, filter, slice_index_or, option_map, is_some}
+use Rattle.std.specs.Prelude.{option_map, is_some}
 use Rattle.std.specs.Ordering.{nat_cmp, eq_by_cmp}
 use Rattle.std.specs.Cmp.{nat_cmp_total}
 use Rattle.std.specs.FinMap.{FinMap, find, get, empty, entries, values, from_entries, get-from_entries, get-entries, same_map, nat_cmp-IsAntisymmetric}
 use Rattle.std.specs.List.{Contains, flat_map}
 use Rattle.std.proofs.lemmas.Bool.{cases_lt}
-use Rattle.std.proofs.lemmas.Map.Lookups.{exact_unsigned}
 use Rattle.ospf_types.specs.declared.config.AreaConfig.{AreaConfig}
 use Rattle.ospf_types.specs.declared.config.Config.{Config}
 use Rattle.ospf_types.specs.declared.config.Interface.{Interface}
@@ -170,7 +169,7 @@ module _ (s : State) (q : Key) where
       let front = flat_map (λ id. lsas_at s (scope.Area id)) ids in
       ap (find key_cmp q) (under_append at front (lsas_at s scope.As))
       ∙ whole_left q (find key_cmp q (under_keys (lsas_of (database_of s at)))) (keyed (lsas_under front at)) (keyed (lsas_under (lsas_at s scope.As) at)) (blocks_whole a ids c)
-          (inl (ap (find key_cmp q) (none_under at scope.As (lsas_of (database_of s scope.As)) refl)))
+      (inl (ap (find key_cmp q) (none_under at scope.As (lsas_of (database_of s scope.As)) refl)))
 
   -- and for the AS
   as_found : (ids : List ℕ) → find key_cmp q (keyed (lsas_under (lsas_in s ids) scope.As)) ≡ find key_cmp q (under_keys (lsas_of (database_of s scope.As)))
@@ -178,8 +177,8 @@ module _ (s : State) (q : Key) where
       let front = flat_map (λ id. lsas_at s (scope.Area id)) ids in
       ap (find key_cmp q) (under_append scope.As front (lsas_at s scope.As))
       ∙ whole_right q (find key_cmp q (under_keys (lsas_of (database_of s scope.As)))) (keyed (lsas_under front scope.As)) (keyed (lsas_under (lsas_at s scope.As) scope.As))
-          (blocks_part scope.As ids (find key_cmp q (under_keys (lsas_of (database_of s scope.As)))) (λ id same. absurd cc))
-          (ap (find key_cmp q) (all_under scope.As scope.As (lsas_of (database_of s scope.As)) refl))
+      (blocks_part scope.As ids (find key_cmp q (under_keys (lsas_of (database_of s scope.As)))) (λ id same. absurd cc))
+      (ap (find key_cmp q) (all_under scope.As scope.As (lsas_of (database_of s scope.As)) refl))
 
 -- the database of a scope is that of the LSAs listed
 pub held_again : (s : State) (ids : List ℕ) (at : Scope) (d : Database) → IsSound d → database_of s at ≡ Some d → ((a : ℕ) → at ≡ scope.Area a → Contains ids a) → held_in (lsas_in s ids) at ≡ d
@@ -225,7 +224,7 @@ databases_again s ids fit are =
           let place : place_of areas (scope.Area id) ≡ Some k = place_at areas k no_area fit.apart inside in
           front_at f areas last none no_area k inside
           ∙ held_again s ids (scope.Area id) (get_or s.databases k none) (fit.fit (scope.Area id) k place).sound (ap (option_map (λ (n : ℕ). get_or s.databases n none)) place)
-              (λ a same. let there : id ≡ a = cc in subst (Contains ids) there ((are.same id).1 (ap is_some place)))
+          (λ a same. let there : id ≡ a = cc in subst (Contains ids) there ((are.same id).1 (ap is_some place)))
       | inr past ↦
           let here : k ≡ length areas = omega (arith, lt, front_long f areas last) in
           ap (λ (n : ℕ). get_or (map f areas ++ last ∷ []) n none) here ∙ last_at f areas last none

@@ -1,6 +1,6 @@
 -- Lists whose elements are put into a set one after the other, and lists that ascend: no two elements are alike.
-use Rattle.std.proofs.Common.{◌≡◌, ℕ, ◌+◌, ◌<◌, ◌≤◌, Bool, true, false, not, cond, List, [], ◌∷◌, ◌++◌, length, map, get_or, take, drop, BTreeSet, Ordering, refl, sym, ap, subst, ◌∙◌, inl, inr, arith}
-use Rattle.std.specs.Prelude.{◌==◌, ◌&&◌, ◌||◌}
+use Rattle.std.proofs.Common.{◌≡◌, ℕ, ◌+◌, ◌<◌, ◌≤◌, Bool, true, false, not, cond, List, [], ◌∷◌, ◌++◌, length, get_or, take, drop, BTreeSet, Ordering, refl, sym, ap, ◌∙◌, inl, inr}
+use Rattle.std.specs.Prelude.{◌&&◌, ◌||◌}
 use Rattle.std.specs.List.{list_any, Contains}
 use Rattle.std.specs.Ordering.{nat_cmp, eq_by_cmp, is_eq, is_lt, ordering_then}
 use Rattle.std.specs.declared.cmp.Ordering.TheVariants.{Less, Equal, Greater}
@@ -19,7 +19,6 @@ use Rattle.ospf_types.proofs.DerivedOrders.{scope_cmp_is}
 use Rattle.ospf_types.proofs.Elements.{no_element, first_or_later}
 use Rattle.ospf_types.proofs.Orders.{key_total, scope_total}
 use Rattle.event_state.specs.contracts.base_checks.ScopedKeyOrd.TheImpl as scoped_order
-use Rattle.event_state.specs.declared.base_checks.ScopedKey.{ScopedKey}
 use Rattle.event_state.specs.Ascending.{scoped_key, scoped_cmp, is_before_first, is_ascending}
 use Rattle.event_state.specs.Bases.{is_scope}
 use Rattle.event_state.specs.BaseFaults.{has_twice, is_same_id, is_same_place}

@@ -1,13 +1,13 @@
 -- What is known of a base without a fault.
-use Rattle.std.proofs.Common.{◌≡◌, ℕ, ◌+◌, ◌<◌, ◌≤◌, Bool, true, false, cond, List, [], ◌∷◌, ◌++◌, length, map, get_or, take, drop, Option, Some, None, refl, sym, ap, subst, ◌∙◌, arith, inl, inr, length-append}
-use Rattle.std.specs.Prelude.{◌==◌, ◌&&◌, ◌||◌, nat_lt, nat_le, is_none, is_some, filter, IsSome, if◌then◌else◌}
-use Rattle.std.specs.List.{list_any, Contains}
-use Rattle.std.specs.Ordering.{nat_cmp, eq_by_cmp, is_eq}
+use Rattle.std.proofs.Common.{◌≡◌, ℕ, ◌+◌, ◌<◌, ◌≤◌, Bool, true, false, cond, List, [], ◌∷◌, ◌++◌, length, get_or, Option, Some, None, refl, sym, ap, subst, ◌∙◌, arith, inl, inr, length-append}
+use Rattle.std.specs.Prelude.{◌==◌, ◌&&◌, nat_lt, nat_le, is_none, is_some}
+use Rattle.std.specs.List.{list_any}
+use Rattle.std.specs.Ordering.{eq_by_cmp, is_eq}
 use Rattle.std.specs.declared.cmp.Ordering.{Ordering}
 use Rattle.std.specs.declared.cmp.Ordering.TheVariants.{Less, Equal, Greater}
-use Rattle.std.specs.Cmp.{tied_itself, nat_cmp_total, unsigned_ties}
-use Rattle.std.specs.FinMap.{FinMap, find, get, insert, empty, len, from_entries, from_entries_push, get-from_entries, len-insert, len-empty, nat_cmp-IsAntisymmetric}
-use Rattle.std.proofs.lemmas.Bool.{or_parts, or_from, and_parts, false_from_ne_true}
+use Rattle.std.specs.Cmp.{tied_itself}
+use Rattle.std.specs.FinMap.{find, get, insert, len, from_entries, from_entries_push, len-insert, len-empty}
+use Rattle.std.proofs.lemmas.Bool.{or_parts, or_from}
 use Rattle.std.proofs.lemmas.Bool.Decides.{nat_tests, eqb_tells}
 use Rattle.std.proofs.lemmas.List.{map-append}
 use Rattle.std.proofs.lemmas.List.Elements.{filter-append, Contains-get_or}
@@ -19,22 +19,19 @@ use Rattle.ospf_types.specs.declared.key.Scope.{Scope}
 use Rattle.ospf_types.specs.declared.key.Scope.TheVariants as scope
 use Rattle.ospf_types.specs.Keys.{key_cmp}
 use Rattle.ospf_types.specs.Lsa.{Lsa, key_of}
-use Rattle.ospf_types.proofs.Elements.{first_element, later_element, no_element, first_or_later}
 use Rattle.ospf_types.proofs.Orders.{key_total, key_exact}
 use Rattle.config_faults.specs.Configs.{config_fault_of}
 use Rattle.config_faults.specs.declared.fault.ConfigFault.{ConfigFault}
 use Rattle.lsdb.specs.Databases.{Database, install_refusal_of, is_older_than, is_same_as, is_full_for}
 use Rattle.lsdb.specs.declared.refusal.InstallRefusal.TheVariants as install
 use Rattle.event_state.specs.declared.base.Base.{Base}
-use Rattle.event_state.specs.declared.base_fault.BaseFault.{BaseFault}
 use Rattle.event_state.specs.declared.base_fault.Unfit.{Unfit}
 use Rattle.event_state.specs.declared.base_fault.Unfit.TheVariants as unfit
 use Rattle.event_state.specs.declared.limits.Limits.{Limits}
-use Rattle.event_state.specs.Bases.{is_scope, keyed, lsas_under, held_in, interfaces_in}
-use Rattle.event_state.specs.BaseFaults.{base_fault_of, after_config, after_doubled, unfit_fault, unfit_of, has_twice, is_same_id, is_same_place, is_same_address, is_doubled, lacks_an_area, has_misplaced, is_overfull, has_shared_address}
-use Rattle.event_state.specs.Held.{AreInterfaces}
+use Rattle.event_state.specs.Bases.{is_scope, keyed, lsas_under, held_in}
+use Rattle.event_state.specs.BaseFaults.{base_fault_of, after_config, after_doubled, unfit_fault, unfit_of, has_twice, is_same_id, is_same_place, is_doubled, lacks_an_area, has_misplaced, is_overfull, has_shared_address}
 use Rattle.event_state.specs.States.{place_of}
-use Rattle.event_state.specs.Steps.{is_out_of_scope, limit_of}
+use Rattle.event_state.specs.Steps.{limit_of}
 use Rattle.event_state.proofs.Places.{area_at, no_area}
 use Rattle.event_state.proofs.Twice.{none_passes}
 

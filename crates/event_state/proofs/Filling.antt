@@ -1,14 +1,14 @@
 -- The databases and interfaces of a base, one LSA and one interface after the other.
-use Rattle.std.proofs.Common.{◌≡◌, ◌≢◌, ℕ, zero, suc, ◌+◌, ◌<◌, ◌≤◌, Bool, true, false, cond, List, [], ◌∷◌, ◌++◌, length, map, get_or, set, take, drop, Option, Some, None, refl, sym, ap, subst, ◌∙◌, ◌⊎◌, arith, inl, inr}
-use Rattle.std.specs.Prelude.{◌==◌, ◌&&◌, not, is_none, is_some, IsSome, option_map, Result, Ok, Err, OnOk, OnErr}
+use Rattle.std.proofs.Common.{◌≡◌, ◌≢◌, ℕ, ◌+◌, ◌<◌, Bool, true, false, cond, List, [], ◌∷◌, ◌++◌, length, map, get_or, set, take, drop, Option, Some, None, refl, sym, ap, subst, ◌∙◌, ◌⊎◌, arith, inl, inr}
+use Rattle.std.specs.Prelude.{◌==◌, ◌&&◌, not, is_none, IsSome, Result, Ok, Err, OnOk, OnErr}
 use Rattle.std.proofs.Common.{BTreeMap}
 use Rattle.std.specs.Global.{Vec}
 use Rattle.std.specs.Vec.{with_items}
 use Rattle.std.specs.List.{list_any, Contains}
-use Rattle.std.specs.Ordering.{nat_cmp, eq_by_cmp, is_eq}
-use Rattle.std.specs.Cmp.{nat_cmp_total, tied_itself, unsigned_ties}
+use Rattle.std.specs.Ordering.{nat_cmp, eq_by_cmp}
+use Rattle.std.specs.Cmp.{nat_cmp_total, unsigned_ties}
 use Rattle.std.specs.FinMap.{FinMap, find, get, insert, empty, len, from_entries, from_entries_push, get-from_entries, get-insert, entries, get-empty, same_map, nat_cmp-IsAntisymmetric}
-use Rattle.std.proofs.lemmas.Bool.{or_parts, or_from, cases_eq, cases_lt}
+use Rattle.std.proofs.lemmas.Bool.{or_parts, cases_eq, cases_lt}
 use Rattle.std.proofs.lemmas.Bool.Decides.{eqb_tells}
 use Rattle.std.proofs.lemmas.List.{get_or-set_same, get_or-set_other, length-set, length-map, take_more}
 use Rattle.ospf_types.specs.declared.config.AreaConfig.{AreaConfig}
@@ -30,19 +30,19 @@ use Rattle.event_state.specs.declared.limits.Limits.{Limits}
 use Rattle.event_state.specs.Bases.{is_scope, keyed, lsas_under, held_in, databases_in, interfaces_in}
 use Rattle.event_state.specs.BaseFaults.{has_twice, is_same_id, is_same_place, is_same_address}
 use Rattle.event_state.specs.Changes.{IsChange, lsas_in, limits_in, empty_values, no_database}
-use Rattle.event_state.specs.Held.{IsHeld, AreFilled, AreInterfaces}
+use Rattle.event_state.specs.Held.{AreFilled, AreInterfaces}
 use Rattle.event_state.specs.States.{State, AreApart, place_of}
 use Rattle.event_state.specs.Steps.{IsAccepted, has_address, is_out_of_scope, limit_of}
 use Rattle.event_state.proofs.Bases.{same_lists, front_at, last_at, front_long}
 use Rattle.event_state.proofs.Configs.{sound_apart}
-use Rattle.event_state.proofs.Faultless.{IsFaultless, is_same_scope, same_scope, not_found, held_push, held_past, few_entries, length_keyed, fewer_before, not_refused, within_limit}
+use Rattle.event_state.proofs.Faultless.{IsFaultless, same_scope, not_found, held_push, held_past, few_entries, length_keyed, fewer_before, not_refused, within_limit}
 use Rattle.event_state.proofs.HeldStates.{held_new, held_change, fit_insert, lsas_of_empty}
 use Rattle.event_state.proofs.InPlace.{items_of_slice}
 use Rattle.event_state.proofs.OneChange.{lsas_at, limit_at}
 use Rattle.event_state.proofs.Places.{area_at, no_area, place_at, place_within}
 use Rattle.event_state.proofs.Sizes.{insert_small}
 use Rattle.event_state.proofs.Sorted.{value_at}
-use Rattle.event_state.proofs.Twice.{none_passes, unlike_before, parts_at, twice_push}
+use Rattle.event_state.proofs.Twice.{none_passes, unlike_before, parts_at}
 
 -- ---- the empty databases are those of no LSAs
 

@@ -1,5 +1,5 @@
 -- The table of refusals with the test of the journal, and without it.
-use Rattle.std.proofs.Common.{◌≡◌, ◌⊎◌, Bool, true, false, List, [], ◌∷◌, ◌++◌, Option, Some, None, refl, inl, inr}
+use Rattle.std.proofs.Common.{◌≡◌, ◌⊎◌, Bool, true, false, List, [], ◌∷◌, ◌++◌, Some, None, refl, inl, inr}
 use Rattle.ospf_types.specs.FirstOf.{first_of}
 use Rattle.event_state.specs.declared.event.Event.{Event}
 use Rattle.event_state.specs.declared.refusal.Refusal.{Refusal}

@@ -1,7 +1,7 @@
 -- Lists of events across rolls.
 --   whole_content, whole_legal, whole_refusal, whole_serial: what is said since the base is said of the whole list
 --   rolled_none, rolled_again: before the first roll, and from one to the next
-use Rattle.std.proofs.Common.{◌≡◌, ℕ, ◌+◌, List, [], ◌∷◌, ◌++◌, length, Option, Some, None, refl, sym, ap, subst, ◌∙◌, arith, append_assoc, length-append}
+use Rattle.std.proofs.Common.{◌≡◌, ℕ, ◌+◌, List, [], ◌∷◌, ◌++◌, length, Option, Some, None, refl, sym, ap, ◌∙◌, arith, append_assoc, length-append}
 use Rattle.std.specs.FinMap.{insert, remove}
 use Rattle.ospf_types.specs.Lsa.{key_of}
 use Rattle.lsdb.specs.Databases.{Database, aged_out}
@@ -9,7 +9,6 @@ use Rattle.event_state.specs.declared.base.Base.{Base}
 use Rattle.event_state.specs.declared.event.Event.{Event}
 use Rattle.event_state.specs.declared.event.Event.TheVariants as event
 use Rattle.event_state.specs.declared.limits.Limits.{Limits}
-use Rattle.event_state.specs.declared.refusal.Refusal.{Refusal}
 use Rattle.event_state.specs.States.{State, serial_of, place_of, changed_at_place}
 use Rattle.event_state.specs.Steps.{changed_by, step, lasting_refusal_of, refusal_of, opening, run_from, run_of, AreTaken, IsLegalList}
 use Rattle.event_state.specs.Held.{AreFit}

@@ -1,5 +1,5 @@
 -- How many LSAs a database has after a change.
-use Rattle.std.proofs.Common.{◌≡◌, ℕ, ◌+◌, ◌-◌, ◌≤◌, Bool, true, false, cond, T, List, [], ◌∷◌, map, length, Option, Some, None, refl, sym, ap, subst, ◌∙◌, arith}
+use Rattle.std.proofs.Common.{◌≡◌, ℕ, ◌+◌, ◌-◌, ◌≤◌, Bool, true, false, cond, T, [], ◌∷◌, map, length, Option, Some, None, refl, sym, ap, subst, ◌∙◌, arith}
 use Rattle.std.specs.Prelude.{◌&&◌, nat_le, is_some, is_none}
 use Rattle.std.proofs.lemmas.Bool.Decides.{nat_tests}
 use Rattle.std.proofs.lemmas.List.{length-map}
@@ -10,7 +10,7 @@ use Rattle.ospf_types.specs.Keys.{key_cmp}
 use Rattle.ospf_types.specs.Lsa.{Lsa, MaxAge, key_of}
 use Rattle.ospf_types.proofs.Orders.{key_total}
 use Rattle.lsa_codec.specs.Readers.{with_age}
-use Rattle.lsdb.specs.Databases.{Database, aged, all_aged, aged_out, changed_at, install_refusal_of, is_older_than, is_same_as, is_full_for}
+use Rattle.lsdb.specs.Databases.{Database, all_aged, aged_out, changed_at, install_refusal_of, is_older_than, is_same_as, is_full_for}
 use Rattle.lsdb.specs.declared.refusal.InstallRefusal.TheVariants as install
 use Rattle.event_state.proofs.Aging.{later, sorted_later}
 

@@ -1,12 +1,12 @@
 -- The base that a state is has no fault.
-use Rattle.std.proofs.Common.{◌≡◌, ◌≢◌, ℕ, zero, suc, ◌+◌, ◌<◌, ◌≤◌, Bool, true, false, cond, T, List, [], ◌∷◌, ◌++◌, length, map, get_or, Option, Some, None, Ordering, refl, sym, ap, subst, ◌∙◌, ◌⊎◌, inl, inr, ⊎_elim, arith, length-append}
-use Rattle.std.specs.Prelude.{◌==◌, ◌&&◌, ◌||◌, nat_lt, is_none, is_some, IsSome, option_map}
-use Rattle.std.specs.List.{list_any, Contains, flat_map, AllByRecursion}
+use Rattle.std.proofs.Common.{◌≡◌, ◌≢◌, ℕ, ◌+◌, ◌≤◌, Bool, true, false, T, List, [], ◌∷◌, ◌++◌, length, map, get_or, Option, Some, None, Ordering, refl, sym, ap, subst, ◌∙◌, inl, inr, arith, length-append}
+use Rattle.std.specs.Prelude.{◌==◌, ◌&&◌, ◌||◌, nat_lt, is_none, IsSome, option_map}
+use Rattle.std.specs.List.{list_any, Contains, AllByRecursion}
 use Rattle.std.specs.List.Sorted.{IsStrictlySortedBy}
 use Rattle.std.specs.Ordering.{nat_cmp, eq_by_cmp, is_eq, is_lt}
 use Rattle.std.specs.declared.cmp.Ordering.TheVariants.{Less, Equal, Greater}
 use Rattle.std.specs.Cmp.{nat_cmp_total, unsigned_ties}
-use Rattle.std.specs.FinMap.{FinMap, get, entries, values, empty, len, len-entries, is_sorted, entries_sorted}
+use Rattle.std.specs.FinMap.{FinMap, get, entries, values, empty, len-entries, is_sorted, entries_sorted}
 use Rattle.std.specs.FinMap.Entries.{below_all}
 use Rattle.std.proofs.lemmas.Bool.{or_from, and_parts, false_from_ne_true, cases_eq}
 use Rattle.std.proofs.lemmas.Bool.Decides.{nat_tests, eqb_tells}
@@ -15,7 +15,6 @@ use Rattle.std.proofs.lemmas.List.Elements.{filter-append, Contains-append_cases
 use Rattle.std.proofs.lemmas.List.Folds.{list_any-append}
 use Rattle.std.proofs.lemmas.Map.Keys.{sorted_head, sorted_tail}
 use Rattle.ospf_types.specs.declared.config.AreaConfig.{AreaConfig}
-use Rattle.ospf_types.specs.declared.config.Config.{Config}
 use Rattle.ospf_types.specs.declared.config.Interface.{Interface}
 use Rattle.ospf_types.specs.declared.key.Key.{Key}
 use Rattle.ospf_types.specs.declared.key.Scope.{Scope}
@@ -28,16 +27,15 @@ use Rattle.config_faults.specs.Configs.{config_fault_of}
 use Rattle.lsdb.specs.Databases.{Database}
 use Rattle.lsdb.specs.Contents.{IsSound}
 use Rattle.event_state.specs.declared.base.Base.{Base}
-use Rattle.event_state.specs.declared.limits.Limits.{Limits}
 use Rattle.event_state.specs.Bases.{is_scope, lsas_under}
 use Rattle.event_state.specs.BaseFaults.{base_fault_of, has_twice, is_same_id, is_same_place, is_same_address}
-use Rattle.event_state.specs.Held.{IsFit, AreFit, AreKept, AreLimited, AreWithin, AreInterfaces}
+use Rattle.event_state.specs.Held.{AreFit, AreKept, AreLimited, AreWithin, AreInterfaces}
 use Rattle.event_state.specs.Listings.{AreAreaIds, lsas_at, lsas_of_areas, lsas_in}
-use Rattle.event_state.specs.Rolls.{IsBaseOf, CanBeRolled}
+use Rattle.event_state.specs.Rolls.{CanBeRolled}
 use Rattle.event_state.specs.States.{State, place_of, database_of, lsas_of}
 use Rattle.event_state.specs.Steps.{is_out_of_scope, limit_of}
 use Rattle.event_state.proofs.Configs.{sound_apart}
-use Rattle.event_state.proofs.Faultless.{IsFaultless, no_fault, is_same_scope, same_scope}
+use Rattle.event_state.proofs.Faultless.{IsFaultless, no_fault, is_same_scope}
 use Rattle.event_state.proofs.HeldStates.{fit_apart}
 use Rattle.event_state.proofs.Sorted.{value_from}
 use Rattle.event_state.proofs.Twice.{all_fail, twice_append}
@@ -122,7 +120,7 @@ block_once at d sound =
     let own : (e : Key × Lsa) → Contains (entries d) e → e.0 ≡ key_of e.1 = λ e c. sound.under_own_key e.0 e.1 (value_from d e.0 e.1 key_total c) in
     keys_told at (entries d) own
     ∙ once_sorted key_cmp (λ (x y : Key × Lsa). is_same_place (at, x.1) (at, y.1)) (entries d) (entries_sorted d) (λ x y c e apart.
-      and_false (is_scope at at) (eq_by_cmp key_cmp (key_of x.1) (key_of y.1)) ((λ i. eq_by_cmp key_cmp (sym (own x c) i) (sym (own y e) i)) ∙ apart))
+    and_false (is_scope at at) (eq_by_cmp key_cmp (key_of x.1) (key_of y.1)) ((λ i. eq_by_cmp key_cmp (sym (own x c) i) (sym (own y e) i)) ∙ apart))
 
 -- ---- the LSAs of all scopes
 
@@ -189,7 +187,7 @@ module _ (s : State) (ids : List ℕ) (fit : AreFit s.config.areas s.databases) 
       let here : is_scope x.0 (scope.Area n) ≡ false = ap (λ (t : Scope). is_scope t (scope.Area n)) is ∙ other_area a n (apart n (first_element n ns)) in
       list_any-append (is_same_place x) (lsas_at s (scope.Area n)) (lsas_of_areas s ns)
       ∙ or_from (list_any (is_same_place x) (lsas_at s (scope.Area n))) (list_any (is_same_place x) (lsas_of_areas s ns))
-          (other_block x (scope.Area n) (lsas_of (database_of s (scope.Area n))) here) (other_areas x a ns is (λ m c. apart m (later_element n m ns c)))
+      (other_block x (scope.Area n) (lsas_of (database_of s (scope.Area n))) here) (other_areas x a ns is (λ m c. apart m (later_element n m ns c)))
 
   -- the first of ascending IDs is none of the others
   first_apart : (a : ℕ) (ns : List ℕ) → IsStrictlySortedBy nat_cmp (a ∷ ns) → (n : ℕ) → Contains ns n → a ≢ n
@@ -197,6 +195,7 @@ module _ (s : State) (ids : List ℕ) (fit : AreFit s.config.areas s.databases) 
     where
       less_apart : (a n : ℕ) → nat_cmp a n ≡ Less → a ≢ n
       less_apart a n e same = let wrong : eq_by_cmp nat_cmp a n ≡ false = ap is_eq e in elim (eqb_tells a n) [ inl t ↦ (let w : true ≡ false = sym t.0 ∙ unsigned_ties a n ∙ wrong in absurd cc) | inr t ↦ t.1 same ]
+
       head_below : (a : ℕ) (ns : List ℕ) → AllByRecursion (λ k. nat_cmp a k ≡ Less) ns → (n : ℕ) → Contains ns n → nat_cmp a n ≡ Less
       head_below a [] all n c = absurd (no_element n c)
       head_below a (m ∷ ns) all n c = elim (first_or_later m n ns c) [

@@ -46,7 +46,11 @@ impl ScopedKey {
 }
 
 /// The first fault that the base has, which is never `Memory`.
-pub fn fault_in_base(alloc: Global, base: &Base, limits: Limits) -> Result<Option<BaseFault>, Memory>
+pub fn fault_in_base(
+    alloc: Global,
+    base: &Base,
+    limits: Limits,
+) -> Result<Option<BaseFault>, Memory>
     ensures { IfOk result (λ fault. fault ≡ base_fault_of limits base.now) }
 {
     if let Some(fault) = fault_in(&base.config) {
@@ -196,9 +200,7 @@ fn is_overfull(base: &Base, limits: Limits) -> bool
 fn has_overfull_area(areas: &[AreaConfig], lsas: &[(Scope, Checked)], most: u32) -> bool
     ensures { result ≡ list_any (λ a. nat_lt most (length (lsas_under lsas.now (Scope.Area a.id)))) areas.now }
 {
-    areas
-        .iter()
-        .any(|area| is_more(count_under(lsas, Scope::Area(area.id)), most))
+    areas.iter().any(|area| is_more(count_under(lsas, Scope::Area(area.id)), most))
 }
 
 fn is_more(count: usize, most: u32) -> bool

@@ -41,7 +41,10 @@ pub(crate) fn put_interface(
 }
 
 // The interfaces of a list by their ids.
-pub(crate) fn by_id(alloc: Global, interfaces: &[(u8, Interface)]) -> Result<BTreeMap<u8, Interface>, Memory>
+pub(crate) fn by_id(
+    alloc: Global,
+    interfaces: &[(u8, Interface)],
+) -> Result<BTreeMap<u8, Interface>, Memory>
     requires { has_twice is_same_id interfaces.now ≡ false }
     ensures { IfOk result (λ tree. interfaces_of tree ≡ interfaces_in interfaces.now) }
 {

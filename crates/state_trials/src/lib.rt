@@ -3,6 +3,8 @@
 #![tactic(auto)]
 
 #[cfg(test)]
+mod bases;
+#[cfg(test)]
 mod events;
 #[cfg(test)]
 mod table;

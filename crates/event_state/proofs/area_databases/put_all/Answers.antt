@@ -1,4 +1,4 @@
-use Rattle.std.proofs.Common.{◌≡◌, ◌<◌, ◌≤◌, ◌+◌, List, length, get_or, take, Some, None, refl, sym, ap, subst, ◌∙◌, arith}
+use Rattle.std.proofs.Common.{◌≡◌, ◌<◌, ◌≤◌, ◌+◌, List, length, get_or, take, Some, None, sym, ap, subst, ◌∙◌, arith}
 use Rattle.std.specs.FinMap.{insert}
 use Rattle.std.proofs.lemmas.List.{length-map, take_all}
 use Rattle.ospf_types.specs.declared.config.AreaConfig.{AreaConfig}

@@ -23,7 +23,7 @@ invariant_of-self c =
     let done = rw c.as_mut_slice.ensures.value at c.age_out_at.ensures.done in
     record {
       held = held_after i.config i.limits i.databases c.age_out_at.new.databases c.args.scope c.in-Some.place (λ (d : Database). aged_out d c.args.key) c.self.invariant.held place
-      (λ fit. fit_aged_out c.args.scope _ c.args.key fit) (aged_out_small _ _ c.args.key (c.self.invariant.held.within c.in-Some.place)) done;
+          (λ fit. fit_aged_out c.args.scope _ c.args.key fit) (aged_out_small _ _ c.args.key (c.self.invariant.held.within c.in-Some.place)) done;
       interfaces = c.self.invariant.interfaces;
       serial = c.self.invariant.serial;
     }

@@ -43,7 +43,7 @@ invariant_of-self c =
     let done = rw c.as_mut_slice.ensures.value at c.put_at.ensures.done in
     record {
       held = held_after_try i.config i.limits i.databases c.put_at.new.databases c.args.scope c.in-Some.place (λ (d : Database). insert d (key_of lsa) lsa) c.self.invariant.held place c.put_at.result
-      (λ fit. fit_insert c.args.scope _ (key_of lsa) lsa fit (record { own = refl; legal = c.put_at.ensures.legal; placed = taken.placed })) small kept done;
+          (λ fit. fit_insert c.args.scope _ (key_of lsa) lsa fit (record { own = refl; legal = c.put_at.ensures.legal; placed = taken.placed })) small kept done;
       interfaces = c.self.invariant.interfaces;
       serial = c.self.invariant.serial;
     }

@@ -31,7 +31,7 @@ invariant_of-self c =
     let done = rw c.as_mut_slice.ensures.value at c.purge_at.ensures in
     record {
       held = held_after i.config i.limits i.databases c.purge_at.new.databases c.args.scope c.in-Some.place (λ (d : Database). remove d c.args.key) c.self.invariant.held place
-      (λ fit. fit_remove c.args.scope _ c.args.key fit) (remove_small _ _ c.args.key (c.self.invariant.held.within c.in-Some.place)) done;
+          (λ fit. fit_remove c.args.scope _ c.args.key fit) (remove_small _ _ c.args.key (c.self.invariant.held.within c.in-Some.place)) done;
       interfaces = c.self.invariant.interfaces;
       serial = c.self.invariant.serial;
     }
