@@ -7,6 +7,7 @@ use Rattle.std.specs.declared.cmp.Ordering.TheVariants.{Less, Equal, Greater}
 use Rattle.std.proofs.lemmas.Bool.{and_from, or_parts}
 use Rattle.std.proofs.lemmas.Bool.Decides.{nat_tests}
 use Rattle.std.proofs.lemmas.List.Elements.{filter-append}
+use Rattle.std.proofs.lemmas.Iterator.Adapters.{position_from-zero}
 use Rattle.std.proofs.lemmas.List.Folds.{list_any-append}
 use Rattle.ospf_types.specs.FirstOf.{first_of}
 use Rattle.ospf_types.specs.declared.config.AreaConfig.{AreaConfig}
@@ -69,7 +70,7 @@ found_from (a ∷ areas) id k q some none =
     ] refl some
 
 found_area : (areas : List AreaConfig) (id : ℕ) (q : ℕ → Bool) → is_none (place_of areas (scope.Area id)) ≡ false → list_any (λ (a : AreaConfig). q a.id) areas ≡ false → q id ≡ false
-found_area areas id q some none = found_from areas id 0 q some none
+found_area areas id q some none = found_from areas id 0 q (ap is_none (sym (position_from-zero (λ (a : AreaConfig). a.id == id) areas)) ∙ some) none
 
 counted_here : (lsas : List (Scope × Lsa)) (x : Scope × Lsa) (rest : List (Scope × Lsa)) → length (lsas_under (lsas ++ x ∷ rest) x.0) ≡ length (lsas_under lsas x.0) + (length (lsas_under rest x.0) + 1)
 counted_here lsas x rest =

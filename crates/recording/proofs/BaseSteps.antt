@@ -121,8 +121,8 @@ no_last xs none =
     ]
 
 second_true : (a b : Bool) → a ≡ false → (a || b) ≡ true → b ≡ true
-second_true true b no h = cc
-second_true false b no h = h
+second_true true b first h = cc
+second_true false b first h = h
 
 -- bytes that are read tell the whole place
 place_past : (last : Option (Scope × Lsa)) (at : Scope) (bytes : List ℕ) → is_past_lsa last at bytes ≡ true → fault_of bytes ≡ None → is_past_place last (lsa_place (at, lsa_of bytes)) ≡ true

@@ -50,7 +50,7 @@ read_fits None = Unit {0}
 read_fits (Some n) = n < 2 ^ 64
 
 pub serial_read : (word : List ℕ) (read : Option ℕ) → IsUnpadded word → MatchOption read (AllDigits 10 word → 2 ^ 64 ≤ digits_value 10 word) (λ n. AllDigits 10 word × (n ≡ digits_value 10 word)) → read_fits read → IsRead decimal IsSerial word read
-serial_read word None plain none fits n small same =
+serial_read word None plain none fits = λ n small same.
     let digits : AllDigits 10 word = rw same (decimal_digits n small) in
     let is : digits_value 10 word ≡ n = rw same (decimal_value n small) in
     omega (arith, none digits, is)
