@@ -1,6 +1,6 @@
 -- Decimal digits and the numbers that they write, and the hexadecimal digits of bytes.
 use Rattle.std.proofs.Common.{ℕ, ◌≡◌, ◌+◌, ◌-◌, ◌*◌, ◌/◌, ◌%◌, ◌^◌, ◌<◌, ◌≤◌, ◌==◌, Bool, true, cond, ltb, List, [], ◌∷◌, All, decimal, length, get_or, take, Option, Some, None, MatchOption, inl, inr, arith, refl, ap, sym, ◌∙◌, length-take}
-use Rattle.std.proofs.lemmas.Bool.{agree_below_at, cases_eq, eqb-true}
+use Rattle.std.proofs.lemmas.Bool.{agree_below_at, cases_eq, cases_lt, eqb-true}
 use Rattle.std.proofs.lemmas.Bool.Decides.{nat_tests}
 use Rattle.std.proofs.lemmas.Int.Digits.{digits_value_more}
 use Rattle.std.proofs.lemmas.Fmt.{decimal_is_IsNumeral, decimal_nonempty, decimal_digit, first_decimal, decimal-digits_value}
@@ -19,6 +19,17 @@ digits_large word i value within is =
     let more = digits_value_more 10 word i within in
     let all : digits_value 10 (take (i + 1) word) ≤ digits_value 10 word = digits_value-take-le 10 word (i + 1) (omega arith) in
     omega (arith, more, all, is)
+
+-- ten times the first digits, or that and one digit more, do not fit: so the whole number does not
+pub past_tens : (word : List ℕ) (i value : ℕ) → i < length word → value ≡ digits_value 10 (take i word) → ¬ (value * 10 < 2 ^ 64) → 2 ^ 64 ≤ digits_value 10 word
+past_tens word i value within is past =
+    let all = digits_large word i value within is in
+    elim (cases_lt (value * 10) (2 ^ 64)) [ inl below ↦ absurd (past below) | inr above ↦ omega (arith, all, above) ]
+
+pub past_digit : (word : List ℕ) (i value tens digit : ℕ) → i < length word → value ≡ digits_value 10 (take i word) → tens ≡ value * 10 → digit ≡ digit_value (get_or word i 0) → ¬ (tens + digit < 2 ^ 64) → 2 ^ 64 ≤ digits_value 10 word
+past_digit word i value tens digit within is ten one past =
+    let all = digits_large word i value within is in
+    elim (cases_lt (tens + digit) (2 ^ 64)) [ inl below ↦ absurd (past below) | inr above ↦ omega (arith, all, above, ten, one) ]
 
 pub digit_value_is : (b : ℕ) → 48 ≤ b → b ≤ 57 → digit_value b ≡ b - 48
 digit_value_is b low high = grind (arith, nat_tests)
@@ -44,19 +55,14 @@ pub unpadded_is : (word : List ℕ) → IsUnpadded word → AllDigits 10 word �
 unpadded_is word h digits small = sym (decimal-digits_value (numerals_by_value _ tells_digits) word digits h.some h.alone (omega arith))
 
 -- what was read of digits without a zero in front is the number that they spell
--- a number that was read is one of 64 bits
-abbrev pub read_fits : Option ℕ → Type 0
-read_fits None = Unit {0}
-read_fits (Some n) = n < 2 ^ 64
-
-pub serial_read : (word : List ℕ) (read : Option ℕ) → IsUnpadded word → MatchOption read (AllDigits 10 word → 2 ^ 64 ≤ digits_value 10 word) (λ n. AllDigits 10 word × (n ≡ digits_value 10 word)) → read_fits read → IsRead decimal IsSerial word read
-serial_read word None plain none fits = λ n small same.
+pub serial_read : (word : List ℕ) (read : Option ℕ) → IsUnpadded word → MatchOption read (AllDigits 10 word → 2 ^ 64 ≤ digits_value 10 word) (λ n. AllDigits 10 word × (n ≡ digits_value 10 word) × IsSerial n) → IsRead decimal IsSerial word read
+serial_read word None plain none = λ n small same.
     let digits : AllDigits 10 word = rw same (decimal_digits n small) in
     let is : digits_value 10 word ≡ n = rw same (decimal_value n small) in
     omega (arith, none digits, is)
-serial_read word (Some n) plain some fits =
-    let small : digits_value 10 word < 2 ^ 64 = omega (arith, some.1, fits) in
-    (fits, unpadded_is word plain some.0 small ∙ ap decimal (sym some.1))
+serial_read word (Some n) plain some =
+    let small : digits_value 10 word < 2 ^ 64 = omega (arith, some.1, some.2) in
+    (some.2, unpadded_is word plain some.0 small ∙ ap decimal (sym some.1))
 
 -- ---- hexadecimal digits
 

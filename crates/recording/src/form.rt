@@ -195,28 +195,32 @@ fn range<'a>(words: &mut Words<'a>) -> Option<LineForm<'a>>
 fn interface<'a>(words: &mut Words<'a>) -> Option<LineForm<'a>>
     ensures { AreRead (codes "interface" ∷ words.old) result }
 {
-    let (id, interface) = interface_fields(words)?;
+    let fields = interface_fields(words)?;
     Some(LineForm::Interface {
-        id,
-        area: interface.area,
-        address: interface.address,
-        peer: interface.peer,
-        up: interface.up,
+        id: fields.0,
+        area: fields.1.area,
+        address: fields.1.address,
+        peer: fields.1.peer,
+        up: fields.1.up,
     })
 }
 
 fn install<'a>(words: &mut Words<'a>) -> Option<LineForm<'a>>
     ensures { AreRead (codes "install" ∷ words.old) result }
 {
-    let (scope, digits) = lsa_fields(words)?;
-    Some(LineForm::Install { scope, digits })
+    let fields = lsa_fields(words)?;
+    Some(LineForm::Install {
+        scope: fields.0,
+        digits: fields.1,
+    })
 }
 
 // An interface or an LSA that is there before anything happens.
 fn has<'a>(words: &mut Words<'a>) -> Option<LineForm<'a>>
     ensures { AreRead (codes "has" ∷ words.old) result }
 {
-    if words.choice(b"interface", b"lsa")? {
+    let is_interface = words.choice(b"interface", b"lsa")?;
+    if is_interface {
         has_interface(words)
     } else {
         has_lsa(words)
@@ -226,15 +230,21 @@ fn has<'a>(words: &mut Words<'a>) -> Option<LineForm<'a>>
 fn has_interface<'a>(words: &mut Words<'a>) -> Option<LineForm<'a>>
     ensures { AreRead (codes "has" ∷ codes "interface" ∷ words.old) result }
 {
-    let (id, interface) = interface_fields(words)?;
-    Some(LineForm::HasInterface { id, interface })
+    let fields = interface_fields(words)?;
+    Some(LineForm::HasInterface {
+        id: fields.0,
+        interface: fields.1,
+    })
 }
 
 fn has_lsa<'a>(words: &mut Words<'a>) -> Option<LineForm<'a>>
     ensures { AreRead (codes "has" ∷ codes "lsa" ∷ words.old) result }
 {
-    let (scope, digits) = lsa_fields(words)?;
-    Some(LineForm::HasLsa { scope, digits })
+    let fields = lsa_fields(words)?;
+    Some(LineForm::HasLsa {
+        scope: fields.0,
+        digits: fields.1,
+    })
 }
 
 fn flush<'a>(words: &mut Words<'a>) -> Option<LineForm<'a>>

@@ -255,7 +255,7 @@ fn is_unpadded(word: &[u8]) -> bool
 
 // What digits write, where 64 bits have room for it.
 fn decimal_value(word: &[u8]) -> Option<u64>
-    ensures { MatchOption result (AllDigits 10 word.now → 2 ^ 64 ≤ digits_value 10 word.now) (λ n. AllDigits 10 word.now × (n ≡ digits_value 10 word.now)) }
+    ensures { MatchOption result (AllDigits 10 word.now → 2 ^ 64 ≤ digits_value 10 word.now) (λ n. AllDigits 10 word.now × (n ≡ digits_value 10 word.now) × IsSerial n) }
 {
     let mut value: u64 = 0;
     for digit in word {

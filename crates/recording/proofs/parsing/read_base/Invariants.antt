@@ -6,7 +6,7 @@ abbrev pub invariant-loop-held : goal.invariant-loop-held
 invariant-loop-held l = record {
   read : HasBaseAt l.version l.left l.held.base;
   counted : IsCounted l.held;
-  text : l.left.text.now ≡ l.fn.lines.text.now
+  text : l.left.text.now ≡ l.fn.lines.text.now;
 }
 
 -- the bytes that are left

@@ -6,7 +6,7 @@ abbrev pub invariant-loop-line : goal.invariant-loop-line
 invariant-loop-line l = record {
   read : HasLinesAt l.left (record { version = l.version; base = l.base; lines = l.found.items });
   end : l.found.items ≡ [] → EndsBaseAt l.version l.left;
-  text : l.left.text.now ≡ l.fn.lines.text.now
+  text : l.left.text.now ≡ l.fn.lines.text.now;
 }
 
 -- the bytes that are left

@@ -6,7 +6,7 @@ use Rattle.recording.proofs.Digits.{unpadded_decimal, decimal_digits, decimal_va
 use Rattle.recording.proofs.words.read_serial.Goals as goal
 
 pub returns-then-is_unpadded : goal.returns-then-is_unpadded
-returns-then-is_unpadded c = serial_read c.args.word.now c.decimal_value.result (c.is_unpadded.ensures.0 c.if-is_unpadded.true) c.decimal_value.ensures ?
+returns-then-is_unpadded c = serial_read c.args.word.now c.decimal_value.result (c.is_unpadded.ensures.0 c.if-is_unpadded.true) c.decimal_value.ensures
 
 pub returns-else-is_unpadded : goal.returns-else-is_unpadded
 returns-else-is_unpadded c n within same =
