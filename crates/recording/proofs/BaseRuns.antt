@@ -53,7 +53,7 @@ three_none a b c p q r one two three = rw (one, two, three) refl
 
 -- ---- what fits in a base that fits
 
-pub interface_fitted : (b : Base) → IsFit b → (xs : List (ℕ × Interface)) (x : ℕ × Interface) (ys : List (ℕ × Interface)) → b.interfaces ≡ xs ++ x ∷ ys → unfit_interface b.config.areas xs x ≡ None
+pub interface_fitted : (b : Base) → IsFit b → (xs : List (ℕ × Interface)) (x : ℕ × Interface) (ys : List (ℕ × Interface)) → b.interfaces ≡ xs ++ x ∷ ys → unfit_interface b.config.areas xs x.1 ≡ None
 interface_fitted b fit xs x ys is =
     let area : ℕ × Interface → Bool = λ y. is_none (place_of b.config.areas (scope.Area y.1.area)) in
     two_none (area x) (list_any (λ y. is_same_address y x) xs) unfit.NoArea unfit.AddressTaken

@@ -1,12 +1,12 @@
 -- A base that gains an interface or an LSA stays without a fault.
 use Rattle.std.proofs.Common.{ℕ, ◌≡◌, ◌≢◌, ◌+◌, ◌==◌, ◌++◌, ◌||◌, ◌&&◌, Bool, true, false, cond, nat_lt, nat_le, List, [], ◌∷◌, length, map, Option, Some, None, Ordering, refl, sym, ap, subst, ◌∙◌, arith, eqb-true, eq-eqb, length-append}
-use Rattle.std.specs.Prelude.{is_none, filter}
+use Rattle.std.specs.Prelude.{◌↔◌, IsTrue, is_none, filter}
 use Rattle.std.specs.List.{list_any, AllByRecursion}
 use Rattle.std.specs.List.Sorted.{IsStrictlySortedBy}
 use Rattle.std.specs.Ordering.{nat_cmp, is_eq, ordering_then}
 use Rattle.std.specs.Cmp.{nat_cmp_is}
 use Rattle.std.specs.declared.cmp.Ordering.TheVariants.{Less, Equal, Greater}
-use Rattle.std.proofs.lemmas.Bool.{or_from, or_parts, false_from_ne_true}
+use Rattle.std.proofs.lemmas.Bool.{both_ways, or_from, or_parts, false_from_ne_true}
 use Rattle.std.proofs.lemmas.Bool.Decides.{nat_tests}
 use Rattle.std.proofs.lemmas.List.Elements.{filter-append}
 use Rattle.std.proofs.lemmas.List.Folds.{list_any-append}
@@ -143,6 +143,20 @@ ordered_sound b ordered config fit =
     ∙ ap (λ (d : Bool). after_doubled d (unfit_fault (unfit_of standard_limits b))) (none_doubled b ordered)
     ∙ ap unfit_fault fit
 
+none_is : {X : Type 0} (o : Option X) → is_none o ≡ true → o ≡ None
+none_is None h = refl
+none_is (Some x) h = cc
+
+-- what two tests tell of a base in order
+pub sound_told : (b : Base) → IsBaseOrdered b → config_fault_of b.config ≡ None → (r : Bool) → r ≡ is_none (unfit_of standard_limits b) → IsTrue r ↔ (base_fault_of standard_limits b ≡ None)
+sound_told b ordered config r told = (
+  λ yes. ordered_sound b ordered config (none_is (unfit_of standard_limits b) (sym told ∙ yes)),
+  λ sound. told ∙ ap is_none (base_parts b sound).1,
+)
+
+pub not_sound : (b : Base) → is_none (config_fault_of b.config) ≡ false → base_fault_of standard_limits b ≡ None → ⊥
+not_sound b some sound = let none : is_none (config_fault_of b.config) ≡ true = ap is_none (base_parts b sound).0 in both_ways (is_none (config_fault_of b.config)) some none
+
 -- ---- the parts of what is fit
 
 pub record IsFit (b : Base) : Type 0 where
@@ -218,7 +232,7 @@ usable_from b sound = let two = base_parts b sound in record { config = two.0; f
 pub usable_to : (b : Base) → IsBaseOrdered b → IsUsable b → base_fault_of standard_limits b ≡ None
 usable_to b ordered h = ordered_sound b ordered h.config (fit_to b h.fit)
 
-pub interface_fits : (b : Base) (x : ℕ × Interface) → IsUsable b → unfit_interface b.config.areas b.interfaces x ≡ None → IsUsable (record b { interfaces = b.interfaces ++ x ∷ [] })
+pub interface_fits : (b : Base) (x : ℕ × Interface) → IsUsable b → unfit_interface b.config.areas b.interfaces x.1 ≡ None → IsUsable (record b { interfaces = b.interfaces ++ x ∷ [] })
 interface_fits b x h fit =
     let two = two_parts (is_none (place_of b.config.areas (scope.Area x.1.area))) (list_any (λ y. is_same_address y x) b.interfaces) unfit.NoArea unfit.AddressTaken fit in
     record {

@@ -1,11 +1,11 @@
 -- From line to line of a base, behind its header.
-use Rattle.std.proofs.Common.{ℕ, ◌≡◌, ◌≢◌, ◌+◌, ◌<◌, ◌≤◌, ◌++◌, ◌||◌, Bool, true, false, not, List, [], ◌∷◌, length, map, Option, Some, None, All, Ordering, refl, sym, ap, subst, ◌∙◌, inl, inr, arith, append_assoc, append-nil}
+use Rattle.std.proofs.Common.{ℕ, ◌≡◌, ◌≢◌, ◌+◌, ◌<◌, ◌≤◌, ◌++◌, ◌&&◌, ◌||◌, Bool, true, false, not, List, [], ◌∷◌, length, map, Option, Some, None, All, Ordering, refl, sym, ap, subst, ◌∙◌, inl, inr, arith, append_assoc, append-nil}
 use Rattle.std.specs.Prelude.{is_some, is_none}
 use Rattle.std.specs.Cmp.{IsTotalOrder, nat_cmp_total}
 use Rattle.std.specs.List.{flat_map}
 use Rattle.std.specs.Ordering.{nat_cmp}
 use Rattle.std.specs.declared.cmp.Ordering.TheVariants.{Less}
-use Rattle.std.proofs.lemmas.Bool.{and_parts}
+use Rattle.std.proofs.lemmas.Bool.{and_from, and_parts}
 use Rattle.std.proofs.lemmas.Cmp.{on_total, then_total}
 use Rattle.std.proofs.lemmas.List.{map-append}
 use Rattle.std.proofs.lemmas.List.Elements.{All-push}
@@ -17,7 +17,10 @@ use Rattle.config_faults.specs.declared.fault.ConfigFault.{ConfigFault}
 use Rattle.ospf_types.specs.declared.config.Interface.{Interface}
 use Rattle.ospf_types.specs.declared.key.Key.{Key}
 use Rattle.ospf_types.specs.declared.key.Scope.{Scope}
-use Rattle.ospf_types.specs.Lsa.{Lsa}
+use Rattle.ospf_types.specs.declared.config.AreaConfig.{AreaConfig}
+use Rattle.ospf_types.specs.Lsa.{Lsa, key_of}
+use Rattle.lsa_codec.proofs.Again.{spelled_none}
+use Rattle.event_state.specs.Bases.{lsas_under}
 use Rattle.ospf_types.proofs.Orders.{key_total, scope_total}
 use Rattle.event_state.specs.declared.base.Base.{Base}
 use Rattle.event_state.specs.declared.base_fault.Unfit.{Unfit}
@@ -26,14 +29,14 @@ use Rattle.recording.specs.declared.fault.Fault.TheVariants as fault
 use Rattle.recording.specs.declared.version.Version.{Version}
 use Rattle.recording.specs.declared.version.Version.TheVariants.{Three}
 use Rattle.recording.specs.Forms.{Form, VersionLine, RouterLine, CompatLine, SerialLine, AreaLine, RangeLine, HasInterfaceLine, HasLsaLine, BodyLine, IsOfVersion, Says}
-use Rattle.recording.specs.Places.{Front, AreSaid, IsPlaced, based, first_lines, front_of, has_ended, is_less, is_of_base, is_of_header, is_next, is_past_id, is_past_lsa, is_past_place, is_past_scope, last_of, lsa_place, place_cmp, unfit_at, wire_fault_in}
+use Rattle.recording.specs.Places.{Front, AreSaid, IsPlaced, based, first_lines, front_of, has_ended, is_less, is_of_base, is_of_header, is_next, is_past_id, is_past_lsa, is_past_place, is_past_scope, last_of, lsa_place, place_cmp, unfit_at, unfit_lsa, unfit_under, wire_fault_in}
 use Rattle.recording.specs.Faults.{parts_of, HasUnfit, IsFaultOf}
 use Rattle.recording.specs.Progress.{HasLines, EndsBase, IsBaseRefusal, IsTaken, IsWholeForm, later_forms, with_has}
 use Rattle.recording.specs.Recordings.{RecordingValue, IsRecording, AreByIds, AreByPlaces, AreWhole, CanSpell, HasWholeLsa, IsBaseOrdered, IsWhole, area_forms, first_forms, has_forms, interface_form, lsa_form}
 use Rattle.recording.proofs.Areas.{nat_less, of_is_less}
 use Rattle.recording.proofs.BaseSound.{interface_fits, lsa_fits, usable_from, usable_to}
 use Rattle.recording.proofs.Forms.{says_one}
-use Rattle.recording.proofs.Fronts.{base_forms, front_of_base}
+use Rattle.recording.proofs.Fronts.{base_forms, front_of_base, lsa_again}
 use Rattle.recording.proofs.HeaderSteps.{not_both}
 use Rattle.recording.proofs.LineSteps.{IsLonger, line_at, later_said, later_are, longer_step, no_config, not_first}
 use Rattle.recording.proofs.Parts.{base_fault, line_there, order_fault, parts_full, wire_fault}
@@ -120,6 +123,10 @@ no_last xs none =
           absurd (not_both (is_none (last_of xs)) none some)
     ]
 
+second_false : (a b : Bool) → b ≡ false → (a && b) ≡ false
+second_false true b is = is
+second_false false b is = refl
+
 second_true : (a b : Bool) → a ≡ false → (a || b) ≡ true → b ≡ true
 second_true true b first h = cc
 second_true false b first h = h
@@ -152,6 +159,51 @@ ordered_has b (RouterLine router) ordered taken = ordered
 ordered_has b (CompatLine compat) ordered taken = ordered
 ordered_has b (SerialLine serial) ordered taken = ordered
 ordered_has b (BodyLine body) ordered taken = ordered
+
+-- ---- an LSA that was read
+
+-- the bytes are those of the LSA, and it has this key
+pub record IsReadAs (bytes : List ℕ) (l : Lsa) (key : Key) : Type 0 where
+  pub spelled : spelling l ≡ bytes
+  pub whole : IsWhole l
+  pub keyed : key ≡ key_of l
+
+module _ {bytes : List ℕ} {l : Lsa} {key : Key} (read : IsReadAs bytes l key) where
+  pub read_again : lsa_of bytes ≡ l
+  read_again = ap lsa_of (sym read.spelled) ∙ lsa_again l read.whole
+
+  pub read_sound : fault_of bytes ≡ None
+  read_sound = ap fault_of (sym read.spelled) ∙ spelled_none (spelling l) l read.whole.sound read.whole.spelled
+
+  place_is : (at : Scope) → lsa_place (at, lsa_of bytes) ≡ (at, key)
+  place_is at = ap (λ (m : Lsa). lsa_place (at, m)) read_again ∙ ap (λ (k : Key). let p : Scope × Key = (at, k) in p) (sym read.keyed)
+
+  past_is : (last : Option (Scope × Lsa)) (at : Scope) (r : Bool) → r ≡ is_past_place last (at, key) → (is_some (fault_of bytes) || is_past_place last (lsa_place (at, lsa_of bytes))) ≡ r
+  past_is last at r told =
+      ap (λ (o : Option WireFault). is_some o || is_past_place last (lsa_place (at, lsa_of bytes))) read_sound
+      ∙ ap (is_past_place last) (place_is at)
+      ∙ sym told
+
+  pub key_refused : (last : Option (Scope × Lsa)) (at : Scope) (r : Bool) → r ≡ is_past_place last (at, key) → r ≡ false → is_past_lsa last at bytes ≡ false
+  key_refused last at r told other = second_false (is_past_scope last at) _ (past_is last at r told ∙ other)
+
+  pub key_taken : (last : Option (Scope × Lsa)) (at : Scope) (r : Bool) → is_past_scope last at ≡ true → r ≡ is_past_place last (at, key) → r ≡ true → is_past_lsa last at bytes ≡ true
+  key_taken last at r scope told yes = and_from _ _ scope (past_is last at r told ∙ yes)
+
+  pub unfit_told : (areas : List AreaConfig) (lsas : List (Scope × Lsa)) (at : Scope) (row : ℕ) (o : Option Unfit) → row ≡ length (lsas_under lsas at) → o ≡ unfit_under areas at key.kind row → unfit_lsa areas lsas (at, lsa_of bytes) ≡ o
+  unfit_told areas lsas at row o counted told =
+      ap (λ (m : Lsa). unfit_under areas at (key_of m).kind (length (lsas_under lsas at))) read_again
+      ∙ ap (λ (k : Key). unfit_under areas at k.kind (length (lsas_under lsas at))) (sym read.keyed)
+      ∙ ap (unfit_under areas at key.kind) (sym counted)
+      ∙ sym told
+
+  pub lsa_taken : (b : Base) (at : Scope) → is_past_lsa (last_of b.lsas) at bytes ≡ true → unfit_lsa b.config.areas b.lsas (at, lsa_of bytes) ≡ None → IsTaken b (HasLsaLine at bytes)
+  lsa_taken b at past fit = record {
+    next = past;
+    readable = read_sound;
+    whole = (subst IsWhole (sym read_again) read.whole, ap spelling read_again ∙ read.spelled);
+    fit = fit;
+  }
 
 -- ---- one more
 

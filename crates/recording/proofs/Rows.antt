@@ -104,3 +104,9 @@ row_more lsas x row counted =
 -- where the scope is told, and the answer to whether it may stand there
 pub past_of : (lsas : List (Scope × Lsa)) (l : Scope × Lsa) (at : Scope) (o : Ordering) → last_of lsas ≡ Some l → scope_cmp at l.0 ≡ o → is_past_scope (last_of lsas) at ≡ not (is_less o)
 past_of lsas l at o last is = ap (λ (x : Option (Scope × Lsa)). is_past_scope x at) last ∙ ap (λ (p : Ordering). not (is_less p)) is
+
+-- the scope is past that of the last of the items
+pub row_greater : (items lsas : List (Scope × Lsa)) (l : Scope × Lsa) (at : Scope) → items ≡ lsas → AreByPlaces lsas → Some l ≡ last_of items → Greater ≡ scope_cmp at l.0 → (is_past_scope (last_of lsas) at ≡ true) × (0 ≡ length (lsas_under lsas at))
+row_greater items lsas l at same sorted last past =
+    let is : last_of lsas ≡ Some l = ap (λ (t : List (Scope × Lsa)). last_of t) (sym same) ∙ sym last in
+    (past_of lsas l at Greater is (sym past), row_past lsas l at sorted is (sym past))

@@ -11,7 +11,7 @@ use Rattle.ospf_types.specs.declared.config.Range.{Range}
 use Rattle.ospf_types.specs.declared.config.Stub.{Stub}
 use Rattle.ospf_types.specs.declared.key.Scope.{Scope}
 use Rattle.ospf_types.specs.Text.{address_text, prefix_text}
-use Rattle.recording.specs.Forms.{Form, VersionLine, CompatLine, SerialLine, AreaLine, RangeLine, HasInterfaceLine, HasLsaLine, BodyLine, InterfaceLine, InstallLine, SecondLine, AreBytes, IsScope, IsSerial, IsPrefix, IsStub, IsAddress, IsOfVersion, Says, scope_text, stub_words, lsa_words, version_word}
+use Rattle.recording.specs.Forms.{Form, VersionLine, RouterLine, CompatLine, SerialLine, AreaLine, RangeLine, HasInterfaceLine, HasLsaLine, BodyLine, InterfaceLine, InstallLine, LookupLine, SecondLine, AreBytes, IsScope, IsSerial, IsPrefix, IsStub, IsAddress, IsOfVersion, Says, scope_text, stub_words, lsa_words, version_word}
 use Rattle.recording.specs.Reading.{AreDigits, SaysWords, IsPair, bytes_of, cut, pair_words}
 use Rattle.recording.specs.declared.version.Version.{Version}
 use Rattle.ospf_types.specs.declared.config.Interface.{Interface}
@@ -39,6 +39,20 @@ pub version_words : (words : List (List ℕ)) (form : Form) → SaysWords (codes
 version_words words (VersionLine version) said = let spelled = said.spelled in record { version = version; spelled = cc spelled }
 version_words words (BodyLine SecondLine) said = absurd (another (codes "abr") _ words _ said.spelled refl)
 version_words words _ said = absurd (another (codes "abr") _ words _ said.spelled refl)
+
+pub record AddressWords (words : List (List ℕ)) : Type 0 where
+  pub address : ℕ
+  pub legal : IsAddress address
+  pub spelled : words ≡ address_text address ∷ []
+
+pub router_words : (words : List (List ℕ)) (form : Form) → SaysWords (codes "router" ∷ words) form → AddressWords words
+router_words words (RouterLine router) said = let spelled = said.spelled in record { address = router; legal = said.legal; spelled = cc spelled }
+router_words words (BodyLine SecondLine) said = absurd (another (codes "router") _ words _ said.spelled refl)
+router_words words _ said = absurd (another (codes "router") _ words _ said.spelled refl)
+
+pub lookup_words : (words : List (List ℕ)) (form : Form) → SaysWords (codes "lookup" ∷ words) form → AddressWords words
+lookup_words words (BodyLine (LookupLine address)) said = let spelled = said.spelled in record { address = address; legal = said.legal; spelled = cc spelled }
+lookup_words words _ said = absurd (another (codes "lookup") _ words _ said.spelled refl)
 
 pub record SerialWords (words : List (List ℕ)) : Type 0 where
   pub serial : ℕ

@@ -23,7 +23,6 @@ use Rattle.event_state.specs.declared.base_fault.Unfit.{Unfit}
 use Rattle.event_state.specs.declared.base_fault.Unfit.TheVariants as unfit
 use Rattle.event_state.specs.declared.limits.Limits.{Limits}
 use Rattle.event_state.specs.Bases.{lsas_under}
-use Rattle.event_state.specs.BaseFaults.{is_same_address}
 use Rattle.event_state.specs.States.{place_of}
 use Rattle.event_state.specs.Steps.{is_out_of_scope, standard_limits}
 use Rattle.recording.specs.Forms.{Form, Body, VersionLine, RouterLine, CompatLine, SerialLine, AreaLine, RangeLine, HasInterfaceLine, HasLsaLine, BodyLine, InstallLine, AllSay}
@@ -219,11 +218,15 @@ abbrev pub most_in : Limits → Scope → ℕ
 most_in limits (scope.Area id) = limits.area_lsas
 most_in limits scope.As = limits.externals
 
--- an interface beside these: its area is not configured, or both are up and have one address
-abbrev pub unfit_interface : List AreaConfig → List (ℕ × Interface) → ℕ × Interface → Option Unfit
-unfit_interface areas interfaces x = first_of (
-    (is_none (place_of areas (scope.Area x.1.area)), unfit.NoArea)
-    ∷ (list_any (λ y. is_same_address y x) interfaces, unfit.AddressTaken)
+-- both are up, and have one address
+abbrev pub has_address : Interface → Interface → Bool
+has_address i other = other.up && (i.up && (other.address == i.address))
+
+-- an interface beside these: its area is not configured, or one of them has its address
+abbrev pub unfit_interface : List AreaConfig → List (ℕ × Interface) → Interface → Option Unfit
+unfit_interface areas interfaces i = first_of (
+    (is_none (place_of areas (scope.Area i.area)), unfit.NoArea)
+    ∷ (list_any (λ y. has_address i y.1) interfaces, unfit.AddressTaken)
     ∷ [])
 
 -- an LSA of this LS type in a scope that has so many: its area is not configured, it belongs to another scope, or the scope
@@ -241,6 +244,6 @@ unfit_lsa areas lsas x = unfit_under areas x.0 (key_of x.1).kind (length (lsas_u
 -- What no event could have made of the lines before and this one: an area that is not configured, an LSA of another scope,
 -- one more LSA than its scope may have, or an address that an interface has which is up too.
 abbrev pub unfit_at : Front → Form → Option Unfit
-unfit_at f (HasInterfaceLine id interface) = unfit_interface f.areas f.interfaces (id, interface)
+unfit_at f (HasInterfaceLine id interface) = unfit_interface f.areas f.interfaces interface
 unfit_at f (HasLsaLine at bytes) = unfit_lsa f.areas f.lsas (at, lsa_of bytes)
 unfit_at f _ = None

@@ -1,12 +1,11 @@
 //! The base that `has` lines say, one after the other.
-ghost use Rattle.std.specs.Prelude.{◌≡◌, ℕ, true, false, Ok, OnOk, IfOk, IfErr, MatchOption, is_none, length};
+ghost use Rattle.std.specs.Prelude.{◌≡◌, ◌&&◌, ℕ, true, false, Ok, OnOk, IfOk, IfErr, MatchOption, is_none, length};
 ghost use Rattle.std.specs.List.{list_any};
 ghost use Rattle.hex.specs.Hex.{decode_of};
-ghost use Rattle.event_state.specs.BaseFaults.{is_same_address};
 ghost use Rattle.event_state.specs.Bases.{lsas_under};
 ghost use Rattle.event_state.specs.States.{place_of};
 ghost use Rattle.recording.specs.Forms.{HasInterfaceLine, HasLsaLine};
-ghost use Rattle.recording.specs.Places.{is_of_base, last_of, is_past_id, is_past_scope, is_past_place, place_cmp, unfit_interface, unfit_under};
+ghost use Rattle.recording.specs.Places.{is_of_base, last_of, is_past_id, is_past_scope, is_past_place, has_address, place_cmp, unfit_interface, unfit_under};
 ghost use Rattle.recording.specs.Left.{IsCounted};
 ghost use Rattle.recording.specs.Progress.{IsTaken, IsBaseRefusal, with_has};
 ghost use Rattle.recording.specs.Reading.{said_by, bytes_of, HasDigits};
@@ -59,7 +58,7 @@ impl BaseLines {
         ensures row { OnOk result (self.new.row ≡ self.old.row) }
         ensures fault { IfErr result (IsBaseRefusal self.old.base (HasInterfaceLine id interface)) }
     {
-        if !self.base.lsas.is_empty() || !is_past_id(self.base.interfaces.as_slice(), id) {
+        if !is_next_interface(&self.base, id) {
             return Err(Fault::Order);
         }
         let (areas, others) = (
@@ -116,6 +115,22 @@ impl BaseLines {
     }
 }
 
+// Whether an interface may stand behind what there is: no LSA does, and no interface has this id or a greater one.
+fn is_next_interface(base: &Base, id: u8) -> bool
+    ensures { result ≡ (is_none (last_of base.now.lsas) && is_past_id (last_of base.now.interfaces) id) }
+{
+    is_first(base.lsas.as_slice()) && is_past_id(base.interfaces.as_slice(), id)
+}
+
+fn is_first(lsas: &[(Scope, Checked)]) -> bool
+    ensures { result ≡ is_none (last_of lsas.now) }
+{
+    match lsas.last() {
+        None => true,
+        Some(_) => false,
+    }
+}
+
 // Whether an id is greater than that of the last interface.
 fn is_past_id(interfaces: &[(u8, Interface)], id: u8) -> bool
     ensures { result ≡ is_past_id (last_of interfaces.now) id }
@@ -149,7 +164,7 @@ fn unfit_interface(
     interfaces: &[(u8, Interface)],
     interface: Interface,
 ) -> Option<Unfit>
-    ensures { (id : ℕ) → result ≡ unfit_interface areas.now interfaces.now (id, interface) }
+    ensures { result ≡ unfit_interface areas.now interfaces.now interface }
 {
     if lacks_area(areas, interface.area) {
         Some(Unfit::NoArea)
@@ -163,16 +178,31 @@ fn unfit_interface(
 fn lacks_area(areas: &[AreaConfig], id: u32) -> bool
     ensures { result ≡ is_none (place_of areas.now (Scope.Area id)) }
 {
-    areas.iter().position(|area| area.id == id).is_none()
+    place_of(areas, id).is_none()
 }
 
-// Whether an interface that is up has the address of this one, which is up.
-fn shares_address(interfaces: &[(u8, Interface)], interface: Interface) -> bool
-    ensures { (id : ℕ) → result ≡ list_any (λ y. is_same_address y (id, interface)) interfaces.now }
+fn place_of(areas: &[AreaConfig], id: u32) -> Option<usize>
+    ensures { result ≡ place_of areas.now (Scope.Area id) }
 {
-    interfaces.iter().any(|other| other.1.up
-        && interface.up
-        && other.1.address == interface.address)
+    areas.iter().position(|area| area.id == id)
+}
+
+// Whether one of the interfaces is up with the address of this one, which is up.
+fn shares_address(interfaces: &[(u8, Interface)], interface: Interface) -> bool
+    ensures { result ≡ list_any (λ y. has_address interface y.1) interfaces.now }
+{
+    for (_, other) in interfaces {
+        if has_address(interface, *other) {
+            return true;
+        }
+    }
+    false
+}
+
+fn has_address(interface: Interface, other: Interface) -> bool
+    ensures { result ≡ has_address interface other }
+{
+    other.up && interface.up && other.address == interface.address
 }
 
 // Why no event could have made an LSA of the LS type in a scope that has so many already.

@@ -17,8 +17,8 @@ returns-in_default-read_form-clause-end c = λ _.
 pub returns-in-Ok-true-clause-read : goal.returns-in-Ok-true-clause-read
 returns-in-Ok-true-clause-read c =
     let form = said_by c.in-Some-read_form.form in
-    let h = added_base c.requires.read c.in-Some.line.now (left_in c.in-Some.after) c.in-Some.ensures.line form c.in-Some-read_form.ensures.says (sym c.in-Ok-true.ensures.base ∙ c.in-Ok-true.field-0-test) (c.in-Ok-true.ensures.taken c.in-Ok-true.field-0-test) c.add.new.held.base c.in-Ok-true.ensures.new in
-    at_place (λ text taken. HasLines text taken (parts_left c.in-Some.after) (of_base c.args.version c.add.new.held.base)) c.args.lines.text.now c.in-Some.after.text.now (c.args.lines.taken + 1) c.in-Some.after.taken c.in-Some.ensures.text c.in-Some.ensures.taken h
+    let h = added_base c.requires.read c.in-Some.line.now (left_in c.in-Some.after) c.in-Some.ensures.line form c.in-Some-read_form.ensures.says (sym c.in-Ok-true.ensures.base ∙ c.in-Ok-true.field-0-test) (c.in-Ok-true.ensures.taken c.in-Ok-true.field-0-test) c.add.new.self.base c.in-Ok-true.ensures.new in
+    at_place (λ text taken. HasLines text taken (parts_left c.in-Some.after) (of_base c.args.version c.add.new.self.base)) c.args.lines.text.now c.in-Some.after.text.now (c.args.lines.taken + 1) c.in-Some.after.taken c.in-Some.ensures.text c.in-Some.ensures.taken h
 
 pub returns-in-Ok-false-clause-end : goal.returns-in-Ok-false-clause-end
 returns-in-Ok-false-clause-end c = λ _.

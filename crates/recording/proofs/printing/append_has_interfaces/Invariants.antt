@@ -3,5 +3,5 @@ use Rattle.recording.specs.Recordings.{interface_form}
 use Rattle.recording.proofs.Pieces.{Appended}
 use Rattle.recording.proofs.printing.append_has_interfaces.Given as goal
 
-abbrev pub invariant-loop-item : goal.invariant-loop-item
-invariant-loop-item l = Appended (string_bytes l.initial.out) (string_bytes l.out) (map interface_form (take l.item-index l.item-items))
+abbrev pub invariant-loop-id : goal.invariant-loop-id
+invariant-loop-id l = Appended (string_bytes l.initial.out) (string_bytes l.out) (map interface_form (take l.id-index l.id-items))
