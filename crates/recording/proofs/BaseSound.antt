@@ -148,9 +148,9 @@ none_is None h = refl
 none_is (Some x) h = cc
 
 -- what two tests tell of a base in order
-pub sound_told : (b : Base) → IsBaseOrdered b → config_fault_of b.config ≡ None → (r : Bool) → r ≡ is_none (unfit_of standard_limits b) → IsTrue r ↔ (base_fault_of standard_limits b ≡ None)
+pub sound_told : (b : Base) → IsBaseOrdered b → is_none (config_fault_of b.config) ≡ true → (r : Bool) → r ≡ is_none (unfit_of standard_limits b) → IsTrue r ↔ (base_fault_of standard_limits b ≡ None)
 sound_told b ordered config r told = (
-  λ yes. ordered_sound b ordered config (none_is (unfit_of standard_limits b) (sym told ∙ yes)),
+  λ here. ordered_sound b ordered (none_is (config_fault_of b.config) config) (none_is (unfit_of standard_limits b) (sym told ∙ here)),
   λ sound. told ∙ ap is_none (base_parts b sound).1,
 )
 

@@ -188,7 +188,7 @@ module _ {bytes : List ℕ} {l : Lsa} {key : Key} (read : IsReadAs bytes l key) 
   key_refused last at r told other = second_false (is_past_scope last at) _ (past_is last at r told ∙ other)
 
   pub key_taken : (last : Option (Scope × Lsa)) (at : Scope) (r : Bool) → is_past_scope last at ≡ true → r ≡ is_past_place last (at, key) → r ≡ true → is_past_lsa last at bytes ≡ true
-  key_taken last at r scope told yes = and_from _ _ scope (past_is last at r told ∙ yes)
+  key_taken last at r scope told here = and_from _ _ scope (past_is last at r told ∙ here)
 
   pub unfit_told : (areas : List AreaConfig) (lsas : List (Scope × Lsa)) (at : Scope) (row : ℕ) (o : Option Unfit) → row ≡ length (lsas_under lsas at) → o ≡ unfit_under areas at key.kind row → unfit_lsa areas lsas (at, lsa_of bytes) ≡ o
   unfit_told areas lsas at row o counted told =

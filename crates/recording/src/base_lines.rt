@@ -191,8 +191,8 @@ fn place_of(areas: &[AreaConfig], id: u32) -> Option<usize>
 fn shares_address(interfaces: &[(u8, Interface)], interface: Interface) -> bool
     ensures { result ≡ list_any (λ y. has_address interface y.1) interfaces.now }
 {
-    for (_, other) in interfaces {
-        if has_address(interface, *other) {
+    for i in 0..interfaces.len() {
+        if has_address(interface, interfaces[i].1) {
             return true;
         }
     }

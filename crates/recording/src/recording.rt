@@ -1,9 +1,9 @@
 //! A recording as a value.
-ghost use Rattle.std.specs.Prelude.{◌≡◌, ◌↔◌, [], None, All, IfSome, IsNone, IsTrue, map};
+ghost use Rattle.std.specs.Prelude.{◌≡◌, ◌↔◌, [], None, All, IfSome, IsNone, IsTrue, is_none, map};
 ghost use Rattle.std.specs.List.Sorted.{IsStrictlySortedBy};
 ghost use Rattle.std.specs.Ordering.{nat_cmp};
 ghost use Rattle.ospf_types.specs.Network.{network_cmp};
-ghost use Rattle.event_state.specs.BaseFaults.{base_fault_of};
+ghost use Rattle.event_state.specs.BaseFaults.{base_fault_of, unfit_of};
 ghost use Rattle.event_state.specs.Steps.{standard_limits};
 ghost use Rattle.recording.specs.Forms.{IsKind};
 ghost use Rattle.recording.specs.Recordings.{IsRecording, IsBaseOrdered, IsOrdered, AreByIds, AreByPlaces, CanSpell, HasKind, IsLineIn};
@@ -167,7 +167,13 @@ fn is_sound(base: &Base) -> bool
     requires { IsBaseOrdered base.now }
     ensures { IsTrue result ↔ (base_fault_of standard_limits base.now ≡ None) }
 {
-    fault_in(&base.config).is_none() && unfit_in(base, Limits::STANDARD).is_none()
+    fault_in(&base.config).is_none() && is_fit(base)
+}
+
+fn is_fit(base: &Base) -> bool
+    ensures { result ≡ is_none (unfit_of standard_limits base.now) }
+{
+    unfit_in(base, Limits::STANDARD).is_none()
 }
 
 fn interfaces_ascend(interfaces: &[(u8, Interface)]) -> bool
