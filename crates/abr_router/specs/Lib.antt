@@ -1,6 +1,6 @@
-pub use Rattle.engine.specs.Answers
+pub use Rattle.desk.specs.Answers
 pub use Rattle.engine.specs.Bytes
-pub use Rattle.engine.specs.Gates
+pub use Rattle.desk.specs.Gates
 pub use Rattle.engine.specs.Opens
 pub use Rattle.engine.specs.Texts
 pub use Rattle.event_core.specs.Cores
@@ -12,4 +12,7 @@ pub use Rattle.publication.specs.Told
 pub use Rattle.publication.specs.Unseen
 pub use Rattle.route_table.specs.Tables
 pub use Rattle.event_state.specs.Steps
+pub use Rattle.event_state.specs.Bases
+pub use Rattle.event_state.specs.BaseFaults
+pub use Rattle.event_state.specs.Rolls
 pub use Rattle.config_faults.specs.Configs

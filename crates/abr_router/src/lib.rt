@@ -4,9 +4,12 @@
 
 // One thread has a core; threads share an engine, and look up by forwarders.
 pub use engine::{
-    Answer, BytesFault, ConfigFault, Core, Due, DueList, Engine, Event, Forwarder, Gate, Open,
-    OpenFault, Refusal, Refused, Reply, Seen, Standing, Told, Unseen,
+    Answer, Base, BaseFault, BytesFault, ConfigFault, Core, Due, DueList, Engine, Event, Forwarder,
+    Gate, Open, OpenFault, Refusal, Refused, Reply, Seen, Standing, Told, Unfit, Unseen,
 };
+// What a router is opened from again.
+pub use event_state::{Limits, fault_in_base};
+pub use ospf_types::listed::Listed;
 // What the core shows beside its table.
 pub use due_lists::AreaDues;
 pub use event_core::{Dues, Touched, fault_in};

@@ -25,10 +25,11 @@ use std::{fs, io};
 use trial::is_as_wanted;
 
 // The files of rows.
-const FILES: [&str; 10] = [
+const FILES: [&str; 11] = [
     "commands.rows",
     "recordings.rows",
     "versions.rows",
+    "bases.rows",
     "events.rows",
     "routes.rows",
     "summaries.rows",

@@ -1,9 +1,9 @@
 //! Recordings are read, and printed as they were.
 
-use recording::{Recording, parse, print};
+use recording::{Recording, Version, parse, print};
 use std::test::Fail;
 
-// Each form of a line, and each LS type.
+// Each form of a line that every version has, and each LS type.
 const TEXT: &str = "abr 1
 router 10.0.0.1
 area 0.0.0.0 normal
@@ -24,21 +24,49 @@ second
 lookup 255.255.255.255
 ";
 
+// Each form of a line that only version 3 has.
+const BASED: &str = "abr 3
+router 10.0.0.1
+compat enabled
+serial 18446744073709551615
+area 0.0.0.0 normal
+has interface 0 0.0.0.0 192.0.2.1 0.0.0.0 up
+has interface 255 0.0.0.0 198.51.100.1 198.51.100.2 down
+has lsa 0.0.0.0 000102010a0000010a00000180000001e986002400000001c0000200ffffff000300000a
+has lsa as 00010205cb0071000a000002800000010c690024ffffff00800000140000000000000000
+range-set 0.0.0.0 10.0.0.0/8 hide
+range-set 0.0.0.9 11.0.0.0/8 advertise
+range-drop 0.0.0.0 10.0.0.0/8
+roll
+";
+
 // What is printed of the recording behind what is there already.
-fn printed(rt: &HostRuntime, recording: &Recording) -> Result<bool, Fail> {
+fn printed(rt: &HostRuntime, recording: &Recording, text: &str) -> Result<bool, Fail> {
     let mut out = Vec::from_slice(rt.alloc(), b"> ")?;
     print(rt.alloc(), recording, &mut out)?;
-    Ok(out.as_slice().strip_prefix(b"> ".as_slice()) == Some(TEXT.as_bytes()))
+    Ok(out.as_slice().strip_prefix(b"> ".as_slice()) == Some(text.as_bytes()))
 }
 
 #[test]
 fn a_text_is_read_and_printed(rt: HostRuntime) -> Result<(), Fail> {
     let read = parse(rt.alloc(), TEXT.as_bytes())?;
-    let same = printed(&rt, &read)?
+    let same = printed(&rt, &read, TEXT)?
         && read.lines().len() == 11
         && read.config().router == 0x0a00_0001;
-    let (version, config, lines) = read.into_parts();
-    let again = Recording::of(version, config, lines).ok_or("a recording")?;
-    assert!(rt; same && printed(&rt, &again)?);
+    let (version, base, lines) = read.into_parts();
+    let again = Recording::of(version, base, lines).ok_or("a recording")?;
+    assert!(rt; same && printed(&rt, &again, TEXT)?);
+    Ok(())
+}
+
+#[test]
+fn a_base_is_read_and_printed(rt: HostRuntime) -> Result<(), Fail> {
+    let read = parse(rt.alloc(), BASED.as_bytes())?;
+    let same = printed(&rt, &read, BASED)?
+        && read.lines().len() == 4
+        && read.base().serial == u64::MAX
+        && read.base().lsas.len() == 2;
+    let (_, base, lines) = read.into_parts();
+    assert!(rt; same && Recording::of(Version::Two, base, lines).is_none());
     Ok(())
 }

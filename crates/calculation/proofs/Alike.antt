@@ -118,12 +118,12 @@ module _ (s t : State) (looks : LooksAlike s t) (router : t.config.router ≡ s.
       (found.0, later_element other found.0 (areas_with t areas trees) found.1, found.2))
       (first_or_later first a (areas_with s areas trees) c)
 
-module _ (s t : State) (looks : LooksAlike s t) (config : t.config ≡ s.config) where
+module _ (s t : State) (looks : LooksAlike s t) where
   areas_same : t.config.areas ≡ s.config.areas
-  areas_same = ap (λ (c : Config). c.areas) config
+  areas_same = ap (λ (c : Config). c.areas) (sym looks.config)
 
   router_same : t.config.router ≡ s.config.router
-  router_same = ap (λ (c : Config). c.router) config
+  router_same = ap (λ (c : Config). c.router) (sym looks.config)
 
   abbrev over : List AreaTreeValue → List AreaConfig → InputsValue
   over trees areas = record { root = t.config.router; areas = areas_with t areas trees; interfaces = entries t.interfaces }
@@ -148,9 +148,9 @@ module _ (s t : State) (looks : LooksAlike s t) (config : t.config ≡ s.config)
       let routed = intra_right (inputs_of t) (inputs_with t c.trees) c.intra (inputs_are t c.trees fit trees) intra in
       let active : AreRangesOf t.config.areas c.intra.entries c.active = subst (λ (areas : List AreaConfig). AreRangesOf areas c.intra.entries c.active) (sym areas_same) is.active in
       let ranged = ranges_right (inputs_of t) t.config.areas c.intra.entries c.active (configured t t.config.areas) routed.entries active in
-      let examined = inter_alike s t looks config c.intra c.active is.examined is.examined_is c.inter is.inter in
+      let examined = inter_alike s t looks c.intra c.active is.examined is.examined_is c.inter is.inter in
       let between = inter_right (inputs_of t) (inter_inputs t examined.0 c.intra c.active) (inter_are t fit c.intra c.active routed ranged examined.0 examined.1) c.inter examined.2 in
-      let external = external_alike s t looks config c.intra c.active c.inter c.external is.external in
+      let external = external_alike s t looks c.intra c.active c.inter c.external is.external in
       record {
         fit = fit;
         trees = trees;
@@ -167,5 +167,5 @@ module _ (s t : State) (looks : LooksAlike s t) (config : t.config ≡ s.config)
       }
 
 -- an event that changed nothing that is used leaves right what is kept
-pub calculation_alike : (s t : State) (c : CalculationValue) → LooksAlike s t → t.config ≡ s.config → AreFit t.config.areas t.databases → IsCalculationOf s c → IsCalculationOf t c
-calculation_alike s t c looks config fit is = kept_right s t looks config c fit is
+pub calculation_alike : (s t : State) (c : CalculationValue) → LooksAlike s t → AreFit t.config.areas t.databases → IsCalculationOf s c → IsCalculationOf t c
+calculation_alike s t c looks fit is = kept_right s t looks c fit is

@@ -93,17 +93,17 @@ module _ (d e : Database) (alike : (key : Key) → body_at e key ≡ body_at d k
 -- ---- states that look alike
 
 pub looks_back : (s t : State) → LooksAlike s t → LooksAlike t s
-looks_back s t looks = record { usable = λ at key. sym (looks.usable at key); interfaces = sym looks.interfaces }
+looks_back s t looks = record { config = sym looks.config; usable = λ at key. sym (looks.usable at key); interfaces = sym looks.interfaces }
 
 pub bodies_alike : (s t : State) → LooksAlike s t → (at : Scope) (key : Key) → body_at (lsas_in (database_of t at)) key ≡ body_at (lsas_in (database_of s at)) key
 bodies_alike s t looks at key = body_used t at key ∙ ap (option_map (λ (used : ℕ × Body). used.1)) (sym (looks.usable at key)) ∙ sym (body_used s at key)
 
-module _ (s t : State) (looks : LooksAlike s t) (config : t.config ≡ s.config) where
+module _ (s t : State) (looks : LooksAlike s t) where
   up_alike : (area : ℕ) → IsUpIn s area → IsUpIn t area
   up_alike area = subst (λ (m : FinMap nat_cmp Interface). IsUpIn (record t { interfaces = m }) area) looks.interfaces
 
   config_alike : (b : AreaConfig) → Contains s.config.areas b → Contains t.config.areas b
-  config_alike b = subst (λ (areas : List AreaConfig). Contains areas b) (sym (ap (λ (c : Config). c.areas) config))
+  config_alike b = subst (λ (areas : List AreaConfig). Contains areas b) (ap (λ (c : Config). c.areas) looks.config)
 
   active_alike : (a : Area) → IsActive (inputs_of s) a → (b : Area) × IsActive (inputs_of t) b × (b.id ≡ a.id)
   active_alike a active = let w = active_from s a active in (area_of t w.0, active_in t w.0 (config_alike w.0 w.1) (up_alike w.0.id w.3), w.2)
@@ -124,20 +124,20 @@ module _ (s t : State) (looks : LooksAlike s t) (config : t.config ≡ s.config)
     | inr alone ↦ let w = active_alike a alone.0 in (w.0, record { area = w.1.0; which = inr (w.1, λ border. alone.1 (back border)) }, w.2)
   ]
 
-module _ (s t : State) (looks : LooksAlike s t) (config : t.config ≡ s.config) (intra : IntraValue) (active : ActiveValue) where
+module _ (s t : State) (looks : LooksAlike s t) (intra : IntraValue) (active : ActiveValue) where
   router_alike : s.config.router ≡ t.config.router
-  router_alike = sym (ap (λ (c : Config). c.router) config)
+  router_alike = ap (λ (c : Config). c.router) looks.config
 
   pub inter_alike : (o : Option ExaminedValue) → IsExaminedOf s o → (w : InterValue) → IsInterOf (inter_inputs s o intra active) w → (q : Option ExaminedValue) × IsExaminedOf t q × IsInterOf (inter_inputs t q intra active) w
   inter_alike None none w is = (
     None,
-    λ a examined. let b = examined_alike t s (looks_back s t looks) (sym config) (border_alike s t looks config) a examined in none b.0 b.1,
+    λ a examined. let b = examined_alike t s (looks_back s t looks) (border_alike s t looks) a examined in none b.0 b.1,
     subst (λ (r : ℕ). IsInterOf (record { root = r; examined = None; intra = intra; active = active }) w) router_alike is,
   )
   inter_alike (Some x) there w is =
       let e : Database = lsas_in (database_of t (scope.Area x.area)) in
       let y : ExaminedValue = record { area = x.area; lsas = e } in
-      let a = examined_alike s t looks config (border_alike t s (looks_back s t looks) (sym config)) there.0.0 there.0.1 in
+      let a = examined_alike s t looks (border_alike t s (looks_back s t looks)) there.0.0 there.0.1 in
       let alike : (key : Key) → body_at e key ≡ body_at x.lsas key = λ key. bodies_alike s t looks (scope.Area x.area) key ∙ sym (ap (λ (d : Database). body_at d key) there.1) in (
         Some y,
         ((a.0, a.1, a.2 ∙ there.0.2), refl),
@@ -148,5 +148,5 @@ module _ (s t : State) (looks : LooksAlike s t) (config : t.config ≡ s.config)
   external_alike inter w is =
       let d : Database = lsas_in (database_of s scope.As) in
       let e : Database = lsas_in (database_of t scope.As) in
-      subst (λ (c : Config). IsExternalOf (record { root = c.router; compat = c.compat; areas = map (λ (a : AreaConfig). a.id) c.areas; lsas = e; intra = intra; active = active; inter = inter }) w) (sym config)
+      subst (λ (c : Config). IsExternalOf (record { root = c.router; compat = c.compat; areas = map (λ (a : AreaConfig). a.id) c.areas; lsas = e; intra = intra; active = active; inter = inter }) w) looks.config
       (externals_alike d e (bodies_alike s t looks scope.As) s.config.router intra active s.config.compat (map (λ (a : AreaConfig). a.id) s.config.areas) inter w is)

@@ -2,8 +2,8 @@
 --   due_right: it is what the definitions say
 --   due_alike: it is that of a state that looks alike
 --   due_before: what it rests on differs in no more than is named
-use Rattle.std.proofs.Common.{◌≡◌, ℕ, List, [], ◌∷◌, map, Some, refl, sym, ap, subst, ◌∙◌}
-use Rattle.std.specs.Prelude.{◌↔◌, IsTrue}
+use Rattle.std.proofs.Common.{◌≡◌, ℕ, Bool, true, false, List, [], ◌∷◌, map, Some, None, refl, sym, ap, subst, ◌∙◌}
+use Rattle.std.specs.Prelude.{◌↔◌, IsTrue, if◌then◌else◌}
 use Rattle.std.specs.Cmp.{nat_cmp_total}
 use Rattle.std.specs.FinMap.{entries}
 use Rattle.std.specs.List.{Contains}
@@ -12,7 +12,8 @@ use Rattle.ospf_types.specs.declared.config.Config.{Config}
 use Rattle.ospf_types.specs.declared.config.Interface.{Interface}
 use Rattle.ospf_types.specs.declared.key.Dest.{Dest}
 use Rattle.ospf_types.specs.Inputs.{Area, IsActive}
-use Rattle.dues.specs.Changes.{InputsDifferAmong}
+use Rattle.ospf_types.proofs.RangeChanges.{areas_kept}
+use Rattle.dues.specs.Changes.{MayDiffer}
 use Rattle.dues.specs.Dues.{DuesValue, AreDuesOf}
 use Rattle.dues.specs.Inputs.{DueInputsValue}
 use Rattle.dues.specs.Right.{AreConfigured, AreInputsOf, IsRightFor}
@@ -21,7 +22,7 @@ use Rattle.event_state.specs.States.{State, LooksAlike, inputs_of}
 use Rattle.calculation.specs.Calculations.{CalculationValue, IsCalculationOf}
 use Rattle.route_layers.specs.Layers.{IsUpIn}
 use Rattle.route_layers.specs.Layers.{AreActiveIn, AreActive}
-use Rattle.calculation.specs.Due.{AreDuesFor, RoutesDifferAmong, due_inputs}
+use Rattle.calculation.specs.Due.{AreDuesFor, DuesDifferAmong, due_inputs}
 use Rattle.state_trees.specs.Works.{area_of}
 use Rattle.route_layers.proofs.Above.{apart_areas}
 use Rattle.route_layers.proofs.Examining.{active_in, active_from}
@@ -60,9 +61,9 @@ pub due_right : (s : State) (c : CalculationValue) (w : DuesValue) → IsCalcula
 due_right s c w is due = dues_right (inputs_of s) (due_inputs s due.0 c) w (due_are s due.0 due.1 c is) due.2
 
 -- it rests on the configuration, the interfaces and what is kept alone
-pub due_alike : (s t : State) (c : CalculationValue) (w : DuesValue) → LooksAlike s t → t.config ≡ s.config → AreDuesFor s c w → AreDuesFor t c w
-due_alike s t c w looks config due =
-    let areas : s.config.areas ≡ t.config.areas = ap (λ (k : Config). k.areas) (sym config) in
+pub due_alike : (s t : State) (c : CalculationValue) (w : DuesValue) → LooksAlike s t → AreDuesFor s c w → AreDuesFor t c w
+due_alike s t c w looks due =
+    let areas : s.config.areas ≡ t.config.areas = ap (λ (k : Config). k.areas) looks.config in
     let there : (area : ℕ) → IsUpIn s area → IsUpIn t area = λ area up.
     subst (λ (list : List (ℕ × Interface)). (id : ℕ) × (i : Interface) × Contains list (id, i) × (i.area ≡ area) × IsTrue i.up) (ap entries looks.interfaces) up in
     let back : (area : ℕ) → IsUpIn t area → IsUpIn s area = λ area up.
@@ -77,16 +78,18 @@ due_alike s t c w looks config due =
     )
 
 -- what it rests on differs in no more than is named
-pub due_before : (s t : State) (dests : List Dest) (old new : CalculationValue) (w : DuesValue) (active : List ℕ) → AreDuesFor s old w → t.config ≡ s.config → RoutesDifferAmong dests old new
-    → (before : DueInputsValue) × AreDuesOf before w × InputsDifferAmong dests before (due_inputs t active new)
-due_before s t dests old new w active due config routes = (
-  due_inputs s due.0 old,
-  due.2,
-  record {
-    areas = ap (λ (k : Config). k.areas) config;
-    intra = routes.intra;
-    members = routes.members;
-    inter = routes.inter;
-    preferred = routes.preferred;
-  },
-)
+pub due_before : (s t : State) (dests : List Dest) (ranged : Bool) (old new : CalculationValue) (w : DuesValue) (active : List ℕ) → AreDuesFor s old w → DuesDifferAmong dests ranged s t old new
+    → (before : DueInputsValue) × AreDuesOf before w × MayDiffer (if ranged then None else Some dests) before (due_inputs t active new)
+due_before s t dests true old new w active due differ = (due_inputs s due.0 old, due.2, areas_kept t.config s.config differ.areas)
+due_before s t dests false old new w active due differ =
+    let routes = differ.routes refl in (
+      due_inputs s due.0 old,
+      due.2,
+      record {
+        areas = ap (λ (k : Config). k.areas) (differ.ranges refl);
+        intra = routes.intra;
+        members = routes.members;
+        inter = routes.inter;
+        preferred = routes.preferred;
+      },
+    )

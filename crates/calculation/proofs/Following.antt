@@ -2,7 +2,7 @@
 --   ranges_before, inter_before, external_before: what each layer was calculated from differs in no more than was answered
 --   items_kept: a network that no layer named has its item still
 --   routes_kept: and what is due rests on the same routes, where no layer named them
-use Rattle.std.proofs.Common.{◌≡◌, ℕ, List, ◌++◌, map, Option, Some, None, sym, ap, subst, ◌∙◌}
+use Rattle.std.proofs.Common.{◌≡◌, ℕ, Bool, true, false, List, ◌++◌, map, Option, Some, None, sym, ap, subst, ◌∙◌}
 use Rattle.std.specs.Prelude.{◌↔◌}
 use Rattle.std.specs.FinMap.{get}
 use Rattle.std.specs.List.{Contains}
@@ -16,6 +16,7 @@ use Rattle.ospf_types.specs.declared.key.Key.{Key}
 use Rattle.ospf_types.specs.declared.key.Scope.{Scope}
 use Rattle.ospf_types.specs.declared.prefix.Prefix.{Prefix}
 use Rattle.ospf_types.proofs.Elements.{mapped_element}
+use Rattle.ospf_types.proofs.RangeChanges.{areas_kept, ids_kept}
 use Rattle.area_trees.specs.Areas.{AreaTreeValue}
 use Rattle.intra.specs.Changes.{DiffersAt}
 use Rattle.intra.specs.Intras.{AreaIntraValue, IntraValue, EntriesByPrefix, IsIntraOf, reached_at}
@@ -36,6 +37,7 @@ use Rattle.state_trees.specs.Trees.{StatesDifferAmong, AreTreesOf, inputs_with}
 use Rattle.route_layers.specs.Layers.{IsExaminedOf, inter_inputs, external_inputs}
 use Rattle.calculation.specs.Followed.{routers_in}
 use Rattle.calculation.proofs.Networks.{routers_within}
+use Rattle.state_trees.proofs.OtherRanges.{any_ranges}
 use Rattle.route_layers.proofs.Above.{kept_ids, inter_differ, external_differ}
 use Rattle.calculation.proofs.Staying.{networks_stay, routers_stay, ranges_stay, inter_stays, external_stays, preferred_stays}
 
@@ -45,18 +47,21 @@ item_same entry other active also same there back None is = (same ∙ is.0, λ a
 item_same entry other active also same there back (Some (Route e)) is = same ∙ is
 item_same entry other active also same there back (Some Discard) is = (same ∙ is.0, there is.1)
 
-module _ (s t : State) (keys : List (Scope × Key)) (ids : List ℕ) (differ : StatesDifferAmong keys ids s t) (c : CalculationValue) (is : IsCalculationOf s c)
+module _ (s t : State) (keys : List (Scope × Key)) (ids : List ℕ) (ranged : Bool) (differ : StatesDifferAmong keys ids ranged s t) (c : CalculationValue) (is : IsCalculationOf s c)
     (trees : List AreaTreeValue) (grown : AreTreesOf t t.config.areas trees) (intra : IntraValue) (kept : IsIntraOf (inputs_with t trees) intra)
     (dests : List Dest) (exact : (d : Dest) → Contains dests d ↔ DiffersAt c.intra intra d) where
-  areas_same : t.config.areas ≡ s.config.areas
-  areas_same = ap (λ (k : Config). k.areas) differ.config
+  areas_same : ranged ≡ false → t.config.areas ≡ s.config.areas
+  areas_same unranged = ap (λ (k : Config). k.areas) (differ.ranges unranged)
 
-  pub ranges_before : (before : EntriesByPrefix) × AreRangesOf t.config.areas before c.active × EntriesDifferAmong dests before intra.entries
-  ranges_before = (c.intra.entries, subst (λ (areas : List AreaConfig). AreRangesOf areas c.intra.entries c.active) (sym areas_same) is.active, networks_stay c.intra intra dests exact)
+  alike : StatesDifferAmong keys ids true s t
+  alike = any_ranges s t keys ids ranged differ
+
+  pub ranges_before : ranged ≡ false → (before : EntriesByPrefix) × AreRangesOf t.config.areas before c.active × EntriesDifferAmong dests before intra.entries
+  ranges_before unranged = (c.intra.entries, subst (λ (areas : List AreaConfig). AreRangesOf areas c.intra.entries c.active) (sym (areas_same unranged)) is.active, networks_stay c.intra intra dests exact)
 
   ids_same : map (λ (i : AreaIntraValue). i.id) intra.areas ≡ map (λ (i : AreaIntraValue). i.id) c.intra.areas
   ids_same =
-      kept_ids t t.config.router t.config.areas trees intra.areas grown kept.areas ∙ ap (λ (areas : List AreaConfig). map (λ (a : AreaConfig). a.id) areas) areas_same
+      kept_ids t t.config.router t.config.areas trees intra.areas grown kept.areas ∙ ids_kept t.config.areas s.config.areas (areas_kept t.config s.config differ.areas)
       ∙ sym (kept_ids s s.config.router s.config.areas c.trees c.intra.areas is.trees is.intra.areas)
 
   module _ (active : ActiveValue) (prefixes : List Prefix) (turned : (p : Prefix) → Contains prefixes p ↔ RangeDiffers c.active active p) (below : List Dest) (below_is : below ≡ dests ++ map Net prefixes) where
@@ -78,7 +83,7 @@ module _ (s t : State) (keys : List (Scope × Key)) (ids : List ℕ) (differ : S
     inter_before = (
       inter_inputs s is.examined c.intra c.active,
       is.inter,
-      λ examined at. inter_differ s t keys ids differ below c.intra intra c.active active networks ranges routers is.examined examined is.examined_is at,
+      λ examined at. inter_differ s t keys ids alike below c.intra intra c.active active networks ranges routers is.examined examined is.examined_is at,
     )
 
     module _ (inter : InterValue) (others : List Dest) (changed : (d : Dest) → Contains others d ↔ InterDiffers c.inter inter d) (more : List Dest) (more_is : more ≡ below ++ others) where
@@ -92,7 +97,7 @@ module _ (s t : State) (keys : List (Scope × Key)) (ids : List ℕ) (differ : S
       external_before = (
         external_inputs s c.intra c.active c.inter,
         is.external,
-        external_differ s t keys ids differ more c.intra intra c.active active (λ p not. networks p (lower (Net p) not)) (λ p not. ranges p (lower (Net p) not)) (λ r not. routers r (lower (Router r) not)) c.inter inter between,
+        external_differ s t keys ids alike more c.intra intra c.active active (λ p not. networks p (lower (Net p) not)) (λ p not. ranges p (lower (Net p) not)) (λ r not. routers r (lower (Router r) not)) c.inter inter between,
       )
 
       module _ (external : ExternalValue) (last : List Dest) (renewed : (d : Dest) → Contains last d ↔ ExternalDiffers c.external external d) (over : List Dest) (over_is : over ≡ more ++ routers_in last) where
@@ -118,9 +123,9 @@ module _ (s t : State) (keys : List (Scope × Key)) (ids : List ℕ) (differ : S
             let both = ranges p not_below in
             item_same (entry_at c p) (entry_at now p) (IsActiveIn c.active p) (IsActiveIn active p) (λ i. entry_else (first i) (entry_else (second i) (third i))) both.1 both.0 item
 
-        pub routes_kept : AreRangesOf t.config.areas intra.entries active → RoutesDifferAmong over c now
-        routes_kept are =
-            let before : AreRangesOf t.config.areas c.intra.entries c.active = subst (λ (areas : List AreaConfig). AreRangesOf areas c.intra.entries c.active) (sym areas_same) is.active in
+        pub routes_kept : AreRangesOf t.config.areas intra.entries active → ranged ≡ false → RoutesDifferAmong over c now
+        routes_kept are unranged =
+            let before : AreRangesOf t.config.areas c.intra.entries c.active = subst (λ (areas : List AreaConfig). AreRangesOf areas c.intra.entries c.active) (sym (areas_same unranged)) is.active in
             record {
               intra = λ p not. networks p (lower (Net p) (not_more (Net p) not));
               members = members_stay t.config.areas over c.intra.entries intra.entries c.active active before are (λ p not. networks p (lower (Net p) (not_more (Net p) not)));

@@ -6,3 +6,4 @@ pub mod Alike
 pub mod Following
 pub mod Due
 pub use Rattle.state_trees.proofs.InputsAre
+pub use Rattle.state_trees.proofs.OtherRanges

@@ -1,5 +1,5 @@
 -- The trees of the areas, followed from one state to another.
-use Rattle.std.specs.Prelude.{List, [], ◌∷◌}
+use Rattle.std.specs.Prelude.{Bool, List, [], ◌∷◌}
 use Rattle.ospf_types.specs.declared.key.Dest.{Dest}
 use Rattle.ospf_types.specs.declared.key.Dest.TheVariants.{Net, Router}
 use Rattle.area_trees.specs.Areas.{AreaTreeValue}
@@ -10,8 +10,8 @@ use Rattle.calculation.specs.Calculations.{CalculationValue, IsCalculationOf}
 use Rattle.state_trees.specs.Trees.{inputs_with, StatesDifferAmong}
 
 -- the layers of routes are those of a state before, of which no more differs than is named, but the trees have followed already
-abbrev pub AreLayersBehind : State → Dirty → CalculationValue → Type 0
-AreLayersBehind t dirty c = (s : State) × (trees : List AreaTreeValue) × IsCalculationOf s (record c { trees = trees }) × StatesDifferAmong dirty.keys.items dirty.interfaces.items s t
+abbrev pub AreLayersBehind : State → Dirty → Bool → CalculationValue → Type 0
+AreLayersBehind t dirty ranged c = (s : State) × (trees : List AreaTreeValue) × IsCalculationOf s (record c { trees = trees }) × StatesDifferAmong dirty.keys.items dirty.interfaces.items ranged s t
     × InputsDifferAmong dirty.keys.items dirty.vertices.items dirty.interfaces.items (inputs_with s trees) (inputs_with t c.trees)
 
 -- the routers among the destinations

@@ -1,16 +1,19 @@
-ghost use Rattle.std.specs.Prelude.{◌≡◌, ◌≤◌, ◌↔◌, ◌++◌, List, Option, None, Contains, OnOk, IfOk, option_copied, map as list_map};
+ghost use Rattle.std.specs.Prelude.{◌≡◌, ◌≤◌, ◌↔◌, ◌++◌, false, if◌then◌else◌, List, Option, Some, None, Contains, OnOk, IfOk, option_copied, option_map, map as list_map};
 ghost use Rattle.std.specs.List.Sorted.{IsStrictlySortedBy};
 ghost use Rattle.ospf_types.specs.declared.key.Dest.{Dest as DestValue};
 ghost use Rattle.ospf_types.specs.declared.key.Dest.TheVariants as dest_value;
 ghost use Rattle.ospf_types.specs.declared.prefix.Prefix.{Prefix as PrefixValue};
+ghost use Rattle.ospf_types.specs.Inputs.{Inputs as Definitions};
 ghost use Rattle.ospf_types.specs.Keys.{dest_cmp};
 ghost use Rattle.ospf_types.specs.Network.{network_cmp};
 ghost use Rattle.spf.specs.Touched.{Touched as TouchedValue};
 ghost use Rattle.vertex_graph.specs.Graphs.{most_routers};
 ghost use Rattle.intra.specs.Changes.{InputsDifferAmong, DiffersAt};
 ghost use Rattle.intra.specs.Inputs.{InputsValue};
-ghost use Rattle.intra.specs.Intras.{IsIntraOf};
+ghost use Rattle.intra.specs.Intras.{EntriesByPrefix, IsIntraOf};
 ghost use Rattle.intra.specs.Right.{IsRightFor};
+ghost use Rattle.summaries.specs.Active.{AreRangesOf, DiffersAt as RangeDiffers, EntriesDifferAmong};
+ghost use Rattle.summaries.specs.Right.{AreConfigured, IsRightFor as AreRangesRight};
 ghost use Rattle.dues.specs.Carrying.{IsCarriedOut, IsReady};
 ghost use Rattle.dues.specs.Dues.{DuesValue, lists_of};
 ghost use Rattle.route_table.specs.declared.table.Item.{Item as ItemValue};
@@ -18,7 +21,7 @@ ghost use Rattle.event_state.specs.Held.{AreFit};
 ghost use Rattle.event_state.specs.States.{AreApart, State as StateValue, inputs_of};
 ghost use Rattle.calculation.specs.Calculations.{CalculationValue, IsCalculationOf, IsItemOf, IsTableOf, AreItemsKept, entry_at};
 ghost use Rattle.state_trees.specs.Trees.{StatesDifferAmong, AreTreesOf, inputs_with};
-ghost use Rattle.calculation.specs.Due.{AreDuesFor, RoutesDifferAmong, due_inputs};
+ghost use Rattle.calculation.specs.Due.{AreDuesFor, DuesDifferAmong, RoutesDifferAmong, due_inputs};
 ghost use Rattle.calculation.specs.Followed.{AreLayersBehind, routers_in};
 ghost use Rattle.state_trees.specs.Works.{IsEventWork, AreWorksForAll, IsTotal};
 
@@ -28,6 +31,7 @@ use event_state::State;
 use external::External;
 use inter::Inter;
 use intra::{Dirty, Inputs, Intra};
+use ospf_types::config::AreaConfig;
 use ospf_types::entry::Entry;
 use ospf_types::key::{Dest, Key, Scope};
 use ospf_types::memory::Memory;
@@ -45,7 +49,7 @@ use summaries::ActiveRanges;
 pub struct Changed {
     /// Networks, ascending, each once: the table has another item for these alone, if for all.
     pub networks: Vec<Prefix>,
-    /// Destinations: what is due to others rests on the same routes as before.
+    /// Destinations: what is due to others rests on the same routes as before, where ranges do not differ.
     pub dests: Vec<Dest>,
     /// The work of repairing the trees.
     pub work: Touched,
@@ -127,22 +131,23 @@ impl Calculation {
         Ok((calculation, work))
     }
 
-    /// Follows the state, which differs from the one before in these LSAs or in these interfaces. After an error what is
-    /// kept is of no use any more.
+    /// Follows the state, which differs from the one before in these LSAs or in these interfaces, and where it is `ranged`
+    /// may have other ranges. After an error what is kept is of no use any more.
     pub fn follow(
         &mut self,
         alloc: Global,
         state: &State,
         keys: Vec<(Scope, Key)>,
         ids: Vec<u8>,
+        ranged: bool,
     ) -> Result<Changed, Memory>
         requires few { state.now.limits.area_lsas ≤ most_routers }
-        requires before { (before : StateValue) × IsCalculationOf before self.old × StatesDifferAmong keys.items ids.items before state.now }
+        requires before { (before : StateValue) × IsCalculationOf before self.old × StatesDifferAmong keys.items ids.items ranged before state.now }
         ensures right { OnOk result (IsCalculationOf state.now self.new) }
         ensures in_order { IfOk result (λ told. IsStrictlySortedBy network_cmp told.networks.items) }
         ensures items { IfOk result (λ told. AreItemsKept told.networks.items self.old self.new) }
-        ensures routes { IfOk result (λ told. RoutesDifferAmong told.dests.items self.old self.new) }
-        ensures work { IfOk result (λ told. (before : StateValue) → IsCalculationOf before self.old → StatesDifferAmong keys.items ids.items before state.now → IsEventWork before state.now told.work) }
+        ensures routes { IfOk result (λ told. ranged ≡ false → RoutesDifferAmong told.dests.items self.old self.new) }
+        ensures work { IfOk result (λ told. (before : StateValue) → IsCalculationOf before self.old → StatesDifferAmong keys.items ids.items ranged before state.now → IsEventWork before state.now told.work) }
     {
         let mut vertices = Vec::new(alloc);
         let work = follow_trees(alloc, &mut self.trees, state, &keys, &ids, &mut vertices)?;
@@ -152,7 +157,7 @@ impl Calculation {
             interfaces: ids,
             dests: Vec::new(alloc),
         };
-        let networks = self.follow_layers(alloc, state, &mut dirty)?;
+        let networks = self.follow_layers(alloc, state, &mut dirty, ranged)?;
         let dests = dirty.dests;
         Ok(Changed {
             networks,
@@ -170,21 +175,24 @@ impl Calculation {
     }
 
     /// What is to change in due summaries that were those of the same configuration and of routes that differ in no more
-    /// than these destinations name. Their lists stay, and get room for it.
+    /// than these destinations name; or where it is `ranged`, of other ranges and of any routes. Their lists stay, and get
+    /// room for it.
     pub fn plan_dues(
         &self,
         alloc: Global,
         state: &State,
         dues: &mut Dues,
         dests: &[Dest],
+        ranged: bool,
     ) -> Result<Plan, Memory>
-        requires before { (before : StateValue) × (old : CalculationValue) × AreDuesFor before old dues.old × (state.now.config ≡ before.config) × RoutesDifferAmong dests.now old self.now }
+        requires before { (before : StateValue) × (old : CalculationValue) × AreDuesFor before old dues.old × DuesDifferAmong dests.now ranged before state.now old self.now }
         ensures unchanged { lists_of dues.new ≡ lists_of dues.old }
         ensures ready { IfOk result (λ plan. IsReady plan dues.new) }
         ensures kept { IfOk result (λ plan. (after : DuesValue) → IsCarriedOut plan dues.new after → AreDuesFor state.now self.now after) }
     {
         let active = active_areas(alloc, state)?;
-        let (plan, _) = dues.plan(alloc, &self.due_inputs(state, &active), dests)?;
+        let named = named_unless(ranged, dests);
+        let (plan, _) = dues.plan(alloc, &self.due_inputs(state, &active), named)?;
         Ok(plan)
     }
 
@@ -225,17 +233,19 @@ impl Calculation {
         alloc: Global,
         state: &State,
         dirty: &mut Dirty,
+        ranged: bool,
     ) -> Result<Vec<Prefix>, Memory>
         requires trees { AreTreesOf state.now state.now.config.areas self.old.trees }
-        requires before { AreLayersBehind state.now dirty.old self.old }
+        requires before { AreLayersBehind state.now dirty.old ranged self.old }
         ensures right { OnOk result (IsCalculationOf state.now self.new) }
         ensures in_order { IfOk result (λ networks. IsStrictlySortedBy network_cmp networks.items) }
         ensures items { IfOk result (λ networks. AreItemsKept networks.items self.old self.new) }
-        ensures routes { OnOk result (RoutesDifferAmong dirty.new.dests.items self.old self.new) }
+        ensures routes { OnOk result (ranged ≡ false → RoutesDifferAmong dirty.new.dests.items self.old self.new) }
     {
         let areas = state.config().areas.as_slice();
         let dests = follow_intra(alloc, &mut self.intra, state, &self.trees, dirty)?;
-        let ranges = self.active.update(alloc, areas, &self.intra, &dests)?;
+        let active = &mut self.active;
+        let ranges = follow_ranges(alloc, active, areas, &self.intra, &dests, ranged)?;
         dirty.dests = dests;
         push_networks(&ranges, &mut dirty.dests)?;
         let inter = &mut self.inter;
@@ -316,6 +326,33 @@ fn follow_intra(
         interfaces: &interfaces,
     };
     intra.update(alloc, &inputs, dirty)
+}
+
+// The active ranges follow the routes, of which those to the named networks may differ, or other ranges of the areas.
+fn follow_ranges(
+    alloc: Global,
+    active: &mut ActiveRanges,
+    areas: &[AreaConfig],
+    intra: &Intra,
+    dests: &[Dest],
+    ranged: bool,
+) -> Result<Vec<Prefix>, Memory>
+    requires before { ranged ≡ false → (before : EntriesByPrefix) × AreRangesOf areas.now before active.old × EntriesDifferAmong dests.now before intra.now.entries }
+    ensures kept { OnOk result (AreRangesOf areas.now intra.now.entries active.new) }
+    ensures right { OnOk result ((s : Definitions) → AreConfigured s.areas areas.now → IsRightFor s intra.now → AreRangesRight s active.new) }
+    ensures exact { IfOk result (λ prefixes. (p : PrefixValue) → Contains prefixes.items p ↔ RangeDiffers active.old active.new p) }
+{
+    if ranged {
+        return active.reconfigure(alloc, areas, intra);
+    }
+    active.update(alloc, areas, intra, dests)
+}
+
+// The destinations, unless ranges may differ: then none are named.
+fn named_unless<'a>(ranged: bool, dests: &'a [Dest]) -> Option<&'a [Dest]>
+    ensures { option_map (λ named. named.now) result ≡ (if ranged then None else Some dests.now) }
+{
+    if ranged { None } else { Some(dests) }
 }
 
 // The routes of the state and the trees.

@@ -1,5 +1,5 @@
 -- What `abr one` answers, from what its words say.
-use Rattle.std.proofs.Common.{◌≡◌, ◌⊎◌, ◌∙◌, ◌++◌, List, ℕ, Ok, ap, sym, subst, inl, inr, codes, append_assoc}
+use Rattle.std.proofs.Common.{◌≡◌, ◌⊎◌, ◌∙◌, ◌++◌, List, ℕ, Ok, ap, sym, inl, inr, codes, append_assoc}
 use Rattle.std.specs.Prelude.{decimal}
 use Rattle.hex.specs.Hex.{decode_of}
 use Rattle.ospf_types.specs.Lsa.{Lsa}

@@ -11,6 +11,7 @@ use Rattle.route_table.specs.declared.table.Match.{Match}
 use Rattle.event_state.specs.declared.refusal.Refusal.{Refusal}
 use Rattle.config_faults.specs.Configs.{config_fault_of}
 use Rattle.engine.specs.Cores.{IsFaultOf}
+use Rattle.event_state.specs.Bases.{bare}
 use Rattle.event_state.specs.Steps.{standard_limits}
 use Rattle.event_state.specs.Refusals.{IsRefusalOf}
 use Rattle.engine.specs.Right.{IsRight}
@@ -67,11 +68,11 @@ both_events g = interface_event g ∷ install_event g ∷ []
 
 -- the state after such events
 abbrev pub state_after : Given → List Event → State
-state_after g events = run_of (config_of g) standard_limits events
+state_after g events = run_of (bare (config_of g)) standard_limits events
 
 -- each of the two events is taken, and the table is right for them
 pub record IsTableOf (g : Given) (t : TableValue) : Type 0 where
-  pub legal : IsLegalList (config_of g) standard_limits (both_events g)
+  pub legal : IsLegalList (bare (config_of g)) standard_limits (both_events g)
   pub right : IsRight (state_after g (both_events g)) t
 
 -- `lookup`, the address as it was given, how many events the table follows, and the match
@@ -89,7 +90,7 @@ pub record Prints (g : Given) (line : List ℕ) : Type 0 where
 -- the line has the match of the address in a table that was seen, which follows two events
 pub record PrintsSeen (s : Sighted) (line : List ℕ) : Type 0 where
   pub both : length s.list ≡ 2
-  pub right : IsTableFor s.name.config s.list s.table
+  pub right : IsTableFor s.name.base s.list s.table
   pub found : Match
   pub matched : IsMatch s.table.items s.address found
   pub printed : line ≡ lookup_line (address_text s.address) s.table found

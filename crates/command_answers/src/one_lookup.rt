@@ -1,8 +1,10 @@
 //! The command `one`.
-ghost use Rattle.std.specs.Prelude.{◌≡◌, ◌⊎◌, ◌<◌, ◌++◌, [], ◌∷◌, length, None, IfOk, IfErr, string_bytes};
+ghost use Rattle.std.specs.Prelude.{◌≡◌, ◌⊎◌, ◌↔◌, ◌<◌, ◌++◌, [], ◌∷◌, length, None, IfOk, IfErr, IsTrue, string_bytes};
+ghost use Rattle.event_state.specs.Bases.{bare};
 ghost use Rattle.event_state.specs.Steps.{refusal_of};
+ghost use Rattle.event_state.specs.declared.refusal.Refusal.TheVariants.{JournalFull};
 ghost use Rattle.config_faults.specs.Configs.{config_fault_of};
-ghost use Rattle.engine.specs.Answers.{after};
+ghost use Rattle.desk.specs.Answers.{after};
 ghost use Rattle.command_answers.specs.Answers.{Tells, value_of};
 ghost use Rattle.command_line.specs.Command.{texts_of};
 ghost use Rattle.command_answers.specs.One.{Answer as HasLine, HasLearned, IsFault, IsEngineFault, IsOpenFault, IsStepFault, IsOneAnswer, Prints, PrintsSeen, Say, both_events, config_of, given_by, one_area};
@@ -12,7 +14,7 @@ use crate::command_fault::CommandFault;
 use crate::telling::tell;
 use crate::words::{OneInput, read_one};
 use command_line::OneWords;
-use engine::{Answer as Taken, Engine, Event, Forwarder, OpenFault, Refused, Seen, Told};
+use engine::{Answer as Taken, Engine, Event, Forwarder, OpenFault, Refusal, Refused, Seen, Told};
 use lsa_codec::Checked;
 use ospf_types::address::Address;
 use ospf_types::config::{AreaConfig, Areas, Config, Ranges};
@@ -108,7 +110,7 @@ fn open_engine<S: Wait>(
     hashing: RandomState,
     config: Config,
 ) -> Result<(Engine, Forwarder), CommandFault<'static>>
-    ensures config { IfOk result (λ opened. (opened.0.config ≡ config) × (config_fault_of config ≡ None)) }
+    ensures base { IfOk result (λ opened. (opened.0.base ≡ bare config) × (config_fault_of config ≡ None)) }
     ensures forwarder { IfOk result (λ opened. (opened.1.name ≡ opened.0) × (opened.1.known ≡ [])) }
     ensures fault { IfErr result (IsOpenFault config) }
 {
@@ -121,7 +123,7 @@ fn open_engine<S: Wait>(
         }
         Err(OpenFault::Config(fault)) => Err(CommandFault::Config(fault)),
         Err(OpenFault::Place) => Err(CommandFault::Place),
-        Err(OpenFault::Readers) => unreachable!(),
+        Err(OpenFault::Doubled | OpenFault::Unfit(_) | OpenFault::Readers) => unreachable!(),
     }
 }
 
@@ -134,7 +136,7 @@ fn look_in<S: Wait>(
     input: &OneInput,
     lsa: Checked,
 ) -> Result<String, CommandFault<'static>>
-    requires config { engine.now.config ≡ config_of (given_by input.now lsa) }
+    requires base { engine.now.base ≡ bare (config_of (given_by input.now lsa)) }
     requires sound { config_fault_of (config_of (given_by input.now lsa)) ≡ None }
     requires name { forwarder.name ≡ engine.now }
     requires known { forwarder.known ≡ [] }
@@ -160,7 +162,7 @@ fn take_both<S: Wait>(
     input: &OneInput,
     lsa: Checked,
 ) -> Result<Forwarder, CommandFault<'static>>
-    requires config { engine.now.config ≡ config_of (given_by input.now lsa) }
+    requires base { engine.now.base ≡ bare (config_of (given_by input.now lsa)) }
     requires sound { config_fault_of (config_of (given_by input.now lsa)) ≡ None }
     requires name { forwarder.name ≡ engine.now }
     requires known { forwarder.known ≡ [] }
@@ -190,11 +192,12 @@ fn submit<S: Wait>(
     count: u64,
 ) -> Result<Forwarder, CommandFault<'static>>
     requires name { forwarder.name ≡ engine.now }
+    requires first { engine.now.base.serial ≡ 0 }
     requires count { length forwarder.known ≡ count }
     requires few { count < 2 }
     ensures known { IfOk result (λ f. (f.name ≡ engine.now) × (f.known ≡ forwarder.known ++ event ∷ [])) }
-    ensures accepted { IfOk result (λ _. refusal_of (after engine.now.config forwarder.known) event ≡ None) }
-    ensures fault { IfErr result (IsStepFault (after engine.now.config forwarder.known) event) }
+    ensures accepted { IfOk result (λ _. refusal_of (after engine.now.base forwarder.known) event ≡ None) }
+    ensures fault { IfErr result (IsStepFault (after engine.now.base forwarder.known) event) }
 {
     match engine.submit(rt, event) {
         Ok(Taken { reply: _, told }) => match told {
@@ -204,6 +207,9 @@ fn submit<S: Wait>(
         Err(Refused { refusal, told }) => match told {
             Some(told) => {
                 drop(learn(forwarder, told, count)?);
+                if is_full(refusal) {
+                    return Err(CommandFault::NoEntry);
+                }
                 Err(CommandFault::Refused(refusal))
             }
             None => Err(CommandFault::NoEntry),
@@ -211,9 +217,17 @@ fn submit<S: Wait>(
     }
 }
 
+// Whether the journal is said to be full, which the two events do not make it.
+fn is_full(refusal: Refusal) -> bool
+    ensures { IsTrue result ↔ (refusal ≡ JournalFull) }
+{
+    matches!(refusal, Refusal::JournalFull)
+}
+
 // The forwarder learns a token that is for so many events.
 fn learn(forwarder: Forwarder, told: Told, count: u64) -> Result<Forwarder, CommandFault<'static>>
-    requires { told.name ≡ forwarder.name }
+    requires name { told.name ≡ forwarder.name }
+    requires first { forwarder.name.base.serial ≡ 0 }
     ensures name { IfOk result (λ f. f.name ≡ forwarder.name) }
     ensures learned { IfOk result (λ f. HasLearned forwarder.known told.list f.known) }
     ensures count { IfOk result (λ _. length told.list ≡ count) }
@@ -227,7 +241,8 @@ fn learn(forwarder: Forwarder, told: Told, count: u64) -> Result<Forwarder, Comm
 
 // The line of what was seen of this address, where that follows two events.
 fn line_of(alloc: Global, seen: &Seen, address: u32) -> Result<String, CommandFault<'static>>
-    requires { seen.now.address ≡ address }
+    requires address { seen.now.address ≡ address }
+    requires first { seen.now.name.base.serial ≡ 0 }
     ensures line { IfOk result (λ line. PrintsSeen seen.now (string_bytes line)) }
     ensures fault { IfErr result (λ f. (f ≡ CommandFault.NoEntry) ⊎ (f ≡ CommandFault.Memory)) }
 {

@@ -1,3 +1,4 @@
 pub mod Configs
 pub mod Neighbours
+pub mod Overlaps
 pub mod Texts

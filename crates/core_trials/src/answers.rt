@@ -32,7 +32,7 @@ flush 0.0.0.0 1 10.0.0.1 10.0.0.1\n";
 // A border router between the backbone, with a border router that is an AS boundary router, and an area with a transit
 // network: LSAs of each type come, change, come to MaxAge by a second, are aged prematurely and purged, and an interface
 // goes down and comes up.
-const ALL: &str = "abr 1\n\
+pub const ALL: &str = "abr 1\n\
 router 10.0.0.1\n\
 area 0.0.0.0 normal\n\
 area 0.0.0.1 normal\n\

@@ -9,4 +9,6 @@ pub use trial::{NETWORK, applied, events_of, items, with_stubs};
 #[cfg(test)]
 mod answers;
 #[cfg(test)]
+mod rolls;
+#[cfg(test)]
 mod tests;

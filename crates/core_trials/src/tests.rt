@@ -114,8 +114,10 @@ fn of_a_hundred_networks_one_changes(rt: HostRuntime) -> Result<(), Fail> {
 // Two areas are active. The peer 10.0.0.2 in the backbone is a border router and an AS boundary router, and has a stub
 // link to 10.4.0.0/16, for which a range is active. It tells of 10.1.0.0/16, and of three external networks: one whose
 // forwarding address no route leads to, one that is a second before MaxAge, and one at MaxAge.
-const BORDER: &str = "abr 1\n\
+const BORDER: &str = "abr 3\n\
 router 10.0.0.1\n\
+compat disabled\n\
+serial 0\n\
 area 0.0.0.0 normal\n\
 range 0.0.0.0 10.4.0.0/14 advertise\n\
 area 0.0.0.1 normal\n\
@@ -132,7 +134,7 @@ install as 0e1002050a0200000a0000028000000190a50024ffff0000000000050000000000000
 // Whether the answer fits what the table then has: the old routes after a refusal and where it is behind, else the new.
 fn fits(core: &Core, answer: Result<Reply, Refusal>, is_old: bool, is_new: bool) -> bool {
     match answer {
-        Err(refusal) => refusal == Refusal::Memory && is_old && core.journal().len() == 9,
+        Err(refusal) => refusal == Refusal::Memory && is_old && core.serial() == 9,
         Ok(reply) if reply.state == Standing::Behind => is_old && core.built() == 9,
         Ok(_) => is_new,
     }
@@ -163,6 +165,20 @@ fn is_as_answered(
     Ok(fits(core, answer, is_old, is_new))
 }
 
+// Whether a roll is refused with 37 exactly where the table is behind, and where it is refused for want of memory or carried out,
+// all is as it was.
+fn rolls(rt: &HostRuntime, core: &mut Core) -> Result<bool, Fail> {
+    let (serial, is_current) = (core.serial(), core.is_current());
+    let before = items(rt.alloc(), core)?;
+    let answer = core.roll();
+    let fits = match answer {
+        Ok(rolled) => is_current && rolled == serial && core.journal().is_empty(),
+        Err(Refusal::NotCurrent) => !is_current,
+        Err(refusal) => is_current && refusal == Refusal::Memory,
+    };
+    Ok(fits && core.serial() == serial && has_items(rt, core, before.as_str())?)
+}
+
 // Brings the table up to the event, which is applied once more where it was refused. A table that was behind is built anew,
 // and no other.
 fn catches_up(
@@ -175,7 +191,7 @@ fn catches_up(
         let event = event_of(rt, line)?;
         return Ok(core.apply(event).is_ok());
     }
-    let is_behind = core.built() < core.journal().len() as u64;
+    let is_behind = !core.is_current();
     let builds = core.builds();
     let is_current = core.catch_up() == Standing::Current;
     Ok(is_current && (core.builds() > builds) == is_behind)
@@ -190,7 +206,7 @@ fn fresh_items(rt: &HostRuntime, event: &str) -> Result<String, Fail> {
 
 fn event_of(rt: &HostRuntime, line: &str) -> Result<Event, Fail> {
     let mut text = String::new(rt.alloc());
-    text.push_str("abr 1\nrouter 10.0.0.1\narea 0.0.0.0 normal\n")?;
+    text.push_str("abr 3\nrouter 10.0.0.1\ncompat disabled\nserial 0\narea 0.0.0.0 normal\n")?;
     text.push_str(line)?;
     let (_, mut events) = events_of(rt.alloc(), text.as_str())?;
     let event = events.pop().ok_or("an event")?;
@@ -219,9 +235,9 @@ fn goes_on(
     let builds = core.builds();
     let answer = core.apply(event);
     let followed = !is_current(answer) || core.builds() == builds;
-    let right = is_as_answered(rt, core, answer, old, new)?;
+    let right = is_as_answered(rt, core, answer, old, new)? && rolls(rt, core)?;
     let caught_up = catches_up(rt, core, answer.is_err(), line)?;
-    let last = has_items(rt, core, new)?;
+    let last = has_items(rt, core, new)? && rolls(rt, core)?;
     Ok(followed && right && caught_up && last && core.built() == 10)
 }
 
@@ -272,5 +288,14 @@ fn a_flush_where_memory_may_be_refused(rt: HostRuntime) -> Result<(), Fail> {
 #[test]
 fn a_purge_where_memory_may_be_refused(rt: HostRuntime) -> Result<(), Fail> {
     assert!(rt; withstands(&rt, "purge as 5 10.2.0.0 10.0.0.2\n")?);
+    Ok(())
+}
+
+// A range of the backbone comes in place of the one that is there, and hides it; and one comes that is not there.
+#[test]
+fn a_range_where_memory_may_be_refused(rt: HostRuntime) -> Result<(), Fail> {
+    assert!(rt; withstands(&rt, "range-set 0.0.0.0 10.4.0.0/14 hide\n")?);
+    assert!(rt; withstands(&rt, "range-set 0.0.0.0 10.0.0.0/14 advertise\n")?);
+    assert!(rt; withstands(&rt, "range-drop 0.0.0.0 10.4.0.0/14\n")?);
     Ok(())
 }

@@ -58,7 +58,8 @@ pub fn events_of(alloc: Global, text: &str) -> Result<(Config, Vec<Event>), Fail
     let Ok(recording) = parse(alloc, text.as_bytes()) else {
         return Err(Fail::from("a recording"));
     };
-    let (_, config, lines) = recording.into_parts();
+    let config = recording.config().copy(alloc)?;
+    let (_, _, lines) = recording.into_parts();
     Ok((config, events_in(alloc, lines)?))
 }
 

@@ -1,17 +1,22 @@
 -- What is due otherwise than before is touched.
-use Rattle.std.proofs.Common.{◌≡◌, ℕ, List, [], ◌∷◌, ◌++◌, refl, sym, subst, ◌∙◌, inl, inr}
+--   alike_touched: where the same areas are active as before
+--   alike_all: where all that is due and all that was due is touched
+--   lists_now, named_lists: the lists of before are those of the areas now, of which the ranges may differ
+use Rattle.std.proofs.Common.{◌≡◌, ℕ, List, [], ◌∷◌, ◌++◌, Option, Some, None, refl, sym, ap, subst, ◌∙◌, inl, inr}
 use Rattle.std.specs.Prelude.{◌↔◌}
 use Rattle.std.specs.List.{Contains, flat_map}
 use Rattle.std.proofs.lemmas.List.Elements.{Contains-append_left, Contains-append_right}
 use Rattle.ospf_types.specs.declared.config.AreaConfig.{AreaConfig}
 use Rattle.ospf_types.specs.declared.key.Dest.{Dest}
+use Rattle.ospf_types.specs.declared.key.Dest.TheVariants.{Net, Router}
+use Rattle.ospf_types.specs.RangeChanges.{with_others, areas_without_ranges}
 use Rattle.ospf_types.proofs.Elements.{no_element, first_or_later, mapped_element}
 use Rattle.due_lists.specs.declared.due.Due.{Due}
 use Rattle.dues.specs.Inputs.{DueInputsValue}
 use Rattle.dues.specs.Giving.{IsDueIn}
 use Rattle.due_lists.specs.Lists.{AreaDuesValue, due_for}
-use Rattle.dues.specs.Dues.{AreDuesOf, AreListsOf, DuesValue, dests_of}
-use Rattle.dues.specs.Changes.{AreDueAlikeBut, InputsDifferAmong}
+use Rattle.dues.specs.Dues.{AreDuesOf, AreListsOf, IsListOf, DuesValue, dests_of}
+use Rattle.dues.specs.Changes.{AreDueAlikeBut, InputsDifferAmong, MayDiffer}
 use Rattle.dues.specs.Touched.{IsTouchedBy}
 use Rattle.dues.proofs.Frame.{due_stays}
 
@@ -34,11 +39,58 @@ listed_dest v (b ∷ areas) (w ∷ lists) are a d m there due = elim (first_or_l
 ]
 
 -- where all that is due and all that was due is among them
-pub alike_all : (dests all pushed touched : List Dest) (before now : DueInputsValue) (w : DuesValue) → ((a : AreaConfig) (d : Dest) (m : ℕ) → IsDueIn now a d m → Contains all d) → pushed ≡ all ++ flat_map dests_of w.areas
-    → ((d : Dest) → Contains touched d ↔ Contains pushed d) → AreDuesOf before w → InputsDifferAmong dests before now → AreDueAlikeBut touched before now
-alike_all dests all pushed touched before now w enough is same were differ a d there absent m =
+pub alike_all : (all pushed touched : List Dest) (before now : DueInputsValue) (w : DuesValue) → ((a : AreaConfig) (d : Dest) (m : ℕ) → IsDueIn now a d m → Contains all d) → pushed ≡ all ++ flat_map dests_of w.areas
+    → ((d : Dest) → Contains touched d ↔ Contains pushed d) → AreListsOf before now.areas w.areas → AreDueAlikeBut touched before now
+alike_all all pushed touched before now w enough is same were a d there absent m =
     let own = flat_map dests_of w.areas in
     let among : Contains (all ++ own) d → Contains touched d = λ c. (same d).1 (subst (λ (ds : List Dest). Contains ds d) (sym is) c) in (
-      λ h. absurd (absent (among (Contains-append_right all own d (listed_dest before before.areas w.areas were.lists a d m (subst (λ (areas : List AreaConfig). Contains areas a) differ.areas there) h)))),
+      λ h. absurd (absent (among (Contains-append_right all own d (listed_dest before now.areas w.areas were a d m there h)))),
       λ h. absurd (absent (among (Contains-append_left all own d (enough a d m h)))),
     )
+
+-- ---- areas with other ranges
+
+module _ (v : DueInputsValue) where
+  bare_due : (a : AreaConfig) (d : Dest) (m : ℕ) → IsDueIn v a d m → IsDueIn v (with_others a []) d m
+  bare_due a (Net p) m due = record { served = due.served; due = due.due }
+  bare_due a (Router r) m due = record { served = due.served; due = due.due }
+
+  due_bare : (a : AreaConfig) (d : Dest) (m : ℕ) → IsDueIn v (with_others a []) d m → IsDueIn v a d m
+  due_bare a (Net p) m due = record { served = due.served; due = due.due }
+  due_bare a (Router r) m due = record { served = due.served; due = due.due }
+
+  -- what is due in an area rests on no range of its own
+  due_kept : (a b : AreaConfig) → with_others a [] ≡ with_others b [] → (d : Dest) (m : ℕ) → IsDueIn v a d m → IsDueIn v b d m
+  due_kept a b same d m due = due_bare b d m (subst (λ (x : AreaConfig). IsDueIn v x d m) same (bare_due a d m due))
+
+  list_kept : (a b : AreaConfig) → with_others a [] ≡ with_others b [] → (w : AreaDuesValue) → IsListOf v a w → IsListOf v b w
+  list_kept a b same w is = record {
+    area = is.area ∙ ap (λ (x : AreaConfig). x.id) same;
+    in_order = is.in_order;
+    exact = λ due. (
+      λ c. let h = (is.exact due).0 c in (due_kept a b same due.dest due.metric h.0, h.1),
+      λ h. (is.exact due).1 (due_kept b a (sym same) due.dest due.metric h.0, h.1),
+    );
+  }
+
+  lists_kept : (xs ys : List AreaConfig) → areas_without_ranges xs ≡ areas_without_ranges ys → (lists : List AreaDuesValue) → AreListsOf v xs lists → AreListsOf v ys lists
+  lists_kept [] [] same lists are = are
+  lists_kept [] (y ∷ ys) same lists are = absurd cc
+  lists_kept (x ∷ xs) [] same lists are = absurd cc
+  lists_kept (x ∷ xs) (y ∷ ys) same [] are = absurd are
+  lists_kept (x ∷ xs) (y ∷ ys) same (w ∷ lists) are =
+      let here : with_others x [] ≡ with_others y [] = cc in
+      let rest : areas_without_ranges xs ≡ areas_without_ranges ys = cc in
+      (list_kept x y here w are.0, lists_kept xs ys rest lists are.1)
+
+-- the areas are the same without their ranges
+pub bare_same : (dests : Option (List Dest)) (before now : DueInputsValue) → MayDiffer dests before now → areas_without_ranges now.areas ≡ areas_without_ranges before.areas
+bare_same (Some dests) before now differ = ap areas_without_ranges differ.areas
+bare_same None before now differ = differ
+
+-- the lists of before are those of the areas now, of which the ranges may differ
+pub lists_now : (before now : DueInputsValue) (lists : List AreaDuesValue) → areas_without_ranges now.areas ≡ areas_without_ranges before.areas → AreListsOf before before.areas lists → AreListsOf before now.areas lists
+lists_now before now lists same are = lists_kept before before.areas now.areas (sym same) lists are
+
+pub named_lists : (dests : Option (List Dest)) (before now : DueInputsValue) (lists : List AreaDuesValue) → MayDiffer dests before now → AreListsOf before before.areas lists → AreListsOf before now.areas lists
+named_lists dests before now lists differ are = lists_now before now lists (bare_same dests before now differ) are

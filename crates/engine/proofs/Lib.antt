@@ -1,10 +1,4 @@
-pub mod Runs
-pub mod Tabling
-pub mod Following
 pub mod Rooming
 pub mod Zips
-pub mod Replying
-pub mod Duing
-pub mod Keeping
 pub mod Working
 pub mod Passing

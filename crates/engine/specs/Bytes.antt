@@ -7,10 +7,10 @@ use Rattle.lsa_codec.specs.Faults.{fault_of}
 use Rattle.lsa_codec.specs.Spelling.{Spells}
 use Rattle.event_state.specs.declared.event.Event.TheVariants as event
 use Rattle.publication.specs.Names.{Name}
-use Rattle.engine.specs.Answers.{Answers, Refusals}
-use Rattle.engine.specs.declared.answer.Answer.{Answer}
-use Rattle.engine.specs.declared.answer.BytesFault.{BytesFault}
-use Rattle.engine.specs.declared.answer.BytesFault.TheVariants as bytes
+use Rattle.desk.specs.Answers.{Answers, Refusals}
+use Rattle.desk.specs.declared.answer.Answer.{Answer}
+use Rattle.engine.specs.declared.bytes_fault.BytesFault.{BytesFault}
+use Rattle.engine.specs.declared.bytes_fault.BytesFault.TheVariants as bytes
 
 -- they have no fault, and spell this LSA and no other: it is what `read` gives for them
 abbrev pub AreReadAs : List ℕ → Lsa → Type 0

@@ -1,7 +1,4 @@
-pub mod Answers
-pub mod Gates
 pub mod Bytes
-pub mod Desks
 pub mod Rooms
 pub mod Opens
 pub mod Texts
@@ -11,3 +8,5 @@ pub use Rattle.event_core.specs.Listings
 pub use Rattle.event_core.specs.Due
 pub use Rattle.event_core.specs.declared.reply.Reply
 pub use Rattle.event_core.specs.declared.reply.Standing
+pub use Rattle.desk.specs.Answers
+pub use Rattle.desk.specs.Gates

@@ -1,17 +1,40 @@
--- The faults of opening an engine.
-use Rattle.std.specs.Prelude.{ℕ, ◌≡◌, ◌≤◌, ◌<◌, ◌⊎◌, Some, None}
+-- The faults of opening an engine, and the serial of a roll.
+use Rattle.std.specs.Prelude.{ℕ, ◌≡◌, ◌≤◌, ◌<◌, ◌+◌, ◌⊎◌, List, length, Option, Some, None}
 use Rattle.ospf_types.specs.declared.config.Config.{Config}
 use Rattle.event_core.specs.ConfigFault.TheVariants.{Memory}
 use Rattle.event_core.specs.Configs.{config_fault_of}
+use Rattle.event_state.specs.BaseFaults.{base_fault_of}
+use Rattle.event_state.specs.Steps.{standard_limits}
+use Rattle.event_state.specs.declared.base.Base.{Base}
+use Rattle.event_state.specs.declared.base_fault.BaseFault.{BaseFault}
+use Rattle.event_state.specs.declared.base_fault.BaseFault.TheVariants as base_fault
+use Rattle.event_state.specs.declared.event.Event.{Event}
+use Rattle.publication.specs.Published.{IsLegal}
+use Rattle.desk.specs.Desks.{AreReaders}
 use Rattle.engine.specs.declared.open_fault.OpenFault.{OpenFault}
 use Rattle.engine.specs.declared.open_fault.OpenFault.TheVariants as opens
-
--- as many readers as there may be
-abbrev pub AreReaders : ℕ → Type 0
-AreReaders n = (0 < n) × (n ≤ 64)
 
 -- a fault of the configuration before all others, then the number of readers, then what only a refused growth or place can cause
 abbrev pub IsOpenFaultOf : Config → ℕ → OpenFault → Type 0
 IsOpenFaultOf config readers (opens.Config f) = (config_fault_of config ≡ Some f) ⊎ ((f ≡ Memory) × (config_fault_of config ≡ None) × AreReaders readers)
+IsOpenFaultOf config readers opens.Doubled = ⊥
+IsOpenFaultOf config readers (opens.Unfit u) = ⊥
 IsOpenFaultOf config readers opens.Readers = (config_fault_of config ≡ None) × ((readers ≡ 0) ⊎ (64 < readers))
 IsOpenFaultOf config readers opens.Place = (config_fault_of config ≡ None) × AreReaders readers
+
+abbrev pub open_fault_of : BaseFault → OpenFault
+open_fault_of (base_fault.Config f) = opens.Config f
+open_fault_of base_fault.Doubled = opens.Doubled
+open_fault_of (base_fault.Unfit u) = opens.Unfit u
+
+-- the first fault of the base before all others, then the same. Before a refused growth only a fault of the configuration is looked for
+abbrev pub IsOpenFaultFrom : Base → ℕ → OpenFault → Type 0
+IsOpenFaultFrom base readers (opens.Config f) = (base_fault_of standard_limits base ≡ Some (base_fault.Config f)) ⊎ ((f ≡ Memory) × (config_fault_of base.config ≡ None))
+IsOpenFaultFrom base readers opens.Doubled = base_fault_of standard_limits base ≡ Some base_fault.Doubled
+IsOpenFaultFrom base readers (opens.Unfit u) = base_fault_of standard_limits base ≡ Some (base_fault.Unfit u)
+IsOpenFaultFrom base readers opens.Readers = (base_fault_of standard_limits base ≡ None) × ((readers ≡ 0) ⊎ (64 < readers))
+IsOpenFaultFrom base readers opens.Place = (base_fault_of standard_limits base ≡ None) × AreReaders readers
+
+-- it is that of a legal list
+abbrev pub IsRolledSerial : Base → ℕ → Type 0
+IsRolledSerial base serial = (list : List Event) × IsLegal base list × (serial ≡ base.serial + length list)

@@ -2,8 +2,9 @@
 ghost use Rattle.std.specs.Prelude.{MatchResult};
 ghost use Rattle.engine.specs.Bytes.{AreInstalled, AreRefused};
 
-use crate::answer::{Answer, BytesFault};
+use crate::bytes_fault::BytesFault;
 use crate::engine_state::Engine;
+use desk::Answer;
 use event_core::Event;
 use lsa_codec::read;
 use ospf_types::key::Scope;

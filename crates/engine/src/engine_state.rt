@@ -1,23 +1,28 @@
 //! The engine that threads share.
-ghost use Rattle.std.specs.Prelude.{◌≡◌, ◌⊎◌, ◌↔◌, ◌++◌, [], ◌∷◌, length, All, None, Ok, Err, IfOk, IfErr, IfSome, OnOk, MatchResult};
+ghost use Rattle.std.specs.Prelude.{List, ◌≡◌, ◌⊎◌, ◌↔◌, ◌++◌, [], ◌∷◌, length, All, None, Ok, Err, IfOk, IfErr, IfSome, OnOk, MatchResult};
 ghost use Rattle.event_core.specs.Cores.{IsCore};
 ghost use Rattle.event_core.specs.Configs.{config_fault_of};
+ghost use Rattle.event_state.specs.Bases.{bare};
+ghost use Rattle.event_state.specs.BaseFaults.{base_fault_of};
+ghost use Rattle.event_state.specs.Rolls.{IsRolled};
 ghost use Rattle.event_state.specs.Steps.{standard_limits};
+ghost use Rattle.event_state.specs.declared.event.Event.{Event as EventValue};
 ghost use Rattle.publication.specs.Forwarders.{Looker};
 ghost use Rattle.publication.specs.Published.{IsLegal};
-ghost use Rattle.engine.specs.Answers.{IsAnswered, Dues, HasArea};
-ghost use Rattle.engine.specs.Opens.{AreReaders, IsOpenFaultOf};
+ghost use Rattle.desk.specs.Answers.{IsAnswered, Dues, HasArea};
+ghost use Rattle.desk.specs.Desks.{AreReaders};
+ghost use Rattle.engine.specs.Opens.{IsOpenFaultOf, IsOpenFaultFrom, IsRolledSerial, open_fault_of};
 ghost use Rattle.engine.specs.declared.open_fault.OpenFault.TheVariants as open_value;
 ghost use Rattle.event_core.specs.ConfigFault.TheVariants as fault;
-ghost use Rattle.event_state.specs.declared.refusal.Refusal.TheVariants.{Memory as NoMemory, NoArea};
+ghost use Rattle.event_state.specs.declared.refusal.Refusal.TheVariants.{Memory as NoMemory, NoArea, NotCurrent};
 
-use crate::answer::{Answer, DueList, Refused};
-use crate::desk::Desk;
-use crate::gate::{Gate, Open};
 use crate::open_fault::OpenFault;
 use crate::room::Room;
+use desk::{Answer, Desk, DueList, Gate, Open, Refused};
 use event_core::{ConfigFault, Core, Event, Refusal, fault_in};
+use event_state::{Base, BaseFault, Limits, fault_in_base};
 use ospf_types::config::Config;
+use ospf_types::memory::Memory;
 use publication::{Forwarder, Told};
 use std::alloc::{AllocError, Global};
 use std::hash::RandomState;
@@ -27,7 +32,7 @@ use std::sync::{Mutex, Wait};
 const MOST_READERS: usize = 64;
 
 /// The databases, the routing table and the due summaries of an area border router, for threads that share them. One event
-/// is all between taking and releasing its lock. To a contract the engine is its name: its history, and its configuration.
+/// is all between taking and releasing its lock. To a contract the engine is its name: its history, and the base that it began with.
 /// It is not `Drop`: end it by `close`.
 pub struct Engine {
     alloc: Global,
@@ -54,7 +59,7 @@ impl Engine {
     ) -> Result<(Engine, Vec<Forwarder>), OpenFault>
         ensures fault { IfErr result (IsOpenFaultOf config readers) }
         ensures sound { IfOk result (λ r. (config_fault_of config ≡ None) × AreReaders readers) }
-        ensures config { IfOk result (λ r. r.0.config ≡ config) }
+        ensures base { IfOk result (λ r. r.0.base ≡ bare config) }
         ensures count { IfOk result (λ r. length r.1.items ≡ readers) }
         ensures forwarders { IfOk result (λ r. All (λ f. (f.name ≡ r.0) × (f.known ≡ [])) r.1.items) }
     {
@@ -67,6 +72,35 @@ impl Engine {
         match Core::open(alloc, config, hashing) {
             Ok(core) => open_over(rt, alloc, core, readers),
             Err(fault) => Err(OpenFault::Config(fault)),
+        }
+    }
+
+    /// Opens an engine with the ranges, the interfaces and the LSAs of the base, and its forwarders, which have seen the
+    /// empty list alone. Serials go on from that of the base.
+    pub fn open_from<R: Wait>(
+        rt: &R,
+        alloc: Global,
+        base: Base,
+        readers: usize,
+        hashing: RandomState,
+    ) -> Result<(Engine, Vec<Forwarder>), OpenFault>
+        ensures fault { IfErr result (IsOpenFaultFrom base readers) }
+        ensures sound { IfOk result (λ r. (base_fault_of standard_limits base ≡ None) × AreReaders readers) }
+        ensures base { IfOk result (λ r. r.0.base ≡ base) }
+        ensures count { IfOk result (λ r. length r.1.items ≡ readers) }
+        ensures forwarders { IfOk result (λ r. All (λ f. (f.name ≡ r.0) × (f.known ≡ [])) r.1.items) }
+    {
+        match fault_in_base(alloc, &base, Limits::STANDARD) {
+            Ok(None) => {}
+            Ok(Some(fault)) => return Err(of_base(fault)),
+            Err(Memory) => return Err(OpenFault::Config(ConfigFault::Memory)),
+        }
+        if readers == 0 || readers > MOST_READERS {
+            return Err(OpenFault::Readers);
+        }
+        match Core::open_sound(alloc, base, Limits::STANDARD, hashing) {
+            Ok(core) => open_over(rt, alloc, core, readers),
+            Err(Memory) => Err(OpenFault::Config(ConfigFault::Memory)),
         }
     }
 
@@ -102,7 +136,7 @@ impl Engine {
 
     /// Builds and publishes what is behind.
     pub fn catch_up<R: Wait>(&self, rt: &R) -> Option<Told>
-        ensures { IfSome result (λ t. (t.name ≡ self.now) × IsLegal self.now.config t.list) }
+        ensures { IfSome result (λ t. (t.name ≡ self.now) × IsLegal self.now.base t.list) }
     {
         let door = self.door.lock(rt);
         let (desk, _state, told) = self.room.take(rt).catch_up(rt);
@@ -114,7 +148,7 @@ impl Engine {
     /// A copy of the summary-LSAs that are due in the area (RFC 2328, 12.4.3).
     pub fn due<R: Wait>(&self, rt: &R, area: u32) -> Result<DueList, Refusal>
         ensures due { IfOk result (Dues self.now area) }
-        ensures area { MatchResult result (λ _. HasArea self.now.config area) (λ e. (e ≡ NoArea) ↔ (¬ (HasArea self.now.config area))) }
+        ensures area { MatchResult result (λ _. HasArea self.now.base.config area) (λ e. (e ≡ NoArea) ↔ (¬ (HasArea self.now.base.config area))) }
         ensures refused { IfErr result (λ e. (e ≡ NoArea) ⊎ (e ≡ NoMemory)) }
     {
         let door = self.door.lock(rt);
@@ -125,15 +159,30 @@ impl Engine {
         due
     }
 
+    /// Makes the state as it is the base, and empties the journal, whose memory is given back: a router that is rolled now and
+    /// then runs for ever. What forwarders see stays, and none of them waits. The answer is the serial, which goes on.
+    /// Refused are, with 37, a table that is not published as it is now, and want of memory; then nothing changes.
+    pub fn roll<R: Wait>(&self, rt: &R) -> Result<u64, Refusal>
+        ensures serial { IfOk result (IsRolledSerial self.now.base) }
+        ensures refused { IfErr result (λ e. (e ≡ NotCurrent) ⊎ (e ≡ NoMemory)) }
+    {
+        let door = self.door.lock(rt);
+        let (desk, done) = self.room.take(rt).roll();
+        self.room.put(rt, desk);
+        drop(door);
+        done
+    }
+
     pub(crate) fn alloc(&self) -> Global {
         self.alloc
     }
 
-    /// Waits for the forwarders that look, and gives the core back.
+    /// Waits for the forwarders that look, and gives the core back. Its base is the state after the events that were rolled,
+    /// and its journal has those since.
     pub fn close<R: Wait>(self, rt: &R) -> Core
-        ensures config { result.config ≡ self.config }
+        ensures core { IsCore result }
         ensures limits { result.limits ≡ standard_limits }
-        ensures legal { IsLegal self.config result.journal }
+        ensures rolled { (rolled : List EventValue) × IsRolled self.base standard_limits rolled result.base }
     {
         let Engine {
             alloc: _,
@@ -144,6 +193,17 @@ impl Engine {
         let desk = room.take(rt);
         room.close(rt);
         desk.end(rt)
+    }
+}
+
+// The fault of a base, as one of opening.
+fn of_base(fault: BaseFault) -> OpenFault
+    ensures { result ≡ open_fault_of fault }
+{
+    match fault {
+        BaseFault::Config(fault) => OpenFault::Config(fault),
+        BaseFault::Doubled => OpenFault::Doubled,
+        BaseFault::Unfit(unfit) => OpenFault::Unfit(unfit),
     }
 }
 
@@ -159,7 +219,7 @@ fn open_over<R: Wait>(
     requires limits { core.limits ≡ standard_limits }
     requires readers { AreReaders readers }
     ensures fault { IfErr result (λ e. (e ≡ open_value.Place) ⊎ (e ≡ open_value.Config fault.Memory)) }
-    ensures config { IfOk result (λ r. r.0.config ≡ core.config) }
+    ensures base { IfOk result (λ r. r.0.base ≡ core.base) }
     ensures count { IfOk result (λ r. length r.1.items ≡ readers) }
     ensures forwarders { IfOk result (λ r. All (λ f. (f.name ≡ r.0) × (f.known ≡ [])) r.1.items) }
 {

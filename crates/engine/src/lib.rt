@@ -2,18 +2,17 @@
 //! change of the routing table is published; and forwarders look it up with no lock.
 #![tactic(auto)]
 
-mod answer;
 mod bytes;
-mod desk;
+mod bytes_fault;
 mod engine_state;
-mod gate;
 mod open_fault;
 mod room;
 mod workers;
 
-pub use answer::{Answer, BytesFault, DueList, Refused};
+pub use bytes_fault::BytesFault;
+pub use desk::{Answer, DueList, Gate, Open, Refused};
 pub use engine_state::Engine;
 pub use event_core::{ConfigFault, Core, Due, Event, Refusal, Reply, Standing};
-pub use gate::{Gate, Open};
+pub use event_state::{Base, BaseFault, Unfit};
 pub use open_fault::OpenFault;
 pub use publication::{Forwarder, Seen, Told, Unseen};

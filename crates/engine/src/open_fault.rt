@@ -3,6 +3,7 @@ ghost use Rattle.std.specs.Prelude.{Some};
 ghost use Rattle.engine.specs.Texts.{open_fault_text};
 
 use event_core::ConfigFault;
+use event_state::Unfit;
 use std::fmt;
 use thiserror::Error;
 
@@ -11,6 +12,10 @@ use thiserror::Error;
 pub enum OpenFault {
     /// The configuration has this fault, or a growth was refused.
     Config(ConfigFault),
+    /// An interface id, or a key in a scope, is twice in the base.
+    Doubled,
+    /// No event could have made the base.
+    Unfit(Unfit),
     /// No reader, or more than 64.
     Readers,
     /// There was no place for a reader.
@@ -24,6 +29,8 @@ impl fmt::Display for OpenFault {
     fn fmt<W: fmt::Write>(&self, f: &mut fmt::Formatter<W>) -> fmt::Result {
         match self {
             OpenFault::Config(fault) => write!(f, "{fault}"),
+            OpenFault::Doubled => f.write_str("47 Doubled"),
+            OpenFault::Unfit(unfit) => write!(f, "{unfit}"),
             OpenFault::Readers => f.write_str("45 Readers"),
             OpenFault::Place => f.write_str("46 Place"),
         }

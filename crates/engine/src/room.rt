@@ -2,8 +2,8 @@
 ghost use Rattle.std.specs.Prelude.{◌≡◌, IfOk, IfSome};
 ghost use Rattle.engine.specs.Rooms.{Fits};
 
-use crate::desk::Desk;
 use atomic_table::{Play, Table, TableRule};
+use desk::Desk;
 use publication::Tag;
 use std::alloc::{AllocError, Global};
 use std::marker::Model;

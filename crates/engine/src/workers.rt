@@ -1,13 +1,12 @@
 //! Several workers on one engine, each with its own list of events.
 ghost use Rattle.std.specs.Prelude.{◌≡◌, ◌<◌, ◌≤◌, ◌⊎◌, [], length, vec_len, vec_capacity, IfOk, IfErr, IfSome, IsTrue};
 ghost use Rattle.std.specs.List.{AllZip};
-ghost use Rattle.engine.specs.Answers.{AreAnswered};
-ghost use Rattle.engine.specs.Gates.{HavePassed};
+ghost use Rattle.desk.specs.Answers.{AreAnswered};
+ghost use Rattle.desk.specs.Gates.{HavePassed};
 ghost use Rattle.event_state.specs.declared.refusal.Refusal.TheVariants.{Memory, Spawn, Workers};
 
-use crate::answer::{Answer, Refused};
 use crate::engine_state::Engine;
-use crate::gate::Gate;
+use desk::{Answer, Gate, Refused};
 use event_core::{Event, Refusal};
 use std::alloc::{AllocError, Global};
 use std::snapshot::Snapshot;
@@ -64,7 +63,7 @@ struct Answering<'a> {
 }
 
 impl<'a> Promise<Answers> for Answering<'a> {
-    ghost use Rattle.engine.specs.Answers.{AreAnswered};
+    ghost use Rattle.desk.specs.Answers.{AreAnswered};
 
     ghost kept_by = { λ p r. AreAnswered p.engine.now p.events.value.items r.items };
 }

@@ -73,8 +73,20 @@ impl Known {
         }
     }
 
+    // Whether a roll answers the last serial exactly where the table of all that was taken is published, if it has memory.
+    fn rolls<R: Wait>(&self, rt: &R, engine: &Engine) -> bool {
+        match engine.roll(rt) {
+            Ok(serial) => self.is_published && serial == self.taken,
+            Err(Refusal::NotCurrent) => !self.is_published,
+            Err(refusal) => self.is_published && refusal == Refusal::Memory,
+        }
+    }
+
     fn stands<R: Wait>(&mut self, rt: &R, engine: &Engine) -> bool {
-        self.is_refused(rt, engine) && self.sees() && self.is_due(rt, engine)
+        self.is_refused(rt, engine)
+            && self.sees()
+            && self.is_due(rt, engine)
+            && self.rolls(rt, engine)
     }
 
     // Catches up, at most twice, since one growth at most is refused.

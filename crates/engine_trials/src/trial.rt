@@ -80,9 +80,9 @@ pub fn look(forwarder: Forwarder) -> (Forwarder, Option<u64>)
     }
 }
 
-/// Ends the engine, and counts the events that it took.
-pub fn taken<R: Wait>(rt: &R, engine: Engine) -> usize {
-    engine.close(rt).journal().len()
+/// Ends the engine, and counts the events that it took, rolled ones and others.
+pub fn taken<R: Wait>(rt: &R, engine: Engine) -> u64 {
+    engine.close(rt).serial()
 }
 
 pub fn is_told(told: Option<Told>, serial: u64) -> bool {

@@ -13,7 +13,7 @@ use std::thread::{Threads, join};
 
 // A forwarder, with the serials that it was told, and the one that it saw last.
 #[derive(Drop)]
-struct Watch {
+pub struct Watch {
     forwarder: Forwarder,
     told: Vec<u64>,
     last: u64,
@@ -84,7 +84,7 @@ fn tells<R: Wait + AllocGlobal>(rt: &R, engine: &Engine, worker: u8) -> Option<T
 }
 
 // The workers 1 and 2, with a forwarder each.
-fn two_watch<R: Threads + Wait + Sync + AllocGlobal>(
+pub fn two_watch<R: Threads + Wait + Sync + AllocGlobal>(
     rt: &R,
     engine: &Engine,
     one: Forwarder,
@@ -127,7 +127,7 @@ fn are_all(serials: &mut Vec<u64>) -> bool {
     all
 }
 
-fn are_told_all(one: Watch, two: Watch) -> bool {
+pub fn are_told_all(one: Watch, two: Watch) -> bool {
     let mut serials = one.told;
     serials.extend_from_slice(&two.told).is_ok() && are_all(&mut serials)
 }

@@ -1,4 +1,4 @@
-pub mod Configs
+pub mod Bases
 pub mod Listings
 pub mod Runs
 pub mod Naming

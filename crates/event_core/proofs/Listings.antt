@@ -11,7 +11,7 @@ use Rattle.std.proofs.lemmas.Map.Views.{btree_set_contains_iff}
 use Rattle.ospf_types.specs.declared.config.AreaConfig.{AreaConfig}
 use Rattle.ospf_types.specs.declared.key.Scope.TheVariants as scope
 use Rattle.event_state.specs.States.{place_of}
-use Rattle.event_core.specs.Listings.{AreAreaIds}
+use Rattle.event_state.specs.Listings.{AreAreaIds}
 
 one_on : (n m : ℕ) → nat_lt (1 + n) (suc m) ≡ nat_lt n m
 one_on n m = grind (arith, nat_tests)

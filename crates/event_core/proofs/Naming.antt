@@ -1,22 +1,31 @@
--- What an event may change: the LSAs or the interfaces that it names.
-use Rattle.std.proofs.Common.{◌≡◌, ◌≢◌, ℕ, Bool, cond, List, [], ◌∷◌, Option, Some, None, refl, sym, ap, subst, ◌∙◌, inl, inr}
+-- What an event may change: the LSAs or the interfaces that it names, or ranges.
+--   interface_names: an interface's event changes that interface
+--   ranges_name: an event that sets or drops a range changes no LSA and no interface, and of the configuration ranges alone
+--   others_name: every event that is no interface's changes no interface
+use Rattle.std.proofs.Common.{◌≡◌, ◌≢◌, ℕ, Bool, true, false, cond, List, [], ◌∷◌, Option, Some, None, refl, sym, ap, subst, ◌∙◌, inl, inr}
 use Rattle.std.specs.List.{Contains}
 use Rattle.std.specs.Ordering.{nat_cmp, is_eq}
 use Rattle.std.specs.Cmp.{nat_cmp_total}
 use Rattle.std.specs.declared.cmp.Ordering.TheVariants.{Less, Equal, Greater}
 use Rattle.std.specs.FinMap.{FinMap, get, insert, get-insert, nat_cmp-IsAntisymmetric}
+use Rattle.ospf_types.specs.declared.config.AreaConfig.{AreaConfig}
+use Rattle.ospf_types.specs.declared.config.Config.{Config}
 use Rattle.ospf_types.specs.declared.config.Interface.{Interface}
+use Rattle.ospf_types.specs.declared.config.Range.{Range}
 use Rattle.ospf_types.specs.declared.key.Key.{Key}
 use Rattle.ospf_types.specs.declared.key.Scope.{Scope}
 use Rattle.ospf_types.specs.Lsa.{key_of}
+use Rattle.ospf_types.specs.RangeChanges.{set_range, drop_range, without_ranges}
 use Rattle.ospf_types.proofs.Elements.{first_element}
+use Rattle.ospf_types.proofs.RangeChanges.{others_kept}
 use Rattle.lsdb.specs.Databases.{Database, aged_out}
 use Rattle.std.specs.FinMap.{remove}
 use Rattle.event_state.specs.declared.event.Event.{Event}
 use Rattle.event_state.specs.declared.event.Event.TheVariants as event
 use Rattle.event_state.specs.States.{State, place_of, changed_at_place, usable_at}
-use Rattle.event_state.specs.Steps.{step}
+use Rattle.event_state.specs.Steps.{step, range_with, with_range_change}
 use Rattle.calculation.specs.Trees.{StatesDifferAmong}
+use Rattle.event_core.specs.Named.{changes_ranges}
 
 -- an interface that is not set stays as it was
 other_interface : (m : FinMap nat_cmp Interface) (id : ℕ) (i : Interface) (q : ℕ) → q ≢ id → get (insert m id i) q ≡ get m q
@@ -28,42 +37,55 @@ other_interface m id i q other =
     ] refl
 
 -- an interface's event changes that interface alone, and no LSA
-pub interface_names : (s : State) (e : Event) (id area address peer : ℕ) (up : Bool) (keys : List (Scope × Key)) (ids : List ℕ) → e ≡ event.Interface id area address peer up → keys ≡ [] → ids ≡ id ∷ [] → StatesDifferAmong keys ids s (step s e)
+pub interface_names : (s : State) (e : Event) (id area address peer : ℕ) (up : Bool) (keys : List (Scope × Key)) (ids : List ℕ) → e ≡ event.Interface id area address peer up → keys ≡ [] → ids ≡ id ∷ [] → StatesDifferAmong keys ids false s (step s e)
 interface_names s e id area address peer up keys ids is none one =
-    subst (λ (x : Event). StatesDifferAmong keys ids s (step s x)) (sym is) (record {
-      config = refl;
+    subst (λ (x : Event). StatesDifferAmong keys ids false s (step s x)) (sym is) (record {
+      areas = refl;
+      ranges = λ unranged. refl;
       usable = λ at key absent. refl;
       interfaces = λ q absent. other_interface s.interfaces id (record { area = area; address = address; peer = peer; up = up }) q (λ same. absent (subst (λ (xs : List ℕ). Contains xs q) (sym one) (subst (Contains (id ∷ [])) (sym same) (first_element id []))));
       one_kind = inl none;
     })
 
--- what a change to a database leaves
-record Leaves (s t : State) : Type 0 where
-  pub config : t.config ≡ s.config
+-- what an event that is no interface's leaves: of the configuration all but ranges, and these, too, unless it changes them
+record Leaves (ranged : Bool) (s t : State) : Type 0 where
+  pub areas : without_ranges t.config ≡ without_ranges s.config
+  pub ranges : ranged ≡ false → t.config ≡ s.config
   pub interfaces : t.interfaces ≡ s.interfaces
 
-placed : (s : State) (change : Database → Database) (o : Option ℕ) → Leaves s (changed_at_place s change o)
-placed s change None = record { config = refl; interfaces = refl }
-placed s change (Some k) = record { config = refl; interfaces = refl }
+placed : (s : State) (change : Database → Database) (o : Option ℕ) → Leaves false s (changed_at_place s change o)
+placed s change None = record { areas = refl; ranges = λ unranged. refl; interfaces = refl }
+placed s change (Some k) = record { areas = refl; ranges = λ unranged. refl; interfaces = refl }
+
+-- other ranges of an area, and nothing else
+ranges_name : (s : State) (area : ℕ) (change : List Range → List Range) → Leaves true s (with_range_change s area change)
+ranges_name s area change = record {
+  areas = ap (λ (areas : List AreaConfig). let c : Config = record s.config { areas = areas } in c) (others_kept s.config.areas area change);
+  ranges = λ unranged. absurd cc;
+  interfaces = refl;
+}
 
 -- an event that is no interface's
 abbrev pub IsOfDatabases : Event → Type 0
 IsOfDatabases e = (id area address peer : ℕ) (up : Bool) → e ≢ event.Interface id area address peer up
 
-others_leave : (s : State) (e : Event) → IsOfDatabases e → Leaves s (step s e)
-others_leave s (event.Install at l) other = let h = placed s (λ d. insert d (key_of l) l) (place_of s.config.areas at) in record { config = h.config; interfaces = h.interfaces }
-others_leave s (event.Flush at key) other = let h = placed s (λ d. aged_out d key) (place_of s.config.areas at) in record { config = h.config; interfaces = h.interfaces }
-others_leave s (event.Purge at key) other = let h = placed s (λ d. remove d key) (place_of s.config.areas at) in record { config = h.config; interfaces = h.interfaces }
+others_leave : (s : State) (e : Event) → IsOfDatabases e → Leaves (changes_ranges e) s (step s e)
+others_leave s (event.Install at l) other = let h = placed s (λ d. insert d (key_of l) l) (place_of s.config.areas at) in record { areas = h.areas; ranges = h.ranges; interfaces = h.interfaces }
+others_leave s (event.Flush at key) other = let h = placed s (λ d. aged_out d key) (place_of s.config.areas at) in record { areas = h.areas; ranges = h.ranges; interfaces = h.interfaces }
+others_leave s (event.Purge at key) other = let h = placed s (λ d. remove d key) (place_of s.config.areas at) in record { areas = h.areas; ranges = h.ranges; interfaces = h.interfaces }
 others_leave s (event.Interface id area address peer up) other = absurd (other id area address peer up refl)
-others_leave s event.Second other = record { config = refl; interfaces = refl }
+others_leave s (event.RangeSet area prefix advertise) other = let h = ranges_name s area (set_range (range_with prefix advertise)) in record { areas = h.areas; ranges = h.ranges; interfaces = h.interfaces }
+others_leave s (event.RangeDrop area prefix) other = let h = ranges_name s area (drop_range prefix) in record { areas = h.areas; ranges = h.ranges; interfaces = h.interfaces }
+others_leave s event.Second other = record { areas = refl; ranges = λ unranged. refl; interfaces = refl }
 
 -- every other event changes no interface
-pub others_name : (s : State) (e : Event) (keys : List (Scope × Key)) (ids : List ℕ) → IsOfDatabases e → ids ≡ []
-    → ((at : Scope) (key : Key) → (Contains keys (at, key) → ⊥) → usable_at (step s e) at key ≡ usable_at s at key) → StatesDifferAmong keys ids s (step s e)
-others_name s e keys ids other none usable =
+pub others_name : (s : State) (e : Event) (keys : List (Scope × Key)) (ids : List ℕ) (ranged : Bool) → IsOfDatabases e → ids ≡ [] → ranged ≡ changes_ranges e
+    → ((at : Scope) (key : Key) → (Contains keys (at, key) → ⊥) → usable_at (step s e) at key ≡ usable_at s at key) → StatesDifferAmong keys ids ranged s (step s e)
+others_name s e keys ids ranged other none is usable =
     let h = others_leave s e other in
     record {
-      config = h.config;
+      areas = h.areas;
+      ranges = λ unranged. h.ranges (sym is ∙ unranged);
       usable = usable;
       interfaces = λ id absent. ap (λ (m : FinMap nat_cmp Interface). get m id) h.interfaces;
       one_kind = inr none;

@@ -1,9 +1,8 @@
 -- No work is due between states whose areas have the same trees.
-use Rattle.std.proofs.Common.{◌≡◌, ◌≤◌, ℕ, List, [], ◌∷◌, length, map, refl, sym, ap, subst, inl, inr, arith}
+use Rattle.std.proofs.Common.{◌≡◌, ◌≤◌, ℕ, List, [], ◌∷◌, length, map, refl, sym, ap, inl, inr, arith}
 use Rattle.std.specs.Prelude.{◌↔◌, min}
 use Rattle.std.specs.List.{Contains, sum_by}
 use Rattle.ospf_types.specs.declared.config.AreaConfig.{AreaConfig}
-use Rattle.ospf_types.specs.declared.config.Config.{Config}
 use Rattle.ospf_types.specs.declared.entry.Vertex.{Vertex}
 use Rattle.ospf_types.specs.declared.entry.Vertex.TheVariants.{Router}
 use Rattle.ospf_types.specs.Distances.{Links}
@@ -72,29 +71,31 @@ none_set [] = refl
 none_set (a ∷ areas) = none_set areas
 
 module _ (s t : State) (fit : AreFit s.config.areas s.databases) (other_fit : AreFit t.config.areas t.databases) where
-  are_idle : (areas : List AreaConfig) (trees : List AreaTreeValue) → AreTreesOf s areas trees → AreTreesOf t areas trees → AreWorksOf s t areas (idle areas)
-  are_idle [] trees one two = tt
-  are_idle (a ∷ areas) [] one two = absurd one
-  are_idle (a ∷ areas) (x ∷ trees) one two =
+  are_idle : (areas others : List AreaConfig) (trees : List AreaTreeValue) → AreTreesOf s areas trees → AreTreesOf t others trees → AreWorksOf s t areas others (idle areas)
+  are_idle [] [] trees one two = tt
+  are_idle [] (b ∷ others) [] one two = absurd two
+  are_idle [] (b ∷ others) (x ∷ trees) one two = absurd one
+  are_idle (a ∷ areas) others [] one two = absurd one
+  are_idle (a ∷ areas) [] (x ∷ trees) one two = absurd two
+  are_idle (a ∷ areas) (b ∷ others) (x ∷ trees) one two =
       let before = area_is s fit a one.0.0 one.0.1 in
-      let after = area_is t other_fit a two.0.0 two.0.1 in
-      let same : SameLinks (IsLink (inputs_of s) (area_of s a)) (IsLink (inputs_of t) (area_of t a)) = λ from to cost label.
+      let after = area_is t other_fit b two.0.0 two.0.1 in
+      let same : SameLinks (IsLink (inputs_of s) (area_of s a)) (IsLink (inputs_of t) (area_of t b)) = λ from to cost label.
       let p = links_in before one.0.2 from to cost label in
       let q = links_in after two.0.2 from to cost label in
       (λ l. q.0 (p.1 l), λ l. p.0 (q.1 l)) in
       let p = root_in before one.0.2 in
       let q = root_in after two.0.2 in
-      let rooted : IsVertex (area_of s a) (Router s.config.router) ↔ IsVertex (area_of t a) (Router t.config.router) = (λ h. q.0 (p.1 h), λ h. p.0 (q.1 h)) in (
-        nothing_due s.config.router (IsLink (inputs_of s) (area_of s a)) (IsLink (inputs_of t) (area_of t a)) (IsVertex (area_of s a) (Router s.config.router)) (IsVertex (area_of t a) (Router t.config.router)) same rooted,
-        are_idle areas trees one.1 two.1,
+      let rooted : IsVertex (area_of s a) (Router s.config.router) ↔ IsVertex (area_of t b) (Router t.config.router) = (λ h. q.0 (p.1 h), λ h. p.0 (q.1 h)) in (
+        nothing_due s.config.router (IsLink (inputs_of s) (area_of s a)) (IsLink (inputs_of t) (area_of t b)) (IsVertex (area_of s a) (Router s.config.router)) (IsVertex (area_of t b) (Router t.config.router)) same rooted,
+        are_idle areas others trees one.1 two.1,
       )
 
 -- where the same is kept of both
-pub no_event_work : (s t : State) (c : CalculationValue) → AreFit s.config.areas s.databases → AreFit t.config.areas t.databases → t.config ≡ s.config → IsCalculationOf s c → IsCalculationOf t c → IsEventWork s t no_work
-no_event_work s t c fit other_fit config one two =
-    let trees = subst (λ (areas : List AreaConfig). AreTreesOf t areas c.trees) (ap (λ (x : Config). x.areas) config) two.trees in
+pub no_event_work : (s t : State) (c : CalculationValue) → AreFit s.config.areas s.databases → AreFit t.config.areas t.databases → IsCalculationOf s c → IsCalculationOf t c → IsEventWork s t no_work
+no_event_work s t c fit other_fit one two =
     let areas = s.config.areas in (
       idle areas,
-      are_idle s t fit other_fit areas c.trees one.trees trees,
+      are_idle s t fit other_fit areas t.config.areas c.trees one.trees two.trees,
       (ap (λ (n : ℕ). min n most_count) (sym (none_taken areas)), ap (λ (n : ℕ). min n most_count) (sym (none_set areas))),
     )

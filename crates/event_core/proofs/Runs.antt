@@ -1,16 +1,18 @@
 -- Runs of events, and one event more.
 use Rattle.std.proofs.Common.{◌≡◌, ℕ, ◌≤◌, take, List, [], ◌∷◌, ◌++◌, length, Option, Some, None, refl, sym, ap, subst, ◌∙◌, arith}
-use Rattle.std.specs.Prelude.{false, ◌↔◌, ◌<◌, Result, Ok, Err, IfOk, OnOk, OnErr}
+use Rattle.std.specs.Prelude.{false, ◌↔◌, ◌<◌, ◌+◌, Result, Ok, Err, IfOk, OnOk, OnErr}
 use Rattle.std.proofs.lemmas.List.{length-append, take-append-le, take_all}
-use Rattle.ospf_types.specs.declared.config.Config.{Config}
+use Rattle.event_state.specs.declared.base.Base.{Base}
 use Rattle.ospf_types.specs.Lsa.{key_of}
 use Rattle.std.specs.FinMap.{insert, remove}
 use Rattle.event_state.specs.declared.event.Event.{Event}
 use Rattle.event_state.specs.declared.event.Event.TheVariants as event
 use Rattle.event_state.specs.declared.limits.Limits.{Limits}
 use Rattle.lsdb.specs.Databases.{Database, aged_out}
-use Rattle.event_state.specs.States.{State, LooksAlike, place_of, changed_at_place}
-use Rattle.event_state.specs.Steps.{opening, step, refusal_of, run_from, run_of, AreTaken}
+use Rattle.event_state.specs.BaseFaults.{base_fault_of}
+use Rattle.event_state.specs.States.{State, LooksAlike, place_of, changed_at_place, serial_of}
+use Rattle.event_state.specs.Rolls.{since, IsBaseOf}
+use Rattle.event_state.specs.Steps.{opening, step, refusal_of, run_from, run_of}
 use Rattle.vertex_graph.specs.Graphs.{most_routers}
 use Rattle.route_table.specs.Tables.{TableValue}
 use Rattle.dues.specs.Dues.{lists_of}
@@ -19,7 +21,7 @@ use Rattle.event_core.specs.Right.{IsRight, AreDue}
 use Rattle.event_core.specs.declared.reply.Reply.{Reply}
 use Rattle.event_core.specs.declared.reply.Standing.{Standing}
 use Rattle.event_core.specs.declared.reply.Standing.TheVariants.{Current, Behind}
-use Rattle.event_core.specs.Cores.{CoreValue, IsCore, IsTaken, Applies, Tells, Stands, HasBoundedWork, NamesChanges, state_of}
+use Rattle.event_core.specs.Cores.{CoreValue, IsCore, IsTaken, Rolls, Applies, Tells, Stands, HasBoundedWork, NamesChanges, state_of}
 use Rattle.event_core.specs.Kept.{core_of, IsCoherent}
 use Rattle.event_state.specs.declared.refusal.Refusal.{Refusal}
 use Rattle.config_faults.specs.Configs.{config_fault_of}
@@ -29,50 +31,28 @@ use Rattle.calculation.specs.Works.{IsEventWork}
 use Rattle.event_core.specs.Following.{RoutesValue, AreRoutesOf, AreChanges, no_work}
 use Rattle.event_core.specs.Sums.{IsFollowingWork, IsBuildingWork}
 use Rattle.event_state.specs.Held.{AreFit}
+use Rattle.event_state.proofs.KeptConfigs.{sound_since}
+use Rattle.event_state.proofs.Rolls.{further_step, run_append, taken_more}
+use Rattle.event_state.proofs.Faultless.{faultless}
 use Rattle.event_core.proofs.DueRight.{routes_due}
 use Rattle.event_core.proofs.RoutesRight.{routes_right}
+use Rattle.event_core.proofs.Settled.{routes_since}
 use Rattle.event_core.proofs.Uncut.{event_uncut, build_uncut}
 
--- what no event changes
-pub record SameSetting (s t : State) : Type 0 where
-  pub config : s.config ≡ t.config
-  pub limits : s.limits ≡ t.limits
-
-placed : (s : State) (change : Database → Database) (o : Option ℕ) → SameSetting (changed_at_place s change o) s
-placed s change None = record { config = refl; limits = refl }
-placed s change (Some k) = record { config = refl; limits = refl }
-
-pub step_setting : (s : State) (e : Event) → SameSetting (step s e) s
-step_setting s (event.Install at l) = let h = placed s (λ d. insert d (key_of l) l) (place_of s.config.areas at) in record { config = h.config; limits = h.limits }
-step_setting s (event.Flush at key) = let h = placed s (λ d. aged_out d key) (place_of s.config.areas at) in record { config = h.config; limits = h.limits }
-step_setting s (event.Purge at key) = let h = placed s (λ d. remove d key) (place_of s.config.areas at) in record { config = h.config; limits = h.limits }
-step_setting s (event.Interface id area address peer up) = record { config = refl; limits = refl }
-step_setting s event.Second = record { config = refl; limits = refl }
-
-pub run_push : (s : State) (events : List Event) (e : Event) → run_from s (events ++ e ∷ []) ≡ step (run_from s events) e
-run_push s [] e = refl
-run_push s (f ∷ events) e = run_push (step s f) events e
-
-pub taken_push : (s : State) (events : List Event) (e : Event) → AreTaken s events → refusal_of (run_from s events) e ≡ None → AreTaken s (events ++ e ∷ [])
-taken_push s [] e taken accepted = (accepted, tt)
-taken_push s (f ∷ events) e taken accepted = (taken.0, taken_push (step s f) events e taken.1 accepted)
-
--- no run changes it either
-pub run_setting : (s : State) (events : List Event) → SameSetting (run_from s events) s
-run_setting s [] = record { config = refl; limits = refl }
-run_setting s (e ∷ events) =
-    let rest = run_setting (step s e) events in
-    let one = step_setting s e in
-    record { config = rest.config ∙ one.config; limits = rest.limits ∙ one.limits }
+-- the configuration has no fault, as the base had none
+pub sound_now : (s : State) (r : RoutesValue) (built : ℕ) → IsCoherent s r built → config_fault_of s.config ≡ None
+sound_now s r built kept =
+    ap (λ (v : State). config_fault_of v.config) kept.run
+    ∙ sound_since s.base s.limits s.journal (faultless s.limits s.base kept.core.sound).config kept.core.legal
 
 -- a run of the journal that is one event longer
-step_runs : (s : State) (e : Event) → s ≡ run_of s.config s.limits s.journal → step s e ≡ run_of s.config s.limits (s.journal ++ e ∷ [])
-step_runs s e run = ap (λ (t : State). step t e) run ∙ sym (run_push _ s.journal e)
+step_runs : (s : State) (e : Event) → s ≡ run_of s.base s.limits s.journal → step s e ≡ run_of s.base s.limits (s.journal ++ e ∷ [])
+step_runs s e run = ap (λ (t : State). step t e) run ∙ sym (run_append _ s.journal (e ∷ []))
 
 -- no event was taken, and the routes are those of the opening state
-pub kept_open : (config : Config) (limits : Limits) (s : State) (r : RoutesValue) → s ≡ opening config limits → config_fault_of config ≡ None → limits.area_lsas ≤ most_routers → AreRoutesOf s r → IsCoherent s r 0
-kept_open config limits s r is sound few are =
-    let first : State = opening config limits in
+pub kept_open : (base : Base) (limits : Limits) (s : State) (r : RoutesValue) → s ≡ opening base limits → base_fault_of limits base ≡ None → limits.area_lsas ≤ most_routers → AreRoutesOf s r → IsCoherent s r 0
+kept_open base limits s r is sound few are =
+    let first : State = opening base limits in
     let first_are = subst (λ (v : State). AreRoutesOf v r) is are in
     subst (λ (v : State). IsCoherent v r 0) (sym is) (record {
       run = refl;
@@ -81,24 +61,49 @@ kept_open config limits s r is sound few are =
       few = few;
     })
 
+-- the state is the base, and the routes are still those of the state
+pub kept_roll : (s u : State) (r : RoutesValue) (built : ℕ) (b : Base) → IsCoherent s r built → built ≡ length s.journal → AreFit s.config.areas s.databases → IsBaseOf s b → base_fault_of s.limits b ≡ None
+    → u ≡ since b s → u ≡ opening b s.limits → IsCoherent u r 0
+kept_roll s u r built b kept all fit is sound since_is again =
+    kept_open b s.limits u r again sound kept.few (subst (λ (v : State). AreRoutesOf v r) (sym since_is) (routes_since s b r is fit (kept.fresh all)))
+
+-- and the core is rolled
+pub rolls : (s u : State) (r : RoutesValue) (built : ℕ) (b : Base) → IsCoherent s r built → IsBaseOf s b → u ≡ since b s → u ≡ opening b s.limits → Rolls (core_of s r built) (core_of u r 0)
+rolls s u r built b kept is since_is again =
+    let base : u.base ≡ b = ap (λ (v : State). v.base) since_is in
+    let limits : u.limits ≡ s.limits = ap (λ (v : State). v.limits) since_is in
+    let journal : u.journal ≡ [] = ap (λ (v : State). v.journal) since_is in
+    let now : state_of (core_of u r 0) ≡ since b s = (λ i. run_of (base i) (limits i) (journal i)) ∙ sym again ∙ since_is in
+    record {
+      base = subst (λ (z : State × Base). IsBaseOf z.0 z.1) (λ i. (kept.run i, sym base i)) is;
+      state = now ∙ (λ i. since (sym base i) (kept.run i));
+      limits = limits;
+      journal = journal;
+      built = refl;
+      table = refl;
+      dues = refl;
+      work = refl;
+      changes = refl;
+    }
+
 -- an event more, and table and due summaries are as they were, whatever else is kept
 pub kept_behind : (s : State) (r new : RoutesValue) (built : ℕ) (e : Event) → IsCoherent s r built → refusal_of s e ≡ None → new.table ≡ r.table → lists_of new.dues ≡ lists_of r.dues → IsCoherent (step s e) new built
 kept_behind s r new built e kept accepted table dues =
-    let setting = step_setting s e in
-    let runs : (config : Config) (limits : Limits) → config ≡ s.config → limits ≡ s.limits → step s e ≡ run_of config limits (s.journal ++ e ∷ []) = λ config limits p q. step_runs s e kept.run ∙ sym (λ i. run_of (p i) (q i) (s.journal ++ e ∷ [])) in
+    let setting = further_step s e in
+    let runs : (base : Base) (limits : Limits) → base ≡ s.base → limits ≡ s.limits → step s e ≡ run_of base limits (s.journal ++ e ∷ []) = λ base limits p q. step_runs s e kept.run ∙ sym (λ i. run_of (p i) (q i) (s.journal ++ e ∷ [])) in
     let front : take built (s.journal ++ e ∷ []) ≡ take built s.journal = take-append-le built s.journal (e ∷ []) kept.core.within in
-    let core : IsCore (record { config = s.config; limits = s.limits; journal = s.journal ++ e ∷ []; built = built; table = new.table; dues = lists_of new.dues; work = new.work; changes = new.changes }) = record {
+    let core : IsCore (record { base = s.base; limits = s.limits; journal = s.journal ++ e ∷ []; built = built; table = new.table; dues = lists_of new.dues; work = new.work; changes = new.changes }) = record {
       sound = kept.core.sound;
-      legal = taken_push _ s.journal e kept.core.legal (ap (λ (u : State). refusal_of u e) (sym kept.run) ∙ accepted);
+      legal = taken_more s.base s.limits s.journal e kept.core.legal (ap (λ (u : State). refusal_of u e) (sym kept.run) ∙ accepted);
       within = omega (arith, kept.core.within, length-append s.journal (e ∷ []));
-      right = subst (λ (t : TableValue). IsRight (run_of s.config s.limits (take built (s.journal ++ e ∷ []))) t) (sym table)
-          (subst (λ (events : List Event). IsRight (run_of s.config s.limits events) r.table) (sym front) kept.core.right);
-      due = subst (AreDue (run_of s.config s.limits (take built (s.journal ++ e ∷ [])))) (sym dues)
-          (subst (λ (events : List Event). AreDue (run_of s.config s.limits events) (lists_of r.dues)) (sym front) kept.core.due);
+      right = subst (λ (t : TableValue). IsRight (run_of s.base s.limits (take built (s.journal ++ e ∷ []))) t) (sym table)
+          (subst (λ (events : List Event). IsRight (run_of s.base s.limits events) r.table) (sym front) kept.core.right);
+      due = subst (AreDue (run_of s.base s.limits (take built (s.journal ++ e ∷ [])))) (sym dues)
+          (subst (λ (events : List Event). AreDue (run_of s.base s.limits events) (lists_of r.dues)) (sym front) kept.core.due);
     } in
     record {
-      run = runs (step s e).config (step s e).limits setting.config setting.limits;
-      core = subst (λ (c : CoreValue). IsCore c) (λ i. record { config = sym setting.config i; limits = sym setting.limits i; journal = s.journal ++ e ∷ []; built = built; table = new.table; dues = lists_of new.dues; work = new.work; changes = new.changes }) core;
+      run = runs (step s e).base (step s e).limits setting.base setting.limits;
+      core = subst (λ (c : CoreValue). IsCore c) (λ i. record { base = sym setting.base i; limits = sym setting.limits i; journal = s.journal ++ e ∷ []; built = built; table = new.table; dues = lists_of new.dues; work = new.work; changes = new.changes }) core;
       fresh = λ all. absurd (omega (arith, all, kept.core.within, length-append s.journal (e ∷ [])));
       few = subst (λ (limits : Limits). limits.area_lsas ≤ most_routers) (sym setting.limits) kept.few;
     }
@@ -108,10 +113,10 @@ kept_step s r built e kept accepted = kept_behind s r r built e kept accepted re
 
 -- table and due summaries that are current
 pub current_right : (c : CoreValue) → IsCore c → c.built ≡ length c.journal → IsRight (state_of c) c.table
-current_right c core all = subst (λ (events : List Event). IsRight (run_of c.config c.limits events) c.table) (take_all c.built c.journal (omega arith)) core.right
+current_right c core all = subst (λ (events : List Event). IsRight (run_of c.base c.limits events) c.table) (take_all c.built c.journal (omega arith)) core.right
 
 pub current_due : (c : CoreValue) → IsCore c → c.built ≡ length c.journal → AreDue (state_of c) c.dues
-current_due c core all = subst (λ (events : List Event). AreDue (run_of c.config c.limits events) c.dues) (take_all c.built c.journal (omega arith)) core.due
+current_due c core all = subst (λ (events : List Event). AreDue (run_of c.base c.limits events) c.dues) (take_all c.built c.journal (omega arith)) core.due
 
 -- routes that are the state's make a core that is current
 pub kept_current : (s : State) (r new : RoutesValue) (built now : ℕ) → IsCoherent s r built → now ≡ length s.journal → AreRoutesOf s new → IsCoherent s new now
@@ -119,7 +124,7 @@ kept_current s r new built now kept all are =
     let right = routes_right s new are in
     let due = routes_due s new are in
     let whole : take now s.journal ≡ s.journal = take_all now s.journal (omega arith) in
-    let is : s ≡ run_of s.config s.limits (take now s.journal) = kept.run ∙ ap (run_of s.config s.limits) (sym whole) in
+    let is : s ≡ run_of s.base s.limits (take now s.journal) = kept.run ∙ ap (run_of s.base s.limits) (sym whole) in
     record {
       run = kept.run;
       core = record { sound = kept.core.sound; legal = kept.core.legal; within = omega arith; right = subst (λ (v : State). IsRight v new.table) is right; due = subst (λ (v : State). AreDue v (lists_of new.dues)) is due };
@@ -137,18 +142,18 @@ stands_same s u r built Behind new h = h
 
 -- a step of the state, and then routes that stand, take the event
 pub takes : (s u : State) (r : RoutesValue) (built : ℕ) (e : Event) (reply : Reply) (new : CoreValue) → IsCoherent s r built → u ≡ step s e → refusal_of s e ≡ None
-    → (reply.changed ≡ false) ↔ LooksAlike s u → new.journal ≡ u.journal → new.config ≡ u.config → new.limits ≡ u.limits → Stands (core_of u r built) reply.state new → reply.serial ≡ length new.journal
+    → (reply.changed ≡ false) ↔ LooksAlike s u → new.journal ≡ u.journal → new.base ≡ u.base → new.limits ≡ u.limits → Stands (core_of u r built) reply.state new → reply.serial ≡ serial_of u
     → IsTaken (core_of s r built) e reply new
-takes s u r built e reply new kept is accepted changed journal config limits stands serial =
-    let run_new : state_of new ≡ u = (λ i. run_of (config i) (limits i) (journal i)) ∙ sym (subst (λ (v : State). v ≡ run_of v.config v.limits v.journal) (sym is) (kept_step s r built e kept accepted).run) in
+takes s u r built e reply new kept is accepted changed journal base limits stands serial =
+    let run_new : state_of new ≡ u = (λ i. run_of (base i) (limits i) (journal i)) ∙ sym (subst (λ (v : State). v ≡ run_of v.base v.limits v.journal) (sym is) (kept_step s r built e kept accepted).run) in
     let looks : LooksAlike s u → LooksAlike (state_of (core_of s r built)) (state_of new) = λ l. subst (λ (v : State). LooksAlike v (state_of new)) kept.run (subst (λ (v : State). LooksAlike s v) (sym run_new) l) in
     let back : LooksAlike (state_of (core_of s r built)) (state_of new) → LooksAlike s u = λ l. subst (λ (v : State). LooksAlike s v) run_new (subst (λ (v : State). LooksAlike v (state_of new)) (sym kept.run) l) in
     record {
       accepted = ap (λ (v : State). refusal_of v e) (sym kept.run) ∙ accepted;
       joins = journal ∙ ap (λ (v : State). v.journal) is;
-      config = config ∙ ap (λ (v : State). v.config) is ∙ (step_setting s e).config;
-      limits = limits ∙ ap (λ (v : State). v.limits) is ∙ (step_setting s e).limits;
-      serial = serial;
+      base = base ∙ ap (λ (v : State). v.base) is ∙ (further_step s e).base;
+      limits = limits ∙ ap (λ (v : State). v.limits) is ∙ (further_step s e).limits;
+      serial = serial ∙ ap serial_of (sym run_new);
       changed = (λ p. looks (changed.0 p), λ l. changed.1 (back l));
       stands = stands_same s u r built reply.state new stands;
     }
@@ -184,14 +189,14 @@ module _ (s u : State) (r new : RoutesValue) (built : ℕ) (e : Event) (kept : I
   coherent_err (Err x) m err h = settled_err h.unchanged h.due
 
   pub taken_ok : (result : Result (Unit {0}) Memory) (now : ℕ) (reply : Reply) → now ≡ length u.journal → result ≡ Ok tt → IsSettled s u r built result new
-      → (reply.changed ≡ false) ↔ LooksAlike s u → reply.state ≡ Current → reply.serial ≡ now → IsTaken (core_of s r built) e reply (core_of u new now)
+      → (reply.changed ≡ false) ↔ LooksAlike s u → reply.state ≡ Current → reply.serial ≡ serial_of u → IsTaken (core_of s r built) e reply (core_of u new now)
   taken_ok result now reply all ok h changed current serial =
       let after = coherent_ok result now all ok h in
       takes s u r built e reply (core_of u new now) kept is accepted changed refl refl refl
-      (subst (λ (standing : Standing). Stands (core_of u r built) standing (core_of u new now)) (sym current) (stands_current u new now (core_of u r built) after all)) (serial ∙ all)
+      (subst (λ (standing : Standing). Stands (core_of u r built) standing (core_of u new now)) (sym current) (stands_current u new now (core_of u r built) after all)) serial
 
   pub taken_err : (result : Result (Unit {0}) Memory) (m : Memory) (reply : Reply) → result ≡ Err m → IsSettled s u r built result new
-      → (reply.changed ≡ false) ↔ LooksAlike s u → reply.state ≡ Behind → reply.serial ≡ length u.journal → IsTaken (core_of s r built) e reply (core_of u new built)
+      → (reply.changed ≡ false) ↔ LooksAlike s u → reply.state ≡ Behind → reply.serial ≡ serial_of u → IsTaken (core_of s r built) e reply (core_of u new built)
   taken_err (Ok x) m reply err h changed behind serial = absurd cc
   taken_err (Err x) m reply err h changed behind serial =
       let longer : built < length u.journal = omega (arith, kept.core.within, length-append s.journal (e ∷ []), ap (λ (v : State). length v.journal) is) in
@@ -201,9 +206,9 @@ module _ (s u : State) (r new : RoutesValue) (built : ℕ) (e : Event) (kept : I
   pub bounded_ok : (result : Result (Unit {0}) Memory) (now : ℕ) → now ≡ length u.journal → result ≡ Ok tt → IsSettled s u r built result new → HasBoundedWork (core_of s r built) Current (core_of u new now)
   bounded_ok (Ok x) now all ok h =
       let after = settled_ok now all h.right in
-      let config : u.config ≡ s.config = ap (λ (v : State). v.config) is ∙ (step_setting s e).config in
-      let sound : config_fault_of u.config ≡ None = ap config_fault_of config ∙ kept.core.sound in
-      let follows : built ≡ length s.journal → IsFollowingWork s u new.work = λ current. event_uncut s u r.calculation new.calculation new.work kept.core.sound config (kept.fresh current).calculation h.right.calculation (h.bounded current) in (
+      let before : config_fault_of s.config ≡ None = sound_now s r built kept in
+      let sound : config_fault_of u.config ≡ None = sound_now u new now after in
+      let follows : built ≡ length s.journal → IsFollowingWork s u new.work = λ current. event_uncut s u r.calculation new.calculation new.work before (kept.fresh current).calculation h.right.calculation (h.bounded current) in (
         λ current. subst (λ (v : State). IsFollowingWork v (state_of (core_of u new now)) new.work) kept.run (subst (λ (v : State). IsFollowingWork s v new.work) after.run (follows current)),
         λ behind. subst (λ (v : State). IsBuildingWork v new.work) after.run (build_uncut u new.work sound (h.anew behind)),
       )

@@ -1,15 +1,19 @@
 -- Routes after an event: what is kept, the items of the table and what is due have followed, or nothing that is calculated from differs.
-use Rattle.std.proofs.Common.{◌≡◌, ℕ, Bool, false, List, [], length, refl, sym, subst}
+use Rattle.std.proofs.Common.{◌≡◌, ℕ, Bool, false, List, [], refl, sym, subst, arith}
 use Rattle.ospf_types.specs.declared.key.Key.{Key}
 use Rattle.ospf_types.specs.declared.key.Scope.{Scope}
 use Rattle.route_table.specs.Tables.{TableValue}
 use Rattle.event_state.specs.Held.{AreFit}
-use Rattle.event_state.specs.States.{State, LooksAlike}
+use Rattle.event_state.specs.declared.base.Base.{Base}
+use Rattle.event_state.specs.Rolls.{since, IsBaseOf}
+use Rattle.event_state.specs.States.{State, AreApart, LooksAlike, serial_of}
 use Rattle.calculation.specs.Calculations.{IsCalculationOf, IsTableOf}
 use Rattle.calculation.specs.Trees.{StatesDifferAmong}
 use Rattle.calculation.specs.Due.{AreDuesFor}
 use Rattle.calculation.specs.Works.{IsEventWork}
 use Rattle.event_core.specs.Following.{RoutesValue, AreRoutesOf, AreChanges, no_work}
+use Rattle.ospf_types.proofs.RangeChanges.{areas_kept}
+use Rattle.calculation.proofs.OtherRanges.{apart_kept}
 use Rattle.calculation.proofs.Alike.{calculation_alike}
 use Rattle.calculation.proofs.Due.{due_alike}
 use Rattle.event_core.proofs.Followed.{nothing_changes}
@@ -20,28 +24,32 @@ abbrev forgotten : RoutesValue → RoutesValue
 forgotten r = record r { work = no_work; changes = [] }
 
 -- the states differ as it is said, and look alike where nothing is changed
-pub record GoesOn (keys : List (Scope × Key)) (ids : List ℕ) (changed : Bool) (before after : State) : Type 0 where
+pub record GoesOn (keys : List (Scope × Key)) (ids : List ℕ) (ranged changed : Bool) (before after : State) : Type 0 where
   pub fit : AreFit before.config.areas before.databases
-  pub differ : StatesDifferAmong keys ids before after
+  pub differ : StatesDifferAmong keys ids ranged before after
   pub alike : changed ≡ false → LooksAlike before after
 
 -- all but the serial of the table is right for the state, and what differs from the routes of before is told
-pub record HasFollowed (t : State) (keys : List (Scope × Key)) (ids : List ℕ) (changed : Bool) (old new : RoutesValue) : Type 0 where
+pub record HasFollowed (t : State) (keys : List (Scope × Key)) (ids : List ℕ) (ranged changed : Bool) (old new : RoutesValue) : Type 0 where
   pub calculation : IsCalculationOf t new.calculation
   pub items : IsTableOf new.calculation new.table.items
   pub dues : AreDuesFor t new.calculation new.dues
   pub exact : AreChanges old.table.items new.table.items new.changes
-  pub bounded : (before : State) → GoesOn keys ids changed before t → AreRoutesOf before old → IsEventWork before t new.work
+  pub bounded : (before : State) → GoesOn keys ids ranged changed before t → AreRoutesOf before old → IsEventWork before t new.work
 
 forgotten_routes : (s : State) (r : RoutesValue) → AreRoutesOf s r → AreRoutesOf s (forgotten r)
 forgotten_routes s r are = record { calculation = are.calculation; table = are.table; serial = are.serial; dues = are.dues }
 
+-- no two areas have one Area ID, since at most their ranges are others
+pub still_apart : (s t : State) (keys : List (Scope × Key)) (ids : List ℕ) (ranged : Bool) → AreFit s.config.areas s.databases → StatesDifferAmong keys ids ranged s t → AreApart t.config.areas
+still_apart s t keys ids ranged fit differ = apart_kept s.config.areas t.config.areas (sym (areas_kept t.config s.config differ.areas)) fit.apart
+
 pub still_routes : (s : State) (old mid : RoutesValue) → mid ≡ forgotten old → AreRoutesOf s old → AreRoutesOf s mid
 still_routes s old mid is are = subst (AreRoutesOf s) (sym is) (forgotten_routes s old are)
 
-module _ (t : State) (keys : List (Scope × Key)) (ids : List ℕ) (changed : Bool) (old mid : RoutesValue) (is : mid ≡ forgotten old) where
+module _ (t : State) (keys : List (Scope × Key)) (ids : List ℕ) (ranged changed : Bool) (old mid : RoutesValue) (is : mid ≡ forgotten old) where
   pub followed : (new : RoutesValue) → IsCalculationOf t new.calculation → IsTableOf new.calculation new.table.items → AreDuesFor t new.calculation new.dues → AreChanges mid.table.items new.table.items new.changes
-      → ((before : State) → AreRoutesOf before mid → StatesDifferAmong keys ids before t → IsEventWork before t new.work) → HasFollowed t keys ids changed old new
+      → ((before : State) → AreRoutesOf before mid → StatesDifferAmong keys ids ranged before t → IsEventWork before t new.work) → HasFollowed t keys ids ranged changed old new
   followed new calculation items dues exact bounded = record {
     calculation = calculation;
     items = items;
@@ -50,19 +58,30 @@ module _ (t : State) (keys : List (Scope × Key)) (ids : List ℕ) (changed : Bo
     bounded = λ before goes are. bounded before (still_routes before old mid is are) goes.differ;
   }
 
-  pub stayed : changed ≡ false → AreFit t.config.areas t.databases → (before : State) → GoesOn keys ids changed before t → AreRoutesOf before old → HasFollowed t keys ids changed old mid
+  pub stayed : changed ≡ false → AreFit t.config.areas t.databases → (before : State) → GoesOn keys ids ranged changed before t → AreRoutesOf before old → HasFollowed t keys ids ranged changed old mid
   stayed same fit before goes are =
-      let alike = calculation_alike before t old.calculation (goes.alike same) goes.differ.config fit are.calculation in
-      subst (HasFollowed t keys ids changed old) (sym is) (record {
+      let alike = calculation_alike before t old.calculation (goes.alike same) fit are.calculation in
+      subst (HasFollowed t keys ids ranged changed old) (sym is) (record {
         calculation = alike;
         items = are.table;
-        dues = due_alike before t old.calculation old.dues (goes.alike same) goes.differ.config are.dues;
+        dues = due_alike before t old.calculation old.dues (goes.alike same) are.dues;
         exact = nothing_changes old.table.items;
-        bounded = λ other on others. no_event_work other t old.calculation on.fit fit on.differ.config others.calculation alike;
+        bounded = λ other on others. no_event_work other t old.calculation on.fit fit others.calculation alike;
       })
 
 -- with the serial of the state, the routes are those of the state
-pub with_serial : (t : State) (new : RoutesValue) (table : TableValue) → IsCalculationOf t new.calculation → IsTableOf new.calculation new.table.items → AreDuesFor t new.calculation new.dues → table ≡ record new.table { serial = length t.journal }
+pub with_serial : (t : State) (new : RoutesValue) (table : TableValue) → IsCalculationOf t new.calculation → IsTableOf new.calculation new.table.items → AreDuesFor t new.calculation new.dues → table ≡ record new.table { serial = serial_of t }
     → AreRoutesOf t (record new { table = table })
 with_serial t new table calculation items dues is =
     subst (λ (v : TableValue). AreRoutesOf t (record new { table = v })) (sym is) (record { calculation = calculation; table = items; serial = refl; dues = dues })
+
+-- a roll leaves the routes those of the state
+pub routes_since : (s : State) (b : Base) (r : RoutesValue) → IsBaseOf s b → AreFit s.config.areas s.databases → AreRoutesOf s r → AreRoutesOf (since b s) r
+routes_since s b r is fit are =
+    let alike : LooksAlike s (since b s) = record { config = refl; usable = λ at key. refl; interfaces = refl } in
+    record {
+      calculation = calculation_alike s (since b s) r.calculation alike fit are.calculation;
+      table = are.table;
+      serial = omega (arith, are.serial, is.serial);
+      dues = due_alike s (since b s) r.calculation r.dues alike are.dues;
+    }

@@ -6,7 +6,6 @@ use Rattle.std.proofs.lemmas.List.Elements.{All-weaker, All-contains_itself}
 use Rattle.std.proofs.lemmas.List.Sums.{sum_by-le}
 use Rattle.std.proofs.Math.Nat.{min-eq_left}
 use Rattle.ospf_types.specs.declared.config.AreaConfig.{AreaConfig}
-use Rattle.ospf_types.specs.declared.config.Config.{Config}
 use Rattle.ospf_types.specs.declared.entry.Vertex.TheVariants.{Router}
 use Rattle.ospf_types.specs.Links.{IsVertex}
 use Rattle.ospf_types.proofs.Elements.{no_element, first_or_later}
@@ -22,7 +21,7 @@ use Rattle.calculation.proofs.InputsAre.{area_is}
 use Rattle.config_faults.specs.Configs.{config_fault_of}
 use Rattle.event_core.proofs.SmallWorks.{small_area, change_small, build_small}
 use Rattle.event_core.specs.Sums.{IsSum, IsFollowingWork, IsBuildingWork}
-use Rattle.event_core.proofs.Configs.{sound_few}
+use Rattle.event_state.proofs.Configs.{sound_few}
 
 -- each of these works is small
 abbrev AreSmall : List Touched → Type 0
@@ -68,18 +67,21 @@ module _ (s : State) (fit : AreFit s.config.areas s.databases) where
 
 module _ (s t : State) (fit : AreFit s.config.areas s.databases) (other_fit : AreFit t.config.areas t.databases) where
   -- the works of an event
-  changes_small : (areas : List AreaConfig) (trees other_trees : List AreaTreeValue) (works : List Touched) → AreTreesOf s areas trees → AreTreesOf t areas other_trees → AreWorksOf s t areas works → AreSmall works × (length works ≡ length areas)
-  changes_small [] trees others [] one two done = (none_small, refl)
-  changes_small [] trees others (w ∷ works) one two done = absurd done
-  changes_small (a ∷ areas) trees others [] one two done = absurd done
-  changes_small (a ∷ areas) [] others (w ∷ works) one two done = absurd one
-  changes_small (a ∷ areas) (x ∷ trees) [] (w ∷ works) one two done = absurd two
-  changes_small (a ∷ areas) (x ∷ trees) (y ∷ others) (w ∷ works) one two done =
+  changes_small : (areas areas_after : List AreaConfig) (trees other_trees : List AreaTreeValue) (works : List Touched) → AreTreesOf s areas trees → AreTreesOf t areas_after other_trees → AreWorksOf s t areas areas_after works
+      → AreSmall works × (length works ≡ length areas)
+  changes_small [] [] trees others [] one two done = (none_small, refl)
+  changes_small [] [] trees others (w ∷ works) one two done = absurd done
+  changes_small [] (b ∷ after) trees others works one two done = absurd done
+  changes_small (a ∷ areas) [] trees others works one two done = absurd done
+  changes_small (a ∷ areas) (b ∷ after) trees others [] one two done = absurd done
+  changes_small (a ∷ areas) (b ∷ after) [] others (w ∷ works) one two done = absurd one
+  changes_small (a ∷ areas) (b ∷ after) (x ∷ trees) [] (w ∷ works) one two done = absurd two
+  changes_small (a ∷ areas) (b ∷ after) (x ∷ trees) (y ∷ others) (w ∷ works) one two done =
       let before = small_area (inputs_of s) (area_of s a) _ one.0.0 (area_is s fit a one.0.0 one.0.1) in
-      let after = small_area (inputs_of t) (area_of t a) _ two.0.0 (area_is t other_fit a two.0.0 two.0.1) in
-      let rest = changes_small areas trees others works one.1 two.1 done.1 in (
+      let small_after = small_area (inputs_of t) (area_of t b) _ two.0.0 (area_is t other_fit b two.0.0 two.0.1) in
+      let rest = changes_small areas after trees others works one.1 two.1 done.1 in (
         more_small w works
-            (change_small 4294967296 s.config.router (inputs_of s) (inputs_of t) (area_of s a) (area_of t a) (IsVertex (area_of s a) (Router s.config.router)) (IsVertex (area_of t a) (Router t.config.router)) w.taken w.hop_sets before after done.0)
+            (change_small 4294967296 s.config.router (inputs_of s) (inputs_of t) (area_of s a) (area_of t b) (IsVertex (area_of s a) (Router s.config.router)) (IsVertex (area_of t b) (Router t.config.router)) w.taken w.hop_sets before small_after done.0)
             rest.0,
         ap (λ (n : ℕ). suc n) rest.1,
       )
@@ -94,8 +96,7 @@ build_uncut s w sound work =
     (c, is, (done.0, done.1, uncut done.0 w (omega (arith, small.1, sound_few s.config sound)) small.0 done.2))
 
 -- and so is that of an event
-pub event_uncut : (s t : State) (c d : CalculationValue) (w : Touched) → config_fault_of s.config ≡ None → t.config ≡ s.config → IsCalculationOf s c → IsCalculationOf t d → IsEventWork s t w → IsFollowingWork s t w
-event_uncut s t c d w sound config one two work =
-    let trees = subst (λ (areas : List AreaConfig). AreTreesOf t areas d.trees) (ap (λ (x : Config). x.areas) config) two.trees in
-    let small = changes_small s t one.fit two.fit s.config.areas c.trees d.trees work.0 one.trees trees work.1 in
+pub event_uncut : (s t : State) (c d : CalculationValue) (w : Touched) → config_fault_of s.config ≡ None → IsCalculationOf s c → IsCalculationOf t d → IsEventWork s t w → IsFollowingWork s t w
+event_uncut s t c d w sound one two work =
+    let small = changes_small s t one.fit two.fit s.config.areas t.config.areas c.trees d.trees work.0 one.trees two.trees work.1 in
     (work.0, work.1, uncut work.0 w (omega (arith, small.1, sound_few s.config sound)) small.0 work.2)

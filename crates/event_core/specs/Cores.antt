@@ -1,16 +1,22 @@
--- The core as its callers see it: the configuration, the events that were taken, and a table and due summaries that are right for the first of them.
+-- The core as its callers see it: the base, the events that were taken since, and a table and due summaries that are right for the first of them.
 use Rattle.std.specs.Prelude.{ℕ, ◌≡◌, ◌≤◌, ◌<◌, ◌↔◌, ◌⊎◌, false, List, [], ◌∷◌, ◌++◌, take, length, Some, None, Result, Ok, Err}
 use Rattle.ospf_types.specs.declared.config.Config.{Config}
+use Rattle.event_state.specs.declared.base.Base.{Base}
 use Rattle.event_state.specs.declared.event.Event.{Event}
 use Rattle.event_core.specs.declared.reply.Reply.{Reply}
 use Rattle.event_core.specs.declared.reply.Standing.{Standing}
 use Rattle.event_core.specs.declared.reply.Standing.TheVariants.{Current, Behind}
 use Rattle.event_state.specs.declared.refusal.Refusal.{Refusal}
+use Rattle.event_state.specs.declared.refusal.Refusal.TheVariants as refusal
 use Rattle.config_faults.specs.declared.fault.ConfigFault.{ConfigFault}
 use Rattle.config_faults.specs.declared.fault.ConfigFault.TheVariants.{Memory}
 use Rattle.event_state.specs.declared.limits.Limits.{Limits}
 use Rattle.config_faults.specs.Configs.{config_fault_of}
-use Rattle.event_state.specs.States.{State, LooksAlike}
+use Rattle.event_state.specs.declared.base_fault.BaseFault.{BaseFault}
+use Rattle.event_state.specs.declared.base_fault.BaseFault.TheVariants as base_fault
+use Rattle.event_state.specs.BaseFaults.{base_fault_of}
+use Rattle.event_state.specs.Rolls.{since, IsBaseOf}
+use Rattle.event_state.specs.States.{State, LooksAlike, serial_of}
 use Rattle.event_state.specs.Steps.{run_of, refusal_of, IsLegalList}
 use Rattle.event_state.specs.Refusals.{IsRefusalOf}
 use Rattle.route_table.specs.Tables.{TableValue}
@@ -22,9 +28,9 @@ use Rattle.event_core.specs.Following.{AreChanges, no_work}
 use Rattle.event_core.specs.Sums.{IsFollowingWork, IsBuildingWork}
 
 pub record CoreValue : Type 0 where
-  pub config : Config
+  pub base : Base  -- what the journal begins with
   pub limits : Limits
-  pub journal : List Event  -- the events that were taken
+  pub journal : List Event  -- the events that were taken since
   pub built : ℕ  -- table and due summaries are those of so many of them
   pub table : TableValue
   pub dues : List (ℕ × List Due)  -- each area with what is due in it, in the order of the configuration
@@ -33,16 +39,16 @@ pub record CoreValue : Type 0 where
 
 -- the databases and interfaces now
 abbrev pub state_of : CoreValue → State
-state_of c = run_of c.config c.limits c.journal
+state_of c = run_of c.base c.limits c.journal
 
 -- those that table and due summaries are of
 abbrev pub built_state : CoreValue → State
-built_state c = run_of c.config c.limits (take c.built c.journal)
+built_state c = run_of c.base c.limits (take c.built c.journal)
 
--- what holds of every core: its configuration has no fault, each event of the journal is taken in its turn, and table and due summaries are right for the first `built`
+-- what holds of every core: its base has no fault, each event of the journal is taken in its turn, and table and due summaries are right for the first `built`
 pub record IsCore (c : CoreValue) : Type 0 where
-  pub sound : config_fault_of c.config ≡ None
-  pub legal : IsLegalList c.config c.limits c.journal
+  pub sound : base_fault_of c.limits c.base ≡ None
+  pub legal : IsLegalList c.base c.limits c.journal
   pub within : c.built ≤ length c.journal
   pub right : IsRight (built_state c) c.table
   pub due : AreDue (built_state c) c.dues
@@ -56,9 +62,9 @@ Stands old Behind new = (new.built ≡ old.built) × (new.table ≡ old.table) �
 pub record IsTaken (old : CoreValue) (e : Event) (r : Reply) (new : CoreValue) : Type 0 where
   pub accepted : refusal_of (state_of old) e ≡ None
   pub joins : new.journal ≡ old.journal ++ e ∷ []
-  pub config : new.config ≡ old.config
+  pub base : new.base ≡ old.base
   pub limits : new.limits ≡ old.limits
-  pub serial : r.serial ≡ length new.journal
+  pub serial : r.serial ≡ serial_of (state_of new)
   pub changed : (r.changed ≡ false) ↔ LooksAlike (state_of old) (state_of new)
   pub stands : Stands old r.state new
 
@@ -101,12 +107,32 @@ Runs old (e ∷ es) [] new = ⊥
 abbrev pub IsFaultOf : Config → ConfigFault → Type 0
 IsFaultOf config f = (config_fault_of config ≡ Some f) ⊎ ((f ≡ Memory) × (config_fault_of config ≡ None))
 
--- no events were taken, and the table is that of the opening state
-pub record IsOpening (given : Config) (most : Limits) (c : CoreValue) : Type 0 where
-  pub sound : config_fault_of given ≡ None
-  pub config : c.config ≡ given
+-- the first fault that the base has; or Memory, before which only a fault of the configuration is looked for
+abbrev pub IsBaseFaultOf : Limits → Base → BaseFault → Type 0
+IsBaseFaultOf limits base f = (base_fault_of limits base ≡ Some f) ⊎ ((f ≡ base_fault.Config Memory) × (config_fault_of base.config ≡ None))
+
+-- no events were taken, and the table is that of the base
+pub record IsOpening (given : Base) (most : Limits) (c : CoreValue) : Type 0 where
+  pub sound : base_fault_of most given ≡ None
+  pub base : c.base ≡ given
   pub limits : c.limits ≡ most
   pub journal : c.journal ≡ []
   pub built : c.built ≡ 0
   pub work : c.work ≡ no_work
   pub changes : c.changes ≡ []
+
+-- the state as it is becomes the base, with no event since; all else is as it was
+pub record Rolls (old new : CoreValue) : Type 0 where
+  pub base : IsBaseOf (state_of old) new.base
+  pub state : state_of new ≡ since new.base (state_of old)
+  pub limits : new.limits ≡ old.limits
+  pub journal : new.journal ≡ []
+  pub built : new.built ≡ 0
+  pub table : new.table ≡ old.table
+  pub dues : new.dues ≡ old.dues
+  pub work : new.work ≡ old.work
+  pub changes : new.changes ≡ old.changes
+
+-- why a core is not rolled: table and due summaries are behind; or they are not, and memory ran out
+abbrev pub IsRollRefusal : CoreValue → Refusal → Type 0
+IsRollRefusal c r = ((r ≡ refusal.NotCurrent) × (¬ IsCurrent c)) ⊎ ((r ≡ refusal.Memory) × IsCurrent c)

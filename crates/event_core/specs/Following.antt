@@ -1,5 +1,5 @@
 -- The routes and due summaries that a core keeps, and what an event changes of them.
-use Rattle.std.specs.Prelude.{◌≡◌, ◌≢◌, ◌⊎◌, ◌↔◌, ◌++◌, List, [], ◌∷◌, length, Contains, Option}
+use Rattle.std.specs.Prelude.{◌≡◌, ◌≢◌, ◌⊎◌, ◌↔◌, ◌++◌, List, [], ◌∷◌, Contains, Option}
 use Rattle.std.specs.FinMap as map
 use Rattle.std.specs.List.Sorted.{IsStrictlySortedBy}
 use Rattle.std.specs.Map.{keys_of}
@@ -9,7 +9,7 @@ use Rattle.spf.specs.Touched.{Touched}
 use Rattle.route_table.specs.declared.table.Item.{Item}
 use Rattle.route_table.specs.Tables.{TableValue}
 use Rattle.dues.specs.Dues.{DuesValue}
-use Rattle.event_state.specs.States.{State}
+use Rattle.event_state.specs.States.{State, serial_of}
 use Rattle.calculation.specs.Calculations.{CalculationValue, IsCalculationOf, IsItemOf, IsTableOf}
 use Rattle.calculation.specs.Due.{AreDuesFor}
 
@@ -20,11 +20,11 @@ pub record RoutesValue : Type 0 where
   pub work : Touched
   pub changes : List Prefix
 
--- what is kept is that of the state, the table follows its events, and what is due is due by what is kept
+-- what is kept is that of the state, the table has its serial, and what is due is due by what is kept
 pub record AreRoutesOf (s : State) (r : RoutesValue) : Type 0 where
   pub calculation : IsCalculationOf s r.calculation
   pub table : IsTableOf r.calculation r.table.items
-  pub serial : r.table.serial ≡ length s.journal
+  pub serial : r.table.serial ≡ serial_of s
   pub dues : AreDuesFor s r.calculation r.dues
 
 -- the networks whose item differs, ascending, each once

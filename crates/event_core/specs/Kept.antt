@@ -8,11 +8,11 @@ use Rattle.event_core.specs.Cores.{CoreValue, IsCore}
 use Rattle.event_core.specs.Following.{RoutesValue, AreRoutesOf}
 
 abbrev pub core_of : State → RoutesValue → ℕ → CoreValue
-core_of s r built = record { config = s.config; limits = s.limits; journal = s.journal; built = built; table = r.table; dues = lists_of r.dues; work = r.work; changes = r.changes }
+core_of s r built = record { base = s.base; limits = s.limits; journal = s.journal; built = built; table = r.table; dues = lists_of r.dues; work = r.work; changes = r.changes }
 
 -- databases and interfaces are those of the run of the journal; and where table and due summaries are those of all of it, so is what is kept
 pub record IsCoherent (s : State) (r : RoutesValue) (built : ℕ) : Type 0 where
-  pub run : s ≡ run_of s.config s.limits s.journal
+  pub run : s ≡ run_of s.base s.limits s.journal
   pub core : IsCore (core_of s r built)
   pub fresh : built ≡ length s.journal → AreRoutesOf s r
   pub few : s.limits.area_lsas ≤ most_routers

@@ -1,12 +1,13 @@
 pub mod Right
 pub mod Cores
 pub mod Kept
-pub mod Listings
 pub mod Following
+pub mod Named
 pub mod Sums
 pub use Rattle.config_faults.specs.Configs
 pub use Rattle.config_faults.specs.Texts
 pub use Rattle.config_faults.specs.declared.fault.ConfigFault
+pub use Rattle.event_state.specs.Listings
 pub use Rattle.dues.specs.Dues
 pub use Rattle.dues.specs.Lists
 pub use Rattle.dues.specs.Due

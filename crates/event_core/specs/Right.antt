@@ -1,16 +1,16 @@
 -- When a routing table and due summaries are right for a state (RFC 2328, 11, 12.4.3 and 16).
-use Rattle.std.specs.Prelude.{ℕ, ◌≡◌, ◌≢◌, ◌↔◌, List, [], ◌∷◌, Contains, Option, Some, None, length, if◌then◌else◌, ◌==◌}
+use Rattle.std.specs.Prelude.{ℕ, ◌≡◌, ◌≢◌, ◌↔◌, List, [], ◌∷◌, Contains, Option, Some, None, if◌then◌else◌, ◌==◌}
 use Rattle.ospf_types.specs.Inputs.{Inputs, Area}
 use Rattle.ospf_types.specs.Summaries.{IsDue}
 use Rattle.dues.specs.Due.{Due}
 use Rattle.dues.specs.Lists.{AreInOrder, kind_of}
-use Rattle.event_state.specs.States.{State, inputs_of}
+use Rattle.event_state.specs.States.{State, inputs_of, serial_of}
 use Rattle.route_table.specs.Tables.{TableValue}
 use Rattle.route_table.specs.Right.{IsRoutingTable}
 
--- the table is that of the state's databases and interfaces, and counts its events
+-- the table is that of the state's databases and interfaces, and has its serial
 abbrev pub IsRight : State → TableValue → Type 0
-IsRight s t = IsRoutingTable (inputs_of s) (length s.journal) t
+IsRight s t = IsRoutingTable (inputs_of s) (serial_of s) t
 
 -- the list is what is due in the area, ascending by LS type and destination
 pub record IsListDue (s : Inputs) (a : Area) (list : List Due) : Type 0 where

@@ -12,7 +12,7 @@ IsSum works w = (w.taken ≡ sum_by (λ (x : Touched). x.taken) works) × (w.hop
 
 -- the work of an event that follows the state before: in each area it is bounded by what differs
 abbrev pub IsFollowingWork : State → State → Touched → Type 0
-IsFollowingWork s t w = (works : List Touched) × AreWorksOf s t s.config.areas works × IsSum works w
+IsFollowingWork s t w = (works : List Touched) × AreWorksOf s t s.config.areas t.config.areas works × IsSum works w
 
 -- the work of an event that builds all that is kept of the state: in each area by what is reached
 abbrev pub IsBuildingWork : State → Touched → Type 0

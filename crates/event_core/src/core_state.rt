@@ -1,19 +1,21 @@
-ghost use Rattle.std.specs.Prelude.{◌≡◌, ◌≤◌, None, IfErr, IfOk, OnErr, option_map};
+ghost use Rattle.std.specs.Prelude.{◌≡◌, ◌≤◌, ◌<◌, ◌+◌, length, None, IfErr, IfOk, MatchBool, OnOk, OnErr, option_map};
 ghost use Rattle.vertex_graph.specs.Graphs.{most_routers};
-ghost use Rattle.config_faults.specs.Configs.{config_fault_of};
+ghost use Rattle.event_state.specs.BaseFaults.{base_fault_of};
 ghost use Rattle.dues.specs.Dues.{lists_of};
 ghost use Rattle.event_core.specs.Right.{IsDueIn, list_under};
-ghost use Rattle.event_core.specs.Cores.{IsCore, IsOpening, IsFaultOf, Applies, NamesChanges, HasBoundedWork, Stands, Runs, built_state, state_of};
+ghost use Rattle.event_core.specs.Cores.{IsBaseFaultOf, IsCore, IsCurrent, IsOpening, IsFaultOf, IsRollRefusal, Rolls, Applies, NamesChanges, HasBoundedWork, Stands, Runs, built_state, state_of};
+ghost use Rattle.event_state.specs.Bases.{bare};
+ghost use Rattle.event_state.specs.States.{serial_of};
 ghost use Rattle.event_state.specs.Steps.{standard_limits};
-ghost use Rattle.event_core.specs.Listings.{AreLsas};
+ghost use Rattle.event_state.specs.Listings.{AreLsas};
 
-use crate::listing::lsas;
+use crate::listing::{base_of, lsas};
 use crate::named::named_by;
 use crate::reply::{Reply, Standing};
 use crate::routes::Routes;
 use config_faults::{ConfigFault, fault_in};
 use dues::{Due, Dues};
-use event_state::{Event, Limits, Refusal, State};
+use event_state::{Base, BaseFault, Event, Limits, Refusal, State, fault_in_base};
 use lsa_codec::Checked;
 use ospf_types::config::Config;
 use ospf_types::key::Scope;
@@ -65,10 +67,10 @@ impl Drop for Core {
 }
 
 impl Core {
-    /// A core with no interfaces, empty databases and an empty journal.
+    /// A core with no interfaces, empty databases and an empty journal: that of a bare configuration.
     pub fn open(alloc: Global, config: Config, hashing: RandomState) -> Result<Core, ConfigFault>
         ensures fault { IfErr result (IsFaultOf config) }
-        ensures opens { IfOk result (IsOpening config standard_limits) }
+        ensures opens { IfOk result (IsOpening (bare config) standard_limits) }
         ensures kept { IfOk result IsCore }
     {
         Core::open_within(alloc, config, Limits::STANDARD, hashing)
@@ -83,30 +85,48 @@ impl Core {
     ) -> Result<Core, ConfigFault>
         requires { limits.area_lsas ≤ most_routers }
         ensures fault { IfErr result (IsFaultOf config) }
-        ensures opens { IfOk result (IsOpening config limits) }
+        ensures opens { IfOk result (IsOpening (bare config) limits) }
         ensures kept { IfOk result IsCore }
     {
         if let Some(fault) = fault_in(&config) {
             return Err(fault);
         }
-        match Core::open_sound(alloc, config, limits, hashing) {
+        match Core::open_sound(alloc, Base::bare(alloc, config), limits, hashing) {
             Ok(core) => Ok(core),
             Err(Memory) => Err(ConfigFault::Memory),
         }
     }
 
-    fn open_sound(
+    /// A core with the databases and the interfaces of the base, and an empty journal. Serials go on from that of the base.
+    pub fn open_from(alloc: Global, base: Base, hashing: RandomState) -> Result<Core, BaseFault>
+        ensures fault { IfErr result (IsBaseFaultOf standard_limits base) }
+        ensures opens { IfOk result (IsOpening base standard_limits) }
+        ensures kept { IfOk result IsCore }
+    {
+        let opened = match fault_in_base(alloc, &base, Limits::STANDARD) {
+            Ok(Some(fault)) => return Err(fault),
+            Ok(None) => Core::open_sound(alloc, base, Limits::STANDARD, hashing),
+            Err(Memory) => Err(Memory),
+        };
+        match opened {
+            Ok(core) => Ok(core),
+            Err(Memory) => Err(BaseFault::Config(ConfigFault::Memory)),
+        }
+    }
+
+    /// The same of a base that has no fault, as `fault_in_base` tells, and with limits of one's own.
+    pub fn open_sound(
         alloc: Global,
-        config: Config,
+        base: Base,
         limits: Limits,
         hashing: RandomState,
     ) -> Result<Core, Memory>
-        requires sound { config_fault_of config ≡ None }
+        requires sound { base_fault_of limits base ≡ None }
         requires few { limits.area_lsas ≤ most_routers }
-        ensures opens { IfOk result (IsOpening config limits) }
+        ensures opens { IfOk result (IsOpening base limits) }
         ensures kept { IfOk result IsCore }
     {
-        let state = State::within(alloc, config, limits, hashing)?;
+        let state = State::from_base(alloc, base, limits, hashing)?;
         let routes = Routes::build(alloc, &state, hashing)?;
         Ok(Core {
             alloc,
@@ -136,7 +156,7 @@ impl Core {
         };
         let state = match settled {
             Ok(()) => {
-                self.built = serial;
+                self.built = self.state.journal().len() as u64;
                 Standing::Current
             }
             Err(Memory) => Standing::Behind,
@@ -152,19 +172,19 @@ impl Core {
     /// what `changes` and `work` tell of the last event.
     pub fn catch_up(&mut self) -> Standing
         ensures journal { self.new.journal ≡ self.old.journal }
-        ensures config { self.new.config ≡ self.old.config }
+        ensures base { self.new.base ≡ self.old.base }
         ensures limits { self.new.limits ≡ self.old.limits }
         ensures changes { self.new.changes ≡ self.old.changes }
         ensures work { self.new.work ≡ self.old.work }
         ensures stands { Stands self.old result self.new }
     {
-        let serial = self.state.journal().len() as u64;
-        if self.built == serial {
+        let count = self.state.journal().len() as u64;
+        if self.built == count {
             return Standing::Current;
         }
         match self.routes.rebuild(self.alloc, &self.state, self.hashing) {
             Ok(_) => {
-                self.built = serial;
+                self.built = count;
                 Standing::Current
             }
             Err(Memory) => Standing::Behind,
@@ -186,6 +206,29 @@ impl Core {
             }
         }
         Ok(replies)
+    }
+
+    /// Makes the state as it is the base, and empties the journal; what is due, the table and what is told of the last event
+    /// stay. The answer is the serial, which goes on. Refused are a table that is behind, with 37, and want of memory; then
+    /// everything is as it was.
+    pub fn roll(&mut self) -> Result<u64, Refusal>
+        ensures rolled { OnOk result (Rolls self.old self.new) }
+        ensures serial { IfOk result (λ serial. serial ≡ serial_of (state_of self.old)) }
+        ensures current { OnOk result (IsCurrent self.old) }
+        ensures refused { IfErr result (IsRollRefusal self.old) }
+        ensures unchanged { OnErr result (self.new ≡ self.old) }
+    {
+        if self.built != self.state.journal().len() as u64 {
+            return Err(Refusal::NotCurrent);
+        }
+        // proof: a base that is the state as it is has no fault.
+        let _ = self.state.base();
+        let Ok(base) = base_of(self.alloc, &self.state) else {
+            return Err(Refusal::Memory);
+        };
+        self.state.rebase(base);
+        self.built = 0;
+        Ok(self.state.serial())
     }
 
     pub fn table(&self) -> &Table
@@ -230,7 +273,23 @@ impl Core {
         self.routes.work()
     }
 
-    /// The events that were taken, in their order.
+    /// What the journal begins with.
+    pub fn base(&self) -> &Base
+        ensures value { result.now ≡ self.now.base }
+        ensures kept { IsCore self.now }
+    {
+        self.state.base()
+    }
+
+    /// The number of the last event that was taken: the serial of the base, and one more for each event of the journal.
+    pub fn serial(&self) -> u64
+        ensures value { result ≡ self.now.base.serial + length self.now.journal }
+        ensures state { result ≡ serial_of (state_of self.now) }
+    {
+        self.state.serial()
+    }
+
+    /// The events that were taken since the base, in their order.
     pub fn journal(&self) -> &[Event]
         ensures value { result.now ≡ self.now.journal }
         ensures kept { IsCore self.now }
@@ -238,12 +297,20 @@ impl Core {
         self.state.journal()
     }
 
-    /// Table and due summaries are those of so many events of the journal.
+    /// The serial of the event that table and due summaries are those after.
     pub fn built(&self) -> u64
-        ensures value { result ≡ self.now.built }
+        ensures value { result ≡ self.now.base.serial + self.now.built }
         ensures kept { IsCore self.now }
     {
-        self.built
+        self.state.serial() - (self.state.journal().len() as u64 - self.built)
+    }
+
+    /// Whether table and due summaries are those of the whole journal.
+    pub fn is_current(&self) -> bool
+        ensures value { MatchBool result (IsCurrent self.now) (self.now.built < length self.now.journal) }
+        ensures kept { IsCore self.now }
+    {
+        self.built == self.state.journal().len() as u64
     }
 
     /// Copies of all LSAs at their present age, each with its scope: areas by Area ID, the AS last; in
@@ -254,8 +321,9 @@ impl Core {
         lsas(self.alloc, &self.state)
     }
 
+    /// The configuration as it is now.
     pub fn config(&self) -> &Config
-        ensures value { result.now ≡ self.now.config }
+        ensures value { result.now ≡ (state_of self.now).config }
         ensures kept { IsCore self.now }
     {
         self.state.config()

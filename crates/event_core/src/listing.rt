@@ -1,14 +1,50 @@
-//! The LSAs of a state in the order in which they are listed.
+//! The LSAs of a state in the order in which they are listed, and the state as a base.
 ghost use Rattle.std.specs.Prelude.{◌≡◌, ◌++◌, IfOk, OnOk, map as list_map};
-ghost use Rattle.event_core.specs.Listings.{AreAreaIds, AreLsas, lsas_at, lsas_of_areas};
+ghost use Rattle.std.specs.FinMap.{entries};
+ghost use Rattle.event_state.specs.Rolls.{IsBaseOf};
+ghost use Rattle.event_state.specs.Listings.{AreAreaIds, AreLsas, lsas_at, lsas_of_areas};
 
-use event_state::State;
+use event_state::{Base, State};
 use lsa_codec::Checked;
-use ospf_types::config::AreaConfig;
+use ospf_types::config::{AreaConfig, Interface};
 use ospf_types::key::Scope;
+use ospf_types::listed::Listed;
 use ospf_types::memory::Memory;
 use std::alloc::Global;
 use std::collections::BTreeSet;
+
+/// The state as it is, as a base: each LSA at its present age.
+pub(crate) fn base_of(alloc: Global, state: &State) -> Result<Base, Memory>
+    ensures { IfOk result (IsBaseOf state.now) }
+{
+    Ok(Base {
+        config: state.config().copy(alloc)?,
+        serial: state.serial(),
+        interfaces: interfaces(alloc, state)?,
+        lsas: listed(alloc, lsas(alloc, state)?)?,
+    })
+}
+
+// The interfaces with their ids, ascending by these.
+fn interfaces(alloc: Global, state: &State) -> Result<Listed<(u8, Interface)>, Memory>
+    ensures { IfOk result (λ list. list ≡ entries state.now.interfaces) }
+{
+    let mut list = Listed::new(alloc);
+    for (id, interface) in state.interfaces() {
+        list.push((*id, *interface))?;
+    }
+    Ok(list)
+}
+
+fn listed(alloc: Global, lsas: Vec<(Scope, Checked)>) -> Result<Listed<(Scope, Checked)>, Memory>
+    ensures { IfOk result (λ list. list ≡ lsas.items) }
+{
+    let mut list = Listed::new(alloc);
+    for lsa in lsas {
+        list.push(lsa)?;
+    }
+    Ok(list)
+}
 
 /// Copies of all LSAs at their present age, each with its scope: areas by Area ID, the AS last; in
 /// each database by LS type, Link State ID and Advertising Router.

@@ -10,7 +10,7 @@ pub enum Standing {
 /// The answer to an event that was taken.
 #[derive(Clone, Copy, Debug, PartialEq, Eq)]
 pub struct Reply {
-    /// How many events have been taken, with this one.
+    /// The number of the event; events are numbered from 1 on.
     pub serial: u64,
     /// Whether the usable LSAs (key, Options, body) or the interfaces differ from before.
     pub changed: bool,

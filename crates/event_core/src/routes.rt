@@ -1,11 +1,11 @@
 //! The routing table and due summaries, and what is kept to follow events (RFC 2328, 16 and 12.4.3).
-ghost use Rattle.std.specs.Prelude.{◌≡◌, ◌↔◌, ◌≤◌, [], false, length, IfOk, IsTrue, OnOk, OnErr, option_copied};
+ghost use Rattle.std.specs.Prelude.{◌≡◌, ◌↔◌, ◌≤◌, [], false, IfOk, IsTrue, OnOk, OnErr, option_copied};
 ghost use Rattle.std.specs.List.Sorted.{IsStrictlySortedBy};
 ghost use Rattle.std.specs.Map.{keys_of};
 ghost use Rattle.ospf_types.specs.Network.{network_cmp};
 ghost use Rattle.vertex_graph.specs.Graphs.{most_routers};
 ghost use Rattle.event_state.specs.Held.{AreFit};
-ghost use Rattle.event_state.specs.States.{AreApart, State as StateValue, LooksAlike};
+ghost use Rattle.event_state.specs.States.{AreApart, State as StateValue, LooksAlike, serial_of};
 ghost use Rattle.dues.specs.Dues.{lists_of};
 ghost use Rattle.calculation.specs.Calculations.{IsCalculationOf, IsTableOf};
 ghost use Rattle.calculation.specs.Trees.{StatesDifferAmong};
@@ -148,11 +148,11 @@ impl Routes {
         named: Named,
     ) -> Result<(), Memory>
         requires few { state.now.limits.area_lsas ≤ most_routers }
-        requires before { (before : StateValue) × AreFit before.config.areas before.databases × AreRoutesOf before self.old × StatesDifferAmong named.keys.items named.interfaces.items before state.now × (changed ≡ false → LooksAlike before state.now) }
+        requires before { (before : StateValue) × AreFit before.config.areas before.databases × AreRoutesOf before self.old × StatesDifferAmong named.keys.items named.interfaces.items named.ranges before state.now × (changed ≡ false → LooksAlike before state.now) }
         ensures right { OnOk result (AreRoutesOf state.now self.new) }
         ensures fit { OnOk result (AreFit state.now.config.areas state.now.databases) }
         ensures exact { OnOk result (AreChanges self.old.table.items self.new.table.items self.new.changes) }
-        ensures bounded { OnOk result ((before : StateValue) → AreFit before.config.areas before.databases → AreRoutesOf before self.old → StatesDifferAmong named.keys.items named.interfaces.items before state.now → (changed ≡ false → LooksAlike before state.now) → IsEventWork before state.now self.new.work) }
+        ensures bounded { OnOk result ((before : StateValue) → AreFit before.config.areas before.databases → AreRoutesOf before self.old → StatesDifferAmong named.keys.items named.interfaces.items named.ranges before state.now → (changed ≡ false → LooksAlike before state.now) → IsEventWork before state.now self.new.work) }
         ensures unchanged { OnErr result (self.new.table ≡ self.old.table) }
         ensures due { OnErr result (lists_of self.new.dues ≡ lists_of self.old.dues) }
         ensures work { OnErr result (self.new.work ≡ no_work) }
@@ -162,7 +162,9 @@ impl Routes {
         if changed {
             self.follow(alloc, state, named)?;
         }
-        self.table.set_serial(state.journal().len() as u64);
+        // proof: what holds of the databases of every state.
+        let _ = state.config();
+        self.table.set_serial(state.serial());
         Ok(())
     }
 
@@ -209,24 +211,30 @@ impl Routes {
     // be refused memory; due summaries have room for theirs by then.
     fn follow(&mut self, alloc: Global, state: &State, named: Named) -> Result<(), Memory>
         requires few { state.now.limits.area_lsas ≤ most_routers }
-        requires before { (before : StateValue) × AreRoutesOf before self.old × StatesDifferAmong named.keys.items named.interfaces.items before state.now }
+        requires before { (before : StateValue) × AreRoutesOf before self.old × StatesDifferAmong named.keys.items named.interfaces.items named.ranges before state.now }
         ensures calculation { OnOk result (IsCalculationOf state.now self.new.calculation) }
         ensures items { OnOk result (IsTableOf self.new.calculation self.new.table.items) }
         ensures dues { OnOk result (AreDuesFor state.now self.new.calculation self.new.dues) }
         ensures exact { OnOk result (AreChanges self.old.table.items self.new.table.items self.new.changes) }
-        ensures bounded { OnOk result ((before : StateValue) → AreRoutesOf before self.old → StatesDifferAmong named.keys.items named.interfaces.items before state.now → IsEventWork before state.now self.new.work) }
+        ensures bounded { OnOk result ((before : StateValue) → AreRoutesOf before self.old → StatesDifferAmong named.keys.items named.interfaces.items named.ranges before state.now → IsEventWork before state.now self.new.work) }
         ensures unchanged { OnErr result (self.new.table ≡ self.old.table) }
         ensures due { OnErr result (lists_of self.new.dues ≡ lists_of self.old.dues) }
         ensures work { OnErr result (self.new.work ≡ self.old.work) }
         ensures changes { OnErr result (self.new.changes ≡ self.old.changes) }
     {
-        let Named { keys, interfaces } = named;
-        let told = self.calculation.follow(alloc, state, keys, interfaces)?;
+        let Named {
+            keys,
+            interfaces,
+            ranges,
+        } = named;
+        let told = self
+            .calculation
+            .follow(alloc, state, keys, interfaces, ranges)?;
         let items = other_items(alloc, &self.calculation, &self.table, &told.networks)?;
         let changes = networks_of(alloc, &items)?;
         let plan = self
             .calculation
-            .plan_dues(alloc, state, &mut self.dues, &told.dests)?;
+            .plan_dues(alloc, state, &mut self.dues, &told.dests, ranges)?;
         self.table.change(alloc, items)?;
         self.dues.carry_out(plan);
         self.work = told.work;
@@ -245,13 +253,15 @@ fn from_scratch(
     requires apart { AreApart state.now.config.areas }
     ensures calculation { IfOk result (λ built. IsCalculationOf state.now built.0) }
     ensures items { IfOk result (λ built. IsTableOf built.0 built.1.items) }
-    ensures serial { IfOk result (λ built. built.1.serial ≡ length state.now.journal) }
+    ensures serial { IfOk result (λ built. built.1.serial ≡ serial_of state.now) }
     ensures dues { IfOk result (λ built. AreDuesFor state.now built.0 built.2) }
     ensures fit { IfOk result (λ built. AreFit state.now.config.areas state.now.databases) }
     ensures work { IfOk result (λ built. IsBuildWork state.now built.3) }
 {
     let (calculation, work) = Calculation::build(alloc, state, hashing)?;
-    let table = calculation.table(alloc, state.journal().len() as u64)?;
+    // proof: what holds of the databases of every state.
+    let _ = state.config();
+    let table = calculation.table(alloc, state.serial())?;
     let dues = calculation.dues(alloc, state)?;
     Ok((calculation, table, dues, work))
 }

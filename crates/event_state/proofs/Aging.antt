@@ -15,14 +15,14 @@ use Rattle.lsdb.specs.Databases.{Database, aged, all_aged, comes_to_max_age}
 use Rattle.lsdb.specs.Contents.{contents_of, NoneComes}
 use Rattle.event_state.proofs.Sorted.{find_at}
 
-abbrev later : Key × Lsa → Key × Lsa
+abbrev pub later : Key × Lsa → Key × Lsa
 later e = (e.0, aged e.1)
 
 below_later : (k : Key) (es : List (Key × Lsa)) → below_all key_cmp k (map later es) ≡ below_all key_cmp k es
 below_later k [] = refl
 below_later k (e ∷ es) = ap (λ (b : Bool). is_lt (key_cmp k e.0) && b) (below_later k es)
 
-sorted_later : (es : List (Key × Lsa)) → is_sorted key_cmp (map later es) ≡ is_sorted key_cmp es
+pub sorted_later : (es : List (Key × Lsa)) → is_sorted key_cmp (map later es) ≡ is_sorted key_cmp es
 sorted_later [] = refl
 sorted_later (e ∷ es) = ap (λ (b : Bool). b && is_sorted key_cmp (map later es)) (below_later e.0 es) ∙ ap (λ (b : Bool). below_all key_cmp e.0 es && b) (sorted_later es)
 

@@ -1,7 +1,7 @@
 -- What a change to one database leaves of a state.
-use Rattle.std.proofs.Common.{◌≡◌, ℕ, ◌<◌, Bool, false, List, length, get_or, set, Some, None, sym, ap, subst, ◌∙◌, arith}
+use Rattle.std.proofs.Common.{◌≡◌, ℕ, ◌<◌, ◌≤◌, Bool, false, List, length, get_or, set, Some, None, sym, ap, subst, ◌∙◌, arith}
 use Rattle.std.specs.Prelude.{Result, Ok, Err, IfOk, OnOk, OnErr, ◌↔◌}
-use Rattle.std.specs.FinMap.{empty, get, insert}
+use Rattle.std.specs.FinMap.{empty, get, insert, len}
 use Rattle.std.specs.Global.{Vec}
 use Rattle.std.specs.Vec.{with_items}
 use Rattle.std.proofs.lemmas.List.{get_or_default}
@@ -37,16 +37,18 @@ place_held config limits ds at k h place = omega (arith, place_within config.are
 
 module _ (config : Config) (limits : Limits) (v : Vec DatabaseValue) (new : List DatabaseValue) (at : Scope) (k : ℕ) (change : Database → Database) (held : IsHeld config limits v.items) (place : place_of config.areas at ≡ Some k) where
   -- the databases after a change that keeps its database fit
-  pub held_after : (IsFit at (get_or (lsas_in v.items) k empty) → IsFit at (change (get_or (lsas_in v.items) k empty))) → IsChange v.items new k change → IsHeld config limits (with_items v new).items
-  held_after keeps h =
+  pub held_after : (IsFit at (get_or (lsas_in v.items) k empty) → IsFit at (change (get_or (lsas_in v.items) k empty))) → len (change (get_or (lsas_in v.items) k empty)) ≤ get_or (limits_in v.items) k 0
+      → IsChange v.items new k change → IsHeld config limits (with_items v new).items
+  held_after keeps small h =
       subst (IsHeld config limits) (sym (items_of_slice v new (changed_length v.items new k change h)))
-      (held_change config limits v.items new at k change held place keeps (h.lsas ∙ ap (λ (d : Database). set (lsas_in v.items) k (change d)) (sym (lsas_at v.items k))) h.limits)
+      (held_change config limits v.items new at k change held place keeps small (h.lsas ∙ ap (λ (d : Database). set (lsas_in v.items) k (change d)) (sym (lsas_at v.items k))) h.limits)
 
   -- the same after a change that memory may refuse
-  pub held_after_try : (r : Result Bool Memory) → (IsFit at (get_or (lsas_in v.items) k empty) → IsFit at (change (get_or (lsas_in v.items) k empty))) → OnErr r (new ≡ v.items) → OnOk r (IsChange v.items new k change)
+  pub held_after_try : (r : Result Bool Memory) → (IsFit at (get_or (lsas_in v.items) k empty) → IsFit at (change (get_or (lsas_in v.items) k empty)))
+      → len (change (get_or (lsas_in v.items) k empty)) ≤ get_or (limits_in v.items) k 0 → OnErr r (new ≡ v.items) → OnOk r (IsChange v.items new k change)
       → IsHeld config limits (with_items v new).items
-  held_after_try (Ok changed) keeps kept h = held_after keeps h
-  held_after_try (Err e) keeps kept h = subst (IsHeld config limits) (sym (items_of_slice v new (ap length kept) ∙ kept)) held
+  held_after_try (Ok changed) keeps small kept h = held_after keeps small h
+  held_after_try (Err e) keeps small kept h = subst (IsHeld config limits) (sym (items_of_slice v new (ap length kept) ∙ kept)) held
 
 -- the state after an install that memory may refuse looks as before where what is used of the LSA does
 pub install_looks : (s : State) (at : Scope) (k : ℕ) (l : Lsa) (r : Result Bool Memory) → place_of s.config.areas at ≡ Some k → k < length s.databases

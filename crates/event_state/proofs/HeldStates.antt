@@ -6,7 +6,7 @@ use Rattle.std.specs.Ordering.{nat_cmp, eq_by_cmp, is_eq}
 use Rattle.std.specs.Cmp.{nat_cmp_total}
 use Rattle.std.proofs.Common.{BTreeMap}
 use Rattle.std.specs.BTreeMap.{IsOrdered}
-use Rattle.std.specs.FinMap.{empty, get, insert, remove, get-empty, get-insert, get-remove, entries, from_entries}
+use Rattle.std.specs.FinMap.{empty, get, insert, remove, len, get-empty, get-insert, get-remove, entries, from_entries}
 use Rattle.std.proofs.lemmas.Bool.{cases_eq}
 use Rattle.std.proofs.lemmas.List.{length-map, length-set, length-append, get_or-set_same, get_or-set_other}
 use Rattle.ospf_types.specs.declared.config.AreaConfig.{AreaConfig}
@@ -26,11 +26,12 @@ use Rattle.event_state.proofs.Aging.{get-all_aged, all_aged_empty}
 use Rattle.event_state.specs.declared.limits.Limits.{Limits}
 use Rattle.event_state.specs.Changes.{lsas_in, limits_in, empty_values, aged_value}
 use Rattle.event_state.specs.States.{AreApart, place_of}
-use Rattle.event_state.specs.Held.{IsHeld, IsFit, AreFit, AreKept, AreLimited}
+use Rattle.event_state.specs.Held.{IsHeld, IsFit, AreFit, AreKept, AreLimited, AreWithin}
 use Rattle.event_state.specs.Steps.{is_out_of_scope}
 use Rattle.ospf_types.proofs.Maps.{entries-from_entries}
 use Rattle.event_state.proofs.Places.{place_within, places_apart, area_at}
 use Rattle.event_state.proofs.OneChange.{mapped_at}
+use Rattle.event_state.proofs.Sizes.{none_empty, len-all_aged}
 
 -- the interfaces of a state, as the tree has them
 pub entries-interfaces : (m : BTreeMap ℕ Interface) → IsOrdered nat_cmp m → entries (from_entries {R = nat_cmp} m.entries) ≡ m.entries
@@ -144,6 +145,7 @@ held_new config limits ds is =
     record {
       kept = subst (AreKept config.areas) (sym lsas) (record { places = places_new config.areas; fit = λ at k e. fit_new config.areas at k e; reached = λ k lt. inr (all_empty config.areas k) });
       limited = subst (AreLimited config.areas limits) (sym most) (limited_new config.areas limits);
+      within = subst (λ (d : List Database). AreWithin d (limits_in ds)) (sym lsas) (λ k. omega (arith, ap len (all_empty config.areas k) ∙ none_empty));
     }
 
 -- ---- a change to one database
@@ -171,11 +173,24 @@ kept_changed areas ds at k d h place new = record {
       ];
 }
 
+within_changed : (ds : List Database) (most : List ℕ) (k : ℕ) (d : Database) → k < length ds → AreWithin ds most → len d ≤ get_or most k 0 → AreWithin (set ds k d) most
+within_changed ds most k d lt h small j =
+    elim (cases_eq j k) [
+      | inl same ↦
+          let here : get_or (set ds k d) j empty ≡ d = ap (λ (i : ℕ). get_or (set ds k d) i empty) same ∙ get_or-set_same ds k d empty lt in
+          omega (arith, ap len here, small, ap (λ (i : ℕ). get_or most i 0) same)
+      | inr differs ↦ omega (arith, ap len (get_or-set_other ds k j d empty differs), h j)
+    ]
+
 pub held_change : (config : Config) (limits : Limits) (ds new : List DatabaseValue) (at : Scope) (k : ℕ) (change : Database → Database) → IsHeld config limits ds → place_of config.areas at ≡ Some k
-    → (IsFit at (get_or (lsas_in ds) k empty) → IsFit at (change (get_or (lsas_in ds) k empty))) → lsas_in new ≡ set (lsas_in ds) k (change (get_or (lsas_in ds) k empty)) → limits_in new ≡ limits_in ds → IsHeld config limits new
-held_change config limits ds new at k change h place keeps lsas most = record {
+    → (IsFit at (get_or (lsas_in ds) k empty) → IsFit at (change (get_or (lsas_in ds) k empty))) → len (change (get_or (lsas_in ds) k empty)) ≤ get_or (limits_in ds) k 0
+    → lsas_in new ≡ set (lsas_in ds) k (change (get_or (lsas_in ds) k empty)) → limits_in new ≡ limits_in ds → IsHeld config limits new
+held_change config limits ds new at k change h place keeps small lsas most = record {
   kept = subst (AreKept config.areas) (sym lsas) (kept_changed config.areas (lsas_in ds) at k _ h.kept place (keeps (h.kept.fit at k place)));
   limited = subst (AreLimited config.areas limits) (sym most) h.limited;
+  within =
+      let changed = within_changed (lsas_in ds) (limits_in ds) k (change (get_or (lsas_in ds) k empty)) (omega (arith, place_within config.areas at k place, h.kept.places)) h.within small in
+      subst (λ (list : List Database). AreWithin list (limits_in new)) (sym lsas) (subst (AreWithin (set (lsas_in ds) k (change (get_or (lsas_in ds) k empty)))) (sym most) changed);
 }
 
 -- ---- a second
@@ -204,10 +219,19 @@ kept_later areas ds h = record {
       subst (IsFit at) (sym is) (fit_all_aged at (get_or ds k empty) (h.fit at k e));
 }
 
+within_later : (ds : List DatabaseValue) → AreWithin (lsas_in ds) (limits_in ds) → AreWithin (lsas_in (map aged_value ds)) (limits_in (map aged_value ds))
+within_later ds h k =
+    let none : all_aged empty ≡ empty = all_aged_empty in
+    let is : get_or (map all_aged (lsas_in ds)) k empty ≡ all_aged (get_or (lsas_in ds) k empty) = ap (get_or (map all_aged (lsas_in ds)) k) (sym none) ∙ mapped_at all_aged (lsas_in ds) k empty in
+    let lens : len (get_or (lsas_in (map aged_value ds)) k empty) ≡ len (get_or (lsas_in ds) k empty) =
+    ap (λ (list : List Database). len (get_or list k empty)) (lsas_later ds) ∙ ap len is ∙ len-all_aged (get_or (lsas_in ds) k empty) in
+    omega (arith, lens, h k, ap (λ (list : List ℕ). get_or list k 0) (limits_later ds))
+
 pub held_later : (config : Config) (limits : Limits) (ds : List DatabaseValue) → IsHeld config limits ds → IsHeld config limits (map aged_value ds)
 held_later config limits ds h = record {
   kept = subst (AreKept config.areas) (sym (lsas_later ds)) (kept_later config.areas (lsas_in ds) h.kept);
   limited = subst (AreLimited config.areas limits) (sym (limits_later ds)) h.limited;
+  within = within_later ds h.within;
 }
 
 -- ---- areas of different Area IDs

@@ -1,4 +1,4 @@
--- When the usable LSAs and the interfaces of a state are those of the state before.
+-- When the usable LSAs, the interfaces and the configuration of a state are those of the state before.
 use Rattle.std.proofs.Common.{◌≡◌, ℕ, ◌<◌, Bool, true, false, cond, List, length, map, get_or, set, Option, Some, None, All, refl, sym, ap, subst, ◌∙◌, arith, inl, inr}
 use Rattle.std.specs.Prelude.{Result, Ok, Err, IfOk, nat_lt, option_and_then, option_map, ◌↔◌}
 use Rattle.std.specs.Ordering.{nat_cmp, is_eq}
@@ -8,11 +8,15 @@ use Rattle.std.specs.FinMap.{FinMap, get, insert, remove, empty, get-insert, get
 use Rattle.std.proofs.lemmas.Bool.{cases_eq}
 use Rattle.std.proofs.lemmas.List.{get_or-map, get_or-set_same, get_or-set_other, get_or_default, length-map}
 use Rattle.std.proofs.lemmas.List.Elements.{All-map}
+use Rattle.ospf_types.specs.declared.config.AreaConfig.{AreaConfig}
+use Rattle.ospf_types.specs.declared.config.Config.{Config}
 use Rattle.ospf_types.specs.declared.config.Interface.{Interface}
+use Rattle.ospf_types.specs.declared.config.Range.{Range}
 use Rattle.ospf_types.specs.declared.key.Key.{Key}
 use Rattle.ospf_types.specs.declared.key.Scope.{Scope}
 use Rattle.ospf_types.specs.declared.memory.Memory.{Memory}
 use Rattle.ospf_types.specs.Keys.{key_cmp}
+use Rattle.ospf_types.specs.RangeChanges.{with_ranges}
 use Rattle.ospf_types.specs.Lsa.{Lsa, Body, MaxAge, key_of}
 use Rattle.ospf_types.proofs.Orders.{key_total, key_exact}
 use Rattle.lsa_codec.specs.Readers.{with_age}
@@ -23,9 +27,10 @@ use Rattle.event_state.specs.declared.event.Event.{Event}
 use Rattle.event_state.specs.declared.event.Event.TheVariants as event
 use Rattle.event_state.specs.Changes.{lsas_in}
 use Rattle.event_state.specs.States.{State, LooksAlike, place_of, changed_at_place, with_change}
-use Rattle.event_state.specs.Steps.{changed_by, with_interface}
+use Rattle.event_state.specs.Steps.{changed_by, with_interface, with_range_change}
 use Rattle.event_state.specs.Held.{AreKept}
 use Rattle.event_state.proofs.Places.{place_within}
+use Rattle.event_state.proofs.SamePlaces.{places_kept}
 use Rattle.event_state.proofs.OneChange.{mapped_at}
 
 -- what is used of the database at a place that may be there
@@ -55,7 +60,7 @@ module _ (s : State) (at : Scope) (k : ℕ) (place : place_of s.config.areas at 
 
   looks_set : (d : Database) → ((key : Key) → used_at d key ≡ used_at here key) ↔ LooksAlike s (record s { databases = set s.databases k d })
   looks_set d = (
-    λ alike. record { usable = λ other key. used_set s.databases k d (place_of s.config.areas other) key lt (alike key); interfaces = refl },
+    λ alike. record { config = refl; usable = λ other key. used_set s.databases k d (place_of s.config.areas other) key lt (alike key); interfaces = refl },
     λ looks. λ key.
         let same : used_at here key ≡ used_at (get_or (set s.databases k d) k empty) key = ap (λ (o : Option ℕ). used_in s.databases o key) (sym place) ∙ looks.usable at key ∙ ap (λ (o : Option ℕ). used_in (set s.databases k d) o key) place in
         sym (same ∙ ap (λ (e : Database). used_at e key) (get_or-set_same s.databases k d empty lt)),
@@ -129,6 +134,7 @@ used_later databases (Some k) key within none =
 pub looks_later : (s : State) → AreKept s.config.areas s.databases → All NoneComes s.databases ↔ LooksAlike s (changed_by s event.Second)
 looks_later s kept = (
   λ none. record {
+    config = refl;
     usable = λ at key. used_later s.databases (place_of s.config.areas at) key (λ k e. omega (arith, place_within s.config.areas at k e, kept.places)) none;
     interfaces = refl;
   },
@@ -165,6 +171,7 @@ put_again s id i has q =
 looks_interface : (s : State) (id : ℕ) (i : Interface) → (get s.interfaces id ≡ Some i) ↔ LooksAlike s (with_interface s id i)
 looks_interface s id i = (
   λ has. record {
+    config = refl;
     usable = λ at key. refl;
     interfaces = same_map nat_cmp_total nat_cmp-IsAntisymmetric s.interfaces (insert s.interfaces id i) (λ q. put_again s id i has q);
   },
@@ -177,13 +184,30 @@ pub interface_looks : (s : State) (r : Result Bool Memory) (id : ℕ) (i : Inter
 interface_looks s (Ok changed) id i alike = (λ e. (looks_interface s id i).0 (alike.0 e), λ looks. alike.1 ((looks_interface s id i).1 looks))
 interface_looks s (Err e) id i alike = tt
 
+-- ---- the ranges of an area
+
+-- where the areas are as before, so is all else
+looks_ranges : (s : State) (area : ℕ) (change : List Range → List Range) → (with_ranges s.config.areas area change ≡ s.config.areas) ↔ LooksAlike s (with_range_change s area change)
+looks_ranges s area change = (
+  λ same. record {
+    config = λ i. record s.config { areas = sym same i };
+    usable = λ at key. ap (λ (o : Option ℕ). used_in s.databases o key) (sym (places_kept s.config.areas area change at));
+    interfaces = refl;
+  },
+  λ looks. ap (λ (c : Config). c.areas) (sym looks.config),
+)
+
+pub ranges_look : (s : State) (changed : Bool) (area : ℕ) (change : List Range → List Range) (new : List AreaConfig) → new ≡ with_ranges s.config.areas area change → (changed ≡ false) ↔ (new ≡ s.config.areas)
+    → (changed ≡ false) ↔ LooksAlike s (with_range_change s area change)
+ranges_look s changed area change new is alike = (λ e. (looks_ranges s area change).0 (sym is ∙ alike.0 e), λ looks. alike.1 (is ∙ (looks_ranges s area change).1 looks))
+
 -- ---- the journal
 
 -- what is used, and the interfaces, do not depend on the journal
 pub looks_step : (s t : State) (journal : List Event) → LooksAlike s t ↔ LooksAlike s (record t { journal = journal })
 looks_step s t journal = (
-  λ looks. record { usable = λ at key. looks.usable at key; interfaces = looks.interfaces },
-  λ looks. record { usable = λ at key. looks.usable at key; interfaces = looks.interfaces },
+  λ looks. record { config = looks.config; usable = λ at key. looks.usable at key; interfaces = looks.interfaces },
+  λ looks. record { config = looks.config; usable = λ at key. looks.usable at key; interfaces = looks.interfaces },
 )
 
 changed_place_journal : (s : State) (journal : List Event) (change : Database → Database) (o : Option ℕ) → changed_at_place (record s { journal = journal }) change o ≡ record (changed_at_place s change o) { journal = journal }
@@ -196,12 +220,14 @@ changed_journal s journal (event.Install at l) = changed_place_journal s journal
 changed_journal s journal (event.Flush at key) = changed_place_journal s journal (λ d. aged_out d key) (place_of s.config.areas at)
 changed_journal s journal (event.Purge at key) = changed_place_journal s journal (λ d. remove d key) (place_of s.config.areas at)
 changed_journal s journal (event.Interface id area address peer up) = refl
+changed_journal s journal (event.RangeSet area prefix advertise) = refl
+changed_journal s journal (event.RangeDrop area prefix) = refl
 changed_journal s journal event.Second = refl
 
 -- nor does whether it looks as before
 pub looks_journal : (s : State) (journal : List Event) (e : Event) → LooksAlike (record s { journal = journal }) (changed_by (record s { journal = journal }) e) ↔ LooksAlike s (changed_by s e)
 looks_journal s journal e =
     let is = changed_journal s journal e in (
-      λ looks. let w = subst (λ (t : State). LooksAlike (record s { journal = journal }) t) is looks in record { usable = λ at key. w.usable at key; interfaces = w.interfaces },
-      λ looks. subst (λ (t : State). LooksAlike (record s { journal = journal }) t) (sym is) (record { usable = λ at key. looks.usable at key; interfaces = looks.interfaces }),
+      λ looks. let w = subst (λ (t : State). LooksAlike (record s { journal = journal }) t) is looks in record { config = w.config; usable = λ at key. w.usable at key; interfaces = w.interfaces },
+      λ looks. subst (λ (t : State). LooksAlike (record s { journal = journal }) t) (sym is) (record { config = looks.config; usable = λ at key. looks.usable at key; interfaces = looks.interfaces }),
     )

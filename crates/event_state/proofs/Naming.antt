@@ -9,6 +9,7 @@ use Rattle.std.proofs.lemmas.Bool.Decides.{nat_tests}
 use Rattle.std.proofs.lemmas.List.{get_or-set_same, get_or-set_other, get_or_default, set_past}
 use Rattle.std.proofs.lemmas.List.Elements.{Contains-append_left, Contains-append_right}
 use Rattle.ospf_types.specs.declared.config.AreaConfig.{AreaConfig}
+use Rattle.ospf_types.specs.declared.config.Range.{Range}
 use Rattle.ospf_types.specs.declared.key.Key.{Key}
 use Rattle.ospf_types.specs.declared.key.Scope.{Scope}
 use Rattle.ospf_types.specs.declared.key.Scope.TheVariants as scope
@@ -22,11 +23,12 @@ use Rattle.lsdb.specs.Contents.{contents_of, used_at, IsOrder}
 use Rattle.event_state.specs.declared.event.Event.{Event}
 use Rattle.event_state.specs.declared.event.Event.TheVariants as event
 use Rattle.event_state.specs.States.{State, place_of, database_of, changed_at_place, with_change, usable_at}
-use Rattle.event_state.specs.Steps.{step}
+use Rattle.event_state.specs.Steps.{step, with_range_change}
 use Rattle.event_state.specs.Named.{comes_next, AreListed, IsAmong}
 use Rattle.event_state.proofs.Aging.{get-all_aged, all_aged_empty, contents_aged}
 use Rattle.event_state.proofs.OneChange.{mapped_at}
 use Rattle.event_state.proofs.Places.{no_area, area_at, places_apart}
+use Rattle.event_state.proofs.SamePlaces.{places_kept}
 use Rattle.event_state.proofs.Looks.{used_in}
 
 -- ---- a change under one key
@@ -101,6 +103,11 @@ flush_named s at key named is = one_named s at key (λ (d : Database). aged_out 
 
 pub purge_named : (s : State) (at : Scope) (key : Key) (named : List (Scope × Key)) → named ≡ (at, key) ∷ [] → NamesAll s (event.Purge at key) named
 purge_named s at key named is = one_named s at key (λ (d : Database). remove d key) named (remove_of_key key) is
+
+-- ---- an event that names nothing
+
+pub ranges_named : (s : State) (area : ℕ) (change : List Range → List Range) (at : Scope) (key : Key) → usable_at (with_range_change s area change) at key ≡ usable_at s at key
+ranges_named s area change at key = ap (λ (o : Option ℕ). used_in s.databases o key) (places_kept s.config.areas area change at)
 
 -- ---- a second
 

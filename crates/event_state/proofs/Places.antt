@@ -4,12 +4,13 @@ use Rattle.std.specs.Prelude.{◌==◌, IsSome, nat_lt, not}
 use Rattle.std.specs.List.{position_or_len}
 use Rattle.std.proofs.lemmas.Bool.{cases_lt}
 use Rattle.std.proofs.lemmas.Bool.Decides.{nat_tests, eqb_tells}
+use Rattle.std.proofs.lemmas.List.{get_or_default}
 use Rattle.std.proofs.lemmas.List.Sums.{prefix_len_passes}
 use Rattle.std.proofs.lemmas.List.Quantifiers.{position-Some}
 use Rattle.ospf_types.specs.declared.config.AreaConfig.{AreaConfig}
 use Rattle.ospf_types.specs.declared.key.Scope.{Scope}
 use Rattle.ospf_types.specs.declared.key.Scope.TheVariants as scope
-use Rattle.event_state.specs.States.{place_of}
+use Rattle.event_state.specs.States.{AreApart, place_of}
 
 not_same : (x y : ℕ) → x ≢ y → (x == y) ≡ false
 not_same x y h = elim (eqb_tells x y) [ inl t ↦ absurd (h t.1) | inr t ↦ t.0 ]
@@ -41,6 +42,23 @@ pub area_at : (areas : List AreaConfig) (id k : ℕ) → place_of areas (scope.A
 area_at areas id k e =
     let found = position-Some (λ (a : AreaConfig). a.id == id) areas k no_area e in
     (found.0, same_number _ _ found.1)
+
+-- where no two areas have one Area ID, each has its own place
+pub place_at : (areas : List AreaConfig) (k : ℕ) (d : AreaConfig) → AreApart areas → k < length areas → place_of areas (scope.Area (get_or areas k d).id) ≡ Some k
+place_at areas k d apart lt =
+    elim (place_of areas (scope.Area (get_or areas k d).id)) as (λ o. place_of areas (scope.Area (get_or areas k d).id) ≡ o → IsSome o → o ≡ Some k) [
+      | None ↦ λ e some. absurd cc
+      | Some j ↦ λ e some.
+          let found = area_at areas (get_or areas k d).id j e in
+          let same : (get_or areas j no_area).id ≡ (get_or areas k no_area).id = found.1 ∙ ap (λ (a : AreaConfig). a.id) (get_or_default areas k d no_area lt) in
+          elim (cases_lt j k) [
+            | inl below ↦ absurd (apart j k no_area below lt same)
+            | inr past ↦ elim (cases_lt k j) [
+              | inl above ↦ absurd (apart k j no_area above found.0 (sym same))
+              | inr le ↦ ap Some (omega (arith, past, le))
+            ]
+          ]
+    ] refl (place_there areas k d lt)
 
 -- there is a database at the place
 pub place_within : (areas : List AreaConfig) (at : Scope) (k : ℕ) → place_of areas at ≡ Some k → k < length areas + 1

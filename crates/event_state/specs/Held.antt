@@ -1,14 +1,18 @@
--- What holds of the databases of every state.
-use Rattle.std.specs.Prelude.{ℕ, ◌+◌, ◌<◌, ◌≡◌, ◌⊎◌, List, length, slice_index_or, false, Some}
-use Rattle.std.specs.FinMap.{get, empty}
+-- What holds of the databases and the interfaces of every state.
+use Rattle.std.specs.Prelude.{ℕ, ◌+◌, ◌<◌, ◌≤◌, ◌≡◌, ◌⊎◌, List, length, slice_index_or, true, false, Some, IsSome}
+use Rattle.std.specs.Ordering.{nat_cmp}
+use Rattle.std.specs.FinMap.{FinMap, get, empty, len}
 use Rattle.ospf_types.specs.declared.config.AreaConfig.{AreaConfig}
 use Rattle.ospf_types.specs.declared.config.Config.{Config}
+use Rattle.ospf_types.specs.declared.config.Interface.{Interface}
 use Rattle.ospf_types.specs.declared.key.Key.{Key}
 use Rattle.ospf_types.specs.declared.key.Scope.{Scope}
+use Rattle.ospf_types.specs.declared.key.Scope.TheVariants as scope
 use Rattle.ospf_types.specs.Lsa.{Lsa}
 use Rattle.lsdb.specs.Databases.{Database, DatabaseValue}
 use Rattle.lsdb.specs.Contents.{IsSound}
 use Rattle.event_state.specs.declared.limits.Limits.{Limits}
+use Rattle.event_state.specs.Bases.{most_serial, databases_in}
 use Rattle.event_state.specs.Changes.{lsas_in, limits_in}
 use Rattle.event_state.specs.States.{AreApart, place_of}
 use Rattle.event_state.specs.Steps.{is_out_of_scope, limit_of}
@@ -34,6 +38,28 @@ pub record AreFit (areas : List AreaConfig) (databases : List Database) : Type 0
 abbrev pub AreLimited : List AreaConfig → Limits → List ℕ → Type 0
 AreLimited areas limits most = (at : Scope) (k : ℕ) → place_of areas at ≡ Some k → slice_index_or most k 0 ≡ limit_of limits at
 
+-- no database has more LSAs than it may hold
+abbrev pub AreWithin : List Database → List ℕ → Type 0
+AreWithin databases most = (k : ℕ) → len (slice_index_or databases k empty) ≤ slice_index_or most k 0
+
+-- the area of each interface is configured, and no two that are up have one address
+pub record AreInterfaces (areas : List AreaConfig) (interfaces : FinMap nat_cmp Interface) : Type 0 where
+  pub placed : (id : ℕ) (i : Interface) → get interfaces id ≡ Some i → IsSome (place_of areas (scope.Area i.area))
+  pub apart : (id other : ℕ) (i j : Interface) → get interfaces id ≡ Some i → get interfaces other ≡ Some j → i.up ≡ true → j.up ≡ true → i.address ≡ j.address → id ≡ other
+
+-- what holds of the databases of every state
 pub record IsHeld (config : Config) (limits : Limits) (databases : List DatabaseValue) : Type 0 where
   pub kept : AreKept config.areas (lsas_in databases)
   pub limited : AreLimited config.areas limits (limits_in databases)
+  pub within : AreWithin (lsas_in databases) (limits_in databases)
+
+-- the databases are those of these LSAs
+pub record AreFilled (config : Config) (limits : Limits) (all : List (Scope × Lsa)) (databases : List DatabaseValue) : Type 0 where
+  pub held : IsHeld config limits databases
+  pub lsas : lsas_in databases ≡ databases_in all config.areas
+
+-- what holds of every state
+pub record IsState (config : Config) (limits : Limits) (databases : List DatabaseValue) (of_router : FinMap nat_cmp Interface) (last : ℕ) : Type 0 where
+  pub held : IsHeld config limits databases
+  pub interfaces : AreInterfaces config.areas of_router
+  pub serial : last ≤ most_serial

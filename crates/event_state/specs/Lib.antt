@@ -1,7 +1,13 @@
+pub mod Bases
 pub mod States
+pub mod RangeEvents
 pub mod Steps
 pub mod Changes
 pub mod Refusals
 pub mod Texts
 pub mod Held
 pub mod Named
+pub mod Listings
+pub mod BaseFaults
+pub mod Rolls
+pub mod Ascending

@@ -1,5 +1,5 @@
 -- The state that events change (RFC 2328, 13.2 and 14), and what is calculated from.
-use Rattle.std.specs.Prelude.{ℕ, ◌≡◌, ◌≢◌, ◌<◌, ◌==◌, length, List, [], map, position, slice_index_or, slice_set, Option, Some, None, option_map, option_and_then}
+use Rattle.std.specs.Prelude.{ℕ, ◌≡◌, ◌≢◌, ◌<◌, ◌+◌, ◌==◌, length, List, [], map, position, slice_index_or, slice_set, Option, Some, None, option_map, option_and_then}
 use Rattle.std.specs.Ordering.{nat_cmp}
 use Rattle.std.specs.BTreeMap.{BTreeMap}
 use Rattle.std.specs.FinMap.{FinMap, from_entries, entries, values, empty}
@@ -13,15 +13,21 @@ use Rattle.ospf_types.specs.Lsa.{Lsa, Body}
 use Rattle.ospf_types.specs.Inputs.{Inputs}
 use Rattle.lsdb.specs.Databases.{Database}
 use Rattle.lsdb.specs.Contents.{used_at}
+use Rattle.event_state.specs.declared.base.Base.{Base}
 use Rattle.event_state.specs.declared.event.Event.{Event}
 use Rattle.event_state.specs.declared.limits.Limits.{Limits}
 
 pub record State : Type 0 where
-  pub config : Config
+  pub base : Base  -- what the events since began with
+  pub config : Config  -- with the ranges of now
   pub limits : Limits
   pub databases : List Database  -- that of each configured area, in the order of the areas, and last that of the AS
   pub interfaces : FinMap nat_cmp Interface
-  pub journal : List Event  -- the events that were taken
+  pub journal : List Event  -- the events that were taken since
+
+-- serials count on from the base
+abbrev pub serial_of : State → ℕ
+serial_of s = s.base.serial + length s.journal
 
 -- the interfaces of a tree, as a finite map
 abbrev pub interfaces_of : BTreeMap ℕ Interface → FinMap nat_cmp Interface
@@ -67,7 +73,8 @@ inputs_of s = record {
 abbrev pub usable_at : State → Scope → Key → Option (ℕ × Body)
 usable_at s at key = option_and_then (λ d. used_at d key) (database_of s at)
 
--- the same usable LSAs (key, Options, body), and the same interfaces
+-- the same usable LSAs (key, Options, body), the same interfaces, and the same configuration
 pub record LooksAlike (s t : State) : Type 0 where
+  pub config : s.config ≡ t.config
   pub usable : (at : Scope) (key : Key) → usable_at s at key ≡ usable_at t at key
   pub interfaces : s.interfaces ≡ t.interfaces

@@ -1,31 +1,38 @@
 -- One event: the first refusal that holds, or what it does to the state; and runs of events (RFC 2328, 13.2 and 14).
-use Rattle.std.specs.Prelude.{ℕ, ◌==◌, ◌&&◌, ◌≡◌, not, Bool, false, nat_le, nat_lt, List, [], ◌∷◌, ◌++◌, map, length, Option, Some, None, is_none, option_and_then}
+use Rattle.std.specs.Prelude.{ℕ, ◌==◌, ◌&&◌, ◌||◌, ◌≡◌, not, Bool, false, nat_le, nat_lt, List, [], ◌∷◌, ◌++◌, map, length, Option, Some, None, is_none, option_and_then}
 use Rattle.std.specs.List.{list_any}
-use Rattle.std.specs.FinMap.{entries, get, insert, remove, empty}
+use Rattle.std.specs.FinMap.{entries, get, insert, remove}
 use Rattle.ospf_types.specs.FirstOf.{first_of}
-use Rattle.ospf_types.specs.declared.config.Config.{Config}
-use Rattle.ospf_types.specs.declared.config.AreaConfig.{AreaConfig}
+use Rattle.ospf_types.specs.RangeChanges.{has_range, set_range, drop_range}
 use Rattle.ospf_types.specs.declared.config.Interface.{Interface}
+use Rattle.ospf_types.specs.declared.config.Range.{Range}
+use Rattle.ospf_types.specs.declared.prefix.Prefix.{Prefix}
 use Rattle.ospf_types.specs.declared.key.Key.{Key}
 use Rattle.ospf_types.specs.declared.key.Scope.{Scope}
 use Rattle.ospf_types.specs.declared.key.Scope.TheVariants as scope
 use Rattle.ospf_types.specs.Lsa.{Lsa, MaxAge, key_of}
+use Rattle.config_faults.specs.Overlaps.{overlaps_another}
 use Rattle.lsdb.specs.Databases.{Database, all_aged, aged_out, is_older_than, is_same_as, is_full_for}
+use Rattle.event_state.specs.declared.base.Base.{Base}
 use Rattle.event_state.specs.declared.event.Event.{Event}
 use Rattle.event_state.specs.declared.event.Event.TheVariants as event
 use Rattle.event_state.specs.declared.limits.Limits.{Limits}
 use Rattle.event_state.specs.declared.refusal.Refusal.{Refusal}
 use Rattle.event_state.specs.declared.refusal.Refusal.TheVariants as refusal
-use Rattle.event_state.specs.States.{State, place_of, database_of, with_change}
+use Rattle.event_state.specs.Bases.{most_serial, databases_in, interfaces_in}
+use Rattle.event_state.specs.RangeEvents.{ranges_of, is_one_too_many, with_changed_ranges}
+use Rattle.event_state.specs.States.{State, serial_of, place_of, database_of, with_change}
 
 -- ---- the tests, a line of the table of refusals each
 
--- the area of the scope, or of the interface, is not configured
+-- the area of the scope, of the interface or of the range is not configured
 abbrev pub lacks_area : State → Event → Bool
 lacks_area s (event.Install at lsa) = is_none (place_of s.config.areas at)
 lacks_area s (event.Flush at key) = is_none (place_of s.config.areas at)
 lacks_area s (event.Purge at key) = is_none (place_of s.config.areas at)
 lacks_area s (event.Interface id area address peer up) = is_none (place_of s.config.areas (scope.Area area))
+lacks_area s (event.RangeSet area prefix advertise) = is_none (place_of s.config.areas (scope.Area area))
+lacks_area s (event.RangeDrop area prefix) = is_none (place_of s.config.areas (scope.Area area))
 lacks_area s event.Second = false
 
 -- AS-external-LSAs are those of the AS, and all others are those of an area
@@ -39,6 +46,8 @@ is_misplaced (event.Install at lsa) = is_out_of_scope at lsa.header.kind
 is_misplaced (event.Flush at key) = is_out_of_scope at key.kind
 is_misplaced (event.Purge at key) = is_out_of_scope at key.kind
 is_misplaced (event.Interface id area address peer up) = false
+is_misplaced (event.RangeSet area prefix advertise) = false
+is_misplaced (event.RangeDrop area prefix) = false
 is_misplaced event.Second = false
 
 -- the instance that the database of the scope has under the key
@@ -51,6 +60,8 @@ is_older s (event.Install at lsa) = is_older_than lsa (held_at s at (key_of lsa)
 is_older s (event.Flush at key) = false
 is_older s (event.Purge at key) = false
 is_older s (event.Interface id area address peer up) = false
+is_older s (event.RangeSet area prefix advertise) = false
+is_older s (event.RangeDrop area prefix) = false
 is_older s event.Second = false
 
 -- the database has the same instance
@@ -59,6 +70,8 @@ is_repeated s (event.Install at lsa) = is_same_as lsa (held_at s at (key_of lsa)
 is_repeated s (event.Flush at key) = false
 is_repeated s (event.Purge at key) = false
 is_repeated s (event.Interface id area address peer up) = false
+is_repeated s (event.RangeSet area prefix advertise) = false
+is_repeated s (event.RangeDrop area prefix) = false
 is_repeated s event.Second = false
 
 -- the database has no LSA under the key
@@ -67,6 +80,8 @@ has_no_lsa s (event.Install at lsa) = false
 has_no_lsa s (event.Flush at key) = is_none (held_at s at key)
 has_no_lsa s (event.Purge at key) = is_none (held_at s at key)
 has_no_lsa s (event.Interface id area address peer up) = false
+has_no_lsa s (event.RangeSet area prefix advertise) = false
+has_no_lsa s (event.RangeDrop area prefix) = false
 has_no_lsa s event.Second = false
 
 -- the LSA to be aged prematurely is another router's
@@ -75,6 +90,8 @@ is_not_own s (event.Install at lsa) = false
 is_not_own s (event.Flush at key) = not (key.router == s.config.router)
 is_not_own s (event.Purge at key) = false
 is_not_own s (event.Interface id area address peer up) = false
+is_not_own s (event.RangeSet area prefix advertise) = false
+is_not_own s (event.RangeDrop area prefix) = false
 is_not_own s event.Second = false
 
 -- an LSA below MaxAge
@@ -88,6 +105,8 @@ is_young s (event.Install at lsa) = false
 is_young s (event.Flush at key) = false
 is_young s (event.Purge at key) = is_below_max_age (held_at s at key)
 is_young s (event.Interface id area address peer up) = false
+is_young s (event.RangeSet area prefix advertise) = false
+is_young s (event.RangeDrop area prefix) = false
 is_young s event.Second = false
 
 -- how many LSAs the database of a scope may hold
@@ -109,11 +128,13 @@ is_full s (event.Install at lsa) = is_full_in (limit_of s.limits at) lsa (databa
 is_full s (event.Flush at key) = false
 is_full s (event.Purge at key) = false
 is_full s (event.Interface id area address peer up) = false
+is_full s (event.RangeSet area prefix advertise) = false
+is_full s (event.RangeDrop area prefix) = false
 is_full s event.Second = false
 
--- as many events were taken as the journal may hold
+-- as many events were taken since the base as the journal may hold, or the last serial is given
 abbrev pub is_journal_full : State → Bool
-is_journal_full s = nat_le s.limits.events (length s.journal)
+is_journal_full s = nat_le s.limits.events (length s.journal) || nat_le most_serial (serial_of s)
 
 -- the interface is up and has this address, and its id is another one
 abbrev pub has_address : ℕ → ℕ → ℕ × Interface → Bool
@@ -125,11 +146,47 @@ is_address_taken s (event.Install at lsa) = false
 is_address_taken s (event.Flush at key) = false
 is_address_taken s (event.Purge at key) = false
 is_address_taken s (event.Interface id area address peer up) = up && list_any (has_address id address) (entries s.interfaces)
+is_address_taken s (event.RangeSet area prefix advertise) = false
+is_address_taken s (event.RangeDrop area prefix) = false
 is_address_taken s event.Second = false
 
--- the table of refusals, in its order
-abbrev pub tests_of : State → Event → List (Bool × Refusal)
-tests_of s e =
+-- a range, with its Status: to be advertised, or not
+abbrev pub range_with : Prefix → Bool → Range
+range_with prefix advertise = record { prefix = prefix; advertise = advertise }
+
+-- another range of the area covers the one to be set, or is covered by it
+abbrev pub is_range_overlapping : State → Event → Bool
+is_range_overlapping s (event.Install at lsa) = false
+is_range_overlapping s (event.Flush at key) = false
+is_range_overlapping s (event.Purge at key) = false
+is_range_overlapping s (event.Interface id area address peer up) = false
+is_range_overlapping s (event.RangeSet area prefix advertise) = overlaps_another (range_with prefix advertise) (ranges_of s.config.areas area)
+is_range_overlapping s (event.RangeDrop area prefix) = false
+is_range_overlapping s event.Second = false
+
+-- the area has no range with the prefix of the one to be dropped
+abbrev pub has_no_range : State → Event → Bool
+has_no_range s (event.Install at lsa) = false
+has_no_range s (event.Flush at key) = false
+has_no_range s (event.Purge at key) = false
+has_no_range s (event.Interface id area address peer up) = false
+has_no_range s (event.RangeSet area prefix advertise) = false
+has_no_range s (event.RangeDrop area prefix) = not (has_range prefix (ranges_of s.config.areas area))
+has_no_range s event.Second = false
+
+-- a range with a new prefix where the area has as many as it may
+abbrev pub is_range_full : State → Event → Bool
+is_range_full s (event.Install at lsa) = false
+is_range_full s (event.Flush at key) = false
+is_range_full s (event.Purge at key) = false
+is_range_full s (event.Interface id area address peer up) = false
+is_range_full s (event.RangeSet area prefix advertise) = is_one_too_many prefix (ranges_of s.config.areas area)
+is_range_full s (event.RangeDrop area prefix) = false
+is_range_full s event.Second = false
+
+-- the table of refusals, in its order: the tests before that of the journal
+abbrev pub early_tests_of : State → Event → List (Bool × Refusal)
+early_tests_of s e =
     (lacks_area s e, refusal.NoArea)
     ∷ (is_misplaced e, refusal.Scope)
     ∷ (is_older s e, refusal.Older)
@@ -138,13 +195,27 @@ tests_of s e =
     ∷ (is_not_own s e, refusal.NotOwn)
     ∷ (is_young s e, refusal.NotMaxAge)
     ∷ (is_full s e, refusal.Full)
-    ∷ (is_journal_full s, refusal.JournalFull)
-    ∷ (is_address_taken s e, refusal.AddressTaken)
     ∷ []
+
+-- and those behind it
+abbrev pub late_tests_of : State → Event → List (Bool × Refusal)
+late_tests_of s e =
+    (is_address_taken s e, refusal.AddressTaken)
+    ∷ (is_range_overlapping s e, refusal.RangeOverlaps)
+    ∷ (has_no_range s e, refusal.NoRange)
+    ∷ (is_range_full s e, refusal.RangeFull)
+    ∷ []
+
+abbrev pub tests_of : State → Event → List (Bool × Refusal)
+tests_of s e = early_tests_of s e ++ (is_journal_full s, refusal.JournalFull) ∷ late_tests_of s e
 
 -- the first refusal of the table that holds; none where the event is taken
 abbrev pub refusal_of : State → Event → Option Refusal
 refusal_of s e = first_of (tests_of s e)
+
+-- the first refusal that does not rest on how many events were taken
+abbrev pub lasting_refusal_of : State → Event → Option Refusal
+lasting_refusal_of s e = first_of (early_tests_of s e ++ late_tests_of s e)
 
 -- what is known of an event that is taken, whatever the journal
 pub record IsAccepted (s : State) (e : Event) : Type 0 where
@@ -152,20 +223,30 @@ pub record IsAccepted (s : State) (e : Event) : Type 0 where
   pub newer : is_older s e ≡ false
   pub differs : is_repeated s e ≡ false
   pub there : has_no_lsa s e ≡ false
+  pub area : lacks_area s e ≡ false
   pub aged : is_young s e ≡ false
   pub room : is_full s e ≡ false
+  pub apart : is_address_taken s e ≡ false
+  pub clear : is_range_overlapping s e ≡ false
+  pub present : has_no_range s e ≡ false
+  pub few : is_range_full s e ≡ false
 
 -- ---- what an event does
 
 abbrev pub with_interface : State → ℕ → Interface → State
 with_interface s id i = record s { interfaces = insert s.interfaces id i }
 
--- the databases and interfaces after the event
+abbrev pub with_range_change : State → ℕ → (List Range → List Range) → State
+with_range_change s area change = record s { config = with_changed_ranges s.config area change }
+
+-- the databases, the interfaces and the ranges after the event
 abbrev pub changed_by : State → Event → State
 changed_by s (event.Install at lsa) = with_change s at (λ d. insert d (key_of lsa) lsa)
 changed_by s (event.Flush at key) = with_change s at (λ d. aged_out d key)
 changed_by s (event.Purge at key) = with_change s at (λ d. remove d key)
 changed_by s (event.Interface id area address peer up) = with_interface s id (record { area = area; address = address; peer = peer; up = up })
+changed_by s (event.RangeSet area prefix advertise) = with_range_change s area (set_range (range_with prefix advertise))
+changed_by s (event.RangeDrop area prefix) = with_range_change s area (drop_range prefix)
 changed_by s event.Second = record s { databases = map all_aged s.databases }
 
 -- the state after an event that is taken
@@ -174,13 +255,14 @@ step s e = record (changed_by s e) { journal = s.journal ++ e ∷ [] }
 
 -- ---- runs
 
--- no interfaces, empty databases, no event
-abbrev pub opening : Config → Limits → State
-opening config limits = record {
-  config = config;
+-- the databases and interfaces of the base, and no event
+abbrev pub opening : Base → Limits → State
+opening base limits = record {
+  base = base;
+  config = base.config;
   limits = limits;
-  databases = map (λ (a : AreaConfig). empty) config.areas ++ empty ∷ [];
-  interfaces = empty;
+  databases = databases_in base.lsas base.config.areas;
+  interfaces = interfaces_in base.interfaces;
   journal = [];
 }
 
@@ -189,14 +271,14 @@ abbrev pub run_from : State → List Event → State
 run_from s [] = s
 run_from s (e ∷ es) = run_from (step s e) es
 
-abbrev pub run_of : Config → Limits → List Event → State
-run_of config limits events = run_from (opening config limits) events
+abbrev pub run_of : Base → Limits → List Event → State
+run_of base limits events = run_from (opening base limits) events
 
--- each of these events is taken in its turn
+-- each of these events is taken in its turn, however many the journal may hold
 abbrev pub AreTaken : State → List Event → Type 0
 AreTaken s [] = Unit {0}
-AreTaken s (e ∷ es) = (refusal_of s e ≡ None) × AreTaken (step s e) es
+AreTaken s (e ∷ es) = (lasting_refusal_of s e ≡ None) × AreTaken (step s e) es
 
--- a list of events of which each is taken in its turn, from the opening state
-abbrev pub IsLegalList : Config → Limits → List Event → Type 0
-IsLegalList config limits events = AreTaken (opening config limits) events
+-- a list of events of which each is taken in its turn, from the base on
+abbrev pub IsLegalList : Base → Limits → List Event → Type 0
+IsLegalList base limits events = AreTaken (opening base limits) events

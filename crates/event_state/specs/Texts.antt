@@ -1,5 +1,10 @@
--- What is printed of a refusal: its number and its name.
+-- What is printed of a refusal, and of a fault of a base: its number and its name.
 use Rattle.std.specs.Prelude.{ℕ, List, codes}
+use Rattle.config_faults.specs.Texts.{config_fault_text}
+use Rattle.event_state.specs.declared.base_fault.BaseFault.{BaseFault}
+use Rattle.event_state.specs.declared.base_fault.BaseFault.TheVariants as base_fault
+use Rattle.event_state.specs.declared.base_fault.Unfit.{Unfit}
+use Rattle.event_state.specs.declared.base_fault.Unfit.TheVariants as unfit
 use Rattle.event_state.specs.declared.refusal.Refusal.{Refusal}
 use Rattle.event_state.specs.declared.refusal.Refusal.TheVariants as refusal
 
@@ -14,6 +19,21 @@ refusal_text refusal.NotMaxAge = codes "26 NotMaxAge"
 refusal_text refusal.Full = codes "27 Full"
 refusal_text refusal.JournalFull = codes "28 JournalFull"
 refusal_text refusal.AddressTaken = codes "29 AddressTaken"
+refusal_text refusal.RangeOverlaps = codes "34 RangeOverlaps"
+refusal_text refusal.NoRange = codes "35 NoRange"
+refusal_text refusal.RangeFull = codes "36 RangeFull"
 refusal_text refusal.Memory = codes "30 Memory"
 refusal_text refusal.Spawn = codes "31 Spawn"
 refusal_text refusal.Workers = codes "32 Workers"
+refusal_text refusal.NotCurrent = codes "37 NotCurrent"
+
+abbrev pub unfit_text : Unfit → List ℕ
+unfit_text unfit.NoArea = codes "20 NoArea"
+unfit_text unfit.Scope = codes "21 Scope"
+unfit_text unfit.Full = codes "27 Full"
+unfit_text unfit.AddressTaken = codes "29 AddressTaken"
+
+abbrev pub base_fault_text : BaseFault → List ℕ
+base_fault_text (base_fault.Config fault) = config_fault_text fault
+base_fault_text base_fault.Doubled = codes "47 Doubled"
+base_fault_text (base_fault.Unfit fault) = unfit_text fault

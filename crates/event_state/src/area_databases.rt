@@ -5,12 +5,18 @@ ghost use Rattle.ospf_types.specs.Lsa.{key_of};
 ghost use Rattle.lsa_codec.specs.Spelling.{IsLegal};
 ghost use Rattle.lsdb.specs.Databases.{all_aged, aged_out, install_refusal_of, purge_refusal_of};
 ghost use Rattle.lsdb.specs.Contents.{used_at, IsUsedAlike, NoneComes};
-ghost use Rattle.event_state.specs.Changes.{IsChange, no_database, aged_value};
+ghost use Rattle.event_state.specs.BaseFaults.{base_fault_of};
+ghost use Rattle.event_state.specs.Changes.{IsChange, no_database, aged_value, empty_values};
+ghost use Rattle.event_state.specs.Held.{AreFilled};
 
+use crate::base::Base;
+use crate::limits::Limits;
+use crate::scopes::place_of;
 use lsa_codec::Checked;
 use lsdb::{Database, NoLsa, PurgeRefusal};
 use ospf_types::key::Key;
 use ospf_types::memory::Memory;
+use std::alloc::Global;
 
 // Puts the LSA into the database at the place. The answer is whether what is used of it differs.
 pub(crate) fn put_at(databases: &mut [Database], place: usize, lsa: Checked) -> Result<bool, Memory>
@@ -23,6 +29,26 @@ pub(crate) fn put_at(databases: &mut [Database], place: usize, lsa: Checked) -> 
 {
     let database = &mut databases[place];
     database.put(lsa)
+}
+
+// Puts copies of the LSAs of the base into the empty databases of its areas.
+pub(crate) fn put_all(
+    alloc: Global,
+    databases: &mut [Database],
+    base: &Base,
+    limits: Limits,
+) -> Result<(), Memory>
+    requires sound { base_fault_of limits base.now ≡ None }
+    requires empty { databases.old ≡ empty_values base.now.config.areas limits }
+    ensures filled { OnOk result (AreFilled base.now.config limits base.now.lsas databases.new) }
+{
+    let areas = base.config.areas.as_slice();
+    for (scope, lsa) in base.lsas.as_slice() {
+        if let Some(place) = place_of(areas, *scope) {
+            put_at(databases, place, lsa.copy(alloc)?)?;
+        }
+    }
+    Ok(())
 }
 
 // Brings the LSA under the key in the database at the place to MaxAge. The answer is whether it was

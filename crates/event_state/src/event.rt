@@ -3,9 +3,10 @@ ghost use Rattle.std.specs.Prelude.{◌≡◌, IfOk};
 use lsa_codec::Checked;
 use ospf_types::key::{Key, Scope};
 use ospf_types::memory::Memory;
+use ospf_types::prefix::Prefix;
 use std::alloc::Global;
 
-/// What happens to the router's databases and interfaces.
+/// What happens to the router's databases, interfaces and area address ranges.
 #[derive(Debug, Drop)]
 pub enum Event {
     /// An LSA is installed in the database of its scope (RFC 2328, 13.2).
@@ -30,6 +31,18 @@ pub enum Event {
         address: u32,
         peer: u32,
         up: bool,
+    },
+    /// An area address range is configured (RFC 2328, C.2), in place of the one with its prefix. Its Status is
+    /// Advertise, or else DoNotAdvertise, which hides its networks from the other areas.
+    RangeSet {
+        area: u32,
+        prefix: Prefix,
+        advertise: bool,
+    },
+    /// An area address range is configured no longer (RFC 2328, C.2).
+    RangeDrop {
+        area: u32,
+        prefix: Prefix,
     },
     /// A second passes, and each age below MaxAge rises by one (RFC 2328, 14).
     Second,
@@ -65,6 +78,19 @@ impl Event {
                 address: *address,
                 peer: *peer,
                 up: *up,
+            }),
+            Event::RangeSet {
+                area,
+                prefix,
+                advertise,
+            } => Ok(Event::RangeSet {
+                area: *area,
+                prefix: *prefix,
+                advertise: *advertise,
+            }),
+            Event::RangeDrop { area, prefix } => Ok(Event::RangeDrop {
+                area: *area,
+                prefix: *prefix,
             }),
             Event::Second => Ok(Event::Second),
         }

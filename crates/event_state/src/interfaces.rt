@@ -4,11 +4,14 @@ ghost use Rattle.std.specs.List.{list_any};
 ghost use Rattle.std.specs.Ordering.{nat_cmp};
 ghost use Rattle.std.specs.BTreeMap.{IsOrdered};
 ghost use Rattle.std.specs.FinMap as map;
+ghost use Rattle.event_state.specs.Bases.{interfaces_in};
+ghost use Rattle.event_state.specs.BaseFaults.{has_twice, is_same_id};
 ghost use Rattle.event_state.specs.States.{interfaces_of};
 ghost use Rattle.event_state.specs.Steps.{has_address};
 
 use ospf_types::config::Interface;
 use ospf_types::memory::Memory;
+use std::alloc::Global;
 use std::collections::BTreeMap;
 
 // Whether an interface that is up and has another id has the address.
@@ -35,4 +38,19 @@ pub(crate) fn put_interface(
         None => Ok(true),
         Some(before) => Ok(before != interface),
     }
+}
+
+// The interfaces of a list by their ids.
+pub(crate) fn by_id(
+    alloc: Global,
+    interfaces: &[(u8, Interface)],
+) -> Result<BTreeMap<u8, Interface>, Memory>
+    requires { has_twice is_same_id interfaces.now ≡ false }
+    ensures { IfOk result (λ tree. interfaces_of tree ≡ interfaces_in interfaces.now) }
+{
+    let mut tree = BTreeMap::new(alloc);
+    for (id, interface) in interfaces {
+        put_interface(&mut tree, *id, *interface)?;
+    }
+    Ok(tree)
 }

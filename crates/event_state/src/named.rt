@@ -20,7 +20,9 @@ impl State {
         match event {
             Event::Install { scope, lsa } => one(alloc, *scope, lsa.key()),
             Event::Flush { scope, key } | Event::Purge { scope, key } => one(alloc, *scope, *key),
-            Event::Interface { .. } => Ok(Vec::new(alloc)),
+            Event::Interface { .. } | Event::RangeSet { .. } | Event::RangeDrop { .. } => {
+                Ok(Vec::new(alloc))
+            }
             Event::Second => self.coming(alloc),
         }
     }

@@ -7,10 +7,10 @@ use std::fmt;
 use thiserror::Error;
 
 /// Why an event was not taken: the first of these, in this order, that holds. It left everything as it
-/// was. The last two are refusals of several workers at once, never of an event.
+/// was. The last three are never refusals of an event, but two of several workers at once, and one of a roll.
 #[derive(Clone, Copy, Debug, PartialEq, Eq, Error)]
 pub enum Refusal {
-    /// The area of the scope or of the interface is not configured.
+    /// The area of the scope, of the interface or of the range is not configured.
     NoArea,
     /// An AS-external-LSA's key for an area, or another one's for the AS.
     Scope,
@@ -30,12 +30,20 @@ pub enum Refusal {
     JournalFull,
     /// The interface is up, and another one that is up has its address.
     AddressTaken,
+    /// Another range of the area covers the one to be set, or is covered by it (RFC 2328, 3.5).
+    RangeOverlaps,
+    /// The area has no range with the prefix of the one to be dropped.
+    NoRange,
+    /// A range with a new prefix where the area has as many as it may.
+    RangeFull,
     /// A growth was refused.
     Memory,
     /// A worker's thread could not be started: of several workers alone.
     Spawn,
     /// More lists than there may be workers: of several workers alone.
     Workers,
+    /// Table, due summaries or publication are behind: of a roll alone.
+    NotCurrent,
 }
 
 impl Refusal {
@@ -68,9 +76,13 @@ impl fmt::Display for Refusal {
             Refusal::Full => "27 Full",
             Refusal::JournalFull => "28 JournalFull",
             Refusal::AddressTaken => "29 AddressTaken",
+            Refusal::RangeOverlaps => "34 RangeOverlaps",
+            Refusal::NoRange => "35 NoRange",
+            Refusal::RangeFull => "36 RangeFull",
             Refusal::Memory => "30 Memory",
             Refusal::Spawn => "31 Spawn",
             Refusal::Workers => "32 Workers",
+            Refusal::NotCurrent => "37 NotCurrent",
         })
     }
 }

@@ -1,30 +1,42 @@
-ghost use Rattle.std.specs.Prelude.{◌≡◌, ◌↔◌, ◌<◌, ◌+◌, false, None, Some, IfErr, IfOk, IfSome, OnOk, OnErr, length, option_map, map as list_map};
+ghost use Rattle.std.specs.Prelude.{◌≡◌, ◌↔◌, ◌<◌, ◌≤◌, false, None, Some, IfErr, IfOk, IfSome, OnOk, OnErr, option_map};
 ghost use Rattle.std.specs.List.{list_any};
 ghost use Rattle.std.specs.FinMap as map;
-ghost use Rattle.event_state.specs.States.{AreApart, LooksAlike, place_of, database_of};
+ghost use Rattle.config_faults.specs.Configs.{config_fault_of};
+ghost use Rattle.event_state.specs.Bases.{bare, most_serial};
+ghost use Rattle.event_state.specs.BaseFaults.{base_fault_of};
+ghost use Rattle.event_state.specs.Rolls.{since, IsBaseOf, CanBeRolled};
+ghost use Rattle.event_state.specs.States.{AreApart, LooksAlike, serial_of, database_of};
 ghost use Rattle.event_state.specs.Changes.{empty_values};
-ghost use Rattle.event_state.specs.Steps.{changed_by, with_interface, refusal_of, IsAccepted, step, opening, is_out_of_scope, has_address, limit_of, standard_limits};
+ghost use Rattle.event_state.specs.RangeEvents.{changed_ranges};
+ghost use Rattle.event_state.specs.Steps.{changed_by, with_interface, with_range_change, refusal_of, IsAccepted, step, opening, has_address, limit_of, standard_limits};
 ghost use Rattle.event_state.specs.Held.{AreFit};
 ghost use Rattle.event_state.specs.Refusals.{IsRefusalOf};
 
-use crate::area_databases::{age_all, age_out_at, purge_at, put_at};
+use crate::area_databases::{age_all, age_out_at, purge_at, put_all, put_at};
+use crate::base::Base;
 use crate::event::Event;
-use crate::interfaces::{is_address_taken, put_interface};
+use crate::interfaces::{by_id, is_address_taken, put_interface};
 use crate::limits::Limits;
+use crate::ranges::{
+    RangeChange, drop_refusal, ranges_differ, ranges_of, set_refusal, with_ranges,
+};
 use crate::refusal::Refusal;
+use crate::scopes::{is_out_of_scope, place_of};
 use lsa_codec::Checked;
 use lsdb::Database;
-use ospf_types::config::{AreaConfig, Config, Interface};
+use ospf_types::config::{AreaConfig, Config, Interface, Range};
 use ospf_types::key::{Key, Scope};
-use ospf_types::lsa::{AS_EXTERNAL_LSA, MAX_AGE};
+use ospf_types::lsa::MAX_AGE;
 use ospf_types::memory::Memory;
+use ospf_types::prefix::Prefix;
 use std::alloc::Global;
 use std::collections::{BTreeMap, btree_map};
 use std::hash::RandomState;
 use std::marker::Model;
 
-/// The link-state databases, the interfaces, and the journal of the events that made them.
+/// The link-state databases, the interfaces and the ranges, what they began with, and the journal of the events since.
 pub struct State {
+    base: Base,
     config: Config,
     limits: Limits,
     databases: Vec<Database>,
@@ -36,6 +48,7 @@ pub struct State {
 impl Drop for State {
     fn drop(self) {
         let State {
+            base: _base,
             config: _config,
             limits: _limits,
             databases: _databases,
@@ -50,6 +63,7 @@ impl Model for State {
 
     ghost Value = { StateValue };
 
+    ghost use Rattle.std.specs.Prelude.{◌+◌, length};
     ghost use Rattle.std.specs.FinMap as map;
     ghost use Rattle.std.specs.Ordering.{nat_cmp};
     ghost use Rattle.std.specs.Coded.{Coded, codes, coded_ℕ};
@@ -63,9 +77,10 @@ impl Model for State {
 
     ghost use Rattle.event_state.specs.States.{interfaces_of};
     ghost use Rattle.event_state.specs.Changes.{lsas_in};
-    ghost use Rattle.event_state.specs.Held.{IsHeld};
+    ghost use Rattle.event_state.specs.Held.{IsState};
 
     ghost view = { λ s. record {
+      base = s.base;
       config = s.config;
       limits = s.limits;
       databases = lsas_in s.databases.items;
@@ -73,13 +88,13 @@ impl Model for State {
       journal = s.journal.items;
     } };
 
-    ghost invariant = { λ s. IsHeld s.config s.limits s.databases.items };
+    ghost invariant = { λ s. IsState s.config s.limits s.databases.items (interfaces_of s.interfaces) (s.base.serial + length s.journal.items) };
 }
 
 impl State {
     /// No interfaces, empty databases and an empty journal, with the standard limits.
     pub fn new(alloc: Global, config: Config, hashing: RandomState) -> Result<State, Memory>
-        ensures { IfOk result (λ state. state ≡ opening config standard_limits) }
+        ensures { IfOk result (λ state. state ≡ opening (bare config) standard_limits) }
     {
         State::within(alloc, config, Limits::STANDARD, hashing)
     }
@@ -91,10 +106,12 @@ impl State {
         limits: Limits,
         hashing: RandomState,
     ) -> Result<State, Memory>
-        ensures { IfOk result (λ state. state ≡ opening config limits) }
+        ensures { IfOk result (λ state. state ≡ opening (bare config) limits) }
     {
+        let base = Base::bare(alloc, config.copy(alloc)?);
         let databases = empty_databases(alloc, config.areas.as_slice(), limits, hashing)?;
         Ok(State {
+            base,
             config,
             limits,
             databases,
@@ -103,6 +120,58 @@ impl State {
         })
     }
 
+    /// The databases and interfaces of the base, and an empty journal.
+    pub fn from_base(
+        alloc: Global,
+        base: Base,
+        limits: Limits,
+        hashing: RandomState,
+    ) -> Result<State, Memory>
+        requires { base_fault_of limits base ≡ None }
+        ensures { IfOk result (λ state. state ≡ opening base limits) }
+    {
+        let config = base.config.copy(alloc)?;
+        let areas = base.config.areas.as_slice();
+        let mut databases = empty_databases(alloc, areas, limits, hashing)?;
+        put_all(alloc, &mut databases, &base, limits)?;
+        let interfaces = by_id(alloc, base.interfaces.as_slice())?;
+        Ok(State {
+            base,
+            config,
+            limits,
+            databases,
+            interfaces,
+            journal: Vec::new(alloc),
+        })
+    }
+
+    /// What the events of the journal began with.
+    pub fn base(&self) -> &Base
+        ensures value { result.now ≡ self.now.base }
+        ensures sound { config_fault_of self.now.config ≡ None → CanBeRolled self.now }
+    {
+        &self.base
+    }
+
+    /// The serial of the last event, counted on from that of the base.
+    pub fn serial(&self) -> u64
+        ensures value { result ≡ serial_of self.now }
+        ensures within { result ≤ most_serial }
+    {
+        self.base.serial + self.journal.len() as u64
+    }
+
+    /// Takes the state as it is for the base, and empties the journal: the events since are forgotten.
+    pub fn rebase(&mut self, base: Base)
+        requires { IsBaseOf self.old base }
+        ensures since { self.new ≡ since base self.old }
+        ensures again { AreApart self.old.config.areas → self.new ≡ opening base self.old.limits }
+    {
+        self.base = base;
+        self.journal = Vec::new(*self.journal.allocator());
+    }
+
+    /// The configuration, with the ranges of now.
     pub fn config(&self) -> &Config
         ensures value { result.now ≡ self.now.config }
         ensures fit { AreApart self.now.config.areas → AreFit self.now.config.areas self.now.databases }
@@ -117,7 +186,7 @@ impl State {
         self.interfaces.iter()
     }
 
-    /// The events that were taken, in their order.
+    /// The events that were taken since the base, in their order.
     pub fn journal(&self) -> &[Event]
         ensures value { result.now ≡ self.now.journal }
         ensures fit { AreApart self.now.config.areas → AreFit self.now.config.areas self.now.databases }
@@ -160,6 +229,18 @@ impl State {
                     up: *up,
                 },
             ),
+            Event::RangeSet {
+                area,
+                prefix,
+                advertise,
+            } => self.range_set_refusal(
+                *area,
+                &Range {
+                    prefix: *prefix,
+                    advertise: *advertise,
+                },
+            ),
+            Event::RangeDrop { area, prefix } => self.range_drop_refusal(*area, *prefix),
             Event::Second => self.journal_refusal(),
         }
     }
@@ -235,10 +316,34 @@ impl State {
         is_address_taken(&self.interfaces, id, address)
     }
 
+    fn range_set_refusal(&self, area: u32, range: &Range) -> Option<Refusal>
+        ensures { result ≡ refusal_of self.now (Event.RangeSet area range.now.prefix range.now.advertise) }
+    {
+        let Some(ranges) = ranges_of(self.config.areas.as_slice(), area) else {
+            return Some(Refusal::NoArea);
+        };
+        match self.journal_refusal() {
+            Some(refusal) => Some(refusal),
+            None => set_refusal(range, ranges),
+        }
+    }
+
+    fn range_drop_refusal(&self, area: u32, prefix: Prefix) -> Option<Refusal>
+        ensures { result ≡ refusal_of self.now (Event.RangeDrop area prefix) }
+    {
+        let Some(ranges) = ranges_of(self.config.areas.as_slice(), area) else {
+            return Some(Refusal::NoArea);
+        };
+        match self.journal_refusal() {
+            Some(refusal) => Some(refusal),
+            None => drop_refusal(prefix, ranges),
+        }
+    }
+
     fn journal_refusal(&self) -> Option<Refusal>
         ensures { result ≡ refusal_of self.now Event.Second }
     {
-        if self.limits.events <= self.journal.len() as u64 {
+        if self.limits.events <= self.journal.len() as u64 || self.serial() == u64::MAX {
             Some(Refusal::JournalFull)
         } else {
             None
@@ -247,29 +352,29 @@ impl State {
 }
 
 impl State {
-    /// Takes the event, or refuses it and leaves everything as it was. The answer is how many events
-    /// were taken, with this one, and whether the usable LSAs (key, Options, body) or the interfaces
-    /// differ from before.
+    /// Takes the event, or refuses it and leaves everything as it was. The answer is its serial, and
+    /// whether the usable LSAs (key, Options, body), the interfaces or the ranges differ from before.
     pub fn step(&mut self, event: Event) -> Result<(u64, bool), Refusal>
         ensures refused { IfErr result (IsRefusalOf self.old event) }
         ensures unchanged { OnErr result (self.new ≡ self.old) }
         ensures accepted { OnOk result (refusal_of self.old event ≡ None) }
         ensures taken { OnOk result (self.new ≡ step self.old event) }
-        ensures serial { IfOk result (λ answer. answer.0 ≡ length self.new.journal) }
+        ensures serial { IfOk result (λ answer. answer.0 ≡ serial_of self.new) }
         ensures changed { IfOk result (λ answer. (answer.1 ≡ false) ↔ LooksAlike self.old self.new) }
     {
         if let Some(refusal) = self.refusal(&event) {
             return Err(refusal);
         }
         match self.take(event) {
-            Ok(changed) => Ok((self.journal.len() as u64, changed)),
+            Ok(changed) => Ok((self.serial(), changed)),
             Err(Memory) => Err(Refusal::Memory),
         }
     }
 
     // The event joins the journal, and is carried out.
     fn take(&mut self, event: Event) -> Result<bool, Memory>
-        requires { IsAccepted self.old event }
+        requires accepted { IsAccepted self.old event }
+        requires room { serial_of self.old < most_serial }
         ensures unchanged { OnErr result (self.new ≡ self.old) }
         ensures taken { OnOk result (self.new ≡ step self.old event) }
         ensures changed { IfOk result (λ changed. (changed ≡ false) ↔ LooksAlike self.old (changed_by self.old event)) }
@@ -285,7 +390,7 @@ impl State {
         }
     }
 
-    // What the event does to the databases and the interfaces.
+    // What the event does to the databases, the interfaces and the ranges.
     fn carry_out(&mut self, event: Event) -> Result<bool, Memory>
         requires { IsAccepted self.old event }
         ensures unchanged { OnErr result (self.new ≡ self.old) }
@@ -311,6 +416,14 @@ impl State {
                     up,
                 },
             ),
+            Event::RangeSet {
+                area,
+                prefix,
+                advertise,
+            } => self.change_ranges(area, &RangeChange::Set(Range { prefix, advertise })),
+            Event::RangeDrop { area, prefix } => {
+                self.change_ranges(area, &RangeChange::Drop(prefix))
+            }
             Event::Second => Ok(self.second()),
         }
     }
@@ -351,11 +464,24 @@ impl State {
     }
 
     fn set_interface(&mut self, id: u8, interface: Interface) -> Result<bool, Memory>
+        requires { IsAccepted self.old (Event.Interface id interface.area interface.address interface.peer interface.up) }
         ensures unchanged { OnErr result (self.new ≡ self.old) }
         ensures done { OnOk result (self.new ≡ with_interface self.old id interface) }
         ensures changed { IfOk result (λ changed. (changed ≡ false) ↔ LooksAlike self.old (with_interface self.old id interface)) }
     {
         put_interface(&mut self.interfaces, id, interface)
+    }
+
+    fn change_ranges(&mut self, area: u32, change: &RangeChange) -> Result<bool, Memory>
+        ensures unchanged { OnErr result (self.new ≡ self.old) }
+        ensures done { OnOk result (self.new ≡ with_range_change self.old area (changed_ranges change.now)) }
+        ensures changed { IfOk result (λ changed. (changed ≡ false) ↔ LooksAlike self.old (with_range_change self.old area (changed_ranges change.now))) }
+    {
+        let areas = self.config.areas.as_slice();
+        let new = with_ranges(*self.journal.allocator(), areas, area, change)?;
+        let changed = ranges_differ(areas, new.as_slice());
+        self.config.areas = new;
+        Ok(changed)
     }
 
     fn second(&mut self) -> bool
@@ -364,22 +490,6 @@ impl State {
     {
         age_all(self.databases.as_mut_slice())
     }
-}
-
-// Where the database of the scope stands: that of the AS behind those of the areas.
-fn place_of(areas: &[AreaConfig], scope: Scope) -> Option<usize>
-    ensures { result ≡ place_of areas.now scope }
-{
-    match scope {
-        Scope::Area(id) => place_of_area(areas, id),
-        Scope::As => Some(areas.len()),
-    }
-}
-
-fn place_of_area(areas: &[AreaConfig], id: u32) -> Option<usize>
-    ensures { result ≡ place_of areas.now (Scope.Area id) }
-{
-    areas.iter().position(|area| area.id == id)
 }
 
 // An empty database for each area, and one for the AS.
@@ -397,14 +507,4 @@ fn empty_databases(
     }
     databases.push(Database::new(alloc, limits.externals, hashing))?;
     Ok(databases)
-}
-
-// Whether a key of this LS type belongs to another scope.
-fn is_out_of_scope(scope: Scope, kind: u8) -> bool
-    ensures { result ≡ is_out_of_scope scope kind }
-{
-    match scope {
-        Scope::Area(_) => kind == AS_EXTERNAL_LSA,
-        Scope::As => kind != AS_EXTERNAL_LSA,
-    }
 }

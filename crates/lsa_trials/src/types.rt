@@ -4,6 +4,7 @@ use ospf_types::config::{AreaConfig, Areas, Config, Range, Ranges, Stub};
 use ospf_types::entry::{Entry, PathType, Paths};
 use ospf_types::hop::{NextHop, Path};
 use ospf_types::key::{Key, Scope};
+use ospf_types::listed::Listed;
 use ospf_types::memory::Memory;
 use ospf_types::prefix::Prefix;
 use std::alloc::{AllocError, Global};
@@ -131,5 +132,20 @@ fn copies_a_large_configuration(rt: HostRuntime) -> Result<(), Fail> {
             && copy.areas.len() == 16
             && are_same(copy.areas.as_slice(), config.areas.as_slice())
     );
+    Ok(())
+}
+
+// Whether an item goes in, changes and comes out at its place.
+fn changes_at_places(alloc: Global) -> Result<bool, Memory> {
+    let mut ids = Listed::from_slice(alloc, &[1, 3])?;
+    ids.insert(1, 2)?;
+    ids.set(0, 4);
+    let whole = ids.as_slice() == [4, 2, 3].as_slice();
+    Ok(whole && ids.remove(1) == 2 && ids.as_slice() == [4, 3].as_slice())
+}
+
+#[test]
+fn a_list_changes_at_places(rt: HostRuntime) -> Result<(), Fail> {
+    assert!(rt; changes_at_places(rt.alloc())?);
     Ok(())
 }

@@ -14,3 +14,4 @@ pub mod Boundary
 pub mod Forwards
 pub mod Examined
 pub mod Stable
+pub mod RangeChanges

@@ -14,6 +14,7 @@ pub mod Links
 pub mod Distances
 pub mod Intra
 pub mod Ranges
+pub mod RangeChanges
 pub mod Inter
 pub mod Boundary
 pub mod External

@@ -1,5 +1,6 @@
 //! A list that contracts see as its items.
-ghost use Rattle.std.specs.Prelude.{◌≡◌, ◌↔◌, [], ◌∷◌, ◌++◌, length, IsTrue, OnOk, OnErr, IfOk};
+ghost use Rattle.std.specs.Prelude.{◌≡◌, ◌↔◌, ◌≤◌, ◌<◌, [], ◌∷◌, ◌++◌, length, get_or, set as list_set, IsTrue, OnOk, OnErr, IfOk};
+ghost use Rattle.std.specs.List.{insert as list_insert, remove as list_remove};
 
 use crate::memory::Memory;
 use std::alloc::Global;
@@ -53,6 +54,33 @@ impl<T: Drop> Listed<T> {
     {
         self.items.push(item)?;
         Ok(())
+    }
+
+    /// Puts an item at a place. Those from there on move up by one.
+    pub fn insert(&mut self, place: usize, item: T) -> Result<(), Memory>
+        requires { place ≤ length self.old }
+        ensures ok { OnOk result (self.new ≡ list_insert self.old place item) }
+        ensures err { OnErr result (self.new ≡ self.old) }
+    {
+        self.items.insert(place, item)?;
+        Ok(())
+    }
+
+    /// Takes out the item at a place. Those after it move down by one.
+    pub fn remove(&mut self, place: usize) -> T
+        requires { place < length self.old }
+        ensures item { result ≡ get_or self.old place result }
+        ensures rest { self.new ≡ list_remove self.old place }
+    {
+        self.items.remove(place)
+    }
+
+    /// Writes an item in place of the one that stands there.
+    pub fn set(&mut self, place: usize, item: T)
+        requires { place < length self.old }
+        ensures { self.new ≡ list_set self.old place item }
+    {
+        self.items[place] = item;
     }
 
     pub fn as_slice(&self) -> &[T]

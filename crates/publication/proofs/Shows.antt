@@ -2,8 +2,7 @@
 use Rattle.std.proofs.Common.{◌≡◌, List, fold, Option, Some, Result, Ok, Err, MatchResult, MatchBool, sym, ap, ◌∙◌, subst}
 use Rattle.std.specs.Result.{is_ok}
 use mathlib.Core.List.{IsPrefix}
-use Rattle.ospf_types.specs.declared.config.Config.{Config}
-use Rattle.route_table.specs.Tables.{TableValue}
+use Rattle.event_state.specs.declared.base.Base.{Base}
 use Rattle.publication.specs.declared.shown.Shown.{Shown}
 use Rattle.publication.specs.declared.shown.Update.{Update}
 use Rattle.publication.specs.Lines.{Line}
@@ -15,16 +14,16 @@ use Rattle.publication.specs.Published.{IsShownRight, IsTableFor, name_of, Saw}
 -- what the pending updates give is right, and has the name of what is shown
 pub gives_right : (x next : Shown) (us : List Update) (line : Line)
     → face_of next ≡ fold updated (face_of x) us
-    → IsRightFace line x.config (fold updated (face_of x) us)
+    → IsRightFace line x.base (fold updated (face_of x) us)
     → line.book ≡ x.front.book
     → (name_of next ≡ name_of x) × IsShownRight next × (next.front ≡ line)
 gives_right x next us line is face book =
-    let right : IsRightFace line x.config (face_of next) = subst (IsRightFace line x.config) (sym is) face in
+    let right : IsRightFace line x.base (face_of next) = subst (IsRightFace line x.base) (sym is) face in
     let front : next.front ≡ line = right.front in
-    let config : next.config ≡ x.config = right.config_is in
+    let base : next.base ≡ x.base = right.base_is in
     let same_book : next.front.book ≡ x.front.book = ap (λ (l : Line). l.book) front ∙ book in (
-      (λ i. record { book = same_book i; config = config i }),
-      subst (λ (z : Config × Line). IsTableFor z.0 z.1.list next.table) (λ i. (sym config i, sym front i)) right.right,
+      (λ i. record { book = same_book i; base = base i }),
+      subst (λ (z : Base × Line). IsTableFor z.0 z.1.list next.table) (λ i. (sym base i, sym front i)) right.right,
       front,
     )
 
@@ -32,7 +31,7 @@ gives_right x next us line is face book =
 pub known_after : {U E : Type 0} (r : Result U E) (Q Q' : Type 0) (x y : Shown) (v w : Option Name) (us : List Update) (line : Line)
     → MatchResult r (λ _. (face_of y ≡ fold updated (face_of x) us) × Q) (λ _. (y ≡ x) × Q')
     → MatchResult r (λ _. Saw v x y w) (λ _. w ≡ v)
-    → IsRightFace line x.config (fold updated (face_of x) us)
+    → IsRightFace line x.base (fold updated (face_of x) us)
     → line.book ≡ x.front.book
     → (name_of y ≡ name_of x) × MatchBool (is_ok r) (w ≡ Some (name_of x)) (w ≡ v)
 known_after (Ok u) Q Q' x y v w us line values rule face book =

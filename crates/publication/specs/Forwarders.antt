@@ -19,4 +19,4 @@ pub record Sighted : Type 0 where
 
 -- the table is right for a legal list, which begins with all that the forwarder saw or learned before
 abbrev pub Sights : Looker → ℕ → Sighted → Type 0
-Sights f address s = (s.name ≡ f.name) × (s.address ≡ address) × IsPrefix f.known s.list × IsTableFor s.name.config s.list s.table
+Sights f address s = (s.name ≡ f.name) × (s.address ≡ address) × IsPrefix f.known s.list × IsTableFor s.name.base s.list s.table

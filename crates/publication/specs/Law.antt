@@ -5,7 +5,7 @@ use mathlib.Core.List.{IsPrefix}
 use Rattle.logbook.specs.Pages.{Cell, cell, Step, View, Book, Named, Nib, may_make, may_write}
 use Rattle.event_state.specs.declared.event.Event.{Event}
 use Rattle.publication.specs.declared.history.Page.{Page}
-use Rattle.publication.specs.Lines.{Line, History}
+use Rattle.publication.specs.Lines.{Line}
 
 abbrev pub IsHome : List Cell → ℕ → Type 0
 IsHome cells key = (cell cells key).1 ≡ true

@@ -1,9 +1,9 @@
 -- The rule of what is published, and what its two steps tell.
-use Rattle.std.specs.Prelude.{◌≡◌, ℕ, List, length, Option, Some}
+use Rattle.std.specs.Prelude.{◌≡◌, ◌+◌, ℕ, List, length, Option, Some}
 use mathlib.Core.List.{IsPrefix}
 use mathlib.Core.Option.{some}
 use lib.ListN.{get_elem?}
-use Rattle.ospf_types.specs.declared.config.Config.{Config}
+use Rattle.event_state.specs.declared.base.Base.{Base}
 use Rattle.event_state.specs.declared.event.Event.{Event}
 use Rattle.event_state.specs.Steps.{run_of, standard_limits, IsLegalList}
 use Rattle.event_state.specs.States.{inputs_of}
@@ -13,20 +13,20 @@ use Rattle.publication.specs.declared.shown.Shown.{Shown}
 use Rattle.publication.specs.Names.{Name}
 
 -- each of these events could be taken where it stands
-abbrev pub IsLegal : Config → List Event → Type 0
-IsLegal config list = IsLegalList config standard_limits list
+abbrev pub IsLegal : Base → List Event → Type 0
+IsLegal base list = IsLegalList base standard_limits list
 
--- the table is right after these events, and each of them could be taken where it stands
-abbrev pub IsTableFor : Config → List Event → TableValue → Type 0
-IsTableFor config list table = IsLegal config list × IsRoutingTable (inputs_of (run_of config standard_limits list)) (length list) table
+-- the table is right after these events, and has the serial of the last; and each of them could be taken where it stands
+abbrev pub IsTableFor : Base → List Event → TableValue → Type 0
+IsTableFor base list table = IsLegal base list × IsRoutingTable (inputs_of (run_of base standard_limits list)) (base.serial + length list) table
 
 -- the table is right for the list that is shown with it
 abbrev pub IsShownRight : Shown → Type 0
-IsShownRight x = IsTableFor x.config x.front.list x.table
+IsShownRight x = IsTableFor x.base x.front.list x.table
 
 -- whose table it is
 abbrev pub name_of : Shown → Name
-name_of x = record { book = x.front.book; config = x.config }
+name_of x = record { book = x.front.book; base = x.base }
 
 abbrev pub Holds : Shown → List (Option Name) → Type 0
 Holds x views = IsShownRight x × ((seat : ℕ) (n : Name) → get_elem? views seat ≡ some (Some n) → n ≡ name_of x)

@@ -1,7 +1,8 @@
--- The configuration that a history of one entry has.
+-- The base that a history of one entry has.
 use Rattle.std.specs.Prelude.{false, List, [], ◌∷◌}
-use Rattle.ospf_types.specs.declared.config.Config.{Config}
+use Rattle.event_state.specs.declared.base.Base.{Base}
+use Rattle.event_state.specs.Bases.{bare}
 
-abbrev pub config_in : List Config → Config
-config_in [] = record { router = 0; compat = false; areas = [] }
-config_in (c ∷ cs) = c
+abbrev pub base_in : List Base → Base
+base_in [] = bare (record { router = 0; compat = false; areas = [] })
+base_in (b ∷ bs) = b

@@ -1,5 +1,5 @@
 //! Forwarders look up the published table, with no lock, no wait and no memory.
-ghost use Rattle.std.specs.Prelude.{◌≡◌, ◌⊎◌, length, Some, MatchResult};
+ghost use Rattle.std.specs.Prelude.{◌≡◌, ◌⊎◌, ◌+◌, length, Some, MatchResult};
 ghost use mathlib.Core.List.{IsPrefix};
 ghost use Rattle.left_right.specs.Sides.{view};
 ghost use Rattle.route_table.specs.Tables.{IsMatch};
@@ -21,7 +21,7 @@ use std::marker::Model;
 pub struct Forwarder {
     reader: ShownReader,
     known: Front,
-    config: Setting,
+    base: Setting,
 }
 
 impl Model for Forwarder {
@@ -32,9 +32,9 @@ impl Model for Forwarder {
 
     ghost Value = { Looker };
 
-    ghost view = { λ f. record { name = record { book = f.known.book; config = f.config }; known = f.known.list } };
+    ghost view = { λ f. record { name = record { book = f.known.book; base = f.base }; known = f.known.list } };
 
-    ghost invariant = { λ f. (known_to f.reader.place ≡ Some (record { book = f.known.book; config = f.config })) × IsLegal f.config f.known.list };
+    ghost invariant = { λ f. (known_to f.reader.place ≡ Some (record { book = f.known.book; base = f.base })) × IsLegal f.base f.known.list };
 }
 
 /// A forwarder that looks at the published table. While it lives, a publication may wait for it; one that
@@ -42,7 +42,7 @@ impl Model for Forwarder {
 pub struct Seen {
     reading: ShownReading,
     front: Front,
-    config: Setting,
+    base: Setting,
     address: u32,
 }
 
@@ -58,21 +58,21 @@ impl Model for Seen {
 
     ghost coded = { let table : Coded TableValue = table_code in Prim.hlevel (codes, table) };
 
-    ghost view = { λ s. record { name = record { book = s.front.book; config = s.config }; list = s.front.list; address = s.address; table = s.reading.part.value.table } };
+    ghost view = { λ s. record { name = record { book = s.front.book; base = s.base }; list = s.front.list; address = s.address; table = s.reading.part.value.table } };
 
-    ghost invariant = { λ s. (known_to s.reading.place ≡ Some (record { book = s.front.book; config = s.config })) × IsTableFor s.config s.front.list s.reading.part.value.table };
+    ghost invariant = { λ s. (known_to s.reading.place ≡ Some (record { book = s.front.book; base = s.base })) × IsTableFor s.base s.front.list s.reading.part.value.table };
 }
 
 impl Forwarder {
-    pub fn of(reader: ShownReader, known: Front, config: Setting) -> Forwarder
-        requires named { view reader.place ≡ Some (record { book = known.book; config = config }) }
-        requires legal { IsLegal config known.list }
-        ensures { result ≡ record { name = record { book = known.book; config = config }; known = known.list } }
+    pub fn of(reader: ShownReader, known: Front, base: Setting) -> Forwarder
+        requires named { view reader.place ≡ Some (record { book = known.book; base = base }) }
+        requires legal { IsLegal base known.list }
+        ensures { result ≡ record { name = record { book = known.book; base = base }; known = known.list } }
     {
         Forwarder {
             reader,
             known,
-            config,
+            base,
         }
     }
 
@@ -83,18 +83,18 @@ impl Forwarder {
         ensures before { IsPrefix self.known result.known }
         ensures told { IsPrefix told.list result.known }
         ensures one { (result.known ≡ self.known) ⊎ (result.known ≡ told.list) }
-        ensures legal { IsLegal result.name.config result.known }
+        ensures legal { IsLegal result.name.base result.known }
     {
         let Forwarder {
             reader,
             known,
-            config,
+            base,
         } = self;
         let front = told.into_front();
         Forwarder {
             reader,
             known: known.longer(&front),
-            config,
+            base,
         }
     }
 
@@ -105,33 +105,37 @@ impl Forwarder {
         let Forwarder {
             reader,
             known,
-            config,
+            base,
         } = self;
         match reader.enter_as::<Sees>() {
             Ok(reading) => {
                 let front = reading.get().front.again();
                 if front.len() < known.len() {
                     // What was told was published before, so this does not happen.
-                    let told = Told::of(front, reading.get().config.again());
+                    let told = Told::of(
+                        front,
+                        reading.get().base.again(),
+                        reading.get().table.serial(),
+                    );
                     let reader = reading.leave();
                     let forwarder = Forwarder {
                         reader,
                         known,
-                        config,
+                        base,
                     };
                     return Err(Unseen::Shorter(forwarder, told));
                 }
                 Ok(Seen {
                     reading,
                     front: front.longer(&known),
-                    config,
+                    base,
                     address,
                 })
             }
             Err(reader) => Err(Unseen::NoEntry(Forwarder {
                 reader,
                 known,
-                config,
+                base,
             })),
         }
     }
@@ -141,7 +145,7 @@ impl Seen {
     /// The longest match of the address that was looked up (RFC 2328, 11.1).
     pub fn found(&self) -> Match<'_>
         ensures found { IsMatch self.now.table.items self.now.address result }
-        ensures right { IsTableFor self.now.name.config self.now.list self.now.table }
+        ensures right { IsTableFor self.now.name.base self.now.list self.now.table }
     {
         self.reading.get().table.lookup(self.address)
     }
@@ -149,16 +153,17 @@ impl Seen {
     /// The longest match of another address, in the same table.
     pub fn find(&self, address: u32) -> Match<'_>
         ensures found { IsMatch self.now.table.items address result }
-        ensures right { IsTableFor self.now.name.config self.now.list self.now.table }
+        ensures right { IsTableFor self.now.name.base self.now.list self.now.table }
     {
         self.reading.get().table.lookup(address)
     }
 
-    /// How many events the table follows.
+    /// The serial of the table: the number of the last event that it follows.
     pub fn serial(&self) -> u64
-        ensures { result ≡ length self.now.list }
+        ensures value { result ≡ self.now.name.base.serial + length self.now.list }
+        ensures table { result ≡ self.now.table.serial }
     {
-        self.front.len()
+        self.reading.get().table.serial()
     }
 
     /// How many changes were made to the published table since the engine was opened. Events that change little publish few:
@@ -174,13 +179,13 @@ impl Seen {
         let Seen {
             reading,
             front,
-            config,
+            base,
             address: _,
         } = self;
         Forwarder {
             reader: reading.leave(),
             known: front,
-            config,
+            base,
         }
     }
 }

@@ -1,14 +1,14 @@
-//! A configuration, for contracts alone.
+//! The base that an engine began with, for contracts alone.
 ghost use Rattle.std.specs.Prelude.{◌≡◌};
 
+use event_state::Base;
 use logbook::{Opening, Rule, Seen, Start};
-use ospf_types::config::Config;
 use std::marker::Model;
 
 /// A history of one entry, to which nothing is added.
 pub struct Fixed;
 
-impl Rule<Config, u64> for Fixed {
+impl Rule<Base, u64> for Fixed {
     ghost use Rattle.std.specs.Prelude.{[]};
     ghost use base.Fml.{ftrue};
 
@@ -25,32 +25,32 @@ impl Rule<Config, u64> for Fixed {
     ghost moves = { λ ask before after answer. Unit {0} };
 }
 
-impl Opening<Config, Config> for Fixed {
+impl Opening<Base, Base> for Fixed {
     ghost use Rattle.std.specs.Prelude.{[], ◌∷◌};
 
-    ghost log = { λ n config. config ∷ [] };
+    ghost log = { λ n base. base ∷ [] };
 }
 
 /// It has no bytes, and can be copied.
 #[derive(Drop)]
 pub struct Setting {
-    seen: Seen<Config, u64, Fixed>,
+    seen: Seen<Base, u64, Fixed>,
 }
 
 impl Model for Setting {
-    ghost use Rattle.ospf_types.specs.declared.config.Config.{Config};
-    ghost use Rattle.publication.specs.Settings.{config_in};
+    ghost use Rattle.event_state.specs.declared.base.Base.{Base};
+    ghost use Rattle.publication.specs.Settings.{base_in};
 
-    ghost Value = { Config };
+    ghost Value = { Base };
 
-    ghost view = { λ s. config_in s.seen.log };
+    ghost view = { λ s. base_in s.seen.log };
 }
 
 impl Setting {
-    pub fn of(config: &Config) -> Setting
-        ensures { result ≡ config.now }
+    pub fn of(base: &Base) -> Setting
+        ensures { result ≡ base.now }
     {
-        let (seen, _pens) = Seen::open_row::<Config, Fixed>(config, Start::alone(), 0);
+        let (seen, _pens) = Seen::open_row::<Base, Fixed>(base, Start::alone(), 0);
         Setting { seen }
     }
 

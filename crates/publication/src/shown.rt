@@ -4,8 +4,8 @@ ghost use Rattle.publication.specs.Updates.{face_of};
 
 use crate::history::Front;
 use crate::setting::Setting;
+use event_state::Base;
 use left_right::Absorb;
-use ospf_types::config::Config;
 use ospf_types::memory::Memory;
 use route_table::{Change, Table};
 use std::alloc::{AllocError, Global};
@@ -15,7 +15,7 @@ use std::marker::Model;
 #[derive(Drop)]
 pub struct Tag {
     front: Front,
-    config: Setting,
+    base: Setting,
 }
 
 impl Model for Tag {
@@ -23,39 +23,39 @@ impl Model for Tag {
 
     ghost Value = { Name };
 
-    ghost view = { λ t. record { book = t.front.book; config = t.config } };
+    ghost view = { λ t. record { book = t.front.book; base = t.base } };
 }
 
 impl Tag {
-    pub fn of(front: &Front, config: &Config) -> Tag
-        ensures { result ≡ record { book = front.now.book; config = config.now } }
+    pub fn of(front: &Front, base: &Setting) -> Tag
+        ensures { result ≡ record { book = front.now.book; base = base.now } }
     {
         Tag {
             front: front.again(),
-            config: Setting::of(config),
+            base: base.again(),
         }
     }
 }
 
-/// The list and the configuration have no bytes but the list's length.
+/// The list and the base have no bytes but the list's length.
 #[derive(Drop)]
 pub struct Shown {
     pub table: Table,
     pub front: Front,
-    pub config: Setting,
+    pub base: Setting,
     /// How many changes were made to the table since the engine was opened.
     pub changes: u64,
 }
 
 impl Shown {
-    /// A copy of the table, with the list that it is right for and the engine's configuration.
-    pub fn of(alloc: Global, table: &Table, front: &Front, config: &Config) -> Result<Shown, Memory>
-        ensures { IfOk result (λ shown. face_of shown ≡ record { table = table.now; front = front.now; config = config.now }) }
+    /// A copy of the table, with the list that it is right for and the base that the engine began with.
+    pub fn of(alloc: Global, table: &Table, front: &Front, base: &Setting) -> Result<Shown, Memory>
+        ensures { IfOk result (λ shown. face_of shown ≡ record { table = table.now; front = front.now; base = base.now }) }
     {
         Ok(Shown {
             table: copy_of(alloc, table)?,
             front: front.again(),
-            config: Setting::of(config),
+            base: base.again(),
             changes: 0,
         })
     }
@@ -87,7 +87,7 @@ pub enum Update {
 pub struct Face {
     pub table: Table,
     pub front: Front,
-    pub config: Config,
+    pub base: Base,
 }
 
 impl Absorb<Update> for Shown {

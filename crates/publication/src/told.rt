@@ -1,5 +1,5 @@
 //! What is told of an engine's history.
-ghost use Rattle.std.specs.Prelude.{◌≡◌, length};
+ghost use Rattle.std.specs.Prelude.{◌≡◌, ◌+◌, length};
 ghost use Rattle.publication.specs.Published.{IsLegal};
 ghost use Rattle.publication.specs.Told.{Heard};
 
@@ -9,25 +9,27 @@ use std::fmt;
 use std::marker::Model;
 
 /// A token: this list of events was published by the engine of this name. Any thread may pass it on. It
-/// has no bytes but the list's length.
+/// has no bytes but the list's length and its serial.
 #[derive(Drop)]
 pub struct Told {
     front: Front,
-    config: Setting,
+    base: Setting,
+    serial: u64,
 }
 
 impl Model for Told {
+    ghost use Rattle.std.specs.Prelude.{◌≡◌, ◌+◌, length};
     ghost use Rattle.publication.specs.Published.{IsLegal};
     ghost use Rattle.publication.specs.Told.{Heard};
 
     ghost Value = { Heard };
 
-    ghost view = { λ t. record { name = record { book = t.front.book; config = t.config }; list = t.front.list } };
+    ghost view = { λ t. record { name = record { book = t.front.book; base = t.base }; list = t.front.list } };
 
-    ghost invariant = { λ t. IsLegal t.config t.front.list };
+    ghost invariant = { λ t. IsLegal t.base t.front.list × (t.serial ≡ t.base.serial + length t.front.list) };
 }
 
-/// The length of its list, as `Told(3)`.
+/// Its serial, as `Told(3)`.
 impl fmt::Debug for Told {
     fn fmt<W: fmt::Write>(&self, f: &mut fmt::Formatter<W>) -> fmt::Result {
         let serial = self.serial();
@@ -36,25 +38,34 @@ impl fmt::Debug for Told {
 }
 
 impl Told {
-    pub fn of(front: Front, config: Setting) -> Told
-        requires { IsLegal config front.list }
-        ensures { result ≡ record { name = record { book = front.book; config = config }; list = front.list } }
+    pub fn of(front: Front, base: Setting, serial: u64) -> Told
+        requires legal { IsLegal base front.list }
+        requires serial { serial ≡ base.serial + length front.list }
+        ensures { result ≡ record { name = record { book = front.book; base = base }; list = front.list } }
     {
-        Told { front, config }
+        Told {
+            front,
+            base,
+            serial,
+        }
     }
 
-    /// The length of its list.
+    /// The number of the last event of its list: the serial of the base, and one more for each event.
     pub fn serial(&self) -> u64
-        ensures length { result ≡ length self.now.list }
-        ensures legal { IsLegal self.now.name.config self.now.list }
+        ensures serial { result ≡ self.now.name.base.serial + length self.now.list }
+        ensures legal { IsLegal self.now.name.base self.now.list }
     {
-        self.front.len()
+        self.serial
     }
 
     pub(crate) fn into_front(self) -> Front
         ensures { (result.book ≡ self.name.book) × (result.list ≡ self.list) }
     {
-        let Told { front, config: _ } = self;
+        let Told {
+            front,
+            base: _,
+            serial: _,
+        } = self;
         front
     }
 }

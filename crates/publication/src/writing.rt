@@ -17,12 +17,12 @@ use std::alloc::Global;
 use std::sync::Wait;
 
 // Appends the serial of a list, and the list.
-fn lay_end(writer: &mut ShownWriter, front: &Front) -> bool
+fn lay_end(writer: &mut ShownWriter, serial: u64, front: &Front) -> bool
     ensures desk { writer.new.desk ≡ writer.old.desk }
-    ensures pending { IsTrue result → drop writer.new.behind writer.new.log.items ≡ drop writer.old.behind writer.old.log.items ++ ends front.now }
+    ensures pending { IsTrue result → drop writer.new.behind writer.new.log.items ≡ drop writer.old.behind writer.old.log.items ++ ends serial front.now }
 {
     if writer
-        .append(Update::Change(Change::Serial(front.len())))
+        .append(Update::Change(Change::Serial(serial)))
         .is_err()
     {
         return false;
@@ -57,12 +57,12 @@ fn lay_items(writer: &mut ShownWriter, alloc: Global, table: &Table) -> bool
 // Appends that the table is emptied and has these items, and the list that they are right for.
 fn lay_whole(writer: &mut ShownWriter, alloc: Global, table: &Table, front: &Front) -> bool
     ensures desk { writer.new.desk ≡ writer.old.desk }
-    ensures pending { IsTrue result → drop writer.new.behind writer.new.log.items ≡ drop writer.old.behind writer.old.log.items ++ whole table.now.items front.now }
+    ensures pending { IsTrue result → drop writer.new.behind writer.new.log.items ≡ drop writer.old.behind writer.old.log.items ++ whole table.now front.now }
 {
     if writer.append(Update::Change(Change::Clear)).is_err() {
         return false;
     }
-    lay_items(writer, alloc, table) && lay_end(writer, front)
+    lay_items(writer, alloc, table) && lay_end(writer, table.serial(), front)
 }
 
 // Appends what the network has in the table, or that it has nothing.
@@ -92,15 +92,15 @@ fn lay_networks(writer: &mut ShownWriter, networks: &[Prefix], table: &Table) ->
 // Appends one change for each of these networks, and the list that the table is right for.
 fn lay_changes(writer: &mut ShownWriter, networks: &[Prefix], table: &Table, front: &Front) -> bool
     ensures desk { writer.new.desk ≡ writer.old.desk }
-    ensures pending { IsTrue result → drop writer.new.behind writer.new.log.items ≡ drop writer.old.behind writer.old.log.items ++ deltas networks.now table.now.items front.now }
+    ensures pending { IsTrue result → drop writer.new.behind writer.new.log.items ≡ drop writer.old.behind writer.old.log.items ++ deltas networks.now table.now front.now }
 {
-    lay_networks(writer, networks, table) && lay_end(writer, front)
+    lay_networks(writer, networks, table) && lay_end(writer, table.serial(), front)
 }
 
 // Publishes what is pending. The answer is false where it was refused, and then readers see what they saw.
 fn publish<R: Wait>(rt: &R, writer: ShownWriter, front: &Front) -> (ShownWriter, bool)
     requires history { front.now.book ≡ writer.desk.shown.value.front.book }
-    requires laid { IsRightFace front.now writer.desk.shown.value.config (fold updated (face_of writer.desk.shown.value) (drop writer.behind writer.log.items)) }
+    requires laid { IsRightFace front.now writer.desk.shown.value.base (fold updated (face_of writer.desk.shown.value) (drop writer.behind writer.log.items)) }
     requires grows { IsPrefix writer.desk.shown.value.front.list front.now.list }
     ensures name { name_of result.0.desk.shown.value ≡ name_of writer.desk.shown.value }
     ensures shown { MatchBool result.1 ((result.0.desk.shown.value.front ≡ front.now) × IsShownRight result.0.desk.shown.value) (result.0.desk.shown.value ≡ writer.desk.shown.value) }
@@ -122,7 +122,7 @@ pub fn show<R: Wait>(
     author: &mut Author,
 ) -> (ShownWriter, bool)
     requires history { author.old.book ≡ writer.desk.shown.value.front.book }
-    requires right { IsTableFor writer.desk.shown.value.config author.old.list table.now }
+    requires right { IsTableFor writer.desk.shown.value.base author.old.list table.now }
     ensures name { name_of result.0.desk.shown.value ≡ name_of writer.desk.shown.value }
     ensures shown { MatchBool result.1 ((result.0.desk.shown.value.front ≡ author.old) × IsShownRight result.0.desk.shown.value) (result.0.desk.shown.value ≡ writer.desk.shown.value) }
     ensures known { MatchBool result.1 (view result.0.desk.place ≡ Some (name_of writer.desk.shown.value)) (view result.0.desk.place ≡ view writer.desk.place) }
@@ -149,7 +149,7 @@ pub fn show_changes<R: Wait>(
 ) -> (ShownWriter, bool)
     requires clean { drop writer.behind writer.log.items ≡ [] }
     requires history { author.old.book ≡ writer.desk.shown.value.front.book }
-    requires right { IsTableFor writer.desk.shown.value.config author.old.list table.now }
+    requires right { IsTableFor writer.desk.shown.value.base author.old.list table.now }
     requires changes { Lead writer.desk.shown.value.table.items table.now.items (those_of table.now.items networks.now) }
     ensures name { name_of result.0.desk.shown.value ≡ name_of writer.desk.shown.value }
     ensures shown { MatchBool result.1 ((result.0.desk.shown.value.front ≡ author.old) × IsShownRight result.0.desk.shown.value) (result.0.desk.shown.value ≡ writer.desk.shown.value) }

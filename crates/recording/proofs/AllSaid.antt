@@ -2,12 +2,12 @@
 use Rattle.std.proofs.Common.{ℕ, ◌≡◌, ◌++◌, List, [], ◌∷◌, length, drop, All, refl, arith}
 use Rattle.std.specs.List.{flat_map}
 use Rattle.std.proofs.lemmas.List.Elements.{All-nil, All-cons}
-use Rattle.ospf_types.specs.declared.config.Config.{Config}
+use Rattle.event_state.specs.declared.base.Base.{Base}
 use Rattle.recording.specs.declared.version.Version.{Version}
-use Rattle.recording.specs.declared.version.Version.TheVariants.{One, Two}
+use Rattle.recording.specs.declared.version.Version.TheVariants.{One, Two, Three}
 use Rattle.recording.specs.Forms.{Form, VersionLine, RouterLine, IsForm, Says, AllSay}
 use Rattle.recording.specs.Places.{AreSaid, first_lines}
-use Rattle.recording.specs.Recordings.{compat_forms, header_forms, area_forms}
+use Rattle.recording.specs.Recordings.{setting_forms, header_forms, area_forms}
 use Rattle.recording.proofs.Forms.{says_one}
 
 module _ (v : Version) where
@@ -46,21 +46,26 @@ module _ (v : Version) where
 -- ---- a header, and what stands behind it
 
 -- what the first lines say, and then this
-abbrev pub begun_with : Version → Config → List Form → List Form
-begun_with v config fs = VersionLine v ∷ RouterLine config.router ∷ (compat_forms v config.compat ++ fs)
+abbrev pub begun_with : Version → Base → List Form → List Form
+begun_with v b fs = VersionLine v ∷ RouterLine b.config.router ∷ (setting_forms v b.config.compat b.serial ++ fs)
 
-pub said_behind : (v : Version) (ls : List (List ℕ)) (config : Config) (fs : List Form) → AllSay v ls (begun_with v config fs) → AreSaid v ls fs
-said_behind One [] config fs all = absurd all
-said_behind One (l ∷ []) config fs all = absurd all.1
-said_behind One (l ∷ m ∷ ls) config fs all = record { many = omega arith; said = all.1.1 }
-said_behind Two [] config fs all = absurd all
-said_behind Two (l ∷ []) config fs all = absurd all.1
-said_behind Two (l ∷ m ∷ []) config fs all = absurd all.1.1
-said_behind Two (l ∷ m ∷ n ∷ ls) config fs all = record { many = omega arith; said = all.1.1.1 }
+pub said_behind : (v : Version) (ls : List (List ℕ)) (b : Base) (fs : List Form) → AllSay v ls (begun_with v b fs) → AreSaid v ls fs
+said_behind One [] b fs all = absurd all
+said_behind One (l ∷ []) b fs all = absurd all.1
+said_behind One (l ∷ m ∷ ls) b fs all = record { many = omega arith; said = all.1.1 }
+said_behind Two [] b fs all = absurd all
+said_behind Two (l ∷ []) b fs all = absurd all.1
+said_behind Two (l ∷ m ∷ []) b fs all = absurd all.1.1
+said_behind Two (l ∷ m ∷ n ∷ ls) b fs all = record { many = omega arith; said = all.1.1.1 }
+said_behind Three [] b fs all = absurd all
+said_behind Three (l ∷ []) b fs all = absurd all.1
+said_behind Three (l ∷ m ∷ []) b fs all = absurd all.1.1
+said_behind Three (l ∷ m ∷ n ∷ []) b fs all = absurd all.1.1.1
+said_behind Three (l ∷ m ∷ n ∷ o ∷ ls) b fs all = record { many = omega arith; said = all.1.1.1.1 }
 
-pub said_header : (v : Version) (before : List (List ℕ)) (config : Config) → AllSay v before (header_forms v config) → AreSaid v before (flat_map area_forms config.areas)
-said_header v before config all = said_behind v before config (flat_map area_forms config.areas) all
+pub said_header : (v : Version) (before : List (List ℕ)) (b : Base) → AllSay v before (header_forms v b) → AreSaid v before (flat_map area_forms b.config.areas)
+said_header v before b all = said_behind v before b (flat_map area_forms b.config.areas) all
 
-pub forms_behind : (v : Version) (before : List (List ℕ)) (config : Config) (fs forms : List Form) → AllSay v before (begun_with v config fs) → AreSaid v before forms → forms ≡ fs
-forms_behind v before config fs forms all said =
-    said_once v (drop (first_lines v) before) forms fs said.said (said_behind v before config fs all).said
+pub forms_behind : (v : Version) (before : List (List ℕ)) (b : Base) (fs forms : List Form) → AllSay v before (begun_with v b fs) → AreSaid v before forms → forms ≡ fs
+forms_behind v before b fs forms all said =
+    said_once v (drop (first_lines v) before) forms fs said.said (said_behind v before b fs all).said

@@ -15,8 +15,8 @@ use Rattle.ospf_types.specs.declared.config.Range.{Range}
 use Rattle.ospf_types.specs.declared.config.Stub.{Stub}
 use Rattle.ospf_types.specs.Network.{network_cmp}
 use Rattle.ospf_types.proofs.Orders.{network_total}
-use Rattle.recording.specs.Forms.{Form, VersionLine, RouterLine, CompatLine, AreaLine, RangeLine, BodyLine}
-use Rattle.recording.specs.Places.{is_of_header, with_range, with_form, areas_from, areas_of, is_less, last_of, is_past_area, is_past_range, is_next_range, has_begun, front_of, headed, is_next}
+use Rattle.recording.specs.Forms.{Form, VersionLine, RouterLine, CompatLine, SerialLine, AreaLine, RangeLine, HasInterfaceLine, HasLsaLine, BodyLine}
+use Rattle.recording.specs.Places.{is_of_header, with_range, with_form, areas_from, areas_of, is_less, last_of, is_past_area, is_past_range, is_next_range, has_ended, is_next_area}
 use Rattle.recording.specs.Recordings.{IsOrdered, area_forms}
 use Rattle.recording.proofs.Sorting.{last_cases, last_of-push, sorted_push_by, sorted_next_by}
 
@@ -27,7 +27,7 @@ with_range-push [] a range = refl
 with_range-push (x ∷ []) a range = refl
 with_range-push (x ∷ y ∷ front) a range = ap (λ (t : List AreaConfig). x ∷ t) (with_range-push (y ∷ front) a range)
 
-areas_from-append : (areas : List AreaConfig) (fs gs : List Form) → areas_from areas (fs ++ gs) ≡ areas_from (areas_from areas fs) gs
+pub areas_from-append : (areas : List AreaConfig) (fs gs : List Form) → areas_from areas (fs ++ gs) ≡ areas_from (areas_from areas fs) gs
 areas_from-append areas [] gs = refl
 areas_from-append areas (f ∷ fs) gs = areas_from-append (with_form areas f) fs gs
 
@@ -69,24 +69,25 @@ areas_of_header [] = All-nil (λ form. is_of_header form ≡ true)
 areas_of_header (a ∷ areas) =
     All-append (λ form. is_of_header form ≡ true) (area_forms a) (flat_map area_forms areas) (All-cons (λ form. is_of_header form ≡ true) (AreaLine a.id a.stub) (range_forms a.id a.ranges) refl (ranges_of_header a.id a.ranges)) (areas_of_header areas)
 
-none_begun : (fs gs : List Form) → AllPass is_of_header fs → has_begun (fs ++ gs) ≡ has_begun gs
-none_begun [] gs all = refl
-none_begun (f ∷ fs) gs all =
+none_ended : (fs gs : List Form) → AllPass is_of_header fs → has_ended (fs ++ gs) ≡ has_ended gs
+none_ended [] gs all = refl
+none_ended (f ∷ fs) gs all =
     let P : Form → Type 0 = λ form. is_of_header form ≡ true in
-    ap (λ (b : Bool). not b || has_begun (fs ++ gs)) (All-head P f fs all) ∙ none_begun fs gs (All-tail P f fs all)
+    ap (λ (b : Bool). not b || has_ended (fs ++ gs)) (All-head P f fs all) ∙ none_ended fs gs (All-tail P f fs all)
 
 -- lines of the header alone
-pub areas_not_begun : (areas : List AreaConfig) → has_begun (flat_map area_forms areas) ≡ false
-areas_not_begun areas =
-    ap has_begun (sym (append-nil (flat_map area_forms areas))) ∙ none_begun (flat_map area_forms areas) [] (areas_of_header areas)
+pub areas_not_ended : (areas : List AreaConfig) → has_ended (flat_map area_forms areas) ≡ false
+areas_not_ended areas =
+    ap has_ended (sym (append-nil (flat_map area_forms areas))) ∙ none_ended (flat_map area_forms areas) [] (areas_of_header areas)
 
-pub front_of_said : (areas : List AreaConfig) → front_of (flat_map area_forms areas) ≡ headed areas
-front_of_said areas = λ i. record { areas = areas_of_said areas i; begun = areas_not_begun areas i }
+either_true : (a : Bool) → (a || true) ≡ true
+either_true true = refl
+either_true false = refl
 
--- a line that is none of the header's, behind such lines
-pub begun_behind : (areas : List AreaConfig) (form : Form) (gs : List Form) → is_of_header form ≡ false → has_begun (flat_map area_forms areas ++ form ∷ gs) ≡ true
-begun_behind areas form gs other =
-    none_begun (flat_map area_forms areas) (form ∷ gs) (areas_of_header areas) ∙ ap (λ (b : Bool). not b || has_begun gs) other
+-- a line that is none of the header's, behind others
+pub ended_behind : (fs : List Form) (form : Form) → is_of_header form ≡ false → has_ended (fs ++ form ∷ []) ≡ true
+ended_behind [] form other = ap (λ (b : Bool). not b || false) other
+ended_behind (f ∷ fs) form other = ap (λ (b : Bool). not (is_of_header f) || b) (ended_behind fs form other) ∙ either_true (not (is_of_header f))
 
 -- ---- one line more
 
@@ -117,7 +118,7 @@ said_range front a range =
     ∙ ap (λ (fs : List Form). fs ++ RangeLine a.id range ∷ []) (sym (flat_map-push front a))
 
 -- what says the areas, and one line more
-pub said_more : (areas : List AreaConfig) (form : Form) → is_next (headed areas) form ≡ true → flat_map area_forms (with_form areas form) ≡ flat_map area_forms areas ++ form ∷ []
+pub said_more : (areas : List AreaConfig) (form : Form) → is_next_area areas form ≡ true → flat_map area_forms (with_form areas form) ≡ flat_map area_forms areas ++ form ∷ []
 said_more areas (AreaLine id stub) next = flat_map-push areas (ranged id stub [])
 said_more areas (RangeLine area range) next =
     let at = range_place areas area range next in
@@ -126,24 +127,27 @@ said_more areas (RangeLine area range) next =
 said_more areas (VersionLine version) next = cc
 said_more areas (RouterLine router) next = cc
 said_more areas (CompatLine compat) next = cc
+said_more areas (SerialLine serial) next = cc
+said_more areas (HasInterfaceLine id i) next = cc
+said_more areas (HasLsaLine at bytes) next = cc
 said_more areas (BodyLine body) next = cc
 
 -- ---- the order
 
-nat_less : (x y : ℕ) → nat_lt x y ≡ true → nat_cmp x y ≡ Less
+pub nat_less : (x y : ℕ) → nat_lt x y ≡ true → nat_cmp x y ≡ Less
 nat_less x y h = ap (λ (b : Bool). cond b Less (cond (x == y) Equal Greater)) h
 
 not_less : (b : Bool) → cond b Equal Greater ≡ Less → ⊥
 not_less true h = cc
 not_less false h = cc
 
-nat_of_less : (x y : ℕ) (b : Bool) → nat_lt x y ≡ b → nat_cmp x y ≡ Less → nat_lt x y ≡ true
+pub nat_of_less : (x y : ℕ) (b : Bool) → nat_lt x y ≡ b → nat_cmp x y ≡ Less → nat_lt x y ≡ true
 nat_of_less x y true is h = is
 nat_of_less x y false is h =
     let other : cond (x == y) Equal Greater ≡ Less = sym (ap (λ (b : Bool). cond b Less (cond (x == y) Equal Greater)) is) ∙ h in
     absurd (not_less (x == y) other)
 
-of_is_less : (o : Ordering) → is_less o ≡ true → o ≡ Less
+pub of_is_less : (o : Ordering) → is_less o ≡ true → o ≡ Less
 of_is_less Less h = refl
 of_is_less Equal h = cc
 of_is_less Greater h = cc
@@ -196,7 +200,7 @@ ordered_range front a range ordered past =
     } in
     subst IsOrdered (sym (with_range-push front a range)) at
 
-pub ordered_more : (areas : List AreaConfig) (form : Form) → IsOrdered areas → is_next (headed areas) form ≡ true → IsOrdered (with_form areas form)
+pub ordered_more : (areas : List AreaConfig) (form : Form) → IsOrdered areas → is_next_area areas form ≡ true → IsOrdered (with_form areas form)
 ordered_more areas (AreaLine id stub) ordered next = ordered_area areas id stub ordered next
 ordered_more areas (RangeLine area range) ordered next =
     let at = range_place areas area range next in
@@ -205,6 +209,9 @@ ordered_more areas (RangeLine area range) ordered next =
 ordered_more areas (VersionLine version) ordered next = cc
 ordered_more areas (RouterLine router) ordered next = cc
 ordered_more areas (CompatLine compat) ordered next = cc
+ordered_more areas (SerialLine serial) ordered next = cc
+ordered_more areas (HasInterfaceLine id i) ordered next = cc
+ordered_more areas (HasLsaLine at bytes) ordered next = cc
 ordered_more areas (BodyLine body) ordered next = cc
 
 pub ordered_none : IsOrdered []
@@ -215,7 +222,7 @@ ordered_none = record { ascending = tt; ranges = All-nil (λ a. AreRising a.rang
 
 abbrev pub InOrder : List AreaConfig → List Form → Type 0
 InOrder areas [] = Unit {0}
-InOrder areas (form ∷ forms) = (is_next (headed areas) form ≡ true) × InOrder (with_form areas form) forms
+InOrder areas (form ∷ forms) = (is_next_area areas form ≡ true) × InOrder (with_form areas form) forms
 
 in_order-append : (areas : List AreaConfig) (fs gs : List Form) → InOrder areas fs → InOrder (areas_from areas fs) gs → InOrder areas (fs ++ gs)
 in_order-append areas [] gs first second = second

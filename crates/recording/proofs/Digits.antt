@@ -1,50 +1,68 @@
 -- Decimal digits and the numbers that they write, and the hexadecimal digits of bytes.
-use Rattle.std.proofs.Common.{ℕ, ◌≡◌, ◌+◌, ◌-◌, ◌*◌, ◌/◌, ◌%◌, ◌^◌, ◌<◌, ◌≤◌, ◌==◌, Bool, true, cond, ltb, List, [], ◌∷◌, All, decimal, length, get_or, take, inl, inr, arith, refl, ap, sym, ◌∙◌, length-take}
-use Rattle.std.proofs.lemmas.Bool.{agree_below_at, cases_eq, eqb-true}
-use Rattle.std.proofs.Math.Nat.{pow-le-pow_right}
+use Rattle.std.proofs.Common.{ℕ, ◌≡◌, ◌+◌, ◌-◌, ◌*◌, ◌/◌, ◌%◌, ◌^◌, ◌<◌, ◌≤◌, ◌==◌, Bool, true, cond, ltb, List, [], ◌∷◌, All, decimal, length, get_or, take, Option, Some, None, MatchOption, inl, inr, arith, refl, ap, sym, ◌∙◌}
+use Rattle.std.proofs.lemmas.Bool.{agree_below_at, cases_eq, cases_lt, eqb-true}
 use Rattle.std.proofs.lemmas.Bool.Decides.{nat_tests}
-use Rattle.std.proofs.lemmas.Int.Digits.{digits_value-lt}
-use Rattle.std.proofs.lemmas.Fmt.{decimal_is_IsNumeral, decimal_nonempty, decimal_digit, first_decimal, length-decimal-le, decimal-digits_value}
-use Rattle.std.proofs.lemmas.Str.Parse.{numerals_by_value, tells_digits}
+use Rattle.std.proofs.lemmas.Int.Digits.{digits_value_more}
+use Rattle.std.proofs.lemmas.Fmt.{decimal_is_IsNumeral, decimal_nonempty, decimal_digit, first_decimal, decimal-digits_value}
+use Rattle.std.proofs.lemmas.Str.Parse.{digits_value-take-le, numerals_by_value, tells_digits}
 use Rattle.std.proofs.lemmas.List.Elements.{All-nil, All-cons, All-head, All-tail}
 use Rattle.hex.proofs.HexLemmas.{length-encode_with}
 use Rattle.std.specs.Char.{digit_value, digit_char}
 use Rattle.std.specs.Str.Parse.{AllDigits, digits_value}
 use Rattle.hex.specs.Hex.{encode_lower, encode_with, lower_digits}
-use Rattle.recording.specs.Reading.{AreDigits, IsLowerDigit, IsUnpadded}
+use Rattle.recording.specs.Forms.{IsSerial}
+use Rattle.recording.specs.Reading.{AreDigits, IsLowerDigit, IsRead, IsUnpadded}
 
--- nine digits write less than a thousand millions
-pub digits_small : (word : List ℕ) (i : ℕ) → i < length word → length word ≤ 10 → AllDigits 10 (take i word) → digits_value 10 (take i word) < 10 ^ 9
-digits_small word i within short digits =
-    let bound = digits_value-lt 10 (take i word) digits in
-    let few : length (take i word) ≤ 9 = omega (arith, length-take i word) in
-    let ten : 0 < 10 = omega arith in
-    let more : 10 ^ length (take i word) ≤ 10 ^ 9 = pow-le-pow_right ten few in
-    omega (arith, more, bound)
+-- what the first digits write, and one more of them, is no more than what all do
+pub digits_large : (word : List ℕ) (i value : ℕ) → i < length word → value ≡ digits_value 10 (take i word) → value * 10 + digit_value (get_or word i 0) ≤ digits_value 10 word
+digits_large word i value within is =
+    let more = digits_value_more 10 word i within in
+    let all : digits_value 10 (take (i + 1) word) ≤ digits_value 10 word = digits_value-take-le 10 word (i + 1) (omega arith) in
+    omega (arith, more, all, is)
+
+-- ten times the first digits, or that and one digit more, do not fit: so the whole number does not
+pub past_tens : (word : List ℕ) (i value : ℕ) → i < length word → value ≡ digits_value 10 (take i word) → ¬ (value * 10 < 2 ^ 64) → 2 ^ 64 ≤ digits_value 10 word
+past_tens word i value within is past =
+    let all = digits_large word i value within is in
+    elim (cases_lt (value * 10) (2 ^ 64)) [ inl below ↦ absurd (past below) | inr above ↦ omega (arith, all, above) ]
+
+pub past_digit : (word : List ℕ) (i value tens digit : ℕ) → i < length word → value ≡ digits_value 10 (take i word) → tens ≡ value * 10 → digit ≡ digit_value (get_or word i 0) → ¬ (tens + digit < 2 ^ 64) → 2 ^ 64 ≤ digits_value 10 word
+past_digit word i value tens digit within is ten one past =
+    let all = digits_large word i value within is in
+    elim (cases_lt (tens + digit) (2 ^ 64)) [ inl below ↦ absurd (past below) | inr above ↦ omega (arith, all, above, ten, one) ]
 
 pub digit_value_is : (b : ℕ) → 48 ≤ b → b ≤ 57 → digit_value b ≡ b - 48
 digit_value_is b low high = grind (arith, nat_tests)
 
 -- a number has no zero in front
-pub unpadded_decimal : (n : ℕ) → n < 2 ^ 32 → IsUnpadded (decimal n)
+pub unpadded_decimal : (n : ℕ) → n < 2 ^ 64 → IsUnpadded (decimal n)
 unpadded_decimal n fits = record {
   some = decimal_nonempty n (omega arith);
-  few = length-decimal-le 10 n (omega arith) (omega arith) (omega arith);
   alone = λ zero. elim (cases_eq n 0) [
     | inl is ↦ ap (λ m. length (decimal m)) is ∙ ap length (decimal_digit 0 (omega arith))
     | inr some ↦ let first = first_decimal n (omega arith) (omega arith) in omega arith
   ];
 }
 
-pub decimal_digits : (n : ℕ) → n < 2 ^ 32 → AllDigits 10 (decimal n)
+pub decimal_digits : (n : ℕ) → n < 2 ^ 64 → AllDigits 10 (decimal n)
 decimal_digits n fits = (decimal_is_IsNumeral n (omega arith)).0.1
 
-pub decimal_value : (n : ℕ) → n < 2 ^ 32 → digits_value 10 (decimal n) ≡ n
+pub decimal_value : (n : ℕ) → n < 2 ^ 64 → digits_value 10 (decimal n) ≡ n
 decimal_value n fits = (decimal_is_IsNumeral n (omega arith)).1
 
 -- digits without a zero in front are those of their number
-pub unpadded_is : (word : List ℕ) → IsUnpadded word → AllDigits 10 word → digits_value 10 word < 2 ^ 32 → word ≡ decimal (digits_value 10 word)
+pub unpadded_is : (word : List ℕ) → IsUnpadded word → AllDigits 10 word → digits_value 10 word < 2 ^ 64 → word ≡ decimal (digits_value 10 word)
 unpadded_is word h digits small = sym (decimal-digits_value (numerals_by_value _ tells_digits) word digits h.some h.alone (omega arith))
+
+-- what was read of digits without a zero in front is the number that they spell
+pub serial_read : (word : List ℕ) (read : Option ℕ) → IsUnpadded word → MatchOption read (AllDigits 10 word → 2 ^ 64 ≤ digits_value 10 word) (λ n. AllDigits 10 word × (n ≡ digits_value 10 word) × IsSerial n) → IsRead decimal IsSerial word read
+serial_read word None plain none = λ n small same.
+    let digits : AllDigits 10 word = rw same (decimal_digits n small) in
+    let is : digits_value 10 word ≡ n = rw same (decimal_value n small) in
+    omega (arith, none digits, is)
+serial_read word (Some n) plain some =
+    let small : digits_value 10 word < 2 ^ 64 = omega (arith, some.1, some.2) in
+    (some.2, unpadded_is word plain some.0 small ∙ ap decimal (sym some.1))
 
 -- ---- hexadecimal digits
 

@@ -17,6 +17,7 @@ use Rattle.std.specs.Str.{bytes_eq}
 use Rattle.std.specs.Str.Parse.{digits_value}
 use Rattle.hex.specs.Hex.{IsBytes, encode_lower, encode_with, lower_digits}
 use Rattle.hex.proofs.HexLemmas.{decode_of-encode_lower}
+use Rattle.ospf_types.specs.declared.config.Interface.{Interface}
 use Rattle.ospf_types.specs.declared.config.Range.{Range}
 use Rattle.ospf_types.specs.declared.config.Stub.{Stub}
 use Rattle.ospf_types.specs.declared.key.Key.{Key}
@@ -27,8 +28,8 @@ use Rattle.ospf_types.specs.Text.{address_text, prefix_text}
 use Rattle.ospf_types.proofs.Addresses.{address_dotted}
 use Rattle.recording.specs.Reading.{bytes_of, bytes_or_none}
 use Rattle.recording.specs.declared.version.Version.{Version}
-use Rattle.recording.specs.declared.version.Version.TheVariants.{One, Two}
-use Rattle.recording.specs.Forms.{Form, Body, VersionLine, RouterLine, CompatLine, AreaLine, RangeLine, BodyLine, InterfaceLine, InstallLine, FlushLine, PurgeLine, SecondLine, LookupLine, IsForm, IsBody, IsScope, IsKey, IsPrefix, IsStub, IsInterface, Says, words_of, body_words, line_text, scope_text, stub_words, key_words}
+use Rattle.recording.specs.declared.version.Version.TheVariants.{One, Two, Three}
+use Rattle.recording.specs.Forms.{Form, Body, VersionLine, RouterLine, CompatLine, SerialLine, AreaLine, RangeLine, HasInterfaceLine, HasLsaLine, BodyLine, InterfaceLine, InstallLine, FlushLine, PurgeLine, RangeSetLine, RangeDropLine, SecondLine, LookupLine, RollLine, AreBytes, IsForm, IsBody, IsAddress, IsScope, IsKey, IsPrefix, IsStub, IsInterface, Says, words_of, body_words, interface_words, line_text, lsa_words, range_words, scope_text, stub_words, key_words}
 
 -- ---- the bytes of words
 
@@ -116,40 +117,51 @@ key_plain key h =
     let kind = h.kind in
     (Plain-decimal key.kind (omega arith), (Plain-address key.id h.id, (Plain-address key.router h.router, tt)))
 
-body_plain : (body : Body) → IsBody body → AllPlain (body_words body)
-body_plain (InterfaceLine id area address peer up) h = (
-  Plain-literal (codes "interface") refl,
+interface_plain : (id : ℕ) (i : Interface) → IsInterface id i.area i.address i.peer → AllPlain (interface_words id i)
+interface_plain id i h = (
+  Plain-decimal id (omega arith),
   (
-    Plain-decimal id (omega arith),
+    Plain-address i.area h.1,
     (
-      Plain-address area h.1,
-      (
-        Plain-address address h.2,
-        (Plain-address peer h.3, (Plain-cond up _ _ (Plain-literal (codes "up") refl) (Plain-literal (codes "down") refl), tt)),
-      ),
+      Plain-address i.address h.2,
+      (Plain-address i.peer h.3, (Plain-cond i.up _ _ (Plain-literal (codes "up") refl) (Plain-literal (codes "down") refl), tt)),
     ),
   ),
 )
-body_plain (InstallLine at bytes) h = (Plain-literal (codes "install") refl, (Plain-scope at h.0, (Plain-encode bytes h.1, tt)))
+
+lsa_plain : (at : Scope) (bytes : List ℕ) → IsScope at → AreBytes bytes → AllPlain (lsa_words at bytes)
+lsa_plain at bytes scope small = (Plain-scope at scope, (Plain-encode bytes small, tt))
+
+range_plain : (area : ℕ) (range : Range) → IsAddress area → IsPrefix range.prefix → AllPlain (range_words area range)
+range_plain area range address legal = (
+  Plain-address area address,
+  (Plain-prefix range.prefix legal, (Plain-cond range.advertise _ _ (Plain-literal (codes "advertise") refl) (Plain-literal (codes "hide") refl), tt)),
+)
+
+body_plain : (body : Body) → IsBody body → AllPlain (body_words body)
+body_plain (InterfaceLine id area address peer up) h =
+    (Plain-literal (codes "interface") refl, interface_plain id (record { area = area; address = address; peer = peer; up = up }) h)
+body_plain (InstallLine at bytes) h = (Plain-literal (codes "install") refl, lsa_plain at bytes h.0 h.1)
 body_plain (FlushLine at key) h = (Plain-literal (codes "flush") refl, (Plain-scope at h.0, key_plain key h.1))
 body_plain (PurgeLine at key) h = (Plain-literal (codes "purge") refl, (Plain-scope at h.0, key_plain key h.1))
+body_plain (RangeSetLine area range) h = (Plain-literal (codes "range-set") refl, range_plain area range h.0 h.1)
+body_plain (RangeDropLine area prefix) h = (Plain-literal (codes "range-drop") refl, (Plain-address area h.0, (Plain-prefix prefix h.1, tt)))
 body_plain SecondLine h = (Plain-literal (codes "second") refl, tt)
 body_plain (LookupLine address) h = (Plain-literal (codes "lookup") refl, (Plain-address address h, tt))
+body_plain RollLine h = (Plain-literal (codes "roll") refl, tt)
 
 pub words_plain : (form : Form) → IsForm form → AllPlain (words_of form)
 words_plain (VersionLine One) h = (Plain-literal (codes "abr") refl, (Plain-literal (codes "1") refl, tt))
 words_plain (VersionLine Two) h = (Plain-literal (codes "abr") refl, (Plain-literal (codes "2") refl, tt))
+words_plain (VersionLine Three) h = (Plain-literal (codes "abr") refl, (Plain-literal (codes "3") refl, tt))
+words_plain (SerialLine serial) h = (Plain-literal (codes "serial") refl, (Plain-decimal serial h, tt))
+words_plain (HasInterfaceLine id i) h = (Plain-literal (codes "has") refl, (Plain-literal (codes "interface") refl, interface_plain id i h))
+words_plain (HasLsaLine at bytes) h = (Plain-literal (codes "has") refl, (Plain-literal (codes "lsa") refl, lsa_plain at bytes h.0 h.1))
 words_plain (CompatLine compat) h =
     (Plain-literal (codes "compat") refl, (Plain-cond compat _ _ (Plain-literal (codes "enabled") refl) (Plain-literal (codes "disabled") refl), tt))
 words_plain (RouterLine router) h = (Plain-literal (codes "router") refl, (Plain-address router h, tt))
 words_plain (AreaLine id stub) h = (Plain-literal (codes "area") refl, (Plain-address id h.0, stub_plain stub h.1))
-words_plain (RangeLine area range) h = (
-  Plain-literal (codes "range") refl,
-  (
-    Plain-address area h.0,
-    (Plain-prefix range.prefix h.1, (Plain-cond range.advertise _ _ (Plain-literal (codes "advertise") refl) (Plain-literal (codes "hide") refl), tt)),
-  ),
-)
+words_plain (RangeLine area range) h = (Plain-literal (codes "range") refl, range_plain area range h.0 h.1)
 words_plain (BodyLine body) h = body_plain body h
 
 -- ---- no line feed
@@ -184,13 +196,19 @@ some_body_word (InterfaceLine id area address peer up) = omega arith
 some_body_word (InstallLine at bytes) = omega arith
 some_body_word (FlushLine at key) = omega arith
 some_body_word (PurgeLine at key) = omega arith
+some_body_word (RangeSetLine area range) = omega arith
+some_body_word (RangeDropLine area prefix) = omega arith
 some_body_word SecondLine = omega arith
 some_body_word (LookupLine address) = omega arith
+some_body_word RollLine = omega arith
 
 some_word : (form : Form) → 0 < length (words_of form)
 some_word (VersionLine version) = omega arith
 some_word (CompatLine compat) = omega arith
 some_word (RouterLine router) = omega arith
+some_word (SerialLine serial) = omega arith
+some_word (HasInterfaceLine id i) = omega arith
+some_word (HasLsaLine at bytes) = omega arith
 some_word (AreaLine id stub) = omega arith
 some_word (RangeLine area range) = omega arith
 some_word (BodyLine body) = some_body_word body
@@ -231,28 +249,46 @@ key_in words = record { kind = number_in (get_or words 0 []); id = address_in (g
 abbrev range_in : List (List ℕ) → Range
 range_in words = record { prefix = prefix_in (get_or words 0 []); advertise = bytes_eq (get_or words 1 []) (codes "advertise") }
 
-abbrev interface_in : List (List ℕ) → Body
-interface_in words =
-    InterfaceLine (number_in (get_or words 0 [])) (address_in (get_or words 1 [])) (address_in (get_or words 2 [])) (address_in (get_or words 3 [])) (bytes_eq (get_or words 4 []) (codes "up"))
+abbrev interface_in : List (List ℕ) → Interface
+interface_in words = record {
+  area = address_in (get_or words 1 []);
+  address = address_in (get_or words 2 []);
+  peer = address_in (get_or words 3 []);
+  up = bytes_eq (get_or words 4 []) (codes "up");
+}
+
+abbrev interface_body : ℕ → Interface → Body
+interface_body id i = InterfaceLine id i.area i.address i.peer i.up
 
 abbrev version_in : List ℕ → Version
-version_in word = cond (bytes_eq word (codes "2")) Two One
+version_in word = cond (bytes_eq word (codes "3")) Three (cond (bytes_eq word (codes "2")) Two One)
 
 abbrev body_behind : List ℕ → List (List ℕ) → Body
 body_behind word words =
-    cond (bytes_eq word (codes "interface")) (interface_in words)
+    cond (bytes_eq word (codes "interface")) (interface_body (number_in (get_or words 0 [])) (interface_in words))
     (cond (bytes_eq word (codes "install")) (InstallLine (scope_in (get_or words 0 [])) (bytes_of (get_or words 1 [])))
     (cond (bytes_eq word (codes "flush")) (FlushLine (scope_in (get_or words 0 [])) (key_in (drop 1 words)))
     (cond (bytes_eq word (codes "purge")) (PurgeLine (scope_in (get_or words 0 [])) (key_in (drop 1 words)))
-    (cond (bytes_eq word (codes "second")) SecondLine (LookupLine (address_in (get_or words 0 [])))))))
+    (cond (bytes_eq word (codes "second")) SecondLine
+    (cond (bytes_eq word (codes "roll")) RollLine
+    (cond (bytes_eq word (codes "range-set")) (RangeSetLine (address_in (get_or words 0 [])) (range_in (drop 1 words)))
+    (cond (bytes_eq word (codes "range-drop")) (RangeDropLine (address_in (get_or words 0 [])) (prefix_in (get_or words 1 [])))
+    (LookupLine (address_in (get_or words 0 []))))))))))
+
+abbrev has_behind : List (List ℕ) → Form
+has_behind words =
+    cond (bytes_eq (get_or words 0 []) (codes "interface")) (HasInterfaceLine (number_in (get_or words 1 [])) (interface_in (drop 1 words)))
+    (HasLsaLine (scope_in (get_or words 1 [])) (bytes_of (get_or words 2 [])))
 
 abbrev form_behind : List ℕ → List (List ℕ) → Form
 form_behind word words =
     cond (bytes_eq word (codes "abr")) (VersionLine (version_in (get_or words 0 [])))
     (cond (bytes_eq word (codes "compat")) (CompatLine (bytes_eq (get_or words 0 []) (codes "enabled")))
     (cond (bytes_eq word (codes "router")) (RouterLine (address_in (get_or words 0 [])))
+    (cond (bytes_eq word (codes "serial")) (SerialLine (number_in (get_or words 0 [])))
     (cond (bytes_eq word (codes "area")) (AreaLine (address_in (get_or words 0 [])) (stub_in (drop 1 words)))
-    (cond (bytes_eq word (codes "range")) (RangeLine (address_in (get_or words 0 [])) (range_in (drop 1 words))) (BodyLine (body_behind word words))))))
+    (cond (bytes_eq word (codes "range")) (RangeLine (address_in (get_or words 0 [])) (range_in (drop 1 words)))
+    (cond (bytes_eq word (codes "has")) (has_behind words) (BodyLine (body_behind word words))))))))
 
 abbrev form_in : List (List ℕ) → Form
 form_in words = form_behind (get_or words 0 []) (drop 1 words)
@@ -328,21 +364,26 @@ range_again range h = rw (prefix_again range.prefix h, choice_again range.advert
 pub bytes_again : (bytes : List ℕ) → All (λ b. b < 2 ^ 8) bytes → bytes_of (encode_lower bytes) ≡ bytes
 bytes_again bytes h = ap bytes_or_none (decode_of-encode_lower bytes (are_bytes bytes h))
 
-interface_again : (id area address peer : ℕ) (up : Bool) → IsInterface id area address peer
-    → interface_in (decimal id ∷ address_text area ∷ address_text address ∷ address_text peer ∷ cond up (codes "up") (codes "down") ∷ []) ≡ InterfaceLine id area address peer up
-interface_again id area address peer up h =
-    rw (number_again id (omega arith), address_again area h.1, address_again address h.2, address_again peer h.3, choice_again up (codes "up") (codes "down") refl refl)
+interface_again : (id : ℕ) (i : Interface) → IsInterface id i.area i.address i.peer → interface_in (interface_words id i) ≡ i
+interface_again id i h = rw (address_again i.area h.1, address_again i.address h.2, address_again i.peer h.3, choice_again i.up (codes "up") (codes "down") refl refl)
 
 abbrev body_in : List (List ℕ) → Body
 body_in words = body_behind (get_or words 0 []) (drop 1 words)
 
 body_again : (body : Body) → IsBody body → body_in (body_words body) ≡ body
-body_again (InterfaceLine id area address peer up) h = interface_again id area address peer up h
+body_again (InterfaceLine id area address peer up) h =
+    let i : Interface = record { area = area; address = address; peer = peer; up = up } in
+    ap (λ n. interface_body n (interface_in (interface_words id i))) (number_again id (omega arith)) ∙ ap (interface_body id) (interface_again id i h)
 body_again (InstallLine at bytes) h = ap (λ s. InstallLine s (bytes_of (encode_lower bytes))) (scope_again at h.0) ∙ ap (InstallLine at) (bytes_again bytes h.1)
 body_again (FlushLine at key) h = ap (λ s. FlushLine s (key_in (key_words key))) (scope_again at h.0) ∙ ap (FlushLine at) (key_again key h.1)
 body_again (PurgeLine at key) h = ap (λ s. PurgeLine s (key_in (key_words key))) (scope_again at h.0) ∙ ap (PurgeLine at) (key_again key h.1)
+body_again (RangeSetLine area range) h =
+    ap (λ a. RangeSetLine a (range_in (drop 1 (range_words area range)))) (address_again area h.0) ∙ ap (RangeSetLine area) (range_again range h.1)
+body_again (RangeDropLine area prefix) h =
+    ap (λ a. RangeDropLine a (prefix_in (prefix_text prefix))) (address_again area h.0) ∙ ap (RangeDropLine area) (prefix_again prefix h.1)
 body_again SecondLine h = refl
 body_again (LookupLine address) h = ap LookupLine (address_again address h)
+body_again RollLine h = refl
 
 -- the first word of such a line is none of the others
 is_body : (body : Body) → form_in (body_words body) ≡ BodyLine (body_in (body_words body))
@@ -350,12 +391,21 @@ is_body (InterfaceLine id area address peer up) = refl
 is_body (InstallLine at bytes) = refl
 is_body (FlushLine at key) = refl
 is_body (PurgeLine at key) = refl
+is_body (RangeSetLine area range) = refl
+is_body (RangeDropLine area prefix) = refl
 is_body SecondLine = refl
 is_body (LookupLine address) = refl
+is_body RollLine = refl
 
 form_again : (form : Form) → IsForm form → form_in (words_of form) ≡ form
 form_again (VersionLine One) h = refl
 form_again (VersionLine Two) h = refl
+form_again (VersionLine Three) h = refl
+form_again (SerialLine serial) h = ap SerialLine (number_again serial h)
+form_again (HasInterfaceLine id i) h =
+    ap (λ n. HasInterfaceLine n (interface_in (interface_words id i))) (number_again id (omega arith)) ∙ ap (HasInterfaceLine id) (interface_again id i h)
+form_again (HasLsaLine at bytes) h =
+    ap (λ s. HasLsaLine s (bytes_of (encode_lower bytes))) (scope_again at h.0) ∙ ap (HasLsaLine at) (bytes_again bytes h.1)
 form_again (CompatLine true) h = refl
 form_again (CompatLine false) h = refl
 form_again (RouterLine router) h = ap RouterLine (address_again router h)

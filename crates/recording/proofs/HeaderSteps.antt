@@ -4,35 +4,39 @@ use Rattle.std.specs.List.{flat_map}
 use Rattle.std.proofs.lemmas.List.{length_push}
 use Rattle.std.proofs.lemmas.List.Elements.{All-nil}
 use Rattle.ospf_types.specs.declared.config.AreaConfig.{AreaConfig}
-use Rattle.ospf_types.specs.declared.config.Config.{Config}
+use Rattle.event_state.specs.declared.base.Base.{Base}
 use Rattle.config_faults.specs.Configs.{areas_fault_of, config_fault_of}
 use Rattle.config_faults.specs.declared.fault.ConfigFault.{ConfigFault}
 use Rattle.recording.specs.declared.fault.Fault.{Fault}
 use Rattle.recording.specs.declared.fault.Fault.TheVariants as fault
 use Rattle.recording.specs.declared.version.Version.{Version}
-use Rattle.recording.specs.declared.version.Version.TheVariants.{One, Two}
-use Rattle.recording.specs.Forms.{Form, VersionLine, RouterLine, CompatLine, AreaLine, RangeLine, BodyLine, Says, AllSay}
-use Rattle.recording.specs.Places.{Front, AreSaid, IsPlaced, first_lines, front_of, headed, is_of_header, is_next, with_form}
+use Rattle.recording.specs.declared.version.Version.TheVariants.{One, Three}
+use Rattle.recording.specs.declared.header.Setting.{Setting}
+use Rattle.recording.specs.Forms.{Form, VersionLine, RouterLine, CompatLine, SerialLine, AreaLine, RangeLine, HasInterfaceLine, HasLsaLine, BodyLine, Says, AllSay}
+use Rattle.recording.specs.Places.{Front, AreSaid, IsPlaced, first_lines, front_of, headed, is_of_header, is_next, is_next_area, with_form}
 use Rattle.recording.specs.Faults.{EndsHeader, HasConfigFault, HasFault, IsFirstFault, IsMemoryAt, AreRightBefore, number_of}
-use Rattle.recording.specs.Recordings.{IsOrdered, HasKind, HasWholeLsa, area_forms, first_forms, header_forms}
-use Rattle.recording.specs.Progress.{HasRead, HasHeader, HasLines}
-use Rattle.recording.proofs.Areas.{areas_of_said, areas_not_begun, front_of_said, said_more, ordered_more, ordered_none}
-use Rattle.recording.proofs.Parts.{IsLineAt, HasNoWireFault, line_fault, has_line_fault, line_there, none_before, right_more, below_config, form_fault, order_fault, end_fault, two_first, version_push}
+use Rattle.recording.specs.Recordings.{CanSpell, HasKind, HasWholeLsa, AreWhole, IsLineIn, IsWhole, area_forms, first_forms, header_forms}
+use Rattle.recording.specs.Progress.{HasRead, HasHeader, HasLines, headed_base, with_areas}
+use Rattle.recording.proofs.Areas.{areas_of_said, areas_not_ended, said_more, ordered_more, ordered_none}
+use Rattle.recording.proofs.BaseSound.{bare_ordered, bare_sound}
+use Rattle.recording.proofs.Fronts.{bare_forms, front_of_said}
+use Rattle.recording.proofs.Parts.{IsLineAt, IsHarmless, fits, line_fault, has_line_fault, line_there, none_before, right_more, but_config, form_fault, order_fault, end_fault, two_first, three_first, version_push}
 use Rattle.recording.proofs.AllSaid.{said_push, said_length, said_header, forms_behind}
 
-all_faults : (P : Fault → Type 0) → ((f : Fault) → number_of f < 55 → P f) → ((c : ConfigFault) → P (fault.Config c)) → (f : Fault) → P f
-all_faults P low config fault.Truncated = low fault.Truncated (omega arith)
-all_faults P low config fault.Version = low fault.Version (omega arith)
-all_faults P low config fault.Line = low fault.Line (omega arith)
-all_faults P low config fault.Order = low fault.Order (omega arith)
-all_faults P low config (fault.Wire f) = low (fault.Wire f) (omega arith)
-all_faults P low config (fault.Config f) = config f
-all_faults P low config fault.Memory = low fault.Memory (omega arith)
+all_faults : (P : Fault → Type 0) → ((f : Fault) → number_of f ≢ 55 → P f) → ((c : ConfigFault) → P (fault.Config c)) → (f : Fault) → P f
+all_faults P others config fault.Truncated = others fault.Truncated (λ e. omega arith)
+all_faults P others config fault.Version = others fault.Version (λ e. omega arith)
+all_faults P others config fault.Line = others fault.Line (λ e. omega arith)
+all_faults P others config fault.Order = others fault.Order (λ e. omega arith)
+all_faults P others config (fault.Wire f) = others (fault.Wire f) (λ e. omega arith)
+all_faults P others config (fault.Config f) = config f
+all_faults P others config (fault.Base u) = others (fault.Base u) (λ e. omega arith)
+all_faults P others config fault.Memory = others fault.Memory (λ e. omega arith)
 
 -- a line without a fault
-pub right_past : {v : Version} {text : List ℕ} {number : ℕ} {before : List (List ℕ)} {line : List ℕ} {rest : List (List ℕ)} → IsLineAt v text number before line rest → AreRightBefore text number → ((f : Fault) → number_of f < 55 → ¬ HasFault text number f) → ((c : ConfigFault) → ¬ HasConfigFault v (before ++ line ∷ []) rest c) → AreRightBefore text (number + 1)
-right_past {v} {text} {number} at right low config =
-    right_more text number right (all_faults (λ f. ¬ HasFault text number f) low (λ c h. config c (line_fault at (fault.Config c) h)))
+pub right_past : {v : Version} {text : List ℕ} {number : ℕ} {before : List (List ℕ)} {line : List ℕ} {rest : List (List ℕ)} → IsLineAt v text number before line rest → AreRightBefore text number → ((f : Fault) → number_of f ≢ 55 → ¬ HasFault text number f) → ((c : ConfigFault) → ¬ HasConfigFault v (before ++ line ∷ []) rest c) → AreRightBefore text (number + 1)
+right_past {v} {text} {number} at right others config =
+    right_more text number right (all_faults (λ f. ¬ HasFault text number f) others (λ c h. config c (line_fault at (fault.Config c) h)))
 
 pub not_nil : (front : List (List ℕ)) (last : List ℕ) → front ++ last ∷ [] ≢ []
 not_nil front last e = let n : length (front ++ last ∷ []) ≡ 0 = ap length e in omega (arith, length_push front last)
@@ -52,7 +56,7 @@ version_step {v} {text} {number} {line} {rest} at said = record {
   version = at.version;
   said = (said, tt);
   right = none_before text number (omega (arith, at.counted));
-  low = λ f lt g. below_config v [] line rest (VersionLine v) said refl tt f lt (line_fault at f g);
+  others = λ f other g. but_config v [] line rest (VersionLine v) said refl refl (fits v [] line (VersionLine v) said (λ forms all. refl)) f other (line_fault at f g);
 }
 
 module _ {v : Version} {text : List ℕ} {taken : ℕ} {left : List (List ℕ)} {forms : List Form} (h : HasRead v text taken left forms) where
@@ -81,9 +85,9 @@ module _ {v : Version} {text : List ℕ} {taken : ℕ} {left : List (List ℕ)} 
   }
 
   pub read_right : 0 < length left → IsClean → AreRightBefore text (taken + 1)
-  read_right full clean = right_past (last_at full) h.right h.low clean
+  read_right full clean = right_past (last_at full) h.right h.others clean
 
-  pub read_step : (line : List ℕ) (rest : List (List ℕ)) → left ≡ line ∷ rest → 0 < length rest → (form : Form) → Says v line form → IsPlaced v lines_read form → HasNoWireFault form → IsClean → HasRead v text (taken + 1) rest (forms ++ form ∷ [])
+  pub read_step : (line : List ℕ) (rest : List (List ℕ)) → left ≡ line ∷ rest → 0 < length rest → (form : Form) → Says v line form → IsPlaced v lines_read form → IsHarmless form → IsClean → HasRead v text (taken + 1) rest (forms ++ form ∷ [])
   read_step line rest is full form said placed whole clean =
       let at = read_line line rest is full in
       record {
@@ -94,7 +98,7 @@ module _ {v : Version} {text : List ℕ} {taken : ℕ} {left : List (List ℕ)} 
         version = at.version;
         said = said_push v lines_read forms line form h.said said;
         right = read_right (omega (arith, ap length is)) clean;
-        low = λ f lt g. below_config v lines_read line rest form said placed whole f lt (line_fault at f g);
+        others = λ f other g. but_config v lines_read line rest form said placed whole.readable (fits v lines_read line form said (λ fs all. whole.fit (front_of fs))) f other (line_fault at f g);
       }
 
   pub read_no_form : (line : List ℕ) (rest : List (List ℕ)) → left ≡ line ∷ rest → 0 < length rest → ((form : Form) → ¬ Says v line form) → IsClean → IsFirstFault text (taken + 1) fault.Line
@@ -121,18 +125,36 @@ pub router_order : (v : Version) (before : List (List ℕ)) → length before �
 router_order v before one (VersionLine version) other h = let n : length before ≡ 0 = ap length h in omega arith
 router_order v before one (RouterLine router) other h = other router refl
 router_order v before one (CompatLine compat) other h = omega arith
+router_order v before one (SerialLine serial) other h = omega arith
 router_order v before one (AreaLine id stub) other h = omega (arith, h.1.many, two_first v)
 router_order v before one (RangeLine area range) other h = omega (arith, h.1.many, two_first v)
+router_order v before one (HasInterfaceLine id i) other h = omega (arith, h.1.many, two_first v)
+router_order v before one (HasLsaLine at bytes) other h = omega (arith, h.1.many, two_first v)
 router_order v before one (BodyLine body) other h = omega (arith, two_first v)
 
--- and so in the third of version 2
-pub compat_order : (before : List (List ℕ)) → length before ≡ 2 → (form : Form) → ((compat : Bool) → form ≢ CompatLine compat) → ¬ IsPlaced Two before form
-compat_order before two (VersionLine version) other h = let n : length before ≡ 0 = ap length h in omega arith
-compat_order before two (RouterLine router) other h = omega arith
-compat_order before two (CompatLine compat) other h = other compat refl
-compat_order before two (AreaLine id stub) other h = omega (arith, h.1.many)
-compat_order before two (RangeLine area range) other h = omega (arith, h.1.many)
-compat_order before two (BodyLine body) other h = omega arith
+-- and so in the third from version 2 on
+pub compat_order : (v : Version) (before : List (List ℕ)) → v ≢ One → length before ≡ 2 → (form : Form) → ((compat : Bool) → form ≢ CompatLine compat) → ¬ IsPlaced v before form
+compat_order v before later two (VersionLine version) other h = let n : length before ≡ 0 = ap length h in omega arith
+compat_order v before later two (RouterLine router) other h = omega arith
+compat_order v before later two (CompatLine compat) other h = other compat refl
+compat_order v before later two (SerialLine serial) other h = omega arith
+compat_order v before later two (AreaLine id stub) other h = omega (arith, h.1.many, three_first v later)
+compat_order v before later two (RangeLine area range) other h = omega (arith, h.1.many, three_first v later)
+compat_order v before later two (HasInterfaceLine id i) other h = omega (arith, h.1.many, three_first v later)
+compat_order v before later two (HasLsaLine at bytes) other h = omega (arith, h.1.many, three_first v later)
+compat_order v before later two (BodyLine body) other h = omega (arith, three_first v later)
+
+-- and in the fourth of version 3
+pub serial_order : (before : List (List ℕ)) → length before ≡ 3 → (form : Form) → ((serial : ℕ) → form ≢ SerialLine serial) → ¬ IsPlaced Three before form
+serial_order before three (VersionLine version) other h = let n : length before ≡ 0 = ap length h in omega arith
+serial_order before three (RouterLine router) other h = omega arith
+serial_order before three (CompatLine compat) other h = omega arith
+serial_order before three (SerialLine serial) other h = other serial refl
+serial_order before three (AreaLine id stub) other h = omega (arith, h.1.many)
+serial_order before three (RangeLine area range) other h = omega (arith, h.1.many)
+serial_order before three (HasInterfaceLine id i) other h = omega (arith, h.1.many)
+serial_order before three (HasLsaLine at bytes) other h = omega (arith, h.1.many)
+serial_order before three (BodyLine body) other h = omega arith
 
 -- ---- the end of a header
 
@@ -157,60 +179,62 @@ end_full v (line ∷ rest) e = omega arith
 -- what there is to say of a form that may stand there
 pub record IsNextForm (v : Version) (before : List (List ℕ)) (form : Form) : Type 0 where
   pub placed : IsPlaced v before form
-  pub whole : HasNoWireFault form
+  pub whole : IsHarmless form
   pub header : is_of_header form ≡ true
 
-next_form : (v : Version) (before : List (List ℕ)) (config : Config) → AllSay v before (header_forms v config) → (form : Form) → is_next (headed config.areas) form ≡ true → IsNextForm v before form
-next_form v before config all (AreaLine id stub) next = record {
-  placed = (flat_map area_forms config.areas, said_header v before config all, subst (λ (f : Front). is_next f (AreaLine id stub) ≡ true) (sym (front_of_said config.areas)) next);
-  whole = tt;
+next_form : (v : Version) (before : List (List ℕ)) (b : Base) → AllSay v before (header_forms v b) → (form : Form) → is_next_area b.config.areas form ≡ true → IsNextForm v before form
+next_form v before b all (AreaLine id stub) next = record {
+  placed = (flat_map area_forms b.config.areas, said_header v before b all, subst (λ (f : Front). is_next f (AreaLine id stub) ≡ true) (sym (front_of_said b.config.areas)) next);
+  whole = record { readable = refl; fit = λ f. refl };
   header = refl;
 }
-next_form v before config all (RangeLine area range) next = record {
-  placed = (flat_map area_forms config.areas, said_header v before config all, subst (λ (f : Front). is_next f (RangeLine area range) ≡ true) (sym (front_of_said config.areas)) next);
-  whole = tt;
+next_form v before b all (RangeLine area range) next = record {
+  placed = (flat_map area_forms b.config.areas, said_header v before b all, subst (λ (f : Front). is_next f (RangeLine area range) ≡ true) (sym (front_of_said b.config.areas)) next);
+  whole = record { readable = refl; fit = λ f. refl };
   header = refl;
 }
-next_form v before config all (VersionLine version) next = cc
-next_form v before config all (RouterLine router) next = cc
-next_form v before config all (CompatLine compat) next = cc
-next_form v before config all (BodyLine body) next = cc
+next_form v before b all (VersionLine version) next = cc
+next_form v before b all (RouterLine router) next = cc
+next_form v before b all (CompatLine compat) next = cc
+next_form v before b all (SerialLine serial) next = cc
+next_form v before b all (HasInterfaceLine id i) next = cc
+next_form v before b all (HasLsaLine at bytes) next = cc
+next_form v before b all (BodyLine body) next = cc
 
 -- a line of the header that may stand behind these is next
-placed_next : (v : Version) (before : List (List ℕ)) (areas : List AreaConfig) → ((forms : List Form) → AreSaid v before forms → front_of forms ≡ headed areas) → (form : Form) → is_of_header form ≡ true → IsPlaced v before form → is_next (headed areas) form ≡ true
+placed_next : (v : Version) (before : List (List ℕ)) (areas : List AreaConfig) → ((forms : List Form) → AreSaid v before forms → front_of forms ≡ headed areas) → (form : Form) → is_of_header form ≡ true → IsPlaced v before form → is_next_area areas form ≡ true
 placed_next v before areas same (AreaLine id stub) here h = subst (λ (f : Front). is_next f (AreaLine id stub) ≡ true) (same h.0 h.1) h.2
 placed_next v before areas same (RangeLine area range) here h = subst (λ (f : Front). is_next f (RangeLine area range) ≡ true) (same h.0 h.1) h.2
 placed_next v before areas same (VersionLine version) here h = cc
 placed_next v before areas same (RouterLine router) here h = cc
 placed_next v before areas same (CompatLine compat) here h = cc
+placed_next v before areas same (SerialLine serial) here h = cc
+placed_next v before areas same (HasInterfaceLine id i) here h = cc
+placed_next v before areas same (HasLsaLine at bytes) here h = cc
 placed_next v before areas same (BodyLine body) here h = cc
 
 none_or_some : (o : Option ConfigFault) (f : ConfigFault) → o ≡ None → o ≡ Some f → ⊥
 none_or_some o f none some = cc
 
 -- what says a configuration, and one line more
-forms_more : (v : Version) (config : Config) (form : Form) → is_next (headed config.areas) form ≡ true → header_forms v config ++ form ∷ [] ≡ header_forms v (record config { areas = with_form config.areas form })
-forms_more v config form next =
-    let first : List Form = first_forms v config.router config.compat in
-    append_assoc first (flat_map area_forms config.areas) (form ∷ [])
-    ∙ ap (λ (fs : List Form). first ++ fs) (sym (said_more config.areas form next))
+forms_more : (v : Version) (b : Base) (form : Form) → is_next_area b.config.areas form ≡ true → header_forms v b ++ form ∷ [] ≡ header_forms v (with_areas b (with_form b.config.areas form))
+forms_more v b form next =
+    let first : List Form = first_forms v b in
+    append_assoc first (flat_map area_forms b.config.areas) (form ∷ [])
+    ∙ ap (λ (fs : List Form). first ++ fs) (sym (said_more b.config.areas form next))
 
 -- ---- the lines of the header
 
-pub not_one : (b : Bool) → Two ≡ One → b ≡ false
-not_one b same = cc
-
 -- a configuration without areas is said by the first lines alone
-pub header_begins : {v : Version} {text : List ℕ} {taken : ℕ} {left : List (List ℕ)} (config : Config) → config.areas ≡ [] → (v ≡ One → config.compat ≡ false) → HasRead v text taken left (first_forms v config.router config.compat) → HasHeader v text taken left config
-header_begins {v} {text} {taken} {left} config none compat h =
-    let first : List Form = first_forms v config.router config.compat in
-    record {
-      read = subst (HasRead v text taken left) (sym (ap (λ (areas : List AreaConfig). first ++ flat_map area_forms areas) none ∙ append-nil first)) h;
-      compat = compat;
-      ordered = subst IsOrdered (sym none) ordered_none;
-    }
+pub header_begins : {v : Version} {text : List ℕ} {taken : ℕ} {left : List (List ℕ)} (setting : Setting) → CanSpell v (headed_base setting []) → HasRead v text taken left (first_forms v (headed_base setting [])) → HasHeader v text taken left (headed_base setting [])
+header_begins {v} {text} {taken} {left} setting spelled h = record {
+  read = subst (HasRead v text taken left) (sym (append-nil (first_forms v (headed_base setting [])))) h;
+  spelled = spelled;
+  bare = record { interfaces = refl; lsas = refl };
+  ordered = ordered_none;
+}
 
-module _ {v : Version} {text : List ℕ} {taken : ℕ} {left : List (List ℕ)} {config : Config} (h : HasHeader v text taken left config) where
+module _ {v : Version} {text : List ℕ} {taken : ℕ} {left : List (List ℕ)} {b : Base} (h : HasHeader v text taken left b) where
   abbrev lines : List (List ℕ)
   lines = lines_read h.read
 
@@ -222,18 +246,19 @@ module _ {v : Version} {text : List ℕ} {taken : ℕ} {left : List (List ℕ)} 
   goes_on line rest is full form said here = more_clean (λ e. not_end v line rest full form said here (subst (EndsHeader v) is e))
 
   -- what says a configuration is the header
-  same_front : (forms : List Form) → AreSaid v lines forms → front_of forms ≡ headed config.areas
+  same_front : (forms : List Form) → AreSaid v lines forms → front_of forms ≡ headed b.config.areas
   same_front forms said =
-      ap front_of (forms_behind v lines config (flat_map area_forms config.areas) forms h.read.said said)
-      ∙ front_of_said config.areas
+      ap front_of (forms_behind v lines b (flat_map area_forms b.config.areas) forms h.read.said said)
+      ∙ front_of_said b.config.areas
 
-  pub header_step : (line : List ℕ) (rest : List (List ℕ)) → left ≡ line ∷ rest → 0 < length rest → (form : Form) → Says v line form → is_next (headed config.areas) form ≡ true → HasHeader v text (taken + 1) rest (record config { areas = with_form config.areas form })
+  pub header_step : (line : List ℕ) (rest : List (List ℕ)) → left ≡ line ∷ rest → 0 < length rest → (form : Form) → Says v line form → is_next_area b.config.areas form ≡ true → HasHeader v text (taken + 1) rest (with_areas b (with_form b.config.areas form))
   header_step line rest is full form said next =
-      let n = next_form v lines config h.read.said form next in
+      let n = next_form v lines b h.read.said form next in
       record {
-        read = subst (HasRead v text (taken + 1) rest) (forms_more v config form next) (read_step h.read line rest is full form said n.placed n.whole (goes_on line rest is full form said n.header));
-        compat = h.compat;
-        ordered = ordered_more config.areas form h.ordered next;
+        read = subst (HasRead v text (taken + 1) rest) (forms_more v b form next) (read_step h.read line rest is full form said n.placed n.whole (goes_on line rest is full form said n.header));
+        spelled = record { compat = h.spelled.compat; serial = h.spelled.serial; interfaces = h.spelled.interfaces; lsas = h.spelled.lsas };
+        bare = record { interfaces = h.bare.interfaces; lsas = h.bare.lsas };
+        ordered = ordered_more b.config.areas form h.ordered next;
       }
 
   -- where want of memory comes at a line of the header
@@ -247,40 +272,47 @@ module _ {v : Version} {text : List ℕ} {taken : ℕ} {left : List (List ℕ)} 
   pub header_last : 0 < length left → IsMemoryAt text taken
   header_last full = record { there = line_there (last_at h.read full); lines = h.read.right }
 
-  pub header_order : (line : List ℕ) (rest : List (List ℕ)) → left ≡ line ∷ rest → 0 < length rest → (form : Form) → Says v line form → is_of_header form ≡ true → is_next (headed config.areas) form ≡ false → IsFirstFault text (taken + 1) fault.Order
+  pub header_order : (line : List ℕ) (rest : List (List ℕ)) → left ≡ line ∷ rest → 0 < length rest → (form : Form) → Says v line form → is_of_header form ≡ true → is_next_area b.config.areas form ≡ false → IsFirstFault text (taken + 1) fault.Order
   header_order line rest is full form said here other =
-      read_order h.read line rest is full form said (λ placed. not_both (is_next (headed config.areas) form) (placed_next v lines config.areas same_front form here placed) other) (goes_on line rest is full form said here)
+      read_order h.read line rest is full form said (λ placed. not_both (is_next_area b.config.areas form) (placed_next v lines b.config.areas same_front form here placed) other) (goes_on line rest is full form said here)
 
   pub header_cut : (cut : List ℕ) → left ≡ cut ∷ [] → cut ≢ [] → IsFirstFault text (taken + 1) fault.Truncated
   header_cut cut is some = read_cut h.read cut is (inl some) (more_clean (λ e. some (subst (EndsHeader v) is e)))
 
-  pub header_config : EndsHeader v left → (f : ConfigFault) → config_fault_of config ≡ Some f → IsFirstFault text taken (fault.Config f)
+  pub header_config : EndsHeader v left → (f : ConfigFault) → config_fault_of b.config ≡ Some f → IsFirstFault text taken (fault.Config f)
   header_config ends f is =
       let fault_is : HasConfigFault v lines left f = record {
-        forms = flat_map area_forms config.areas;
-        header = said_header v lines config h.read.said;
-        alone = areas_not_begun config.areas;
+        forms = flat_map area_forms b.config.areas;
+        header = said_header v lines b h.read.said;
+        alone = areas_not_ended b.config.areas;
         ends = ends;
-        has = ap areas_fault_of (areas_of_said config.areas) ∙ is;
+        has = ap areas_fault_of (areas_of_said b.config.areas) ∙ is;
       } in
       record {
         has = has_line_fault (last_at h.read (end_full v left ends)) (fault.Config f) fault_is;
         lines = h.read.right;
-        faults = h.read.low;
+        faults = λ g lt. h.read.others g (λ e. omega arith);
       }
 
   -- the header is right, and ends
-  pub lines_begin : EndsHeader v left → config_fault_of config ≡ None → HasLines text taken left (record { version = v; config = config; lines = [] })
+  pub lines_begin : EndsHeader v left → config_fault_of b.config ≡ None → HasLines text taken left (record { version = v; base = b; lines = [] })
   lines_begin ends none =
       let clean : IsClean h.read = λ c g.
-      none_or_some (areas_fault_of config.areas) c none (sym (ap (λ (f : Front). areas_fault_of f.areas) (same_front g.forms g.header)) ∙ g.has) in
+      none_or_some (areas_fault_of b.config.areas) c none (sym (ap (λ (f : Front). areas_fault_of f.areas) (same_front g.forms g.header)) ∙ g.has) in
       record {
         before = lines;
         parts = h.read.parts;
         counted = omega (arith, h.read.counted, length_push h.read.earlier h.read.last);
         version = h.read.version;
-        said = subst (AllSay v lines) (sym (append-nil (header_forms v config))) h.read.said;
-        kept = record { version = h.compat; config = none; ordered = h.ordered; kinds = All-nil HasKind };
+        said = subst (AllSay v lines) (bare_forms v b h.bare) h.read.said;
+        kept = record {
+          spelled = h.spelled;
+          sound = bare_sound b h.bare h.ordered none;
+          ordered = bare_ordered b h.bare h.ordered;
+          kinds = All-nil HasKind;
+          lines = All-nil (IsLineIn v);
+        };
+        held = subst AreWhole (sym h.bare.lsas) (All-nil (λ x. IsWhole x.1));
         lsas = All-nil HasWholeLsa;
         ends = λ _. ends;
         right = read_right h.read (end_full v left ends) clean;

@@ -8,9 +8,14 @@ pub mod Saying
 pub mod Parts
 pub mod Sorting
 pub mod Areas
+pub mod Fronts
+pub mod BaseSound
+pub mod Rows
 pub mod AllSaid
 pub mod HeaderSteps
 pub mod HeaderLines
 pub mod LineSteps
+pub mod BaseSteps
+pub mod BaseRuns
 pub mod Beginning
 pub mod Only

@@ -1,6 +1,7 @@
 -- From line to line behind the header.
-use Rattle.std.proofs.Common.{ℕ, ◌≡◌, ◌≢◌, ◌+◌, ◌<◌, ◌≤◌, ◌++◌, true, false, not, List, [], ◌∷◌, length, map, refl, sym, ap, subst, ◌∙◌, inl, inr, arith, append_assoc}
-use Rattle.std.specs.List.{flat_map, join_with_byte}
+use Rattle.std.proofs.Common.{ℕ, ◌≡◌, ◌≢◌, ◌+◌, ◌<◌, ◌≤◌, ◌⊎◌, ◌++◌, ◌||◌, Bool, true, false, not, List, [], ◌∷◌, length, map, None, All, refl, sym, ap, subst, ◌∙◌, inl, inr, arith, append_assoc}
+use Rattle.std.specs.List.{flat_map, join_with_byte, list_any}
+use Rattle.std.proofs.lemmas.List.Folds.{list_any-append}
 use Rattle.std.proofs.lemmas.Bool.{and_parts, not-true}
 use Rattle.std.proofs.lemmas.List.{length_push, map-append}
 use Rattle.std.proofs.lemmas.List.Elements.{All-push}
@@ -8,80 +9,154 @@ use Rattle.std.proofs.lemmas.List.Splits.{join_with_byte-slice_split}
 use Rattle.lsa_codec.specs.Spelling.{spelling}
 use Rattle.lsa_codec.proofs.Again.{spelled_none}
 use Rattle.config_faults.specs.declared.fault.ConfigFault.{ConfigFault}
+use Rattle.event_state.specs.declared.base.Base.{Base}
 use Rattle.event_state.specs.declared.event.Event.TheVariants as event
-use Rattle.ospf_types.specs.declared.config.AreaConfig.{AreaConfig}
 use Rattle.recording.specs.declared.fault.Fault.{Fault}
 use Rattle.recording.specs.declared.fault.Fault.TheVariants as fault
 use Rattle.recording.specs.declared.line.Line.{Line}
 use Rattle.recording.specs.declared.line.Line.TheVariants as line_is
 use Rattle.recording.specs.declared.version.Version.{Version}
-use Rattle.recording.specs.Forms.{Form, Body, VersionLine, RouterLine, CompatLine, AreaLine, RangeLine, BodyLine, Says, AllSay, line_text}
-use Rattle.recording.specs.Places.{Front, AreSaid, IsPlaced, first_lines, front_of, has_begun, is_of_header, is_next, is_next_range, is_past_area, last_of}
+use Rattle.recording.specs.Forms.{Form, Body, VersionLine, RouterLine, CompatLine, SerialLine, AreaLine, RangeLine, HasInterfaceLine, HasLsaLine, BodyLine, IsOfVersion, Says, AllSay, line_text}
+use Rattle.recording.specs.Places.{Front, AreSaid, IsPlaced, first_lines, front_of, has_ended, is_of_base, is_of_body, is_of_header, is_next, is_next_area, unfit_at}
 use Rattle.recording.specs.Faults.{EndsHeader, HasConfigFault, IsFaultOf}
-use Rattle.recording.specs.Recordings.{RecordingValue, IsText, HasKind, HasWholeLsa, area_forms, first_forms, header_forms, form_of, forms_of, text_of_forms}
-use Rattle.recording.specs.Progress.{HasLines, IsLineOf, IsFaultBehind}
-use Rattle.recording.proofs.Areas.{begun_behind}
+use Rattle.recording.specs.Recordings.{RecordingValue, IsText, IsRecording, HasKind, HasWholeLsa, AreWhole, IsLineIn, area_forms, first_forms, form_of, forms_of, has_forms, text_of_forms}
+use Rattle.recording.specs.Progress.{HasLines, EndsBase, IsLineOf, IsFaultBehind, later_forms}
+use Rattle.recording.proofs.Areas.{ended_behind}
 use Rattle.recording.proofs.HeaderSteps.{not_both, right_past, of_end}
-use Rattle.recording.proofs.Parts.{IsLineAt, HasNoWireFault, line_fault, line_there, below_config, form_fault, order_fault, wire_fault, end_fault, two_first, version_push}
+use Rattle.recording.proofs.Parts.{IsLineAt, HasNoWireFault, fits, line_fault, line_there, but_config, form_fault, order_fault, wire_fault, end_fault, two_first, three_first, version_push}
 use Rattle.recording.proofs.AllSaid.{begun_with, said_push, said_legal, said_behind, forms_behind}
 
 -- ---- what stands behind the header
 
-pub not_of_header : (l : Line) → is_of_header (form_of l) ≡ true → ⊥
-not_of_header l h = cc
+-- where the header has ended no line of it may stand
+not_ended : (f : Front) (form : Form) → is_of_header form ≡ true → is_next f form ≡ true → f.ended ≡ false
+not_ended f (AreaLine id stub) here next = not-true f.ended (and_parts (not f.ended) (is_next_area f.areas (AreaLine id stub)) next).0
+not_ended f (RangeLine area range) here next = not-true f.ended (and_parts (not f.ended) (is_next_area f.areas (RangeLine area range)) next).0
+not_ended f (VersionLine version) here next = cc
+not_ended f (RouterLine router) here next = cc
+not_ended f (CompatLine compat) here next = cc
+not_ended f (SerialLine serial) here next = cc
+not_ended f (HasInterfaceLine id i) here next = cc
+not_ended f (HasLsaLine at bytes) here next = cc
+not_ended f (BodyLine body) here next = cc
 
--- where all lines are of the header, there are no others
-header_alone : (areas : List AreaConfig) (lines : List Line) → has_begun (flat_map area_forms areas ++ map form_of lines) ≡ false → lines ≡ []
-header_alone areas [] none = refl
-header_alone areas (l ∷ lines) none = absurd (not_both _ (begun_behind areas (form_of l) (map form_of lines) refl) none)
-
--- behind what has begun no line of the header may stand
-not_begun : (f : Front) (form : Form) → is_next f form ≡ true → f.begun ≡ false
-not_begun f (AreaLine id stub) next = not-true f.begun (and_parts (not f.begun) (is_past_area (last_of f.areas) id) next).0
-not_begun f (RangeLine area range) next = not-true f.begun (and_parts (not f.begun) (is_next_range (last_of f.areas) area range) next).0
-not_begun f (VersionLine version) next = cc
-not_begun f (RouterLine router) next = cc
-not_begun f (CompatLine compat) next = cc
-not_begun f (BodyLine body) next = cc
+-- and where something happened no line of the base
+not_begun : (f : Front) (form : Form) → is_of_base form ≡ true → is_next f form ≡ true → f.begun ≡ false
+not_begun f (HasInterfaceLine id i) here next = not-true f.begun (and_parts (not f.begun) _ next).0
+not_begun f (HasLsaLine at bytes) here next = not-true f.begun (and_parts (not f.begun) _ next).0
+not_begun f (AreaLine id stub) here next = cc
+not_begun f (RangeLine area range) here next = cc
+not_begun f (VersionLine version) here next = cc
+not_begun f (RouterLine router) here next = cc
+not_begun f (CompatLine compat) here next = cc
+not_begun f (SerialLine serial) here next = cc
+not_begun f (BodyLine body) here next = cc
 
 whole_behind : (l : Line) → HasWholeLsa l → HasNoWireFault (form_of l)
 whole_behind (line_is.Event (event.Install at lsa)) whole = spelled_none (spelling lsa) lsa whole.sound whole.spelled
-whole_behind (line_is.Event (event.Flush at key)) whole = tt
-whole_behind (line_is.Event (event.Purge at key)) whole = tt
-whole_behind (line_is.Event (event.Interface id area address peer up)) whole = tt
-whole_behind (line_is.Event event.Second) whole = tt
-whole_behind (line_is.Lookup address) whole = tt
-
-pushed_lines : (lines : List Line) (l : Line) → lines ++ l ∷ [] ≢ []
-pushed_lines lines l e = let n : length (lines ++ l ∷ []) ≡ 0 = ap length e in omega (arith, length_push lines l)
+whole_behind (line_is.Event (event.Flush at key)) whole = refl
+whole_behind (line_is.Event (event.Purge at key)) whole = refl
+whole_behind (line_is.Event (event.Interface id area address peer up)) whole = refl
+whole_behind (line_is.Event (event.RangeSet area prefix advertise)) whole = refl
+whole_behind (line_is.Event (event.RangeDrop area prefix)) whole = refl
+whole_behind (line_is.Event event.Second) whole = refl
+whole_behind (line_is.Lookup address) whole = refl
+whole_behind line_is.Roll whole = refl
 
 -- the lines, and one more of them
 abbrev with_line : RecordingValue → Line → RecordingValue
 with_line r l = record r { lines = r.lines ++ l ∷ [] }
 
-forms_push : (r : RecordingValue) (l : Line) → forms_of r ++ form_of l ∷ [] ≡ forms_of (with_line r l)
-forms_push r l =
-    append_assoc (header_forms r.version r.config) (map form_of r.lines) (form_of l ∷ [])
-    ∙ ap (λ (fs : List Form). header_forms r.version r.config ++ fs) (sym (map-append form_of r.lines (l ∷ [])))
+later_push : (r : RecordingValue) (l : Line) → later_forms (with_line r l) ≡ later_forms r ++ form_of l ∷ []
+later_push r l =
+    let hs : List Form = flat_map area_forms r.base.config.areas in
+    let bs : List Form = has_forms r.base in
+    ap (λ (fs : List Form). hs ++ (bs ++ fs)) (map-append form_of r.lines (l ∷ []))
+    ∙ ap (λ (fs : List Form). hs ++ fs) (sym (append_assoc bs (map form_of r.lines) (form_of l ∷ [])))
+    ∙ sym (append_assoc hs (bs ++ map form_of r.lines) (form_of l ∷ []))
+
+-- the first lines, and those behind them
+pub first_and_later : (r : RecordingValue) → forms_of r ≡ first_forms r.version r.base ++ later_forms r
+first_and_later r =
+    let first : List Form = first_forms r.version r.base in
+    let hs : List Form = flat_map area_forms r.base.config.areas in
+    let bs : List Form = has_forms r.base in
+    let ls : List Form = map form_of r.lines in
+    append_assoc (first ++ hs) bs ls ∙ append_assoc first hs (bs ++ ls)
 
 -- what the lines behind the first ones say
-behind_first : (r : RecordingValue) (before : List (List ℕ)) → AllSay r.version before (forms_of r)
-    → AllSay r.version before (begun_with r.version r.config (flat_map area_forms r.config.areas ++ map form_of r.lines))
-behind_first r before said =
-    subst (AllSay r.version before) (append_assoc (first_forms r.version r.config.router r.config.compat) (flat_map area_forms r.config.areas) (map form_of r.lines)) said
+behind_first : (r : RecordingValue) (before : List (List ℕ)) → AllSay r.version before (forms_of r) → AllSay r.version before (begun_with r.version r.base (later_forms r))
+behind_first r before said = subst (AllSay r.version before) (first_and_later r) said
 
-all_are : (r : RecordingValue) (before : List (List ℕ)) → AllSay r.version before (forms_of r) → (forms : List Form) → AreSaid r.version before forms → forms ≡ flat_map area_forms r.config.areas ++ map form_of r.lines
-all_are r before said forms all =
-    forms_behind r.version before r.config (flat_map area_forms r.config.areas ++ map form_of r.lines) forms (behind_first r before said) all
+all_are : (r : RecordingValue) (before : List (List ℕ)) → AllSay r.version before (forms_of r) → (forms : List Form) → AreSaid r.version before forms → forms ≡ later_forms r
+all_are r before said forms all = forms_behind r.version before r.base (later_forms r) forms (behind_first r before said) all
+
+pub pushed_lines : (lines : List Line) (l : Line) → lines ++ l ∷ [] ≢ []
+pushed_lines lines l e = let n : length (lines ++ l ∷ []) ≡ 0 = ap length e in omega (arith, length_push lines l)
+
+none_or_more : {X : Type 0} (xs : List X) → (xs ≡ []) ⊎ (xs ≢ [])
+none_or_more [] = inl refl
+none_or_more (x ∷ xs) = inr (λ e. cc)
+
+either_is : (a b : Bool) → b ≡ true → (a || b) ≡ true
+either_is true b is = refl
+either_is false b is = is
+
+-- a line of what happened came
+happened : (hs bs : List Form) (lines : List Line) → lines ≢ [] → list_any is_of_body (hs ++ (bs ++ map form_of lines)) ≡ true
+happened hs bs [] some = absurd (some refl)
+happened hs bs (l ∷ lines) some =
+    let ls : List Form = map form_of (l ∷ lines) in
+    list_any-append is_of_body hs (bs ++ ls)
+    ∙ either_is (list_any is_of_body hs) _ (list_any-append is_of_body bs ls ∙ either_is (list_any is_of_body bs) _ refl)
+
+base_over : (v : Version) (line : List ℕ) (rest : List (List ℕ)) → 0 < length rest → EndsBase v (line ∷ rest) → (form : Form) → Says v line form → is_of_base form ≢ true
+base_over v line [] full e = absurd (omega arith)
+base_over v line (next ∷ more) full e = e
+
+-- a recording of which the lines read so far and one more are
+pub record IsLonger (r : RecordingValue) (form : Form) (b : Base) (lines : List Line) : Type 0 where
+  pub first : first_forms r.version b ≡ first_forms r.version r.base
+  pub later : later_forms (record { version = r.version; base = b; lines = lines }) ≡ later_forms r ++ form ∷ []
+  pub kept : IsRecording (record { version = r.version; base = b; lines = lines })
+  pub held : AreWhole b.lsas
+  pub lsas : All HasWholeLsa lines
+
+longer_forms : (r : RecordingValue) (form : Form) (b : Base) (lines : List Line) → IsLonger r form b lines → forms_of (record { version = r.version; base = b; lines = lines }) ≡ forms_of r ++ form ∷ []
+longer_forms r form b lines longer =
+    let s : RecordingValue = record { version = r.version; base = b; lines = lines } in
+    first_and_later s
+    ∙ ap (λ (fs : List Form). fs ++ later_forms s) longer.first
+    ∙ ap (λ (fs : List Form). first_forms r.version r.base ++ fs) longer.later
+    ∙ sym (append_assoc (first_forms r.version r.base) (later_forms r) (form ∷ []))
+    ∙ ap (λ (fs : List Form). fs ++ form ∷ []) (sym (first_and_later r))
+
+pub own_behind : (v : Version) (l : Line) → IsLineIn v l → IsOfVersion v (form_of l)
+own_behind v (line_is.Event (event.Install at lsa)) own = tt
+own_behind v (line_is.Event (event.Flush at key)) own = tt
+own_behind v (line_is.Event (event.Purge at key)) own = tt
+own_behind v (line_is.Event (event.Interface id area address peer up)) own = tt
+own_behind v (line_is.Event (event.RangeSet area prefix advertise)) own = own
+own_behind v (line_is.Event (event.RangeDrop area prefix)) own = own
+own_behind v (line_is.Event event.Second) own = tt
+own_behind v (line_is.Lookup address) own = tt
+own_behind v line_is.Roll own = own
 
 module _ {text : List ℕ} {taken : ℕ} {left : List (List ℕ)} {r : RecordingValue} (h : HasLines text taken left r) where
   pub many_lines : first_lines r.version ≤ length h.before
-  many_lines = (said_behind r.version h.before r.config (flat_map area_forms r.config.areas ++ map form_of r.lines) (behind_first r h.before h.said)).many
+  many_lines = (said_behind r.version h.before r.base (later_forms r) (behind_first r h.before h.said)).many
 
-  not_first : h.before ≢ []
+  -- what the lines behind the first ones say
+  pub later_said : AreSaid r.version h.before (later_forms r)
+  later_said = said_behind r.version h.before r.base (later_forms r) (behind_first r h.before h.said)
+
+  pub later_are : (forms : List Form) → AreSaid r.version h.before forms → forms ≡ later_forms r
+  later_are forms all = all_are r h.before h.said forms all
+
+  pub not_first : h.before ≢ []
   not_first e = let n : length h.before ≡ 0 = ap length e in omega (arith, many_lines, two_first r.version)
 
-  line_at : (line : List ℕ) (rest : List (List ℕ)) → left ≡ line ∷ rest → 0 < length rest → IsLineAt r.version text (taken + 1) h.before line rest
+  pub line_at : (line : List ℕ) (rest : List (List ℕ)) → left ≡ line ∷ rest → 0 < length rest → IsLineAt r.version text (taken + 1) h.before line rest
   line_at line rest is full = record {
     parts = h.parts ∙ ap (λ (t : List (List ℕ)). h.before ++ t) is;
     full = full;
@@ -92,28 +167,69 @@ module _ {text : List ℕ} {taken : ℕ} {left : List (List ℕ)} {r : Recording
   -- a line of the header cannot stand here
   no_next : (line : List ℕ) (rest : List (List ℕ)) → left ≡ line ∷ rest → 0 < length rest → (form : Form) → Says r.version line form → is_of_header form ≡ true → (forms : List Form) → AreSaid r.version h.before forms → is_next (front_of forms) form ≡ true → ⊥
   no_next line rest is full form said here forms all next =
-      let none : r.lines ≡ [] = header_alone r.config.areas r.lines (ap has_begun (sym (all_are r h.before h.said forms all)) ∙ not_begun (front_of forms) form next) in
+      let none : has_ended (later_forms r) ≡ false = ap has_ended (sym (later_are forms all)) ∙ not_ended (front_of forms) form here next in
       of_end r.version line rest full (subst (EndsHeader r.version) is (h.ends none)) form said here
 
-  misplaced : (line : List ℕ) (rest : List (List ℕ)) → left ≡ line ∷ rest → 0 < length rest → (form : Form) → Says r.version line form → ((body : Body) → form ≢ BodyLine body) → ¬ IsPlaced r.version h.before form
-  misplaced line rest is full (VersionLine version) said other placed = not_first placed
-  misplaced line rest is full (RouterLine router) said other placed = omega (arith, many_lines, two_first r.version)
-  misplaced line rest is full (CompatLine compat) said other placed =
-      let three : first_lines r.version ≡ 3 = ap first_lines said.of_version in omega (arith, many_lines)
-  misplaced line rest is full (AreaLine id stub) said other placed = no_next line rest is full (AreaLine id stub) said refl placed.0 placed.1 placed.2
-  misplaced line rest is full (RangeLine area range) said other placed = no_next line rest is full (RangeLine area range) said refl placed.0 placed.1 placed.2
-  misplaced line rest is full (BodyLine body) said other placed = other body refl
+  -- a header does not end with a line that is none of it
+  pub no_config : (line : List ℕ) (rest : List (List ℕ)) (form : Form) → Says r.version line form → is_of_header form ≡ false → (c : ConfigFault) → ¬ HasConfigFault r.version (h.before ++ line ∷ []) rest c
+  no_config line rest form said other c g =
+      let said' : AllSay r.version (h.before ++ line ∷ []) (begun_with r.version r.base (later_forms r ++ form ∷ [])) =
+      subst (AllSay r.version (h.before ++ line ∷ [])) (append_assoc (first_forms r.version r.base) (later_forms r) (form ∷ [])) (said_push r.version h.before (begun_with r.version r.base (later_forms r)) line form (behind_first r h.before h.said) said) in
+      let are : g.forms ≡ later_forms r ++ form ∷ [] = forms_behind r.version (h.before ++ line ∷ []) r.base (later_forms r ++ form ∷ []) g.forms said' g.header in
+      not_both (has_ended g.forms) (ap has_ended are ∙ ended_behind (later_forms r) form other) g.alone
 
-  pub fault_behind : (line : List ℕ) (rest : List (List ℕ)) → left ≡ line ∷ rest → 0 < length rest → (f : Fault) → IsFaultBehind r.version line f → IsFaultOf text (record { line = taken + 1; fault = f })
-  fault_behind line rest is full fault.Truncated has = absurd has
-  fault_behind line rest is full fault.Version has = absurd has
-  fault_behind line rest is full fault.Line has = inr (form_fault (line_at line rest is full) h.right not_first has)
-  fault_behind line rest is full fault.Order has =
-      inr (order_fault (line_at line rest is full) h.right not_first has.0 has.1 (misplaced line rest is full has.0 has.1 has.2))
-  fault_behind line rest is full (fault.Wire f) has =
-      inr (wire_fault (line_at line rest is full) h.right has.0 has.1 f has.2 many_lines has.3)
-  fault_behind line rest is full (fault.Config f) has = absurd has
-  fault_behind line rest is full fault.Memory has = inl (refl, record { there = line_there (line_at line rest is full); lines = h.right })
+  -- one line more that is none of the header
+  pub longer_step : (line : List ℕ) (rest : List (List ℕ)) → left ≡ line ∷ rest → 0 < length rest → (form : Form) → Says r.version line form → is_of_header form ≡ false → IsPlaced r.version h.before form → HasNoWireFault form → ((forms : List Form) → AreSaid r.version h.before forms → unfit_at (front_of forms) form ≡ None)
+      → (b : Base) (lines : List Line) → IsLonger r form b lines → HasLines text (taken + 1) rest (record { version = r.version; base = b; lines = lines })
+  longer_step line rest is full form said other placed whole fit b lines longer =
+      let at = line_at line rest is full in
+      record {
+        before = h.before ++ line ∷ [];
+        parts = at.parts ∙ sym (append_assoc h.before (line ∷ []) rest);
+        counted = omega (arith, h.counted, length_push h.before line);
+        version = at.version;
+        said = subst (AllSay r.version (h.before ++ line ∷ [])) (sym (longer_forms r form b lines longer)) (said_push r.version h.before (forms_of r) line form h.said said);
+        kept = longer.kept;
+        held = longer.held;
+        lsas = longer.lsas;
+        ends = λ none. absurd (not_both (has_ended (later_forms r ++ form ∷ [])) (ended_behind (later_forms r) form other) (ap has_ended (sym longer.later) ∙ none));
+        right = right_past at h.right (λ f not_config g. but_config r.version h.before line rest form said placed whole (fits r.version h.before line form said fit) f not_config (line_fault at f g)) (no_config line rest form said other);
+      }
+
+  -- ---- a line of what happened
+
+  no_base : (line : List ℕ) (rest : List (List ℕ)) → left ≡ line ∷ rest → 0 < length rest → (r.lines ≡ [] → EndsBase r.version left) → (form : Form) → Says r.version line form → is_of_base form ≡ true → (forms : List Form) → AreSaid r.version h.before forms → is_next (front_of forms) form ≡ true → ⊥
+  no_base line rest is full base form said here forms all next =
+      elim (none_or_more r.lines) [
+        | inl none ↦ base_over r.version line rest full (subst (EndsBase r.version) is (base none)) form said here
+        | inr some ↦
+            not_both (list_any is_of_body (later_forms r)) (happened (flat_map area_forms r.base.config.areas) (has_forms r.base) r.lines some)
+            (ap (list_any is_of_body) (sym (later_are forms all)) ∙ not_begun (front_of forms) form here next)
+      ]
+
+  misplaced : (line : List ℕ) (rest : List (List ℕ)) → left ≡ line ∷ rest → 0 < length rest → (r.lines ≡ [] → EndsBase r.version left) → (form : Form) → Says r.version line form → ((body : Body) → form ≢ BodyLine body) → ¬ IsPlaced r.version h.before form
+  misplaced line rest is full base (VersionLine version) said other placed = not_first placed
+  misplaced line rest is full base (RouterLine router) said other placed = omega (arith, many_lines, two_first r.version)
+  misplaced line rest is full base (CompatLine compat) said other placed = omega (arith, many_lines, three_first r.version said.of_version)
+  misplaced line rest is full base (SerialLine serial) said other placed =
+      let four : first_lines r.version ≡ 4 = ap first_lines said.of_version in omega (arith, many_lines)
+  misplaced line rest is full base (AreaLine id stub) said other placed = no_next line rest is full (AreaLine id stub) said refl placed.0 placed.1 placed.2
+  misplaced line rest is full base (RangeLine area range) said other placed = no_next line rest is full (RangeLine area range) said refl placed.0 placed.1 placed.2
+  misplaced line rest is full base (HasInterfaceLine id i) said other placed = no_base line rest is full base (HasInterfaceLine id i) said refl placed.0 placed.1 placed.2
+  misplaced line rest is full base (HasLsaLine at bytes) said other placed = no_base line rest is full base (HasLsaLine at bytes) said refl placed.0 placed.1 placed.2
+  misplaced line rest is full base (BodyLine body) said other placed = other body refl
+
+  pub fault_behind : (line : List ℕ) (rest : List (List ℕ)) → left ≡ line ∷ rest → 0 < length rest → (r.lines ≡ [] → EndsBase r.version left) → (f : Fault) → IsFaultBehind r.version line f → IsFaultOf text (record { line = taken + 1; fault = f })
+  fault_behind line rest is full base fault.Truncated has = absurd has
+  fault_behind line rest is full base fault.Version has = absurd has
+  fault_behind line rest is full base fault.Line has = inr (form_fault (line_at line rest is full) h.right not_first has)
+  fault_behind line rest is full base fault.Order has =
+      inr (order_fault (line_at line rest is full) h.right not_first has.0 has.1 (misplaced line rest is full base has.0 has.1 has.2))
+  fault_behind line rest is full base (fault.Wire f) has =
+      inr (wire_fault (line_at line rest is full) h.right (BodyLine has.0) f has.1 many_lines has.2)
+  fault_behind line rest is full base (fault.Config f) has = absurd has
+  fault_behind line rest is full base (fault.Base u) has = absurd has
+  fault_behind line rest is full base fault.Memory has = inl (refl, record { there = line_there (line_at line rest is full); lines = h.right })
 
   pub cut_behind : (cut : List ℕ) → left ≡ cut ∷ [] → cut ≢ [] → IsFaultOf text (record { line = taken + 1; fault = fault.Truncated })
   cut_behind cut is some =
@@ -121,21 +237,19 @@ module _ {text : List ℕ} {taken : ℕ} {left : List (List ℕ)} {r : Recording
 
   pub line_step : (line : List ℕ) (rest : List (List ℕ)) → left ≡ line ∷ rest → 0 < length rest → (l : Line) → IsLineOf r.version line l → HasLines text (taken + 1) rest (record r { lines = r.lines ++ l ∷ [] })
   line_step line rest is full l of =
-      let at = line_at line rest is full in
-      let said : AllSay r.version (h.before ++ line ∷ []) (forms_of (with_line r l)) = subst (AllSay r.version (h.before ++ line ∷ [])) (forms_push r l) (said_push r.version h.before (forms_of r) line (form_of l) h.said of.said) in
-      let clean : (c : ConfigFault) → ¬ HasConfigFault r.version (h.before ++ line ∷ []) rest c = λ c g.
-      pushed_lines r.lines l (header_alone r.config.areas (r.lines ++ l ∷ []) (ap has_begun (sym (all_are (with_line r l) (h.before ++ line ∷ []) said g.forms g.header)) ∙ g.alone)) in
-      record {
-        before = h.before ++ line ∷ [];
-        parts = at.parts ∙ sym (append_assoc h.before (line ∷ []) rest);
-        counted = omega (arith, h.counted, length_push h.before line);
-        version = at.version;
-        said = said;
-        kept = record { version = h.kept.version; config = h.kept.config; ordered = h.kept.ordered; kinds = All-push HasKind r.lines l h.kept.kinds of.kind };
+      longer_step line rest is full (form_of l) of.said refl many_lines (whole_behind l of.whole) (λ forms all. refl) r.base (r.lines ++ l ∷ []) (record {
+        first = refl;
+        later = later_push r l;
+        kept = record {
+          spelled = h.kept.spelled;
+          sound = h.kept.sound;
+          ordered = h.kept.ordered;
+          kinds = All-push HasKind r.lines l h.kept.kinds of.kind;
+          lines = All-push (IsLineIn r.version) r.lines l h.kept.lines of.own;
+        };
+        held = h.held;
         lsas = All-push HasWholeLsa r.lines l h.lsas of.whole;
-        ends = λ e. absurd (pushed_lines r.lines l e);
-        right = right_past at h.right (λ f lt g. below_config r.version h.before line rest (form_of l) of.said many_lines (whole_behind l of.whole) f lt (line_fault at f g)) clean;
-      }
+      })
 
 -- ---- the whole text
 
@@ -160,6 +274,7 @@ whole_text {text} {taken} {left} {r} h is = record {
       ∙ ap (join_with_byte 10) (h.parts ∙ ap (λ (t : List (List ℕ)). h.before ++ t) is)
       ∙ joined r.version h.before (forms_of r) h.said;
   forms = said_legal r.version h.before (forms_of r) h.said;
+  held = h.held;
   lsas = h.lsas;
   kept = h.kept;
 }

@@ -1,34 +1,44 @@
 -- The text of a recording has no fault, and is that of no other.
-use Rattle.std.proofs.Common.{ℕ, ◌≡◌, ◌+◌, ◌<◌, ◌≤◌, ◌==◌, ◌++◌, Bool, true, false, cond, List, [], ◌∷◌, length, map, All, Result, Ok, Err, MatchResult, IfOk, IfErr, refl, sym, ap, subst, ◌∙◌, inl, inr, arith, append_assoc, append-nil, length-append}
-use Rattle.std.specs.List.{flat_map, filter, AllPass}
+use Rattle.std.proofs.Common.{ℕ, ◌≡◌, ◌≢◌, ◌+◌, ◌<◌, ◌≤◌, ◌==◌, ◌++◌, Bool, true, false, List, [], ◌∷◌, length, map, None, All, Result, Ok, Err, MatchResult, IfOk, IfErr, refl, sym, ap, subst, ◌∙◌, inl, inr, arith, append_assoc, append-nil, length-append}
+use Rattle.std.specs.List.{flat_map}
 use Rattle.std.proofs.lemmas.Bool.{cases_lt}
-use Rattle.std.proofs.lemmas.List.{map-append, append_cancel_left, append_cancel_right, nil_from_length, length_push}
-use Rattle.std.proofs.lemmas.List.Elements.{All-nil, All-cons, All-head, All-tail}
+use Rattle.std.proofs.lemmas.List.{map-append, append_cancel_right, nil_from_length, length_push}
+use Rattle.std.proofs.lemmas.List.Concat.{flat_map-append}
+use Rattle.std.proofs.lemmas.List.Elements.{All-nil, All-cons, All-append, All-head, All-tail}
 use Rattle.std.proofs.lemmas.List.Splits.{slice_split_at}
 use Rattle.lsa_codec.specs.Decoding.{lsa_of}
+use Rattle.lsa_codec.specs.Faults.{fault_of}
 use Rattle.lsa_codec.specs.Spelling.{spelling}
-use Rattle.lsa_codec.proofs.Again.{spelled_same}
+use Rattle.lsa_codec.proofs.Again.{spelled_none, spelled_same}
 use Rattle.ospf_types.specs.declared.config.AreaConfig.{AreaConfig}
-use Rattle.ospf_types.specs.declared.config.Config.{Config}
+use Rattle.ospf_types.specs.declared.config.Interface.{Interface}
+use Rattle.ospf_types.specs.declared.key.Scope.{Scope}
+use Rattle.ospf_types.specs.Lsa.{Lsa}
+use Rattle.event_state.specs.declared.base.Base.{Base}
 use Rattle.event_state.specs.declared.event.Event.TheVariants as event
 use Rattle.recording.specs.declared.fault.Fault.{Fault}
 use Rattle.recording.specs.declared.fault.Fault.TheVariants as fault
 use Rattle.recording.specs.declared.fault.LineFault.{LineFault}
+use Rattle.recording.specs.declared.header.Setting.{Setting}
 use Rattle.recording.specs.declared.line.Line.{Line}
 use Rattle.recording.specs.declared.line.Line.TheVariants as line_is
 use Rattle.recording.specs.declared.version.Version.{Version}
-use Rattle.recording.specs.declared.version.Version.TheVariants.{One, Two}
-use Rattle.recording.specs.Forms.{Form, VersionLine, RouterLine, CompatLine, AreaLine, RangeLine, BodyLine, InterfaceLine, InstallLine, FlushLine, PurgeLine, LookupLine, IsForm, IsOfVersion, Says, line_text}
-use Rattle.recording.specs.Places.{is_of_header, areas_from, areas_of, first_lines, headed, is_next, version_of, with_form}
+use Rattle.recording.specs.declared.version.Version.TheVariants.{One, Two, Three}
+use Rattle.recording.specs.Forms.{Form, VersionLine, RouterLine, CompatLine, SerialLine, AreaLine, RangeLine, HasInterfaceLine, HasLsaLine, BodyLine, InterfaceLine, InstallLine, FlushLine, PurgeLine, RangeSetLine, RangeDropLine, LookupLine, RollLine, IsForm, IsOfVersion, Says, line_text}
+use Rattle.recording.specs.Places.{areas_from, areas_of, first_lines, interfaces_in, is_next_area, is_of_header, lsas_in, unfit_lsa, version_of, with_form}
 use Rattle.recording.specs.Faults.{parts_of, EndsHeader, IsFaultOfEnd, IsFaultAt, HasFault, IsFaultOf}
-use Rattle.recording.specs.Recordings.{RecordingValue, IsText, HasKind, HasWholeLsa, area_forms, compat_forms, first_forms, form_of, forms_of, text_of_forms}
-use Rattle.recording.specs.Progress.{HasRead, HasHeader, HasLines, IsLineOf}
-use Rattle.recording.proofs.Areas.{InOrder, areas_in_order, areas_said, areas_of_said, areas_of_header, all_right}
+use Rattle.recording.specs.Recordings.{RecordingValue, IsRecording, IsText, CanSpell, HasKind, HasWholeLsa, AreWhole, IsBaseOrdered, IsLineIn, IsWhole, area_forms, first_forms, form_of, forms_of, front_forms, has_forms, interface_form, lsa_form, setting_forms, text_of_forms}
+use Rattle.recording.specs.Progress.{HasRead, HasHeader, HasLines, IsLineOf, IsTaken, headed_base, later_forms, with_areas}
+use Rattle.recording.proofs.Areas.{InOrder, areas_from-append, areas_in_order, areas_said, areas_of_header, all_right}
+use Rattle.recording.proofs.BaseRuns.{interface_fitted, interface_next, lsa_fitted, lsa_next}
+use Rattle.recording.proofs.BaseSound.{IsFit, usable_from}
+use Rattle.recording.proofs.BaseSteps.{base_step, of_base}
 use Rattle.recording.proofs.Forms.{says_one, line_one, no_line_feed}
-use Rattle.recording.proofs.HeaderSteps.{version_step, header_begins, header_step, lines_begin, to_end}
-use Rattle.recording.proofs.LineSteps.{not_of_header, line_step, many_lines}
+use Rattle.recording.proofs.Fronts.{areas_stay, base_areas, base_forms, base_interfaces, base_lsas, base_parts, lsa_again, none_mapped, none_passes}
+use Rattle.recording.proofs.HeaderSteps.{not_both, version_step, header_begins, header_step, lines_begin, to_end}
+use Rattle.recording.proofs.LineSteps.{first_and_later, line_step, many_lines, own_behind}
 use Rattle.recording.proofs.Parts.{fault_at}
-use Rattle.recording.proofs.Beginning.{one_few, two_few, counted, next_step_at}
+use Rattle.recording.proofs.Beginning.{one_few, two_few, three_few, counted, harmless_compat, harmless_router, harmless_serial, next_step_at}
 
 -- ---- the parts of the text
 
@@ -66,7 +76,10 @@ line_of (BodyLine (InterfaceLine id area address peer up)) = line_is.Event (even
 line_of (BodyLine (InstallLine at bytes)) = line_is.Event (event.Install at (lsa_of bytes))
 line_of (BodyLine (FlushLine at key)) = line_is.Event (event.Flush at key)
 line_of (BodyLine (PurgeLine at key)) = line_is.Event (event.Purge at key)
+line_of (BodyLine (RangeSetLine area range)) = line_is.Event (event.RangeSet area range.prefix range.advertise)
+line_of (BodyLine (RangeDropLine area prefix)) = line_is.Event (event.RangeDrop area prefix)
 line_of (BodyLine (LookupLine address)) = line_is.Lookup address
+line_of (BodyLine RollLine) = line_is.Roll
 line_of _ = line_is.Event event.Second
 
 line_again : (l : Line) → HasWholeLsa l → line_of (form_of l) ≡ l
@@ -75,59 +88,128 @@ line_again (line_is.Event (event.Install at lsa)) whole = ap (λ m. line_is.Even
 line_again (line_is.Event (event.Flush at key)) whole = refl
 line_again (line_is.Event (event.Purge at key)) whole = refl
 line_again (line_is.Event (event.Interface id area address peer up)) whole = refl
+line_again (line_is.Event (event.RangeSet area prefix advertise)) whole = refl
+line_again (line_is.Event (event.RangeDrop area prefix)) whole = refl
 line_again (line_is.Event event.Second) whole = refl
 line_again (line_is.Lookup address) whole = refl
+line_again line_is.Roll whole = refl
 
-lines_again : (lines : List Line) → All HasWholeLsa lines → map line_of (map form_of lines) ≡ lines
-lines_again [] all = refl
-lines_again (l ∷ lines) all =
-    let head : line_of (form_of l) ≡ l = line_again l (All-head HasWholeLsa l lines all) in
-    let tail : map line_of (map form_of lines) ≡ lines = lines_again lines (All-tail HasWholeLsa l lines all) in
-    cc
+-- the lines of what happened
+lines_in : Form → List Line
+lines_in (BodyLine body) = line_of (BodyLine body) ∷ []
+lines_in _ = []
 
-none_of_header : (lines : List Line) → filter is_of_header (map form_of lines) ≡ []
-none_of_header [] = refl
-none_of_header (l ∷ lines) = none_of_header lines
+header_lines : (form : Form) → is_of_header form ≡ true → lines_in form ≡ []
+unfolding lines_in
+header_lines (AreaLine id stub) here = refl
+header_lines (RangeLine area range) here = refl
+header_lines (VersionLine version) here = cc
+header_lines (RouterLine router) here = cc
+header_lines (CompatLine compat) here = cc
+header_lines (SerialLine serial) here = cc
+header_lines (HasInterfaceLine id i) here = cc
+header_lines (HasLsaLine at bytes) here = cc
+header_lines (BodyLine body) here = cc
 
-header_again : (hs : List Form) (lines : List Line) → AllPass is_of_header hs → filter is_of_header (hs ++ map form_of lines) ≡ hs
-header_again [] lines all = none_of_header lines
-header_again (f ∷ hs) lines all =
-    let P : Form → Type 0 = λ form. is_of_header form ≡ true in
-    let rest : List Form = filter is_of_header (hs ++ map form_of lines) in
-    ap (λ (b : Bool). cond b (f ∷ rest) rest) (All-head P f hs all) ∙ ap (λ (t : List Form). f ∷ t) (header_again hs lines (All-tail P f hs all))
+interface_lines : (x : ℕ × Interface) → lines_in (interface_form x) ≡ []
+unfolding lines_in
+interface_lines x = refl
 
-same_recording : (r s : RecordingValue) → r.version ≡ s.version → r.config.router ≡ s.config.router → r.config.compat ≡ s.config.compat → r.config.areas ≡ s.config.areas → r.lines ≡ s.lines → r ≡ s
-same_recording r s version router compat areas lines = λ i. record {
-  version = version i;
-  config = record { router = router i; compat = compat i; areas = areas i };
-  lines = lines i;
-}
+lsa_lines : (x : Scope × Lsa) → lines_in (lsa_form x) ≡ []
+unfolding lines_in
+lsa_lines x = refl
 
--- of one version what is said of RFC1583Compatibility, and the lines behind it
-compat_once : (v w : Version) (a b : Bool) (fs gs : List Form) → v ≡ w → (v ≡ One → a ≡ false) → (w ≡ One → b ≡ false) → compat_forms v a ++ fs ≡ compat_forms w b ++ gs → (a ≡ b) × (fs ≡ gs)
-compat_once One One a b fs gs same first second said = (first refl ∙ sym (second refl), said)
-compat_once One Two a b fs gs same first second said = cc
-compat_once Two One a b fs gs same first second said = cc
-compat_once Two Two a b fs gs same first second said =
+line_lines : (l : Line) → lines_in (form_of l) ≡ line_of (form_of l) ∷ []
+unfolding lines_in
+line_lines l = refl
+
+lines_said : (lines : List Line) → All HasWholeLsa lines → flat_map lines_in (map form_of lines) ≡ lines
+lines_said [] all = refl
+lines_said (l ∷ lines) all =
+    ap (λ (t : List Line). t ++ flat_map lines_in (map form_of lines)) (line_lines l)
+    ∙ ap (λ (m : Line). m ∷ flat_map lines_in (map form_of lines)) (line_again l (All-head HasWholeLsa l lines all))
+    ∙ ap (λ (t : List Line). l ∷ t) (lines_said lines (All-tail HasWholeLsa l lines all))
+
+base_lines : (b : Base) → flat_map lines_in (base_forms b) ≡ []
+base_lines b =
+    base_parts lines_in b [] [] (none_passes lines_in header_lines (flat_map area_forms b.config.areas) (areas_of_header b.config.areas)) (none_mapped lines_in interface_form interface_lines b.interfaces) (none_mapped lines_in lsa_form lsa_lines b.lsas)
+
+-- the lines of the base, and those of what happened
+base_and_lines : (r : RecordingValue) → later_forms r ≡ base_forms r.base ++ map form_of r.lines
+base_and_lines r = sym (append_assoc (flat_map area_forms r.base.config.areas) (has_forms r.base) (map form_of r.lines))
+
+later_parts : {X : Type 0} (f : Form → List X) (r : RecordingValue) (xs ys : List X) → flat_map f (base_forms r.base) ≡ xs → flat_map f (map form_of r.lines) ≡ ys → flat_map f (later_forms r) ≡ xs ++ ys
+later_parts {X} f r xs ys first second =
+    ap (flat_map f) (base_and_lines r)
+    ∙ flat_map-append f (base_forms r.base) (map form_of r.lines)
+    ∙ ap (λ (t : List X). t ++ flat_map f (map form_of r.lines)) first
+    ∙ ap (λ (t : List X). xs ++ t) second
+
+later_interfaces : (r : RecordingValue) → flat_map interfaces_in (later_forms r) ≡ r.base.interfaces
+later_interfaces r =
+    later_parts interfaces_in r r.base.interfaces [] (base_interfaces r.base) (none_mapped interfaces_in form_of (λ l. refl) r.lines) ∙ append-nil r.base.interfaces
+
+later_lsas : (r : RecordingValue) → AreWhole r.base.lsas → flat_map lsas_in (later_forms r) ≡ r.base.lsas
+later_lsas r whole = later_parts lsas_in r r.base.lsas [] (base_lsas r.base whole) (none_mapped lsas_in form_of (λ l. refl) r.lines) ∙ append-nil r.base.lsas
+
+later_lines : (r : RecordingValue) → All HasWholeLsa r.lines → flat_map lines_in (later_forms r) ≡ r.lines
+later_lines r whole = later_parts lines_in r [] r.lines (base_lines r.base) (lines_said r.lines whole)
+
+later_areas : (r : RecordingValue) → areas_of (later_forms r) ≡ r.base.config.areas
+later_areas r =
+    ap areas_of (base_and_lines r)
+    ∙ areas_from-append [] (base_forms r.base) (map form_of r.lines)
+    ∙ ap (λ (areas : List AreaConfig). areas_from areas (map form_of r.lines)) (base_areas r.base)
+    ∙ areas_stay form_of (λ areas l fs. refl) r.base.config.areas r.lines
+
+-- what the first lines of two recordings of one version say, and the lines behind them
+record AreSame (a b : Bool) (m n : ℕ) (fs gs : List Form) : Type 0 where
+  compat : a ≡ b
+  serial : m ≡ n
+  later : fs ≡ gs
+
+setting_once : (v w : Version) (a b : Bool) (m n : ℕ) (fs gs : List Form) → v ≡ w → (v ≡ One → a ≡ false) → (w ≡ One → b ≡ false) → (v ≢ Three → m ≡ 0) → (w ≢ Three → n ≡ 0)
+    → setting_forms v a m ++ fs ≡ setting_forms w b n ++ gs → AreSame a b m n fs gs
+setting_once One One a b m n fs gs same ca cb sm sn said =
+    record { compat = ca refl ∙ sym (cb refl); serial = sm (λ e. cc) ∙ sym (sn (λ e. cc)); later = said }
+setting_once Two Two a b m n fs gs same ca cb sm sn said =
     let line : CompatLine a ≡ CompatLine b = cc said in
-    let rest : fs ≡ gs = cc said in
-    (cc line, rest)
+    record { compat = cc line; serial = sm (λ e. cc) ∙ sym (sn (λ e. cc)); later = cc said }
+setting_once Three Three a b m n fs gs same ca cb sm sn said =
+    let line : CompatLine a ≡ CompatLine b = cc said in
+    let next : SerialLine m ≡ SerialLine n = cc said in
+    record { compat = cc line; serial = cc next; later = cc said }
+setting_once One Two a b m n fs gs same ca cb sm sn said = cc
+setting_once One Three a b m n fs gs same ca cb sm sn said = cc
+setting_once Two One a b m n fs gs same ca cb sm sn said = cc
+setting_once Two Three a b m n fs gs same ca cb sm sn said = cc
+setting_once Three One a b m n fs gs same ca cb sm sn said = cc
+setting_once Three Two a b m n fs gs same ca cb sm sn said = cc
+
+same_base : (b c : Base) → b.config.router ≡ c.config.router → b.config.compat ≡ c.config.compat → b.config.areas ≡ c.config.areas → b.serial ≡ c.serial → b.interfaces ≡ c.interfaces → b.lsas ≡ c.lsas → b ≡ c
+same_base b c router compat areas serial interfaces lsas = λ i. record {
+  config = record { router = router i; compat = compat i; areas = areas i };
+  serial = serial i;
+  interfaces = interfaces i;
+  lsas = lsas i;
+}
 
 pub text_once : {text : List ℕ} {r s : RecordingValue} → IsText text r → IsText text s → r ≡ s
 text_once {text} {r} {s} h k =
-    let same = forms_once h k in
-    let hs : List Form = flat_map area_forms r.config.areas in
-    let gs : List Form = flat_map area_forms s.config.areas in
+    let same : first_forms r.version r.base ++ later_forms r ≡ first_forms s.version s.base ++ later_forms s = sym (first_and_later r) ∙ forms_once h k ∙ first_and_later s in
     let first : VersionLine r.version ≡ VersionLine s.version = cc same in
     let version : r.version ≡ s.version = cc first in
-    let second : RouterLine r.config.router ≡ RouterLine s.config.router = cc same in
-    let others : (compat_forms r.version r.config.compat ++ hs) ++ map form_of r.lines ≡ (compat_forms s.version s.config.compat ++ gs) ++ map form_of s.lines = cc same in
-    let said = sym (append_assoc (compat_forms r.version r.config.compat) hs (map form_of r.lines)) ∙ others ∙ append_assoc (compat_forms s.version s.config.compat) gs (map form_of s.lines) in
-    let two = compat_once r.version s.version r.config.compat s.config.compat (hs ++ map form_of r.lines) (gs ++ map form_of s.lines) version h.kept.version k.kept.version said in
-    let behind : hs ++ map form_of r.lines ≡ gs ++ map form_of s.lines = two.1 in
-    let headers : hs ≡ gs = sym (header_again hs r.lines (areas_of_header r.config.areas)) ∙ ap (filter is_of_header) behind ∙ header_again gs s.lines (areas_of_header s.config.areas) in
-    let lines : map form_of r.lines ≡ map form_of s.lines = append_cancel_left gs (map form_of r.lines) (map form_of s.lines) (subst (λ (fs : List Form). fs ++ map form_of r.lines ≡ gs ++ map form_of s.lines) headers behind) in
-    same_recording r s version (cc second) two.0 (sym (areas_of_said r.config.areas) ∙ ap areas_of headers ∙ areas_of_said s.config.areas) (sym (lines_again r.lines h.lsas) ∙ ap (map line_of) lines ∙ lines_again s.lines k.lsas)
+    let second : RouterLine r.base.config.router ≡ RouterLine s.base.config.router = cc same in
+    let others : setting_forms r.version r.base.config.compat r.base.serial ++ later_forms r ≡ setting_forms s.version s.base.config.compat s.base.serial ++ later_forms s = cc same in
+    let set = setting_once r.version s.version r.base.config.compat s.base.config.compat r.base.serial s.base.serial (later_forms r) (later_forms s) version h.kept.spelled.compat k.kept.spelled.compat h.kept.spelled.serial k.kept.spelled.serial others in
+    let later : later_forms r ≡ later_forms s = set.later in
+    let base = same_base r.base s.base (cc second) set.compat
+    (sym (later_areas r) ∙ ap areas_of later ∙ later_areas s)
+    set.serial
+    (sym (later_interfaces r) ∙ ap (flat_map interfaces_in) later ∙ later_interfaces s)
+    (sym (later_lsas r h.held) ∙ ap (flat_map lsas_in) later ∙ later_lsas s k.held) in
+    let lines : r.lines ≡ s.lines = sym (later_lines r h.lsas) ∙ ap (flat_map lines_in) later ∙ later_lines s k.lsas in
+    λ i. record { version = version i; base = base i; lines = lines i }
 
 -- ---- it has no fault
 
@@ -135,9 +217,9 @@ record Lined (text : List ℕ) (rest : List (List ℕ)) (r : RecordingValue) : T
   taken : ℕ
   has : HasLines text taken rest r
 
-record Headed (v : Version) (text : List ℕ) (rest : List (List ℕ)) (config : Config) : Type 0 where
+record Headed (v : Version) (text : List ℕ) (rest : List (List ℕ)) (b : Base) : Type 0 where
   taken : ℕ
-  has : HasHeader v text taken rest config
+  has : HasHeader v text taken rest b
 
 full_after : (ls : List (List ℕ)) (rest : List (List ℕ)) → 0 < length rest → 0 < length (ls ++ rest)
 full_after ls rest full = omega (arith, length-append ls rest)
@@ -147,90 +229,244 @@ says_itself : (v : Version) (f : Form) → IsForm f → IsOfVersion v f → Says
 says_itself v f legal own = record { spelled = refl; legal = legal; of_version = own }
 
 -- a form of the header is one of each version
-own_header : (v : Version) (areas : List AreaConfig) (f : Form) → is_next (headed areas) f ≡ true → IsOfVersion v f
+own_header : (v : Version) (areas : List AreaConfig) (f : Form) → is_next_area areas f ≡ true → IsOfVersion v f
 own_header v areas (VersionLine version) next = cc
 own_header v areas (RouterLine router) next = cc
 own_header v areas (CompatLine compat) next = cc
+own_header v areas (SerialLine serial) next = cc
 own_header v areas (AreaLine id stub) next = tt
 own_header v areas (RangeLine area range) next = tt
+own_header v areas (HasInterfaceLine id i) next = cc
+own_header v areas (HasLsaLine at bytes) next = cc
 own_header v areas (BodyLine body) next = cc
 
-header_run : (v : Version) (text : List ℕ) (config : Config) (forms : List Form) (rest : List (List ℕ)) → 0 < length rest → All IsForm forms → InOrder config.areas forms → Headed v text (map line_text forms ++ rest) config → Headed v text rest (record config { areas = areas_from config.areas forms })
-header_run v text config [] rest full legal order h = h
-header_run v text config (f ∷ forms) rest full legal order h =
-    let said : Says v (line_text f) f = says_itself v f (All-head IsForm f forms legal) (own_header v config.areas f order.0) in
+header_run : (v : Version) (text : List ℕ) (b : Base) (forms : List Form) (rest : List (List ℕ)) → 0 < length rest → All IsForm forms → InOrder b.config.areas forms → Headed v text (map line_text forms ++ rest) b → Headed v text rest (with_areas b (areas_from b.config.areas forms))
+header_run v text b [] rest full legal order h = h
+header_run v text b (f ∷ forms) rest full legal order h =
+    let said : Says v (line_text f) f = says_itself v f (All-head IsForm f forms legal) (own_header v b.config.areas f order.0) in
     let next = header_step h.has (line_text f) (map line_text forms ++ rest) refl (full_after (map line_text forms) rest full) f said order.0 in
-    header_run v text (record config { areas = with_form config.areas f }) forms rest full (All-tail IsForm f forms legal) order.1 (record { taken = h.taken + 1; has = next })
+    header_run v text (with_areas b (with_form b.config.areas f)) forms rest full (All-tail IsForm f forms legal) order.1 (record { taken = h.taken + 1; has = next })
 
-lines_run : (text : List ℕ) (r : RecordingValue) (lines : List Line) (rest : List (List ℕ)) → 0 < length rest → All IsForm (map form_of lines) → All HasKind lines → All HasWholeLsa lines → Lined text (map line_text (map form_of lines) ++ rest) r → Lined text rest (record r { lines = r.lines ++ lines })
-lines_run text r [] rest full legal kinds whole h =
+lines_run : (text : List ℕ) (r : RecordingValue) (lines : List Line) (rest : List (List ℕ)) → 0 < length rest → All IsForm (map form_of lines) → All HasKind lines → All (IsLineIn r.version) lines → All HasWholeLsa lines → Lined text (map line_text (map form_of lines) ++ rest) r → Lined text rest (record r { lines = r.lines ++ lines })
+lines_run text r [] rest full legal kinds own whole h =
     subst (λ (ls : List Line). Lined text rest (record r { lines = ls })) (sym (append-nil r.lines)) h
-lines_run text r (l ∷ lines) rest full legal kinds whole h =
+lines_run text r (l ∷ lines) rest full legal kinds own whole h =
+    let mine : IsLineIn r.version l = All-head (IsLineIn r.version) l lines own in
     let of : IsLineOf r.version (line_text (form_of l)) l = record {
-      said = says_itself r.version (form_of l) (All-head IsForm (form_of l) (map form_of lines) legal) tt;
+      said = says_itself r.version (form_of l) (All-head IsForm (form_of l) (map form_of lines) legal) (own_behind r.version l mine);
       kind = All-head HasKind l lines kinds;
+      own = mine;
       whole = All-head HasWholeLsa l lines whole;
     } in
     let behind : List (List ℕ) = map line_text (map form_of lines) ++ rest in
     let next = line_step h.has (line_text (form_of l)) behind refl (full_after (map line_text (map form_of lines)) rest full) l of in
-    let last = lines_run text (record r { lines = r.lines ++ l ∷ [] }) lines rest full (All-tail IsForm (form_of l) (map form_of lines) legal) (All-tail HasKind l lines kinds) (All-tail HasWholeLsa l lines whole) (record { taken = h.taken + 1; has = next }) in
+    let last = lines_run text (record r { lines = r.lines ++ l ∷ [] }) lines rest full (All-tail IsForm (form_of l) (map form_of lines) legal) (All-tail HasKind l lines kinds) (All-tail (IsLineIn r.version) l lines own) (All-tail HasWholeLsa l lines whole) (record { taken = h.taken + 1; has = next }) in
     subst (λ (ls : List Line). Lined text rest (record r { lines = ls })) (append_assoc r.lines (l ∷ []) lines) last
-
--- behind a header come other lines, or nothing
-ends_there : (v : Version) (lines : List Line) → All IsForm (map form_of lines) → EndsHeader v (map line_text (map form_of lines) ++ [] ∷ [])
-ends_there v [] legal = refl
-ends_there v (l ∷ lines) legal =
-    let text : List ℕ = line_text (form_of l) in
-    let said : Says v text (form_of l) = says_itself v (form_of l) (All-head IsForm (form_of l) (map form_of lines) legal) tt in
-    to_end v text (map line_text (map form_of lines) ++ [] ∷ []) (full_after (map line_text (map form_of lines)) ([] ∷ []) (omega arith)) (λ form says here. not_of_header l (subst (λ f. is_of_header f ≡ true) (says_one text form (form_of l) says said) here))
 
 all_left : {X : Type 0} → (P : X → Type 0) (xs ys : List X) → All P (xs ++ ys) → All P xs
 all_left P [] ys all = All-nil P
 all_left P (x ∷ xs) ys all =
     All-cons P x xs (All-head P x (xs ++ ys) all) (all_left P xs ys (All-tail P x (xs ++ ys) all))
 
+-- ---- the lines of the base
+
+pushed : {X : Type 0} (xs : List X) (x : X) (ys : List X) → xs ++ x ∷ ys ≢ []
+pushed [] x ys e = cc
+pushed (y ∷ xs) x ys e = cc
+
+all_same : {X : Type 0} {P : Type 0} → P → (xs : List X) → All (λ x. P) xs
+all_same {X} {P} p [] = All-nil (λ x. P)
+all_same {X} {P} p (x ∷ xs) = All-cons (λ y. P) x xs p (all_same p xs)
+
+-- a version that spells one of a list is the third
+must_be_third : {X : Type 0} (v : Version) (xs ys : List X) (x : X) → (v ≢ Three → xs ++ x ∷ ys ≡ []) → v ≡ Three
+must_be_third One xs ys x none = absurd (pushed xs x ys (none (λ e. cc)))
+must_be_third Two xs ys x none = absurd (pushed xs x ys (none (λ e. cc)))
+must_be_third Three xs ys x none = refl
+
+-- the base, as far as its interfaces and LSAs are read
+abbrev read_base : Base → List (ℕ × Interface) → List (Scope × Lsa) → Base
+read_base b interfaces lsas = record { config = b.config; serial = b.serial; interfaces = interfaces; lsas = lsas }
+
+interfaces_run : (v : Version) (text : List ℕ) (b : Base) → CanSpell v b → IsBaseOrdered b → IsFit b → (xs ys : List (ℕ × Interface)) (rest : List (List ℕ)) → b.interfaces ≡ xs ++ ys → 0 < length rest → All IsForm (map interface_form ys)
+    → Lined text (map line_text (map interface_form ys) ++ rest) (of_base v (read_base b xs [])) → Lined text rest (of_base v (read_base b (xs ++ ys) []))
+interfaces_run v text b spelled ordered fit xs [] rest is full legal h =
+    subst (λ (t : List (ℕ × Interface)). Lined text rest (of_base v (read_base b t []))) (sym (append-nil xs)) h
+interfaces_run v text b spelled ordered fit xs (x ∷ ys) rest is full legal h =
+    let form : Form = interface_form x in
+    let own : v ≡ Three = must_be_third v xs ys x (λ other. sym is ∙ spelled.interfaces other) in
+    let said : Says v (line_text form) form = says_itself v form (All-head IsForm form (map interface_form ys) legal) own in
+    let takes : IsTaken (read_base b xs []) form = record {
+      next = interface_next b ordered xs x ys is;
+      readable = refl;
+      whole = tt;
+      fit = interface_fitted b fit xs x ys is;
+    } in
+    let behind : List (List ℕ) = map line_text (map interface_form ys) ++ rest in
+    let next = base_step h.has (line_text form) behind refl (full_after (map line_text (map interface_form ys)) rest full) form said refl takes in
+    let last = interfaces_run v text b spelled ordered fit (xs ++ x ∷ []) ys rest (is ∙ sym (append_assoc xs (x ∷ []) ys)) full (All-tail IsForm form (map interface_form ys) legal) (record { taken = h.taken + 1; has = next }) in
+    subst (λ (t : List (ℕ × Interface)). Lined text rest (of_base v (read_base b t []))) (append_assoc xs (x ∷ []) ys) last
+
+lsas_run : (v : Version) (text : List ℕ) (b : Base) → CanSpell v b → IsBaseOrdered b → IsFit b → (xs ys : List (Scope × Lsa)) (rest : List (List ℕ)) → b.lsas ≡ xs ++ ys → 0 < length rest → All IsForm (map lsa_form ys) → AreWhole ys
+    → Lined text (map line_text (map lsa_form ys) ++ rest) (of_base v (read_base b b.interfaces xs)) → Lined text rest (of_base v (read_base b b.interfaces (xs ++ ys)))
+lsas_run v text b spelled ordered fit xs [] rest is full legal whole h =
+    subst (λ (t : List (Scope × Lsa)). Lined text rest (of_base v (read_base b b.interfaces t))) (sym (append-nil xs)) h
+lsas_run v text b spelled ordered fit xs (x ∷ ys) rest is full legal whole h =
+    let form : Form = lsa_form x in
+    let W : Scope × Lsa → Type 0 = λ y. IsWhole y.1 in
+    let own : v ≡ Three = must_be_third v xs ys x (λ other. sym is ∙ spelled.lsas other) in
+    let said : Says v (line_text form) form = says_itself v form (All-head IsForm form (map lsa_form ys) legal) own in
+    let mine : IsWhole x.1 = All-head W x ys whole in
+    let again : lsa_of (spelling x.1) ≡ x.1 = lsa_again x.1 mine in
+    let readable : fault_of (spelling x.1) ≡ None = spelled_none (spelling x.1) x.1 mine.sound mine.spelled in
+    let takes : IsTaken (read_base b b.interfaces xs) form = record {
+      next = lsa_next b ordered xs x ys is again;
+      readable = readable;
+      whole = (subst IsWhole (sym again) mine, ap spelling again);
+      fit = ap (λ (l : Lsa). unfit_lsa b.config.areas xs (x.0, l)) again ∙ lsa_fitted b fit xs x ys is;
+    } in
+    let behind : List (List ℕ) = map line_text (map lsa_form ys) ++ rest in
+    let next = base_step h.has (line_text form) behind refl (full_after (map line_text (map lsa_form ys)) rest full) form said refl takes in
+    let same : (xs ++ (x.0, lsa_of (spelling x.1)) ∷ []) ≡ xs ++ x ∷ [] = ap (λ (l : Lsa). xs ++ (x.0, l) ∷ []) again in
+    let here : HasLines text (h.taken + 1) behind (of_base v (read_base b b.interfaces (xs ++ x ∷ []))) = subst (λ (t : List (Scope × Lsa)). HasLines text (h.taken + 1) behind (of_base v (read_base b b.interfaces t))) same next in
+    let last = lsas_run v text b spelled ordered fit (xs ++ x ∷ []) ys rest (is ∙ sym (append_assoc xs (x ∷ []) ys)) full (All-tail IsForm form (map lsa_form ys) legal) (All-tail W x ys whole) (record { taken = h.taken + 1; has = here }) in
+    subst (λ (t : List (Scope × Lsa)). Lined text rest (of_base v (read_base b b.interfaces t))) (append_assoc xs (x ∷ []) ys) last
+
+-- ---- all of them
+
+-- behind a header come other lines, or nothing
+ends_there : (v : Version) (forms : List Form) → All IsForm forms → All (IsOfVersion v) forms → All (λ f. is_of_header f ≡ false) forms → EndsHeader v (map line_text forms ++ [] ∷ [])
+ends_there v [] legal own others = refl
+ends_there v (f ∷ forms) legal own others =
+    let other : is_of_header f ≡ false = All-head (λ g. is_of_header g ≡ false) f forms others in
+    let said : Says v (line_text f) f = says_itself v f (All-head IsForm f forms legal) (All-head (IsOfVersion v) f forms own) in
+    to_end v (line_text f) (map line_text forms ++ [] ∷ []) (full_after (map line_text forms) ([] ∷ []) (omega arith))
+    (λ form says here. not_both (is_of_header f) (subst (λ (g : Form). is_of_header g ≡ true) (says_one (line_text f) form f says said) here) other)
+
+-- the forms of the base and of what happened are of the version, and none of a header
+record AreOthers (v : Version) (forms : List Form) : Type 0 where
+  own : All (IsOfVersion v) forms
+  others : All (λ f. is_of_header f ≡ false) forms
+
+others_append : (v : Version) (fs gs : List Form) → AreOthers v fs → AreOthers v gs → AreOthers v (fs ++ gs)
+others_append v fs gs first second = record {
+  own = All-append (IsOfVersion v) fs gs first.own second.own;
+  others = All-append (λ f. is_of_header f ≡ false) fs gs first.others second.others;
+}
+
+others_mapped : {X : Type 0} (v : Version) (g : X → Form) → ((x : X) → is_of_header (g x) ≡ false) → (xs : List X) → All (λ x. IsOfVersion v (g x)) xs → AreOthers v (map g xs)
+others_mapped v g other [] own = record { own = All-nil (IsOfVersion v); others = All-nil (λ f. is_of_header f ≡ false) }
+others_mapped {X} v g other (x ∷ xs) own =
+    let P : X → Type 0 = λ y. IsOfVersion v (g y) in
+    let rest = others_mapped v g other xs (All-tail P x xs own) in
+    record {
+      own = All-cons (IsOfVersion v) (g x) (map g xs) (All-head P x xs own) rest.own;
+      others = All-cons (λ f. is_of_header f ≡ false) (g x) (map g xs) (other x) rest.others;
+    }
+
+all_own : {X : Type 0} (v : Version) (xs : List X) → (v ≢ Three → xs ≡ []) → All (λ x. v ≡ Three) xs
+all_own v [] none = All-nil (λ x. v ≡ Three)
+all_own {X} v (x ∷ xs) none = let third : v ≡ Three = must_be_third v [] xs x none in all_same third (x ∷ xs)
+
+own_lines : (v : Version) (lines : List Line) → All (IsLineIn v) lines → All (λ l. IsOfVersion v (form_of l)) lines
+own_lines v [] all = All-nil (λ l. IsOfVersion v (form_of l))
+own_lines v (l ∷ lines) all =
+    All-cons (λ m. IsOfVersion v (form_of m)) l lines (own_behind v l (All-head (IsLineIn v) l lines all)) (own_lines v lines (All-tail (IsLineIn v) l lines all))
+
+others_later : (r : RecordingValue) → IsRecording r → AreOthers r.version (has_forms r.base ++ map form_of r.lines)
+others_later r kept =
+    let v : Version = r.version in
+    others_append v (has_forms r.base) (map form_of r.lines)
+    (others_append v (map interface_form r.base.interfaces) (map lsa_form r.base.lsas)
+    (others_mapped v interface_form (λ x. refl) r.base.interfaces (all_own v r.base.interfaces kept.spelled.interfaces))
+    (others_mapped v lsa_form (λ x. refl) r.base.lsas (all_own v r.base.lsas kept.spelled.lsas)))
+    (others_mapped v form_of (λ l. refl) r.lines (own_lines v r.lines kept.lines))
+
 -- reading the first lines
-first_run : (v : Version) (text : List ℕ) (config : Config) (rest : List (List ℕ)) → config.areas ≡ [] → (v ≡ One → config.compat ≡ false) → IsForm (RouterLine config.router) → 0 < length rest
-    → parts_of text ≡ map line_text (first_forms v config.router config.compat) ++ rest → Headed v text rest config
-first_run One text config rest none compat legal full parts =
-    let router : List ℕ = line_text (RouterLine config.router) in
+first_run : (v : Version) (text : List ℕ) (setting : Setting) (rest : List (List ℕ)) → CanSpell v (headed_base setting []) → IsForm (RouterLine setting.router) → IsForm (SerialLine setting.serial) → 0 < length rest
+    → parts_of text ≡ map line_text (first_forms v (headed_base setting [])) ++ rest → Headed v text rest (headed_base setting [])
+first_run One text setting rest spelled legal small full parts =
+    let router : List ℕ = line_text (RouterLine setting.router) in
     let first : HasRead One text 1 (router ∷ rest) (VersionLine One ∷ []) = version_step (record { parts = parts; full = omega arith; counted = refl; version = refl }) (says_itself One (VersionLine One) tt refl) in
-    let second = next_step_at first (one_few One) router rest refl full (RouterLine config.router) (says_itself One (RouterLine config.router) legal tt) (counted first (one_few One)) tt in
-    record { taken = 1 + 1; has = header_begins config none compat second }
-first_run Two text config rest none compat legal full parts =
-    let router : List ℕ = line_text (RouterLine config.router) in
-    let third : List ℕ = line_text (CompatLine config.compat) in
+    let second = next_step_at first (one_few One) router rest refl full (RouterLine setting.router) (says_itself One (RouterLine setting.router) legal tt) (counted first (one_few One)) (harmless_router setting.router) in
+    record { taken = 1 + 1; has = header_begins setting spelled second }
+first_run Two text setting rest spelled legal small full parts =
+    let router : List ℕ = line_text (RouterLine setting.router) in
+    let third : List ℕ = line_text (CompatLine setting.compat) in
+    let later : Two ≢ One = λ e. cc in
     let first : HasRead Two text 1 (router ∷ third ∷ rest) (VersionLine Two ∷ []) = version_step (record { parts = parts; full = omega arith; counted = refl; version = refl }) (says_itself Two (VersionLine Two) tt refl) in
-    let second = next_step_at first (one_few Two) router (third ∷ rest) refl (omega arith) (RouterLine config.router) (says_itself Two (RouterLine config.router) legal tt) (counted first (one_few Two)) tt in
-    let last = next_step_at second two_few third rest refl full (CompatLine config.compat) (says_itself Two (CompatLine config.compat) tt refl) (counted second two_few) tt in
-    record { taken = 1 + 1 + 1; has = header_begins config none compat last }
+    let second = next_step_at first (one_few Two) router (third ∷ rest) refl (omega arith) (RouterLine setting.router) (says_itself Two (RouterLine setting.router) legal tt) (counted first (one_few Two)) (harmless_router setting.router) in
+    let last = next_step_at second (two_few Two later) third rest refl full (CompatLine setting.compat) (says_itself Two (CompatLine setting.compat) tt later) (counted second (two_few Two later)) (harmless_compat setting.compat) in
+    record { taken = 1 + 1 + 1; has = header_begins setting spelled last }
+first_run Three text setting rest spelled legal small full parts =
+    let router : List ℕ = line_text (RouterLine setting.router) in
+    let third : List ℕ = line_text (CompatLine setting.compat) in
+    let fourth : List ℕ = line_text (SerialLine setting.serial) in
+    let later : Three ≢ One = λ e. cc in
+    let first : HasRead Three text 1 (router ∷ third ∷ fourth ∷ rest) (VersionLine Three ∷ []) = version_step (record { parts = parts; full = omega arith; counted = refl; version = refl }) (says_itself Three (VersionLine Three) tt refl) in
+    let second = next_step_at first (one_few Three) router (third ∷ fourth ∷ rest) refl (omega arith) (RouterLine setting.router) (says_itself Three (RouterLine setting.router) legal tt) (counted first (one_few Three)) (harmless_router setting.router) in
+    let next = next_step_at second (two_few Three later) third (fourth ∷ rest) refl (omega arith) (CompatLine setting.compat) (says_itself Three (CompatLine setting.compat) tt later) (counted second (two_few Three later)) (harmless_compat setting.compat) in
+    let last = next_step_at next three_few fourth rest refl full (SerialLine setting.serial) (says_itself Three (SerialLine setting.serial) small refl) (counted next three_few) (harmless_serial setting.serial) in
+    record { taken = 1 + 1 + 1 + 1; has = header_begins setting spelled last }
+
+-- the lines of two lists of forms, and what stands behind them
+told : (fs gs : List Form) (end : List (List ℕ)) → map line_text (fs ++ gs) ++ end ≡ map line_text fs ++ (map line_text gs ++ end)
+told fs gs end = ap (λ (t : List (List ℕ)). t ++ end) (map-append line_text fs gs) ∙ append_assoc (map line_text fs) (map line_text gs) end
+
+serial_legal : (v : Version) (b : Base) → CanSpell v b → All IsForm (first_forms v b) → IsForm (SerialLine b.serial)
+serial_legal One b spelled legal = let none : b.serial ≡ 0 = spelled.serial (λ e. cc) in omega (arith, none)
+serial_legal Two b spelled legal = let none : b.serial ≡ 0 = spelled.serial (λ e. cc) in omega (arith, none)
+serial_legal Three b spelled legal =
+    let router : Form = RouterLine b.config.router in
+    let compat : Form = CompatLine b.config.compat in
+    let serial : Form = SerialLine b.serial in
+    All-head IsForm serial [] (All-tail IsForm compat (serial ∷ []) (All-tail IsForm router (compat ∷ serial ∷ []) (All-tail IsForm (VersionLine Three) (router ∷ compat ∷ serial ∷ []) legal)))
+
+router_legal : (v : Version) (b : Base) → All IsForm (first_forms v b) → IsForm (RouterLine b.config.router)
+router_legal v b legal =
+    let setting : List Form = setting_forms v b.config.compat b.serial in
+    All-head IsForm (RouterLine b.config.router) setting (All-tail IsForm (VersionLine v) (RouterLine b.config.router ∷ setting) legal)
 
 -- reading the text from line to line
 text_run : {text : List ℕ} {r : RecordingValue} → IsText text r → Lined text ([] ∷ []) r
 text_run {text} {r} h =
     let v : Version = r.version in
-    let first : List Form = first_forms v r.config.router r.config.compat in
-    let hs : List Form = flat_map area_forms r.config.areas in
+    let b : Base = r.base in
+    let first : List Form = first_forms v b in
+    let hs : List Form = flat_map area_forms b.config.areas in
+    let is : List Form = map interface_form b.interfaces in
+    let held : List Form = map lsa_form b.lsas in
     let ls : List Form = map form_of r.lines in
     let end : List (List ℕ) = [] ∷ [] in
-    let behind : List (List ℕ) = map line_text ls ++ end in
-    let front : All IsForm (first ++ hs) = all_left IsForm (first ++ hs) ls h.forms in
-    let legal : All IsForm ls = all_right IsForm (first ++ hs) ls h.forms in
-    let parts : parts_of text ≡ map line_text first ++ (map line_text hs ++ behind) =
+    let fourth : List (List ℕ) = map line_text ls ++ end in
+    let third : List (List ℕ) = map line_text held ++ fourth in
+    let second : List (List ℕ) = map line_text is ++ third in
+    let full4 : 0 < length fourth = full_after (map line_text ls) end (omega arith) in
+    let full3 : 0 < length third = full_after (map line_text held) fourth full4 in
+    let full2 : 0 < length second = full_after (map line_text is) third full3 in
+    let front : All IsForm (front_forms v b) = all_left IsForm (front_forms v b) ls h.forms in
+    let head : All IsForm (first ++ hs) = all_left IsForm (first ++ hs) (is ++ held) front in
+    let base : All IsForm (is ++ held) = all_right IsForm (first ++ hs) (is ++ held) front in
+    let legal_first : All IsForm first = all_left IsForm first hs head in
+    let legal : All IsForm ls = all_right IsForm (front_forms v b) ls h.forms in
+    let parts : parts_of text ≡ map line_text first ++ (map line_text hs ++ second) =
     parts_of_text h
-    ∙ ap (λ (t : List (List ℕ)). t ++ end) (map-append line_text (first ++ hs) ls)
-    ∙ append_assoc (map line_text (first ++ hs)) (map line_text ls) end
-    ∙ ap (λ (t : List (List ℕ)). t ++ behind) (map-append line_text first hs)
-    ∙ append_assoc (map line_text first) (map line_text hs) behind in
-    let full : 0 < length behind = full_after (map line_text ls) end (omega arith) in
-    let more : 0 < length (map line_text hs ++ behind) = full_after (map line_text hs) behind full in
-    let none : Config = record r.config { areas = [] } in
-    let router : IsForm (RouterLine r.config.router) = (All-head IsForm (RouterLine r.config.router) (compat_forms v r.config.compat) (All-tail IsForm (VersionLine v) (RouterLine r.config.router ∷ compat_forms v r.config.compat) (all_left IsForm first hs front))) in
-    let begun = first_run v text none (map line_text hs ++ behind) refl h.kept.version router more parts in
-    let headed' = header_run v text none hs behind full (all_right IsForm first hs front) (areas_in_order [] r.config.areas h.kept.ordered) begun in
-    let header : Headed v text behind r.config = subst (λ (areas : List AreaConfig). Headed v text behind (record r.config { areas = areas })) (areas_said [] r.config.areas) headed' in
-    let begun' = lines_begin header.has (ends_there v r.lines legal) h.kept.config in
-    lines_run text (record { version = v; config = r.config; lines = [] }) r.lines end (omega arith) legal h.kept.kinds h.lsas (record { taken = header.taken; has = begun' })
+    ∙ told (front_forms v b) ls end
+    ∙ told (first ++ hs) (is ++ held) fourth
+    ∙ ap (λ (t : List (List ℕ)). map line_text (first ++ hs) ++ t) (told is held fourth)
+    ∙ told first hs second in
+    let setting : Setting = record { router = b.config.router; compat = b.config.compat; serial = b.serial } in
+    let spelled : CanSpell v (headed_base setting []) = record { compat = h.kept.spelled.compat; serial = h.kept.spelled.serial; interfaces = λ other. refl; lsas = λ other. refl } in
+    let begun = first_run v text setting (map line_text hs ++ second) spelled (router_legal v b legal_first) (serial_legal v b h.kept.spelled legal_first) (full_after (map line_text hs) second full2) parts in
+    let headed' = header_run v text (headed_base setting []) hs second full2 (all_right IsForm first hs head) (areas_in_order [] b.config.areas h.kept.ordered.areas) begun in
+    let header : Headed v text second (read_base b [] []) = subst (λ (areas : List AreaConfig). Headed v text second (headed_base setting areas)) (areas_said [] b.config.areas) headed' in
+    let later = others_later r h.kept in
+    let ends : EndsHeader v second = subst (EndsHeader v) (told (is ++ held) ls end ∙ told is held fourth) (ends_there v ((is ++ held) ++ ls) (All-append IsForm (is ++ held) ls base legal) later.own later.others) in
+    let usable = usable_from b h.kept.sound in
+    let begun' = lines_begin {taken = header.taken} header.has ends usable.config in
+    let interfaces = interfaces_run v text b h.kept.spelled h.kept.ordered usable.fit [] b.interfaces third refl full3 (all_left IsForm is held base) (record { taken = header.taken; has = begun' }) in
+    let lsas = lsas_run v text b h.kept.spelled h.kept.ordered usable.fit [] b.lsas fourth refl full4 (all_right IsForm is held base) h.held interfaces in
+    lines_run text (of_base v b) r.lines end (omega arith) legal h.kept.kinds h.kept.lines h.lsas lsas
 
 no_end_fault : (before : List (List ℕ)) (f : Fault) → first_lines (version_of before) ≤ length before → ¬ IsFaultOfEnd before [] f
 no_end_fault before fault.Truncated many h = elim h [ inl other ↦ other refl | inr few ↦ omega arith ]

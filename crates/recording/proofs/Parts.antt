@@ -1,18 +1,18 @@
 -- The faults of one line, at its one place in a text.
-use Rattle.std.proofs.Common.{ℕ, ◌≡◌, ◌≢◌, ◌⊎◌, ◌+◌, ◌<◌, ◌≤◌, ◌==◌, ◌++◌, List, [], ◌∷◌, length, take, drop, Some, None, Option, codes, refl, sym, ap, subst, ◌∙◌, inl, inr, arith}
+use Rattle.std.proofs.Common.{ℕ, ◌≡◌, ◌≢◌, ◌⊎◌, ◌+◌, ◌<◌, ◌≤◌, ◌==◌, ◌++◌, List, [], ◌∷◌, length, take, drop, Some, None, Option, refl, sym, ap, subst, ◌∙◌, inl, inr, arith}
 use Rattle.std.proofs.lemmas.Bool.{cases_lt}
 use Rattle.std.proofs.lemmas.List.{length-append, take_at, drop_at}
 use Rattle.std.proofs.lemmas.List.Splits.{length-slice_split}
-use Rattle.lsa_codec.specs.Faults.{fault_of}
 use Rattle.lsa_codec.specs.declared.fault.WireFault.{WireFault}
-use Rattle.ospf_types.specs.declared.key.Scope.{Scope}
+use Rattle.config_faults.specs.declared.fault.ConfigFault.{ConfigFault}
+use Rattle.event_state.specs.declared.base_fault.Unfit.{Unfit}
 use Rattle.recording.specs.declared.fault.Fault.{Fault}
 use Rattle.recording.specs.declared.fault.Fault.TheVariants as fault
 use Rattle.recording.specs.declared.version.Version.{Version}
-use Rattle.recording.specs.declared.version.Version.TheVariants.{One, Two}
-use Rattle.recording.specs.Forms.{Form, VersionLine, RouterLine, CompatLine, AreaLine, RangeLine, BodyLine, InstallLine, Says, line_text}
-use Rattle.recording.specs.Places.{IsPlaced, first_lines, version_of}
-use Rattle.recording.specs.Faults.{parts_of, IsFaultAt, IsFaultIn, IsFaultOfLine, HasFault, HasLine, IsFirstFault, AreRightBefore, number_of}
+use Rattle.recording.specs.declared.version.Version.TheVariants.{One, Two, Three}
+use Rattle.recording.specs.Forms.{Form, VersionLine, RouterLine, CompatLine, SerialLine, AreaLine, RangeLine, HasInterfaceLine, HasLsaLine, BodyLine, Says, line_text}
+use Rattle.recording.specs.Places.{AreSaid, Front, IsPlaced, first_lines, front_of, unfit_at, version_of, wire_fault_in}
+use Rattle.recording.specs.Faults.{parts_of, IsFaultAt, IsFaultIn, IsFaultOfLine, IsNoVersion, HasConfigFault, HasUnfit, HasFault, HasLine, IsFirstFault, AreRightBefore, number_of}
 use Rattle.recording.proofs.Forms.{says_one}
 
 -- ---- places
@@ -29,11 +29,19 @@ split_once a b c d e n =
 pub two_first : (v : Version) → 2 ≤ first_lines v
 two_first One = omega arith
 two_first Two = omega arith
+two_first Three = omega arith
+
+-- from version 2 on a third line comes first too
+pub three_first : (v : Version) → v ≢ One → 3 ≤ first_lines v
+three_first One later = absurd (later refl)
+three_first Two later = omega arith
+three_first Three later = omega arith
 
 -- the first line says the version
 pub version_said : (v : Version) (line : List ℕ) (others : List (List ℕ)) → line ≡ line_text (VersionLine v) → version_of (line ∷ others) ≡ v
 version_said One line others is = ap (λ (l : List ℕ). version_of (l ∷ others)) is
 version_said Two line others is = ap (λ (l : List ℕ). version_of (l ∷ others)) is
+version_said Three line others is = ap (λ (l : List ℕ). version_of (l ∷ others)) is
 
 pub version_push : (before : List (List ℕ)) (line : List ℕ) → before ≢ [] → version_of (before ++ line ∷ []) ≡ version_of before
 version_push [] line some = absurd (some refl)
@@ -102,6 +110,7 @@ below_version v before line rest fault.Line lt h = omega arith
 below_version v before line rest fault.Order lt h = omega arith
 below_version v before line rest (fault.Wire f) lt h = omega arith
 below_version v before line rest (fault.Config f) lt h = omega arith
+below_version v before line rest (fault.Base u) lt h = omega arith
 below_version v before line rest fault.Memory lt h = h
 
 -- a line behind the first
@@ -112,6 +121,7 @@ below_line v before line rest later fault.Line lt h = omega arith
 below_line v before line rest later fault.Order lt h = omega arith
 below_line v before line rest later (fault.Wire f) lt h = omega arith
 below_line v before line rest later (fault.Config f) lt h = omega arith
+below_line v before line rest later (fault.Base u) lt h = omega arith
 below_line v before line rest later fault.Memory lt h = h
 
 -- and it has a form
@@ -122,6 +132,7 @@ below_order v before line rest later form said fault.Line lt h = h form said
 below_order v before line rest later form said fault.Order lt h = omega arith
 below_order v before line rest later form said (fault.Wire f) lt h = omega arith
 below_order v before line rest later form said (fault.Config f) lt h = omega arith
+below_order v before line rest later form said (fault.Base u) lt h = omega arith
 below_order v before line rest later form said fault.Memory lt h = h
 
 -- the first line says a version, where it stands right
@@ -129,57 +140,95 @@ placed_first : (v : Version) (form : Form) → IsPlaced v [] form → (version :
 placed_first v (VersionLine version) h = (version, refl)
 placed_first v (RouterLine router) h = absurd (omega arith)
 placed_first v (CompatLine compat) h = absurd (omega arith)
+placed_first v (SerialLine serial) h = absurd (omega arith)
+placed_first v (HasInterfaceLine id i) h = absurd (omega (arith, h.1.many, two_first v))
+placed_first v (HasLsaLine at bytes) h = absurd (omega (arith, h.1.many, two_first v))
 placed_first v (AreaLine id stub) h = absurd (omega (arith, h.1.many, two_first v))
 placed_first v (RangeLine area range) h = absurd (omega (arith, h.1.many, two_first v))
 placed_first v (BodyLine body) h = absurd (omega (arith, two_first v))
 
-not_both_others : (version : Version) (line : List ℕ) → line ≡ line_text (VersionLine version) → line ≢ codes "abr 1" → line ≢ codes "abr 2" → ⊥
-not_both_others One line is one two = one is
-not_both_others Two line is one two = two is
-
-first_version : (v : Version) (before : List (List ℕ)) (line : List ℕ) (form : Form) → Says v line form → IsPlaced v before form → before ≡ [] → line ≢ codes "abr 1" → line ≢ codes "abr 2" → ⊥
-first_version v before line form said placed first one two =
-    let is = placed_first v form (subst (λ b. IsPlaced v b form) first placed) in
-    not_both_others is.0 line (said.spelled ∙ ap line_text is.1) one two
+first_version : (v : Version) (before : List (List ℕ)) (line : List ℕ) (form : Form) → Says v line form → IsPlaced v before form → before ≡ [] → IsNoVersion line → ⊥
+first_version v before line form said placed first none =
+    let is = placed_first v form (subst (λ b. IsPlaced v b form) first placed) in none is.0 (said.spelled ∙ ap line_text is.1)
 
 -- a form that may stand there
 pub below_wire : (v : Version) (before : List (List ℕ)) (line : List ℕ) (rest : List (List ℕ)) (form : Form) → Says v line form → IsPlaced v before form → (g : Fault) → number_of g < 54 → ¬ IsFaultIn v before line rest g
 below_wire v before line rest form said placed fault.Truncated lt h = h
-below_wire v before line rest form said placed fault.Version lt h = first_version v before line form said placed h.0 h.1 h.2
+below_wire v before line rest form said placed fault.Version lt h = first_version v before line form said placed h.0 h.1
 below_wire v before line rest form said placed fault.Line lt h = h form said
 below_wire v before line rest form said placed fault.Order lt h =
     h.2 (subst (λ f. IsPlaced v before f) (says_one line form h.0 said h.1) placed)
 below_wire v before line rest form said placed (fault.Wire f) lt h = omega arith
 below_wire v before line rest form said placed (fault.Config f) lt h = omega arith
+below_wire v before line rest form said placed (fault.Base u) lt h = omega arith
 below_wire v before line rest form said placed fault.Memory lt h = h
 
--- the bytes that a form has to install are an LSA
+-- the bytes that a form has are an LSA
 abbrev pub HasNoWireFault : Form → Type 0
-HasNoWireFault (BodyLine (InstallLine at bytes)) = fault_of bytes ≡ None
-HasNoWireFault _ = Unit {0}
+HasNoWireFault form = wire_fault_in form ≡ None
 
-none_not_some : (o : Option WireFault) (f : WireFault) → o ≡ None → o ≡ Some f → ⊥
-none_not_some o f none some = cc
+-- a form that has none of the later faults, whatever stands before it
+pub record IsHarmless (form : Form) : Type 0 where
+  pub readable : HasNoWireFault form
+  pub fit : (f : Front) → unfit_at f form ≡ None
+
+none_not_some : {X : Type 0} (o : Option X) (x : X) → o ≡ None → o ≡ Some x → ⊥
+none_not_some o x none some = cc
+
+-- what the line says fits what the lines before say
+pub fits : (v : Version) (before : List (List ℕ)) (line : List ℕ) (form : Form) → Says v line form → ((forms : List Form) → AreSaid v before forms → unfit_at (front_of forms) form ≡ None) → (u : Unfit) → ¬ HasUnfit v before line u
+fits v before line form said fit u h =
+    none_not_some (unfit_at (front_of h.forms) form) u (fit h.forms h.said) (subst (λ (f : Form). unfit_at (front_of h.forms) f ≡ Some u) (says_one line h.form form h.says said) h.has)
 
 -- and no fault of an LSA
-pub below_config : (v : Version) (before : List (List ℕ)) (line : List ℕ) (rest : List (List ℕ)) (form : Form) → Says v line form → IsPlaced v before form → HasNoWireFault form → (g : Fault) → number_of g < 55 → ¬ IsFaultIn v before line rest g
+below_config : (v : Version) (before : List (List ℕ)) (line : List ℕ) (rest : List (List ℕ)) (form : Form) → Says v line form → IsPlaced v before form → HasNoWireFault form → (g : Fault) → number_of g < 55 → ¬ IsFaultIn v before line rest g
 below_config v before line rest form said placed whole fault.Truncated lt h = h
-below_config v before line rest form said placed whole fault.Version lt h = first_version v before line form said placed h.0 h.1 h.2
+below_config v before line rest form said placed whole fault.Version lt h = first_version v before line form said placed h.0 h.1
 below_config v before line rest form said placed whole fault.Line lt h = h form said
 below_config v before line rest form said placed whole fault.Order lt h =
     below_wire v before line rest form said placed fault.Order (omega arith) h
 below_config v before line rest form said placed whole (fault.Wire f) lt h =
-    let none : HasNoWireFault (BodyLine (InstallLine h.0 h.1)) = subst HasNoWireFault (says_one line form (BodyLine (InstallLine h.0 h.1)) said h.2) whole in
-    none_not_some (fault_of h.1) f none h.3
+    none_not_some (wire_fault_in form) f whole (subst (λ (g : Form). wire_fault_in g ≡ Some f) (says_one line h.0 form h.1 said) h.2)
 below_config v before line rest form said placed whole (fault.Config f) lt h = omega arith
+below_config v before line rest form said placed whole (fault.Base u) lt h = omega arith
 below_config v before line rest form said placed whole fault.Memory lt h = h
+
+-- the only fault that the line may have is that of a configuration, where the header ends there
+pub but_config : (v : Version) (before : List (List ℕ)) (line : List ℕ) (rest : List (List ℕ)) (form : Form) → Says v line form → IsPlaced v before form → HasNoWireFault form → ((u : Unfit) → ¬ HasUnfit v before line u) → (g : Fault) → number_of g ≢ 55 → ¬ IsFaultIn v before line rest g
+but_config v before line rest form said placed whole fit (fault.Base u) other h = fit u h
+but_config v before line rest form said placed whole fit (fault.Config f) other h = other refl
+but_config v before line rest form said placed whole fit fault.Truncated other h = h
+but_config v before line rest form said placed whole fit fault.Version other h =
+    below_config v before line rest form said placed whole fault.Version (omega arith) h
+but_config v before line rest form said placed whole fit fault.Line other h =
+    below_config v before line rest form said placed whole fault.Line (omega arith) h
+but_config v before line rest form said placed whole fit fault.Order other h =
+    below_config v before line rest form said placed whole fault.Order (omega arith) h
+but_config v before line rest form said placed whole fit (fault.Wire f) other h =
+    below_config v before line rest form said placed whole (fault.Wire f) (omega arith) h
+but_config v before line rest form said placed whole fit fault.Memory other h = h
+
+-- no fault comes before that of a base
+below_base : (v : Version) (before : List (List ℕ)) (line : List ℕ) (rest : List (List ℕ)) (form : Form) → Says v line form → IsPlaced v before form → HasNoWireFault form → ((c : ConfigFault) → ¬ HasConfigFault v (before ++ line ∷ []) rest c) → (g : Fault) → number_of g < 56 → ¬ IsFaultIn v before line rest g
+below_base v before line rest form said placed whole clean (fault.Config f) lt h = clean f h
+below_base v before line rest form said placed whole clean (fault.Base u) lt h = omega arith
+below_base v before line rest form said placed whole clean fault.Truncated lt h = h
+below_base v before line rest form said placed whole clean fault.Version lt h =
+    below_config v before line rest form said placed whole fault.Version (omega arith) h
+below_base v before line rest form said placed whole clean fault.Line lt h =
+    below_config v before line rest form said placed whole fault.Line (omega arith) h
+below_base v before line rest form said placed whole clean fault.Order lt h =
+    below_config v before line rest form said placed whole fault.Order (omega arith) h
+below_base v before line rest form said placed whole clean (fault.Wire f) lt h =
+    below_config v before line rest form said placed whole (fault.Wire f) (omega arith) h
+below_base v before line rest form said placed whole clean fault.Memory lt h = h
 
 -- ---- the first fault
 
 -- the first line says no version
-pub version_fault : {text : List ℕ} {number : ℕ} {line : List ℕ} {rest : List (List ℕ)} → IsLineAt One text number [] line rest → line ≢ codes "abr 1" → line ≢ codes "abr 2" → IsFirstFault text number fault.Version
-version_fault {text} {number} {line} {rest} at one two = record {
-  has = has_line_fault at fault.Version (refl, one, two);
+pub version_fault : {text : List ℕ} {number : ℕ} {line : List ℕ} {rest : List (List ℕ)} → IsLineAt One text number [] line rest → IsNoVersion line → IsFirstFault text number fault.Version
+version_fault {text} {number} {line} {rest} at none = record {
+  has = has_line_fault at fault.Version (refl, none);
   lines = none_before text number (omega (arith, at.counted));
   faults = λ g lt h. below_version One [] line rest g lt (line_fault at g h);
 }
@@ -199,11 +248,18 @@ module _ {v : Version} {text : List ℕ} {number : ℕ} {before : List (List ℕ
     faults = λ g lt h. below_order v before line rest later form said g lt (line_fault at g h);
   }
 
-  pub wire_fault : (scope : Scope) (bytes : List ℕ) (f : WireFault) → Says v line (BodyLine (InstallLine scope bytes)) → IsPlaced v before (BodyLine (InstallLine scope bytes)) → fault_of bytes ≡ Some f → IsFirstFault text number (fault.Wire f)
-  wire_fault scope bytes f said placed has = record {
-    has = has_line_fault at (fault.Wire f) (scope, bytes, said, has);
+  pub wire_fault : (form : Form) (f : WireFault) → Says v line form → IsPlaced v before form → wire_fault_in form ≡ Some f → IsFirstFault text number (fault.Wire f)
+  wire_fault form f said placed has = record {
+    has = has_line_fault at (fault.Wire f) (form, said, has);
     lines = right;
-    faults = λ g lt h. below_wire v before line rest (BodyLine (InstallLine scope bytes)) said placed g lt (line_fault at g h);
+    faults = λ g lt h. below_wire v before line rest form said placed g lt (line_fault at g h);
+  }
+
+  pub base_fault : (form : Form) (u : Unfit) → Says v line form → IsPlaced v before form → HasNoWireFault form → ((c : ConfigFault) → ¬ HasConfigFault v (before ++ line ∷ []) rest c) → HasUnfit v before line u → IsFirstFault text number (fault.Base u)
+  base_fault form u said placed whole clean has = record {
+    has = has_line_fault at (fault.Base u) has;
+    lines = right;
+    faults = λ g lt h. below_base v before line rest form said placed whole clean g lt (line_fault at g h);
   }
 
 below_end : (before : List (List ℕ)) (left : List ℕ) (g : Fault) → number_of g < 50 → ¬ IsFaultAt before (left ∷ []) g
@@ -213,6 +269,7 @@ below_end before left fault.Line lt h = h
 below_end before left fault.Order lt h = h
 below_end before left (fault.Wire f) lt h = h
 below_end before left (fault.Config f) lt h = h
+below_end before left (fault.Base u) lt h = h
 below_end before left fault.Memory lt h = h
 
 -- a line without its line feed, or one of the first lines is missing

@@ -1,19 +1,23 @@
 -- The lines that several pieces make, as they are written one behind the other.
-use Rattle.std.proofs.Common.{◌≡◌, ◌∙◌, ◌++◌, ◌<◌, ◌≤◌, ◌+◌, List, [], ◌∷◌, ℕ, Bool, false, All, cond, length, take, map, get_or, ap, sym, subst, codes, append_assoc, append-nil}
+use Rattle.std.proofs.Common.{◌≡◌, ◌∙◌, ◌++◌, ◌<◌, ◌≤◌, ◌+◌, List, [], ◌∷◌, ℕ, Bool, All, cond, length, take, map, get_or, ap, sym, subst, codes, append_assoc, append-nil}
 use Rattle.std.specs.Prelude.{decimal}
 use Rattle.std.specs.List.{flat_map}
-use Rattle.std.proofs.lemmas.List.{take_more, take_all}
+use Rattle.std.proofs.lemmas.List.{get_or_default, take_more, take_all}
 use Rattle.std.proofs.lemmas.List.Concat.{flat_map-append, flat_map_single}
 use Rattle.std.proofs.lemmas.List.Elements.{All-nil, All-cons, All-append, All-more}
 use Rattle.ospf_types.specs.declared.config.AreaConfig.{AreaConfig}
-use Rattle.ospf_types.specs.declared.config.Config.{Config}
+use Rattle.ospf_types.specs.declared.config.Interface.{Interface}
 use Rattle.ospf_types.specs.declared.config.Range.{Range}
+use Rattle.ospf_types.specs.declared.key.Scope.{Scope}
+use Rattle.ospf_types.specs.declared.prefix.Prefix.{Prefix}
+use Rattle.ospf_types.specs.Lsa.{Lsa}
 use Rattle.ospf_types.specs.Text.{address_text, prefix_text}
+use Rattle.event_state.specs.declared.base.Base.{Base}
 use Rattle.recording.specs.declared.line.Line.{Line}
-use Rattle.recording.specs.Forms.{Form, AreaLine, RangeLine, BodyLine, InterfaceLine, IsForm}
-use Rattle.recording.specs.Recordings.{RecordingValue, form_of, forms_of, HasKind, HasWholeLsa, ended, text_of_forms, area_forms, first_forms, header_forms}
+use Rattle.recording.specs.Forms.{Form, VersionLine, RouterLine, CompatLine, SerialLine, AreaLine, RangeLine, HasInterfaceLine, BodyLine, InterfaceLine, RangeSetLine, RangeDropLine, IsForm}
+use Rattle.recording.specs.Recordings.{RecordingValue, form_of, forms_of, front_forms, has_forms, HasKind, HasWholeLsa, AreWhole, IsWhole, ended, text_of_forms, area_forms, first_forms, header_forms, interface_form, lsa_form}
 use Rattle.recording.specs.declared.version.Version.{Version}
-use Rattle.recording.specs.declared.version.Version.TheVariants.{One, Two}
+use Rattle.recording.specs.declared.version.Version.TheVariants.{One, Two, Three}
 
 three : (a b c : List ℕ) → a ++ 32 ∷ (b ++ 32 ∷ (c ++ 10 ∷ [])) ≡ (a ++ 32 ∷ (b ++ 32 ∷ c)) ++ 10 ∷ []
 three a b c = simp append_assoc
@@ -22,6 +26,10 @@ last_two : (a b : List ℕ) → a ++ 10 ∷ (codes "compat " ++ (b ++ 10 ∷ [])
 last_two a b =
     ap (λ (t : List ℕ). a ++ 10 ∷ (codes "compat " ++ t)) (sym (append-nil (b ++ 10 ∷ [])))
     ∙ sym (append_assoc a (10 ∷ []) (codes "compat " ++ ((b ++ 10 ∷ []) ++ [])))
+
+last_three : (a b c : List ℕ)
+    → a ++ 10 ∷ (codes "compat " ++ (b ++ 10 ∷ (codes "serial " ++ (c ++ 10 ∷ [])))) ≡ (a ++ 10 ∷ []) ++ (codes "compat " ++ ((b ++ 10 ∷ []) ++ (codes "serial " ++ ((c ++ 10 ∷ []) ++ []))))
+last_three a b c = simp (append_assoc, append-nil)
 
 five : (a b c d e : List ℕ)
     → a ++ 32 ∷ (b ++ 32 ∷ (c ++ 32 ∷ (d ++ 32 ∷ (e ++ 10 ∷ [])))) ≡ (a ++ 32 ∷ (b ++ 32 ∷ (c ++ 32 ∷ (d ++ 32 ∷ e)))) ++ 10 ∷ []
@@ -33,23 +41,48 @@ pub interface_printed : (old new state : List ℕ) (id area address peer : ℕ) 
 interface_printed old new state id area address peer up is written =
     written ∙ ap (λ (text : List ℕ). old ++ (codes "interface " ++ text)) (rw is (five (decimal id) (address_text area) (address_text address) (address_text peer) (cond up (codes "up") (codes "down"))))
 
+pub has_interface_printed : (old new state : List ℕ) (id : ℕ) (i : Interface) → state ≡ cond i.up (codes "up") (codes "down")
+    → new ≡ old ++ (codes "has interface " ++ (decimal id ++ 32 ∷ (address_text i.area ++ 32 ∷ (address_text i.address ++ 32 ∷ (address_text i.peer ++ 32 ∷ (state ++ 10 ∷ []))))))
+    → new ≡ old ++ ended (HasInterfaceLine id i)
+has_interface_printed old new state id i is written =
+    written ∙ ap (λ (text : List ℕ). old ++ (codes "has interface " ++ text)) (rw is (five (decimal id) (address_text i.area) (address_text i.address) (address_text i.peer) (cond i.up (codes "up") (codes "down"))))
+
 pub range_printed : (old new shown : List ℕ) (area : ℕ) (range : Range) → shown ≡ cond range.advertise (codes "advertise") (codes "hide")
     → new ≡ old ++ (codes "range " ++ (address_text area ++ 32 ∷ (prefix_text range.prefix ++ 32 ∷ (shown ++ 10 ∷ []))))
     → new ≡ old ++ ended (RangeLine area range)
 range_printed old new shown area range is written =
     written ∙ ap (λ (text : List ℕ). old ++ (codes "range " ++ text)) (rw is (three (address_text area) (prefix_text range.prefix) (cond range.advertise (codes "advertise") (codes "hide"))))
 
--- the two first lines of version 1, and the three of version 2
+pub range_set_printed : (old new shown : List ℕ) (area : ℕ) (range : Range) → shown ≡ cond range.advertise (codes "advertise") (codes "hide")
+    → new ≡ old ++ (codes "range-set " ++ (address_text area ++ 32 ∷ (prefix_text range.prefix ++ 32 ∷ (shown ++ 10 ∷ []))))
+    → new ≡ old ++ ended (BodyLine (RangeSetLine area range))
+range_set_printed old new shown area range is written =
+    written ∙ ap (λ (text : List ℕ). old ++ (codes "range-set " ++ text)) (rw is (three (address_text area) (prefix_text range.prefix) (cond range.advertise (codes "advertise") (codes "hide"))))
+
+two : (a b : List ℕ) → a ++ 32 ∷ (b ++ 10 ∷ []) ≡ (a ++ 32 ∷ b) ++ 10 ∷ []
+two a b = simp append_assoc
+
+pub range_drop_printed : (old new : List ℕ) (area : ℕ) (prefix : Prefix) → new ≡ old ++ (codes "range-drop " ++ (address_text area ++ 32 ∷ (prefix_text prefix ++ 10 ∷ [])))
+    → new ≡ old ++ ended (BodyLine (RangeDropLine area prefix))
+range_drop_printed old new area prefix written = written ∙ ap (λ (text : List ℕ). old ++ (codes "range-drop " ++ text)) (two (address_text area) (prefix_text prefix))
+
+-- the two first lines of version 1, the three of version 2, and the four of version 3
 pub two_printed : (old new : List ℕ) (router : ℕ) → new ≡ old ++ (codes "abr 1" ++ (10 ∷ (codes "router " ++ (address_text router ++ 10 ∷ []))))
-    → new ≡ old ++ text_of_forms (first_forms One router false)
+    → new ≡ old ++ text_of_forms (VersionLine One ∷ RouterLine router ∷ [])
 two_printed old new router written =
     written ∙ ap (λ (text : List ℕ). old ++ (codes "abr 1" ++ (10 ∷ (codes "router " ++ text)))) (sym (append-nil (address_text router ++ 10 ∷ [])))
 
 pub three_printed : (old new state : List ℕ) (router : ℕ) (compat : Bool) → state ≡ cond compat (codes "enabled") (codes "disabled")
     → new ≡ old ++ (codes "abr 2" ++ (10 ∷ (codes "router " ++ (address_text router ++ (10 ∷ (codes "compat " ++ (state ++ 10 ∷ [])))))))
-    → new ≡ old ++ text_of_forms (first_forms Two router compat)
+    → new ≡ old ++ text_of_forms (VersionLine Two ∷ RouterLine router ∷ CompatLine compat ∷ [])
 three_printed old new state router compat is written =
     written ∙ ap (λ (text : List ℕ). old ++ (codes "abr 2" ++ (10 ∷ (codes "router " ++ text)))) (rw is (last_two (address_text router) (cond compat (codes "enabled") (codes "disabled"))))
+
+pub four_printed : (old new state : List ℕ) (router : ℕ) (compat : Bool) (serial : ℕ) → state ≡ cond compat (codes "enabled") (codes "disabled")
+    → new ≡ old ++ (codes "abr 3" ++ (10 ∷ (codes "router " ++ (address_text router ++ (10 ∷ (codes "compat " ++ (state ++ (10 ∷ (codes "serial " ++ (decimal serial ++ 10 ∷ []))))))))))
+    → new ≡ old ++ text_of_forms (VersionLine Three ∷ RouterLine router ∷ CompatLine compat ∷ SerialLine serial ∷ [])
+four_printed old new state router compat serial is written =
+    written ∙ ap (λ (text : List ℕ). old ++ (codes "abr 3" ++ (10 ∷ (codes "router " ++ text)))) (rw is (last_three (address_text router) (cond compat (codes "enabled") (codes "disabled")) (decimal serial)))
 
 -- ---- lines, one after the other
 
@@ -85,6 +118,12 @@ appended_line {X = X} f old mid new xs k x below is h written legal =
     subst (Appended old new) (single (take (k + 1) xs))
     (appended_item (λ y. f y ∷ []) old mid new xs k x below is (subst (Appended old mid) (sym (single (take k xs))) h) line (All-cons IsForm (f x) [] legal (All-nil IsForm)))
 
+-- the line of the item that stands there
+pub appended_at : {X : Type 0} (f : X → Form) (old mid new : List ℕ) (xs : List X) (k : ℕ) (d : X) → k < length xs → Appended old mid (map f (take k xs))
+    → new ≡ mid ++ ended (f (get_or xs k d)) → IsForm (f (get_or xs k d)) → Appended old new (map f (take (k + 1) xs))
+appended_at f old mid new xs k d below h written legal =
+    appended_line f old mid new xs k (get_or xs k d) below (get_or_default xs k d (get_or xs k d) below) h written legal
+
 pub area_appended : (old mid new : List ℕ) (a : AreaConfig) (items : List Range) (k : ℕ) → items ≡ a.ranges → length items ≤ k → mid ≡ old ++ ended (AreaLine a.id a.stub) → IsForm (AreaLine a.id a.stub)
     → Appended mid new (map (λ (range : Range). RangeLine a.id range) (take k items)) → Appended old new (area_forms a)
 area_appended old mid new a items k is all written legal h =
@@ -96,13 +135,44 @@ area_appended old mid new a items k is all written legal h =
     let rest : Appended mid new (map f a.ranges) = subst (λ ranges. Appended mid new (map f ranges)) (take_all k items all ∙ is) h in
     appended_more old mid new (AreaLine a.id a.stub ∷ []) (map f a.ranges) first rest.text rest.legal
 
-pub header_appended : (old mid new : List ℕ) (v : Version) (config : Config) (items : List AreaConfig) (k : ℕ) → items ≡ config.areas → length items ≤ k
-    → mid ≡ old ++ text_of_forms (first_forms v config.router config.compat) → All IsForm (first_forms v config.router config.compat)
-    → Appended mid new (flat_map area_forms (take k items)) → Appended old new (header_forms v config)
-header_appended old mid new v config items k is all written legal h =
-    let first : Appended old mid (first_forms v config.router config.compat) = record { text = written; legal = legal } in
-    let rest : Appended mid new (flat_map area_forms config.areas) = subst (λ areas. Appended mid new (flat_map area_forms areas)) (take_all k items all ∙ is) h in
-    appended_more old mid new (first_forms v config.router config.compat) (flat_map area_forms config.areas) first rest.text rest.legal
+pub header_appended : (old mid new : List ℕ) (v : Version) (b : Base) (items : List AreaConfig) (k : ℕ) → items ≡ b.config.areas → length items ≤ k
+    → mid ≡ old ++ text_of_forms (first_forms v b) → All IsForm (first_forms v b)
+    → Appended mid new (flat_map area_forms (take k items)) → Appended old new (header_forms v b)
+header_appended old mid new v b items k is all written legal h =
+    let first : Appended old mid (first_forms v b) = record { text = written; legal = legal } in
+    let rest : Appended mid new (flat_map area_forms b.config.areas) = subst (λ areas. Appended mid new (flat_map area_forms areas)) (take_all k items all ∙ is) h in
+    appended_more old mid new (first_forms v b) (flat_map area_forms b.config.areas) first rest.text rest.legal
+
+-- the lines of all items
+pub mapped_appended : {X : Type 0} (f : X → Form) (old new : List ℕ) (xs items : List X) (k : ℕ) → items ≡ xs → length items ≤ k → Appended old new (map f (take k items)) → Appended old new (map f xs)
+mapped_appended f old new xs items k is all h = subst (λ ys. Appended old new (map f ys)) (take_all k items all ∙ is) h
+
+-- the header, the interfaces and the LSAs of a base
+pub front_appended : (old first second new : List ℕ) (v : Version) (b : Base) (interfaces : List (ℕ × Interface)) (lsas : List (Scope × Lsa)) → interfaces ≡ b.interfaces → lsas ≡ b.lsas
+    → Appended old first (header_forms v b) → Appended first second (map interface_form interfaces) → Appended second new (map lsa_form lsas) → Appended old new (front_forms v b)
+front_appended old first second new v b interfaces lsas same again header is ls =
+    let mid : Appended first second (map interface_form b.interfaces) = subst (λ xs. Appended first second (map interface_form xs)) same is in
+    let last : Appended second new (map lsa_form b.lsas) = subst (λ xs. Appended second new (map lsa_form xs)) again ls in
+    let both = appended_more first second new (map interface_form b.interfaces) (map lsa_form b.lsas) mid last.text last.legal in
+    appended_more old first new (header_forms v b) (has_forms b) header both.text both.legal
+
+-- the LSAs of a base that are written so far, and they are whole
+pub record LsasAppended (old new : List ℕ) (lsas : List (Scope × Lsa)) (k : ℕ) : Type 0 where
+  pub appended : Appended old new (map lsa_form (take k lsas))
+  pub whole : AreWhole (take k lsas)
+
+pub lsas_none : (old : List ℕ) (lsas : List (Scope × Lsa)) → LsasAppended old old lsas 0
+lsas_none old lsas = record { appended = appended_none old; whole = All-nil (λ x. IsWhole x.1) }
+
+pub lsas_item : (old mid new : List ℕ) (lsas : List (Scope × Lsa)) (k : ℕ) (x : Scope × Lsa) → k < length lsas → x ≡ get_or lsas k x → LsasAppended old mid lsas k
+    → new ≡ mid ++ ended (lsa_form x) → IsForm (lsa_form x) → IsWhole x.1 → LsasAppended old new lsas (k + 1)
+lsas_item old mid new lsas k x below is h written legal whole = record {
+  appended = appended_line lsa_form old mid new lsas k x below is h.appended written legal;
+  whole = All-more (λ y. IsWhole y.1) lsas k x below h.whole (subst (λ (y : Scope × Lsa). IsWhole y.1) is whole);
+}
+
+pub lsas_all : (old new : List ℕ) (lsas items : List (Scope × Lsa)) (k : ℕ) → items ≡ lsas → length items ≤ k → LsasAppended old new items k → Appended old new (map lsa_form lsas) × AreWhole lsas
+lsas_all old new lsas items k is all h = (mapped_appended lsa_form old new lsas items k is all h.appended, subst AreWhole (take_all k items all ∙ is) h.whole)
 
 -- ---- the lines behind the header
 
@@ -125,12 +195,12 @@ lines_none old lines = record { appended = appended_none old; lsas = All-nil Has
 pub piece_appended : (old new piece was line : List ℕ) → new ≡ old ++ piece → piece ≡ was ++ line → was ≡ [] → new ≡ old ++ line
 piece_appended old new piece was line added made empty = added ∙ ap (λ text. old ++ text) (made ∙ ap (λ text. text ++ line) empty)
 
--- the header and all lines
-pub recording_appended : (old mid new : List ℕ) (r : RecordingValue) (v : Version) (config : Config) (items : List Line) (k : ℕ) → v ≡ r.version → config ≡ r.config → items ≡ r.lines → length items ≤ k
-    → mid ≡ old ++ text_of_forms (header_forms v config) → All IsForm (header_forms v config) → LinesAppended mid new items k → Appended old new (forms_of r) × All HasWholeLsa r.lines
-recording_appended old mid new r v config items k version same is all written legal h =
+-- the base and all lines
+pub recording_appended : (old mid new : List ℕ) (r : RecordingValue) (v : Version) (b : Base) (items : List Line) (k : ℕ) → v ≡ r.version → b ≡ r.base → items ≡ r.lines → length items ≤ k
+    → mid ≡ old ++ text_of_forms (front_forms v b) → All IsForm (front_forms v b) → LinesAppended mid new items k → Appended old new (forms_of r) × All HasWholeLsa r.lines
+recording_appended old mid new r v b items k version same is all written legal h =
     let whole : take k items ≡ r.lines = take_all k items all ∙ is in
-    let at : Appended old mid (header_forms v r.config) = subst (λ header. Appended old mid (header_forms v header)) same (record { text = written; legal = legal }) in
-    let header : Appended old mid (header_forms r.version r.config) = subst (λ w. Appended old mid (header_forms w r.config)) version at in
+    let at : Appended old mid (front_forms v r.base) = subst (λ base. Appended old mid (front_forms v base)) same (record { text = written; legal = legal }) in
+    let front : Appended old mid (front_forms r.version r.base) = subst (λ w. Appended old mid (front_forms w r.base)) version at in
     let rest : Appended mid new (map form_of r.lines) = subst (λ lines. Appended mid new (map form_of lines)) whole h.appended in
-    (appended_more old mid new (header_forms r.version r.config) (map form_of r.lines) header rest.text rest.legal, subst (All HasWholeLsa) whole h.lsas)
+    (appended_more old mid new (front_forms r.version r.base) (map form_of r.lines) front rest.text rest.legal, subst (All HasWholeLsa) whole h.lsas)

@@ -1,16 +1,16 @@
 -- Why bytes are no recording: the first line that has a fault, and of its faults the first in their order.
-use Rattle.std.specs.Prelude.{ℕ, ◌≡◌, ◌≢◌, ◌<◌, ◌≤◌, ◌+◌, ◌==◌, ◌⊎◌, ◌++◌, List, [], ◌∷◌, length, Some, codes, true, false}
+use Rattle.std.specs.Prelude.{ℕ, ◌≡◌, ◌≢◌, ◌<◌, ◌≤◌, ◌+◌, ◌==◌, ◌⊎◌, ◌++◌, List, [], ◌∷◌, length, Some, true, false}
 use Rattle.std.specs.List.{slice_split}
-use Rattle.ospf_types.specs.declared.key.Scope.{Scope}
-use Rattle.lsa_codec.specs.Faults.{fault_of}
+use Rattle.event_state.specs.declared.base_fault.Unfit.{Unfit}
+use Rattle.lsa_codec.specs.declared.fault.WireFault.{WireFault}
 use Rattle.config_faults.specs.Configs.{areas_fault_of}
 use Rattle.config_faults.specs.declared.fault.ConfigFault.{ConfigFault}
 use Rattle.recording.specs.declared.fault.Fault.{Fault}
 use Rattle.recording.specs.declared.fault.Fault.TheVariants as fault
 use Rattle.recording.specs.declared.fault.LineFault.{LineFault}
 use Rattle.recording.specs.declared.version.Version.{Version}
-use Rattle.recording.specs.Forms.{Form, BodyLine, InstallLine, Says}
-use Rattle.recording.specs.Places.{AreSaid, IsPlaced, areas_of, first_lines, has_begun, is_of_header, version_of}
+use Rattle.recording.specs.Forms.{Form, VersionLine, Says, line_text}
+use Rattle.recording.specs.Places.{AreSaid, IsPlaced, areas_of, first_lines, front_of, has_ended, is_of_header, unfit_at, version_of, wire_fault_in}
 
 -- The parts that line feeds end, and last what stands behind the last line feed: a line without one, or nothing.
 abbrev pub parts_of : List ℕ → List (List ℕ)
@@ -26,7 +26,7 @@ EndsHeader v (line ∷ next ∷ more) = (form : Form) → Says v line form → i
 pub record HasConfigFault (v : Version) (lines after : List (List ℕ)) (f : ConfigFault) : Type 0 where
   pub forms : List Form
   pub header : AreSaid v lines forms
-  pub alone : has_begun forms ≡ false
+  pub alone : has_ended forms ≡ false
   pub ends : EndsHeader v after
   pub has : areas_fault_of (areas_of forms) ≡ Some f
 
@@ -34,14 +34,31 @@ pub record HasConfigFault (v : Version) (lines after : List (List ℕ)) (f : Con
 abbrev pub IsMisplaced : Version → List (List ℕ) → List ℕ → Type 0
 IsMisplaced v before line = (form : Form) × Says v line form × (¬ IsPlaced v before form)
 
+-- the bytes that the line has are no LSA
+abbrev pub HasWireFault : Version → List ℕ → WireFault → Type 0
+HasWireFault v line f = (form : Form) × Says v line form × (wire_fault_in form ≡ Some f)
+
+-- no event could have made the base that the lines and this one say
+pub record HasUnfit (v : Version) (before : List (List ℕ)) (line : List ℕ) (u : Unfit) : Type 0 where
+  pub form : Form
+  pub says : Says v line form
+  pub forms : List Form
+  pub said : AreSaid v before forms
+  pub has : unfit_at (front_of forms) form ≡ Some u
+
+-- the line is none that a recording of some version begins with
+abbrev pub IsNoVersion : List ℕ → Type 0
+IsNoVersion line = (version : Version) → line ≢ line_text (VersionLine version)
+
 -- a line that has its line feed has this fault in a recording of the version, behind these lines and before those parts
 abbrev pub IsFaultIn : Version → List (List ℕ) → List ℕ → List (List ℕ) → Fault → Type 0
 IsFaultIn v before line after fault.Truncated = ⊥
-IsFaultIn v before line after fault.Version = (before ≡ []) × (line ≢ codes "abr 1") × (line ≢ codes "abr 2")
+IsFaultIn v before line after fault.Version = (before ≡ []) × IsNoVersion line
 IsFaultIn v before line after fault.Line = (form : Form) → ¬ Says v line form
 IsFaultIn v before line after fault.Order = IsMisplaced v before line
-IsFaultIn v before line after (fault.Wire f) = (at : Scope) × (bytes : List ℕ) × Says v line (BodyLine (InstallLine at bytes)) × (fault_of bytes ≡ Some f)
+IsFaultIn v before line after (fault.Wire f) = HasWireFault v line f
 IsFaultIn v before line after (fault.Config f) = HasConfigFault v (before ++ line ∷ []) after f
+IsFaultIn v before line after (fault.Base u) = HasUnfit v before line u
 IsFaultIn v before line after fault.Memory = ⊥
 
 -- the version is that of the first line, which may be this one
@@ -75,6 +92,7 @@ number_of fault.Line = 52
 number_of fault.Order = 53
 number_of (fault.Wire f) = 54
 number_of (fault.Config f) = 55
+number_of (fault.Base u) = 56
 number_of fault.Memory = 30
 
 -- no line before this one has a fault

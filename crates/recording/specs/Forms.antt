@@ -1,7 +1,8 @@
 -- The lines of a recording: their words, and the one space between each two.
-use Rattle.std.specs.Prelude.{ℕ, ◌≡◌, ◌<◌, ◌≤◌, ◌^◌, Bool, cond, List, [], ◌∷◌, Option, Some, None, All, codes, decimal}
+use Rattle.std.specs.Prelude.{ℕ, ◌≡◌, ◌≢◌, ◌<◌, ◌≤◌, ◌^◌, Bool, cond, List, [], ◌∷◌, Option, Some, None, All, codes, decimal}
 use Rattle.std.specs.List.{join_with_byte}
 use Rattle.hex.specs.Hex.{encode_lower}
+use Rattle.ospf_types.specs.declared.config.Interface.{Interface}
 use Rattle.ospf_types.specs.declared.config.Range.{Range}
 use Rattle.ospf_types.specs.declared.config.Stub.{Stub}
 use Rattle.ospf_types.specs.declared.key.Key.{Key}
@@ -11,24 +12,31 @@ use Rattle.ospf_types.specs.declared.prefix.Prefix.{Prefix}
 use Rattle.ospf_types.specs.Masks.{masked}
 use Rattle.ospf_types.specs.Text.{address_text, prefix_text}
 use Rattle.recording.specs.declared.version.Version.{Version}
-use Rattle.recording.specs.declared.version.Version.TheVariants.{One, Two}
+use Rattle.recording.specs.declared.version.Version.TheVariants.{One, Two, Three}
 
--- what a line behind the header says: an event, or an address that is looked up
+-- what a line of what happened says: an event, an address that is looked up, or that the journal is rolled
 pub data Body : Type 0 where
   InterfaceLine : (id area address peer : ℕ) (up : Bool) → Body
   InstallLine : (at : Scope) (bytes : List ℕ) → Body
   FlushLine : (at : Scope) (key : Key) → Body
   PurgeLine : (at : Scope) (key : Key) → Body
+  RangeSetLine : (area : ℕ) (range : Range) → Body
+  RangeDropLine : (area : ℕ) (prefix : Prefix) → Body
   SecondLine : Body
   LookupLine : (address : ℕ) → Body
+  RollLine : Body
 
--- what a line says, by where it may stand: one of the first lines, one of the header, or one behind it
+-- what a line says, by where it may stand: one of the first lines, one of the header, one of the base behind it, or one
+-- of what happened
 pub data Form : Type 0 where
   VersionLine : (version : Version) → Form
   RouterLine : (router : ℕ) → Form
   CompatLine : (compat : Bool) → Form
+  SerialLine : (serial : ℕ) → Form
   AreaLine : (id : ℕ) (stub : Option Stub) → Form
   RangeLine : (area : ℕ) (range : Range) → Form
+  HasInterfaceLine : (id : ℕ) (interface : Interface) → Form
+  HasLsaLine : (at : Scope) (bytes : List ℕ) → Form
   BodyLine : (body : Body) → Form
 
 -- ---- words
@@ -36,6 +44,7 @@ pub data Form : Type 0 where
 abbrev pub version_word : Version → List ℕ
 version_word One = codes "1"
 version_word Two = codes "2"
+version_word Three = codes "3"
 
 -- the Area ID, or `as` for the database of AS-external-LSAs
 abbrev pub scope_text : Scope → List ℕ
@@ -51,22 +60,39 @@ stub_words (Some stub) = codes "stub" ∷ decimal stub.cost ∷ cond stub.summar
 abbrev pub key_words : Key → List (List ℕ)
 key_words key = decimal key.kind ∷ address_text key.id ∷ address_text key.router ∷ []
 
+-- the id, the Area ID, the address, that of the neighbour, and the state
+abbrev pub interface_words : (id : ℕ) (interface : Interface) → List (List ℕ)
+interface_words id i = decimal id ∷ address_text i.area ∷ address_text i.address ∷ address_text i.peer ∷ cond i.up (codes "up") (codes "down") ∷ []
+
+-- the database, and the bytes of an LSA
+abbrev pub lsa_words : (at : Scope) (bytes : List ℕ) → List (List ℕ)
+lsa_words at bytes = scope_text at ∷ encode_lower bytes ∷ []
+
+-- the Area ID, the network, and whether the range is advertised
+abbrev pub range_words : (area : ℕ) (range : Range) → List (List ℕ)
+range_words area range = address_text area ∷ prefix_text range.prefix ∷ cond range.advertise (codes "advertise") (codes "hide") ∷ []
+
 abbrev pub body_words : Body → List (List ℕ)
 body_words (InterfaceLine id area address peer up) =
-    codes "interface" ∷ decimal id ∷ address_text area ∷ address_text address ∷ address_text peer ∷ cond up (codes "up") (codes "down") ∷ []
-body_words (InstallLine at bytes) = codes "install" ∷ scope_text at ∷ encode_lower bytes ∷ []
+    codes "interface" ∷ interface_words id (record { area = area; address = address; peer = peer; up = up })
+body_words (InstallLine at bytes) = codes "install" ∷ lsa_words at bytes
 body_words (FlushLine at key) = codes "flush" ∷ scope_text at ∷ key_words key
 body_words (PurgeLine at key) = codes "purge" ∷ scope_text at ∷ key_words key
+body_words (RangeSetLine area range) = codes "range-set" ∷ range_words area range
+body_words (RangeDropLine area prefix) = codes "range-drop" ∷ address_text area ∷ prefix_text prefix ∷ []
 body_words SecondLine = codes "second" ∷ []
 body_words (LookupLine address) = codes "lookup" ∷ address_text address ∷ []
+body_words RollLine = codes "roll" ∷ []
 
 abbrev pub words_of : Form → List (List ℕ)
 words_of (VersionLine version) = codes "abr" ∷ version_word version ∷ []
 words_of (RouterLine router) = codes "router" ∷ address_text router ∷ []
 words_of (CompatLine compat) = codes "compat" ∷ cond compat (codes "enabled") (codes "disabled") ∷ []
+words_of (SerialLine serial) = codes "serial" ∷ decimal serial ∷ []
 words_of (AreaLine id stub) = codes "area" ∷ address_text id ∷ stub_words stub
-words_of (RangeLine area range) =
-    codes "range" ∷ address_text area ∷ prefix_text range.prefix ∷ cond range.advertise (codes "advertise") (codes "hide") ∷ []
+words_of (RangeLine area range) = codes "range" ∷ range_words area range
+words_of (HasInterfaceLine id interface) = codes "has" ∷ codes "interface" ∷ interface_words id interface
+words_of (HasLsaLine at bytes) = codes "has" ∷ codes "lsa" ∷ lsa_words at bytes
 words_of (BodyLine body) = body_words body
 
 -- without its line feed
@@ -102,29 +128,53 @@ abbrev pub IsStub : Option Stub → Type 0
 IsStub None = Unit {0}
 IsStub (Some stub) = stub.cost < 2 ^ 32
 
+abbrev pub IsSerial : ℕ → Type 0
+IsSerial serial = serial < 2 ^ 64
+
 abbrev pub IsInterface : (id area address peer : ℕ) → Type 0
 IsInterface id area address peer = (id < 2 ^ 8) × IsAddress area × IsAddress address × IsAddress peer
 
+abbrev pub AreBytes : List ℕ → Type 0
+AreBytes bytes = All (λ b. b < 2 ^ 8) bytes
+
 abbrev pub IsBody : Body → Type 0
 IsBody (InterfaceLine id area address peer up) = IsInterface id area address peer
-IsBody (InstallLine at bytes) = IsScope at × All (λ b. b < 2 ^ 8) bytes
+IsBody (InstallLine at bytes) = IsScope at × AreBytes bytes
 IsBody (FlushLine at key) = IsScope at × IsKey key
 IsBody (PurgeLine at key) = IsScope at × IsKey key
+IsBody (RangeSetLine area range) = IsAddress area × IsPrefix range.prefix
+IsBody (RangeDropLine area prefix) = IsAddress area × IsPrefix prefix
 IsBody SecondLine = Unit {0}
 IsBody (LookupLine address) = IsAddress address
+IsBody RollLine = Unit {0}
 
 abbrev pub IsForm : Form → Type 0
 IsForm (VersionLine version) = Unit {0}
 IsForm (RouterLine router) = IsAddress router
 IsForm (CompatLine compat) = Unit {0}
+IsForm (SerialLine serial) = IsSerial serial
 IsForm (AreaLine id stub) = IsAddress id × IsStub stub
 IsForm (RangeLine area range) = IsAddress area × IsPrefix range.prefix
+IsForm (HasInterfaceLine id i) = IsInterface id i.area i.address i.peer
+IsForm (HasLsaLine at bytes) = IsScope at × AreBytes bytes
 IsForm (BodyLine body) = IsBody body
 
--- the form is one of this version: its own first line, and from version 2 on a `compat` line
+-- ranges change and the journal is rolled in version 3 alone
+abbrev pub IsBodyOf : Version → Body → Type 0
+IsBodyOf v (RangeSetLine area range) = v ≡ Three
+IsBodyOf v (RangeDropLine area prefix) = v ≡ Three
+IsBodyOf v RollLine = v ≡ Three
+IsBodyOf v _ = Unit {0}
+
+-- the form is one of this version: its own first line, from version 2 on a `compat` line, and in version 3 the serial, the
+-- lines of the base, ranges that change, and rolls
 abbrev pub IsOfVersion : Version → Form → Type 0
 IsOfVersion v (VersionLine version) = version ≡ v
-IsOfVersion v (CompatLine compat) = v ≡ Two
+IsOfVersion v (CompatLine compat) = v ≢ One
+IsOfVersion v (SerialLine serial) = v ≡ Three
+IsOfVersion v (HasInterfaceLine id interface) = v ≡ Three
+IsOfVersion v (HasLsaLine at bytes) = v ≡ Three
+IsOfVersion v (BodyLine body) = IsBodyOf v body
 IsOfVersion v _ = Unit {0}
 
 -- the line of a recording of this version says this

@@ -4,9 +4,10 @@ use Rattle.std.specs.Borrow.{Bor}
 use Rattle.std.specs.List.{slice_split}
 use Rattle.hex.specs.Hex.{decode_of, encode_lower}
 use Rattle.hex.specs.declared.error.FromHexError.{FromHexError}
+use Rattle.ospf_types.specs.declared.config.Interface.{Interface}
 use Rattle.recording.specs.declared.form.LineForm.{LineForm}
 use Rattle.recording.specs.declared.form.LineForm.TheVariants as read
-use Rattle.recording.specs.Forms.{Form, VersionLine, RouterLine, CompatLine, AreaLine, RangeLine, BodyLine, InterfaceLine, InstallLine, FlushLine, PurgeLine, SecondLine, LookupLine, IsForm, words_of}
+use Rattle.recording.specs.Forms.{Form, VersionLine, RouterLine, CompatLine, SerialLine, AreaLine, RangeLine, HasInterfaceLine, HasLsaLine, BodyLine, InterfaceLine, InstallLine, FlushLine, PurgeLine, RangeSetLine, RangeDropLine, SecondLine, LookupLine, RollLine, IsForm, IsInterface, interface_words, words_of}
 
 abbrev pub bytes_or_none : Result (List ℕ) FromHexError → List ℕ
 bytes_or_none (Ok bytes) = bytes
@@ -20,18 +21,25 @@ abbrev pub said_by : LineForm → Form
 said_by (read.Version version) = VersionLine version
 said_by (read.Router router) = RouterLine router
 said_by (read.Compat compat) = CompatLine compat
+said_by (read.Serial serial) = SerialLine serial
 said_by (read.Area id stub) = AreaLine id stub
 said_by (read.Range area range) = RangeLine area range
+said_by (read.HasInterface id interface) = HasInterfaceLine id interface
+said_by (read.HasLsa at digits) = HasLsaLine at (bytes_of digits.now)
 said_by (read.Interface id area address peer up) = BodyLine (InterfaceLine id area address peer up)
 said_by (read.Install at digits) = BodyLine (InstallLine at (bytes_of digits.now))
 said_by (read.Flush at key) = BodyLine (FlushLine at key)
 said_by (read.Purge at key) = BodyLine (PurgeLine at key)
+said_by (read.RangeSet area range) = BodyLine (RangeSetLine area range)
+said_by (read.RangeDrop area prefix) = BodyLine (RangeDropLine area prefix)
 said_by read.Second = BodyLine SecondLine
 said_by (read.Lookup address) = BodyLine (LookupLine address)
+said_by read.Roll = BodyLine RollLine
 
--- the digits to install are those of bytes
+-- the digits of an LSA are those of bytes
 abbrev pub HasDigits : LineForm → Type 0
 HasDigits (read.Install at digits) = decode_of digits.now ≡ Ok (bytes_of digits.now)
+HasDigits (read.HasLsa at digits) = decode_of digits.now ≡ Ok (bytes_of digits.now)
 HasDigits _ = Unit {0}
 
 -- ---- words
@@ -58,10 +66,16 @@ Takes {X} spell Legal before after read =
 abbrev pub TakesWord : {X : Type 0} → (X → List ℕ) → (X → Type 0) → (before after : List (List ℕ)) → Option X → Type 0
 TakesWord {X} spell Legal before after read = Takes (λ (x : X). spell x ∷ []) Legal before after read
 
--- one to ten bytes, and more than one only where the first is no zero
+-- an interface with its id
+abbrev pub pair_words : ℕ × Interface → List (List ℕ)
+pair_words x = interface_words x.0 x.1
+
+abbrev pub IsPair : ℕ × Interface → Type 0
+IsPair x = IsInterface x.0 x.1.area x.1.address x.1.peer
+
+-- at least one byte, and more than one only where the first is no zero
 pub record IsUnpadded (text : List ℕ) : Type 0 where
   pub some : 0 < length text
-  pub few : length text ≤ 10
   pub alone : slice_index text 0 ≡ 48 → length text ≡ 1
 
 -- a hexadecimal digit, in lower case

@@ -1,4 +1,4 @@
-//! A line behind the header.
+//! A line of what happened.
 ghost use Rattle.std.specs.Prelude.{◌≡◌, ◌++◌, [], ◌∷◌, OnOk, IfOk, IfErr};
 ghost use Rattle.hex.specs.Hex.{decode_of};
 ghost use Rattle.lsa_codec.specs.Spelling.{spelling};
@@ -46,8 +46,11 @@ fn read_line(alloc: Global, version: Version, line: &[u8]) -> Result<Line, Fault
         LineForm::Version(_) => Err(Fault::Order),
         LineForm::Router(_) => Err(Fault::Order),
         LineForm::Compat(_) => Err(Fault::Order),
+        LineForm::Serial(_) => Err(Fault::Order),
         LineForm::Area { .. } => Err(Fault::Order),
         LineForm::Range { .. } => Err(Fault::Order),
+        LineForm::HasInterface { .. } => Err(Fault::Order),
+        LineForm::HasLsa { .. } => Err(Fault::Order),
         LineForm::Interface {
             id,
             area,
@@ -67,13 +70,20 @@ fn read_line(alloc: Global, version: Version, line: &[u8]) -> Result<Line, Fault
         },
         LineForm::Flush { scope, key } => Ok(Line::Event(Event::Flush { scope, key })),
         LineForm::Purge { scope, key } => Ok(Line::Event(Event::Purge { scope, key })),
+        LineForm::RangeSet { area, range } => Ok(Line::Event(Event::RangeSet {
+            area,
+            prefix: range.prefix,
+            advertise: range.advertise,
+        })),
+        LineForm::RangeDrop { area, prefix } => Ok(Line::Event(Event::RangeDrop { area, prefix })),
         LineForm::Second => Ok(Line::Event(Event::Second)),
         LineForm::Lookup(address) => Ok(Line::Lookup(address)),
+        LineForm::Roll => Ok(Line::Roll),
     }
 }
 
-// The LSA whose bytes the digits write.
-fn read_lsa(alloc: Global, digits: &[u8]) -> Result<Checked, Fault>
+/// The LSA whose bytes the digits write.
+pub(crate) fn read_lsa(alloc: Global, digits: &[u8]) -> Result<Checked, Fault>
     requires { decode_of digits.now ≡ Ok (bytes_of digits.now) }
     ensures spelled { IfOk result (λ lsa. spelling lsa ≡ bytes_of digits.now) }
     ensures whole { IfOk result IsWhole }

@@ -2,6 +2,7 @@ ghost use Rattle.std.specs.Prelude.{Some};
 ghost use Rattle.recording.specs.Texts.{fault_text, line_fault_text};
 
 use config_faults::ConfigFault;
+use event_state::Unfit;
 use lsa_codec::WireFault;
 use ospf_types::memory::Memory;
 use std::fmt;
@@ -10,18 +11,21 @@ use thiserror::Error;
 /// What is wrong with a line: the first of these, in this order, that holds.
 #[derive(Clone, Copy, Debug, PartialEq, Eq, Error)]
 pub enum Fault {
-    /// The line has no line feed, or it is the first or the second and is missing.
+    /// The line has no line feed, or it is one of the first and is missing: line 1 or 2, from version 2 on line 3, and in
+    /// version 3 line 4.
     Truncated,
-    /// The first line is not `abr 1`.
+    /// The first line is none of `abr 1`, `abr 2` and `abr 3`.
     Version,
-    /// The line has none of the forms.
+    /// The line has none of the forms of its version.
     Line,
     /// The line may not stand there.
     Order,
-    /// The bytes to install are no LSA.
+    /// The bytes to install, or those of the base, are no LSA.
     Wire(WireFault),
     /// The header, of which the line is the last, says a configuration with a fault.
     Config(ConfigFault),
+    /// No event could have made what this line and those before it say of the base.
+    Base(Unfit),
     /// A growth was refused.
     Memory,
 }
@@ -38,6 +42,7 @@ impl fmt::Display for Fault {
             Fault::Order => f.write_str("53 Order"),
             Fault::Wire(fault) => write!(f, "54 Wire {fault}"),
             Fault::Config(fault) => write!(f, "55 Config {fault}"),
+            Fault::Base(unfit) => write!(f, "56 Base {unfit}"),
             Fault::Memory => Memory.fmt(f),
         }
     }

@@ -1,14 +1,18 @@
 //! A line, read.
-ghost use Rattle.std.specs.Prelude.{◌≡◌, ◌≢◌, ◌↔◌, ◌∷◌, codes, IsNone, IsTrue, IfSome, MatchOption};
-ghost use Rattle.recording.specs.Forms.{Form, IsOfVersion, Says, IsScope, IsKey, key_words, scope_text};
-ghost use Rattle.recording.specs.Reading.{said_by, cut, AreRead, HasDigits};
+ghost use Rattle.std.specs.Prelude.{◌≡◌, ◌≢◌, ◌↔◌, ◌∷◌, ℕ, List, Ok, codes, IsNone, IsTrue, IfSome, MatchOption};
+ghost use Rattle.hex.specs.Hex.{decode_of};
+ghost use Rattle.recording.specs.Forms.{Form, AreBytes, IsOfVersion, Says, IsAddress, IsScope, IsKey, IsPrefix, key_words, lsa_words, range_words, scope_text};
+ghost use Rattle.recording.specs.Reading.{said_by, bytes_of, cut, AreRead, HasDigits, IsPair, pair_words};
+ghost use Rattle.ospf_types.specs.declared.config.Interface.{Interface};
+ghost use Rattle.ospf_types.specs.declared.config.Range.{Range};
 ghost use Rattle.ospf_types.specs.declared.key.Key.{Key};
 ghost use Rattle.ospf_types.specs.declared.key.Scope.{Scope};
 
 use crate::version::Version;
-use crate::words::{Words, are_digits, is};
-use ospf_types::config::{Range, Stub};
+use crate::words::{Words, is};
+use ospf_types::config::{Interface, Range, Stub};
 use ospf_types::key::{Key, Scope};
+use ospf_types::prefix::Prefix;
 
 /// What a line says.
 #[derive(Clone, Copy)]
@@ -17,6 +21,7 @@ pub(crate) enum LineForm<'a> {
     Router(u32),
     /// Whether RFC1583Compatibility is enabled.
     Compat(bool),
+    Serial(u64),
     Area {
         id: u32,
         stub: Option<Stub>,
@@ -24,6 +29,15 @@ pub(crate) enum LineForm<'a> {
     Range {
         area: u32,
         range: Range,
+    },
+    HasInterface {
+        id: u8,
+        interface: Interface,
+    },
+    /// The bytes are still hexadecimal digits.
+    HasLsa {
+        scope: Scope,
+        digits: &'a [u8],
     },
     Interface {
         id: u8,
@@ -45,8 +59,17 @@ pub(crate) enum LineForm<'a> {
         scope: Scope,
         key: Key,
     },
+    RangeSet {
+        area: u32,
+        range: Range,
+    },
+    RangeDrop {
+        area: u32,
+        prefix: Prefix,
+    },
     Second,
     Lookup(u32),
+    Roll,
 }
 
 /// What the line, without its line feed, says in a recording of the version; none where it has no form there.
@@ -74,13 +97,20 @@ fn read_any_form(line: &[u8]) -> Option<LineForm<'_>>
     read_behind(verb, &mut words)
 }
 
-// Whether there is the form in the version: its own first line, and from version 2 on a `compat` line.
+// Whether there is the form in the version: its own first line, from version 2 on a `compat` line, and in version 3 the
+// serial, the lines of the base, ranges that change, and rolls.
 fn is_of_version(version: Version, form: &LineForm<'_>) -> bool
     ensures { IsTrue result ↔ IsOfVersion version (said_by form.now) }
 {
     match form {
         LineForm::Version(own) => *own == version,
-        LineForm::Compat(_) => version == Version::Two,
+        LineForm::Compat(_) => version != Version::One,
+        LineForm::Serial(_) => version == Version::Three,
+        LineForm::HasInterface { .. } => version == Version::Three,
+        LineForm::HasLsa { .. } => version == Version::Three,
+        LineForm::RangeSet { .. } => version == Version::Three,
+        LineForm::RangeDrop { .. } => version == Version::Three,
+        LineForm::Roll => version == Version::Three,
         _ => true,
     }
 }
@@ -91,6 +121,8 @@ fn read_behind<'a>(verb: &[u8], words: &mut Words<'a>) -> Option<LineForm<'a>>
 {
     if is(verb, b"install") {
         install(words)
+    } else if is(verb, b"has") {
+        has(words)
     } else if is(verb, b"second") {
         second(words)
     } else if is(verb, b"lookup") {
@@ -101,12 +133,20 @@ fn read_behind<'a>(verb: &[u8], words: &mut Words<'a>) -> Option<LineForm<'a>>
         flush(words)
     } else if is(verb, b"purge") {
         purge(words)
+    } else if is(verb, b"range-set") {
+        range_set(words)
+    } else if is(verb, b"range-drop") {
+        range_drop(words)
+    } else if is(verb, b"roll") {
+        roll(words)
     } else if is(verb, b"abr") {
         version(words)
     } else if is(verb, b"router") {
         router(words)
     } else if is(verb, b"compat") {
         compat(words)
+    } else if is(verb, b"serial") {
+        serial(words)
     } else if is(verb, b"area") {
         area(words)
     } else if is(verb, b"range") {
@@ -119,13 +159,9 @@ fn read_behind<'a>(verb: &[u8], words: &mut Words<'a>) -> Option<LineForm<'a>>
 fn version<'a>(words: &mut Words<'a>) -> Option<LineForm<'a>>
     ensures { AreRead (codes "abr" ∷ words.old) result }
 {
-    let is_first = words.choice(b"1", b"2")?;
+    let version = words.version()?;
     words.end()?;
-    if is_first {
-        Some(LineForm::Version(Version::One))
-    } else {
-        Some(LineForm::Version(Version::Two))
-    }
+    Some(LineForm::Version(version))
 }
 
 fn router<'a>(words: &mut Words<'a>) -> Option<LineForm<'a>>
@@ -144,6 +180,14 @@ fn compat<'a>(words: &mut Words<'a>) -> Option<LineForm<'a>>
     Some(LineForm::Compat(is_enabled))
 }
 
+fn serial<'a>(words: &mut Words<'a>) -> Option<LineForm<'a>>
+    ensures { AreRead (codes "serial" ∷ words.old) result }
+{
+    let serial = words.serial()?;
+    words.end()?;
+    Some(LineForm::Serial(serial))
+}
+
 fn area<'a>(words: &mut Words<'a>) -> Option<LineForm<'a>>
     ensures { AreRead (codes "area" ∷ words.old) result }
 {
@@ -156,57 +200,99 @@ fn area<'a>(words: &mut Words<'a>) -> Option<LineForm<'a>>
 fn range<'a>(words: &mut Words<'a>) -> Option<LineForm<'a>>
     ensures { AreRead (codes "range" ∷ words.old) result }
 {
-    let area = words.address()?;
-    let prefix = words.prefix()?;
-    let advertise = words.choice(b"advertise", b"hide")?;
-    words.end()?;
-    let range = Range { prefix, advertise };
-    Some(LineForm::Range { area, range })
+    let fields = range_fields(words)?;
+    Some(LineForm::Range {
+        area: fields.0,
+        range: fields.1,
+    })
 }
 
 fn interface<'a>(words: &mut Words<'a>) -> Option<LineForm<'a>>
     ensures { AreRead (codes "interface" ∷ words.old) result }
 {
-    let id = words.number(255)?;
-    let area = words.address()?;
-    let address = words.address()?;
-    let peer = words.address()?;
-    let up = words.choice(b"up", b"down")?;
-    words.end()?;
+    let fields = interface_fields(words)?;
     Some(LineForm::Interface {
-        id: id as u8,
-        area,
-        address,
-        peer,
-        up,
+        id: fields.0,
+        area: fields.1.area,
+        address: fields.1.address,
+        peer: fields.1.peer,
+        up: fields.1.up,
     })
 }
 
 fn install<'a>(words: &mut Words<'a>) -> Option<LineForm<'a>>
     ensures { AreRead (codes "install" ∷ words.old) result }
 {
-    let scope = words.scope()?;
-    let digits = words.next()?;
-    words.end()?;
-    if are_digits(digits) {
-        Some(LineForm::Install { scope, digits })
+    let fields = lsa_fields(words)?;
+    Some(LineForm::Install {
+        scope: fields.0,
+        digits: fields.1,
+    })
+}
+
+// An interface or an LSA that is there before anything happens.
+fn has<'a>(words: &mut Words<'a>) -> Option<LineForm<'a>>
+    ensures { AreRead (codes "has" ∷ words.old) result }
+{
+    let is_interface = words.choice(b"interface", b"lsa")?;
+    if is_interface {
+        has_interface(words)
     } else {
-        None
+        has_lsa(words)
     }
+}
+
+fn has_interface<'a>(words: &mut Words<'a>) -> Option<LineForm<'a>>
+    ensures { AreRead (codes "has" ∷ codes "interface" ∷ words.old) result }
+{
+    let fields = interface_fields(words)?;
+    Some(LineForm::HasInterface {
+        id: fields.0,
+        interface: fields.1,
+    })
+}
+
+fn has_lsa<'a>(words: &mut Words<'a>) -> Option<LineForm<'a>>
+    ensures { AreRead (codes "has" ∷ codes "lsa" ∷ words.old) result }
+{
+    let fields = lsa_fields(words)?;
+    Some(LineForm::HasLsa {
+        scope: fields.0,
+        digits: fields.1,
+    })
 }
 
 fn flush<'a>(words: &mut Words<'a>) -> Option<LineForm<'a>>
     ensures { AreRead (codes "flush" ∷ words.old) result }
 {
-    let (scope, key) = lsa(words)?;
+    let (scope, key) = key_fields(words)?;
     Some(LineForm::Flush { scope, key })
 }
 
 fn purge<'a>(words: &mut Words<'a>) -> Option<LineForm<'a>>
     ensures { AreRead (codes "purge" ∷ words.old) result }
 {
-    let (scope, key) = lsa(words)?;
+    let (scope, key) = key_fields(words)?;
     Some(LineForm::Purge { scope, key })
+}
+
+fn range_set<'a>(words: &mut Words<'a>) -> Option<LineForm<'a>>
+    ensures { AreRead (codes "range-set" ∷ words.old) result }
+{
+    let fields = range_fields(words)?;
+    Some(LineForm::RangeSet {
+        area: fields.0,
+        range: fields.1,
+    })
+}
+
+fn range_drop<'a>(words: &mut Words<'a>) -> Option<LineForm<'a>>
+    ensures { AreRead (codes "range-drop" ∷ words.old) result }
+{
+    let area = words.address()?;
+    let prefix = words.prefix()?;
+    words.end()?;
+    Some(LineForm::RangeDrop { area, prefix })
 }
 
 fn second<'a>(words: &mut Words<'a>) -> Option<LineForm<'a>>
@@ -224,8 +310,46 @@ fn lookup<'a>(words: &mut Words<'a>) -> Option<LineForm<'a>>
     Some(LineForm::Lookup(address))
 }
 
+fn roll<'a>(words: &mut Words<'a>) -> Option<LineForm<'a>>
+    ensures { AreRead (codes "roll" ∷ words.old) result }
+{
+    words.end()?;
+    Some(LineForm::Roll)
+}
+
+// A range of an area, and no word behind it.
+fn range_fields(words: &mut Words<'_>) -> Option<(u32, Range)>
+    ensures { MatchOption result ((area : ℕ) (range : Range) → IsAddress area → IsPrefix range.prefix → words.old ≢ range_words area range) (λ p. IsAddress p.0 × IsPrefix p.1.prefix × (words.old ≡ range_words p.0 p.1)) }
+{
+    let area = words.address()?;
+    let prefix = words.prefix()?;
+    let advertise = words.choice(b"advertise", b"hide")?;
+    words.end()?;
+    Some((area, Range { prefix, advertise }))
+}
+
+// An interface with its id, and no word behind it.
+fn interface_fields(words: &mut Words<'_>) -> Option<(u8, Interface)>
+    ensures { MatchOption result ((x : ℕ × Interface) → IsPair x → words.old ≢ pair_words x) (λ x. IsPair x × (words.old ≡ pair_words x)) }
+{
+    let pair = words.interface()?;
+    words.end()?;
+    Some(pair)
+}
+
+// The digits of an LSA for a database, and no word behind them.
+fn lsa_fields<'a>(words: &mut Words<'a>) -> Option<(Scope, &'a [u8])>
+    ensures says { MatchOption result ((at : Scope) (bytes : List ℕ) → IsScope at → AreBytes bytes → words.old ≢ lsa_words at bytes) (λ p. IsScope p.0 × AreBytes (bytes_of p.1.now) × (words.old ≡ lsa_words p.0 (bytes_of p.1.now))) }
+    ensures digits { IfSome result (λ p. decode_of p.1.now ≡ Ok (bytes_of p.1.now)) }
+{
+    let scope = words.scope()?;
+    let digits = words.digits()?;
+    words.end()?;
+    Some((scope, digits))
+}
+
 // Which LSA of which database.
-fn lsa(words: &mut Words<'_>) -> Option<(Scope, Key)>
+fn key_fields(words: &mut Words<'_>) -> Option<(Scope, Key)>
     ensures { MatchOption result ((at : Scope) (key : Key) → IsScope at → IsKey key → words.old ≢ scope_text at ∷ key_words key) (λ p. IsScope p.0 × IsKey p.1 × (words.old ≡ scope_text p.0 ∷ key_words p.1)) }
 {
     let scope = words.scope()?;

@@ -1,12 +1,13 @@
-//! The configuration that the lines of a header say, one after the other.
+//! The configuration that the lines of a header say, one after the other, and the serial.
 ghost use Rattle.std.specs.Prelude.{◌≡◌, ◌++◌, ◌∷◌, ◌⊎◌, true, false, [], Some, OnOk, IfOk, IfErr};
 ghost use Rattle.recording.specs.Forms.{AreaLine, RangeLine};
-ghost use Rattle.recording.specs.Places.{headed, is_of_header, is_next, with_form, last_of, is_past_area, is_past_range, is_next_range};
-ghost use Rattle.recording.specs.Progress.{IsRefusal};
+ghost use Rattle.recording.specs.Places.{is_of_header, is_next_area, with_form, last_of, is_past_area, is_past_range, is_next_range};
+ghost use Rattle.recording.specs.Progress.{IsRefusal, headed_base, with_areas};
 ghost use Rattle.recording.specs.Reading.{said_by};
 
 use crate::fault::Fault;
 use crate::form::LineForm;
+use event_state::Base;
 use ospf_types::config::{AreaConfig, Areas, Config, Range, Ranges, Stub};
 use ospf_types::listed::Listed;
 use ospf_types::memory::Memory;
@@ -14,11 +15,18 @@ use std::alloc::Global;
 use std::cmp::Ordering;
 use std::marker::Model;
 
-/// A configuration in work.
+/// What the first lines set.
+#[derive(Clone, Copy)]
+pub(crate) struct Setting {
+    pub(crate) router: u32,
+    pub(crate) compat: bool,
+    pub(crate) serial: u64,
+}
+
+/// A base in work: its serial, and its configuration as far as it goes.
 #[derive(Drop)]
 pub(crate) struct Header {
-    router: u32,
-    compat: bool,
+    setting: Setting,
     // those to which no range can be added any more
     areas: Areas,
     last: Option<AreaConfig>,
@@ -27,22 +35,22 @@ pub(crate) struct Header {
 impl Model for Header {
     ghost use Rattle.std.specs.Prelude.{◌≡◌, ◌++◌, None, []};
     ghost use Rattle.std.specs.Option.{option_to_list};
-    ghost use Rattle.ospf_types.specs.declared.config.Config.{Config};
+    ghost use Rattle.event_state.specs.declared.base.Base.{Base};
+    ghost use Rattle.recording.specs.Progress.{headed_base};
 
-    ghost Value = { Config };
+    ghost Value = { Base };
 
-    ghost view = { λ h. record { router = h.router; compat = h.compat; areas = h.areas ++ option_to_list h.last } };
+    ghost view = { λ h. headed_base h.setting (h.areas ++ option_to_list h.last) };
 
     ghost invariant = { λ h. h.last ≡ None → h.areas ≡ [] };
 }
 
 impl Header {
-    pub(crate) fn new(alloc: Global, router: u32, compat: bool) -> Header
-        ensures { result ≡ record { router = router; compat = compat; areas = [] } }
+    pub(crate) fn new(alloc: Global, setting: Setting) -> Header
+        ensures { result ≡ headed_base setting [] }
     {
         Header {
-            router,
-            compat,
+            setting,
             areas: Areas::new(alloc),
             last: None,
         }
@@ -51,9 +59,9 @@ impl Header {
     /// Adds what a line says; `false` where it is no line of a header.
     pub(crate) fn add(&mut self, alloc: Global, form: &LineForm<'_>) -> Result<bool, Fault>
         ensures header { IfOk result (λ added. added ≡ is_of_header (said_by form.now)) }
-        ensures next { IfOk result (λ added. added ≡ true → is_next (headed self.old.areas) (said_by form.now) ≡ true) }
-        ensures new { OnOk result (self.new ≡ record self.old { areas = with_form self.old.areas (said_by form.now) }) }
-        ensures fault { IfErr result (IsRefusal self.old.areas (said_by form.now)) }
+        ensures next { IfOk result (λ added. added ≡ true → is_next_area self.old.config.areas (said_by form.now) ≡ true) }
+        ensures new { OnOk result (self.new ≡ with_areas self.old (with_form self.old.config.areas (said_by form.now))) }
+        ensures fault { IfErr result (IsRefusal self.old.config.areas (said_by form.now)) }
         ensures refused { IfErr result (λ _. is_of_header (said_by form.now) ≡ true) }
     {
         match form {
@@ -65,9 +73,9 @@ impl Header {
 
     fn add_area(&mut self, alloc: Global, id: u32, stub: Option<Stub>) -> Result<bool, Fault>
         ensures header { IfOk result (λ added. added ≡ true) }
-        ensures next { OnOk result (is_next (headed self.old.areas) (AreaLine id stub) ≡ true) }
-        ensures new { OnOk result (self.new ≡ record self.old { areas = with_form self.old.areas (AreaLine id stub) }) }
-        ensures fault { IfErr result (IsRefusal self.old.areas (AreaLine id stub)) }
+        ensures next { OnOk result (is_next_area self.old.config.areas (AreaLine id stub) ≡ true) }
+        ensures new { OnOk result (self.new ≡ with_areas self.old (with_form self.old.config.areas (AreaLine id stub))) }
+        ensures fault { IfErr result (IsRefusal self.old.config.areas (AreaLine id stub)) }
     {
         if !is_past_area(&self.last, id) {
             return Err(Fault::Order);
@@ -85,9 +93,9 @@ impl Header {
 
     fn add_range(&mut self, area: u32, range: Range) -> Result<bool, Fault>
         ensures header { IfOk result (λ added. added ≡ true) }
-        ensures next { OnOk result (is_next (headed self.old.areas) (RangeLine area range) ≡ true) }
-        ensures new { OnOk result (self.new ≡ record self.old { areas = with_form self.old.areas (RangeLine area range) }) }
-        ensures fault { IfErr result (IsRefusal self.old.areas (RangeLine area range)) }
+        ensures next { OnOk result (is_next_area self.old.config.areas (RangeLine area range) ≡ true) }
+        ensures new { OnOk result (self.new ≡ with_areas self.old (with_form self.old.config.areas (RangeLine area range))) }
+        ensures fault { IfErr result (IsRefusal self.old.config.areas (RangeLine area range)) }
     {
         match &mut self.last {
             None => Err(Fault::Order),
@@ -95,13 +103,12 @@ impl Header {
         }
     }
 
-    /// The whole configuration.
-    pub(crate) fn into_config(self) -> Result<Config, Memory>
-        ensures { IfOk result (λ config. config ≡ self) }
+    /// The whole configuration and the serial: a base without interfaces and LSAs as yet.
+    pub(crate) fn into_base(self, alloc: Global) -> Result<Base, Memory>
+        ensures { IfOk result (λ base. base ≡ self) }
     {
         let Header {
-            router,
-            compat,
+            setting,
             areas,
             last,
         } = self;
@@ -109,15 +116,22 @@ impl Header {
         if let Some(last) = last {
             areas.push(last)?;
         }
-        Ok(Config {
-            router,
-            compat,
+        let config = Config {
+            router: setting.router,
+            compat: setting.compat,
             areas,
+        };
+        Ok(Base {
+            config,
+            serial: setting.serial,
+            interfaces: Listed::new(alloc),
+            lsas: Listed::new(alloc),
         })
     }
 }
 
-fn add_to<T: Drop>(items: &mut Listed<T>, item: T) -> Result<(), Fault>
+/// Adds an item at the end.
+pub(crate) fn add_to<T: Drop>(items: &mut Listed<T>, item: T) -> Result<(), Fault>
     ensures added { OnOk result (items.new ≡ items.old ++ item ∷ []) }
     ensures fault { IfErr result (λ f. f ≡ Fault.Memory) }
 {

@@ -2,6 +2,7 @@
 //! Each recording has one spelling.
 #![tactic(auto)]
 
+mod base_lines;
 mod body;
 mod fault;
 mod form;
@@ -18,7 +19,7 @@ mod words;
 pub use fault::{Fault, LineFault};
 pub use line::Line;
 pub use parsing::parse;
-pub use printing::{append_event, append_header, print};
+pub use printing::{append_event, append_front, print};
 pub use recording::Recording;
 pub use show::Show;
 pub use version::Version;

@@ -1,22 +1,23 @@
 //! A recording from its text.
-ghost use Rattle.std.specs.Prelude.{◌≡◌, ◌≢◌, ◌≤◌, ◌+◌, [], ◌∷◌, codes, IsNone, IfSome, IfOk, IfErr, MatchResult};
+ghost use Rattle.std.specs.Prelude.{◌≡◌, ◌≢◌, ◌≤◌, ◌+◌, [], ◌∷◌, IsNone, IfSome, OnOk, IfOk, IfErr, MatchResult};
 ghost use Rattle.recording.specs.Recordings.{RecordingValue, IsText};
-ghost use Rattle.recording.specs.Faults.{IsFaultOf};
-ghost use Rattle.recording.specs.Left.{HasReadAt, HasHeaderAt, HasLinesAt, EndsHeaderAt};
+ghost use Rattle.recording.specs.Faults.{IsFaultOf, IsNoVersion};
+ghost use Rattle.recording.specs.Left.{HasReadAt, HasSettingAt, HasHeaderAt, HasBaseAt, EndsHeaderAt, EndsBaseAt, IsCounted};
 ghost use Rattle.recording.specs.declared.fault.Fault.TheVariants as line_fault;
 ghost use Rattle.recording.specs.declared.version.Version.TheVariants as version_value;
-ghost use Rattle.recording.specs.Forms.{VersionLine, RouterLine, line_text};
+ghost use Rattle.recording.specs.Forms.{VersionLine, RouterLine, CompatLine, line_text};
 
+use crate::base_lines::BaseLines;
 use crate::body::add_line;
 use crate::fault::{Fault, LineFault};
 use crate::form::{LineForm, read_form};
-use crate::header::Header;
+use crate::header::{Header, Setting};
 use crate::reader::Lines;
 use crate::recording::Recording;
 use crate::version::Version;
 use crate::words::is;
 use config_faults::fault_in;
-use ospf_types::config::Config;
+use event_state::Base;
 use ospf_types::memory::Memory;
 use std::alloc::Global;
 
@@ -37,15 +38,16 @@ fn parse_text(alloc: Global, text: &[u8]) -> Result<Recording, LineFault>
 {
     let (version, lines) = read_version(text)?;
     let (router, lines) = read_router(version, lines)?;
-    let (header, lines) = read_setting(alloc, version, router, lines)?;
-    let (config, lines) = read_areas(alloc, version, header, lines)?;
-    if let Some(fault) = fault_in(&config) {
+    let (setting, lines) = read_setting(version, router, lines)?;
+    let (base, lines) = read_areas(alloc, version, setting, lines)?;
+    if let Some(fault) = fault_in(&base.config) {
         return Err(LineFault {
             line: lines.taken,
             fault: Fault::Config(fault),
         });
     }
-    read_lines(alloc, version, config, lines)
+    let (base, lines) = read_base(alloc, version, base, lines)?;
+    read_lines(alloc, version, base, lines)
 }
 
 // The version, which the first line says, and what is left behind it.
@@ -67,12 +69,14 @@ fn read_version(text: &[u8]) -> Result<(Version, Lines<'_>), LineFault>
 // The version of which this is the first line.
 fn version_in(line: &[u8]) -> Option<Version>
     ensures some { IfSome result (λ version. line.now ≡ line_text (VersionLine version)) }
-    ensures none { IsNone result → (line.now ≢ codes "abr 1") × (line.now ≢ codes "abr 2") }
+    ensures none { IsNone result → IsNoVersion line.now }
 {
     if is(line, b"abr 1") {
         Some(Version::One)
     } else if is(line, b"abr 2") {
         Some(Version::Two)
+    } else if is(line, b"abr 3") {
+        Some(Version::Three)
     } else {
         None
     }
@@ -97,67 +101,96 @@ fn read_router(version: Version, lines: Lines<'_>) -> Result<(u32, Lines<'_>), L
     }
 }
 
-// The configuration that the first lines say, which has no areas yet, and what is left behind them.
+// What the first lines set, and what is left behind them.
 fn read_setting(
-    alloc: Global,
     version: Version,
     router: u32,
     lines: Lines<'_>,
-) -> Result<(Header, Lines<'_>), LineFault>
+) -> Result<(Setting, Lines<'_>), LineFault>
     requires { HasReadAt version lines (VersionLine version ∷ RouterLine router ∷ []) }
-    ensures read { IfOk result (λ found. HasHeaderAt version found.1 found.0) }
+    ensures read { IfOk result (λ found. HasSettingAt version found.1 found.0) }
     ensures text { IfOk result (λ found. found.1.text.now ≡ lines.entry.text.now) }
     ensures fault { IfErr result (IsFaultOf lines.entry.text.now) }
 {
+    let setting = Setting {
+        router,
+        compat: false,
+        serial: 0,
+    };
     match version {
-        Version::One => Ok((Header::new(alloc, router, false), lines)),
-        Version::Two => read_compat(alloc, router, lines),
+        Version::One => Ok((setting, lines)),
+        Version::Two => read_compat(version, setting, lines),
+        Version::Three => {
+            let (setting, lines) = read_compat(version, setting, lines)?;
+            read_serial(setting, lines)
+        }
     }
 }
 
-// In version 2 the third line says whether RFC1583Compatibility is enabled.
+// From version 2 on the third line says whether RFC1583Compatibility is enabled.
 fn read_compat(
-    alloc: Global,
-    router: u32,
+    version: Version,
+    setting: Setting,
     lines: Lines<'_>,
-) -> Result<(Header, Lines<'_>), LineFault>
-    requires { HasReadAt version_value.Two lines (VersionLine version_value.Two ∷ RouterLine router ∷ []) }
-    ensures read { IfOk result (λ found. HasHeaderAt version_value.Two found.1 found.0) }
+) -> Result<(Setting, Lines<'_>), LineFault>
+    requires read { HasReadAt version lines (VersionLine version ∷ RouterLine setting.router ∷ []) }
+    requires later { version ≢ version_value.One }
+    ensures read { IfOk result (λ found. HasReadAt version found.1 (VersionLine version ∷ RouterLine found.0.router ∷ CompatLine found.0.compat ∷ [])) }
+    ensures serial { IfOk result (λ found. found.0.serial ≡ setting.serial) }
     ensures text { IfOk result (λ found. found.1.text.now ≡ lines.entry.text.now) }
     ensures fault { IfErr result (IsFaultOf lines.entry.text.now) }
 {
     let Some((line, after)) = lines.next() else {
         return Err(lines.fault(Fault::Truncated));
     };
-    let Some(form) = read_form(Version::Two, line) else {
+    let Some(form) = read_form(version, line) else {
         return Err(lines.fault(Fault::Line));
     };
     match form {
-        LineForm::Compat(compat) => Ok((Header::new(alloc, router, compat), after)),
+        LineForm::Compat(compat) => Ok((Setting { compat, ..setting }, after)),
         _ => Err(lines.fault(Fault::Order)),
     }
 }
 
-// The configuration, with the areas and ranges that the lines of the header say, and what is left behind it.
+// In version 3 the fourth line says the serial.
+fn read_serial(setting: Setting, lines: Lines<'_>) -> Result<(Setting, Lines<'_>), LineFault>
+    requires { HasReadAt version_value.Three lines (VersionLine version_value.Three ∷ RouterLine setting.router ∷ CompatLine setting.compat ∷ []) }
+    ensures read { IfOk result (λ found. HasSettingAt version_value.Three found.1 found.0) }
+    ensures text { IfOk result (λ found. found.1.text.now ≡ lines.entry.text.now) }
+    ensures fault { IfErr result (IsFaultOf lines.entry.text.now) }
+{
+    let Some((line, after)) = lines.next() else {
+        return Err(lines.fault(Fault::Truncated));
+    };
+    let Some(form) = read_form(Version::Three, line) else {
+        return Err(lines.fault(Fault::Line));
+    };
+    match form {
+        LineForm::Serial(serial) => Ok((Setting { serial, ..setting }, after)),
+        _ => Err(lines.fault(Fault::Order)),
+    }
+}
+
+// The base, with the areas and ranges that the lines of the header say, and what is left behind it.
 fn read_areas(
     alloc: Global,
     version: Version,
-    header: Header,
+    setting: Setting,
     lines: Lines<'_>,
-) -> Result<(Config, Lines<'_>), LineFault>
-    requires { HasHeaderAt version lines header }
+) -> Result<(Base, Lines<'_>), LineFault>
+    requires { HasSettingAt version lines setting }
     ensures read { IfOk result (λ found. HasHeaderAt version found.1 found.0) }
     ensures end { IfOk result (λ found. EndsHeaderAt version found.1) }
     ensures text { IfOk result (λ found. found.1.text.now ≡ lines.entry.text.now) }
     ensures fault { IfErr result (IsFaultOf lines.entry.text.now) }
 {
-    let mut header = header;
+    let mut header = Header::new(alloc, setting);
     let mut left = lines;
     while let Some(after) = read_header_line(alloc, version, left, &mut header)? {
         left = after;
     }
-    match header.into_config() {
-        Ok(config) => Ok((config, left)),
+    match header.into_base(alloc) {
+        Ok(base) => Ok((base, left)),
         Err(Memory) => Err(LineFault {
             line: left.taken,
             fault: Fault::Memory,
@@ -194,14 +227,67 @@ fn read_header_line<'a>(
     }
 }
 
-// The recording of the configuration and of the lines that are left.
+// The base, with the interfaces and LSAs that `has` lines say, and what is left behind them.
+fn read_base(
+    alloc: Global,
+    version: Version,
+    base: Base,
+    lines: Lines<'_>,
+) -> Result<(Base, Lines<'_>), LineFault>
+    requires read { HasBaseAt version lines base }
+    requires none { base.lsas ≡ [] }
+    ensures read { IfOk result (λ found. HasBaseAt version found.1 found.0) }
+    ensures end { IfOk result (λ found. EndsBaseAt version found.1) }
+    ensures text { IfOk result (λ found. found.1.text.now ≡ lines.entry.text.now) }
+    ensures fault { IfErr result (IsFaultOf lines.entry.text.now) }
+{
+    let mut held = BaseLines { base, row: 0 };
+    let mut left = lines;
+    while let Some(after) = read_base_line(alloc, version, left, &mut held)? {
+        left = after;
+    }
+    Ok((held.base, left))
+}
+
+// One more line of the base, and what is left behind it; none where it ends.
+fn read_base_line<'a>(
+    alloc: Global,
+    version: Version,
+    lines: Lines<'a>,
+    held: &mut BaseLines,
+) -> Result<Option<Lines<'a>>, LineFault>
+    requires read { HasBaseAt version lines held.old.base }
+    requires counted { IsCounted held.old }
+    ensures read { IfOk result (λ next. IfSome next (λ after. HasBaseAt version after held.new.base)) }
+    ensures counted { OnOk result (IsCounted held.new) }
+    ensures text { IfOk result (λ next. IfSome next (λ after. after.text.now ≡ lines.entry.text.now)) }
+    ensures shorter { IfOk result (λ next. IfSome next (λ after. lines.entry.start + 1 ≤ after.start)) }
+    ensures end { IfOk result (λ next. IsNone next → EndsBaseAt version lines.entry) }
+    ensures same { IfOk result (λ next. IsNone next → held.new.base ≡ held.old.base) }
+    ensures fault { IfErr result (IsFaultOf lines.entry.text.now) }
+{
+    let Some((line, after)) = lines.next() else {
+        return Ok(None);
+    };
+    let Some(form) = read_form(version, line) else {
+        return Ok(None);
+    };
+    match held.add(alloc, &form) {
+        Ok(true) => Ok(Some(after)),
+        Ok(false) => Ok(None),
+        Err(fault) => Err(lines.fault(fault)),
+    }
+}
+
+// The recording of the base and of the lines that are left.
 fn read_lines(
     alloc: Global,
     version: Version,
-    config: Config,
+    base: Base,
     lines: Lines<'_>,
 ) -> Result<Recording, LineFault>
-    requires { HasLinesAt lines (record { version = version; config = config; lines = [] }) }
+    requires read { HasBaseAt version lines base }
+    requires end { EndsBaseAt version lines }
     ensures text { IfOk result (IsText lines.entry.text.now) }
     ensures fault { IfErr result (IsFaultOf lines.entry.text.now) }
 {
@@ -214,5 +300,5 @@ fn read_lines(
         left = after;
     }
     left.end()?;
-    Ok(Recording::of_tested(version, config, found))
+    Ok(Recording::of_tested(version, base, found))
 }

@@ -1,21 +1,22 @@
 //! The text of a recording.
-ghost use Rattle.std.specs.Prelude.{◌≡◌, ◌++◌, All, OnOk, OnErr, Some, false, cond, codes, string_bytes, take, vec_len};
+ghost use Rattle.std.specs.Prelude.{◌≡◌, ◌++◌, ◌∷◌, [], All, OnOk, OnErr, Some, cond, codes, map, string_bytes, take, vec_len};
 ghost use Rattle.std.specs.List.{join_with_byte};
 ghost use Rattle.lsa_codec.specs.Spelling.{spelling};
-ghost use Rattle.recording.specs.Forms.{RouterLine, AreaLine, RangeLine, BodyLine, InterfaceLine, InstallLine, FlushLine, PurgeLine, LookupLine, IsForm, IsKind, scope_text, stub_words, key_words};
-ghost use Rattle.recording.specs.Recordings.{IsText, IsWhole, HasKind, HasWholeLsa, text_of, text_of_forms, first_forms, header_forms, area_forms, event_form, form_of, ended};
+ghost use Rattle.recording.specs.Forms.{VersionLine, RouterLine, CompatLine, SerialLine, AreaLine, RangeLine, HasInterfaceLine, HasLsaLine, BodyLine, InterfaceLine, InstallLine, FlushLine, PurgeLine, RangeSetLine, RangeDropLine, LookupLine, IsForm, IsKind, scope_text, stub_words, key_words};
+ghost use Rattle.recording.specs.Recordings.{IsText, IsWhole, AreWhole, HasKind, HasWholeLsa, text_of, text_of_forms, first_forms, header_forms, front_forms, area_forms, interface_form, lsa_form, event_form, form_of, ended};
 ghost use Rattle.recording.specs.declared.line.Line.TheVariants as line;
 ghost use Rattle.recording.specs.declared.version.Version.TheVariants as version;
 
 use crate::line::Line;
 use crate::recording::Recording;
 use crate::version::Version;
-use event_state::Event;
+use event_state::{Base, Event};
 use lsa_codec::Checked;
 use ospf_types::address::Address;
-use ospf_types::config::{AreaConfig, Config, Range, Stub};
+use ospf_types::config::{AreaConfig, Interface, Range, Stub};
 use ospf_types::key::{Key, Scope};
 use ospf_types::memory::Memory;
+use ospf_types::prefix::Prefix;
 use std::alloc::Global;
 use std::fmt;
 
@@ -41,7 +42,7 @@ fn append_lines(alloc: Global, recording: &Recording, out: &mut Vec<u8>) -> Resu
     ensures text { OnOk result (IsText (text_of recording.now) recording.now) }
 {
     let mut text = String::new(alloc);
-    append_header(recording.version(), recording.config(), &mut text)?;
+    append_front(alloc, recording.version(), recording.base(), &mut text)?;
     out.extend_from_slice(text.as_bytes())?;
     for line in recording.lines() {
         text.clear();
@@ -51,32 +52,103 @@ fn append_lines(alloc: Global, recording: &Recording, out: &mut Vec<u8>) -> Resu
     Ok(())
 }
 
-/// Appends the header: the version, the router, from version 2 on whether RFC1583Compatibility is enabled, and the areas
-/// with their ranges.
-pub fn append_header(version: Version, config: &Config, out: &mut String) -> Result<(), Memory>
-    ensures text { OnOk result (string_bytes out.new ≡ string_bytes out.old ++ text_of_forms (header_forms version config.now)) }
-    ensures forms { OnOk result (All IsForm (header_forms version config.now)) }
+/// Appends the lines of a base: the header, and a `has` line for each interface and each LSA.
+pub fn append_front(
+    alloc: Global,
+    version: Version,
+    base: &Base,
+    out: &mut String,
+) -> Result<(), Memory>
+    ensures text { OnOk result (string_bytes out.new ≡ string_bytes out.old ++ text_of_forms (front_forms version base.now)) }
+    ensures forms { OnOk result (All IsForm (front_forms version base.now)) }
+    ensures lsas { OnOk result (AreWhole base.now.lsas) }
 {
-    append_first(version, config.router, config.compat, out)?;
-    for area in config.areas.as_slice() {
+    append_header(version, base, out)?;
+    append_has_interfaces(base.interfaces.as_slice(), out)?;
+    append_has_lsas(alloc, base.lsas.as_slice(), out)?;
+    Ok(())
+}
+
+// The first lines, and the areas with their ranges.
+fn append_header(version: Version, base: &Base, out: &mut String) -> Result<(), Memory>
+    ensures text { OnOk result (string_bytes out.new ≡ string_bytes out.old ++ text_of_forms (header_forms version base.now)) }
+    ensures forms { OnOk result (All IsForm (header_forms version base.now)) }
+{
+    append_first(version, base, out)?;
+    for area in base.config.areas.as_slice() {
         append_area(area, out)?;
     }
     Ok(())
 }
 
-// The lines that come first, each in its place.
-fn append_first(version: Version, router: u32, compat: bool, out: &mut String) -> Result<(), Memory>
-    ensures text { OnOk result (string_bytes out.new ≡ string_bytes out.old ++ text_of_forms (first_forms version router compat)) }
-    ensures forms { OnOk result (All IsForm (first_forms version router compat)) }
+fn append_has_interfaces(interfaces: &[(u8, Interface)], out: &mut String) -> Result<(), Memory>
+    ensures text { OnOk result (string_bytes out.new ≡ string_bytes out.old ++ text_of_forms (map interface_form interfaces.now)) }
+    ensures forms { OnOk result (All IsForm (map interface_form interfaces.now)) }
 {
+    for listed in interfaces {
+        append_has_interface(*listed, out)?;
+    }
+    Ok(())
+}
+
+fn append_has_interface(listed: (u8, Interface), out: &mut String) -> Result<(), Memory>
+    ensures text { OnOk result (string_bytes out.new ≡ string_bytes out.old ++ ended (interface_form listed)) }
+    ensures form { OnOk result (IsForm (interface_form listed)) }
+{
+    let (id, interface) = listed;
+    let (area, address, peer) = (
+        Address(interface.area),
+        Address(interface.address),
+        Address(interface.peer),
+    );
+    let state = state_word(interface.up);
+    write!(out, "has interface {id} {area} {address} {peer} {state}\n")?;
+    Ok(())
+}
+
+fn append_has_lsas(alloc: Global, lsas: &[(Scope, Checked)], out: &mut String) -> Result<(), Memory>
+    ensures text { OnOk result (string_bytes out.new ≡ string_bytes out.old ++ text_of_forms (map lsa_form lsas.now)) }
+    ensures forms { OnOk result (All IsForm (map lsa_form lsas.now)) }
+    ensures lsas { OnOk result (AreWhole lsas.now) }
+{
+    for (scope, lsa) in lsas {
+        append_has_lsa(alloc, *scope, lsa, out)?;
+    }
+    Ok(())
+}
+
+fn append_has_lsa(
+    alloc: Global,
+    scope: Scope,
+    lsa: &Checked,
+    out: &mut String,
+) -> Result<(), Memory>
+    ensures text { OnOk result (string_bytes out.new ≡ string_bytes out.old ++ ended (HasLsaLine scope (spelling lsa.now))) }
+    ensures form { OnOk result (IsForm (HasLsaLine scope (spelling lsa.now))) }
+    ensures lsa { OnOk result (IsWhole lsa.now) }
+{
+    let mut bytes = Vec::new(alloc);
+    lsa_codec::write(lsa, &mut bytes)?;
+    let digits = hex::encode(alloc, bytes.as_slice())?;
+    write!(out, "has lsa {} {digits}\n", ScopeField(scope))?;
+    Ok(())
+}
+
+// The lines that come first, each in its place.
+fn append_first(version: Version, base: &Base, out: &mut String) -> Result<(), Memory>
+    ensures text { OnOk result (string_bytes out.new ≡ string_bytes out.old ++ text_of_forms (first_forms version base.now)) }
+    ensures forms { OnOk result (All IsForm (first_forms version base.now)) }
+{
+    let (router, compat) = (base.config.router, base.config.compat);
     match version {
         Version::One => append_first_of_one(router, out),
         Version::Two => append_first_of_two(router, compat, out),
+        Version::Three => append_first_of_three(router, compat, base.serial, out),
     }
 }
 
 fn append_first_of_one(router: u32, out: &mut String) -> Result<(), Memory>
-    ensures text { OnOk result (string_bytes out.new ≡ string_bytes out.old ++ text_of_forms (first_forms version.One router false)) }
+    ensures text { OnOk result (string_bytes out.new ≡ string_bytes out.old ++ text_of_forms (VersionLine version.One ∷ RouterLine router ∷ [])) }
     ensures form { OnOk result (IsForm (RouterLine router)) }
 {
     write!(out, "abr 1\nrouter {}\n", Address(router))?;
@@ -84,11 +156,29 @@ fn append_first_of_one(router: u32, out: &mut String) -> Result<(), Memory>
 }
 
 fn append_first_of_two(router: u32, compat: bool, out: &mut String) -> Result<(), Memory>
-    ensures text { OnOk result (string_bytes out.new ≡ string_bytes out.old ++ text_of_forms (first_forms version.Two router compat)) }
+    ensures text { OnOk result (string_bytes out.new ≡ string_bytes out.old ++ text_of_forms (VersionLine version.Two ∷ RouterLine router ∷ CompatLine compat ∷ [])) }
     ensures form { OnOk result (IsForm (RouterLine router)) }
 {
     let state = enabled_word(compat);
     write!(out, "abr 2\nrouter {}\ncompat {state}\n", Address(router))?;
+    Ok(())
+}
+
+fn append_first_of_three(
+    router: u32,
+    compat: bool,
+    serial: u64,
+    out: &mut String,
+) -> Result<(), Memory>
+    ensures text { OnOk result (string_bytes out.new ≡ string_bytes out.old ++ text_of_forms (VersionLine version.Three ∷ RouterLine router ∷ CompatLine compat ∷ SerialLine serial ∷ [])) }
+    ensures router { OnOk result (IsForm (RouterLine router)) }
+    ensures serial { OnOk result (IsForm (SerialLine serial)) }
+{
+    let (router, state) = (Address(router), enabled_word(compat));
+    write!(
+        out,
+        "abr 3\nrouter {router}\ncompat {state}\nserial {serial}\n"
+    )?;
     Ok(())
 }
 
@@ -150,6 +240,12 @@ pub fn append_event(alloc: Global, event: &Event, out: &mut String) -> Result<()
             peer,
             up,
         } => append_interface(*id, *area, *address, *peer, *up, out),
+        Event::RangeSet {
+            area,
+            prefix,
+            advertise,
+        } => append_range_set(*area, *prefix, *advertise, out),
+        Event::RangeDrop { area, prefix } => append_range_drop(*area, *prefix, out),
         Event::Second => Ok(out.push_str("second\n")?),
     }
 }
@@ -163,6 +259,7 @@ pub(crate) fn append_line(alloc: Global, line: &Line, out: &mut String) -> Resul
     match line {
         Line::Event(event) => append_event(alloc, event, out),
         Line::Lookup(address) => append_lookup(*address, out),
+        Line::Roll => Ok(out.push_str("roll\n")?),
     }
 }
 
@@ -220,6 +317,28 @@ fn state_word(up: bool) -> &'static str
     ensures { result.now ≡ cond up (codes "up") (codes "down") }
 {
     if up { "up" } else { "down" }
+}
+
+fn append_range_set(
+    area: u32,
+    prefix: Prefix,
+    advertise: bool,
+    out: &mut String,
+) -> Result<(), Memory>
+    ensures text { OnOk result (string_bytes out.new ≡ string_bytes out.old ++ ended (BodyLine (RangeSetLine area (record { prefix = prefix; advertise = advertise })))) }
+    ensures form { OnOk result (IsForm (BodyLine (RangeSetLine area (record { prefix = prefix; advertise = advertise })))) }
+{
+    let shown = advertise_word(advertise);
+    write!(out, "range-set {} {prefix} {shown}\n", Address(area))?;
+    Ok(())
+}
+
+fn append_range_drop(area: u32, prefix: Prefix, out: &mut String) -> Result<(), Memory>
+    ensures text { OnOk result (string_bytes out.new ≡ string_bytes out.old ++ ended (BodyLine (RangeDropLine area prefix))) }
+    ensures form { OnOk result (IsForm (BodyLine (RangeDropLine area prefix))) }
+{
+    write!(out, "range-drop {} {prefix}\n", Address(area))?;
+    Ok(())
 }
 
 fn append_lookup(address: u32, out: &mut String) -> Result<(), Memory>

@@ -1,27 +1,32 @@
 //! A recording as a value.
-ghost use Rattle.std.specs.Prelude.{◌≡◌, ◌↔◌, false, All, IfSome, IsNone, IsTrue, map};
+ghost use Rattle.std.specs.Prelude.{◌≡◌, ◌↔◌, [], None, All, IfSome, IsNone, IsTrue, is_none, map};
 ghost use Rattle.std.specs.List.Sorted.{IsStrictlySortedBy};
 ghost use Rattle.std.specs.Ordering.{nat_cmp};
 ghost use Rattle.ospf_types.specs.Network.{network_cmp};
-ghost use Rattle.recording.specs.declared.version.Version.TheVariants as version_value;
+ghost use Rattle.event_state.specs.BaseFaults.{base_fault_of, unfit_of};
+ghost use Rattle.event_state.specs.Steps.{standard_limits};
 ghost use Rattle.recording.specs.Forms.{IsKind};
-ghost use Rattle.recording.specs.Recordings.{IsRecording, IsOrdered, HasKind};
+ghost use Rattle.recording.specs.Recordings.{IsRecording, IsBaseOrdered, IsOrdered, AreByIds, AreByPlaces, CanSpell, HasKind, IsEventIn, IsLineIn};
 
+use crate::base_lines::compare_places;
 use crate::line::Line;
 use crate::version::Version;
 use config_faults::fault_in;
-use event_state::Event;
-use ospf_types::config::{AreaConfig, Config, Range};
+use event_state::{Base, Event, Limits, unfit_in};
+use lsa_codec::Checked;
+use ospf_types::config::{AreaConfig, Config, Interface, Range};
+use ospf_types::key::Scope;
 use ospf_types::lsa::{AS_EXTERNAL_LSA, ROUTER_LSA};
 use std::marker::Model;
 
-/// The configuration of a router, and what happened then. The configuration has none of the faults 40
-/// to 44, areas ascend by Area ID and the ranges of an area by address and length, and the LS type in
-/// a key is one of the five. In version 1 RFC1583Compatibility is disabled.
+/// The base of a router, and what happened then. The base has no fault; its areas ascend by Area ID, the ranges of an area by
+/// address and length, interfaces by id, and LSAs by scope and key; and the LS type in a key is one of the five. In version 1
+/// RFC1583Compatibility is disabled. Only in version 3 are there a serial other than 0, interfaces and LSAs in the base, events
+/// that change ranges, and rolls.
 #[derive(Debug)]
 pub struct Recording {
     version: Version,
-    config: Config,
+    base: Base,
     lines: Vec<Line>,
 }
 
@@ -30,7 +35,7 @@ impl Drop for Recording {
     fn drop(self) {
         let Recording {
             version: _,
-            config: _config,
+            base: _base,
             lines: _lines,
         } = self;
     }
@@ -41,42 +46,44 @@ impl Model for Recording {
 
     ghost Value = { RecordingValue };
 
-    ghost view = { λ r. record { version = r.version; config = r.config; lines = r.lines.items } };
+    ghost view = { λ r. record { version = r.version; base = r.base; lines = r.lines.items } };
 
-    ghost invariant = { λ r. IsRecording (record { version = r.version; config = r.config; lines = r.lines.items }) };
+    ghost invariant = { λ r. IsRecording (record { version = r.version; base = r.base; lines = r.lines.items }) };
 }
 
 impl Recording {
-    /// The recording, in this version of the format, of a configuration and of what happened then. `None` where the
-    /// configuration has one of the faults 40 to 44, its areas or ranges are not in order, an LS type in a key is none of
-    /// the five, or the version is 1 and RFC1583Compatibility is enabled.
-    pub fn of(version: Version, config: Config, lines: Vec<Line>) -> Option<Recording>
-        ensures some { IfSome result (λ r. r ≡ record { version = version; config = config; lines = lines.items }) }
+    /// The recording, in this version of the format, of a base and of what happened then. `None` where the base has a fault or
+    /// is not in order, an LS type in a key is none of the five, the version is 1 and RFC1583Compatibility is enabled, or it is
+    /// 1 or 2 and there is what only version 3 spells: a serial other than 0, an interface or an LSA in the base, an event that
+    /// changes a range, or a roll.
+    pub fn of(version: Version, base: Base, lines: Vec<Line>) -> Option<Recording>
+        ensures some { IfSome result (λ r. r ≡ record { version = version; base = base; lines = lines.items }) }
         ensures kept { IfSome result IsRecording }
-        ensures none { IsNone result → ¬ IsRecording (record { version = version; config = config; lines = lines.items }) }
+        ensures none { IsNone result → ¬ IsRecording (record { version = version; base = base; lines = lines.items }) }
     {
-        let tested = has_compat(version, config.compat)
-            && fault_in(&config).is_none()
-            && has_order(config.areas.as_slice())
-            && has_kinds(lines.as_slice());
+        let tested = can_spell(version, &base)
+            && has_order(&base)
+            && is_sound(&base)
+            && has_kinds(lines.as_slice())
+            && are_lines_in(version, lines.as_slice());
         if !tested {
             return None;
         }
         Some(Recording {
             version,
-            config,
+            base,
             lines,
         })
     }
 
     // The recording of parts that the caller has tested.
-    pub(crate) fn of_tested(version: Version, config: Config, lines: Vec<Line>) -> Recording
-        requires { IsRecording (record { version = version; config = config; lines = lines.items }) }
-        ensures { result ≡ record { version = version; config = config; lines = lines.items } }
+    pub(crate) fn of_tested(version: Version, base: Base, lines: Vec<Line>) -> Recording
+        requires { IsRecording (record { version = version; base = base; lines = lines.items }) }
+        ensures { result ≡ record { version = version; base = base; lines = lines.items } }
     {
         Recording {
             version,
-            config,
+            base,
             lines,
         }
     }
@@ -89,11 +96,20 @@ impl Recording {
         self.version
     }
 
-    pub fn config(&self) -> &Config
-        ensures value { result.now ≡ self.now.config }
+    /// What there was before anything happened.
+    pub fn base(&self) -> &Base
+        ensures value { result.now ≡ self.now.base }
         ensures kept { IsRecording self.now }
     {
-        &self.config
+        &self.base
+    }
+
+    /// The configuration of the base.
+    pub fn config(&self) -> &Config
+        ensures value { result.now ≡ self.now.base.config }
+        ensures kept { IsRecording self.now }
+    {
+        &self.base.config
     }
 
     /// What happened, in order.
@@ -104,31 +120,76 @@ impl Recording {
         self.lines.as_slice()
     }
 
-    /// The version of the format, the configuration, and what happened.
-    pub fn into_parts(self) -> (Version, Config, Vec<Line>)
+    /// The version of the format, the base, and what happened.
+    pub fn into_parts(self) -> (Version, Base, Vec<Line>)
         ensures version { result.0 ≡ self.version }
-        ensures config { result.1 ≡ self.config }
+        ensures base { result.1 ≡ self.base }
         ensures lines { result.2.items ≡ self.lines }
         ensures kept { IsRecording self }
     {
         let Recording {
             version,
-            config,
+            base,
             lines,
         } = self;
-        (version, config, lines)
+        (version, base, lines)
     }
 }
 
-// Whether a recording of the version can say so.
-fn has_compat(version: Version, compat: bool) -> bool
-    ensures { IsTrue result ↔ (version ≡ version_value.One → compat ≡ false) }
+// Whether the version has lines for all of the base.
+fn can_spell(version: Version, base: &Base) -> bool
+    ensures { IsTrue result ↔ CanSpell version base.now }
 {
-    version != Version::One || !compat
+    match version {
+        Version::One => !base.config.compat && is_unbased(base),
+        Version::Two => is_unbased(base),
+        Version::Three => true,
+    }
 }
 
-// Whether areas ascend by Area ID, and the ranges of each by address and length.
-fn has_order(areas: &[AreaConfig]) -> bool
+// Whether there is a configuration alone.
+fn is_unbased(base: &Base) -> bool
+    ensures { IsTrue result ↔ ((base.now.serial ≡ 0) × (base.now.interfaces ≡ []) × (base.now.lsas ≡ [])) }
+{
+    base.serial == 0 && base.interfaces.is_empty() && base.lsas.is_empty()
+}
+
+// Whether areas ascend by Area ID, the ranges of each by address and length, interfaces by id, and LSAs by scope and key.
+fn has_order(base: &Base) -> bool
+    ensures { IsTrue result ↔ IsBaseOrdered base.now }
+{
+    areas_have_order(base.config.areas.as_slice())
+        && interfaces_ascend(base.interfaces.as_slice())
+        && lsas_ascend(base.lsas.as_slice())
+}
+
+// Whether a base in order has no fault.
+fn is_sound(base: &Base) -> bool
+    requires { IsBaseOrdered base.now }
+    ensures { IsTrue result ↔ (base_fault_of standard_limits base.now ≡ None) }
+{
+    fault_in(&base.config).is_none() && is_fit(base)
+}
+
+fn is_fit(base: &Base) -> bool
+    ensures { result ≡ is_none (unfit_of standard_limits base.now) }
+{
+    unfit_in(base, Limits::STANDARD).is_none()
+}
+
+fn interfaces_ascend(interfaces: &[(u8, Interface)]) -> bool
+    ensures { IsTrue result ↔ AreByIds interfaces.now }
+{
+    interfaces.is_sorted_by(|a, b| a.0 < b.0)
+}
+
+fn lsas_ascend(lsas: &[(Scope, Checked)]) -> bool
+    ensures { IsTrue result ↔ AreByPlaces lsas.now }
+{
+    lsas.is_sorted_by(|a, b| compare_places(a.0, a.1.key(), b.0, b.1.key()).is_lt())
+}
+
+fn areas_have_order(areas: &[AreaConfig]) -> bool
     ensures { IsTrue result ↔ IsOrdered areas.now }
 {
     areas_ascend(areas) && all_ranges_ascend(areas)
@@ -167,6 +228,33 @@ fn has_kind(line: &Line) -> bool
     match line {
         Line::Event(Event::Flush { key, .. }) => is_kind(key.kind),
         Line::Event(Event::Purge { key, .. }) => is_kind(key.kind),
+        _ => true,
+    }
+}
+
+// Whether the version has each of the lines.
+fn are_lines_in(version: Version, lines: &[Line]) -> bool
+    ensures { IsTrue result ↔ All (IsLineIn version) lines.now }
+{
+    lines.iter().all(|line| is_line_in(version, line))
+}
+
+fn is_line_in(version: Version, line: &Line) -> bool
+    ensures { IsTrue result ↔ IsLineIn version line.now }
+{
+    match line {
+        Line::Event(event) => is_event_in(version, event),
+        Line::Lookup(_) => true,
+        Line::Roll => version == Version::Three,
+    }
+}
+
+fn is_event_in(version: Version, event: &Event) -> bool
+    ensures { IsTrue result ↔ IsEventIn version event.now }
+{
+    match event {
+        Event::RangeSet { .. } => version == Version::Three,
+        Event::RangeDrop { .. } => version == Version::Three,
         _ => true,
     }
 }

@@ -1,12 +1,14 @@
 //! The words of a line, and what they spell.
-ghost use Rattle.std.specs.Prelude.{◌≡◌, ◌≢◌, ◌≤◌, ◌↔◌, ◌∷◌, [], MatchOption, IsTrue, All, length, cond, decimal};
+ghost use Rattle.std.specs.Prelude.{◌≡◌, ◌≢◌, ◌≤◌, ◌↔◌, ◌∷◌, ◌^◌, ℕ, List, [], MatchOption, IsTrue, All, cond, decimal};
 ghost use Rattle.std.specs.Str.Parse.{AllDigits, digits_value};
+ghost use Rattle.hex.specs.Hex.{encode_lower};
 ghost use Rattle.ospf_types.specs.Text.{address_text, prefix_text};
-ghost use Rattle.recording.specs.Forms.{IsAddress, IsKey, IsPrefix, IsScope, IsStub, key_words, scope_text, stub_words};
-ghost use Rattle.recording.specs.Reading.{cut, IsRead, Takes, TakesWord, AreDigits, IsLowerDigit, IsUnpadded};
+ghost use Rattle.recording.specs.Forms.{AreBytes, IsAddress, IsKey, IsPrefix, IsScope, IsSerial, IsStub, key_words, scope_text, stub_words, version_word};
+ghost use Rattle.recording.specs.Reading.{cut, IsRead, Takes, TakesWord, AreDigits, IsLowerDigit, IsPair, IsUnpadded, pair_words};
 
+use crate::version::Version;
 use memchr::memchr;
-use ospf_types::config::Stub;
+use ospf_types::config::{Interface, Stub};
 use ospf_types::key::{Key, Scope};
 use ospf_types::prefix::Prefix;
 use std::marker::Model;
@@ -63,6 +65,46 @@ impl<'a> Words<'a> {
         ensures { TakesWord decimal (λ n. n ≤ most) self.old self.new result }
     {
         read_number(self.next()?, most)
+    }
+
+    /// A serial: a decimal number without leading zeros.
+    pub fn serial(&mut self) -> Option<u64>
+        ensures { TakesWord decimal IsSerial self.old self.new result }
+    {
+        read_serial(self.next()?)
+    }
+
+    /// The number of a version.
+    pub fn version(&mut self) -> Option<Version>
+        ensures { TakesWord version_word (λ _. Unit {0}) self.old self.new result }
+    {
+        read_version(self.next()?)
+    }
+
+    /// An interface with its id.
+    pub fn interface(&mut self) -> Option<(u8, Interface)>
+        ensures { Takes pair_words IsPair self.old self.new result }
+    {
+        let id = self.number(255)?;
+        let area = self.address()?;
+        let address = self.address()?;
+        let peer = self.address()?;
+        let up = self.choice(b"up", b"down")?;
+        let interface = Interface {
+            area,
+            address,
+            peer,
+            up,
+        };
+        Some((id as u8, interface))
+    }
+
+    /// Two hexadecimal digits for each byte.
+    pub fn digits(&mut self) -> Option<&'a [u8]>
+        ensures { MatchOption result ((bytes : List ℕ) (rest : List (List ℕ)) → AreBytes bytes → self.old ≢ encode_lower bytes ∷ rest) (λ word. AreDigits word.now × (self.old ≡ word.now ∷ self.new)) }
+    {
+        let word = self.next()?;
+        if are_digits(word) { Some(word) } else { None }
     }
 
     /// An address, a Router ID or an Area ID.
@@ -165,15 +207,37 @@ fn read_choice(word: &[u8], first: &[u8], second: &[u8]) -> Option<bool>
     }
 }
 
+fn read_version(word: &[u8]) -> Option<Version>
+    ensures { IsRead version_word (λ _. Unit {0}) word.now result }
+{
+    if is(word, b"1") {
+        Some(Version::One)
+    } else if is(word, b"2") {
+        Some(Version::Two)
+    } else if is(word, b"3") {
+        Some(Version::Three)
+    } else {
+        None
+    }
+}
+
 fn read_number(word: &[u8], most: u32) -> Option<u32>
     ensures { IsRead decimal (λ n. n ≤ most) word.now result }
 {
-    if !is_unpadded(word) {
-        return None;
-    }
-    let value = decimal_value(word)?;
+    let value = read_serial(word)?;
     if value <= u64::from(most) {
         Some(value as u32)
+    } else {
+        None
+    }
+}
+
+// A number without leading zeros, of which 64 bits have room.
+fn read_serial(word: &[u8]) -> Option<u64>
+    ensures { IsRead decimal IsSerial word.now result }
+{
+    if is_unpadded(word) {
+        decimal_value(word)
     } else {
         None
     }
@@ -185,27 +249,27 @@ fn is_unpadded(word: &[u8]) -> bool
     match word {
         [] => false,
         [b'0', _, ..] => false,
-        _ => word.len() <= 10,
+        _ => true,
     }
 }
 
-// What up to ten digits write.
+// What digits write, where 64 bits have room for it.
 fn decimal_value(word: &[u8]) -> Option<u64>
-    requires { length word.now ≤ 10 }
-    ensures { MatchOption result (¬ AllDigits 10 word.now) (λ n. AllDigits 10 word.now × (n ≡ digits_value 10 word.now)) }
+    ensures { MatchOption result (AllDigits 10 word.now → 2 ^ 64 ≤ digits_value 10 word.now) (λ n. AllDigits 10 word.now × (n ≡ digits_value 10 word.now) × IsSerial n) }
 {
     let mut value: u64 = 0;
     for digit in word {
         if !digit.is_ascii_digit() {
             return None;
         }
-        value = value * 10 + u64::from(*digit - b'0');
+        let tens = value.checked_mul(10)?;
+        value = tens.checked_add(u64::from(*digit - b'0'))?;
     }
     Some(value)
 }
 
-/// Whether these are the hexadecimal digits of bytes.
-pub(crate) fn are_digits(word: &[u8]) -> bool
+// Whether these are the hexadecimal digits of bytes.
+fn are_digits(word: &[u8]) -> bool
     ensures { IsTrue result ↔ AreDigits word.now }
 {
     word.len() % 2 == 0 && all_digits(word)

@@ -1,35 +1,30 @@
--- What was written where a replay ends early is the beginning of an output: the run can be completed, each event that is left being refused for the
--- reason that it has, or for want of memory.
-use Rattle.std.proofs.Common.{◌≡◌, ◌∙◌, ℕ, ◌+◌, ◌++◌, true, List, [], ◌∷◌, length, map, take, drop, Option, Some, None, refl, sym, ap, subst, inl, inr, append_assoc, take-append-drop}
-use Rattle.std.specs.Prelude.{◌==◌, ◌||◌, Result, Ok, Err}
+-- What was written where a replay ends early is the beginning of an output: the run can be completed, each event and each roll that is left being refused for
+-- the reason that it has, or for want of memory.
+use Rattle.std.proofs.Common.{◌≡◌, ◌∙◌, ℕ, ◌+◌, ◌++◌, List, [], ◌∷◌, length, take, drop, Option, Some, None, refl, sym, ap, subst, inl, inr, append_assoc, take-append-drop}
+use Rattle.std.specs.Prelude.{Err}
 use Rattle.std.proofs.lemmas.Bool.Decides.{eqb_tells}
-use Rattle.std.specs.List.{flat_map, list_any, Contains}
+use Rattle.std.specs.List.{flat_map}
 use Rattle.std.specs.FinMap.{entries}
-use Rattle.ospf_types.specs.declared.config.AreaConfig.{AreaConfig}
-use Rattle.ospf_types.specs.declared.config.Config.{Config}
 use Rattle.ospf_types.specs.declared.key.Scope.{Scope}
 use Rattle.ospf_types.specs.Lsa.{Lsa}
-use Rattle.ospf_types.proofs.Elements.{no_element, first_element, later_element, first_or_later}
 use Rattle.event_state.specs.declared.event.Event.{Event}
 use Rattle.event_state.specs.declared.refusal.Refusal.{Refusal}
 use Rattle.event_state.specs.declared.refusal.Refusal.TheVariants as refusal
-use Rattle.event_state.specs.Steps.{opening, refusal_of}
-use Rattle.event_core.specs.Cores.{CoreValue, Applies, IsRefused, state_of}
-use Rattle.event_core.specs.declared.reply.Reply.{Reply}
-use Rattle.event_core.specs.Listings.{AreAreaIds, AreLsas, lsas_in}
-use Rattle.event_core.proofs.Listings.{has_place}
-use Rattle.event_core.proofs.Runs.{run_setting}
+use Rattle.event_state.specs.Steps.{refusal_of}
+use Rattle.event_core.specs.Cores.{CoreValue, IsRefused, IsRollRefusal, state_of}
+use Rattle.event_core.specs.Listings.{AreLsas, lsas_in}
 use Rattle.recording.specs.declared.line.Line.{Line}
 use Rattle.recording.specs.declared.line.Line.TheVariants as line
-use Rattle.recording.specs.Recordings.{RecordingValue, IsOrdered, text_of}
+use Rattle.recording.specs.Recordings.{RecordingValue, text_of}
 use Rattle.recording.specs.declared.show.Show.{Show}
 use Rattle.recording.specs.declared.show.Show.TheVariants as show
-use Rattle.replay.specs.Lines.{first_number, lookup_line, answer_line, serial_line, item_line, area_lines, lsa_line}
-use Rattle.replay.specs.Runs.{Answers, Prints}
+use Rattle.replay.specs.Lines.{first_number, lookup_line, answer_line, roll_line, serial_line, item_line, area_lines, lsa_line}
+use Rattle.replay.specs.Runs.{OfEvent, OfRoll, Answers, Prints}
 use Rattle.replay.specs.declared.page.Stop.{Stop}
 use Rattle.replay.specs.Stops.{IsLeft}
 use Rattle.replay.specs.Outputs.{IsRun, IsShown, IsOutput, IsCutOutput, journal_of}
 use Rattle.replay.specs.Parts.{PrintsRun, IsCut}
+use Rattle.replay.proofs.AreaIds.{some_ids}
 use Rattle.replay.proofs.Matching.{some_match}
 use Rattle.replay.proofs.RunSteps.{prints_more}
 use Rattle.replay.proofs.Wholes.{left_longer}
@@ -42,6 +37,13 @@ refused c e = by (refusal_of (state_of c) e) refl
     by : (o : Option Refusal) → refusal_of (state_of c) e ≡ o → (f : Refusal) × IsRefused c e f c
     by (Some f) is = (f, record { first = inl is; unchanged = refl })
     by None is = (refusal.Memory, record { first = inr (refl, is); unchanged = refl })
+
+-- a roll is refused where the core is behind, and elsewhere for want of memory
+roll_refused : (c : CoreValue) → (f : Refusal) × IsRollRefusal c f
+roll_refused c = elim (eqb_tells c.built (length c.journal)) [
+  | inl current ↦ (refusal.Memory, inr (refl, current.1))
+  | inr behind ↦ (refusal.NotCurrent, inl (refl, behind.1))
+]
 
 -- lines were run, and the core is as before
 record Rested (c : CoreValue) (number : ℕ) (lines : List Line) : Type 0 where
@@ -58,52 +60,17 @@ rested c number (line.Lookup address ∷ lines) =
 rested c number (line.Event e ∷ lines) =
     let f = refused c e in
     let rest = rested c (number + 1) lines in
-    record { answers = Err f.0 ∷ rest.answers; text = answer_line number (Err f.0) ++ rest.text; run = (c, rest.text, f.1, refl, rest.run) }
+    record { answers = OfEvent (Err f.0) ∷ rest.answers; text = answer_line number (Err f.0) ++ rest.text; run = (c, rest.text, f.1, refl, rest.run) }
+rested c number (line.Roll ∷ lines) =
+    let f = roll_refused c in
+    let rest = rested c (number + 1) lines in
+    record { answers = OfRoll (Err f.0) ∷ rest.answers; text = roll_line number (Err f.0) ++ rest.text; run = (c, rest.text, (f.1, refl), refl, rest.run) }
 
 -- ---- what is shown then
 
-from_any : (areas : List AreaConfig) (id : ℕ) → list_any (λ a. a.id == id) areas ≡ true → Contains (map (λ (a : AreaConfig). a.id) areas) id
-from_any [] id none = cc
-from_any (a ∷ areas) id some = elim (eqb_tells a.id id) [
-  | inl same ↦ subst (Contains (a.id ∷ map (λ (b : AreaConfig). b.id) areas)) same.1 (first_element a.id (map (λ (b : AreaConfig). b.id) areas))
-  | inr other ↦ later_element a.id id (map (λ (b : AreaConfig). b.id) areas) (from_any areas id (sym (ap (λ b. b || list_any (λ (b : AreaConfig). b.id == id) areas) other.0) ∙ some))
-]
-
-to_any : (areas : List AreaConfig) (id : ℕ) → Contains (map (λ (a : AreaConfig). a.id) areas) id → list_any (λ a. a.id == id) areas ≡ true
-to_any [] id none = absurd (no_element id none)
-to_any (a ∷ areas) id some = elim (eqb_tells a.id id) [
-  | inl same ↦ ap (λ b. b || list_any (λ (b : AreaConfig). b.id == id) areas) same.0
-  | inr other ↦ elim (first_or_later a.id id (map (λ (b : AreaConfig). b.id) areas) some) [
-    | inl first ↦ absurd (other.1 (sym first))
-    | inr later ↦ ap (λ b. b || list_any (λ (b : AreaConfig). b.id == id) areas) other.0 ∙ to_any areas id later
-  ]
-]
-
--- areas that ascend are in the order of their Area IDs
-area_ids : (areas : List AreaConfig) → IsOrdered areas → AreAreaIds areas (map (λ (a : AreaConfig). a.id) areas)
-area_ids areas ordered = record {
-  ascending = ordered.ascending;
-  same = λ id. (λ has. has_place areas id ∙ to_any areas id has, λ some. from_any areas id (sym (has_place areas id) ∙ some));
-}
-
-applies_config : (old new : CoreValue) (e : Event) (answer : Result Reply Refusal) → Applies old e answer new → new.config ≡ old.config
-applies_config old new e (Ok reply) taken = taken.config
-applies_config old new e (Err refusal) refused = ap (λ (c : CoreValue). c.config) refused.unchanged
-
-prints_config : (old new : CoreValue) (number : ℕ) (lines : List Line) (answers : Answers) (text : List ℕ) → Prints old number lines answers text new → new.config ≡ old.config
-prints_config old new number [] [] text (none, same) = ap (λ (c : CoreValue). c.config) same
-prints_config old new number [] (a ∷ answers) text run = absurd run
-prints_config old new number (line.Lookup address ∷ lines) answers text (found, rest, matched, printed, run) = prints_config old new (number + 1) lines answers rest run
-prints_config old new number (line.Event e ∷ lines) [] text run = absurd run
-prints_config old new number (line.Event e ∷ lines) (a ∷ answers) text (mid, rest, applies, printed, run) =
-    prints_config mid new (number + 1) lines answers rest run ∙ applies_config old mid e a applies
-
 -- the LSAs can be listed
-some_lsas : (r : RecordingValue) (c : CoreValue) → IsOrdered r.config.areas → c.config ≡ r.config → (lsas : List (Scope × Lsa)) × AreLsas (state_of c) lsas
-some_lsas r c ordered config =
-    let ids : List ℕ = map (λ (a : AreaConfig). a.id) r.config.areas in
-    let same : r.config ≡ (state_of c).config = sym ((run_setting (opening c.config c.limits) c.journal).config ∙ config) in
-    (lsas_in (state_of c) ids, (ids, subst (λ (g : Config). AreAreaIds g.areas ids) same (area_ids r.config.areas ordered), refl))
+some_lsas : (c : CoreValue) → (lsas : List (Scope × Lsa)) × AreLsas (state_of c) lsas
+some_lsas c = let ids = some_ids (state_of c).config.areas in (lsas_in (state_of c) ids.0, (ids.0, ids.1, refl))
 
 -- what is shown; it begins with the lines of the run, where these are printed
 record Shown (r : RecordingValue) (s : Show) (printed : List ℕ) (c : CoreValue) : Type 0 where
@@ -111,18 +78,18 @@ record Shown (r : RecordingValue) (s : Show) (printed : List ℕ) (c : CoreValue
   shown : IsShown r.version s printed c whole
   behind : PrintsRun s → (tail : List ℕ) × (whole ≡ printed ++ tail)
 
-some_shown : (r : RecordingValue) (s : Show) (printed : List ℕ) (c : CoreValue) → IsOrdered r.config.areas → c.config ≡ r.config → Shown r s printed c
-some_shown r show.Routes printed c ordered config =
+some_shown : (r : RecordingValue) (s : Show) (printed : List ℕ) (c : CoreValue) → Shown r s printed c
+some_shown r show.Routes printed c =
     let items : List ℕ = flat_map item_line (entries c.table.items) in
     record { whole = printed ++ serial_line c ++ items; shown = refl; behind = λ _. (serial_line c ++ items, append_assoc printed (serial_line c) items) }
-some_shown r show.Due printed c ordered config =
+some_shown r show.Due printed c =
     let dues : List ℕ = flat_map area_lines c.dues in
     record { whole = printed ++ serial_line c ++ dues; shown = refl; behind = λ _. (serial_line c ++ dues, append_assoc printed (serial_line c) dues) }
-some_shown r show.Lsdb printed c ordered config =
-    let lsas = some_lsas r c ordered config in
+some_shown r show.Lsdb printed c =
+    let lsas = some_lsas c in
     let listed : List ℕ = flat_map lsa_line lsas.0 in
     record { whole = printed ++ serial_line c ++ listed; shown = (lsas.0, lsas.1, refl); behind = λ _. (serial_line c ++ listed, append_assoc printed (serial_line c) listed) }
-some_shown r show.Journal printed c ordered config = record { whole = text_of (journal_of r.version c); shown = refl; behind = λ none. absurd none }
+some_shown r show.Journal printed c = record { whole = text_of (journal_of r.version c); shown = refl; behind = λ none. absurd none }
 
 -- ---- the whole output
 
@@ -133,14 +100,14 @@ record Completed (r : RecordingValue) (s : Show) (printed : List ℕ) : Type 0 w
   output : IsOutput r s answers whole
   behind : PrintsRun s → (tail : List ℕ) × (whole ≡ printed ++ tail)
 
-goes_on : (r : RecordingValue) (s : Show) (count : ℕ) (answers : Answers) (printed : List ℕ) (now : CoreValue) → IsOrdered r.config.areas → IsRun (record r { lines = take count r.lines }) answers printed now → Completed r s printed
-goes_on r s count answers printed now ordered h =
-    let first = first_number r.version r.config in
+goes_on : (r : RecordingValue) (s : Show) (count : ℕ) (answers : Answers) (printed : List ℕ) (now : CoreValue) → IsRun (record r { lines = take count r.lines }) answers printed now → Completed r s printed
+goes_on r s count answers printed now h =
+    let first = first_number r.version r.base in
     let rest = rested now (first + length (take count r.lines)) (drop count r.lines) in
     let both = prints_more h.opened now now first (take count r.lines) (drop count r.lines) answers rest.answers printed rest.text h.run rest.run in
     let run : Prints h.opened first r.lines (answers ++ rest.answers) (printed ++ rest.text) now =
     subst (λ (ls : List Line). Prints h.opened first ls (answers ++ rest.answers) (printed ++ rest.text) now) (take-append-drop count r.lines) both in
-    let text = some_shown r s (printed ++ rest.text) now ordered (prints_config h.opened now first (take count r.lines) answers printed h.run ∙ h.opening.opening.config) in
+    let text = some_shown r s (printed ++ rest.text) now in
     record {
       answers = answers ++ rest.answers;
       whole = text.whole;
@@ -148,9 +115,9 @@ goes_on r s count answers printed now ordered h =
       behind = λ prints. let b = text.behind prints in (rest.text ++ b.0, b.1 ∙ append_assoc printed rest.text b.0);
     }
 
-pub completed : (why : Stop) (r : RecordingValue) (s : Show) (text : List ℕ) → IsOrdered r.config.areas → IsCut why r s text → IsCutOutput why r s text
-completed why r s text ordered (inl begun) =
-    let all = goes_on r s 0 [] [] begun.opened ordered (record { opened = begun.opened; opening = begun.opening; run = (refl, refl) }) in
+pub completed : (why : Stop) (r : RecordingValue) (s : Show) (text : List ℕ) → IsCut why r s text → IsCutOutput why r s text
+completed why r s text (inl begun) =
+    let all = goes_on r s 0 [] [] begun.opened (record { opened = begun.opened; opening = begun.opening; run = (refl, refl) }) in
     record {
       answers = all.answers;
       whole = all.whole;
@@ -161,8 +128,8 @@ completed why r s text ordered (inl begun) =
         left = subst (λ w. IsLeft w text all.whole) (sym begun.cause) (inl begun.none);
       };
     }
-completed why r s text ordered (inr (inl cut)) =
-    let all = goes_on r s cut.count cut.answers cut.printed cut.now ordered cut.run in
+completed why r s text (inr (inl cut)) =
+    let all = goes_on r s cut.count cut.answers cut.printed cut.now cut.run in
     let b = all.behind cut.prints in
     record {
       answers = all.answers;
@@ -174,4 +141,4 @@ completed why r s text ordered (inr (inl cut)) =
         left = left_longer why text cut.part.rest b.0 cut.part.left;
       };
     }
-completed why r s text ordered (inr (inr out)) = out
+completed why r s text (inr (inr out)) = out

@@ -4,6 +4,7 @@ pub mod LineTexts
 pub mod Paging
 pub mod RunSteps
 pub mod Matching
+pub mod AreaIds
 pub mod Completing
 pub mod Ends
 pub mod Reading

@@ -1,29 +1,40 @@
 -- Runs of lines, and one line more.
 use Rattle.std.proofs.Common.{◌≡◌, ℕ, suc, ◌≤◌, ◌+◌, List, [], ◌∷◌, ◌++◌, length, take, Option, refl, sym, ap, subst, ◌∙◌, append_assoc, append-nil, arith}
-use Rattle.std.specs.Prelude.{Result}
+use Rattle.std.specs.Prelude.{Result, Ok, Err, IfOk, IfErr, OnOk, OnErr}
 use Rattle.std.proofs.lemmas.List.{length-append, take-append-le, take_all}
 use Rattle.event_state.specs.declared.event.Event.{Event}
 use Rattle.event_state.specs.declared.refusal.Refusal.{Refusal}
+use Rattle.event_state.specs.States.{serial_of}
 use Rattle.route_table.specs.declared.table.Match.{Match}
 use Rattle.route_table.specs.Tables.{TableValue, IsMatch}
 use Rattle.event_core.specs.declared.reply.Reply.{Reply}
-use Rattle.event_core.specs.Cores.{CoreValue, Applies}
+use Rattle.event_core.specs.Cores.{CoreValue, Applies, IsCurrent, IsRollRefusal, Rolls, state_of}
 use Rattle.recording.specs.declared.line.Line.{Line}
 use Rattle.recording.specs.declared.line.Line.TheVariants as line
-use Rattle.replay.specs.Lines.{lookup_line, answer_line}
-use Rattle.replay.specs.Runs.{Answers, Prints}
+use Rattle.replay.specs.Lines.{lookup_line, answer_line, roll_line}
+use Rattle.replay.specs.Runs.{OfEvent, OfRoll, Answers, RollsBy, Prints, text_of_answer}
 use Rattle.replay.specs.Pages.{Adds, AddsPart, RanLine, Ran, RanPart, IsRunTo}
 use Rattle.replay.specs.Stops.{AreWhole}
 use Rattle.replay.specs.declared.page.Stop.{Stop}
 use Rattle.replay.specs.declared.page.Stop.TheVariants as stop
-use Rattle.replay.proofs.Wholes.{answer_whole, lookup_whole}
+use Rattle.replay.proofs.Wholes.{answer_whole, roll_whole, lookup_whole}
 use Rattle.replay.proofs.Paging.{adds_none, adds_put, adds_moved, part_now, part_moved}
 
 -- ---- one line
 
+-- what a roll of a core promises, as one answer
+pub rolls_by : (old new : CoreValue) (r : Result ℕ Refusal) → OnOk r (Rolls old new) → IfOk r (λ serial. serial ≡ serial_of (state_of old)) → OnOk r (IsCurrent old) → IfErr r (IsRollRefusal old) → OnErr r (new ≡ old)
+    → RollsBy old r new
+rolls_by old new (Ok serial) rolled is current refused unchanged = (current, rolled, is)
+rolls_by old new (Err refusal) rolled is current refused unchanged = (refused, unchanged)
+
 event_prints : (old new : CoreValue) (number : ℕ) (e : Event) (answer : Result Reply Refusal) → Applies old e answer new
-    → Prints old number (line.Event e ∷ []) (answer ∷ []) (answer_line number answer) new
+    → Prints old number (line.Event e ∷ []) (OfEvent answer ∷ []) (answer_line number answer) new
 event_prints old new number e answer applies = (new, [], applies, sym (append-nil (answer_line number answer)), (refl, refl))
+
+roll_prints : (old new : CoreValue) (number : ℕ) (answer : Result ℕ Refusal) → RollsBy old answer new
+    → Prints old number (line.Roll ∷ []) (OfRoll answer ∷ []) (roll_line number answer) new
+roll_prints old new number answer rolls = (new, [], rolls, sym (append-nil (roll_line number answer)), (refl, refl))
 
 lookup_prints : (old : CoreValue) (number address : ℕ) (found : Match) → IsMatch old.table.items address found
     → Prints old number (line.Lookup address ∷ []) [] (lookup_line number address old.table.serial found) old
@@ -32,11 +43,21 @@ lookup_prints old number address found matched = (found, [], matched, sym (appen
 pub event_ran : (old new : CoreValue) (number : ℕ) (l : Line) (e : Event) (answer : Result Reply Refusal) (before after : List ℕ) → l ≡ line.Event e → Applies old e answer new
     → after ≡ before ++ answer_line number answer → RanLine old number l new before after
 event_ran old new number l e answer before after is applies printed = record {
-  answers = answer ∷ [];
+  answers = OfEvent answer ∷ [];
   text = answer_line number answer;
-  run = subst (λ (x : Line). Prints old number (x ∷ []) (answer ∷ []) (answer_line number answer) new) (sym is) (event_prints old new number e answer applies);
+  run = subst (λ (x : Line). Prints old number (x ∷ []) (OfEvent answer ∷ []) (answer_line number answer) new) (sym is) (event_prints old new number e answer applies);
   printed = printed;
   lines = answer_whole number answer;
+}
+
+pub roll_ran : (old new : CoreValue) (number : ℕ) (l : Line) (answer : Result ℕ Refusal) (before after : List ℕ) → l ≡ line.Roll → RollsBy old answer new
+    → after ≡ before ++ roll_line number answer → RanLine old number l new before after
+roll_ran old new number l answer before after is rolls printed = record {
+  answers = OfRoll answer ∷ [];
+  text = roll_line number answer;
+  run = subst (λ (x : Line). Prints old number (x ∷ []) (OfRoll answer ∷ []) (roll_line number answer) new) (sym is) (roll_prints old new number answer rolls);
+  printed = printed;
+  lines = roll_whole number answer;
 }
 
 pub lookup_ran : (old : CoreValue) (table : TableValue) (number : ℕ) (l : Line) (address : ℕ) (before after : List ℕ) → l ≡ line.Lookup address → table ≡ old.table
@@ -52,7 +73,11 @@ lookup_ran old table number l address before after is same (found, matched, prin
 
 pub event_taken : (old new : CoreValue) (l : Line) (e : Event) (answer : Result Reply Refusal) → l ≡ line.Event e → Applies old e answer new → IsRunTo old (l ∷ []) new
 event_taken old new l e answer is applies number =
-    subst (λ (x : Line). (answers : Answers) × (text : List ℕ) × Prints old number (x ∷ []) answers text new) (sym is) (answer ∷ [], answer_line number answer, event_prints old new number e answer applies)
+    subst (λ (x : Line). (answers : Answers) × (text : List ℕ) × Prints old number (x ∷ []) answers text new) (sym is) (OfEvent answer ∷ [], answer_line number answer, event_prints old new number e answer applies)
+
+pub roll_taken : (old new : CoreValue) (l : Line) (answer : Result ℕ Refusal) → l ≡ line.Roll → RollsBy old answer new → IsRunTo old (l ∷ []) new
+roll_taken old new l answer is rolls number =
+    subst (λ (x : Line). (answers : Answers) × (text : List ℕ) × Prints old number (x ∷ []) answers text new) (sym is) (OfRoll answer ∷ [], roll_line number answer, roll_prints old new number answer rolls)
 
 pub lookup_taken : (old : CoreValue) (table : TableValue) (l : Line) (address : ℕ) (found : Match) → l ≡ line.Lookup address → table ≡ old.table → IsMatch table.items address found
     → IsRunTo old (l ∷ []) old
@@ -74,10 +99,15 @@ prints_more old mid new number (line.Lookup address ∷ xs) ys ps qs t u (found,
     let more = prints_more old mid new (number + 1) xs ys ps qs rest u tail (subst (λ n. Prints mid n ys qs u new) count q) in
     (found, rest ++ u, matched, ap (λ w. w ++ u) text ∙ append_assoc (lookup_line number address old.table.serial found) rest u, more)
 prints_more old mid new number (line.Event e ∷ xs) ys [] qs t u p q = absurd p
-prints_more old mid new number (line.Event e ∷ xs) ys (a ∷ ps) qs t u (next, rest, applies, text, tail) q =
+prints_more old mid new number (line.Event e ∷ xs) ys (a ∷ ps) qs t u (next, rest, answered, text, tail) q =
     let count : number + suc (length xs) ≡ (number + 1) + length xs = omega arith in
     let more = prints_more next mid new (number + 1) xs ys ps qs rest u tail (subst (λ n. Prints mid n ys qs u new) count q) in
-    (next, rest ++ u, applies, ap (λ w. w ++ u) text ∙ append_assoc (answer_line number a) rest u, more)
+    (next, rest ++ u, answered, ap (λ w. w ++ u) text ∙ append_assoc (text_of_answer number a) rest u, more)
+prints_more old mid new number (line.Roll ∷ xs) ys [] qs t u p q = absurd p
+prints_more old mid new number (line.Roll ∷ xs) ys (a ∷ ps) qs t u (next, rest, answered, text, tail) q =
+    let count : number + suc (length xs) ≡ (number + 1) + length xs = omega arith in
+    let more = prints_more next mid new (number + 1) xs ys ps qs rest u tail (subst (λ n. Prints mid n ys qs u new) count q) in
+    (next, rest ++ u, answered, ap (λ w. w ++ u) text ∙ append_assoc (text_of_answer number a) rest u, more)
 
 -- ---- how far a run is
 

@@ -1,5 +1,5 @@
 -- Whole lines, and what a stop leaves.
-use Rattle.std.proofs.Common.{◌≡◌, ◌∙◌, ℕ, List, [], ◌∷◌, ◌++◌, length, codes, refl, sym, ap, subst, inl, inr, append_assoc, append-nil, arith}
+use Rattle.std.proofs.Common.{◌≡◌, ◌∙◌, ◌+◌, ℕ, List, [], ◌∷◌, ◌++◌, length, codes, refl, sym, ap, subst, inl, inr, append_assoc, append-nil, arith}
 use Rattle.std.specs.Prelude.{Result, Ok, Err, decimal}
 use Rattle.std.specs.List.{flat_map}
 use Rattle.std.proofs.lemmas.List.{length-append, nil_from_length}
@@ -23,7 +23,7 @@ use Rattle.recording.specs.Forms.{Form, line_text, scope_text}
 use Rattle.recording.specs.Recordings.{event_form, ended, text_of_forms}
 use Rattle.replay.specs.declared.page.Stop.{Stop}
 use Rattle.replay.specs.declared.page.Stop.TheVariants as stop
-use Rattle.replay.specs.Lines.{lookup_line, answer_line, standing_line, serial_line, item_line, due_line, dest_text, lsa_line, header_text, event_line}
+use Rattle.replay.specs.Lines.{lookup_line, answer_line, roll_line, standing_line, serial_line, item_line, due_line, dest_text, lsa_line, header_text, event_line}
 use Rattle.replay.specs.Stops.{IsEnded, AreWhole, IsLeft}
 
 pub none_whole : AreWhole []
@@ -80,8 +80,12 @@ pub answer_whole : (number : ℕ) (answer : Result Reply Refusal) → AreWhole (
 answer_whole number (Ok reply) = standing_whole number reply.state
 answer_whole number (Err refusal) = inr (line_ended (decimal number ++ codes " refused " ++ refusal_text refusal))
 
+pub roll_whole : (number : ℕ) (answer : Result ℕ Refusal) → AreWhole (roll_line number answer)
+roll_whole number (Ok serial) = none_whole
+roll_whole number (Err refusal) = inr (line_ended (decimal number ++ codes " refused " ++ refusal_text refusal))
+
 pub serial_whole : (c : CoreValue) → AreWhole (serial_line c)
-serial_whole c = inr (line_ended (codes "serial " ++ decimal (length c.journal) ++ codes " built " ++ decimal c.built))
+serial_whole c = inr (line_ended (codes "serial " ++ decimal (c.base.serial + length c.journal) ++ codes " built " ++ decimal (c.base.serial + c.built)))
 
 pub item_whole : (e : Network × Item) → AreWhole (item_line e)
 item_whole (p, item.Route entry) = inr (line_ended (codes "route " ++ prefix_text p ++ codes " " ++ entry_text entry))

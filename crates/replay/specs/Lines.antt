@@ -2,7 +2,6 @@
 use Rattle.std.specs.Prelude.{ℕ, ◌+◌, ◌++◌, List, length, Result, Ok, Err, codes, decimal}
 use Rattle.std.specs.Int.{w16, w32, to_be_bytes}
 use Rattle.hex.specs.Hex.{encode_lower}
-use Rattle.ospf_types.specs.declared.config.Config.{Config}
 use Rattle.ospf_types.specs.declared.key.Dest.{Dest}
 use Rattle.ospf_types.specs.declared.key.Dest.TheVariants.{Net, Router}
 use Rattle.ospf_types.specs.declared.key.Scope.{Scope}
@@ -12,6 +11,7 @@ use Rattle.ospf_types.specs.Network.{Network}
 use Rattle.ospf_types.specs.Text.{address_text, prefix_text, entry_text}
 use Rattle.std.specs.List.{flat_map}
 use Rattle.event_core.specs.Due.{Due}
+use Rattle.event_state.specs.declared.base.Base.{Base}
 use Rattle.event_state.specs.declared.refusal.Refusal.{Refusal}
 use Rattle.event_state.specs.Texts.{refusal_text}
 use Rattle.route_table.specs.declared.table.Item.{Item}
@@ -24,12 +24,12 @@ use Rattle.event_core.specs.declared.reply.Standing.TheVariants.{Current, Behind
 use Rattle.event_core.specs.Cores.{CoreValue}
 use Rattle.recording.specs.Forms.{scope_text}
 use Rattle.event_state.specs.declared.event.Event.{Event}
-use Rattle.recording.specs.Recordings.{header_forms, event_form, ended}
+use Rattle.recording.specs.Recordings.{front_forms, event_form, ended}
 use Rattle.recording.specs.declared.version.Version.{Version}
 
--- the number, in its recording, of the first line behind the header
-abbrev pub first_number : Version → Config → ℕ
-first_number v config = length (header_forms v config) + 1
+-- the number, in its recording, of the first line behind the base
+abbrev pub first_number : Version → Base → ℕ
+first_number v base = length (front_forms v base) + 1
 
 -- the match of the address in the table that follows so many events
 abbrev pub lookup_line : (number address serial : ℕ) → Match → List ℕ
@@ -52,9 +52,14 @@ abbrev pub answer_line : ℕ → Result Reply Refusal → List ℕ
 answer_line number (Ok reply) = standing_line number reply.state
 answer_line number (Err refusal) = refused_line number refusal
 
--- how many events were taken, and of how many the table is
+-- what is printed of the answer to a roll: nothing where it was carried out
+abbrev pub roll_line : ℕ → Result ℕ Refusal → List ℕ
+roll_line number (Ok serial) = codes ""
+roll_line number (Err refusal) = refused_line number refusal
+
+-- the serial, and that of the event which the table is after
 abbrev pub serial_line : CoreValue → List ℕ
-serial_line c = codes "serial " ++ decimal (length c.journal) ++ codes " built " ++ decimal c.built ++ codes "\n"
+serial_line c = codes "serial " ++ decimal (c.base.serial + length c.journal) ++ codes " built " ++ decimal (c.base.serial + c.built) ++ codes "\n"
 
 -- a network with its route, or with a discard
 abbrev pub item_line : Network × Item → List ℕ

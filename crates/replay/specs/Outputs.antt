@@ -18,26 +18,26 @@ use Rattle.replay.specs.Inputs.{ReadsAll}
 use Rattle.replay.specs.Stops.{IsBeginning}
 use Rattle.replay.specs.declared.page.Stop.{Stop}
 
--- the recording was run with these answers to its events, and its lines printed this
+-- the recording was run with these answers to its events and rolls, and its lines printed this
 pub record IsRun (r : RecordingValue) (answers : Answers) (printed : List ℕ) (closed : CoreValue) : Type 0 where
   pub opened : CoreValue
-  pub opening : IsOpened r.config opened
-  pub run : Prints opened (first_number r.version r.config) r.lines answers printed closed
+  pub opening : IsOpened r.base opened
+  pub run : Prints opened (first_number r.version r.base) r.lines answers printed closed
 
--- the recording, of the version, of the events that were taken
+-- the recording, of the version, of the base and the events that were taken since
 abbrev pub journal_of : Version → CoreValue → RecordingValue
-journal_of v c = record { version = v; config = c.config; lines = map line.Event c.journal }
+journal_of v c = record { version = v; base = c.base; lines = map line.Event c.journal }
 
 -- The text after the run: the lines of the run, how far it came, and what is shown. What is due is shown in the order of the areas, which ascend in a
--- recording. The journal is shown alone, in the version of the recording.
+-- recording. The journal is shown alone, behind its base, in the version of the recording.
 abbrev pub IsShown : Version → Show → (printed : List ℕ) → CoreValue → (text : List ℕ) → Type 0
 IsShown v show.Routes printed c text = text ≡ printed ++ serial_line c ++ flat_map item_line (entries c.table.items)
 IsShown v show.Due printed c text = text ≡ printed ++ serial_line c ++ flat_map area_lines c.dues
 IsShown v show.Lsdb printed c text = (lsas : List (Scope × Lsa)) × AreLsas (state_of c) lsas × (text ≡ printed ++ serial_line c ++ flat_map lsa_line lsas)
 IsShown v show.Journal printed c text = text ≡ text_of (journal_of v c)
 
--- The output of a recording for a show, where its events had these answers: of those that the databases take, some may have been refused for want of
--- memory, and some answered Behind; each of these is one of the answers.
+-- The output of a recording for a show, where its events and rolls had these answers: of the events that the databases take, some may have been refused for
+-- want of memory, and some answered Behind; a roll may have been refused for want of memory. Each of these is one of the answers.
 pub record IsOutput (r : RecordingValue) (s : Show) (answers : Answers) (text : List ℕ) : Type 0 where
   pub printed : List ℕ
   pub closed : CoreValue

@@ -21,7 +21,7 @@ pub record IsRead (before after : Option (List ℕ)) (r : RecordingValue) : Type
   pub bytes : List ℕ
   pub read : ReadsAll before after bytes
   pub text : IsText bytes r
-  pub few : first_number r.version r.config + length r.lines < 2 ^ 64
+  pub few : first_number r.version r.base + length r.lines < 2 ^ 64
 
 -- why a recording is not read
 abbrev pub IsReadFault : (before after : Option (List ℕ)) → ReplayFault → Type 0
@@ -42,7 +42,7 @@ pub record WritesOutput (r : RecordingValue) (s : Show) (old new : Option (List 
 -- a core was opened, and memory ran out before anything was written
 pub record IsBegun (why : Stop) (r : RecordingValue) (text : List ℕ) : Type 0 where
   pub opened : CoreValue
-  pub opening : IsOpened r.config opened
+  pub opening : IsOpened r.base opened
   pub cause : why ≡ stop.Memory
   pub none : text ≡ []
 

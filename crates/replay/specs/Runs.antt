@@ -1,21 +1,45 @@
 -- The run of a recording, line by line.
-use Rattle.std.specs.Prelude.{ℕ, ◌≡◌, ◌+◌, ◌++◌, List, [], ◌∷◌, Result}
-use Rattle.ospf_types.specs.declared.config.Config.{Config}
+use Rattle.std.specs.Prelude.{ℕ, ◌≡◌, ◌+◌, ◌++◌, List, [], ◌∷◌, Result, Ok, Err}
+use Rattle.event_state.specs.declared.base.Base.{Base}
 use Rattle.event_state.specs.declared.refusal.Refusal.{Refusal}
+use Rattle.event_state.specs.States.{serial_of}
 use Rattle.event_state.specs.Steps.{standard_limits}
 use Rattle.route_table.specs.declared.table.Match.{Match}
 use Rattle.route_table.specs.Tables.{IsMatch}
 use Rattle.event_core.specs.declared.reply.Reply.{Reply}
-use Rattle.event_core.specs.Cores.{CoreValue, Applies, IsCore, IsOpening}
+use Rattle.event_core.specs.Cores.{CoreValue, Applies, IsCore, IsCurrent, IsOpening, IsRollRefusal, Rolls, state_of}
 use Rattle.recording.specs.declared.line.Line.{Line}
 use Rattle.recording.specs.declared.line.Line.TheVariants as line
-use Rattle.replay.specs.Lines.{lookup_line, answer_line}
+use Rattle.replay.specs.Lines.{lookup_line, answer_line, roll_line}
 
--- the answers to events, one after the other
+-- what an event, or a roll, was answered
+pub data Answer : Type 0 where
+  OfEvent : (given : Result Reply Refusal) → Answer
+  OfRoll : (given : Result ℕ Refusal) → Answer
+
+-- the answers to events and rolls, one after the other
 abbrev pub Answers : Type 0
-Answers = List (Result Reply Refusal)
+Answers = List Answer
 
--- From one core to the other, over lines that are numbered from here on: each event has its answer, and this is printed.
+-- A core whose table and due summaries are those of the whole journal is rolled, and answers its serial. A refusal leaves everything as it was.
+abbrev pub RollsBy : CoreValue → Result ℕ Refusal → CoreValue → Type 0
+RollsBy old (Ok serial) new = IsCurrent old × Rolls old new × (serial ≡ serial_of (state_of old))
+RollsBy old (Err refusal) new = IsRollRefusal old refusal × (new ≡ old)
+
+-- the line leads from one core to the other with this answer
+abbrev pub IsAnswered : CoreValue → Line → Answer → CoreValue → Type 0
+IsAnswered old (line.Event e) (OfEvent given) new = Applies old e given new
+IsAnswered old line.Roll (OfRoll given) new = RollsBy old given new
+IsAnswered old (line.Event e) (OfRoll given) new = ⊥
+IsAnswered old line.Roll (OfEvent given) new = ⊥
+IsAnswered old (line.Lookup address) answer new = ⊥
+
+-- what is printed of it
+abbrev pub text_of_answer : ℕ → Answer → List ℕ
+text_of_answer number (OfEvent given) = answer_line number given
+text_of_answer number (OfRoll given) = roll_line number given
+
+-- From one core to the other, over lines that are numbered from here on: each event and each roll has its answer, and this is printed.
 abbrev pub Prints : CoreValue → ℕ → List Line → Answers → List ℕ → CoreValue → Type 0
 Prints old number [] [] text new = (text ≡ []) × (new ≡ old)
 Prints old number [] (answer ∷ answers) text new = ⊥
@@ -23,9 +47,12 @@ Prints old number (line.Lookup address ∷ lines) answers text new =
     (found : Match) × (rest : List ℕ) × IsMatch old.table.items address found × (text ≡ lookup_line number address old.table.serial found ++ rest) × Prints old (number + 1) lines answers rest new
 Prints old number (line.Event e ∷ lines) [] text new = ⊥
 Prints old number (line.Event e ∷ lines) (answer ∷ answers) text new =
-    (mid : CoreValue) × (rest : List ℕ) × Applies old e answer mid × (text ≡ answer_line number answer ++ rest) × Prints mid (number + 1) lines answers rest new
+    (mid : CoreValue) × (rest : List ℕ) × IsAnswered old (line.Event e) answer mid × (text ≡ text_of_answer number answer ++ rest) × Prints mid (number + 1) lines answers rest new
+Prints old number (line.Roll ∷ lines) [] text new = ⊥
+Prints old number (line.Roll ∷ lines) (answer ∷ answers) text new =
+    (mid : CoreValue) × (rest : List ℕ) × IsAnswered old line.Roll answer mid × (text ≡ text_of_answer number answer ++ rest) × Prints mid (number + 1) lines answers rest new
 
--- what a run begins with: no interfaces, empty databases, and the table of those
-pub record IsOpened (config : Config) (c : CoreValue) : Type 0 where
-  pub opening : IsOpening config standard_limits c
+-- what a run begins with: the base, no event since, and the table of the base
+pub record IsOpened (base : Base) (c : CoreValue) : Type 0 where
+  pub opening : IsOpening base standard_limits c
   pub core : IsCore c

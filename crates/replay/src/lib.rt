@@ -11,7 +11,7 @@ mod showing;
 mod writing;
 
 pub use fault::ReplayFault;
-pub use lines::{put_answer, put_serial};
+pub use lines::{put_answer, put_roll, put_serial};
 pub use page::{Stop, fault_of, write_page};
 pub use recording::Show;
 pub use replaying::{read_recording, replay_one};

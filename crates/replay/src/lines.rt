@@ -5,7 +5,7 @@ ghost use Rattle.hex.specs.Hex.{encode_lower};
 ghost use Rattle.recording.specs.Forms.{scope_text};
 ghost use Rattle.route_table.specs.declared.table.Match.{Match};
 ghost use Rattle.route_table.specs.Tables.{IsMatch};
-ghost use Rattle.replay.specs.Lines.{lookup_line, answer_line, serial_line, item_line, due_line, dest_text, header_text, lsa_line};
+ghost use Rattle.replay.specs.Lines.{lookup_line, answer_line, roll_line, serial_line, item_line, due_line, dest_text, header_text, lsa_line};
 
 use event_core::{Core, Due, Refusal, Reply, Standing};
 use lsa_codec::{Checked, Header};
@@ -49,11 +49,25 @@ pub fn put_answer(
     Ok(())
 }
 
-/// How many events were taken, and of how many the table is.
+/// The answer to a roll: nothing where it was carried out.
+pub fn put_roll(
+    number: usize,
+    answer: Result<u64, Refusal>,
+    text: &mut String,
+) -> Result<(), Memory>
+    ensures { OnOk result (string_bytes text.new ≡ string_bytes text.old ++ roll_line number answer) }
+{
+    if let Err(refusal) = answer {
+        writeln!(text, "{number} refused {refusal}")?;
+    }
+    Ok(())
+}
+
+/// The serial, and that of the event which the table is after.
 pub fn put_serial(core: &Core, text: &mut String) -> Result<(), Memory>
     ensures { OnOk result (string_bytes text.new ≡ string_bytes text.old ++ serial_line core.now) }
 {
-    let (serial, built) = (core.journal().len(), core.built());
+    let (serial, built) = (core.serial(), core.built());
     writeln!(text, "serial {serial} built {built}")?;
     Ok(())
 }

@@ -10,7 +10,7 @@ use crate::page::{Stop, empty_page, write_page};
 use crate::running::{run_lines, run_silently};
 use crate::showing::{show_dues, show_events, show_items, show_lsas};
 use event_core::Core;
-use recording::{Line, Version, append_header};
+use recording::{Line, Version, append_front};
 use std::alloc::Global;
 use std::io;
 
@@ -22,10 +22,10 @@ pub(crate) fn print_routes<W: io::Write>(
     lines: Vec<Line>,
     out: &mut W,
 ) -> Result<(), Stop>
-    requires opened { IsOpened core.old.config core.old }
-    requires few { first_number version core.old.config + length lines.items < 2 ^ 64 }
-    ensures ok { OnOk result (WritesOutput (record { version = version; config = core.old.config; lines = lines.items }) show.Routes (W.contents out.old) (W.contents out.new)) }
-    ensures err { IfErr result (λ why. WritesPart why (record { version = version; config = core.old.config; lines = lines.items }) show.Routes (W.contents out.old) (W.contents out.new)) }
+    requires opened { IsOpened core.old.base core.old }
+    requires few { first_number version core.old.base + length lines.items < 2 ^ 64 }
+    ensures ok { OnOk result (WritesOutput (record { version = version; base = core.old.base; lines = lines.items }) show.Routes (W.contents out.old) (W.contents out.new)) }
+    ensures err { IfErr result (λ why. WritesPart why (record { version = version; base = core.old.base; lines = lines.items }) show.Routes (W.contents out.old) (W.contents out.new)) }
 {
     let mut page = empty_page(alloc)?;
     run_lines(version, core, lines, out, &mut page)?;
@@ -43,10 +43,10 @@ pub(crate) fn print_due<W: io::Write>(
     lines: Vec<Line>,
     out: &mut W,
 ) -> Result<(), Stop>
-    requires opened { IsOpened core.old.config core.old }
-    requires few { first_number version core.old.config + length lines.items < 2 ^ 64 }
-    ensures ok { OnOk result (WritesOutput (record { version = version; config = core.old.config; lines = lines.items }) show.Due (W.contents out.old) (W.contents out.new)) }
-    ensures err { IfErr result (λ why. WritesPart why (record { version = version; config = core.old.config; lines = lines.items }) show.Due (W.contents out.old) (W.contents out.new)) }
+    requires opened { IsOpened core.old.base core.old }
+    requires few { first_number version core.old.base + length lines.items < 2 ^ 64 }
+    ensures ok { OnOk result (WritesOutput (record { version = version; base = core.old.base; lines = lines.items }) show.Due (W.contents out.old) (W.contents out.new)) }
+    ensures err { IfErr result (λ why. WritesPart why (record { version = version; base = core.old.base; lines = lines.items }) show.Due (W.contents out.old) (W.contents out.new)) }
 {
     let mut page = empty_page(alloc)?;
     run_lines(version, core, lines, out, &mut page)?;
@@ -64,10 +64,10 @@ pub(crate) fn print_lsdb<W: io::Write>(
     lines: Vec<Line>,
     out: &mut W,
 ) -> Result<(), Stop>
-    requires opened { IsOpened core.old.config core.old }
-    requires few { first_number version core.old.config + length lines.items < 2 ^ 64 }
-    ensures ok { OnOk result (WritesOutput (record { version = version; config = core.old.config; lines = lines.items }) show.Lsdb (W.contents out.old) (W.contents out.new)) }
-    ensures err { IfErr result (λ why. WritesPart why (record { version = version; config = core.old.config; lines = lines.items }) show.Lsdb (W.contents out.old) (W.contents out.new)) }
+    requires opened { IsOpened core.old.base core.old }
+    requires few { first_number version core.old.base + length lines.items < 2 ^ 64 }
+    ensures ok { OnOk result (WritesOutput (record { version = version; base = core.old.base; lines = lines.items }) show.Lsdb (W.contents out.old) (W.contents out.new)) }
+    ensures err { IfErr result (λ why. WritesPart why (record { version = version; base = core.old.base; lines = lines.items }) show.Lsdb (W.contents out.old) (W.contents out.new)) }
 {
     let mut page = empty_page(alloc)?;
     run_lines(version, core, lines, out, &mut page)?;
@@ -78,7 +78,7 @@ pub(crate) fn print_lsdb<W: io::Write>(
     Ok(())
 }
 
-/// Runs the lines, and prints only the events that were taken, as a recording of the version.
+/// Runs the lines, and prints only the base and the events that were taken since, as a recording of the version.
 pub(crate) fn print_journal<W: io::Write>(
     alloc: Global,
     version: Version,
@@ -86,13 +86,13 @@ pub(crate) fn print_journal<W: io::Write>(
     lines: Vec<Line>,
     out: &mut W,
 ) -> Result<(), Stop>
-    requires { IsOpened core.old.config core.old }
-    ensures ok { OnOk result (WritesOutput (record { version = version; config = core.old.config; lines = lines.items }) show.Journal (W.contents out.old) (W.contents out.new)) }
-    ensures err { IfErr result (λ why. WritesPart why (record { version = version; config = core.old.config; lines = lines.items }) show.Journal (W.contents out.old) (W.contents out.new)) }
+    requires { IsOpened core.old.base core.old }
+    ensures ok { OnOk result (WritesOutput (record { version = version; base = core.old.base; lines = lines.items }) show.Journal (W.contents out.old) (W.contents out.new)) }
+    ensures err { IfErr result (λ why. WritesPart why (record { version = version; base = core.old.base; lines = lines.items }) show.Journal (W.contents out.old) (W.contents out.new)) }
 {
     let mut page = empty_page(alloc)?;
     run_silently(core, lines);
-    append_header(version, core.config(), &mut page)?;
+    append_front(alloc, version, core.base(), &mut page)?;
     show_events(alloc, core.journal(), out, &mut page)?;
     write_page(out, &mut page)?;
     Ok(())

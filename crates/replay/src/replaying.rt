@@ -1,7 +1,8 @@
 //! A replay.
 ghost use Rattle.std.specs.Prelude.{◌≡◌, ◌⊎◌, ◌+◌, ◌^◌, ◌<◌, ℕ, List, length, IfOk, IfErr, OnOk, None};
 ghost use Rattle.recording.specs.Faults.{IsFaultOf};
-ghost use Rattle.event_core.specs.Configs.{config_fault_of};
+ghost use Rattle.event_state.specs.BaseFaults.{base_fault_of};
+ghost use Rattle.event_state.specs.Steps.{standard_limits};
 ghost use Rattle.replay.specs.declared.fault.ReplayFault.TheVariants as replay_fault;
 ghost use Rattle.recording.specs.declared.fault.LineFault.{LineFault};
 ghost use Rattle.replay.specs.Lines.{first_number};
@@ -14,8 +15,7 @@ ghost use Rattle.replay.specs.Parts.{IsRead, IsReadFault, WritesOutput, WritesPa
 use crate::fault::ReplayFault;
 use crate::output::{print_due, print_journal, print_lsdb, print_routes};
 use crate::page::{Stop, fault_of};
-use event_core::{ConfigFault, Core};
-use ospf_types::config::Config;
+use event_core::{Base, Core, Limits};
 use ospf_types::memory::Memory;
 use recording::{Line, Recording, Show, Version, parse};
 use std::alloc::Global;
@@ -73,26 +73,23 @@ fn print_recording<W: io::Write>(
     out: &mut W,
     show: Show,
 ) -> Result<(), Stop>
-    requires few { first_number recording.version recording.config + length recording.lines < 2 ^ 64 }
+    requires few { first_number recording.version recording.base + length recording.lines < 2 ^ 64 }
     ensures ok { OnOk result (WritesOutput recording show (W.contents out.old) (W.contents out.new)) }
     ensures write { result ≡ Err stop.Write → WritesPart stop.Write recording show (W.contents out.old) (W.contents out.new) }
     ensures memory { result ≡ Err stop.Memory → (out.new ≡ out.old) ⊎ WritesPart stop.Memory recording show (W.contents out.old) (W.contents out.new) }
 {
-    let (version, config, lines) = recording.into_parts();
-    let core = open_core(alloc, config, hashing)?;
+    let (version, base, lines) = recording.into_parts();
+    let core = open_core(alloc, base, hashing)?;
     print_replay(alloc, version, core, lines, out, show)
 }
 
-// The core that a run begins with. The configuration of a recording has no fault.
-fn open_core(alloc: Global, config: Config, hashing: RandomState) -> Result<Core, Memory>
-    requires { config_fault_of config ≡ None }
-    ensures { IfOk result (IsOpened config) }
+// The core that a run begins with. The base of a recording has no fault.
+fn open_core(alloc: Global, base: Base, hashing: RandomState) -> Result<Core, Memory>
+    requires { base_fault_of standard_limits base ≡ None }
+    ensures { IfOk result (IsOpened base) }
 {
-    match Core::open(alloc, config, hashing) {
-        Ok(core) => Ok(core),
-        Err(ConfigFault::Memory) => Err(Memory),
-        Err(_) => unreachable!(),
-    }
+    let core = Core::open_sound(alloc, base, Limits::STANDARD, hashing)?;
+    Ok(core)
 }
 
 // Runs the lines on a core that was opened, and prints what is shown.
@@ -104,10 +101,10 @@ fn print_replay<W: io::Write>(
     out: &mut W,
     show: Show,
 ) -> Result<(), Stop>
-    requires opened { IsOpened core.config core }
-    requires few { first_number version core.config + length lines.items < 2 ^ 64 }
-    ensures ok { OnOk result (WritesOutput (record { version = version; config = core.config; lines = lines.items }) show (W.contents out.old) (W.contents out.new)) }
-    ensures err { IfErr result (λ why. WritesPart why (record { version = version; config = core.config; lines = lines.items }) show (W.contents out.old) (W.contents out.new)) }
+    requires opened { IsOpened core.base core }
+    requires few { first_number version core.base + length lines.items < 2 ^ 64 }
+    ensures ok { OnOk result (WritesOutput (record { version = version; base = core.base; lines = lines.items }) show (W.contents out.old) (W.contents out.new)) }
+    ensures err { IfErr result (λ why. WritesPart why (record { version = version; base = core.base; lines = lines.items }) show (W.contents out.old) (W.contents out.new)) }
 {
     match show {
         Show::Routes => print_routes(alloc, version, &mut core, lines, out),

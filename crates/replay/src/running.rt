@@ -3,17 +3,17 @@ ghost use Rattle.std.specs.Prelude.{◌≡◌, [], ◌∷◌, ◌+◌, ◌^◌, 
 ghost use Rattle.recording.specs.Places.{first_lines};
 ghost use Rattle.replay.specs.Lines.{first_number};
 ghost use Rattle.replay.specs.Pages.{Ran, RanPart, RanLine, IsRunTo};
+ghost use Rattle.replay.specs.Runs.{RollsBy};
 ghost use Rattle.replay.specs.Stops.{AreWhole};
 
-use crate::lines::{put_answer, put_lookup};
+use crate::lines::{put_answer, put_lookup, put_roll};
 use crate::page::{Stop, spill};
-use event_core::Core;
-use ospf_types::config::Config;
+use event_core::{Base, Core, Refusal};
 use ospf_types::memory::Memory;
 use recording::{Line, Version};
 use std::io;
 
-/// Runs the lines behind the header, and prints what comes of them.
+/// Runs the lines behind the base, and prints what comes of them.
 pub(crate) fn run_lines<W: io::Write>(
     version: Version,
     core: &mut Core,
@@ -21,11 +21,11 @@ pub(crate) fn run_lines<W: io::Write>(
     out: &mut W,
     page: &mut String,
 ) -> Result<(), Stop>
-    requires { first_number version core.old.config + length lines.items < 2 ^ 64 }
-    ensures ok { OnOk result (Ran core.old (first_number version core.old.config) lines.items core.new (W.contents out.old) (W.contents out.new) (string_bytes page.old) (string_bytes page.new)) }
-    ensures err { AreWhole (string_bytes page.old) → IfErr result (λ why. RanPart why core.old (first_number version core.old.config) lines.items (W.contents out.old) (W.contents out.new) (string_bytes page.old)) }
+    requires { first_number version core.old.base + length lines.items < 2 ^ 64 }
+    ensures ok { OnOk result (Ran core.old (first_number version core.old.base) lines.items core.new (W.contents out.old) (W.contents out.new) (string_bytes page.old) (string_bytes page.new)) }
+    ensures err { AreWhole (string_bytes page.old) → IfErr result (λ why. RanPart why core.old (first_number version core.old.base) lines.items (W.contents out.old) (W.contents out.new) (string_bytes page.old)) }
 {
-    let mut number = number_of_first(version, core.config());
+    let mut number = number_of_first(version, core.base());
     for line in lines {
         run_line(core, number, line, page)?;
         spill(out, page)?;
@@ -34,27 +34,28 @@ pub(crate) fn run_lines<W: io::Write>(
     Ok(())
 }
 
-/// The number of the first line behind the header, which has the first lines of its version, and one line for each area
-/// and each range.
-pub fn number_of_first(version: Version, config: &Config) -> usize
-    requires { first_number version config.now < 2 ^ 64 }
-    ensures { result ≡ first_number version config.now }
+/// The number of the first line behind the base, for which there are the first lines of its version, one for each area and each
+/// range, and one for each interface and each LSA.
+pub fn number_of_first(version: Version, base: &Base) -> usize
+    requires { first_number version base.now < 2 ^ 64 }
+    ensures { result ≡ first_number version base.now }
 {
     let mut number = first_lines(version) + 1;
-    for area in config.areas.as_slice() {
+    for area in base.config.areas.as_slice() {
         number += 1 + area.ranges.len();
     }
-    number
+    number + (base.interfaces.len() + base.lsas.len())
 }
 
 // How many lines come first, each in its place.
 fn first_lines(version: Version) -> usize
     ensures value { result ≡ first_lines version }
-    ensures few { result ≤ 3 }
+    ensures few { result ≤ 4 }
 {
     match version {
         Version::One => 2,
         Version::Two => 3,
+        Version::Three => 4,
     }
 }
 
@@ -65,6 +66,7 @@ fn run_line(core: &mut Core, number: usize, line: Line, text: &mut String) -> Re
     match line {
         Line::Event(event) => put_answer(number, core.apply(event), text),
         Line::Lookup(address) => put_lookup(number, address, core.table(), text),
+        Line::Roll => put_roll(number, roll(core), text),
     }
 }
 
@@ -89,5 +91,15 @@ fn take_line(core: &mut Core, line: Line)
         Line::Lookup(address) => {
             let _ = core.table().lookup(address);
         }
+        Line::Roll => {
+            let _ = roll(core);
+        }
     }
+}
+
+// Rolls the core.
+fn roll(core: &mut Core) -> Result<u64, Refusal>
+    ensures { RollsBy core.old result core.new }
+{
+    core.roll()
 }

@@ -6,13 +6,12 @@
 --   examined_there: the examined area has a database
 --   kept_ids: what is kept of the areas has their Area IDs
 --   inter_differ, external_differ: it differs in no more than is named
-use Rattle.std.proofs.Common.{◌≡◌, ◌≢◌, ◌<◌, ℕ, List, [], ◌∷◌, map, Option, Some, None, refl, sym, ap, subst, ◌∙◌, arith}
+use Rattle.std.proofs.Common.{◌≡◌, ◌≢◌, ◌<◌, ℕ, true, List, [], ◌∷◌, map, Option, Some, None, refl, sym, ap, subst, ◌∙◌, arith}
 use Rattle.std.specs.Prelude.{◌↔◌, Bool, IsSome}
 use Rattle.std.specs.List.{Contains, AllPairs}
 use Rattle.std.specs.FinMap.{get, values}
 use Rattle.std.proofs.lemmas.List.{get_or-map, length-map}
 use Rattle.ospf_types.specs.declared.config.AreaConfig.{AreaConfig}
-use Rattle.ospf_types.specs.declared.config.Config.{Config}
 use Rattle.ospf_types.specs.declared.key.Dest.{Dest}
 use Rattle.ospf_types.specs.declared.key.Dest.TheVariants.{Net, Router}
 use Rattle.ospf_types.specs.declared.key.Key.{Key}
@@ -21,6 +20,7 @@ use Rattle.ospf_types.specs.declared.key.Scope.TheVariants as scope
 use Rattle.ospf_types.specs.declared.prefix.Prefix.{Prefix}
 use Rattle.ospf_types.specs.Inputs.{Area}
 use Rattle.ospf_types.specs.Ranges.{IsExamined}
+use Rattle.ospf_types.proofs.RangeChanges.{areas_kept, compat_kept, ids_kept}
 use Rattle.lsdb.specs.Databases.{Database}
 use Rattle.lsdb.specs.Contents.{IsSound, body_at}
 use Rattle.area_trees.specs.Areas.{AreaTreeValue}
@@ -125,7 +125,7 @@ kept_ids s root (a ∷ areas) (t ∷ more) (i ∷ kept) trees is = λ k. is.0.id
 
 -- ---- what differs in it
 
-module _ (s t : State) (keys : List (Scope × Key)) (ids : List ℕ) (differ : StatesDifferAmong keys ids s t) (dests : List Dest) (old new : IntraValue) (active ranges : ActiveValue)
+module _ (s t : State) (keys : List (Scope × Key)) (ids : List ℕ) (differ : StatesDifferAmong keys ids true s t) (dests : List Dest) (old new : IntraValue) (active ranges : ActiveValue)
     (networks : (p : Prefix) → (Contains dests (Net p) → ⊥) → get new.entries p ≡ get old.entries p) (same : (p : Prefix) → (Contains dests (Net p) → ⊥) → IsActiveIn ranges p ↔ IsActiveIn active p)
     (routers : (r : ℕ) → (Contains dests (Router r) → ⊥) → (area : ℕ) → reached_at new.areas area r ≡ reached_at old.areas area r) where
   examined_differ : (before after : Option ExaminedValue) → IsExaminedOf s before → IsExaminedOf t after → (x y : ExaminedValue) → before ≡ Some x → after ≡ Some y → y.area ≡ x.area
@@ -149,8 +149,8 @@ module _ (s t : State) (keys : List (Scope × Key)) (ids : List ℕ) (differ : S
   pub external_differ : (inter between : InterValue) → ((d : Dest) → (Contains dests d → ⊥) → get between.entries d ≡ get inter.entries d) → ExternalInputsDiffer keys dests (external_inputs s old active inter) (external_inputs t new ranges between)
   external_differ inter between others = record {
     root = router_kept s t keys ids differ;
-    compat = ap (λ (c : Config). c.compat) differ.config;
-    areas = ap (λ (c : Config). map (λ (a : AreaConfig). a.id) c.areas) differ.config;
+    compat = compat_kept t.config s.config differ.areas;
+    areas = ids_kept t.config.areas s.config.areas (areas_kept t.config s.config differ.areas);
     lsas = λ key not. bodies_differ s t keys ids differ scope.As key not;
     intra = networks;
     ranges = same;

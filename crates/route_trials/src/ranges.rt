@@ -59,3 +59,29 @@ fn a_range_with_a_network_is_active(rt: HostRuntime) -> Result<(), Fail> {
     assert!(rt; is_active(alloc, range, &intra)?);
     Ok(())
 }
+
+// Whether the one range becomes active where it takes the place of the other, which no longer is.
+fn is_reconfigured(
+    alloc: Global,
+    before: Prefix,
+    after: Prefix,
+    intra: &Intra,
+) -> Result<bool, Fail> {
+    let areas = configured(alloc, before)?;
+    let mut active = ActiveRanges::build(alloc, areas.as_slice(), intra)?;
+    let areas = configured(alloc, after)?;
+    let turned = active.reconfigure(alloc, areas.as_slice(), intra)?;
+    let again = active.reconfigure(alloc, areas.as_slice(), intra)?;
+    let told = turned.as_slice() == [after, before].as_slice() && again.is_empty();
+    Ok(told && active.contains(after) && !active.contains(before))
+}
+
+#[test]
+fn other_ranges_turn_both_prefixes(rt: HostRuntime) -> Result<(), Fail> {
+    let alloc = rt.alloc();
+    let intra = routes(alloc, RandomState::new(&rt)?)?;
+    let before = Prefix::of_mask(ADDRESS, 0xffff_0000);
+    let after = Prefix::of_mask(ADDRESS, 0xff00_0000);
+    assert!(rt; is_reconfigured(alloc, before, after, &intra)?);
+    Ok(())
+}

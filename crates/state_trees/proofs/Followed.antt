@@ -3,15 +3,16 @@
 --   followed_trees: they are the trees of the state
 --   followed_inputs: what routes are calculated from differs in no more than is named
 --   followed_work: the work is that of the event
-use Rattle.std.proofs.Common.{◌≡◌, ℕ, List, length, map, sym, ap, subst, ◌∙◌}
+use Rattle.std.proofs.Common.{◌≡◌, ℕ, true, List, length, map, sym, ap, subst, ◌∙◌}
 use Rattle.std.proofs.lemmas.List.{length-map}
 use Rattle.ospf_types.specs.declared.config.AreaConfig.{AreaConfig}
-use Rattle.ospf_types.specs.declared.config.Config.{Config}
 use Rattle.ospf_types.specs.declared.entry.Vertex.{Vertex}
 use Rattle.ospf_types.specs.declared.key.Key.{Key}
 use Rattle.ospf_types.specs.declared.key.Scope.{Scope}
+use Rattle.ospf_types.proofs.RangeChanges.{areas_kept}
 use Rattle.spf.specs.Touched.{Touched}
 use Rattle.area_trees.specs.Areas.{AreaTreeValue}
+use Rattle.intra.specs.Inputs.{AreaValue}
 use Rattle.intra.specs.Changes.{AreasDifferAmong, InputsDifferAmong}
 use Rattle.event_state.specs.States.{State}
 use Rattle.event_state.specs.Held.{AreFit}
@@ -19,6 +20,7 @@ use Rattle.state_trees.specs.Trees.{areas_with, inputs_with, AreTreesOf, StatesD
 use Rattle.state_trees.specs.Turns.{Turn, AreFollowed}
 use Rattle.state_trees.specs.Works.{AreWorksOf, IsEventWork}
 use Rattle.state_trees.proofs.Follows.{router_kept, interface_kept}
+use Rattle.state_trees.proofs.OtherRanges.{inputs_kept}
 use Rattle.state_trees.proofs.Turns.{trees_followed, works_followed, areas_followed}
 
 module _ (t : State) (areas : List AreaConfig) (old new : List AreaTreeValue) (vertices : List (ℕ × Vertex)) (w : Touched) (all : AreFollowed t areas old new vertices w) where
@@ -30,18 +32,16 @@ module _ (t : State) (areas : List AreaConfig) (old new : List AreaTreeValue) (v
       subst (λ (list : List AreaConfig). AreTreesOf t list new) all.areas_are
       (subst (λ (list : List AreaTreeValue). AreTreesOf t (map (λ (x : Turn). x.area) all.turns) list) all.new_are (trees_followed t vertices all.turns all.each))
 
-module _ (s t : State) (keys : List (Scope × Key)) (ids : List ℕ) (differ : StatesDifferAmong keys ids s t) (old new : List AreaTreeValue) (vertices : List (ℕ × Vertex)) (w : Touched)
+module _ (s t : State) (keys : List (Scope × Key)) (ids : List ℕ) (differ : StatesDifferAmong keys ids true s t) (old new : List AreaTreeValue) (vertices : List (ℕ × Vertex)) (w : Touched)
     (all : AreFollowed t t.config.areas old new vertices w) where
-  before_areas : map (λ (x : Turn). x.area) all.turns ≡ s.config.areas
-  before_areas = all.areas_are ∙ ap (λ (c : Config). c.areas) differ.config
-
   areas_differ : AreasDifferAmong keys vertices (areas_with s s.config.areas old) (areas_with t t.config.areas new)
   areas_differ =
-      subst (λ (list : List AreaConfig). AreasDifferAmong keys vertices (areas_with s list old) (areas_with t t.config.areas new)) before_areas
+      subst (λ (list : List AreaValue). AreasDifferAmong keys vertices list (areas_with t t.config.areas new)) (inputs_kept s t.config.areas s.config.areas (areas_kept t.config s.config differ.areas) old)
+      (subst (λ (list : List AreaConfig). AreasDifferAmong keys vertices (areas_with s list old) (areas_with t t.config.areas new)) all.areas_are
       (subst (λ (list : List AreaConfig). AreasDifferAmong keys vertices (areas_with s (map (λ (x : Turn). x.area) all.turns) old) (areas_with t list new)) all.areas_are
       (subst (λ (list : List AreaTreeValue). AreasDifferAmong keys vertices (areas_with s (map (λ (x : Turn). x.area) all.turns) list) (areas_with t (map (λ (x : Turn). x.area) all.turns) new)) all.old_are
       (subst (λ (list : List AreaTreeValue). AreasDifferAmong keys vertices (areas_with s (map (λ (x : Turn). x.area) all.turns) (map (λ (x : Turn). x.old) all.turns)) (areas_with t (map (λ (x : Turn). x.area) all.turns) list)) all.new_are
-      (areas_followed s t keys ids vertices differ all.turns all.each))))
+      (areas_followed s t keys ids vertices differ all.turns all.each)))))
 
   pub followed_inputs : InputsDifferAmong keys vertices ids (inputs_with s old) (inputs_with t new)
   followed_inputs = record { root = router_kept s t keys ids differ; areas = areas_differ; interfaces = interface_kept s t keys ids differ }
@@ -49,9 +49,8 @@ module _ (s t : State) (keys : List (Scope × Key)) (ids : List ℕ) (differ : S
   pub followed_work : AreFit s.config.areas s.databases → AreFit t.config.areas t.databases → AreTreesOf s s.config.areas old → IsEventWork s t w
   followed_work fit fit_after trees =
       let works : List Touched = map (λ (x : Turn). x.work) all.turns in
-      let before : AreTreesOf s (map (λ (x : Turn). x.area) all.turns) (map (λ (x : Turn). x.old) all.turns) =
-      subst (λ (list : List AreaConfig). AreTreesOf s list (map (λ (x : Turn). x.old) all.turns)) (sym before_areas) (subst (λ (list : List AreaTreeValue). AreTreesOf s s.config.areas list) (sym all.old_are) trees) in (
+      let before : AreTreesOf s s.config.areas (map (λ (x : Turn). x.old) all.turns) = subst (λ (list : List AreaTreeValue). AreTreesOf s s.config.areas list) (sym all.old_are) trees in (
         works,
-        subst (λ (list : List AreaConfig). AreWorksOf s t list works) before_areas (works_followed s t fit fit_after (router_kept s t keys ids differ) vertices all.turns all.each before),
+        subst (λ (list : List AreaConfig). AreWorksOf s t s.config.areas list works) all.areas_are (works_followed s t fit fit_after (router_kept s t keys ids differ) vertices s.config.areas all.turns all.each before),
         all.total,
       )

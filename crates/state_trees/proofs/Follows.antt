@@ -7,13 +7,13 @@ use Rattle.std.specs.Prelude.{◌==◌, ◌↔◌, option_map}
 use Rattle.std.specs.List.{Contains}
 use Rattle.std.specs.FinMap.{entries}
 use Rattle.std.proofs.lemmas.Bool.Decides.{eqb_tells}
-use Rattle.ospf_types.specs.declared.config.Config.{Config}
 use Rattle.ospf_types.specs.declared.config.Interface.{Interface}
 use Rattle.ospf_types.specs.declared.key.Key.{Key}
 use Rattle.ospf_types.specs.declared.key.Scope.{Scope}
 use Rattle.ospf_types.specs.declared.key.Scope.TheVariants.{Area}
 use Rattle.ospf_types.specs.Lsa.{Body}
 use Rattle.ospf_types.proofs.Elements.{no_element}
+use Rattle.ospf_types.proofs.RangeChanges.{router_kept as same_router}
 use Rattle.vertex_graph.specs.Up.{Up}
 use Rattle.area_trees.specs.Areas.{AreaTreeValue, IsAreaTree, DifferAmong, body_at}
 use Rattle.event_state.specs.States.{State, database_of}
@@ -26,9 +26,9 @@ pub nothing : {X : Type 0} (xs : List X) → (length xs == 0) ≡ true → xs �
 nothing [] e = refl
 nothing (x ∷ xs) e = elim (eqb_tells (length (x ∷ xs)) 0) [ inl t ↦ absurd (omega (arith, t.1)) | inr t ↦ absurd (let f = t.0 in cc) ]
 
-module _ (s t : State) (keys : List (Scope × Key)) (ids : List ℕ) (differ : StatesDifferAmong keys ids s t) where
+module _ (s t : State) (keys : List (Scope × Key)) (ids : List ℕ) (differ : StatesDifferAmong keys ids true s t) where
   pub router_kept : t.config.router ≡ s.config.router
-  router_kept = ap (λ (c : Config). c.router) differ.config
+  router_kept = same_router t.config s.config differ.areas
 
   -- the LSAs of a scope differ in no more than is named
   pub bodies_differ : (at : Scope) (key : Key) → (Contains keys (at, key) → ⊥) → body_at (lsas_in (database_of t at)) key ≡ body_at (lsas_in (database_of s at)) key

@@ -1,4 +1,5 @@
 pub mod Places
+pub mod OtherRanges
 pub mod Standing
 pub mod Ups
 pub mod Keys

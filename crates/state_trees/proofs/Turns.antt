@@ -3,7 +3,7 @@
 --   trees_followed: all trees are those of the state
 --   works_followed: the works are those of the two states
 --   areas_followed: the areas differ in no more than is named
-use Rattle.std.proofs.Common.{◌≡◌, ℕ, suc, zero, ◌+◌, ◌<◌, ◌≤◌, List, [], ◌∷◌, ◌++◌, length, map, get_or, set, take, drop, refl, sym, ap, subst, ◌∙◌, inr, arith}
+use Rattle.std.proofs.Common.{◌≡◌, ℕ, suc, zero, ◌+◌, ◌<◌, ◌≤◌, true, List, [], ◌∷◌, ◌++◌, length, map, get_or, set, take, drop, refl, sym, ap, subst, ◌∙◌, inr, arith}
 use Rattle.std.specs.Prelude.{min, option_map}
 use Rattle.std.specs.List.{Contains}
 use Rattle.std.proofs.lemmas.List.{take_all, take_more, take_more_set, drop-set-lt, drop-drop, map-append}
@@ -106,17 +106,19 @@ trees_followed s vertices [] are = tt
 trees_followed s vertices (x ∷ turns) are = (are.0.right, trees_followed s vertices turns are.1)
 
 module _ (s t : State) (fit : AreFit s.config.areas s.databases) (fit_after : AreFit t.config.areas t.databases) (config : t.config.router ≡ s.config.router) (vertices : List (ℕ × Vertex)) where
-  pub works_followed : (turns : List Turn) → AreTurns t vertices turns → AreTreesOf s (map (λ (x : Turn). x.area) turns) (map (λ (x : Turn). x.old) turns)
-      → AreWorksOf s t (map (λ (x : Turn). x.area) turns) (map (λ (x : Turn). x.work) turns)
-  works_followed [] are before = tt
-  works_followed (x ∷ turns) are before =
+  pub works_followed : (areas : List AreaConfig) (turns : List Turn) → AreTurns t vertices turns → AreTreesOf s areas (map (λ (x : Turn). x.old) turns)
+      → AreWorksOf s t areas (map (λ (x : Turn). x.area) turns) (map (λ (x : Turn). x.work) turns)
+  works_followed [] [] are before = tt
+  works_followed [] (x ∷ turns) are before = absurd before
+  works_followed (a ∷ areas) [] are before = absurd before
+  works_followed (a ∷ areas) (x ∷ turns) are before =
       let old = before.0 in
       let new = are.0.right in (
-        work_in (area_is s fit x.area old.0 old.1) old.2 (area_is t fit_after x.area new.0 new.1) new.2 (sym config) are.0.bounded are.0.done,
-        works_followed turns are.1 before.1,
+        work_in (area_is s fit a old.0 old.1) old.2 (area_is t fit_after x.area new.0 new.1) new.2 (sym config) are.0.bounded are.0.done,
+        works_followed areas turns are.1 before.1,
       )
 
-module _ (s t : State) (keys : List (Scope × Key)) (ids : List ℕ) (vertices : List (ℕ × Vertex)) (differ : StatesDifferAmong keys ids s t) where
+module _ (s t : State) (keys : List (Scope × Key)) (ids : List ℕ) (vertices : List (ℕ × Vertex)) (differ : StatesDifferAmong keys ids true s t) where
   pub areas_followed : (turns : List Turn) → AreTurns t vertices turns
       → AreasDifferAmong keys vertices (areas_with s (map (λ (x : Turn). x.area) turns) (map (λ (x : Turn). x.old) turns)) (areas_with t (map (λ (x : Turn). x.area) turns) (map (λ (x : Turn). x.new) turns))
   areas_followed [] are = tt

@@ -1,5 +1,5 @@
 -- The trees of a state's areas, and what routes are calculated from.
-use Rattle.std.specs.Prelude.{ℕ, ◌≡◌, ◌↔◌, ◌⊎◌, IsTrue, List, [], ◌∷◌, Contains, Option, Some, None}
+use Rattle.std.specs.Prelude.{ℕ, ◌≡◌, ◌↔◌, ◌⊎◌, Bool, false, IsTrue, List, [], ◌∷◌, Contains, Option, Some, None}
 use Rattle.std.specs.FinMap as map
 use Rattle.std.specs.FinMap.{entries, empty, get}
 use Rattle.ospf_types.specs.declared.config.AreaConfig.{AreaConfig}
@@ -7,6 +7,7 @@ use Rattle.ospf_types.specs.declared.config.Interface.{Interface}
 use Rattle.ospf_types.specs.declared.key.Key.{Key}
 use Rattle.ospf_types.specs.declared.key.Scope.{Scope}
 use Rattle.ospf_types.specs.declared.key.Scope.TheVariants.{Area}
+use Rattle.ospf_types.specs.RangeChanges.{without_ranges}
 use Rattle.lsdb.specs.Databases.{Database}
 use Rattle.vertex_graph.specs.Up.{Up}
 use Rattle.area_trees.specs.Areas.{AreaTreeValue, IsAreaTree}
@@ -43,9 +44,10 @@ AreTreesOf s (a ∷ areas) (t ∷ trees) = IsTreeFor s a.id t × AreTreesOf s ar
 AreTreesOf s [] (t ∷ trees) = ⊥
 AreTreesOf s (a ∷ areas) [] = ⊥
 
--- the states differ in no more than these LSAs or these interfaces
-pub record StatesDifferAmong (keys : List (Scope × Key)) (ids : List ℕ) (before after : State) : Type 0 where
-  pub config : after.config ≡ before.config
+-- the states differ in no more than these LSAs or these interfaces, and in the ranges of areas where these may differ
+pub record StatesDifferAmong (keys : List (Scope × Key)) (ids : List ℕ) (ranged : Bool) (before after : State) : Type 0 where
+  pub areas : without_ranges after.config ≡ without_ranges before.config
+  pub ranges : ranged ≡ false → after.config ≡ before.config
   pub usable : (at : Scope) (key : Key) → (Contains keys (at, key) → ⊥) → usable_at after at key ≡ usable_at before at key
   pub interfaces : (id : ℕ) → (Contains ids id → ⊥) → get after.interfaces id ≡ get before.interfaces id
   pub one_kind : (keys ≡ []) ⊎ (ids ≡ [])

@@ -16,14 +16,16 @@ use Rattle.event_state.specs.States.{State, database_of, lsas_of, inputs_of}
 abbrev pub area_of : State → AreaConfig → Area
 area_of s a = record { id = a.id; stub = a.stub; ranges = a.ranges; lsas = lsas_of (database_of s (area_scope a.id)) }
 
--- the work that was done in each of these areas is bounded by what differs between the states
-abbrev pub AreWorksOf : State → State → List AreaConfig → List Touched → Type 0
-AreWorksOf s t [] [] = Unit {0}
-AreWorksOf s t (a ∷ areas) (w ∷ works) =
-    IsWorkOf s.config.router (IsLink (inputs_of s) (area_of s a)) (IsLink (inputs_of t) (area_of t a)) (IsVertex (area_of s a) (Router s.config.router)) (IsVertex (area_of t a) (Router t.config.router)) w.taken w.hop_sets
-    × AreWorksOf s t areas works
-AreWorksOf s t [] (w ∷ works) = ⊥
-AreWorksOf s t (a ∷ areas) [] = ⊥
+-- the work that was done in each of these areas, as they are configured before and after, is bounded by what differs between the states
+abbrev pub AreWorksOf : State → State → List AreaConfig → List AreaConfig → List Touched → Type 0
+AreWorksOf s t [] [] [] = Unit {0}
+AreWorksOf s t (a ∷ areas) (b ∷ others) (w ∷ works) =
+    IsWorkOf s.config.router (IsLink (inputs_of s) (area_of s a)) (IsLink (inputs_of t) (area_of t b)) (IsVertex (area_of s a) (Router s.config.router)) (IsVertex (area_of t b) (Router t.config.router)) w.taken w.hop_sets
+    × AreWorksOf s t areas others works
+AreWorksOf s t [] [] (w ∷ works) = ⊥
+AreWorksOf s t [] (b ∷ others) works = ⊥
+AreWorksOf s t (a ∷ areas) [] works = ⊥
+AreWorksOf s t (a ∷ areas) (b ∷ others) [] = ⊥
 
 -- the work of building each of these trees, by what is reached
 abbrev pub AreWorksForAll : List AreaTreeValue → List Touched → Type 0
@@ -42,4 +44,4 @@ IsTotal works w = (w.taken ≡ min (sum_by (λ (x : Touched). x.taken) works) mo
 
 -- the work of an event
 abbrev pub IsEventWork : State → State → Touched → Type 0
-IsEventWork s t w = (works : List Touched) × AreWorksOf s t s.config.areas works × IsTotal works w
+IsEventWork s t w = (works : List Touched) × AreWorksOf s t s.config.areas t.config.areas works × IsTotal works w

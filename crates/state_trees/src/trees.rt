@@ -1,5 +1,5 @@
 //! The trees of the areas.
-ghost use Rattle.std.specs.Prelude.{◌≡◌, ◌↔◌, ◌≤◌, ◌+◌, ◌++◌, min, map as list_map, List, Contains, IsTrue, IsSome, IfOk, OnOk};
+ghost use Rattle.std.specs.Prelude.{◌≡◌, ◌↔◌, ◌≤◌, ◌+◌, ◌++◌, min, true, map as list_map, List, Contains, IsTrue, IsSome, IfOk, OnOk};
 ghost use Rattle.ospf_types.specs.declared.key.Key.{Key as KeyValue};
 ghost use Rattle.spf.specs.Touched.{Touched as TouchedValue};
 ghost use Rattle.spf.specs.TreeValues.{IsWorkForAll, IsWorkDone};
@@ -60,8 +60,9 @@ fn build_tree(
     AreaTree::build(alloc, state.config().router, database, &ups, hashing)
 }
 
-/// The trees follow the state, which differs from the one before in these LSAs or these interfaces. Vertices whose
-/// distance or next hops differ are added, each with its Area ID. The answer is the work.
+/// The trees follow the state, which differs from the one before in these LSAs or these interfaces, and may have other
+/// ranges, on which no tree rests. Vertices whose distance or next hops differ are added, each with its Area ID. The
+/// answer is the work.
 pub fn follow_trees(
     alloc: Global,
     trees: &mut [AreaTree],
@@ -71,7 +72,7 @@ pub fn follow_trees(
     vertices: &mut Vec<(u32, Vertex)>,
 ) -> Result<Touched, Memory>
     requires few { state.now.limits.area_lsas ≤ most_routers }
-    requires before { (before : StateValue) × AreTreesOf before before.config.areas trees.old × StatesDifferAmong keys.now interfaces.now before state.now }
+    requires before { (before : StateValue) × AreTreesOf before before.config.areas trees.old × StatesDifferAmong keys.now interfaces.now true before state.now }
     ensures { IfOk result (λ work. AreFollowed state.now state.now.config.areas trees.old trees.new vertices.new.items work) }
 {
     let mut work = Touched::none();
@@ -95,7 +96,7 @@ fn follow_tree(
 ) -> Result<Touched, Memory>
     requires few { state.now.limits.area_lsas ≤ most_routers }
     requires there { IsSome (place_of state.now.config.areas (Scope.Area area)) }
-    requires before { (before : StateValue) × IsTreeFor before area tree.old × StatesDifferAmong keys.now interfaces.now before state.now }
+    requires before { (before : StateValue) × IsTreeFor before area tree.old × StatesDifferAmong keys.now interfaces.now true before state.now }
     ensures right { OnOk result (IsTreeFor state.now area tree.new) }
     ensures others { OnOk result (AreOthersKept tree.old.tree tree.new.tree) }
     ensures bounded { IfOk result (λ touched. IsWorkBounded tree.old tree.new touched.taken touched.hop_sets) }

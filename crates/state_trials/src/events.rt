@@ -10,15 +10,15 @@ use std::alloc::Global;
 use std::hash::RandomState;
 use std::test::*;
 
-const ROOT: u32 = 0x0a00_0001;
+pub(crate) const ROOT: u32 = 0x0a00_0001;
 
-const OTHER: u32 = 0x0a00_0002;
+pub(crate) const OTHER: u32 = 0x0a00_0002;
 
-const BACKBONE: Scope = Scope::Area(0);
+pub(crate) const BACKBONE: Scope = Scope::Area(0);
 
 // Router-LSAs with one link, of type 3 to a stub network and of type 1 to another router, a
 // network-LSA, a summary-LSA and an AS-external-LSA (RFC 2328, A.4.2 to A.4.5).
-const STUB: [u8; 36] = [
+pub(crate) const STUB: [u8; 36] = [
     0, 0, 2, 1, 0, 0, 0, 0, 0, 0, 0, 0, 0, 0, 0, 0, 0, 0, 0, 36, 0, 0, 0, 1, 192, 0, 2, 0, 255,
     255, 255, 0, 3, 0, 0, 10,
 ];
@@ -37,7 +37,7 @@ const SUMMARY: [u8; 28] = [
     0, 0, 2, 3, 0, 0, 0, 0, 0, 0, 0, 0, 0, 0, 0, 0, 0, 0, 0, 28, 255, 255, 255, 0, 0, 0, 0, 10,
 ];
 
-const EXTERNAL: [u8; 36] = [
+pub(crate) const EXTERNAL: [u8; 36] = [
     0, 0, 2, 5, 0, 0, 0, 0, 0, 0, 0, 0, 0, 0, 0, 0, 0, 0, 0, 36, 255, 255, 255, 255, 0, 0, 0, 10,
     0, 0, 0, 0, 0, 0, 0, 0,
 ];
@@ -50,7 +50,13 @@ fn put(bytes: &mut [u8], place: usize, new: &[u8]) -> Result<(), Fail> {
 }
 
 // Installs the router's LSA of these bytes, of the age and the instance, into the backbone.
-fn install(alloc: Global, lsa: &[u8], router: u32, age: u16, instance: u8) -> Result<Event, Fail> {
+pub(crate) fn install(
+    alloc: Global,
+    lsa: &[u8],
+    router: u32,
+    age: u16,
+    instance: u8,
+) -> Result<Event, Fail> {
     let mut bytes = Vec::from_slice(alloc, lsa)?;
     put(&mut bytes, 0, &age.to_be_bytes())?;
     put(&mut bytes, 4, &router.to_be_bytes())?;
@@ -105,16 +111,21 @@ fn area(alloc: Global, id: u32) -> AreaConfig
     }
 }
 
-// The state of a router with a backbone and an area 1, with the standard limits where none are given.
-fn opened(rt: &HostRuntime, limits: Option<Limits>) -> Result<State, Fail> {
-    let mut areas = Areas::new(rt.alloc());
-    areas.push(area(rt.alloc(), 0))?;
-    areas.push(area(rt.alloc(), 1))?;
-    let config = Config {
+// A router with a backbone and an area 1.
+pub(crate) fn configured(alloc: Global) -> Result<Config, Fail> {
+    let mut areas = Areas::new(alloc);
+    areas.push(area(alloc, 0))?;
+    areas.push(area(alloc, 1))?;
+    Ok(Config {
         router: ROOT,
         compat: false,
         areas,
-    };
+    })
+}
+
+// Its state, with the standard limits where none are given.
+pub(crate) fn opened(rt: &HostRuntime, limits: Option<Limits>) -> Result<State, Fail> {
+    let config = configured(rt.alloc())?;
     let (alloc, hashing) = (rt.alloc(), RandomState::new(rt)?);
     Ok(match limits {
         None => State::new(alloc, config, hashing)?,
@@ -123,7 +134,7 @@ fn opened(rt: &HostRuntime, limits: Option<Limits>) -> Result<State, Fail> {
 }
 
 // How many events were taken, and how many LSAs and interfaces there are.
-fn sizes(state: &State) -> (usize, usize, usize) {
+pub(crate) fn sizes(state: &State) -> (usize, usize, usize) {
     let lsas = state.database(BACKBONE).map_or(0, Database::len);
     (state.journal().len(), lsas, state.interfaces().count())
 }
@@ -179,7 +190,7 @@ fn a_refusal_leaves_all_as_it_was(rt: HostRuntime) -> Result<(), Fail> {
 }
 
 // Whether a copy of the event prints as it does.
-fn copies(alloc: Global, event: &Event) -> Result<bool, Fail> {
+pub(crate) fn copies(alloc: Global, event: &Event) -> Result<bool, Fail> {
     let copy = event.copy(alloc)?;
     let text = format!(in alloc; "{copy:?}")?;
     Ok(text == format!(in alloc; "{event:?}")?)

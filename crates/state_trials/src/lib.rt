@@ -3,6 +3,10 @@
 #![tactic(auto)]
 
 #[cfg(test)]
+mod bases;
+#[cfg(test)]
 mod events;
+#[cfg(test)]
+mod ranges;
 #[cfg(test)]
 mod table;

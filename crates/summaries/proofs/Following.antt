@@ -17,7 +17,7 @@ use Rattle.spf.proofs.OfSome.{contains_more}
 use Rattle.intra.specs.Intras.{EntriesByPrefix}
 use Rattle.intra.proofs.Following.{one_or_other}
 use Rattle.summaries.specs.Active.{ActiveValue, AreRangesOf, DiffersAt, EntriesDifferAmong, IsConfigured, IsMember, member_cmp}
-use Rattle.summaries.specs.Following.{AreFollowed, HasTurned, IsCostIn, IsNamed, IsNotedOf}
+use Rattle.summaries.specs.Following.{AreAllNoted, AreFollowed, HasTurned, IsCostIn, IsNamed, IsNotedOf}
 use Rattle.summaries.specs.declared.active.Noted.{Noted}
 use Rattle.summaries.specs.declared.member.Member.{Member}
 use Rattle.summaries.proofs.Members.{member_total, member_exact}
@@ -92,6 +92,28 @@ module _ (areas : List AreaConfig) (dests : List Dest) (before entries : Entries
 
 -- ---- what is no longer as it was noted
 
+module _ (old new : ActiveValue) (noted : List Noted) (notes : (n : Noted) → Contains noted n → IsNotedOf old n) (turned : List Prefix)
+    (exact : (p : Prefix) → Contains turned p ↔ ((n : Noted) × Contains noted n × (n.prefix ≡ p) × HasTurned new n)) where
+  turned_differs : (p : Prefix) → Contains turned p → DiffersAt old new p
+  turned_differs p c =
+      let w = (exact p).0 c in
+      let note = notes w.0 w.1 in
+      subst (λ (q : Prefix). DiffersAt old new q) w.2 (elim w.3 [ inl left ↦ inl (note.0 left.0, left.1) | inr came ↦ inr (λ was. came.0 (note.1 was), came.1) ])
+
+  noted_turns : (p : Prefix) → Contains (map (λ (n : Noted). n.prefix) noted) p → DiffersAt old new p → Contains turned p
+  noted_turns p c d =
+      let from = mapped_from (λ (n : Noted). n.prefix) noted p c in
+      let note = notes from.0 from.1 in
+      let here : DiffersAt old new from.0.prefix = subst (λ (q : Prefix). DiffersAt old new q) (sym from.2) d in
+      (exact p).1 (from.0, from.1, from.2, elim here [ inl left ↦ inl (note.1 left.0, left.1) | inr came ↦ inr (λ active. came.0 (note.0 active), came.1) ])
+
+  -- where something was noted of all that are active before or after
+  pub both_turned : AreAllNoted old new noted → (p : Prefix) → Contains turned p ↔ DiffersAt old new p
+  both_turned all p = (
+    turned_differs p,
+    λ d. noted_turns p (all p (elim d [ inl left ↦ inl left.0 | inr came ↦ inr came.1 ])) d,
+  )
+
 module _ (entries : EntriesByPrefix) (old new : ActiveValue) (named : List Member) (followed : AreFollowed entries named old new) (touched : List Prefix)
     (ranges : (p : Prefix) → Contains touched p ↔ Contains (map (λ (m : Member). m.range) named) p) (noted : List Noted) (listed : map (λ (n : Noted). n.prefix) noted ≡ touched)
     (notes : (n : Noted) → Contains noted n → IsNotedOf old n) (turned : List Prefix)
@@ -108,17 +130,10 @@ module _ (entries : EntriesByPrefix) (old new : ActiveValue) (named : List Membe
 
   pub all_turned : (p : Prefix) → Contains turned p ↔ DiffersAt old new p
   all_turned p = (
-    λ c.
-        let w = (exact p).0 c in
-        let note = notes w.0 w.1 in
-        subst (λ (q : Prefix). DiffersAt old new q) w.2 (elim w.3 [ inl left ↦ inl (note.0 left.0, left.1) | inr came ↦ inr (λ was. came.0 (note.1 was), came.1) ]),
+    turned_differs old new noted notes turned exact p,
     λ d. elim (among_or_not network_total network_exact touched p) [
       | inr absent ↦ absurd (stays p absent d)
-      | inl c ↦
-          let from = mapped_from (λ (n : Noted). n.prefix) noted p (subst (λ (ps : List Prefix). Contains ps p) (sym listed) c) in
-          let note = notes from.0 from.1 in
-          let here : DiffersAt old new from.0.prefix = subst (λ (q : Prefix). DiffersAt old new q) (sym from.2) d in
-          (exact p).1 (from.0, from.1, from.2, elim here [ inl left ↦ inl (note.1 left.0, left.1) | inr came ↦ inr (λ active. came.0 (note.0 active), came.1) ])
+      | inl c ↦ noted_turns old new noted notes turned exact p (subst (λ (ps : List Prefix). Contains ps p) (sym listed) c) d
     ],
   )
 

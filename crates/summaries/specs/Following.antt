@@ -1,5 +1,5 @@
 -- How active ranges follow the routes: the members that named networks may be, and the prefixes that they touch.
-use Rattle.std.specs.Prelude.{ℕ, ◌≡◌, ◌⊎◌, ◌↔◌, ◌++◌, List, [], ◌∷◌, Contains, Option, Some, IsTrue}
+use Rattle.std.specs.Prelude.{ℕ, ◌≡◌, ◌⊎◌, ◌↔◌, ◌++◌, List, [], ◌∷◌, Contains, map, Option, Some, IsTrue}
 use Rattle.std.specs.FinMap.{get}
 use Rattle.ospf_types.specs.declared.config.AreaConfig.{AreaConfig}
 use Rattle.ospf_types.specs.declared.config.Range.{Range}
@@ -48,6 +48,14 @@ pub record AreFollowed (entries : EntriesByPrefix) (named : List Member) (old ne
 -- what was noted of the range is so
 abbrev pub IsNotedOf : ActiveValue → Noted → Type 0
 IsNotedOf v n = IsTrue n.active ↔ IsActiveIn v n.prefix
+
+-- the prefix is that of an active range in one or the other
+abbrev pub IsActiveInOne : ActiveValue → ActiveValue → Prefix → Type 0
+IsActiveInOne v w p = IsActiveIn v p ⊎ IsActiveIn w p
+
+-- something is noted of each of these
+abbrev pub AreAllNoted : ActiveValue → ActiveValue → List Noted → Type 0
+AreAllNoted v w noted = (p : Prefix) → IsActiveInOne v w p → Contains (map (λ n. n.prefix) noted) p
 
 -- and what was noted is no longer so
 abbrev pub HasTurned : ActiveValue → Noted → Type 0

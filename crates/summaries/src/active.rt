@@ -12,7 +12,7 @@ ghost use Rattle.intra.specs.Right.{IsRightFor as IsIntraRight};
 ghost use Rattle.summaries.specs.declared.active.Noted.{Noted as NotedValue};
 ghost use Rattle.summaries.specs.declared.member.Member.{Member as MemberValue};
 ghost use Rattle.summaries.specs.Active.{AreRangesOf, EntriesDifferAmong, DiffersAt, HasCost, IsActiveIn, spent_ranges};
-ghost use Rattle.summaries.specs.Following.{AreFollowed, IsCostIn, IsNamed, IsNotedOf, IsOnceMore, IsTold, HasTurned};
+ghost use Rattle.summaries.specs.Following.{AreAllNoted, AreFollowed, IsActiveInOne, IsCostIn, IsNamed, IsNotedOf, IsOnceMore, IsTold, HasTurned};
 ghost use Rattle.summaries.specs.Right.{AreConfigured, IsRightFor};
 
 use crate::member::Member;
@@ -102,6 +102,27 @@ impl ActiveRanges {
         prefixes
     }
 
+    /// Takes other ranges of the areas, by the same routes. The answer is the prefixes of ranges that became active, or no
+    /// longer are, ascending, each once. Where memory is refused, all is as it was.
+    pub fn reconfigure(
+        &mut self,
+        alloc: Global,
+        areas: &[AreaConfig],
+        intra: &Intra,
+    ) -> Result<Vec<Prefix>, Memory>
+        ensures kept { OnOk result (AreRangesOf areas.now intra.now.entries self.new) }
+        ensures right { OnOk result ((s : Definitions) → AreConfigured s.areas areas.now → IsIntraRight s intra.now → IsRightFor s self.new) }
+        ensures in_order { IfOk result (λ prefixes. IsStrictlySortedBy network_cmp prefixes.items) }
+        ensures exact { IfOk result (λ prefixes. (p : PrefixValue) → Contains prefixes.items p ↔ DiffersAt self.old self.new p) }
+        ensures unchanged { OnErr result (self.new ≡ self.old) }
+    {
+        let after = ActiveRanges::build(alloc, areas, intra)?;
+        let noted = self.noted_with(alloc, &after)?;
+        let turned = after.turned(alloc, noted.as_slice())?;
+        *self = after;
+        Ok(turned)
+    }
+
     /// Whether the prefix is that of an active range of some area.
     pub fn contains(&self, prefix: Prefix) -> bool
         ensures { IsTrue result ↔ IsActiveIn self.now prefix }
@@ -183,6 +204,28 @@ impl ActiveRanges {
             })?;
         }
         Ok(noted)
+    }
+
+    // Whether ranges are active here, of those that are active here or there.
+    fn noted_with(&self, alloc: Global, other: &ActiveRanges) -> Result<Vec<Noted>, Memory>
+        ensures in_order { IfOk result (λ noted. IsStrictlySortedBy network_cmp (list_map (λ n. n.prefix) noted.items)) }
+        ensures all { IfOk result (λ noted. AreAllNoted self.now other.now noted.items) }
+        ensures exact { IfOk result (λ noted. (n : NotedValue) → Contains noted.items n → IsNotedOf self.now n) }
+    {
+        let prefixes = self.prefixes_with(alloc, other)?;
+        self.noted(alloc, prefixes.as_slice())
+    }
+
+    // The prefixes of ranges that are active here or there, ascending, each once.
+    fn prefixes_with(&self, alloc: Global, other: &ActiveRanges) -> Result<Vec<Prefix>, Memory>
+        ensures in_order { IfOk result (λ prefixes. IsStrictlySortedBy network_cmp prefixes.items) }
+        ensures exact { IfOk result (λ prefixes. (p : PrefixValue) → Contains prefixes.items p ↔ IsActiveInOne self.now other.now p) }
+    {
+        let mut prefixes = self.prefixes(alloc)?;
+        prefixes.extend_from_slice(&other.prefixes(alloc)?)?;
+        prefixes.sort_unstable();
+        prefixes.dedup();
+        Ok(prefixes)
     }
 
     // The prefixes of which what was noted is no longer so.

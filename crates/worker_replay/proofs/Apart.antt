@@ -1,34 +1,47 @@
--- The events of lines, and what each looks up, set apart line by line.
-use Rattle.std.proofs.Common.{◌≡◌, ℕ, List, [], ◌∷◌, ◌++◌, map, Option, refl, sym, ap, ◌∙◌, append_assoc, append-nil}
+-- The events of lines, and what each asks, set apart from the last line to the first.
+use Rattle.std.proofs.Common.{◌≡◌, Bool, false, List, [], ◌∷◌, ◌++◌, reverse, refl, sym, ap, ◌∙◌, append_assoc, append-nil}
+use Rattle.std.specs.Prelude.{◌||◌}
 use Rattle.event_state.specs.declared.event.Event.{Event}
 use Rattle.recording.specs.declared.line.Line.{Line}
 use Rattle.recording.specs.declared.line.Line.TheVariants as line
-use Rattle.worker_replay.specs.Runs.{events_of, lookup_in}
+use Rattle.worker_replay.specs.declared.asking.Ask.{Ask}
+use Rattle.worker_replay.specs.Runs.{events_of, has_roll}
+use Rattle.worker_replay.specs.Parts.{ask_of, asks_of, is_roll}
 
-one_more : (l : Line) (lines : List Line) → events_of (l ∷ []) ++ events_of lines ≡ events_of (l ∷ lines)
-one_more (line.Event e) lines = refl
-one_more (line.Lookup address) lines = refl
+one_event_more : (l : Line) (lines : List Line) → events_of (l ∷ []) ++ events_of lines ≡ events_of (l ∷ lines)
+one_event_more (line.Event e) lines = refl
+one_event_more (line.Lookup address) lines = refl
+one_event_more line.Roll lines = refl
 
--- what is set apart, and behind it that of the lines that are left, is that of all
-pub record SetApart (all rest : List Line) (events : List Event) (lookups : List (Option ℕ)) : Type 0 where
-  pub events_are : events ++ events_of rest ≡ events_of all
-  pub lookups_are : lookups ++ map lookup_in rest ≡ map lookup_in all
+one_line_more : (l : Line) (lines : List Line) → (is_roll l || has_roll lines) ≡ has_roll (l ∷ lines)
+one_line_more (line.Event e) lines = refl
+one_line_more (line.Lookup address) lines = refl
+one_line_more line.Roll lines = refl
 
-pub apart_none : (all rest : List Line) (events : List Event) (lookups : List (Option ℕ)) → all ≡ rest → events ≡ [] → lookups ≡ [] → SetApart all rest events lookups
-apart_none all rest events lookups is no_events no_lookups = record {
-  events_are = ap (λ (w : List Event). w ++ events_of rest) no_events ∙ ap events_of (sym is);
-  lookups_are = ap (λ (w : List (Option ℕ)). w ++ map lookup_in rest) no_lookups ∙ ap (map lookup_in) (sym is);
+-- these lines are left, and those behind them are set apart, backwards
+pub record SetApart (all left : List Line) (events : List Event) (asks : List Ask) (rolls : Bool) : Type 0 where
+  pub done : List Line
+  pub whole : all ≡ left ++ done
+  pub events_are : reverse events ≡ events_of done
+  pub asks_are : reverse asks ≡ asks_of done
+  pub rolls_are : rolls ≡ has_roll done
+
+pub apart_none : (all : List Line) (events : List Event) (asks : List Ask) → events ≡ [] → asks ≡ [] → SetApart all all events asks false
+apart_none all events asks no_events no_asks =
+    record { done = []; whole = sym (append-nil all); events_are = ap reverse no_events; asks_are = ap reverse no_asks; rolls_are = refl }
+
+pub apart_more : (all left less : List Line) (l : Line) (events put : List Event) (asks set : List Ask) (rolls now : Bool) → SetApart all left events asks rolls → left ≡ less ++ l ∷ []
+    → reverse put ≡ events_of (l ∷ []) ++ reverse events → reverse set ≡ ask_of l rolls ∷ reverse asks → now ≡ (is_roll l || rolls) → SetApart all less put set now
+apart_more all left less l events put asks set rolls now h next put_is set_is now_is = record {
+  done = l ∷ h.done;
+  whole = h.whole ∙ ap (λ w. w ++ h.done) next ∙ append_assoc less (l ∷ []) h.done;
+  events_are = put_is ∙ ap (λ w. events_of (l ∷ []) ++ w) h.events_are ∙ one_event_more l h.done;
+  asks_are = set_is ∙ (λ i. ask_of l (h.rolls_are i) ∷ h.asks_are i);
+  rolls_are = now_is ∙ ap (λ b. is_roll l || b) h.rolls_are ∙ one_line_more l h.done;
 }
 
-pub apart_more : (all rest more : List Line) (l : Line) (events put : List Event) (lookups set : List (Option ℕ)) → SetApart all rest events lookups → rest ≡ l ∷ more → put ≡ events ++ events_of (l ∷ [])
-    → set ≡ lookups ++ lookup_in l ∷ [] → SetApart all more put set
-apart_more all rest more l events put lookups set h next put_is set_is = record {
-  events_are = ap (λ w. w ++ events_of more) put_is ∙ append_assoc events (events_of (l ∷ [])) (events_of more) ∙ ap (λ w. events ++ w) (one_more l more ∙ ap events_of (sym next)) ∙ h.events_are;
-  lookups_are = ap (λ w. w ++ map lookup_in more) set_is ∙ append_assoc lookups (lookup_in l ∷ []) (map lookup_in more) ∙ ap (λ (r : List Line). lookups ++ map lookup_in r) (sym next) ∙ h.lookups_are;
-}
-
-pub apart_all : (all rest : List Line) (events : List Event) (lookups : List (Option ℕ)) → SetApart all rest events lookups → rest ≡ [] → (events ≡ events_of all) × (lookups ≡ map lookup_in all)
-apart_all all rest events lookups h none = (
-  sym (append-nil events) ∙ ap (λ (r : List Line). events ++ events_of r) (sym none) ∙ h.events_are,
-  sym (append-nil lookups) ∙ ap (λ (r : List Line). lookups ++ map lookup_in r) (sym none) ∙ h.lookups_are,
-)
+pub apart_all : (all left : List Line) (events : List Event) (asks : List Ask) (rolls : Bool) → SetApart all left events asks rolls → left ≡ []
+    → (reverse events ≡ events_of all) × (reverse asks ≡ asks_of all) × (rolls ≡ has_roll all)
+apart_all all left events asks rolls h none =
+    let same : h.done ≡ all = sym (h.whole ∙ ap (λ w. w ++ h.done) none) in
+    (h.events_are ∙ ap events_of same, h.asks_are ∙ ap asks_of same, h.rolls_are ∙ ap has_roll same)

@@ -1,25 +1,27 @@
 -- A recording was run.
-use Rattle.std.proofs.Common.{◌≡◌, ℕ, List, [], ◌∷◌, ◌++◌, length, map, All, Option, sym, ap, subst, ◌∙◌}
-use Rattle.std.specs.Prelude.{Result}
+use Rattle.std.proofs.Common.{◌≡◌, ℕ, suc, Bool, List, [], ◌∷◌, ◌++◌, length, map, All, Option, Some, None, refl, sym, ap, subst, ◌∙◌}
+use Rattle.std.specs.Prelude.{Result, MatchResult, IfSome, is_some}
 use Rattle.std.specs.List.{AllZip}
-use Rattle.std.proofs.lemmas.List.{length-map}
-use Rattle.ospf_types.specs.declared.config.Config.{Config}
+use Rattle.event_state.specs.declared.base.Base.{Base}
 use Rattle.event_state.specs.declared.event.Event.{Event}
 use Rattle.event_state.specs.declared.refusal.Refusal.{Refusal}
+use Rattle.event_state.specs.Rolls.{IsRolled}
 use Rattle.event_state.specs.Steps.{standard_limits}
 use Rattle.engine.specs.Reply.{Reply}
 use Rattle.engine.specs.Cores.{CoreValue, IsCore}
+use Rattle.engine.specs.Opens.{IsRolledSerial}
 use Rattle.publication.specs.Forwarders.{Looker, Sighted, Sights}
 use Rattle.publication.specs.Names.{Name}
 use Rattle.publication.specs.Published.{IsTableFor}
-use Rattle.engine.specs.Answers.{AreAnswered}
+use Rattle.desk.specs.Answers.{AreAnswered}
 use Rattle.recording.specs.declared.line.Line.{Line}
 use Rattle.recording.specs.Recordings.{RecordingValue}
 use Rattle.recording.specs.declared.version.Version.{Version}
 use Rattle.replay.specs.Lines.{first_number}
-use Rattle.worker_replay.specs.Runs.{Answers, IsAfter, IsPrinted, events_of, lookup_in, reply_of}
+use Rattle.worker_replay.specs.declared.asking.Ask.{Ask}
+use Rattle.worker_replay.specs.Runs.{Answers, IsAfter, IsNotRolled, IsPrinted, IsRollAnswer, events_of, has_roll, reply_of}
 use Rattle.worker_replay.specs.Dealing.{IsDealt, AreAnsweredDealt}
-use Rattle.worker_replay.specs.Parts.{HasAllReplies, PrintsAll, AppendsAll, Looks, HasPrinted, HasRun, IsOf}
+use Rattle.worker_replay.specs.Parts.{HasAllReplies, PrintsAll, AppendsAll, Looks, HasPrinted, HasRun, IsOf, asks_of}
 use Rattle.worker_replay.proofs.Tokens.{all_longer, all_own}
 use Rattle.worker_replay.proofs.Printed.{has_replies, prints_lines}
 
@@ -38,16 +40,16 @@ answered_dealt name items answers events xs ys dealt all = record { lists = map 
 
 -- ---- one look
 
-pub looked : (f : Looker) (s : Sighted) (number : ℕ) (lookups : List (Option ℕ)) (given replies : List (Result Reply Refusal)) (old new : List ℕ) → Sights f 0 s
-    → AppendsAll s.table (length s.list) number lookups given old new → old ≡ [] → given ≡ replies → Looks f number lookups replies new
-looked f s number lookups given replies old new sights h none same =
+pub looked : (f : Looker) (s : Sighted) (number : ℕ) (asks : List Ask) (given replies : List (Result Reply Refusal)) (roll : Option (Result ℕ Refusal)) (old new : List ℕ) → Sights f 0 s
+    → AppendsAll s.table s.table.serial number asks given roll old new → old ≡ [] → given ≡ replies → Looks f number asks replies roll new
+looked f s number asks given replies roll old new sights h none same =
     let whole : new ≡ h.text = h.appended ∙ ap (λ w. w ++ h.text) none in
     record {
       seen = s.list;
       table = s.table;
       after = sights.2;
-      right = subst (λ (n : Name). IsTableFor n.config s.list s.table) sights.0 sights.3;
-      prints = subst (λ (w : List ℕ). PrintsAll s.table (length s.list) number lookups replies w) (sym whole) (subst (λ (rs : List (Result Reply Refusal)). PrintsAll s.table (length s.list) number lookups rs h.text) same h.prints);
+      right = subst (λ (n : Name). IsTableFor n.base s.list s.table) sights.0 sights.3;
+      prints = subst (λ (w : List ℕ). PrintsAll s.table s.table.serial number asks replies roll w) (sym whole) (subst (λ (rs : List (Result Reply Refusal)). PrintsAll s.table s.table.serial number asks rs roll h.text) same h.prints);
     }
 
 -- ---- the lines
@@ -56,44 +58,58 @@ looked f s number lookups given replies old new sights h none same =
 pub own : (name : Name) (f : Looker) (events : List Event) (answers : Answers) → f.name ≡ name → AreAnswered name events answers → All (IsOf f.name) answers
 own name f events answers named answered = subst (λ (n : Name). All (IsOf n) answers) (sym named) (all_own name events answers answered)
 
-pub enough : (name : Name) (lines : List Line) (events : List Event) (lookups : List (Option ℕ)) (answers : Answers) (replies : List (Result Reply Refusal)) → events ≡ events_of lines → lookups ≡ map lookup_in lines
-    → AreAnswered name events answers → replies ≡ map reply_of answers → HasAllReplies lookups replies
-enough name lines events lookups answers replies events_are lookups_are answered replies_are =
-    subst (λ (ls : List (Option ℕ)). HasAllReplies ls replies) (sym lookups_are) (subst (HasAllReplies (map lookup_in lines)) (sym replies_are)
+pub enough : (name : Name) (lines : List Line) (events : List Event) (asks : List Ask) (answers : Answers) (replies : List (Result Reply Refusal)) → events ≡ events_of lines → asks ≡ asks_of lines
+    → AreAnswered name events answers → replies ≡ map reply_of answers → HasAllReplies asks replies
+enough name lines events asks answers replies events_are asks_are answered replies_are =
+    subst (λ (given : List Ask). HasAllReplies given replies) (sym asks_are) (subst (HasAllReplies (asks_of lines)) (sym replies_are)
     (has_replies name lines answers (subst (λ (es : List Event). AreAnswered name es answers) events_are answered)))
 
-pub as_many_lines : (lines : List Line) (lookups : List (Option ℕ)) → lookups ≡ map lookup_in lines → length lookups ≡ length lines
-as_many_lines lines lookups are = ap length are ∙ length-map lines lookup_in
+pub as_many_lines : (lines : List Line) (asks : List Ask) → asks ≡ asks_of lines → length asks ≡ length lines
+as_many_lines lines asks are = ap length are ∙ each lines
+  where
+    each : (ls : List Line) → length (asks_of ls) ≡ length ls
+    each [] = refl
+    each (l ∷ ls) = ap suc (each ls)
 
-pub has_printed : (name : Name) (lines : List Line) (events : List Event) (lookups : List (Option ℕ)) (answers : Answers) (f g : Looker) (replies : List (Result Reply Refusal)) (first : ℕ) (text : List ℕ)
-    → events ≡ events_of lines → lookups ≡ map lookup_in lines → AreAnswered name events answers → f.name ≡ name → g.name ≡ f.name → All (IsAfter g.known) answers → replies ≡ map reply_of answers
-    → Looks g first lookups replies text → HasPrinted name lines first text
-has_printed name lines events lookups answers f g replies first text events_are lookups_are answered named same after replies_are looks =
-    let of_lines : AreAnswered name (events_of lines) answers = subst (λ (es : List Event). AreAnswered name es answers) events_are answered in
-    record {
-      answers = answers;
-      is = record {
-        answered = of_lines;
-        seen = looks.seen;
-        table = looks.table;
-        right = subst (λ (n : Name). IsTableFor n.config looks.seen looks.table) (same ∙ named) looks.right;
-        after = all_longer g.known looks.seen answers looks.after after;
-        prints = prints_lines name looks.table (length looks.seen) first lines answers text of_lines
-            (subst (λ (ls : List (Option ℕ)). PrintsAll looks.table (length looks.seen) first ls (map reply_of answers) text) lookups_are
-            (subst (λ (rs : List (Result Reply Refusal)). PrintsAll looks.table (length looks.seen) first lookups rs text) replies_are looks.prints));
-      };
-    }
+-- what the one roll was answered, where it is asked for just if a line is a roll
+pub roll_answered : (name : Name) (lines : List Line) (asked : Bool) (roll : Option (Result ℕ Refusal)) → asked ≡ has_roll lines → is_some roll ≡ asked
+    → IfSome roll (λ answer. MatchResult answer (IsRolledSerial name.base) IsNotRolled) → IsRollAnswer name lines roll
+roll_answered name lines asked None is some answered = sym is ∙ sym some
+roll_answered name lines asked (Some answer) is some answered = (sym is ∙ sym some, answered)
+
+module _ (name : Name) (lines : List Line) (events : List Event) (asks : List Ask) (answers : Answers) (f g : Looker) (replies : List (Result Reply Refusal)) (roll : Option (Result ℕ Refusal)) (first : ℕ) (text : List ℕ)
+    (events_are : events ≡ events_of lines) (asks_are : asks ≡ asks_of lines) (answered : AreAnswered name events answers) (named : f.name ≡ name) (same : g.name ≡ f.name) (after : All (IsAfter g.known) answers)
+    (replies_are : replies ≡ map reply_of answers) (rolled : IsRollAnswer name lines roll) where
+  of_lines : AreAnswered name (events_of lines) answers
+  of_lines = subst (λ (es : List Event). AreAnswered name es answers) events_are answered
+
+  pub has_printed : Looks g first asks replies roll text → HasPrinted name lines first text
+  has_printed looks = record {
+    answers = answers;
+    is = record {
+      answered = of_lines;
+      seen = looks.seen;
+      table = looks.table;
+      right = subst (λ (n : Name). IsTableFor n.base looks.seen looks.table) (same ∙ named) looks.right;
+      after = all_longer g.known looks.seen answers looks.after after;
+      roll = roll;
+      rolled = rolled;
+      prints = prints_lines name looks.table looks.table.serial first lines answers roll text of_lines
+          (subst (λ (given : List Ask). PrintsAll looks.table looks.table.serial first given (map reply_of answers) roll text) asks_are
+          (subst (λ (rs : List (Result Reply Refusal)). PrintsAll looks.table looks.table.serial first asks rs roll text) replies_are looks.prints));
+    };
+  }
 
 -- ---- the recording
 
-pub has_run : (r : RecordingValue) (name : Name) (v : Version) (config : Config) (lines : List Line) (first : ℕ) (text : List ℕ) (closed : CoreValue) → v ≡ r.version → config ≡ r.config → lines ≡ r.lines → name.config ≡ config → first ≡ first_number v config
-    → HasPrinted name lines first text → closed.config ≡ name.config → closed.limits ≡ standard_limits → IsCore closed → HasRun r text closed
-has_run r name v config lines first text closed version_is config_is lines_are named number h left limits core = record {
+pub has_run : (r : RecordingValue) (name : Name) (v : Version) (base : Base) (lines : List Line) (first : ℕ) (text : List ℕ) (closed : CoreValue) → v ≡ r.version → base ≡ r.base → lines ≡ r.lines → name.base ≡ base
+    → first ≡ first_number v base → HasPrinted name lines first text → (events : List Event) × IsRolled name.base standard_limits events closed.base → closed.limits ≡ standard_limits → IsCore closed → HasRun r text closed
+has_run r name v base lines first text closed version_is base_is lines_are named number h (events, left) limits core = record {
   answers = h.answers;
   is = record {
     name = name;
-    named = named ∙ config_is;
-    lines = subst (λ (n : ℕ). IsPrinted name r.lines n h.answers text) (number ∙ ap (first_number v) config_is ∙ ap (λ (w : Version). first_number w r.config) version_is) (subst (λ (ls : List Line). IsPrinted name ls first h.answers text) lines_are h.is);
-    left = record { config_is = left ∙ named ∙ config_is; limits = limits; core = core };
+    named = named ∙ base_is;
+    lines = subst (λ (n : ℕ). IsPrinted name r.lines n h.answers text) (number ∙ (λ i. first_number (version_is i) (base_is i))) (subst (λ (ls : List Line). IsPrinted name ls first h.answers text) lines_are h.is);
+    left = record { events = events; rolled = subst (λ (b : Base). IsRolled b standard_limits events closed.base) (named ∙ base_is) left; limits = limits; core = core };
   };
 }

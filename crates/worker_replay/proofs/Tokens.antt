@@ -13,9 +13,9 @@ use Rattle.publication.specs.Names.{Name}
 use Rattle.publication.specs.Published.{IsLegal}
 use Rattle.publication.specs.Told.{Heard}
 use Rattle.publication.proofs.Prefixes.{prefix_trans}
-use Rattle.engine.specs.Answers.{AreAnswered, IsAnswered}
-use Rattle.engine.specs.declared.answer.Answer.{Answer}
-use Rattle.engine.specs.declared.answer.Refused.{Refused}
+use Rattle.desk.specs.Answers.{AreAnswered, IsAnswered}
+use Rattle.desk.specs.declared.answer.Answer.{Answer}
+use Rattle.desk.specs.declared.answer.Refused.{Refused}
 use Rattle.worker_replay.specs.Runs.{Answers, IsAfter, told_of, reply_of}
 use Rattle.worker_replay.specs.Parts.{IsOf}
 
@@ -71,7 +71,7 @@ if_weaker P Q R (Some t) weaker h = weaker t h
 
 own_told : (name : Name) (e : Event) (a : Result Answer Refused) → IsAnswered name e a → IsOf name a
 own_told name e (Ok a) h =
-    if_weaker (a.reply.state ≡ Behind) (λ t. (a.reply.state ≡ Current) × (t.name ≡ name) × (t.list ≡ h.0 ++ e ∷ []) × IsLegal name.config t.list) (λ t. t.name ≡ name) a.told (λ t is. is.1) h.2
+    if_weaker (a.reply.state ≡ Behind) (λ t. (a.reply.state ≡ Current) × (t.name ≡ name) × (t.list ≡ h.0 ++ e ∷ []) × IsLegal name.base t.list) (λ t. t.name ≡ name) a.told (λ t is. is.1) h.2
 own_told name e (Err r) h = if_weaker (h.0 ≢ []) (λ t. (t.name ≡ name) × (t.list ≡ h.0)) (λ t. t.name ≡ name) r.told (λ t is. is.0) h.3
 
 pub all_own : (name : Name) (events : List Event) (answers : Answers) → AreAnswered name events answers → All (IsOf name) answers

@@ -1,5 +1,7 @@
 -- A whole replay.
-use Rattle.std.proofs.Common.{ℕ, ◌≡◌, ◌+◌, List, [], ◌∷◌, length, Option, ◌⊎◌, inl, inr, sym, subst}
+use Rattle.std.proofs.Common.{ℕ, ◌≡◌, ◌+◌, Bool, true, false, not, List, [], ◌∷◌, Option, Some, None, ◌⊎◌, inl, inr, sym, subst}
+use Rattle.std.specs.Prelude.{Result}
+use Rattle.event_state.specs.declared.refusal.Refusal.{Refusal}
 use Rattle.engine.specs.Cores.{CoreValue}
 use Rattle.recording.specs.Recordings.{RecordingValue}
 use Rattle.recording.specs.declared.show.Show.{Show}
@@ -12,8 +14,8 @@ use Rattle.replay.specs.Lines.{first_number, lookup_line, answer_line}
 use Rattle.replay.specs.Stops.{AreWhole}
 use Rattle.replay.specs.Outputs.{IsShown}
 use Rattle.replay.specs.Parts.{IsRead}
-use Rattle.replay.proofs.Wholes.{append_whole, lookup_whole, answer_whole}
-use Rattle.worker_replay.specs.Runs.{Answers, Prints, reply_of}
+use Rattle.replay.proofs.Wholes.{none_whole, append_whole, lookup_whole, answer_whole, roll_whole}
+use Rattle.worker_replay.specs.Runs.{Answers, Prints, has_roll, reply_of, rolled_line}
 use Rattle.worker_replay.specs.Outputs.{Replays, ReplaysPart}
 use Rattle.worker_replay.specs.Parts.{HasRun, Writes, WritesPart}
 
@@ -41,19 +43,27 @@ module _ (s : Show) (before after old new : Option (List ℕ)) (r : RecordingVal
     written = h.part.appended;
   }
 
+rolled_whole : (last : Bool) (number : ℕ) (roll : Option (Result ℕ Refusal)) → AreWhole (rolled_line last number roll)
+rolled_whole false number roll = none_whole
+rolled_whole true number None = none_whole
+rolled_whole true number (Some answer) = roll_whole number answer
+
 -- what the lines of a run print is whole lines
-prints_whole : (table : TableValue) (serial number : ℕ) (lines : List Line) (answers : Answers) (text : List ℕ) → Prints table serial number lines answers text → AreWhole text
-prints_whole table serial number [] [] text none = inl none
-prints_whole table serial number [] (answer ∷ answers) text h = absurd h
-prints_whole table serial number (line.Lookup address ∷ lines) answers text (found, rest, matched, is, more) =
-    subst AreWhole (sym is) (append_whole (lookup_line number address serial found) rest (lookup_whole number address serial found) (prints_whole table serial (number + 1) lines answers rest more))
-prints_whole table serial number (line.Event e ∷ lines) [] text h = absurd h
-prints_whole table serial number (line.Event e ∷ lines) (answer ∷ answers) text (rest, is, more) =
-    subst AreWhole (sym is) (append_whole (answer_line number (reply_of answer)) rest (answer_whole number (reply_of answer)) (prints_whole table serial (number + 1) lines answers rest more))
+prints_whole : (table : TableValue) (serial number : ℕ) (lines : List Line) (answers : Answers) (roll : Option (Result ℕ Refusal)) (text : List ℕ) → Prints table serial number lines answers roll text → AreWhole text
+prints_whole table serial number [] [] roll text none = inl none
+prints_whole table serial number [] (answer ∷ answers) roll text h = absurd h
+prints_whole table serial number (line.Lookup address ∷ lines) answers roll text (found, rest, matched, is, more) =
+    subst AreWhole (sym is) (append_whole (lookup_line number address serial found) rest (lookup_whole number address serial found) (prints_whole table serial (number + 1) lines answers roll rest more))
+prints_whole table serial number (line.Roll ∷ lines) answers roll text (rest, is, more) =
+    let last = not (has_roll lines) in
+    subst AreWhole (sym is) (append_whole (rolled_line last number roll) rest (rolled_whole last number roll) (prints_whole table serial (number + 1) lines answers roll rest more))
+prints_whole table serial number (line.Event e ∷ lines) [] roll text h = absurd h
+prints_whole table serial number (line.Event e ∷ lines) (answer ∷ answers) roll text (rest, is, more) =
+    subst AreWhole (sym is) (append_whole (answer_line number (reply_of answer)) rest (answer_whole number (reply_of answer)) (prints_whole table serial (number + 1) lines answers roll rest more))
 
 pub run_whole : (r : RecordingValue) (printed : List ℕ) (c : CoreValue) → HasRun r printed c → AreWhole printed
 run_whole r printed c h =
-    let lines = h.is.lines in prints_whole lines.table (length lines.seen) (first_number r.version r.config) r.lines h.answers printed lines.prints
+    let lines = h.is.lines in prints_whole lines.table lines.table.serial (first_number r.version r.base) r.lines h.answers lines.roll printed lines.prints
 
 pub or_else : {P A B : Type 0} → (A → B) → P ⊎ A → P ⊎ B
 or_else f (inl p) = inl p

@@ -11,7 +11,7 @@ use Rattle.replay.specs.Outputs.{IsShown}
 use Rattle.worker_replay.specs.Runs.{Answers, IsRun}
 
 -- The output of a recording for a show, where its events had these answers: they may have been taken in any order that keeps that of each worker's, some may have
--- been refused for want of memory, and some answered Behind; each of these is one of the answers.
+-- been refused for want of memory, and some answered Behind; each of these is one of the answers. All `roll` lines together are one roll behind the last event.
 pub record IsOutput (r : RecordingValue) (s : Show) (answers : Answers) (text : List ℕ) : Type 0 where
   pub printed : List ℕ
   pub closed : CoreValue

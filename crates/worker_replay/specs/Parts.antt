@@ -1,5 +1,5 @@
 -- The parts of a replay over several workers: a recording is run over an engine, and the output is written.
-use Rattle.std.specs.Prelude.{ℕ, ◌≡◌, ◌≤◌, ◌+◌, ◌++◌, List, [], ◌∷◌, length, Option, Some, None, IfSome, Result}
+use Rattle.std.specs.Prelude.{ℕ, ◌≡◌, ◌≤◌, ◌+◌, ◌++◌, Bool, true, false, not, List, [], ◌∷◌, Option, IfSome, Result}
 use mathlib.Core.List.{IsPrefix}
 use Rattle.std.specs.Io.KnownBytes.{Appends}
 use Rattle.event_state.specs.declared.event.Event.{Event}
@@ -11,10 +11,11 @@ use Rattle.engine.specs.Cores.{CoreValue}
 use Rattle.publication.specs.Forwarders.{Looker}
 use Rattle.publication.specs.Names.{Name}
 use Rattle.publication.specs.Published.{IsTableFor}
-use Rattle.engine.specs.declared.answer.Answer.{Answer}
-use Rattle.engine.specs.declared.answer.Refused.{Refused}
+use Rattle.desk.specs.declared.answer.Answer.{Answer}
+use Rattle.desk.specs.declared.answer.Refused.{Refused}
 use Rattle.recording.specs.Recordings.{RecordingValue}
 use Rattle.recording.specs.declared.line.Line.{Line}
+use Rattle.recording.specs.declared.line.Line.TheVariants as line
 use Rattle.replay.specs.declared.fault.ReplayFault.TheVariants as replay_fault
 use Rattle.recording.specs.declared.show.Show.{Show}
 use Rattle.recording.specs.declared.version.Version.{Version}
@@ -24,7 +25,9 @@ use Rattle.replay.specs.Pages.{AddsPart}
 use Rattle.replay.specs.declared.page.Stop.{Stop}
 use Rattle.worker_replay.specs.declared.fault.ManyFault.{ManyFault}
 use Rattle.worker_replay.specs.declared.fault.ManyFault.TheVariants as fault
-use Rattle.worker_replay.specs.Runs.{Answers, IsPrinted, IsRun, told_of}
+use Rattle.worker_replay.specs.declared.asking.Ask.{Ask}
+use Rattle.worker_replay.specs.declared.asking.Ask.TheVariants as ask
+use Rattle.worker_replay.specs.Runs.{Answers, IsPrinted, IsRun, has_roll, rolled_line, told_of}
 
 -- as many workers as there may be
 abbrev pub AreWorkers : ℕ → Type 0
@@ -41,44 +44,63 @@ IsRunFault fault.NoEntry = Unit {0}
 abbrev pub IsOf : Name → Result Answer Refused → Type 0
 IsOf name answer = IfSome (told_of answer) (λ t. t.name ≡ name)
 
--- ---- lines, of which some look an address up, and each of the others takes the next reply
+-- ---- what lines ask
 
--- there are as many replies as are taken, or more
-abbrev pub HasAllReplies : List (Option ℕ) → List (Result Reply Refusal) → Type 0
+abbrev pub is_roll : Line → Bool
+is_roll (line.Event e) = false
+is_roll (line.Lookup address) = false
+is_roll line.Roll = true
+
+-- what a line asks, by whether a roll stands behind it
+abbrev pub ask_of : Line → (rolls_later : Bool) → Ask
+ask_of (line.Event e) rolls_later = ask.Event
+ask_of (line.Lookup address) rolls_later = ask.Lookup address
+ask_of line.Roll rolls_later = ask.Roll (not rolls_later)
+
+abbrev pub asks_of : List Line → List Ask
+asks_of [] = []
+asks_of (l ∷ lines) = ask_of l (has_roll lines) ∷ asks_of lines
+
+-- each event takes the next reply: there are as many replies as are taken, or more
+abbrev pub HasAllReplies : List Ask → List (Result Reply Refusal) → Type 0
 HasAllReplies [] replies = Unit {0}
-HasAllReplies (Some address ∷ lookups) replies = HasAllReplies lookups replies
-HasAllReplies (None ∷ lookups) [] = ⊥
-HasAllReplies (None ∷ lookups) (reply ∷ replies) = HasAllReplies lookups replies
+HasAllReplies (ask.Lookup address ∷ asks) replies = HasAllReplies asks replies
+HasAllReplies (ask.Roll last ∷ asks) replies = HasAllReplies asks replies
+HasAllReplies (ask.Event ∷ asks) [] = ⊥
+HasAllReplies (ask.Event ∷ asks) (reply ∷ replies) = HasAllReplies asks replies
 
 -- numbered from here on they print this
-abbrev pub PrintsAll : TableValue → (serial number : ℕ) → List (Option ℕ) → List (Result Reply Refusal) → List ℕ → Type 0
-PrintsAll table serial number [] replies text = text ≡ []
-PrintsAll table serial number (Some address ∷ lookups) replies text =
-    (found : Match) × (rest : List ℕ) × IsMatch table.items address found × (text ≡ lookup_line number address serial found ++ rest) × PrintsAll table serial (number + 1) lookups replies rest
-PrintsAll table serial number (None ∷ lookups) [] text = ⊥
-PrintsAll table serial number (None ∷ lookups) (reply ∷ replies) text =
-    (rest : List ℕ) × (text ≡ answer_line number reply ++ rest) × PrintsAll table serial (number + 1) lookups replies rest
+abbrev pub PrintsAll : TableValue → (serial number : ℕ) → List Ask → List (Result Reply Refusal) → Option (Result ℕ Refusal) → List ℕ → Type 0
+PrintsAll table serial number [] replies roll text = text ≡ []
+PrintsAll table serial number (ask.Lookup address ∷ asks) replies roll text =
+    (found : Match) × (rest : List ℕ) × IsMatch table.items address found × (text ≡ lookup_line number address serial found ++ rest) × PrintsAll table serial (number + 1) asks replies roll rest
+PrintsAll table serial number (ask.Roll last ∷ asks) replies roll text =
+    (rest : List ℕ) × (text ≡ rolled_line last number roll ++ rest) × PrintsAll table serial (number + 1) asks replies roll rest
+PrintsAll table serial number (ask.Event ∷ asks) [] roll text = ⊥
+PrintsAll table serial number (ask.Event ∷ asks) (reply ∷ replies) roll text =
+    (rest : List ℕ) × (text ≡ answer_line number reply ++ rest) × PrintsAll table serial (number + 1) asks replies roll rest
 
 -- what they print stands behind the text of before
-pub record AppendsAll (table : TableValue) (serial number : ℕ) (lookups : List (Option ℕ)) (replies : List (Result Reply Refusal)) (old new : List ℕ) : Type 0 where
+pub record AppendsAll (table : TableValue) (serial number : ℕ) (asks : List Ask) (replies : List (Result Reply Refusal)) (roll : Option (Result ℕ Refusal)) (old new : List ℕ) : Type 0 where
   pub text : List ℕ
-  pub prints : PrintsAll table serial number lookups replies text
+  pub prints : PrintsAll table serial number asks replies roll text
   pub appended : new ≡ old ++ text
 
 -- what the line prints stands behind the text of before, and these replies are left
-abbrev pub AppendsLine : TableValue → (serial number : ℕ) → Option ℕ → (replies left : List (Result Reply Refusal)) → (old new : List ℕ) → Type 0
-AppendsLine table serial number (Some address) replies left old new =
+abbrev pub AppendsLine : TableValue → (serial number : ℕ) → Ask → (replies left : List (Result Reply Refusal)) → Option (Result ℕ Refusal) → (old new : List ℕ) → Type 0
+AppendsLine table serial number (ask.Lookup address) replies left roll old new =
     (found : Match) × IsMatch table.items address found × (new ≡ old ++ lookup_line number address serial found) × (left ≡ replies)
-AppendsLine table serial number None replies left old new =
+AppendsLine table serial number (ask.Roll last) replies left roll old new = (new ≡ old ++ rolled_line last number roll) × (left ≡ replies)
+AppendsLine table serial number ask.Event replies left roll old new =
     (reply : Result Reply Refusal) × (replies ≡ reply ∷ left) × (new ≡ old ++ answer_line number reply)
 
 -- the forwarder looked once, and they printed this
-pub record Looks (f : Looker) (number : ℕ) (lookups : List (Option ℕ)) (replies : List (Result Reply Refusal)) (text : List ℕ) : Type 0 where
+pub record Looks (f : Looker) (number : ℕ) (asks : List Ask) (replies : List (Result Reply Refusal)) (roll : Option (Result ℕ Refusal)) (text : List ℕ) : Type 0 where
   pub seen : List Event
   pub table : TableValue
   pub after : IsPrefix f.known seen
-  pub right : IsTableFor f.name.config seen table
-  pub prints : PrintsAll table (length seen) number lookups replies text
+  pub right : IsTableFor f.name.base seen table
+  pub prints : PrintsAll table table.serial number asks replies roll text
 
 -- ---- the parts
 

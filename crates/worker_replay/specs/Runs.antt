@@ -1,24 +1,27 @@
 -- The run of a recording over several workers.
-use Rattle.std.specs.Prelude.{ℕ, ◌≡◌, ◌+◌, ◌++◌, List, [], ◌∷◌, length, All, Option, Some, None, IfSome, Result, Ok, Err}
+use Rattle.std.specs.Prelude.{ℕ, ◌≡◌, ◌+◌, ◌++◌, ◌⊎◌, Bool, true, false, not, List, [], ◌∷◌, All, Option, Some, None, IfSome, Result, Ok, Err, MatchResult}
 use mathlib.Core.List.{IsPrefix}
-use Rattle.ospf_types.specs.declared.config.Config.{Config}
+use Rattle.event_state.specs.declared.base.Base.{Base}
 use Rattle.event_state.specs.declared.event.Event.{Event}
 use Rattle.event_state.specs.declared.refusal.Refusal.{Refusal}
+use Rattle.event_state.specs.declared.refusal.Refusal.TheVariants as refusal
+use Rattle.event_state.specs.Rolls.{IsRolled}
 use Rattle.event_state.specs.Steps.{standard_limits}
 use Rattle.route_table.specs.declared.table.Match.{Match}
 use Rattle.route_table.specs.Tables.{TableValue, IsMatch}
 use Rattle.engine.specs.Reply.{Reply}
 use Rattle.engine.specs.Cores.{CoreValue, IsCore}
+use Rattle.engine.specs.Opens.{IsRolledSerial}
 use Rattle.publication.specs.Names.{Name}
 use Rattle.publication.specs.Published.{IsTableFor}
 use Rattle.publication.specs.Told.{Heard}
-use Rattle.engine.specs.Answers.{AreAnswered}
-use Rattle.engine.specs.declared.answer.Answer.{Answer}
-use Rattle.engine.specs.declared.answer.Refused.{Refused}
+use Rattle.desk.specs.Answers.{AreAnswered}
+use Rattle.desk.specs.declared.answer.Answer.{Answer}
+use Rattle.desk.specs.declared.answer.Refused.{Refused}
 use Rattle.recording.specs.declared.line.Line.{Line}
 use Rattle.recording.specs.declared.line.Line.TheVariants as line
 use Rattle.recording.specs.Recordings.{RecordingValue}
-use Rattle.replay.specs.Lines.{first_number, lookup_line, answer_line}
+use Rattle.replay.specs.Lines.{first_number, lookup_line, answer_line, roll_line}
 
 -- ---- lines
 
@@ -27,11 +30,14 @@ abbrev pub events_of : List Line → List Event
 events_of [] = []
 events_of (line.Event e ∷ lines) = e ∷ events_of lines
 events_of (line.Lookup address ∷ lines) = events_of lines
+events_of (line.Roll ∷ lines) = events_of lines
 
--- the address that a line looks up
-abbrev pub lookup_in : Line → Option ℕ
-lookup_in (line.Event e) = None
-lookup_in (line.Lookup address) = Some address
+-- one of the lines is a roll
+abbrev pub has_roll : List Line → Bool
+has_roll [] = false
+has_roll (line.Event e ∷ lines) = has_roll lines
+has_roll (line.Lookup address ∷ lines) = has_roll lines
+has_roll (line.Roll ∷ lines) = true
 
 -- ---- answers
 
@@ -53,38 +59,60 @@ told_of (Err refused) = refused.told
 abbrev pub IsAfter : List Event → Result Answer Refused → Type 0
 IsAfter seen answer = IfSome (told_of answer) (λ t. IsPrefix t.list seen)
 
+-- ---- the roll
+
+-- why an engine is not rolled
+abbrev pub IsNotRolled : Refusal → Type 0
+IsNotRolled r = (r ≡ refusal.NotCurrent) ⊎ (r ≡ refusal.Memory)
+
+-- The answer of an engine to the one roll that its `roll` lines together are: its serial, or why it is refused. There is none where no line is a roll.
+abbrev pub IsRollAnswer : Name → List Line → Option (Result ℕ Refusal) → Type 0
+IsRollAnswer name lines None = has_roll lines ≡ false
+IsRollAnswer name lines (Some answer) = (has_roll lines ≡ true) × MatchResult answer (IsRolledSerial name.base) IsNotRolled
+
+-- what a `roll` line prints: the last one why the roll was refused, if it was, and the others nothing
+abbrev pub rolled_line : (last : Bool) (number : ℕ) → Option (Result ℕ Refusal) → List ℕ
+rolled_line false number answer = []
+rolled_line true number None = []
+rolled_line true number (Some answer) = roll_line number answer
+
 -- ---- what is printed
 
--- Lines that are numbered from here on print this: each event what its answer says, the answers in the order of the lines; and each look-up its match in the one
--- table, with the one serial.
-abbrev pub Prints : TableValue → (serial number : ℕ) → List Line → Answers → List ℕ → Type 0
-Prints table serial number [] [] text = text ≡ []
-Prints table serial number [] (answer ∷ answers) text = ⊥
-Prints table serial number (line.Lookup address ∷ lines) answers text =
-    (found : Match) × (rest : List ℕ) × IsMatch table.items address found × (text ≡ lookup_line number address serial found ++ rest) × Prints table serial (number + 1) lines answers rest
-Prints table serial number (line.Event e ∷ lines) [] text = ⊥
-Prints table serial number (line.Event e ∷ lines) (answer ∷ answers) text =
-    (rest : List ℕ) × (text ≡ answer_line number (reply_of answer) ++ rest) × Prints table serial (number + 1) lines answers rest
+-- Lines that are numbered from here on print this: each event what its answer says, the answers in the order of the lines; each look-up its match in the one
+-- table, with the one serial; and the last `roll` line why the roll was refused, if it was.
+abbrev pub Prints : TableValue → (serial number : ℕ) → List Line → Answers → Option (Result ℕ Refusal) → List ℕ → Type 0
+Prints table serial number [] [] roll text = text ≡ []
+Prints table serial number [] (answer ∷ answers) roll text = ⊥
+Prints table serial number (line.Lookup address ∷ lines) answers roll text =
+    (found : Match) × (rest : List ℕ) × IsMatch table.items address found × (text ≡ lookup_line number address serial found ++ rest) × Prints table serial (number + 1) lines answers roll rest
+Prints table serial number (line.Roll ∷ lines) answers roll text =
+    (rest : List ℕ) × (text ≡ rolled_line (not (has_roll lines)) number roll ++ rest) × Prints table serial (number + 1) lines answers roll rest
+Prints table serial number (line.Event e ∷ lines) [] roll text = ⊥
+Prints table serial number (line.Event e ∷ lines) (answer ∷ answers) roll text =
+    (rest : List ℕ) × (text ≡ answer_line number (reply_of answer) ++ rest) × Prints table serial (number + 1) lines answers roll rest
 
--- The events of a recording have these answers of the engine of a name, and its lines print this. The table of all look-ups is right for a list of events that
--- begins with the list of each token among the answers, so it has each event that was answered Current.
+-- The events of a recording have these answers of the engine of a name, which is rolled behind them if a line asks for it, and its lines print this. The table of
+-- all look-ups is right for a list of events that begins with the list of each token among the answers, so it has each event that was answered Current.
 pub record IsPrinted (name : Name) (lines : List Line) (number : ℕ) (answers : Answers) (printed : List ℕ) : Type 0 where
   pub answered : AreAnswered name (events_of lines) answers
   pub seen : List Event
   pub table : TableValue
-  pub right : IsTableFor name.config seen table
+  pub right : IsTableFor name.base seen table
   pub after : All (IsAfter seen) answers
-  pub prints : Prints table (length seen) number lines answers printed
+  pub roll : Option (Result ℕ Refusal)
+  pub rolled : IsRollAnswer name lines roll
+  pub prints : Prints table table.serial number lines answers roll printed
 
--- what an engine leaves
-pub record IsClosed (config : Config) (c : CoreValue) : Type 0 where
-  pub config_is : c.config ≡ config
+-- What an engine leaves that began with a base: its own is the state after some events, and the journal has those since.
+pub record IsClosed (base : Base) (c : CoreValue) : Type 0 where
+  pub events : List Event
+  pub rolled : IsRolled base standard_limits events c.base
   pub limits : c.limits ≡ standard_limits
   pub core : IsCore c
 
 -- the recording was run with these answers to its events, its lines printed this, and a core was left
 pub record IsRun (r : RecordingValue) (answers : Answers) (printed : List ℕ) (closed : CoreValue) : Type 0 where
   pub name : Name
-  pub named : name.config ≡ r.config
-  pub lines : IsPrinted name r.lines (first_number r.version r.config) answers printed
-  pub left : IsClosed r.config closed
+  pub named : name.base ≡ r.base
+  pub lines : IsPrinted name r.lines (first_number r.version r.base) answers printed
+  pub left : IsClosed r.base closed

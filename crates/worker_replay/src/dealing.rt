@@ -2,7 +2,7 @@
 ghost use Rattle.std.specs.Prelude.{◌≡◌, ◌<◌, List, [], ◌∷◌, length, map, reverse, IfOk, OnOk};
 ghost use Rattle.event_state.specs.declared.event.Event.{Event as EventValue};
 ghost use Rattle.publication.specs.Names.{Name};
-ghost use Rattle.engine.specs.Answers.{AreAnswered};
+ghost use Rattle.desk.specs.Answers.{AreAnswered};
 ghost use Rattle.worker_replay.specs.Dealing.{IsDealt, AreAnsweredDealt, AreTaken};
 
 use engine::{Answer, Event, Refused};
@@ -92,7 +92,7 @@ fn each_reversed<T: Drop>(alloc: Global, lists: Vec<Vec<T>>) -> Result<Vec<Vec<T
     Ok(now)
 }
 
-fn reversed<T>(list: Vec<T>) -> Vec<T>
+pub(crate) fn reversed<T>(list: Vec<T>) -> Vec<T>
     ensures { result.items ≡ reverse list.items }
 {
     let mut list = list;

@@ -12,7 +12,7 @@ use engine::Core;
 use lsa_codec::Checked;
 use ospf_types::key::Scope;
 use ospf_types::memory::Memory;
-use recording::{Version, append_header};
+use recording::{Version, append_front};
 use replay::{Show, Stop, put_serial, show_dues, show_events, show_items, show_lsas, write_page};
 use std::alloc::Global;
 use std::io;
@@ -93,7 +93,7 @@ fn write_journal<W: io::Write>(
     ensures ok { OnOk result (Writes version show_value.Journal [] core.now (W.contents out.old) (W.contents out.new)) }
     ensures err { IfErr result (λ why. WritesPart why version show_value.Journal [] core.now (W.contents out.old) (W.contents out.new)) }
 {
-    append_header(version, core.config(), page)?;
+    append_front(alloc, version, core.base(), page)?;
     show_events(alloc, core.journal(), out, page)?;
     write_page(out, page)?;
     Ok(())

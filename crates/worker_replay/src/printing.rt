@@ -3,30 +3,36 @@ ghost use Rattle.std.specs.Prelude.{◌≡◌, ◌++◌, ◌+◌, ◌<◌, ◌^�
 ghost use Rattle.route_table.specs.declared.table.Match.{Match};
 ghost use Rattle.route_table.specs.Tables.{IsMatch};
 ghost use Rattle.replay.specs.Lines.{lookup_line};
+ghost use Rattle.worker_replay.specs.Runs.{rolled_line};
 ghost use Rattle.worker_replay.specs.Parts.{HasAllReplies, AppendsAll, AppendsLine};
 
+use crate::asking::Ask;
 use engine::{Refusal, Reply, Seen};
 use ospf_types::address::Address;
 use ospf_types::memory::Memory;
-use replay::put_answer;
+use replay::{put_answer, put_roll};
 
-/// Appends what comes of each line: the match of its address in the table that is seen; or, where it looks none up, the next of the
-/// replies. The lines are numbered from `first` on.
+/// What a roll was answered: the serial, or its refusal. `None` where there was none.
+pub(crate) type Rolled = Option<Result<u64, Refusal>>;
+
+/// Appends what comes of each line: the match of its address in the table that is seen; the answer to the roll, in the place of the last
+/// line that asks for it; or, for an event, the next of the replies. The lines are numbered from `first` on.
 pub(crate) fn put_lines(
     first: usize,
-    lookups: Vec<Option<u32>>,
+    asks: Vec<Ask>,
     replies: &[Result<Reply, Refusal>],
+    rolled: Rolled,
     seen: &Seen,
     text: &mut String,
 ) -> Result<(), Memory>
-    requires replies { HasAllReplies lookups.items replies.now }
-    requires few { first + length lookups.items < 2 ^ 64 }
-    ensures { OnOk result (AppendsAll seen.now.table (length seen.now.list) first lookups.items replies.now (string_bytes text.old) (string_bytes text.new)) }
+    requires replies { HasAllReplies asks.items replies.now }
+    requires few { first + length asks.items < 2 ^ 64 }
+    ensures { OnOk result (AppendsAll seen.now.table seen.now.table.serial first asks.items replies.now rolled (string_bytes text.old) (string_bytes text.new)) }
 {
     let mut number = first;
     let mut left = replies;
-    for lookup in lookups {
-        left = put_line(number, lookup, left, seen, text)?;
+    for ask in asks {
+        left = put_line(number, ask, left, rolled, seen, text)?;
         number += 1;
     }
     Ok(())
@@ -35,32 +41,54 @@ pub(crate) fn put_lines(
 // The same of one line. The replies that are left are handed back.
 fn put_line<'a>(
     number: usize,
-    lookup: Option<u32>,
+    ask: Ask,
     replies: &'a [Result<Reply, Refusal>],
+    rolled: Rolled,
     seen: &Seen,
     text: &mut String,
 ) -> Result<&'a [Result<Reply, Refusal>], Memory>
-    requires { HasAllReplies (lookup ∷ []) replies.now }
-    ensures { IfOk result (λ rest. AppendsLine seen.now.table (length seen.now.list) number lookup replies.now rest.now (string_bytes text.old) (string_bytes text.new)) }
+    requires { HasAllReplies (ask ∷ []) replies.now }
+    ensures { IfOk result (λ rest. AppendsLine seen.now.table seen.now.table.serial number ask replies.now rest.now rolled (string_bytes text.old) (string_bytes text.new)) }
 {
-    if let Some(address) = lookup {
-        put_lookup(number, address, seen, text)?;
-        return Ok(replies);
+    match ask {
+        Ask::Event => {
+            let [reply, rest @ ..] = replies else {
+                unreachable!()
+            };
+            put_answer(number, *reply, text)?;
+            Ok(rest)
+        }
+        Ask::Lookup(address) => {
+            put_lookup(number, address, seen, text)?;
+            Ok(replies)
+        }
+        Ask::Roll { is_last } => {
+            put_rolled(number, is_last, rolled, text)?;
+            Ok(replies)
+        }
     }
-    let [reply, rest @ ..] = replies else {
-        unreachable!()
-    };
-    put_answer(number, *reply, text)?;
-    Ok(rest)
 }
 
 // The match of the address in the table that is seen.
 fn put_lookup(number: usize, address: u32, seen: &Seen, text: &mut String) -> Result<(), Memory>
     ensures { OnOk result ((found : Match) × IsMatch seen.now.table.items address found
-        × (string_bytes text.new ≡ string_bytes text.old ++ lookup_line number address (length seen.now.list) found)) }
+        × (string_bytes text.new ≡ string_bytes text.old ++ lookup_line number address seen.now.table.serial found)) }
 {
     let (serial, found) = (seen.serial(), seen.find(address));
     let address = Address(address);
     writeln!(text, "{number} lookup {address} {serial} {found}")?;
     Ok(())
+}
+
+// The answer to the roll, in the place of the last line that asks for it.
+fn put_rolled(number: usize, is_last: bool, rolled: Rolled, text: &mut String) -> Result<(), Memory>
+    ensures { OnOk result (string_bytes text.new ≡ string_bytes text.old ++ rolled_line is_last number rolled) }
+{
+    if !is_last {
+        return Ok(());
+    }
+    match rolled {
+        Some(answer) => put_roll(number, answer, text),
+        None => Ok(()),
+    }
 }

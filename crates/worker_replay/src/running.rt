@@ -1,17 +1,19 @@
 //! A recording is run over an engine.
-ghost use Rattle.std.specs.Prelude.{◌≡◌, ◌<◌, ◌≤◌, ◌+◌, ◌^◌, [], length, IfOk, IfErr, None, string_bytes};
-ghost use Rattle.config_faults.specs.Configs.{config_fault_of};
-ghost use Rattle.engine.specs.Answers.{AreAnswered};
+ghost use Rattle.std.specs.Prelude.{◌≡◌, ◌<◌, ◌≤◌, ◌+◌, ◌^◌, length, IfOk, IfErr, IfSome, None, MatchResult, is_some, string_bytes};
+ghost use Rattle.event_state.specs.BaseFaults.{base_fault_of};
+ghost use Rattle.event_state.specs.Steps.{standard_limits};
+ghost use Rattle.desk.specs.Answers.{AreAnswered};
+ghost use Rattle.engine.specs.Opens.{IsRolledSerial};
 ghost use Rattle.replay.specs.Lines.{first_number};
+ghost use Rattle.worker_replay.specs.Runs.{IsNotRolled};
 ghost use Rattle.worker_replay.specs.Parts.{AreWorkers, HasRun, HasPrinted, HasAllReplies, Looks, IsRunFault};
 
-use crate::asking::set_all_apart;
+use crate::asking::{Apart, Ask, set_all_apart};
 use crate::dealing::{Answers, collect, deal};
 use crate::fault::ManyFault;
 use crate::learning::{Replies, learn_all};
-use crate::printing::put_lines;
-use engine::{ConfigFault, Core, Engine, Event, Forwarder, Open, OpenFault, Refusal};
-use ospf_types::config::Config;
+use crate::printing::{Rolled, put_lines};
+use engine::{Base, ConfigFault, Core, Engine, Event, Forwarder, Open, OpenFault, Refusal};
 use ospf_types::memory::Memory;
 use recording::{Line, Recording};
 use replay::number_of_first;
@@ -29,33 +31,31 @@ pub(crate) fn run_recording<S: Threads + Wait + Sync>(
     workers: usize,
 ) -> Result<(String, Core), ManyFault>
     requires workers { AreWorkers workers }
-    requires few { first_number recording.version recording.config + length recording.lines < 2 ^ 64 }
+    requires few { first_number recording.version recording.base + length recording.lines < 2 ^ 64 }
     ensures run { IfOk result (λ r. HasRun recording (string_bytes r.0) r.1) }
     ensures fault { IfErr result IsRunFault }
 {
-    let (version, config, lines) = recording.into_parts();
-    let first = number_of_first(version, &config);
-    let (engine, forwarder) = open_engine(rt, alloc, config, hashing)?;
+    let (version, base, lines) = recording.into_parts();
+    let first = number_of_first(version, &base);
+    let (engine, forwarder) = open_engine(rt, alloc, base, hashing)?;
     let printed = run_lines(rt, alloc, &engine, forwarder, lines, first, workers);
     let core = engine.close(rt);
-    // What is known of every core.
-    let _ = core.built();
     Ok((printed?, core))
 }
 
-// An engine with one reader. The configuration of a recording has no fault.
+// An engine with one reader. The base of a recording has no fault.
 fn open_engine<S: Wait>(
     rt: &S,
     alloc: Global,
-    config: Config,
+    base: Base,
     hashing: RandomState,
 ) -> Result<(Engine, Forwarder), ManyFault>
-    requires { config_fault_of config ≡ None }
-    ensures config { IfOk result (λ r. r.0.config ≡ config) }
+    requires { base_fault_of standard_limits base ≡ None }
+    ensures base { IfOk result (λ r. r.0.base ≡ base) }
     ensures forwarder { IfOk result (λ r. r.1.name ≡ r.0) }
     ensures fault { IfErr result IsRunFault }
 {
-    match Engine::open(rt, alloc, config, 1, hashing) {
+    match Engine::open_from(rt, alloc, base, 1, hashing) {
         Ok((engine, mut forwarders)) => {
             let Some(forwarder) = forwarders.pop() else {
                 unreachable!()
@@ -68,7 +68,8 @@ fn open_engine<S: Wait>(
     }
 }
 
-// Submits the events of the lines, and then looks once for all look-ups: what the lines print.
+// Submits the events of the lines, rolls once behind the last of them, if a line asks for it, and then looks once for all
+// look-ups: what the lines print.
 fn run_lines<S: Threads + Wait + Sync>(
     rt: &S,
     alloc: Global,
@@ -84,10 +85,27 @@ fn run_lines<S: Threads + Wait + Sync>(
     ensures printed { IfOk result (λ text. HasPrinted engine.now lines.items first (string_bytes text)) }
     ensures fault { IfErr result IsRunFault }
 {
-    let (events, lookups) = set_all_apart(alloc, lines)?;
+    let Apart {
+        events,
+        asks,
+        rolls,
+    } = set_all_apart(alloc, lines)?;
     let answers = submit(rt, alloc, engine, events, workers)?;
     let (forwarder, replies) = learn_all(alloc, forwarder, answers)?;
-    look(alloc, forwarder, lookups, replies, first)
+    let rolled = roll(rt, engine, rolls);
+    look(alloc, forwarder, asks, replies, rolled, first)
+}
+
+// Rolls the engine, if it is asked for.
+fn roll<S: Wait>(rt: &S, engine: &Engine, is_asked: bool) -> Rolled
+    ensures asked { is_some result ≡ is_asked }
+    ensures answer { IfSome result (λ answer. MatchResult answer (IsRolledSerial engine.now.base) IsNotRolled) }
+{
+    if is_asked {
+        Some(engine.roll(rt))
+    } else {
+        None
+    }
 }
 
 // Submits the events with so many workers. The answers are in the order of the events.
@@ -116,20 +134,21 @@ fn submit<S: Threads + Wait + Sync>(
 fn look(
     alloc: Global,
     forwarder: Forwarder,
-    lookups: Vec<Option<u32>>,
+    asks: Vec<Ask>,
     replies: Replies,
+    rolled: Rolled,
     first: usize,
 ) -> Result<String, ManyFault>
-    requires replies { HasAllReplies lookups.items replies.items }
-    requires few { first + length lookups.items < 2 ^ 64 }
-    ensures looks { IfOk result (λ text. Looks forwarder first lookups.items replies.items (string_bytes text)) }
+    requires replies { HasAllReplies asks.items replies.items }
+    requires few { first + length asks.items < 2 ^ 64 }
+    ensures looks { IfOk result (λ text. Looks forwarder first asks.items replies.items rolled (string_bytes text)) }
     ensures fault { IfErr result IsRunFault }
 {
     let mut text = String::new(alloc);
     let Ok(seen) = forwarder.lookup(0) else {
         return Err(ManyFault::NoEntry);
     };
-    let put = put_lines(first, lookups, replies.as_slice(), &seen, &mut text);
+    let put = put_lines(first, asks, replies.as_slice(), rolled, &seen, &mut text);
     drop(seen.leave());
     put?;
     Ok(text)

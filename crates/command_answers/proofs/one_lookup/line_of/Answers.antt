@@ -11,11 +11,11 @@ returns-clause-line c =
     let right = c.found-found.ensures.right in
     let two : c.serial-serial.result ≡ 2 = omega (arith, c.if-serial-ne2.false) in
     let printed : string_bytes c.in_ok-format.field-0 ≡ lookup_line (address_text c.args.address) seen.table found = line_printed _ (address_text c.args.address) c.serial-serial.result seen.table found
-    c.in_ok-format.ensures.ok (c.serial-serial.ensures ∙ sym right.1.serial) in
+    c.in_ok-format.ensures.ok c.serial-serial.ensures.table in
     record {
-      both = sym c.serial-serial.ensures ∙ two;
+      both = omega (arith, two, c.serial-serial.ensures.value, c.requires.first);
       right = right;
       found = found;
       matched = c.found-found.ensures.found;
-      printed = printed ∙ ap (λ (a : ℕ). lookup_line (address_text a) seen.table found) (sym c.requires);
+      printed = printed ∙ ap (λ (a : ℕ). lookup_line (address_text a) seen.table found) (sym c.requires.address);
     }

@@ -1,5 +1,5 @@
 use Rattle.std.proofs.Common.{◌≡◌, ◌++◌}
-use Rattle.event_core.specs.Listings.{lsas_of_areas}
+use Rattle.event_state.specs.Listings.{lsas_of_areas}
 use Rattle.event_core.proofs.listing.add_areas.Given as goal
 
 -- what was found, and what the areas that are left have, is what all areas have

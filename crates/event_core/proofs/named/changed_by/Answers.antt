@@ -1,11 +1,17 @@
+use Rattle.std.proofs.Common.{sym, ap}
+use Rattle.event_core.specs.Named.{changes_ranges}
 use Rattle.event_core.proofs.Naming.{interface_names, others_name}
 use Rattle.event_core.proofs.named.changed_by.Goals as goal
 
-pub returns-in-Interface : goal.returns-in-Interface
-returns-in-Interface c =
+pub returns-in-Interface-clause-named : goal.returns-in-Interface-clause-named
+returns-in-Interface-clause-named c =
     let i = c.in-Interface in
     interface_names c.args.state.now c.args.event.now i.id i.area i.address i.peer i.up c.new.result.items c.in_ok-from_slice.field-0.items i.is c.new.ensures.items c.in_ok-from_slice.ensures.items
 
-pub returns : goal.returns
-returns c =
-    others_name c.args.state.now c.args.event.now c.in_ok-named.field-0.items c.new-2.result.items c.in_default.not-Interface c.new-2.ensures.items c.in_ok-named.ensures
+-- an interface's event changes no range
+pub returns-in-Interface-clause-ranges : goal.returns-in-Interface-clause-ranges
+returns-in-Interface-clause-ranges c = ap changes_ranges (sym c.in-Interface.is)
+
+pub returns-clause-named : goal.returns-clause-named
+returns-clause-named c =
+    others_name c.args.state.now c.args.event.now c.in_ok-named.field-0.items c.new-2.result.items c.is_of_ranges.result c.in_default.not-Interface c.new-2.ensures.items c.is_of_ranges.ensures c.in_ok-named.ensures

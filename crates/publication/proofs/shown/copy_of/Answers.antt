@@ -1,4 +1,4 @@
-use Rattle.std.proofs.Common.{◌≡◌, List, map, Some, ap, sym, ◌∙◌}
+use Rattle.std.proofs.Common.{List, map, Some, ap, ◌∙◌}
 use Rattle.std.specs.Prelude.{Option}
 use Rattle.ospf_types.specs.Network.{Network}
 use Rattle.route_table.specs.declared.table.Item.{Item}

@@ -10,9 +10,8 @@ use Rattle.publication.proofs.writing.show_changes.Goals as goal
 pub publish-requires-clause-laid : goal.publish-requires-clause-laid
 publish-requires-clause-laid g c =
     let w = c.args.writer in
-    let items = c.args.table.now.items in
     let front = c.front-front.ensures ∙ c.look.ensures.same in
     let same = ap (λ d. d.shown.value) c.lay_changes.ensures.desk in
-    let laid = c.if-not-lay_changes.ensures.pending refl ∙ ap (λ us. us ++ deltas c.args.networks.now items c.front-front.result) c.requires.clean in
-    subst (λ (z : Shown × List Update). IsRightFace c.front-front.result z.0.config (fold updated (face_of z.0) z.1)) (λ i. (sym same i, sym laid i))
-    (gives_changes (face_of w.desk.shown.value) c.args.networks.now c.args.table.now c.front-front.result c.requires.changes (subst (λ (l : Line). IsTableFor w.desk.shown.value.config l.list c.args.table.now) (sym front) c.requires.right))
+    let laid = c.if-not-lay_changes.ensures.pending refl ∙ ap (λ us. us ++ deltas c.args.networks.now c.args.table.now c.front-front.result) c.requires.clean in
+    subst (λ (z : Shown × List Update). IsRightFace c.front-front.result z.0.base (fold updated (face_of z.0) z.1)) (λ i. (sym same i, sym laid i))
+    (gives_changes (face_of w.desk.shown.value) c.args.networks.now c.args.table.now c.front-front.result c.requires.changes (subst (λ (l : Line). IsTableFor w.desk.shown.value.base l.list c.args.table.now) (sym front) c.requires.right))

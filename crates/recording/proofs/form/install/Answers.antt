@@ -1,10 +1,12 @@
-use Rattle.std.proofs.Common.{◌∙◌, ◌∷◌, ap}
-use Rattle.recording.specs.Forms.{scope_text}
-use Rattle.recording.proofs.Saying.{install_says}
+use Rattle.std.proofs.Common.{◌∷◌, codes, ap}
+use Rattle.recording.proofs.Saying.{install_words_of}
 use Rattle.recording.proofs.form.install.Goals as goal
 
-pub returns-then-are_digits : goal.returns-then-are_digits
-returns-then-are_digits c =
-    let scope = c.in_ok-scope.ensures in
-    let words = scope.1 ∙ ap (λ ws. scope_text c.in_ok-scope.scope ∷ ws) (c.in_ok-digits.ensures ∙ ap (λ ws. c.in_ok-digits.digits.now ∷ ws) c.in_ok-end.ensures) in
-    install_says _ c.in_ok-scope.scope c.in_ok-digits.digits.now scope.0 words (c.are_digits.ensures.0 c.if-are_digits.true)
+pub returns-in_err-fields : goal.returns-in_err-fields
+returns-in_err-fields c =
+    rw c.from_residual.ensures (λ form said. let w = install_words_of _ form said in c.in_err-fields.ensures.says w.at w.bytes w.scope w.small w.spelled)
+
+pub returns : goal.returns
+returns c =
+    let f = c.in_ok-fields.ensures in
+    (record { spelled = ap (λ ws. codes "install" ∷ ws) f.says.2; legal = (f.says.0, f.says.1) }, f.digits)

@@ -1,17 +1,10 @@
-use Rattle.recording.proofs.Saying.{range_words, same_rest}
+use Rattle.std.proofs.Common.{◌∷◌, codes, ap}
+use Rattle.recording.proofs.Saying.{range_words_of}
 use Rattle.recording.proofs.form.range.Goals as goal
 
-pub returns-in_err-area : goal.returns-in_err-area
-returns-in_err-area c = rw c.from_residual.ensures (λ form said. let w = range_words _ form said in c.in_err-area.ensures w.area _ w.address w.spelled)
+pub returns-in_err-fields : goal.returns-in_err-fields
+returns-in_err-fields c = rw c.from_residual.ensures (λ form said. let w = range_words_of _ form said in c.in_err-fields.ensures w.area w.range w.address w.legal w.spelled)
 
-pub returns-in_err-prefix : goal.returns-in_err-prefix
-returns-in_err-prefix c =
-    rw c.from_residual-in_err-prefix.ensures
-    (λ form said. let w = range_words _ form said in c.in_err-prefix.ensures w.range.prefix _ w.legal (same_rest c.in_ok-area.ensures.1 w.spelled))
-
-pub returns-in_err-advertise : goal.returns-in_err-advertise
-returns-in_err-advertise c =
-    rw c.from_residual-in_err-advertise.ensures
-    (λ form said.
-    let w = range_words _ form said in
-    c.in_err-advertise.ensures w.range.advertise _ tt (same_rest c.in_ok-prefix.ensures.1 (same_rest c.in_ok-area.ensures.1 w.spelled)))
+pub returns : goal.returns
+returns c =
+    let f = c.in_ok-fields.ensures in (record { spelled = ap (λ ws. codes "range" ∷ ws) f.2; legal = (f.0, f.1) }, tt)

@@ -6,10 +6,10 @@ use Rattle.recording.proofs.parsing.parse_text.Goals as goal
 
 pub returns-in-Some-clause-fault : goal.returns-in-Some-clause-fault
 returns-in-Some-clause-fault c =
-    let read = c.in_ok-config.ensures in
-    let same = read.text ∙ c.in_ok-header.ensures.text ∙ c.in_ok-router.ensures.text ∙ c.in_ok-version.ensures.text in
-    inr (subst (λ (text : List ℕ). IsFirstFault text c.in_ok-config.lines.taken (fault.Config c.in-Some.fault)) same (header_config read.read read.end c.in-Some.fault (sym c.fault_in.ensures ∙ c.in-Some.is)))
+    let read = c.in_ok-base.ensures in
+    let same = read.text ∙ c.in_ok-setting.ensures.text ∙ c.in_ok-router.ensures.text ∙ c.in_ok-version.ensures.text in
+    inr (subst (λ (text : List ℕ). IsFirstFault text c.in_ok-base.lines.taken (fault.Config c.in-Some.fault)) same (header_config read.read read.end c.in-Some.fault (sym c.fault_in.ensures ∙ c.in-Some.is)))
 
-pub read_lines-requires : goal.read_lines-requires
-read_lines-requires c =
-    let read = c.in_ok-config.ensures in lines_begin read.read read.end (sym c.fault_in.ensures ∙ c.in_default.is)
+pub read_base-requires-clause-read : goal.read_base-requires-clause-read
+read_base-requires-clause-read c =
+    let read = c.in_ok-base.ensures in lines_begin read.read read.end (sym c.fault_in.ensures ∙ c.in_default.is)

@@ -1,9 +1,13 @@
-use Rattle.std.proofs.Common.{◌≡◌, ◌-◌, length}
-use Rattle.recording.specs.Left.{HasLinesAt}
+use Rattle.std.proofs.Common.{◌≡◌, ◌-◌, [], length}
+use Rattle.recording.specs.Left.{EndsBaseAt, HasLinesAt}
 use Rattle.recording.proofs.parsing.read_lines.Given as goal
 
 abbrev pub invariant-loop-line : goal.invariant-loop-line
-invariant-loop-line l = HasLinesAt l.left (record { version = l.version; config = l.config; lines = l.found.items }) × (l.left.text.now ≡ l.fn.lines.text.now)
+invariant-loop-line l = record {
+  read : HasLinesAt l.left (record { version = l.version; base = l.base; lines = l.found.items });
+  end : l.found.items ≡ [] → EndsBaseAt l.version l.left;
+  text : l.left.text.now ≡ l.fn.lines.text.now;
+}
 
 -- the bytes that are left
 abbrev pub decreases-loop-line : goal.decreases-loop-line

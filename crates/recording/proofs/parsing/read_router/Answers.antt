@@ -4,7 +4,7 @@ use Rattle.recording.specs.Forms.{VersionLine, RouterLine, Says}
 use Rattle.recording.specs.Left.{left_in, parts_left}
 use Rattle.recording.specs.Progress.{HasRead}
 use Rattle.recording.specs.Reading.{said_by}
-use Rattle.recording.proofs.Beginning.{one_few, counted, next_end, next_no_form, next_step, next_other, other_second, at_place}
+use Rattle.recording.proofs.Beginning.{one_few, counted, harmless_router, next_end, next_no_form, next_step, next_other, other_second, at_place}
 use Rattle.recording.proofs.HeaderSteps.{lines_read, router_order}
 use Rattle.recording.proofs.parsing.read_router.Goals as goal
 
@@ -21,7 +21,7 @@ returns-in-Router-clause-read c =
     let v = c.args.version in
     let router : ℕ = c.in-Router.router in
     let said : Says v c.in-Some.line.now (RouterLine router) = subst (λ f. Says v c.in-Some.line.now (said_by f)) c.in-Router.is c.in-Some-read_form.ensures.says in
-    let h = next_step c.requires (one_few v) c.in-Some.line.now (left_in c.in-Some.after) c.in-Some.ensures.line (RouterLine router) said (counted c.requires (one_few v)) tt in
+    let h = next_step c.requires (one_few v) c.in-Some.line.now (left_in c.in-Some.after) c.in-Some.ensures.line (RouterLine router) said (counted c.requires (one_few v)) (harmless_router router) in
     at_place (λ text taken. HasRead v text taken (parts_left c.in-Some.after) (VersionLine v ∷ RouterLine router ∷ [])) c.args.lines.text.now c.in-Some.after.text.now (c.args.lines.taken + 1) c.in-Some.after.taken c.in-Some.ensures.text c.in-Some.ensures.taken h
 
 pub returns-in_default-form : goal.returns-in_default-form

@@ -19,5 +19,5 @@ returns-in-Some-version_in-clause-read c =
 pub returns-in-None-clause-fault : goal.returns-in-None-clause-fault
 returns-in-None-clause-fault c =
     let none = c.in-None.ensures.none refl in
-    let h = first_other c.args.text.now c.of-lines.result.taken c.of-lines.ensures.taken (parts_left c.of-lines.result) c.of-lines.ensures.left c.in-Some.line.now (left_in c.in-Some.after) c.in-Some.ensures.line none.0 none.1 in
+    let h = first_other c.args.text.now c.of-lines.result.taken c.of-lines.ensures.taken (parts_left c.of-lines.result) c.of-lines.ensures.left c.in-Some.line.now (left_in c.in-Some.after) c.in-Some.ensures.line none in
     subst (IsFaultOf c.args.text.now) (sym c.fault-in-None.ensures) h

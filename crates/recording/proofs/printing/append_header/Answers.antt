@@ -9,5 +9,5 @@ loop-area-preserved c =
 pub returns : goal.returns
 returns c =
     let front = c.in_ok-append_first.ensures in
-    let h = header_appended _ _ _ c.args.version c.args.config.now _ _ c.as_slice-area-items.ensures c.loop-area-test.false front.text front.forms c.loop-area.invariant in
+    let h = header_appended _ _ _ c.args.version c.args.base.now _ _ c.as_slice-area-items.ensures c.loop-area-test.false front.text front.forms c.loop-area.invariant in
     record { text = h.text; forms = h.legal }

@@ -1,6 +1,6 @@
 use Rattle.std.proofs.Common.{◌∙◌, All, sym, subst, refl, arith}
 use Rattle.std.proofs.lemmas.Grind.{common_steps}
-use Rattle.recording.specs.Recordings.{HasKind}
+use Rattle.recording.specs.Recordings.{AreWhole, HasKind}
 use Rattle.recording.proofs.Pieces.{lines_none, lines_item, piece_appended, recording_appended}
 use Rattle.recording.proofs.printing.append_lines.Goals as goal
 
@@ -16,11 +16,11 @@ loop-line-preserved c =
 
 pub returns : goal.returns
 returns c =
-    let header = c.in_ok-append_header.ensures in
-    let written = piece_appended _ _ _ _ _ c.in_ok-extend_from_slice.ensures.items (c.as_bytes.ensures.value ∙ header.text) c.new-text.ensures.bytes in
-    let all = recording_appended _ _ _ c.args.recording.now _ _ _ _ c.version.ensures.value c.config.ensures.value c.lines-line-items.ensures.value c.loop-line-test.false written header.forms c.loop-line.invariant in
+    let front = c.in_ok-append_front.ensures in
+    let written = piece_appended _ _ _ _ _ c.in_ok-extend_from_slice.ensures.items (c.as_bytes.ensures.value ∙ front.text) c.new-text.ensures.bytes in
+    let all = recording_appended _ _ _ c.args.recording.now _ _ _ _ c.version.ensures.value c.base.ensures.value c.lines-line-items.ensures.value c.loop-line-test.false written front.forms c.loop-line.invariant in
     record {
       ok = all.0.text;
       kept = grind (arith, common_steps);
-      text = record { spelled = refl; forms = all.0.legal; lsas = all.1; kept = c.lines-line-items.ensures.kept };
+      text = record { spelled = refl; forms = all.0.legal; held = subst (λ b. AreWhole b.lsas) c.base.ensures.value front.lsas; lsas = all.1; kept = c.lines-line-items.ensures.kept };
     }

@@ -1,6 +1,7 @@
 use Rattle.std.proofs.Common.{◌≡◌, take}
 use Rattle.std.specs.Str.Parse.{AllDigits, digits_value}
+use Rattle.recording.specs.Forms.{IsSerial}
 use Rattle.recording.proofs.words.decimal_value.Given as goal
 
 abbrev pub invariant-loop-digit : goal.invariant-loop-digit
-invariant-loop-digit l = record { digits : AllDigits 10 (take l.digit-index l.word); value : l.value ≡ digits_value 10 (take l.digit-index l.word) }
+invariant-loop-digit l = record { digits : AllDigits 10 (take l.digit-index l.word); value : l.value ≡ digits_value 10 (take l.digit-index l.word); fits : IsSerial l.value }

@@ -6,5 +6,5 @@ use Rattle.replay.proofs.running.run_lines.Given as goal
 
 abbrev pub invariant-loop-line : goal.invariant-loop-line
 invariant-loop-line g l =
-    Running l.initial.core (first_number l.fn.version l.initial.core.config) l.fn.lines.items (into_iter_items l.line-iterator) l.number l.core (g.W.Write.contents l.initial.out) (g.W.Write.contents l.out)
+    Running l.initial.core (first_number l.fn.version l.initial.core.base) l.fn.lines.items (into_iter_items l.line-iterator) l.number l.core (g.W.Write.contents l.initial.out) (g.W.Write.contents l.out)
     (string_bytes l.initial.page) (string_bytes l.page)

@@ -2,10 +2,12 @@ use Rattle.std.proofs.Common.{◌≡◌, ℕ, ◌+◌, ◌<◌, ◌≤◌, List,
 use Rattle.ospf_types.specs.declared.config.AreaConfig.{AreaConfig}
 use Rattle.ospf_types.specs.declared.config.Config.{Config}
 use Rattle.ospf_types.specs.declared.entry.Vertex.{Vertex}
+use Rattle.ospf_types.proofs.RangeChanges.{areas_kept}
 use Rattle.area_trees.specs.Areas.{AreaTreeValue}
 use Rattle.event_state.proofs.InPlace.{not_reached}
 use Rattle.state_trees.specs.Trees.{IsTreeFor, AreTreesOf}
 use Rattle.state_trees.specs.Turns.{Turn, AreFollowedTo}
+use Rattle.state_trees.proofs.OtherRanges.{trees_kept, long_kept}
 use Rattle.state_trees.proofs.Places.{area_there}
 use Rattle.state_trees.proofs.Turns.{trees_long, tree_at, turn_more, all_followed, others_still}
 use Rattle.state_trees.proofs.trees.follow_trees.Goals as goal
@@ -16,7 +18,7 @@ bounds-trees-place c =
     let listed : c.as_slice-area-items.result.now ≡ areas = c.as_slice-area-items.ensures ∙ ap (λ (k : Config). k.areas) c.config.ensures.value in
     let lt : c.loop-place.place < length areas = subst (λ (list : List AreaConfig). c.loop-place.place < length list) listed c.loop-place-test.true in
     let b = c.requires.before in
-    let same : length areas ≡ length b.0.config.areas = ap (λ (k : Config). length k.areas) b.2.config in
+    let same : length areas ≡ length b.0.config.areas = long_kept areas b.0.config.areas (areas_kept c.args.state.now.config b.0.config b.2.areas) in
     let long : length c.args.trees.now ≡ length b.0.config.areas = trees_long b.0 b.0.config.areas c.args.trees.now b.1 in
     omega (arith, lt, same, long, c.loop-place.auto.trees)
 
@@ -37,8 +39,7 @@ follow_tree-requires-clause-before c =
     let lt : i < length areas = subst (λ (list : List AreaConfig). i < length list) listed c.loop-place-test.true in
     let area_is : a ≡ get_or areas i a = c.area-item.is ∙ ap (λ (list : List AreaConfig). get_or list i a) listed in
     let b = c.requires.before in
-    let same : b.0.config.areas ≡ areas = sym (ap (λ (k : Config). k.areas) b.2.config) in
-    let trees : AreTreesOf b.0 areas c.args.trees.now = subst (λ (list : List AreaConfig). AreTreesOf b.0 list c.args.trees.now) same b.1 in
+    let trees : AreTreesOf b.0 areas c.args.trees.now = trees_kept b.0 b.0.config.areas areas (sym (areas_kept c.args.state.now.config b.0.config b.2.areas)) c.args.trees.now b.1 in
     let long : length c.args.trees.now ≡ length areas = trees_long b.0 areas c.args.trees.now trees in
     let now = c.loop-place.trees in
     let t : AreaTreeValue = c.index-trees-place.result in
@@ -57,7 +58,7 @@ loop-place-preserved c =
     let lt : i < length areas = subst (λ (list : List AreaConfig). i < length list) listed c.loop-place-test.true in
     let area_is : a ≡ get_or areas i a = c.area-item.is ∙ ap (λ (list : List AreaConfig). get_or list i a) listed in
     let b = c.requires.before in
-    let same : length areas ≡ length b.0.config.areas = ap (λ (k : Config). length k.areas) b.2.config in
+    let same : length areas ≡ length b.0.config.areas = long_kept areas b.0.config.areas (areas_kept c.args.state.now.config b.0.config b.2.areas) in
     let long : length c.args.trees.now ≡ length areas = trees_long b.0 b.0.config.areas c.args.trees.now b.1 ∙ sym same in
     let now = c.loop-place.trees in
     let old : AreaTreeValue = get_or now i c.index-trees-place.result in
@@ -79,7 +80,7 @@ returns c =
     let areas = c.args.state.now.config.areas in
     let listed : c.as_slice-area-items.result.now ≡ areas = c.as_slice-area-items.ensures ∙ ap (λ (k : Config). k.areas) c.config.ensures.value in
     let b = c.requires.before in
-    let same : length areas ≡ length b.0.config.areas = ap (λ (k : Config). length k.areas) b.2.config in
+    let same : length areas ≡ length b.0.config.areas = long_kept areas b.0.config.areas (areas_kept c.args.state.now.config b.0.config b.2.areas) in
     let long : length c.args.trees.now ≡ length areas = trees_long b.0 b.0.config.areas c.args.trees.now b.1 ∙ sym same in
     let past : length areas ≤ c.loop-place.place = subst (λ (list : List AreaConfig). length list ≤ c.loop-place.place) listed c.loop-place-test.false in
     all_followed c.args.state.now areas c.args.trees.now c.loop-place.trees c.loop-place.vertices.items c.loop-place.work c.loop-place.place past long (c.loop-place.auto.trees ∙ long) c.loop-place.invariant

@@ -1,4 +1,4 @@
-use Rattle.std.proofs.Common.{◌≡◌, ℕ, List, length, sym, ap, subst, ◌∙◌}
+use Rattle.std.proofs.Common.{◌≡◌, ℕ, true, List, length, sym, ap, subst, ◌∙◌}
 use Rattle.ospf_types.specs.declared.key.Key.{Key}
 use Rattle.ospf_types.specs.declared.key.Scope.{Scope}
 use Rattle.area_trees.specs.Areas.{AreaTreeValue}
@@ -7,6 +7,7 @@ use Rattle.event_state.proofs.InPlace.{items_of_slice}
 use Rattle.calculation.specs.Calculations.{CalculationValue, IsCalculationOf, IsItemOf}
 use Rattle.state_trees.specs.Trees.{inputs_with, AreTreesOf, StatesDifferAmong}
 use Rattle.calculation.specs.Due.{RoutesDifferAmong}
+use Rattle.state_trees.proofs.OtherRanges.{any_ranges}
 use Rattle.state_trees.proofs.Followed.{followed_long, followed_trees, followed_inputs, followed_work}
 use Rattle.calculation.proofs.calculation.Calculation.follow.Goals as goal
 
@@ -16,8 +17,9 @@ follow_trees-requires-clause-before c =
     let old : c.args.self.now.trees ≡ c.deref_mut.result.now = ap (λ (k : CalculationValue). k.trees) (sym c.self.view_is) ∙ sym c.deref_mut.ensures.value in (
       b.0,
       subst (λ (trees : List AreaTreeValue). AreTreesOf b.0 b.0.config.areas trees) old b.1.trees,
-      subst (λ (keys : List (Scope × Key)). StatesDifferAmong keys c.deref-2.result.now b.0 c.args.state.now) (sym c.deref.ensures.value)
-          (subst (λ (ids : List ℕ). StatesDifferAmong c.args.keys.items ids b.0 c.args.state.now) (sym c.deref-2.ensures.value) b.2),
+      subst (λ (keys : List (Scope × Key)). StatesDifferAmong keys c.deref-2.result.now true b.0 c.args.state.now) (sym c.deref.ensures.value)
+          (subst (λ (ids : List ℕ). StatesDifferAmong c.args.keys.items ids true b.0 c.args.state.now) (sym c.deref-2.ensures.value)
+          (any_ranges b.0 c.args.state.now c.args.keys.items c.args.ids.items c.args.ranged b.2)),
     )
 
 pub follow_layers-requires-clause-trees : goal.follow_layers-requires-clause-trees
@@ -37,7 +39,7 @@ follow_layers-requires-clause-before c =
     let new = c.follow_trees.new.trees in
     let vertices = c.follow_trees.new.vertices.items in
     let long = followed_long s s.config.areas old new vertices c.in_ok-work.work all ∙ ap length c.deref_mut.ensures.value in
-    let differ = followed_inputs b.0 s c.args.keys.items c.args.ids.items b.2 old new vertices c.in_ok-work.work all in (
+    let differ = followed_inputs b.0 s c.args.keys.items c.args.ids.items (any_ranges b.0 s c.args.keys.items c.args.ids.items c.args.ranged b.2) old new vertices c.in_ok-work.work all in (
       b.0,
       c.self.inside.trees.items,
       subst (IsCalculationOf b.0) (sym c.self.view_is) b.1,
@@ -51,7 +53,8 @@ returns-clause-items c = λ p item not is. c.in_ok-networks.ensures.items p item
 
 pub returns-clause-routes : goal.returns-clause-routes
 returns-clause-routes c =
-    let routes = c.in_ok-networks.ensures.routes in
+    λ unranged.
+    let routes = c.in_ok-networks.ensures.routes unranged in
     subst (λ (k : CalculationValue). RoutesDifferAmong c.follow_layers.new.dirty.dests.items k c.follow_layers.new.self) c.self.view_is
     (record { intra = routes.intra; members = routes.members; inter = routes.inter; preferred = routes.preferred })
 
@@ -59,5 +62,5 @@ pub returns-clause-work : goal.returns-clause-work
 returns-clause-work c =
     let old : c.args.self.now.trees ≡ c.deref_mut.result.now = ap (λ (k : CalculationValue). k.trees) (sym c.self.view_is) ∙ sym c.deref_mut.ensures.value in
     λ before is differ.
-    followed_work before c.args.state.now c.args.keys.items c.args.ids.items differ c.deref_mut.result.now c.follow_trees.new.trees c.follow_trees.new.vertices.items c.in_ok-work.work c.in_ok-work.ensures
+    followed_work before c.args.state.now c.args.keys.items c.args.ids.items (any_ranges before c.args.state.now c.args.keys.items c.args.ids.items c.args.ranged differ) c.deref_mut.result.now c.follow_trees.new.trees c.follow_trees.new.vertices.items c.in_ok-work.work c.in_ok-work.ensures
     is.fit c.in_ok-networks.ensures.right.fit (subst (λ (trees : List AreaTreeValue). AreTreesOf before before.config.areas trees) old is.trees)

@@ -2,10 +2,10 @@ use Rattle.std.proofs.Common.{◌≡◌, MatchResult, subst, ◌∙◌}
 use Rattle.std.specs.Prelude.{◌↔◌}
 use Rattle.event_state.specs.declared.refusal.Refusal.TheVariants.{NoArea}
 use Rattle.publication.specs.Names.{Name}
-use Rattle.engine.specs.Answers.{HasArea}
+use Rattle.desk.specs.Answers.{HasArea}
 use Rattle.engine.proofs.engine_state.Engine.due.Goals as goal
 
 pub returns-clause-area : goal.returns-clause-area
 returns-clause-area g c =
-    subst (λ (n : Name). MatchResult c.due-due.result (λ _. HasArea n.config c.args.area) (λ e. (e ≡ NoArea) ↔ (¬ HasArea n.config c.args.area)))
+    subst (λ (n : Name). MatchResult c.due-due.result (λ _. HasArea n.base.config c.args.area) (λ e. (e ≡ NoArea) ↔ (¬ HasArea n.base.config c.args.area)))
     (c.take-desk.ensures ∙ c.self.view_is) c.due-due.ensures.area

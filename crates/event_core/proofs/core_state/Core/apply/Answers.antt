@@ -2,8 +2,7 @@ use Rattle.std.proofs.Common.{◌≡◌, length, ap, subst, sym, refl, ◌∙◌
 use Rattle.std.specs.Prelude.{Result}
 use Rattle.std.proofs.lemmas.Result.{on_ok_weaker, on_err_weaker}
 use Rattle.ospf_types.specs.declared.memory.Memory.{Memory}
-use Rattle.ospf_types.specs.declared.config.Config.{Config}
-use Rattle.event_state.specs.States.{State, AreApart}
+use Rattle.event_state.specs.States.{State}
 use Rattle.calculation.specs.Trees.{StatesDifferAmong}
 use Rattle.event_core.specs.declared.core_state.Core.TheInside.{Inside}
 use Rattle.event_core.specs.declared.reply.Reply.{Reply}
@@ -11,8 +10,8 @@ use Rattle.event_core.specs.declared.reply.Standing.{Standing}
 use Rattle.event_core.specs.declared.reply.Standing.TheVariants.{Current, Behind}
 use Rattle.event_core.specs.Cores.{CoreValue, IsTaken, HasBoundedWork, NamesChanges}
 use Rattle.event_core.specs.Kept.{IsCoherent, core_of}
-use Rattle.event_core.proofs.Configs.{sound_apart}
-use Rattle.event_core.proofs.Runs.{step_setting, IsSettled, IsOutcome, coherent_ok, coherent_err, taken_ok, taken_err, bounded_ok, bounded_err, named_ok, named_err}
+use Rattle.event_state.proofs.Configs.{sound_apart}
+use Rattle.event_core.proofs.Runs.{kept_step, sound_now, IsSettled, IsOutcome, coherent_ok, coherent_err, taken_ok, taken_err, bounded_ok, bounded_err, named_ok, named_err}
 use Rattle.event_core.proofs.core_state.Core.apply.Goals as goal
 use Rattle.event_core.proofs.core_state.Core.apply.Goals.{then-is_current, else-is_current, in-Ok, in-Err, Joined-is_current}
 
@@ -21,14 +20,15 @@ settle-settled-requires-clause-before c =
     let s = c.self.inside.state in
     let told = c.in_ok-serial.ensures in
     let named = c.in_ok-named.named in
-    let differ = subst (λ (u : State). StatesDifferAmong named.keys.items named.interfaces.items s u) (sym told.taken) c.in_ok-named.ensures.named in
-    (s, c.journal.ensures.fit (sound_apart s.config c.self.invariant.core.sound), c.self.invariant.fresh (c.if-is_current.true ∙ ap length c.journal.ensures.value), differ, told.changed.0)
+    let differ = subst (λ (u : State). StatesDifferAmong named.keys.items named.interfaces.items named.ranges s u) (sym told.taken) c.in_ok-named.ensures.named in
+    (s, c.journal.ensures.fit (sound_apart s.config (sound_now s c.self.inside.routes c.self.inside.built c.self.invariant)), c.self.invariant.fresh (c.if-is_current.true ∙ ap length c.journal.ensures.value), differ, told.changed.0)
 
 pub start_anew-settled-requires-clause-apart : goal.start_anew-settled-requires-clause-apart
 start_anew-settled-requires-clause-apart c =
-    let s = c.self.inside.state in
-    let same : c.step.new.self.config ≡ s.config = ap (λ (u : State). u.config) c.in_ok-serial.ensures.taken ∙ (step_setting s c.args.event).config in
-    subst (λ (k : Config). AreApart k.areas) (sym same) (sound_apart s.config c.self.invariant.core.sound)
+    let i = c.self.inside in
+    let told = c.in_ok-serial.ensures in
+    let stepped = subst (λ (v : State). IsCoherent v i.routes i.built) (sym told.taken) (kept_step i.state i.routes i.built c.args.event c.self.invariant told.accepted) in
+    sound_apart c.step.new.self.config (sound_now c.step.new.self i.routes i.built stepped)
 
 outcome : (c : Joined-is_current) → IsOutcome c.self.inside.state c.step.new.self c.self.inside.routes c.self.inside.built c.if-is_current.settled c.if-is_current.self-inside.state c.if-is_current.self-inside.routes c.if-is_current.self-inside.built
 outcome c =
@@ -42,11 +42,11 @@ outcome c =
       | then-is_current w ↦
           let did = w.settle-settled.ensures in
           let result = w.settle-settled.result in
-          let differ = subst (λ (v : State). StatesDifferAmong named.keys.items named.interfaces.items s v) (sym told.taken) c.in_ok-named.ensures.named in
+          let differ = subst (λ (v : State). StatesDifferAmong named.keys.items named.interfaces.items named.ranges s v) (sym told.taken) c.in_ok-named.ensures.named in
           let settled : IsSettled s u i.routes i.built result w.settle-settled.new.self = record {
             right = did.right;
             fit = did.fit;
-            bounded = on_ok_weaker result (λ bounded. λ all. bounded s (c.journal.ensures.fit (sound_apart s.config c.self.invariant.core.sound)) (c.self.invariant.fresh all) differ told.changed.0) did.bounded;
+            bounded = on_ok_weaker result (λ bounded. λ all. bounded s (c.journal.ensures.fit (sound_apart s.config (sound_now s c.self.inside.routes c.self.inside.built c.self.invariant))) (c.self.invariant.fresh all) differ told.changed.0) did.bounded;
             exact = on_ok_weaker result (λ exact. λ all. exact) did.exact;
             anew = on_ok_weaker result (λ right. λ behind. absurd (behind (w.if-is_current.true ∙ serial))) did.right;
             unnamed = on_ok_weaker result (λ right. λ behind. absurd (behind (w.if-is_current.true ∙ serial))) did.right;
@@ -88,8 +88,10 @@ invariant_of-self-in-Ok c =
     let told = c.in_ok-serial.ensures in
     let now = c.if-is_current.self-inside in
     let o = outcome (goal.at.invariant_of-self-in-Ok c).Joined-is_current in
-    subst (λ (v : State). IsCoherent v now.routes c.in_ok-serial.serial) (sym o.state_is)
-    (coherent_ok i.state c.step.new.self i.routes now.routes i.built c.args.event c.self.invariant told.taken told.accepted c.if-is_current.settled c.in_ok-serial.serial told.serial c.in-Ok.is o.settled)
+    let count = length c.journal-in-Ok.result.now in
+    let all = ap length (c.journal-in-Ok.ensures.value ∙ ap (λ (v : State). v.journal) o.state_is) in
+    subst (λ (v : State). IsCoherent v now.routes count) (sym o.state_is)
+    (coherent_ok i.state c.step.new.self i.routes now.routes i.built c.args.event c.self.invariant told.taken told.accepted c.if-is_current.settled count all c.in-Ok.is o.settled)
 
 pub invariant_of-self-in-Err : goal.invariant_of-self-in-Err
 invariant_of-self-in-Err c =
@@ -113,9 +115,11 @@ returns-clause-applied c =
     subst (λ (old : CoreValue). IsTaken old event reply c.match-settled.self) c.self.view_is
     (elim c.match-settled.branch [
       | in-Ok w ↦
-          let is = w.self-is ∙ ap (λ (v : State). core_of v now.routes serial) o.state_is in
+          let count = length w.journal-in-Ok.result.now in
+          let whole = ap length (w.journal-in-Ok.ensures.value ∙ ap (λ (v : State). v.journal) o.state_is) in
+          let is = w.self-is ∙ ap (λ (v : State). core_of v now.routes count) o.state_is in
           subst (λ (new : CoreValue). IsTaken (core_of i.state i.routes i.built) event reply new) (sym is)
-          (taken_ok i.state u i.routes now.routes i.built event c.self.invariant told.taken told.accepted c.if-is_current.settled serial reply told.serial w.in-Ok.is o.settled told.changed w.state-is refl)
+          (taken_ok i.state u i.routes now.routes i.built event c.self.invariant told.taken told.accepted c.if-is_current.settled count reply whole w.in-Ok.is o.settled told.changed w.state-is told.serial)
       | in-Err w ↦
           let is = w.self-is ∙ (λ j. core_of (o.state_is j) now.routes (o.still_is j)) in
           subst (λ (new : CoreValue). IsTaken (core_of i.state i.routes i.built) event reply new) (sym is)
@@ -127,14 +131,15 @@ returns-clause-work c =
     let i = c.self.inside in
     let u = c.step.new.self in
     let told = c.in_ok-serial.ensures in
-    let serial = c.in_ok-serial.serial in
     let now = c.if-is_current.self-inside in
     let o = outcome (goal.at.returns-clause-work c).Joined-is_current in
     subst (λ (old : CoreValue). HasBoundedWork old c.match-settled.state c.match-settled.self) c.self.view_is
     (elim c.match-settled.branch [
       | in-Ok w ↦
-          let is = w.self-is ∙ ap (λ (v : State). core_of v now.routes serial) o.state_is in
-          let all = bounded_ok i.state u i.routes now.routes i.built c.args.event c.self.invariant told.taken told.accepted c.if-is_current.settled serial told.serial w.in-Ok.is o.settled in
+          let count = length w.journal-in-Ok.result.now in
+          let whole = ap length (w.journal-in-Ok.ensures.value ∙ ap (λ (v : State). v.journal) o.state_is) in
+          let is = w.self-is ∙ ap (λ (v : State). core_of v now.routes count) o.state_is in
+          let all = bounded_ok i.state u i.routes now.routes i.built c.args.event c.self.invariant told.taken told.accepted c.if-is_current.settled count whole w.in-Ok.is o.settled in
           subst (λ (state : Standing). HasBoundedWork (core_of i.state i.routes i.built) state c.match-settled.self) (sym w.state-is)
           (subst (λ (new : CoreValue). HasBoundedWork (core_of i.state i.routes i.built) Current new) (sym is) all)
       | in-Err w ↦
@@ -149,14 +154,15 @@ returns-clause-changes c =
     let i = c.self.inside in
     let u = c.step.new.self in
     let told = c.in_ok-serial.ensures in
-    let serial = c.in_ok-serial.serial in
     let now = c.if-is_current.self-inside in
     let o = outcome (goal.at.returns-clause-changes c).Joined-is_current in
     subst (λ (old : CoreValue). NamesChanges old c.match-settled.state c.match-settled.self) c.self.view_is
     (elim c.match-settled.branch [
       | in-Ok w ↦
-          let is = w.self-is ∙ ap (λ (v : State). core_of v now.routes serial) o.state_is in
-          let all = named_ok i.state u i.routes now.routes i.built c.args.event c.self.invariant told.taken told.accepted c.if-is_current.settled serial w.in-Ok.is o.settled in
+          let count = length w.journal-in-Ok.result.now in
+          let whole = ap length (w.journal-in-Ok.ensures.value ∙ ap (λ (v : State). v.journal) o.state_is) in
+          let is = w.self-is ∙ ap (λ (v : State). core_of v now.routes count) o.state_is in
+          let all = named_ok i.state u i.routes now.routes i.built c.args.event c.self.invariant told.taken told.accepted c.if-is_current.settled count w.in-Ok.is o.settled in
           subst (λ (state : Standing). NamesChanges (core_of i.state i.routes i.built) state c.match-settled.self) (sym w.state-is)
           (subst (λ (new : CoreValue). NamesChanges (core_of i.state i.routes i.built) Current new) (sym is) all)
       | in-Err w ↦

@@ -1,10 +1,10 @@
 use Rattle.std.proofs.Common.{ap, length}
-use Rattle.event_core.proofs.Configs.{sound_apart}
-use Rattle.event_core.proofs.Runs.{kept_current, stands_current}
+use Rattle.event_state.proofs.Configs.{sound_apart}
+use Rattle.event_core.proofs.Runs.{kept_current, stands_current, sound_now}
 use Rattle.event_core.proofs.core_state.Core.catch_up.Goals as goal
 
 pub rebuild-requires-clause-apart : goal.rebuild-requires-clause-apart
-rebuild-requires-clause-apart c = sound_apart c.self.inside.state.config c.self.invariant.core.sound
+rebuild-requires-clause-apart c = sound_apart c.self.inside.state.config (sound_now c.self.inside.state c.self.inside.routes c.self.inside.built c.self.invariant)
 
 pub invariant_of-self : goal.invariant_of-self
 invariant_of-self c =

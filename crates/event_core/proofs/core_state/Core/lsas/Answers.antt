@@ -1,7 +1,7 @@
 use Rattle.std.proofs.Common.{subst, ◌∙◌, ap}
 use Rattle.std.specs.Prelude.{IfOk}
 use Rattle.event_state.specs.States.{State}
-use Rattle.event_core.specs.Listings.{AreLsas}
+use Rattle.event_state.specs.Listings.{AreLsas}
 use Rattle.event_core.specs.Cores.{state_of}
 use Rattle.event_core.proofs.core_state.Core.lsas.Goals as goal
 

@@ -1,4 +1,4 @@
-use Rattle.std.proofs.Common.{List, sym, ap, subst, ◌∙◌}
+use Rattle.std.proofs.Common.{◌≡◌, false, List, sym, ap, subst, ◌∙◌}
 use Rattle.std.specs.Map.{keys_of}
 use Rattle.ospf_types.specs.declared.key.Dest.{Dest}
 use Rattle.ospf_types.specs.declared.prefix.Prefix.{Prefix}
@@ -18,8 +18,8 @@ plan_dues-requires c =
     let b = c.requires.before in
     let old = c.self.inside in
     let due = subst (λ (r : RoutesValue). AreDuesFor b.0 r.calculation r.dues) (sym c.self.view_is) b.1.dues in
-    let routes = subst (λ (ds : List Dest). RoutesDifferAmong ds old.calculation c.follow.new.self) (sym c.deref-3.ensures.value) c.in_ok-told.ensures.routes in
-    record { before = (b.0, old.calculation, due, b.2.config, routes) }
+    let routes = λ (unranged : c.args.named.ranges ≡ false). subst (λ (ds : List Dest). RoutesDifferAmong ds old.calculation c.follow.new.self) (sym c.deref-3.ensures.value) (c.in_ok-told.ensures.routes unranged) in
+    record { before = (b.0, old.calculation, due, record { areas = b.2.areas; ranges = b.2.ranges; routes = routes }) }
 
 pub change-requires : goal.change-requires
 change-requires c = c.in_ok-items.ensures.in_order

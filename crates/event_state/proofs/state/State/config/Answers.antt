@@ -6,4 +6,4 @@ use Rattle.event_state.proofs.HeldStates.{fit_apart}
 use Rattle.event_state.proofs.state.State.config.Goals as goal
 
 pub returns-clause-fit : goal.returns-clause-fit
-returns-clause-fit c = subst (λ (s : State). AreApart s.config.areas → AreFit s.config.areas s.databases) c.self.view_is (fit_apart c.self.inside.config.areas (lsas_in c.self.inside.databases.items) c.self.invariant.kept)
+returns-clause-fit c = subst (λ (s : State). AreApart s.config.areas → AreFit s.config.areas s.databases) c.self.view_is (fit_apart c.self.inside.config.areas (lsas_in c.self.inside.databases.items) c.self.invariant.held.kept)

@@ -21,7 +21,11 @@ invariant_of-self c =
     let new = c.age_all.new.databases in
     let e : new ≡ map aged_value i.databases.items = c.age_all.ensures.done ∙ ap (map aged_value) c.as_mut_slice.ensures.value in
     let is : (with_items i.databases new).items ≡ map aged_value i.databases.items = items_of_slice i.databases new (ap length e ∙ length-map i.databases.items aged_value) ∙ e in
-    subst (IsHeld i.config i.limits) (sym is) (held_later i.config i.limits i.databases.items c.self.invariant)
+    record {
+      held = subst (IsHeld i.config i.limits) (sym is) (held_later i.config i.limits i.databases.items c.self.invariant.held);
+      interfaces = c.self.invariant.interfaces;
+      serial = c.self.invariant.serial;
+    }
 
 pub returns-clause-done : goal.returns-clause-done
 returns-clause-done c =
@@ -36,7 +40,7 @@ pub returns-clause-changed : goal.returns-clause-changed
 returns-clause-changed c =
     let i = c.self.inside in
     let told : (c.age_all.result ≡ false) ↔ All (λ (d : DatabaseValue). NoneComes d.lsas) i.databases.items = rw c.as_mut_slice.ensures.value at c.age_all.ensures.changed in
-    let looks = looks_later (the_view i) c.self.invariant.kept in
+    let looks = looks_later (the_view i) c.self.invariant.held.kept in
     let none = none_in i.databases.items in
     subst (λ (s : State). (c.age_all.result ≡ false) ↔ LooksAlike s (changed_by s event.Second)) c.self.view_is
     (λ e. looks.0 (none.0 (told.0 e)), λ t. told.1 (none.1 (looks.1 t)))

@@ -1,4 +1,4 @@
-use Rattle.std.proofs.Common.{◌≡◌, sym, ◌∙◌, ap, arith, length, length-append, [], ◌∷◌, ◌++◌, subst, List}
+use Rattle.std.proofs.Common.{◌≡◌, sym, ◌∙◌, ap, arith, length, length-append, [], ◌∷◌, ◌++◌}
 use Rattle.publication.specs.Law.{key_in, written}
 use Rattle.publication.specs.Lines.{Line}
 use Rattle.publication.proofs.Adding.{adds_moves}

@@ -1,4 +1,4 @@
-use Rattle.std.proofs.Common.{◌≡◌, ℕ, sym, ◌∙◌, ap, subst, List, length}
+use Rattle.std.proofs.Common.{◌≡◌, sym, ◌∙◌, ap, subst, length}
 use mathlib.Core.List.{IsPrefix}
 use Rattle.publication.specs.Law.{key_in, key_after, written, AreOthers}
 use Rattle.publication.specs.Lines.{Line, History}

@@ -1,8 +1,8 @@
-use Rattle.std.proofs.Common.{◌≡◌, ◌≤◌, ap, subst, sym, arith, length, List, ◌∙◌}
+use Rattle.std.proofs.Common.{ap, subst, sym, arith, List, ◌∙◌}
 use mathlib.Core.List.{IsPrefix}
 use Rattle.publication.specs.declared.history.Page.{Page}
 use Rattle.publication.specs.Lines.{Line}
-use Rattle.publication.specs.Law.{key_in, written}
+use Rattle.publication.specs.Law.{key_in}
 use Rattle.publication.proofs.Written.{shorter_begins}
 use Rattle.publication.proofs.history.Front.longer.Goals as goal
 

@@ -1,0 +1,4 @@
+pub mod Answers
+pub mod Gates
+pub mod Desks
+pub mod Texts

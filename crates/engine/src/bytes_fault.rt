@@ -1,0 +1,29 @@
+//! Why an LSA's bytes were not installed.
+ghost use Rattle.std.specs.Prelude.{Some};
+ghost use Rattle.engine.specs.Texts.{bytes_fault_text};
+
+use desk::Refused;
+use lsa_codec::WireFault;
+use std::fmt;
+use thiserror::Error;
+
+/// Why an LSA's bytes were not installed.
+#[derive(Debug, Drop, Error)]
+pub enum BytesFault {
+    /// They are no LSA.
+    Wire(WireFault),
+    /// The event was refused.
+    Refused(Refused),
+}
+
+/// The number and the name, as `2 Checksum`.
+impl fmt::Display for BytesFault {
+    ghost output = { λ fault. Some (bytes_fault_text fault) };
+
+    fn fmt<W: fmt::Write>(&self, f: &mut fmt::Formatter<W>) -> fmt::Result {
+        match self {
+            BytesFault::Wire(fault) => fault.fmt(f),
+            BytesFault::Refused(refused) => refused.fmt(f),
+        }
+    }
+}
