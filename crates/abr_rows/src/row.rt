@@ -4,6 +4,7 @@
 //! |---|---|
 //! | `$` | begins a row: the words behind `abr`, with one space between each two; `""` is a word of no letters |
 //! | `<` | a line of the input, which has its line feed |
+//! | `<+` | such a line, so many times: the number, and the line |
 //! | `\|` | a part of the input, or its end, which has none |
 //! | `<*` | a part of the input, so many times: the number, and the part |
 //! | `x` | the input cannot be read |
@@ -129,10 +130,12 @@ fn go_on<'a>(mut row: Row<'a>, number: usize, line: &str) -> Result<Step<'a>, Ro
     }
     if let Some(text) = line.strip_prefix("< ") {
         add_line(&mut row.input, text)?;
+    } else if let Some(text) = line.strip_prefix("<+ ") {
+        add_often(&mut row.input, number, text, "\n")?;
     } else if let Some(text) = line.strip_prefix("<* ") {
-        add_often(&mut row.input, number, text)?;
+        add_often(&mut row.input, number, text, "")?;
     } else if let Some(text) = line.strip_prefix(">* ") {
-        add_often(&mut row.output, number, text)?;
+        add_often(&mut row.output, number, text, "")?;
     } else if let Some(text) = line.strip_prefix("| ") {
         row.input.extend_from_slice(text.as_bytes())?;
     } else if let Some(text) = line.strip_prefix("> ") {
@@ -156,12 +159,13 @@ fn add_line(to: &mut Vec<u8>, text: &str) -> Result<(), RowFault> {
     Ok(())
 }
 
-// Adds a part so many times.
-fn add_often(to: &mut Vec<u8>, number: usize, text: &str) -> Result<(), RowFault> {
+// Adds a part so many times, each with this end.
+fn add_often(to: &mut Vec<u8>, number: usize, text: &str, end: &str) -> Result<(), RowFault> {
     let (times, part) = text.split_once(' ').ok_or(RowFault::Line(number))?;
-    let times: u16 = times.parse().map_err(|_| RowFault::Line(number))?;
+    let times: u32 = times.parse().map_err(|_| RowFault::Line(number))?;
     for _ in 0..times {
         to.extend_from_slice(part.as_bytes())?;
+        to.extend_from_slice(end.as_bytes())?;
     }
     Ok(())
 }

@@ -2,8 +2,8 @@
 --   due_right: it is what the definitions say
 --   due_alike: it is that of a state that looks alike
 --   due_before: what it rests on differs in no more than is named
-use Rattle.std.proofs.Common.{◌≡◌, ℕ, Bool, true, false, List, [], ◌∷◌, map, Some, None, refl, sym, ap, subst, ◌∙◌}
-use Rattle.std.specs.Prelude.{◌↔◌, IsTrue, if◌then◌else◌}
+use Rattle.std.proofs.Common.{◌≡◌, ℕ, List, [], ◌∷◌, map, Some, refl, sym, ap, subst, ◌∙◌}
+use Rattle.std.specs.Prelude.{◌↔◌, IsTrue}
 use Rattle.std.specs.Cmp.{nat_cmp_total}
 use Rattle.std.specs.FinMap.{entries}
 use Rattle.std.specs.List.{Contains}
@@ -13,7 +13,7 @@ use Rattle.ospf_types.specs.declared.config.Interface.{Interface}
 use Rattle.ospf_types.specs.declared.key.Dest.{Dest}
 use Rattle.ospf_types.specs.Inputs.{Area, IsActive}
 use Rattle.ospf_types.proofs.RangeChanges.{areas_kept}
-use Rattle.dues.specs.Changes.{MayDiffer}
+use Rattle.dues.specs.Changes.{InputsDifferAmong}
 use Rattle.dues.specs.Dues.{DuesValue, AreDuesOf}
 use Rattle.dues.specs.Inputs.{DueInputsValue}
 use Rattle.dues.specs.Right.{AreConfigured, AreInputsOf, IsRightFor}
@@ -78,18 +78,19 @@ due_alike s t c w looks due =
     )
 
 -- what it rests on differs in no more than is named
-pub due_before : (s t : State) (dests : List Dest) (ranged : Bool) (old new : CalculationValue) (w : DuesValue) (active : List ℕ) → AreDuesFor s old w → DuesDifferAmong dests ranged s t old new
-    → (before : DueInputsValue) × AreDuesOf before w × MayDiffer (if ranged then None else Some dests) before (due_inputs t active new)
-due_before s t dests true old new w active due differ = (due_inputs s due.0 old, due.2, areas_kept t.config s.config differ.areas)
-due_before s t dests false old new w active due differ =
-    let routes = differ.routes refl in (
-      due_inputs s due.0 old,
-      due.2,
-      record {
-        areas = ap (λ (k : Config). k.areas) (differ.ranges refl);
-        intra = routes.intra;
-        members = routes.members;
-        inter = routes.inter;
-        preferred = routes.preferred;
-      },
-    )
+pub due_before : (s t : State) (dests : List Dest) (old new : CalculationValue) (w : DuesValue) (active : List ℕ) → AreDuesFor s old w → DuesDifferAmong dests s t old new
+    → (before : DueInputsValue) × AreDuesOf before w × InputsDifferAmong dests before (due_inputs t active new)
+due_before s t dests old new w active due differ = (
+  due_inputs s due.0 old,
+  due.2,
+  record {
+    areas = areas_kept t.config s.config differ.areas;
+    range = differ.range;
+    ranges = differ.ranges;
+    whole = differ.whole;
+    intra = differ.routes.intra;
+    members = differ.routes.members;
+    inter = differ.routes.inter;
+    preferred = differ.routes.preferred;
+  },
+)

@@ -5,5 +5,6 @@ pub mod AlikeAbove
 pub mod Alike
 pub mod Following
 pub mod Due
+pub mod Named
 pub use Rattle.state_trees.proofs.InputsAre
 pub use Rattle.state_trees.proofs.OtherRanges

@@ -1,7 +1,7 @@
 -- What is kept of a state from event to event: the trees of its areas, and its routes, layer by layer.
 use Rattle.std.specs.Prelude.{◌≡◌, List, Contains, Option, Some, None}
 use Rattle.std.specs.FinMap as map
-use Rattle.std.specs.FinMap.{entries, get}
+use Rattle.std.specs.FinMap.{get}
 use Rattle.ospf_types.specs.declared.key.Dest.TheVariants.{Net}
 use Rattle.ospf_types.specs.declared.entry.Entry.{Entry}
 use Rattle.ospf_types.specs.declared.prefix.Prefix.{Prefix}

@@ -1,11 +1,12 @@
 -- What is due in the areas, by what is kept of a state.
-use Rattle.std.specs.Prelude.{ℕ, ◌≡◌, Bool, false, List, Contains}
+use Rattle.std.specs.Prelude.{ℕ, ◌≡◌, List, Contains, Option}
 use Rattle.std.specs.FinMap.{get}
 use Rattle.ospf_types.specs.Address.{Covers}
 use Rattle.ospf_types.specs.RangeChanges.{without_ranges}
 use Rattle.ospf_types.specs.declared.key.Dest.{Dest}
 use Rattle.ospf_types.specs.declared.key.Dest.TheVariants.{Net, Router}
 use Rattle.ospf_types.specs.declared.prefix.Prefix.{Prefix}
+use Rattle.summaries.specs.Active.{IsRangeNamed, RangesDifferAt}
 use Rattle.summaries.specs.declared.member.Member.{Member}
 use Rattle.dues.specs.Dues.{DuesValue, AreDuesOf}
 use Rattle.dues.specs.Inputs.{DueInputsValue}
@@ -28,8 +29,10 @@ pub record RoutesDifferAmong (dests : List Dest) (old new : CalculationValue) : 
   pub inter : (p : Prefix) → (Contains dests (Net p) → ⊥) → get new.inter.entries (Net p) ≡ get old.inter.entries (Net p)
   pub preferred : (r : ℕ) → (Contains dests (Router r) → ⊥) → get new.external.preferred r ≡ get old.external.preferred r
 
--- what is due rests on a configuration and on routes that differ in no more than is named; where ranges may differ, on any routes
-pub record DuesDifferAmong (dests : List Dest) (ranged : Bool) (before after : State) (old new : CalculationValue) : Type 0 where
+-- what is due rests on routes that differ in no more than is named, and on a configuration of which one range may differ, which is named whole
+pub record DuesDifferAmong (dests : List Dest) (before after : State) (old new : CalculationValue) : Type 0 where
   pub areas : without_ranges after.config ≡ without_ranges before.config
-  pub ranges : ranged ≡ false → after.config ≡ before.config
-  pub routes : ranged ≡ false → RoutesDifferAmong dests old new
+  pub range : Option (ℕ × Prefix)
+  pub ranges : RangesDifferAt range before.config.areas after.config.areas
+  pub whole : IsRangeNamed range dests old.intra.entries
+  pub routes : RoutesDifferAmong dests old new

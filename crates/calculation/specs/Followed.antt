@@ -1,18 +1,25 @@
 -- The trees of the areas, followed from one state to another.
-use Rattle.std.specs.Prelude.{Bool, List, [], ◌∷◌}
+use Rattle.std.specs.Prelude.{ℕ, List, [], ◌∷◌, Option, Some, None, is_some}
 use Rattle.ospf_types.specs.declared.key.Dest.{Dest}
 use Rattle.ospf_types.specs.declared.key.Dest.TheVariants.{Net, Router}
+use Rattle.ospf_types.specs.declared.prefix.Prefix.{Prefix}
 use Rattle.area_trees.specs.Areas.{AreaTreeValue}
 use Rattle.intra.specs.declared.dirty.Dirty.{Dirty}
 use Rattle.intra.specs.Changes.{InputsDifferAmong}
+use Rattle.summaries.specs.Active.{RangesDifferAt}
 use Rattle.event_state.specs.States.{State}
 use Rattle.calculation.specs.Calculations.{CalculationValue, IsCalculationOf}
 use Rattle.state_trees.specs.Trees.{inputs_with, StatesDifferAmong}
 
 -- the layers of routes are those of a state before, of which no more differs than is named, but the trees have followed already
-abbrev pub AreLayersBehind : State → Dirty → Bool → CalculationValue → Type 0
-AreLayersBehind t dirty ranged c = (s : State) × (trees : List AreaTreeValue) × IsCalculationOf s (record c { trees = trees }) × StatesDifferAmong dirty.keys.items dirty.interfaces.items ranged s t
-    × InputsDifferAmong dirty.keys.items dirty.vertices.items dirty.interfaces.items (inputs_with s trees) (inputs_with t c.trees)
+abbrev pub AreLayersBehind : State → Dirty → Option (ℕ × Prefix) → CalculationValue → Type 0
+AreLayersBehind t dirty range c = (s : State) × (trees : List AreaTreeValue) × IsCalculationOf s (record c { trees = trees }) × StatesDifferAmong dirty.keys.items dirty.interfaces.items (is_some range) s t
+    × InputsDifferAmong dirty.keys.items dirty.vertices.items dirty.interfaces.items (inputs_with s trees) (inputs_with t c.trees) × RangesDifferAt range s.config.areas t.config.areas
+
+-- the prefix of the range, if there is one
+abbrev pub range_dests : Option (ℕ × Prefix) → List Dest
+range_dests None = []
+range_dests (Some range) = Net range.1 ∷ []
 
 -- the routers among the destinations
 abbrev pub routers_in : List Dest → List Dest

@@ -1,5 +1,6 @@
-ghost use Rattle.std.specs.Prelude.{◌≡◌, ◌≤◌, ◌↔◌, ◌++◌, false, if◌then◌else◌, List, Option, Some, None, Contains, OnOk, IfOk, option_copied, option_map, map as list_map};
+ghost use Rattle.std.specs.Prelude.{◌≡◌, ◌≤◌, ◌↔◌, ◌++◌, ℕ, List, Option, Some, None, Contains, OnOk, IfOk, is_some, option_copied, map as list_map};
 ghost use Rattle.std.specs.List.Sorted.{IsStrictlySortedBy};
+ghost use Rattle.ospf_types.specs.declared.config.AreaConfig.{AreaConfig as AreaConfigValue};
 ghost use Rattle.ospf_types.specs.declared.key.Dest.{Dest as DestValue};
 ghost use Rattle.ospf_types.specs.declared.key.Dest.TheVariants as dest_value;
 ghost use Rattle.ospf_types.specs.declared.prefix.Prefix.{Prefix as PrefixValue};
@@ -10,10 +11,10 @@ ghost use Rattle.spf.specs.Touched.{Touched as TouchedValue};
 ghost use Rattle.vertex_graph.specs.Graphs.{most_routers};
 ghost use Rattle.intra.specs.Changes.{InputsDifferAmong, DiffersAt};
 ghost use Rattle.intra.specs.Inputs.{InputsValue};
-ghost use Rattle.intra.specs.Intras.{EntriesByPrefix, IsIntraOf};
+ghost use Rattle.intra.specs.Intras.{IsIntraOf};
 ghost use Rattle.intra.specs.Right.{IsRightFor};
-ghost use Rattle.summaries.specs.Active.{AreRangesOf, DiffersAt as RangeDiffers, EntriesDifferAmong};
-ghost use Rattle.summaries.specs.Right.{AreConfigured, IsRightFor as AreRangesRight};
+ghost use Rattle.summaries.specs.Active.{AreRangesOf, IsMemberWithin, IsRangeNamed, RangesDifferAt};
+ghost use Rattle.summaries.specs.declared.member.Member.{Member as MemberValue};
 ghost use Rattle.dues.specs.Carrying.{IsCarriedOut, IsReady};
 ghost use Rattle.dues.specs.Dues.{DuesValue, lists_of};
 ghost use Rattle.route_table.specs.declared.table.Item.{Item as ItemValue};
@@ -22,7 +23,7 @@ ghost use Rattle.event_state.specs.States.{AreApart, State as StateValue, inputs
 ghost use Rattle.calculation.specs.Calculations.{CalculationValue, IsCalculationOf, IsItemOf, IsTableOf, AreItemsKept, entry_at};
 ghost use Rattle.state_trees.specs.Trees.{StatesDifferAmong, AreTreesOf, inputs_with};
 ghost use Rattle.calculation.specs.Due.{AreDuesFor, DuesDifferAmong, RoutesDifferAmong, due_inputs};
-ghost use Rattle.calculation.specs.Followed.{AreLayersBehind, routers_in};
+ghost use Rattle.calculation.specs.Followed.{AreLayersBehind, range_dests, routers_in};
 ghost use Rattle.state_trees.specs.Works.{IsEventWork, AreWorksForAll, IsTotal};
 
 use area_trees::AreaTree;
@@ -43,13 +44,13 @@ use state_trees::{area_inputs, build_trees, follow_trees, interfaces};
 use std::alloc::Global;
 use std::hash::RandomState;
 use std::marker::Model;
-use summaries::ActiveRanges;
+use summaries::{ActiveRanges, Member};
 
 /// What may differ since an event, by a calculation that has followed it.
 pub struct Changed {
     /// Networks, ascending, each once: the table has another item for these alone, if for all.
     pub networks: Vec<Prefix>,
-    /// Destinations: what is due to others rests on the same routes as before, where ranges do not differ.
+    /// Destinations: what is due to others rests on the same routes and ranges as before.
     pub dests: Vec<Dest>,
     /// The work of repairing the trees.
     pub work: Touched,
@@ -131,23 +132,24 @@ impl Calculation {
         Ok((calculation, work))
     }
 
-    /// Follows the state, which differs from the one before in these LSAs or in these interfaces, and where it is `ranged`
-    /// may have other ranges. After an error what is kept is of no use any more.
+    /// Follows the state, which differs from the one before in these LSAs or in these interfaces, or in one range of an area,
+    /// which is named by its Area ID and its prefix. After an error what is kept is of no use any more.
     pub fn follow(
         &mut self,
         alloc: Global,
         state: &State,
         keys: Vec<(Scope, Key)>,
         ids: Vec<u8>,
-        ranged: bool,
+        range: Option<(u32, Prefix)>,
     ) -> Result<Changed, Memory>
         requires few { state.now.limits.area_lsas ≤ most_routers }
-        requires before { (before : StateValue) × IsCalculationOf before self.old × StatesDifferAmong keys.items ids.items ranged before state.now }
+        requires before { (before : StateValue) × IsCalculationOf before self.old × StatesDifferAmong keys.items ids.items (is_some range) before state.now × RangesDifferAt range before.config.areas state.now.config.areas }
         ensures right { OnOk result (IsCalculationOf state.now self.new) }
         ensures in_order { IfOk result (λ told. IsStrictlySortedBy network_cmp told.networks.items) }
         ensures items { IfOk result (λ told. AreItemsKept told.networks.items self.old self.new) }
-        ensures routes { IfOk result (λ told. ranged ≡ false → RoutesDifferAmong told.dests.items self.old self.new) }
-        ensures work { IfOk result (λ told. (before : StateValue) → IsCalculationOf before self.old → StatesDifferAmong keys.items ids.items ranged before state.now → IsEventWork before state.now told.work) }
+        ensures routes { IfOk result (λ told. RoutesDifferAmong told.dests.items self.old self.new) }
+        ensures named { IfOk result (λ told. IsRangeNamed range told.dests.items self.old.intra.entries) }
+        ensures work { IfOk result (λ told. (before : StateValue) → IsCalculationOf before self.old → StatesDifferAmong keys.items ids.items (is_some range) before state.now → IsEventWork before state.now told.work) }
     {
         let mut vertices = Vec::new(alloc);
         let work = follow_trees(alloc, &mut self.trees, state, &keys, &ids, &mut vertices)?;
@@ -157,7 +159,7 @@ impl Calculation {
             interfaces: ids,
             dests: Vec::new(alloc),
         };
-        let networks = self.follow_layers(alloc, state, &mut dirty, ranged)?;
+        let networks = self.follow_layers(alloc, state, &mut dirty, range)?;
         let dests = dirty.dests;
         Ok(Changed {
             networks,
@@ -174,25 +176,23 @@ impl Calculation {
         Dues::build(alloc, &self.due_inputs(state, &active))
     }
 
-    /// What is to change in due summaries that were those of the same configuration and of routes that differ in no more
-    /// than these destinations name; or where it is `ranged`, of other ranges and of any routes. Their lists stay, and get
-    /// room for it.
+    /// What is to change in due summaries that were those of routes which differ in no more than these destinations name,
+    /// and of the same configuration; or one range of it differs, and is named with the networks of its area that it covers.
+    /// Their lists stay, and get room for it.
     pub fn plan_dues(
         &self,
         alloc: Global,
         state: &State,
         dues: &mut Dues,
         dests: &[Dest],
-        ranged: bool,
     ) -> Result<Plan, Memory>
-        requires before { (before : StateValue) × (old : CalculationValue) × AreDuesFor before old dues.old × DuesDifferAmong dests.now ranged before state.now old self.now }
+        requires before { (before : StateValue) × (old : CalculationValue) × AreDuesFor before old dues.old × DuesDifferAmong dests.now before state.now old self.now }
         ensures unchanged { lists_of dues.new ≡ lists_of dues.old }
         ensures ready { IfOk result (λ plan. IsReady plan dues.new) }
         ensures kept { IfOk result (λ plan. (after : DuesValue) → IsCarriedOut plan dues.new after → AreDuesFor state.now self.now after) }
     {
         let active = active_areas(alloc, state)?;
-        let named = named_unless(ranged, dests);
-        let (plan, _) = dues.plan(alloc, &self.due_inputs(state, &active), named)?;
+        let (plan, _) = dues.plan(alloc, &self.due_inputs(state, &active), dests)?;
         Ok(plan)
     }
 
@@ -226,28 +226,32 @@ impl Calculation {
 
 impl Calculation {
     // The layers of routes follow the state and the trees, from below. The answer is the networks for which one of them has
-    // another result. The destinations for which that may matter to what is due stay as those that are dirty: no summary
-    // tells of an external route, but one tells of an AS boundary router.
+    // another result, and the prefix of the range that may differ. The destinations for which that may matter to what is due
+    // stay as those that are dirty: no summary tells of an external route, but one tells of an AS boundary router, and a
+    // range hides the networks of its area that it covers.
     fn follow_layers(
         &mut self,
         alloc: Global,
         state: &State,
         dirty: &mut Dirty,
-        ranged: bool,
+        range: Option<(u32, Prefix)>,
     ) -> Result<Vec<Prefix>, Memory>
         requires trees { AreTreesOf state.now state.now.config.areas self.old.trees }
-        requires before { AreLayersBehind state.now dirty.old ranged self.old }
+        requires before { AreLayersBehind state.now dirty.old range self.old }
         ensures right { OnOk result (IsCalculationOf state.now self.new) }
         ensures in_order { IfOk result (λ networks. IsStrictlySortedBy network_cmp networks.items) }
         ensures items { IfOk result (λ networks. AreItemsKept networks.items self.old self.new) }
-        ensures routes { OnOk result (ranged ≡ false → RoutesDifferAmong dirty.new.dests.items self.old self.new) }
+        ensures routes { OnOk result (RoutesDifferAmong dirty.new.dests.items self.old self.new) }
+        ensures named { OnOk result (IsRangeNamed range dirty.new.dests.items self.old.intra.entries) }
     {
         let areas = state.config().areas.as_slice();
-        let dests = follow_intra(alloc, &mut self.intra, state, &self.trees, dirty)?;
         let active = &mut self.active;
-        let ranges = follow_ranges(alloc, active, areas, &self.intra, &dests, ranged)?;
+        let within = follow_range(alloc, active, areas, &self.intra, &range)?;
+        let mut dests = follow_intra(alloc, &mut self.intra, state, &self.trees, dirty)?;
+        let ranges = self.active.update(alloc, areas, &self.intra, &dests)?;
+        push_networks(&ranges, &mut dests)?;
+        push_range(&range, &mut dests)?;
         dirty.dests = dests;
-        push_networks(&ranges, &mut dirty.dests)?;
         let inter = &mut self.inter;
         let dests = follow_inter(alloc, inter, state, &self.intra, &self.active, dirty)?;
         dirty.dests.extend_from_slice(&dests)?;
@@ -256,6 +260,7 @@ impl Calculation {
         let mut all = follow_external(alloc, external, state, intra, active, inter, dirty)?;
         push_routers(&all, &mut dirty.dests)?;
         all.extend_from_slice(&dirty.dests)?;
+        push_members(&within, &mut dirty.dests)?;
         let networks = networks_of(alloc, &all)?;
         Ok(networks)
     }
@@ -328,31 +333,23 @@ fn follow_intra(
     intra.update(alloc, &inputs, dirty)
 }
 
-// The active ranges follow the routes, of which those to the named networks may differ, or other ranges of the areas.
-fn follow_ranges(
+// The active ranges follow the range that was set or dropped, if one was. The answer is the networks of its area that it
+// covers, as its members.
+fn follow_range(
     alloc: Global,
     active: &mut ActiveRanges,
     areas: &[AreaConfig],
     intra: &Intra,
-    dests: &[Dest],
-    ranged: bool,
-) -> Result<Vec<Prefix>, Memory>
-    requires before { ranged ≡ false → (before : EntriesByPrefix) × AreRangesOf areas.now before active.old × EntriesDifferAmong dests.now before intra.now.entries }
+    range: &Option<(u32, Prefix)>,
+) -> Result<Vec<Member>, Memory>
+    requires before { (before : List AreaConfigValue) × AreRangesOf before intra.now.entries active.old × RangesDifferAt range.now before areas.now × (range.now ≡ None → areas.now ≡ before) }
     ensures kept { OnOk result (AreRangesOf areas.now intra.now.entries active.new) }
-    ensures right { OnOk result ((s : Definitions) → AreConfigured s.areas areas.now → IsRightFor s intra.now → AreRangesRight s active.new) }
-    ensures exact { IfOk result (λ prefixes. (p : PrefixValue) → Contains prefixes.items p ↔ RangeDiffers active.old active.new p) }
+    ensures all { IfOk result (λ within. (id : ℕ) (prefix : PrefixValue) → range.now ≡ Some (id, prefix) → (m : MemberValue) → IsMemberWithin intra.now.entries id prefix m → Contains within.items m) }
 {
-    if ranged {
-        return active.reconfigure(alloc, areas, intra);
+    match range {
+        Some(named) => active.reconfigure(alloc, areas, intra, *named),
+        None => Ok(Vec::new(alloc)),
     }
-    active.update(alloc, areas, intra, dests)
-}
-
-// The destinations, unless ranges may differ: then none are named.
-fn named_unless<'a>(ranged: bool, dests: &'a [Dest]) -> Option<&'a [Dest]>
-    ensures { option_map (λ named. named.now) result ≡ (if ranged then None else Some dests.now) }
-{
-    if ranged { None } else { Some(dests) }
 }
 
 // The routes of the state and the trees.
@@ -384,6 +381,26 @@ fn push_networks(networks: &[Prefix], dests: &mut Vec<Dest>) -> Result<(), Memor
 {
     for network in networks {
         dests.push(Dest::Net(*network))?;
+    }
+    Ok(())
+}
+
+// Adds the prefix of the range, if there is one.
+fn push_range(range: &Option<(u32, Prefix)>, dests: &mut Vec<Dest>) -> Result<(), Memory>
+    ensures { OnOk result (dests.new.items ≡ dests.old.items ++ range_dests range.now) }
+{
+    if let Some((_, prefix)) = range {
+        dests.push(Dest::Net(*prefix))?;
+    }
+    Ok(())
+}
+
+// Adds the networks of the members.
+fn push_members(members: &[Member], dests: &mut Vec<Dest>) -> Result<(), Memory>
+    ensures { OnOk result (dests.new.items ≡ dests.old.items ++ list_map (λ m. dest_value.Net m.network) members.now) }
+{
+    for member in members {
+        dests.push(Dest::Net(member.network))?;
     }
     Ok(())
 }

@@ -12,7 +12,7 @@ use Rattle.ospf_types.proofs.Elements.{no_element, contains_more}
 use Rattle.summaries.proofs.Greatest.{is_greatest}
 use Rattle.dues.specs.Inputs.{DueInputsValue}
 use Rattle.dues.specs.Giving.{IsMost, IsComponentIn, IsOutside, GivesIn, IntraGives, InterGives, RangeGives, RangeGivesBy, Enters}
-use Rattle.dues.proofs.Searching.{HasNone}
+use Rattle.summaries.proofs.Searching.{HasNone}
 
 some_same : {A : Type 0} {x y : A} → Some x ≡ Some y → x ≡ y
 some_same e = cc

@@ -1,7 +1,6 @@
 pub mod Adding
 pub mod Frame
 pub mod GivenParts
-pub mod Searching
 pub mod HopsStay
 pub mod Entries
 pub mod Areas

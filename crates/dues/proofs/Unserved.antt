@@ -1,5 +1,5 @@
 -- Where no area is active nothing is due.
-use Rattle.std.proofs.Common.{◌≡◌, ℕ, ◌+◌, ◌<◌, List, [], ◌∷◌, ◌++◌, length, get_or, take, refl, sym, ap, subst, ◌∙◌}
+use Rattle.std.proofs.Common.{◌≡◌, ℕ, ◌+◌, ◌<◌, List, [], ◌∷◌, ◌++◌, None, length, get_or, take, refl, sym, ap, subst, ◌∙◌}
 use Rattle.std.specs.List.{Contains}
 use Rattle.std.specs.List.Sorted.{IsStrictlySortedBy}
 use Rattle.std.proofs.lemmas.List.{take_more}
@@ -11,6 +11,7 @@ use Rattle.dues.specs.Inputs.{DueInputsValue}
 use Rattle.dues.specs.Giving.{IsDueIn}
 use Rattle.due_lists.specs.Lists.{AreaDuesValue, AreInOrder}
 use Rattle.dues.specs.Dues.{AreListsOf, IsListOf}
+use Rattle.summaries.proofs.Reconfigured.{ranges_same, none_named}
 use Rattle.dues.specs.Changes.{InputsDifferAmong}
 
 module _ (v : DueInputsValue) (nowhere : v.active ≡ []) where
@@ -45,4 +46,4 @@ unserved v = record v { active = [] }
 
 -- of which nothing else differs
 pub unserved_differ : (v : DueInputsValue) → InputsDifferAmong [] (unserved v) v
-unserved_differ v = record { areas = refl; intra = λ p absent. refl; members = λ m absent. refl; inter = λ p absent. refl; preferred = λ r absent. refl }
+unserved_differ v = record { areas = refl; range = None; ranges = ranges_same v.areas; whole = none_named [] v.intra.entries; intra = λ p absent. refl; members = λ m absent. refl; inter = λ p absent. refl; preferred = λ r absent. refl }

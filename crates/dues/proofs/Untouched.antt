@@ -1,8 +1,8 @@
 -- What is due otherwise than before is touched.
 --   alike_touched: where the same areas are active as before
 --   alike_all: where all that is due and all that was due is touched
---   lists_now, named_lists: the lists of before are those of the areas now, of which the ranges may differ
-use Rattle.std.proofs.Common.{◌≡◌, ℕ, List, [], ◌∷◌, ◌++◌, Option, Some, None, refl, sym, ap, subst, ◌∙◌, inl, inr}
+--   lists_now: the lists of before are those of the areas now, of which the ranges may differ
+use Rattle.std.proofs.Common.{◌≡◌, ℕ, List, [], ◌∷◌, ◌++◌, refl, sym, ap, subst, ◌∙◌, inl, inr}
 use Rattle.std.specs.Prelude.{◌↔◌}
 use Rattle.std.specs.List.{Contains, flat_map}
 use Rattle.std.proofs.lemmas.List.Elements.{Contains-append_left, Contains-append_right}
@@ -16,7 +16,7 @@ use Rattle.dues.specs.Inputs.{DueInputsValue}
 use Rattle.dues.specs.Giving.{IsDueIn}
 use Rattle.due_lists.specs.Lists.{AreaDuesValue, due_for}
 use Rattle.dues.specs.Dues.{AreDuesOf, AreListsOf, IsListOf, DuesValue, dests_of}
-use Rattle.dues.specs.Changes.{AreDueAlikeBut, InputsDifferAmong, MayDiffer}
+use Rattle.dues.specs.Changes.{AreDueAlikeBut, InputsDifferAmong}
 use Rattle.dues.specs.Touched.{IsTouchedBy}
 use Rattle.dues.proofs.Frame.{due_stays}
 
@@ -83,14 +83,6 @@ module _ (v : DueInputsValue) where
       let rest : areas_without_ranges xs ≡ areas_without_ranges ys = cc in
       (list_kept x y here w are.0, lists_kept xs ys rest lists are.1)
 
--- the areas are the same without their ranges
-pub bare_same : (dests : Option (List Dest)) (before now : DueInputsValue) → MayDiffer dests before now → areas_without_ranges now.areas ≡ areas_without_ranges before.areas
-bare_same (Some dests) before now differ = ap areas_without_ranges differ.areas
-bare_same None before now differ = differ
-
 -- the lists of before are those of the areas now, of which the ranges may differ
 pub lists_now : (before now : DueInputsValue) (lists : List AreaDuesValue) → areas_without_ranges now.areas ≡ areas_without_ranges before.areas → AreListsOf before before.areas lists → AreListsOf before now.areas lists
 lists_now before now lists same are = lists_kept before before.areas now.areas (sym same) lists are
-
-pub named_lists : (dests : Option (List Dest)) (before now : DueInputsValue) (lists : List AreaDuesValue) → MayDiffer dests before now → AreListsOf before before.areas lists → AreListsOf before now.areas lists
-named_lists dests before now lists differ are = lists_now before now lists (bare_same dests before now differ) are

@@ -1,5 +1,5 @@
 -- What differs in the inputs of due summaries, and what is named of it.
-use Rattle.std.specs.Prelude.{ℕ, ◌≡◌, ◌⊎◌, ◌↔◌, List, [], ◌∷◌, ◌++◌, Contains, Option, Some, None}
+use Rattle.std.specs.Prelude.{ℕ, ◌≡◌, ◌⊎◌, ◌↔◌, List, [], ◌∷◌, ◌++◌, Contains, Option, Some}
 use Rattle.std.specs.Map.{keys_of}
 use Rattle.ospf_types.specs.declared.config.AreaConfig.{AreaConfig}
 use Rattle.std.specs.FinMap.{get}
@@ -8,6 +8,7 @@ use Rattle.ospf_types.specs.declared.key.Dest.TheVariants.{Net, Router}
 use Rattle.ospf_types.specs.declared.prefix.Prefix.{Prefix}
 use Rattle.ospf_types.specs.Address.{Covers}
 use Rattle.ospf_types.specs.RangeChanges.{areas_without_ranges}
+use Rattle.summaries.specs.Active.{IsRangeNamed, RangesDifferAt}
 use Rattle.summaries.specs.declared.member.Member.{Member}
 use Rattle.due_lists.specs.declared.due.Due.{Due}
 use Rattle.dues.specs.Inputs.{DueInputsValue}
@@ -15,18 +16,16 @@ use Rattle.dues.specs.Giving.{IsDueIn}
 use Rattle.due_lists.specs.Lists.{AreaDuesValue, Metrics, AreMetricsInOrder, IsMetricIn, due_for}
 use Rattle.dues.specs.Dues.{DuesValue}
 
--- the routes differ in no more than is named; of other active areas nothing need be named
+-- the routes differ in no more than is named, and ranges in one that is named whole, if in any; of other active areas nothing need be named
 pub record InputsDifferAmong (dests : List Dest) (old new : DueInputsValue) : Type 0 where
-  pub areas : new.areas ≡ old.areas
+  pub areas : areas_without_ranges new.areas ≡ areas_without_ranges old.areas
+  pub range : Option (ℕ × Prefix)
+  pub ranges : RangesDifferAt range old.areas new.areas
+  pub whole : IsRangeNamed range dests old.intra.entries
   pub intra : (p : Prefix) → (Contains dests (Net p) → ⊥) → get new.intra.entries p ≡ get old.intra.entries p
   pub members : (m : Member) → (Contains dests (Net m.network) → Covers m.range m.network → ⊥) → get new.ranges.members m ≡ get old.ranges.members m
   pub inter : (p : Prefix) → (Contains dests (Net p) → ⊥) → get new.inter.entries (Net p) ≡ get old.inter.entries (Net p)
   pub preferred : (r : ℕ) → (Contains dests (Router r) → ⊥) → get new.external.preferred r ≡ get old.external.preferred r
-
--- the routes differ in no more than is named; where nothing is named, all may differ but the areas, and of these the ranges may
-abbrev pub MayDiffer : Option (List Dest) → DueInputsValue → DueInputsValue → Type 0
-MayDiffer (Some dests) old new = InputsDifferAmong dests old new
-MayDiffer None old new = areas_without_ranges new.areas ≡ areas_without_ranges old.areas
 
 -- no other destination is due in an area otherwise than before
 abbrev pub AreDueAlikeBut : List Dest → DueInputsValue → DueInputsValue → Type 0

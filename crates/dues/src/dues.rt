@@ -1,4 +1,4 @@
-ghost use Rattle.std.specs.Prelude.{◌≡◌, ◌↔◌, ◌++◌, [], length, map as list_map, Contains, IfOk, OnOk, OnErr, option_copied, option_map};
+ghost use Rattle.std.specs.Prelude.{◌≡◌, ◌↔◌, ◌++◌, [], length, map as list_map, Contains, IfOk, OnOk, OnErr, option_map};
 ghost use Rattle.std.specs.List.{flat_map};
 ghost use Rattle.std.specs.Map.{keys_of};
 ghost use Rattle.std.specs.List.Sorted.{IsStrictlySortedBy};
@@ -8,7 +8,7 @@ ghost use Rattle.ospf_types.specs.Keys.{dest_cmp};
 ghost use Rattle.dues.specs.Inputs.{DueInputsValue};
 ghost use Rattle.dues.specs.Dues.{AreDuesOf, DuesValue, dests_of, list_in, listed, lists_of};
 ghost use Rattle.ospf_types.specs.RangeChanges.{areas_without_ranges};
-ghost use Rattle.dues.specs.Changes.{InputsDifferAmong, MayDiffer, AreDueAlikeBut, DiffersAt, AreChangesIn, IsChangeAdded};
+ghost use Rattle.dues.specs.Changes.{InputsDifferAmong, AreDueAlikeBut, DiffersAt, AreChangesIn, IsChangeAdded};
 ghost use Rattle.dues.specs.Carrying.{AllFit, AllLead, IsReady, IsCarriedOut};
 ghost use Rattle.dues.specs.Planning.{ArePlanned, IsPlannedIn};
 ghost use Rattle.dues.specs.Right.{AreInputsOf, IsRightFor};
@@ -81,8 +81,8 @@ impl Dues {
         Ok(dues)
     }
 
-    /// Follows the inputs, of which the routes to the named destinations may differ. The answer is the destinations that
-    /// are due in some area at another metric than before, or are no longer due there, or now are; ascending, each once.
+    /// Follows the inputs, of which the routes to the named destinations may differ, and one range, if its prefix and the
+    /// networks of its area that it covers are named. The answer is the destinations that are due in some area at another metric than before, or are no longer due there, or now are; ascending, each once.
     /// Where memory is refused, all is as it was.
     pub fn update(
         &mut self,
@@ -98,20 +98,19 @@ impl Dues {
         ensures unchanged { OnErr result (lists_of self.new ≡ lists_of self.old) }
         ensures active { OnErr result (self.new.active ≡ self.old.active) }
     {
-        let (plan, named) = self.plan(alloc, inputs, Some(dests))?;
+        let (plan, named) = self.plan(alloc, inputs, dests)?;
         self.carry_out(plan);
         Ok(named)
     }
 
-    /// What `update` would change, and its answer: the lists stay, and get room for it. Where no destinations are named,
-    /// all that is due and all that may be is worked out again; then the ranges of the areas may differ, too.
+    /// What `update` would change, and its answer: the lists stay, and get room for it.
     pub fn plan(
         &mut self,
         alloc: Global,
         inputs: &DueInputs<'_>,
-        dests: Option<&[Dest]>,
+        dests: &[Dest],
     ) -> Result<(Plan, Vec<Dest>), Memory>
-        requires before { (before : DueInputsValue) × AreDuesOf before self.old × MayDiffer (option_copied dests) before inputs.now }
+        requires before { (before : DueInputsValue) × AreDuesOf before self.old × InputsDifferAmong dests.now before inputs.now }
         ensures unchanged { lists_of self.new ≡ lists_of self.old }
         ensures active { self.new.active ≡ self.old.active }
         ensures ready { IfOk result (λ made. IsReady made.0 self.new) }
@@ -171,20 +170,16 @@ impl Dues {
         })
     }
 
-    // The destinations whose summaries may differ, ascending, each once: all where none are named, or where other areas are
-    // active than before.
+    // The destinations whose summaries may differ, ascending, each once: all where other areas are active than before.
     fn touched(
         &self,
         alloc: Global,
         inputs: &DueInputs<'_>,
-        dests: Option<&[Dest]>,
+        dests: &[Dest],
     ) -> Result<Vec<Dest>, Memory>
         ensures in_order { IfOk result (λ found. IsStrictlySortedBy dest_cmp found.items) }
-        ensures enough { IfOk result (λ found. (before : DueInputsValue) → AreDuesOf before self.now → MayDiffer (option_copied dests.entry) before inputs.now → AreDueAlikeBut found.items before inputs.now) }
+        ensures enough { IfOk result (λ found. (before : DueInputsValue) → AreDuesOf before self.now → InputsDifferAmong dests.now before inputs.now → AreDueAlikeBut found.items before inputs.now) }
     {
-        let Some(dests) = dests else {
-            return self.all(alloc, inputs);
-        };
         if self.active.as_slice() == inputs.active {
             return touched(alloc, inputs.areas, dests);
         }

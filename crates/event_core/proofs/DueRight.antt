@@ -15,7 +15,7 @@ use Rattle.dues.specs.Right.{AreListsRight}
 use Rattle.event_state.specs.States.{State, inputs_of}
 use Rattle.calculation.proofs.Due.{due_right}
 use Rattle.event_core.specs.Following.{RoutesValue, AreRoutesOf}
-use Rattle.event_core.specs.Right.{AreDue, AreListsDue, IsDueAmong, IsListDue, list_under}
+use Rattle.event_core.specs.Right.{AreDue, AreListsDue, IsDueAmong, list_under}
 
 lists_due : (s : Inputs) (areas : List Area) (lists : List AreaDuesValue) → AreListsRight s areas lists → AreListsDue s areas (listed lists)
 lists_due s [] [] are = tt

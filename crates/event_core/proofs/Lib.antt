@@ -1,6 +1,7 @@
 pub mod Bases
 pub mod Listings
 pub mod Runs
+pub mod OneRange
 pub mod Naming
 pub mod Followed
 pub mod RoutesRight

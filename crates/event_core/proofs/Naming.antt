@@ -2,7 +2,9 @@
 --   interface_names: an interface's event changes that interface
 --   ranges_name: an event that sets or drops a range changes no LSA and no interface, and of the configuration ranges alone
 --   others_name: every event that is no interface's changes no interface
+--   step_ranges: an event changes no range but the one that it sets or drops
 use Rattle.std.proofs.Common.{◌≡◌, ◌≢◌, ℕ, Bool, true, false, cond, List, [], ◌∷◌, Option, Some, None, refl, sym, ap, subst, ◌∙◌, inl, inr}
+use Rattle.std.specs.Prelude.{is_some}
 use Rattle.std.specs.List.{Contains}
 use Rattle.std.specs.Ordering.{nat_cmp, is_eq}
 use Rattle.std.specs.Cmp.{nat_cmp_total}
@@ -13,6 +15,7 @@ use Rattle.ospf_types.specs.declared.config.Config.{Config}
 use Rattle.ospf_types.specs.declared.config.Interface.{Interface}
 use Rattle.ospf_types.specs.declared.config.Range.{Range}
 use Rattle.ospf_types.specs.declared.key.Key.{Key}
+use Rattle.ospf_types.specs.declared.prefix.Prefix.{Prefix}
 use Rattle.ospf_types.specs.declared.key.Scope.{Scope}
 use Rattle.ospf_types.specs.Lsa.{key_of}
 use Rattle.ospf_types.specs.RangeChanges.{set_range, drop_range, without_ranges}
@@ -25,7 +28,9 @@ use Rattle.event_state.specs.declared.event.Event.TheVariants as event
 use Rattle.event_state.specs.States.{State, place_of, changed_at_place, usable_at}
 use Rattle.event_state.specs.Steps.{step, range_with, with_range_change}
 use Rattle.calculation.specs.Trees.{StatesDifferAmong}
-use Rattle.event_core.specs.Named.{changes_ranges}
+use Rattle.calculation.specs.Active.{RangesDifferAt}
+use Rattle.event_core.specs.Named.{range_of}
+use Rattle.event_core.proofs.OneRange.{one_range, set_others, drop_others}
 
 -- an interface that is not set stays as it was
 other_interface : (m : FinMap nat_cmp Interface) (id : ℕ) (i : Interface) (q : ℕ) → q ≢ id → get (insert m id i) q ≡ get m q
@@ -69,7 +74,7 @@ ranges_name s area change = record {
 abbrev pub IsOfDatabases : Event → Type 0
 IsOfDatabases e = (id area address peer : ℕ) (up : Bool) → e ≢ event.Interface id area address peer up
 
-others_leave : (s : State) (e : Event) → IsOfDatabases e → Leaves (changes_ranges e) s (step s e)
+others_leave : (s : State) (e : Event) → IsOfDatabases e → Leaves (is_some (range_of e)) s (step s e)
 others_leave s (event.Install at l) other = let h = placed s (λ d. insert d (key_of l) l) (place_of s.config.areas at) in record { areas = h.areas; ranges = h.ranges; interfaces = h.interfaces }
 others_leave s (event.Flush at key) other = let h = placed s (λ d. aged_out d key) (place_of s.config.areas at) in record { areas = h.areas; ranges = h.ranges; interfaces = h.interfaces }
 others_leave s (event.Purge at key) other = let h = placed s (λ d. remove d key) (place_of s.config.areas at) in record { areas = h.areas; ranges = h.ranges; interfaces = h.interfaces }
@@ -79,7 +84,7 @@ others_leave s (event.RangeDrop area prefix) other = let h = ranges_name s area 
 others_leave s event.Second other = record { areas = refl; ranges = λ unranged. refl; interfaces = refl }
 
 -- every other event changes no interface
-pub others_name : (s : State) (e : Event) (keys : List (Scope × Key)) (ids : List ℕ) (ranged : Bool) → IsOfDatabases e → ids ≡ [] → ranged ≡ changes_ranges e
+pub others_name : (s : State) (e : Event) (keys : List (Scope × Key)) (ids : List ℕ) (ranged : Bool) → IsOfDatabases e → ids ≡ [] → ranged ≡ is_some (range_of e)
     → ((at : Scope) (key : Key) → (Contains keys (at, key) → ⊥) → usable_at (step s e) at key ≡ usable_at s at key) → StatesDifferAmong keys ids ranged s (step s e)
 others_name s e keys ids ranged other none is usable =
     let h = others_leave s e other in
@@ -90,3 +95,27 @@ others_name s e keys ids ranged other none is usable =
       interfaces = λ id absent. ap (λ (m : FinMap nat_cmp Interface). get m id) h.interfaces;
       one_kind = inr none;
     }
+
+-- ranges of an area that are changed at one prefix
+set_ranges : (s : State) (area : ℕ) (prefix : Prefix) (advertise : Bool) → RangesDifferAt (Some (area, prefix)) s.config.areas (with_range_change s area (set_range (range_with prefix advertise))).config.areas
+set_ranges s area prefix advertise = one_range s.config.areas area prefix (set_range (range_with prefix advertise)) (λ ranges r other. set_others (range_with prefix advertise) r other ranges)
+
+drop_ranges : (s : State) (area : ℕ) (prefix : Prefix) → RangesDifferAt (Some (area, prefix)) s.config.areas (with_range_change s area (drop_range prefix)).config.areas
+drop_ranges s area prefix = one_range s.config.areas area prefix (drop_range prefix) (λ ranges r other. drop_others prefix r other ranges)
+
+placed_ranges : (s : State) (change : Database → Database) (o : Option ℕ) → RangesDifferAt None s.config.areas (changed_at_place s change o).config.areas
+placed_ranges s change None = λ area r other. (λ w. w, λ w. w)
+placed_ranges s change (Some k) = λ area r other. (λ w. w, λ w. w)
+
+step_ranges : (s : State) (e : Event) → RangesDifferAt (range_of e) s.config.areas (step s e).config.areas
+step_ranges s (event.Install at l) = λ area r other. placed_ranges s (λ d. insert d (key_of l) l) (place_of s.config.areas at) area r other
+step_ranges s (event.Flush at key) = λ area r other. placed_ranges s (λ d. aged_out d key) (place_of s.config.areas at) area r other
+step_ranges s (event.Purge at key) = λ area r other. placed_ranges s (λ d. remove d key) (place_of s.config.areas at) area r other
+step_ranges s (event.Interface id area address peer up) = λ n r other. (λ w. w, λ w. w)
+step_ranges s (event.RangeSet area prefix advertise) = λ n r other. set_ranges s area prefix advertise n r other
+step_ranges s (event.RangeDrop area prefix) = λ n r other. drop_ranges s area prefix n r other
+step_ranges s event.Second = λ area r other. (λ w. w, λ w. w)
+
+-- by the range that was named
+pub ranges_by : (s : State) (e : Event) (range : Option (ℕ × Prefix)) → range ≡ range_of e → RangesDifferAt range s.config.areas (step s e).config.areas
+ranges_by s e range is = subst (λ (o : Option (ℕ × Prefix)). RangesDifferAt o s.config.areas (step s e).config.areas) (sym is) (step_ranges s e)

@@ -1,9 +1,7 @@
 -- A table that has each network's entry, and a discard for each active range without one, is right.
 use Rattle.std.proofs.Common.{◌≡◌, ℕ, Option, Some, None, refl, sym, ap, subst, ◌∙◌, ◌⊎◌, inl, inr}
-use Rattle.std.specs.Prelude.{◌↔◌}
 use Rattle.std.specs.FinMap.{get}
 use Rattle.std.specs.List.Sorted.{IsStrictlySortedBy}
-use Rattle.std.specs.Ordering.{nat_cmp}
 use Rattle.std.specs.Cmp.{nat_cmp_total}
 use Rattle.std.proofs.lemmas.Map.Lookups.{exact_unsigned}
 use Rattle.ospf_types.specs.declared.entry.Entry.{Entry}
@@ -26,7 +24,7 @@ use Rattle.calculation.specs.Intras.{IsEntryFor as IsIntraEntry}
 use Rattle.calculation.specs.InterRight.{IsEntryOf as IsInterEntry}
 use Rattle.calculation.specs.Externals.{IsEntryFor as IsExternalEntry}
 use Rattle.event_state.specs.States.{State, inputs_of}
-use Rattle.calculation.specs.Calculations.{CalculationValue, IsCalculationOf, IsItem, IsItemOf, entry_else, entry_at}
+use Rattle.calculation.specs.Calculations.{IsItem, entry_else, entry_at}
 use Rattle.calculation.specs.Active.{IsActiveIn}
 use Rattle.event_core.specs.Following.{RoutesValue, AreRoutesOf}
 use Rattle.event_core.specs.Right.{IsRight}

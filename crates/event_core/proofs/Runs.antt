@@ -1,22 +1,17 @@
 -- Runs of events, and one event more.
-use Rattle.std.proofs.Common.{◌≡◌, ℕ, ◌≤◌, take, List, [], ◌∷◌, ◌++◌, length, Option, Some, None, refl, sym, ap, subst, ◌∙◌, arith}
-use Rattle.std.specs.Prelude.{false, ◌↔◌, ◌<◌, ◌+◌, Result, Ok, Err, IfOk, OnOk, OnErr}
+use Rattle.std.proofs.Common.{◌≡◌, ℕ, ◌≤◌, take, List, [], ◌∷◌, ◌++◌, length, None, refl, sym, ap, subst, ◌∙◌, arith}
+use Rattle.std.specs.Prelude.{false, ◌↔◌, ◌<◌, Result, Ok, Err, IfOk, OnOk, OnErr}
 use Rattle.std.proofs.lemmas.List.{length-append, take-append-le, take_all}
 use Rattle.event_state.specs.declared.base.Base.{Base}
-use Rattle.ospf_types.specs.Lsa.{key_of}
-use Rattle.std.specs.FinMap.{insert, remove}
 use Rattle.event_state.specs.declared.event.Event.{Event}
-use Rattle.event_state.specs.declared.event.Event.TheVariants as event
 use Rattle.event_state.specs.declared.limits.Limits.{Limits}
-use Rattle.lsdb.specs.Databases.{Database, aged_out}
 use Rattle.event_state.specs.BaseFaults.{base_fault_of}
-use Rattle.event_state.specs.States.{State, LooksAlike, place_of, changed_at_place, serial_of}
+use Rattle.event_state.specs.States.{State, LooksAlike, serial_of}
 use Rattle.event_state.specs.Rolls.{since, IsBaseOf}
-use Rattle.event_state.specs.Steps.{opening, step, refusal_of, run_from, run_of}
+use Rattle.event_state.specs.Steps.{opening, step, refusal_of, run_of}
 use Rattle.vertex_graph.specs.Graphs.{most_routers}
 use Rattle.route_table.specs.Tables.{TableValue}
 use Rattle.dues.specs.Dues.{lists_of}
-use Rattle.dues.specs.Due.{Due}
 use Rattle.event_core.specs.Right.{IsRight, AreDue}
 use Rattle.event_core.specs.declared.reply.Reply.{Reply}
 use Rattle.event_core.specs.declared.reply.Standing.{Standing}

@@ -1,27 +1,31 @@
 //! What an event may change, known before it is taken.
-ghost use Rattle.std.specs.Prelude.{◌≡◌, IfOk, IfErr};
+ghost use Rattle.std.specs.Prelude.{◌≡◌, IfOk, IfErr, is_some};
 ghost use Rattle.event_state.specs.Refusals.{IsRefusalOf};
 ghost use Rattle.event_state.specs.Steps.{step};
+ghost use Rattle.calculation.specs.Active.{RangesDifferAt};
 ghost use Rattle.calculation.specs.Trees.{StatesDifferAmong};
-ghost use Rattle.event_core.specs.Named.{changes_ranges};
+ghost use Rattle.event_core.specs.Named.{range_of};
 
 use event_state::{Event, Refusal, State};
 use ospf_types::key::{Key, Scope};
 use ospf_types::memory::Memory;
+use ospf_types::prefix::Prefix;
 use std::alloc::Global;
 
-/// The LSAs and the interfaces that an event may change, the ones or the others, and whether it may change ranges.
+/// The LSAs and the interfaces that an event may change, the ones or the others, or the range.
 #[derive(Drop)]
 pub(crate) struct Named {
     pub(crate) keys: Vec<(Scope, Key)>,
     pub(crate) interfaces: Vec<u8>,
-    pub(crate) ranges: bool,
+    // Its Area ID and its prefix.
+    pub(crate) range: Option<(u32, Prefix)>,
 }
 
 /// What the event may change, or its refusal where there is no room to say it.
 pub(crate) fn named_by(alloc: Global, state: &State, event: &Event) -> Result<Named, Refusal>
-    ensures named { IfOk result (λ named. StatesDifferAmong named.keys.items named.interfaces.items named.ranges state.now (step state.now event.now)) }
-    ensures ranges { IfOk result (λ named. named.ranges ≡ changes_ranges event.now) }
+    ensures named { IfOk result (λ named. StatesDifferAmong named.keys.items named.interfaces.items (is_some named.range) state.now (step state.now event.now)) }
+    ensures ranges { IfOk result (λ named. RangesDifferAt named.range state.now.config.areas (step state.now event.now).config.areas) }
+    ensures range { IfOk result (λ named. named.range ≡ range_of event.now) }
     ensures refused { IfErr result (IsRefusalOf state.now event.now) }
 {
     match changed_by(alloc, state, event) {
@@ -31,30 +35,33 @@ pub(crate) fn named_by(alloc: Global, state: &State, event: &Event) -> Result<Na
 }
 
 fn changed_by(alloc: Global, state: &State, event: &Event) -> Result<Named, Memory>
-    ensures named { IfOk result (λ named. StatesDifferAmong named.keys.items named.interfaces.items named.ranges state.now (step state.now event.now)) }
-    ensures ranges { IfOk result (λ named. named.ranges ≡ changes_ranges event.now) }
+    ensures named { IfOk result (λ named. StatesDifferAmong named.keys.items named.interfaces.items (is_some named.range) state.now (step state.now event.now)) }
+    ensures ranges { IfOk result (λ named. RangesDifferAt named.range state.now.config.areas (step state.now event.now).config.areas) }
+    ensures range { IfOk result (λ named. named.range ≡ range_of event.now) }
 {
     if let Event::Interface { id, .. } = event {
         return Ok(Named {
             keys: Vec::new(alloc),
             interfaces: Vec::from_slice(alloc, &[*id])?,
-            ranges: false,
+            range: None,
         });
     }
     Ok(Named {
         keys: state.named(alloc, event)?,
         interfaces: Vec::new(alloc),
-        ranges: is_of_ranges(event),
+        range: range_of(event),
     })
 }
 
-// Whether the event sets or drops a range.
-fn is_of_ranges(event: &Event) -> bool
-    ensures { result ≡ changes_ranges event.now }
+// The range that the event sets or drops.
+fn range_of(event: &Event) -> Option<(u32, Prefix)>
+    ensures { result ≡ range_of event.now }
 {
     match event {
-        Event::RangeSet { .. } | Event::RangeDrop { .. } => true,
-        Event::Install { .. } | Event::Flush { .. } | Event::Purge { .. } => false,
-        Event::Interface { .. } | Event::Second => false,
+        Event::RangeSet { area, prefix, .. } | Event::RangeDrop { area, prefix } => {
+            Some((*area, *prefix))
+        }
+        Event::Install { .. } | Event::Flush { .. } | Event::Purge { .. } => None,
+        Event::Interface { .. } | Event::Second => None,
     }
 }

@@ -1,5 +1,5 @@
 //! The routing table and due summaries, and what is kept to follow events (RFC 2328, 16 and 12.4.3).
-ghost use Rattle.std.specs.Prelude.{◌≡◌, ◌↔◌, ◌≤◌, [], false, IfOk, IsTrue, OnOk, OnErr, option_copied};
+ghost use Rattle.std.specs.Prelude.{◌≡◌, ◌↔◌, ◌≤◌, [], false, IfOk, IsTrue, OnOk, OnErr, is_some, option_copied};
 ghost use Rattle.std.specs.List.Sorted.{IsStrictlySortedBy};
 ghost use Rattle.std.specs.Map.{keys_of};
 ghost use Rattle.ospf_types.specs.Network.{network_cmp};
@@ -7,6 +7,7 @@ ghost use Rattle.vertex_graph.specs.Graphs.{most_routers};
 ghost use Rattle.event_state.specs.Held.{AreFit};
 ghost use Rattle.event_state.specs.States.{AreApart, State as StateValue, LooksAlike, serial_of};
 ghost use Rattle.dues.specs.Dues.{lists_of};
+ghost use Rattle.calculation.specs.Active.{RangesDifferAt};
 ghost use Rattle.calculation.specs.Calculations.{IsCalculationOf, IsTableOf};
 ghost use Rattle.calculation.specs.Trees.{StatesDifferAmong};
 ghost use Rattle.calculation.specs.Due.{AreDuesFor};
@@ -148,11 +149,11 @@ impl Routes {
         named: Named,
     ) -> Result<(), Memory>
         requires few { state.now.limits.area_lsas ≤ most_routers }
-        requires before { (before : StateValue) × AreFit before.config.areas before.databases × AreRoutesOf before self.old × StatesDifferAmong named.keys.items named.interfaces.items named.ranges before state.now × (changed ≡ false → LooksAlike before state.now) }
+        requires before { (before : StateValue) × AreFit before.config.areas before.databases × AreRoutesOf before self.old × StatesDifferAmong named.keys.items named.interfaces.items (is_some named.range) before state.now × (changed ≡ false → LooksAlike before state.now) × RangesDifferAt named.range before.config.areas state.now.config.areas }
         ensures right { OnOk result (AreRoutesOf state.now self.new) }
         ensures fit { OnOk result (AreFit state.now.config.areas state.now.databases) }
         ensures exact { OnOk result (AreChanges self.old.table.items self.new.table.items self.new.changes) }
-        ensures bounded { OnOk result ((before : StateValue) → AreFit before.config.areas before.databases → AreRoutesOf before self.old → StatesDifferAmong named.keys.items named.interfaces.items named.ranges before state.now → (changed ≡ false → LooksAlike before state.now) → IsEventWork before state.now self.new.work) }
+        ensures bounded { OnOk result ((before : StateValue) → AreFit before.config.areas before.databases → AreRoutesOf before self.old → StatesDifferAmong named.keys.items named.interfaces.items (is_some named.range) before state.now → (changed ≡ false → LooksAlike before state.now) → IsEventWork before state.now self.new.work) }
         ensures unchanged { OnErr result (self.new.table ≡ self.old.table) }
         ensures due { OnErr result (lists_of self.new.dues ≡ lists_of self.old.dues) }
         ensures work { OnErr result (self.new.work ≡ no_work) }
@@ -211,12 +212,12 @@ impl Routes {
     // be refused memory; due summaries have room for theirs by then.
     fn follow(&mut self, alloc: Global, state: &State, named: Named) -> Result<(), Memory>
         requires few { state.now.limits.area_lsas ≤ most_routers }
-        requires before { (before : StateValue) × AreRoutesOf before self.old × StatesDifferAmong named.keys.items named.interfaces.items named.ranges before state.now }
+        requires before { (before : StateValue) × AreRoutesOf before self.old × StatesDifferAmong named.keys.items named.interfaces.items (is_some named.range) before state.now × RangesDifferAt named.range before.config.areas state.now.config.areas }
         ensures calculation { OnOk result (IsCalculationOf state.now self.new.calculation) }
         ensures items { OnOk result (IsTableOf self.new.calculation self.new.table.items) }
         ensures dues { OnOk result (AreDuesFor state.now self.new.calculation self.new.dues) }
         ensures exact { OnOk result (AreChanges self.old.table.items self.new.table.items self.new.changes) }
-        ensures bounded { OnOk result ((before : StateValue) → AreRoutesOf before self.old → StatesDifferAmong named.keys.items named.interfaces.items named.ranges before state.now → IsEventWork before state.now self.new.work) }
+        ensures bounded { OnOk result ((before : StateValue) → AreRoutesOf before self.old → StatesDifferAmong named.keys.items named.interfaces.items (is_some named.range) before state.now → IsEventWork before state.now self.new.work) }
         ensures unchanged { OnErr result (self.new.table ≡ self.old.table) }
         ensures due { OnErr result (lists_of self.new.dues ≡ lists_of self.old.dues) }
         ensures work { OnErr result (self.new.work ≡ self.old.work) }
@@ -225,16 +226,16 @@ impl Routes {
         let Named {
             keys,
             interfaces,
-            ranges,
+            range,
         } = named;
         let told = self
             .calculation
-            .follow(alloc, state, keys, interfaces, ranges)?;
+            .follow(alloc, state, keys, interfaces, range)?;
         let items = other_items(alloc, &self.calculation, &self.table, &told.networks)?;
         let changes = networks_of(alloc, &items)?;
         let plan = self
             .calculation
-            .plan_dues(alloc, state, &mut self.dues, &told.dests, ranges)?;
+            .plan_dues(alloc, state, &mut self.dues, &told.dests)?;
         self.table.change(alloc, items)?;
         self.dues.carry_out(plan);
         self.work = told.work;

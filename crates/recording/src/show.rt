@@ -7,6 +7,7 @@ pub enum Show {
     Due,
     /// All LSAs at their present age.
     Lsdb,
-    /// The events that were taken, as a recording, and nothing else.
+    /// The base, where a base was given or a roll made one, and the events that were taken since,
+    /// as a recording, and nothing else.
     Journal,
 }

@@ -8,7 +8,7 @@ use ospf_types::prefix::Prefix;
 use std::alloc::Global;
 use std::hash::RandomState;
 use std::test::Fail;
-use summaries::ActiveRanges;
+use summaries::{ActiveRanges, Member};
 
 // The router-LSA of the root, 10.0.0.1: a stub link to 192.0.2.0/24 at metric 10 (RFC 2328, A.4.2).
 const LSA: [u8; 36] = [
@@ -60,28 +60,27 @@ fn a_range_with_a_network_is_active(rt: HostRuntime) -> Result<(), Fail> {
     Ok(())
 }
 
-// Whether the one range becomes active where it takes the place of the other, which no longer is.
-fn is_reconfigured(
-    alloc: Global,
-    before: Prefix,
-    after: Prefix,
-    intra: &Intra,
-) -> Result<bool, Fail> {
-    let areas = configured(alloc, before)?;
-    let mut active = ActiveRanges::build(alloc, areas.as_slice(), intra)?;
-    let areas = configured(alloc, after)?;
-    let turned = active.reconfigure(alloc, areas.as_slice(), intra)?;
-    let again = active.reconfigure(alloc, areas.as_slice(), intra)?;
-    let told = turned.as_slice() == [after, before].as_slice() && again.is_empty();
-    Ok(told && active.contains(after) && !active.contains(before))
+// Whether a range that is set once more has just its network, and stays active.
+fn is_reconfigured(alloc: Global, range: Prefix, intra: &Intra) -> Result<bool, Fail> {
+    let areas = configured(alloc, range)?;
+    let areas = areas.as_slice();
+    let mut active = ActiveRanges::build(alloc, areas, intra)?;
+    let members = active.reconfigure(alloc, areas, intra, (0, range))?;
+    let network = Prefix::of_mask(ADDRESS, 0xffff_ff00);
+    let area = 0;
+    let wanted = Member {
+        range,
+        area,
+        network,
+    };
+    Ok(members.as_slice() == [wanted].as_slice() && active.contains(range))
 }
 
 #[test]
-fn other_ranges_turn_both_prefixes(rt: HostRuntime) -> Result<(), Fail> {
+fn a_range_has_the_networks_that_it_covers(rt: HostRuntime) -> Result<(), Fail> {
     let alloc = rt.alloc();
     let intra = routes(alloc, RandomState::new(&rt)?)?;
-    let before = Prefix::of_mask(ADDRESS, 0xffff_0000);
-    let after = Prefix::of_mask(ADDRESS, 0xff00_0000);
-    assert!(rt; is_reconfigured(alloc, before, after, &intra)?);
+    let range = Prefix::of_mask(ADDRESS, 0xffff_0000);
+    assert!(rt; is_reconfigured(alloc, range, &intra)?);
     Ok(())
 }

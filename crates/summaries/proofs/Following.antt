@@ -17,7 +17,7 @@ use Rattle.spf.proofs.OfSome.{contains_more}
 use Rattle.intra.specs.Intras.{EntriesByPrefix}
 use Rattle.intra.proofs.Following.{one_or_other}
 use Rattle.summaries.specs.Active.{ActiveValue, AreRangesOf, DiffersAt, EntriesDifferAmong, IsConfigured, IsMember, member_cmp}
-use Rattle.summaries.specs.Following.{AreAllNoted, AreFollowed, HasTurned, IsCostIn, IsNamed, IsNotedOf}
+use Rattle.summaries.specs.Following.{AreFollowed, HasTurned, IsCostIn, IsNamed, IsNotedOf}
 use Rattle.summaries.specs.declared.active.Noted.{Noted}
 use Rattle.summaries.specs.declared.member.Member.{Member}
 use Rattle.summaries.proofs.Members.{member_total, member_exact}
@@ -49,6 +49,13 @@ followed_more entries old mid new named i member lt at first spent here others =
 
 pub followed_all : (entries : EntriesByPrefix) (old new : ActiveValue) (named : List Member) (i : ℕ) → length named ≤ i → AreFollowed entries (take i named) old new → AreFollowed entries named old new
 followed_all entries old new named i past followed = subst (λ (ms : List Member). AreFollowed entries ms old new) (take_all i named past) followed
+
+-- a member that is none has no cost
+pub left_here : (new : ActiveValue) (member : Member) → get new.members member ≡ None → (cost : ℕ) → (get new.members member ≡ Some cost) ↔ IsCostIn (get (empty {R = network_cmp}) member.network) member.area cost
+left_here new member none cost = (
+  λ h. let wrong = sym none ∙ h in absurd cc,
+  λ w. let wrong = sym (get-empty network_cmp member.network) ∙ w.1 in absurd cc,
+)
 
 -- ---- all ranges
 
@@ -106,13 +113,6 @@ module _ (old new : ActiveValue) (noted : List Noted) (notes : (n : Noted) → C
       let note = notes from.0 from.1 in
       let here : DiffersAt old new from.0.prefix = subst (λ (q : Prefix). DiffersAt old new q) (sym from.2) d in
       (exact p).1 (from.0, from.1, from.2, elim here [ inl left ↦ inl (note.1 left.0, left.1) | inr came ↦ inr (λ active. came.0 (note.0 active), came.1) ])
-
-  -- where something was noted of all that are active before or after
-  pub both_turned : AreAllNoted old new noted → (p : Prefix) → Contains turned p ↔ DiffersAt old new p
-  both_turned all p = (
-    turned_differs p,
-    λ d. noted_turns p (all p (elim d [ inl left ↦ inl left.0 | inr came ↦ inr came.1 ])) d,
-  )
 
 module _ (entries : EntriesByPrefix) (old new : ActiveValue) (named : List Member) (followed : AreFollowed entries named old new) (touched : List Prefix)
     (ranges : (p : Prefix) → Contains touched p ↔ Contains (map (λ (m : Member). m.range) named) p) (noted : List Noted) (listed : map (λ (n : Noted). n.prefix) noted ≡ touched)

@@ -3,6 +3,9 @@ mod Following
 pub mod Greatest
 pub mod Members
 mod Naming
+pub mod Reconfigured
 pub mod Right
+pub mod Searching
 mod Turning
 mod Weighing
+mod Inside

@@ -93,7 +93,7 @@ in_order x y less = not_first (network_cmp x.range y.range) (ordering_then (nat_
 -- ---- what a tree of members has
 
 -- a value, where there is one
-some_value : {A : Type 0} (o : Option A) → IsSome o → (x : A) × (o ≡ Some x)
+pub some_value : {A : Type 0} (o : Option A) → IsSome o → (x : A) × (o ≡ Some x)
 some_value None some = absurd cc
 some_value (Some x) some = (x, refl)
 

@@ -1,5 +1,5 @@
 -- The ranges of the areas with the networks that they summarize, each at its cost (RFC 2328, 3.5 and 16.2).
-use Rattle.std.specs.Prelude.{ℕ, ◌≡◌, ◌⊎◌, ◌↔◌, Bool, true, false, List, Contains, Some, refl}
+use Rattle.std.specs.Prelude.{ℕ, ◌≡◌, ◌⊎◌, ◌↔◌, Bool, true, false, List, Contains, Option, Some, refl}
 use Rattle.std.specs.Coded.{Coded, code_by, coded×, coded_ℕ}
 use Rattle.std.specs.FinMap.{FinMap, get, empty}
 use Rattle.std.specs.Ordering.{nat_cmp, ordering_then}
@@ -62,3 +62,25 @@ DiffersAt old new p = (IsActiveIn old p × (IsActiveIn new p → ⊥)) ⊎ ((IsA
 -- no entry differs, but for those of the networks that are named
 abbrev pub EntriesDifferAmong : List Dest → EntriesByPrefix → EntriesByPrefix → Type 0
 EntriesDifferAmong dests before after = (p : Prefix) → (Contains dests (Net p) → ⊥) → get after p ≡ get before p
+
+-- ---- a range that is set or dropped
+
+-- the area has the range
+abbrev pub IsRangeIn : List AreaConfig → ℕ → Range → Type 0
+IsRangeIn areas area r = (a : AreaConfig) × Contains areas a × (a.id ≡ area) × Contains a.ranges r
+
+-- the areas have the same ranges, but for the one that is named by its area and its prefix
+abbrev pub RangesDifferAt : Option (ℕ × Prefix) → List AreaConfig → List AreaConfig → Type 0
+RangesDifferAt named before after = (area : ℕ) (r : Range) → (named ≡ Some (area, r.prefix) → ⊥) → IsRangeIn after area r ↔ IsRangeIn before area r
+
+-- the network has an intra-area entry through the area, and the range covers it
+abbrev pub IsWithin : EntriesByPrefix → ℕ → Prefix → Prefix → Type 0
+IsWithin entries area range network = (e : Entry) × (get entries network ≡ Some e) × (e.area ≡ Some area) × Covers range network
+
+-- among the destinations are the prefix of the range that may differ, and the networks of its area that it covers
+abbrev pub IsRangeNamed : Option (ℕ × Prefix) → List Dest → EntriesByPrefix → Type 0
+IsRangeNamed named dests entries = (area : ℕ) (range : Prefix) → named ≡ Some (area, range) → Contains dests (Net range) × ((network : Prefix) → IsWithin entries area range network → Contains dests (Net network))
+
+-- it is the member that a network within the range is of it
+abbrev pub IsMemberWithin : EntriesByPrefix → ℕ → Prefix → Member → Type 0
+IsMemberWithin entries area range m = (m.area ≡ area) × (m.range ≡ range) × IsWithin entries area range m.network

@@ -1,5 +1,5 @@
 -- How active ranges follow the routes: the members that named networks may be, and the prefixes that they touch.
-use Rattle.std.specs.Prelude.{ℕ, ◌≡◌, ◌⊎◌, ◌↔◌, ◌++◌, List, [], ◌∷◌, Contains, map, Option, Some, IsTrue}
+use Rattle.std.specs.Prelude.{ℕ, ◌≡◌, ◌⊎◌, ◌↔◌, ◌++◌, List, [], ◌∷◌, Contains, Option, Some, IsTrue}
 use Rattle.std.specs.FinMap.{get}
 use Rattle.ospf_types.specs.declared.config.AreaConfig.{AreaConfig}
 use Rattle.ospf_types.specs.declared.config.Range.{Range}
@@ -9,7 +9,7 @@ use Rattle.ospf_types.specs.declared.key.Dest.TheVariants.{Net}
 use Rattle.ospf_types.specs.declared.prefix.Prefix.{Prefix}
 use Rattle.ospf_types.specs.Address.{Covers}
 use Rattle.intra.specs.Intras.{EntriesByPrefix}
-use Rattle.summaries.specs.Active.{ActiveValue, IsActiveIn, IsConfigured}
+use Rattle.summaries.specs.Active.{ActiveValue, IsActiveIn, IsConfigured, IsWithin}
 use Rattle.summaries.specs.declared.active.Noted.{Noted}
 use Rattle.summaries.specs.declared.member.Member.{Member}
 
@@ -31,6 +31,10 @@ IsNamedIn a network m = (network ≡ m.network) × (a.id ≡ m.area) × ((r : Ra
 abbrev pub HasMore : {A : Type 0} → (A → Type 0) → List A → List A → Type 0
 HasMore {A} more before after = (x : A) → Contains after x ↔ (Contains before x ⊎ more x)
 
+-- the one member, where its network lies within its range
+abbrev pub IsAddedWithin : EntriesByPrefix → Member → Member → Type 0
+IsAddedWithin entries member m = (m ≡ member) × IsWithin entries m.area m.range m.network
+
 -- ---- their costs
 
 -- the entry is one through the area at this cost
@@ -48,14 +52,6 @@ pub record AreFollowed (entries : EntriesByPrefix) (named : List Member) (old ne
 -- what was noted of the range is so
 abbrev pub IsNotedOf : ActiveValue → Noted → Type 0
 IsNotedOf v n = IsTrue n.active ↔ IsActiveIn v n.prefix
-
--- the prefix is that of an active range in one or the other
-abbrev pub IsActiveInOne : ActiveValue → ActiveValue → Prefix → Type 0
-IsActiveInOne v w p = IsActiveIn v p ⊎ IsActiveIn w p
-
--- something is noted of each of these
-abbrev pub AreAllNoted : ActiveValue → ActiveValue → List Noted → Type 0
-AreAllNoted v w noted = (p : Prefix) → IsActiveInOne v w p → Contains (map (λ n. n.prefix) noted) p
 
 -- and what was noted is no longer so
 abbrev pub HasTurned : ActiveValue → Noted → Type 0

@@ -1,7 +1,8 @@
 //! Active ranges: those that have a member.
-ghost use Rattle.std.specs.Prelude.{◌≡◌, ◌≢◌, ◌↔◌, ◌<◌, ℕ, Some, Contains, IsTrue, IfOk, OnOk, OnErr, option_copied, map as list_map};
+ghost use Rattle.std.specs.Prelude.{◌≡◌, ◌≢◌, ◌↔◌, ◌<◌, ℕ, Some, Contains, IsTrue, IfOk, OnOk, OnErr, List, option_copied, map as list_map};
 ghost use Rattle.std.specs.FinMap as map;
 ghost use Rattle.std.specs.List.Sorted.{IsStrictlySortedBy};
+ghost use Rattle.ospf_types.specs.declared.config.AreaConfig.{AreaConfig as AreaConfigValue};
 ghost use Rattle.ospf_types.specs.declared.key.Dest.TheVariants as dest_value;
 ghost use Rattle.ospf_types.specs.declared.prefix.Prefix.{Prefix as PrefixValue};
 ghost use Rattle.ospf_types.specs.Inputs.{Inputs as Definitions};
@@ -11,12 +12,13 @@ ghost use Rattle.intra.specs.Intras.{EntriesByPrefix};
 ghost use Rattle.intra.specs.Right.{IsRightFor as IsIntraRight};
 ghost use Rattle.summaries.specs.declared.active.Noted.{Noted as NotedValue};
 ghost use Rattle.summaries.specs.declared.member.Member.{Member as MemberValue};
-ghost use Rattle.summaries.specs.Active.{AreRangesOf, EntriesDifferAmong, DiffersAt, HasCost, IsActiveIn, spent_ranges};
-ghost use Rattle.summaries.specs.Following.{AreAllNoted, AreFollowed, IsActiveInOne, IsCostIn, IsNamed, IsNotedOf, IsOnceMore, IsTold, HasTurned};
+ghost use Rattle.summaries.specs.Active.{AreRangesOf, EntriesDifferAmong, DiffersAt, HasCost, IsActiveIn, IsMemberWithin, RangesDifferAt, spent_ranges};
+ghost use Rattle.summaries.specs.Following.{AreFollowed, IsCostIn, IsNamed, IsNotedOf, IsOnceMore, IsTold, HasTurned};
 ghost use Rattle.summaries.specs.Right.{AreConfigured, IsRightFor};
 
 use crate::member::Member;
 use crate::named::named_members;
+use crate::within::{is_configured, members_within};
 use intra::Intra;
 use ospf_types::config::AreaConfig;
 use ospf_types::entry::Entry;
@@ -102,25 +104,27 @@ impl ActiveRanges {
         prefixes
     }
 
-    /// Takes other ranges of the areas, by the same routes. The answer is the prefixes of ranges that became active, or no
-    /// longer are, ascending, each once. Where memory is refused, all is as it was.
+    /// Follows a range that was set or dropped, which is named by its Area ID and its prefix; the routes stay. The answer is
+    /// the networks of the area that the prefix covers, as members of the range. Where memory is refused, all is spent, and
+    /// only `build` makes another.
     pub fn reconfigure(
         &mut self,
         alloc: Global,
         areas: &[AreaConfig],
         intra: &Intra,
-    ) -> Result<Vec<Prefix>, Memory>
+        named: (u32, Prefix),
+    ) -> Result<Vec<Member>, Memory>
+        requires before { (before : List AreaConfigValue) × AreRangesOf before intra.now.entries self.old × RangesDifferAt (Some named) before areas.now }
         ensures kept { OnOk result (AreRangesOf areas.now intra.now.entries self.new) }
         ensures right { OnOk result ((s : Definitions) → AreConfigured s.areas areas.now → IsIntraRight s intra.now → IsRightFor s self.new) }
-        ensures in_order { IfOk result (λ prefixes. IsStrictlySortedBy network_cmp prefixes.items) }
-        ensures exact { IfOk result (λ prefixes. (p : PrefixValue) → Contains prefixes.items p ↔ DiffersAt self.old self.new p) }
-        ensures unchanged { OnErr result (self.new ≡ self.old) }
+        ensures exact { IfOk result (λ members. (m : MemberValue) → Contains members.items m ↔ IsMemberWithin intra.now.entries named.0 named.1 m) }
+        ensures spent { OnErr result (self.new ≡ spent_ranges) }
     {
-        let after = ActiveRanges::build(alloc, areas, intra)?;
-        let noted = self.noted_with(alloc, &after)?;
-        let turned = after.turned(alloc, noted.as_slice())?;
-        *self = after;
-        Ok(turned)
+        let members = self.reconfigure_parts(alloc, areas, intra, named);
+        if members.is_err() {
+            self.spend();
+        }
+        members
     }
 
     /// Whether the prefix is that of an active range of some area.
@@ -191,6 +195,28 @@ impl ActiveRanges {
         Ok(turned)
     }
 
+    // Follows the range; after an error some members followed and others did not.
+    fn reconfigure_parts(
+        &mut self,
+        alloc: Global,
+        areas: &[AreaConfig],
+        intra: &Intra,
+        named: (u32, Prefix),
+    ) -> Result<Vec<Member>, Memory>
+        requires before { (before : List AreaConfigValue) × AreRangesOf before intra.now.entries self.old × RangesDifferAt (Some named) before areas.now }
+        ensures kept { OnOk result (AreRangesOf areas.now intra.now.entries self.new) }
+        ensures exact { IfOk result (λ members. (m : MemberValue) → Contains members.items m ↔ IsMemberWithin intra.now.entries named.0 named.1 m) }
+    {
+        let (area, range) = named;
+        let members = members_within(alloc, intra, area, range)?;
+        if is_configured(areas, area, range) {
+            self.follow(intra, members.as_slice())?;
+        } else {
+            self.leave(members.as_slice())?;
+        }
+        Ok(members)
+    }
+
     // Whether ranges with the prefixes are active now.
     fn noted(&self, alloc: Global, prefixes: &[Prefix]) -> Result<Vec<Noted>, Memory>
         ensures listed { IfOk result (λ noted. list_map (λ n. n.prefix) noted.items ≡ prefixes.now) }
@@ -204,28 +230,6 @@ impl ActiveRanges {
             })?;
         }
         Ok(noted)
-    }
-
-    // Whether ranges are active here, of those that are active here or there.
-    fn noted_with(&self, alloc: Global, other: &ActiveRanges) -> Result<Vec<Noted>, Memory>
-        ensures in_order { IfOk result (λ noted. IsStrictlySortedBy network_cmp (list_map (λ n. n.prefix) noted.items)) }
-        ensures all { IfOk result (λ noted. AreAllNoted self.now other.now noted.items) }
-        ensures exact { IfOk result (λ noted. (n : NotedValue) → Contains noted.items n → IsNotedOf self.now n) }
-    {
-        let prefixes = self.prefixes_with(alloc, other)?;
-        self.noted(alloc, prefixes.as_slice())
-    }
-
-    // The prefixes of ranges that are active here or there, ascending, each once.
-    fn prefixes_with(&self, alloc: Global, other: &ActiveRanges) -> Result<Vec<Prefix>, Memory>
-        ensures in_order { IfOk result (λ prefixes. IsStrictlySortedBy network_cmp prefixes.items) }
-        ensures exact { IfOk result (λ prefixes. (p : PrefixValue) → Contains prefixes.items p ↔ IsActiveInOne self.now other.now p) }
-    {
-        let mut prefixes = self.prefixes(alloc)?;
-        prefixes.extend_from_slice(&other.prefixes(alloc)?)?;
-        prefixes.sort_unstable();
-        prefixes.dedup();
-        Ok(prefixes)
     }
 
     // The prefixes of which what was noted is no longer so.
@@ -258,6 +262,16 @@ impl ActiveRanges {
     {
         for member in named {
             self.follow_member(intra, *member)?;
+        }
+        Ok(())
+    }
+
+    // The members are no longer any.
+    fn leave(&mut self, named: &[Member]) -> Result<(), Memory>
+        ensures { OnOk result (AreFollowed map.empty named.now self.old self.new) }
+    {
+        for member in named {
+            self.put(*member, None)?;
         }
         Ok(())
     }
@@ -327,8 +341,8 @@ fn as_dests(alloc: Global, networks: &[Prefix]) -> Result<Vec<Dest>, Memory>
     Ok(dests)
 }
 
-// The cost of an entry that is one through the area.
-fn cost_in(entry: Option<&Entry>, area: u32) -> Option<u32>
+/// The cost of an entry that is one through the area.
+pub(crate) fn cost_in(entry: Option<&Entry>, area: u32) -> Option<u32>
     ensures { (cost : ℕ) → (result ≡ Some cost) ↔ IsCostIn (option_copied entry.entry) area cost }
 {
     match entry {

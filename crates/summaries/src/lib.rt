@@ -5,6 +5,7 @@
 mod active;
 mod member;
 mod named;
+mod within;
 
 pub use active::ActiveRanges;
 pub use member::Member;

@@ -3,7 +3,7 @@ use Rattle.std.proofs.Common.{◌≡◌, subst, sym, ◌∙◌, true, false}
 use Rattle.std.specs.Prelude.{IsTrue}
 use Rattle.ospf_types.specs.declared.config.Range.{Range}
 use Rattle.ospf_types.proofs.KeyOrders.{prefixes_decided}
-use Rattle.dues.proofs.Searching.{HasNone, none_next, none_of}
+use Rattle.summaries.proofs.Searching.{HasNone, none_next, none_of}
 use Rattle.dues.proofs.giving.advertises.Goals as goal
 use Rattle.dues.proofs.giving.advertises.Goals.{else-eq-via-then-eq+else-range, else-eq-via-else-eq}
 

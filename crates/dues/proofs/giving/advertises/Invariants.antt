@@ -1,7 +1,7 @@
 -- No range up to here is advertised with the prefix.
 use Rattle.std.proofs.Common.{◌≡◌, take}
 use Rattle.std.specs.Prelude.{IsTrue}
-use Rattle.dues.proofs.Searching.{HasNone}
+use Rattle.summaries.proofs.Searching.{HasNone}
 use Rattle.dues.proofs.giving.advertises.Given as goal
 
 abbrev pub invariant-loop-range : goal.invariant-loop-range

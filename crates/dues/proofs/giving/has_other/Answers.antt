@@ -1,7 +1,7 @@
 -- One area more.
 use Rattle.std.proofs.Common.{◌≢◌, ℕ, get_or}
 use Rattle.std.proofs.lemmas.List.{get_or_default}
-use Rattle.dues.proofs.Searching.{none_next, none_of}
+use Rattle.summaries.proofs.Searching.{none_next, none_of}
 use Rattle.dues.proofs.giving.has_other.Goals as goal
 
 pub loop-another-preserved : goal.loop-another-preserved

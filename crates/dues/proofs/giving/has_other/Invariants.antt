@@ -1,6 +1,6 @@
 -- No area up to here is another one.
 use Rattle.std.proofs.Common.{◌≢◌, take}
-use Rattle.dues.proofs.Searching.{HasNone}
+use Rattle.summaries.proofs.Searching.{HasNone}
 use Rattle.dues.proofs.giving.has_other.Given as goal
 
 abbrev pub invariant-loop-another : goal.invariant-loop-another

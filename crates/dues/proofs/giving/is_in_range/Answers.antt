@@ -2,7 +2,7 @@
 use Rattle.std.proofs.Common.{List, subst}
 use Rattle.ospf_types.specs.declared.config.Range.{Range}
 use Rattle.ospf_types.specs.Address.{Covers}
-use Rattle.dues.proofs.Searching.{HasNone, none_next, none_of, all_lack}
+use Rattle.summaries.proofs.Searching.{HasNone, none_next, none_of, all_lack}
 use Rattle.dues.proofs.giving.is_in_range.Goals as goal
 
 pub loop-range-preserved : goal.loop-range-preserved

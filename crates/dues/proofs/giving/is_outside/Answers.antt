@@ -1,7 +1,7 @@
 -- One area more.
 use Rattle.std.proofs.Common.{rules, ◌≡◌, sym, ◌∙◌, true, false}
 use Rattle.dues.proofs.GivenParts.{HasInRange, is_outside}
-use Rattle.dues.proofs.Searching.{none_next, none_of}
+use Rattle.summaries.proofs.Searching.{none_next, none_of}
 use Rattle.dues.proofs.giving.is_outside.Goals as goal
 use Rattle.dues.proofs.giving.is_outside.Goals.{else-area-id-via-then-area-id+else-is_in_range, else-area-id-via-else-area-id}
 

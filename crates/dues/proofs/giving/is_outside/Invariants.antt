@@ -1,6 +1,6 @@
 -- No area up to here is the one and has the network in a range.
 use Rattle.std.proofs.Common.{take}
-use Rattle.dues.proofs.Searching.{HasNone}
+use Rattle.summaries.proofs.Searching.{HasNone}
 use Rattle.dues.proofs.GivenParts.{HasInRange}
 use Rattle.dues.proofs.giving.is_outside.Given as goal
 

@@ -1,7 +1,5 @@
-use Rattle.std.proofs.Common.{◌≡◌, List, ap, ◌∙◌}
-use Rattle.ospf_types.specs.declared.config.AreaConfig.{AreaConfig}
+use Rattle.std.proofs.Common.{◌≡◌, ap, ◌∙◌}
 use Rattle.ospf_types.specs.declared.config.Config.{Config}
-use Rattle.calculation.specs.Calculations.{CalculationValue}
 use Rattle.calculation.proofs.calculation.Calculation.due_inputs.Goals as goal
 
 pub returns : goal.returns

@@ -1,9 +1,11 @@
 use Rattle.std.proofs.Common.{◌≡◌, ℕ, true, List, length, sym, ap, subst, ◌∙◌}
+use Rattle.std.specs.Prelude.{is_some}
 use Rattle.ospf_types.specs.declared.key.Key.{Key}
 use Rattle.ospf_types.specs.declared.key.Scope.{Scope}
 use Rattle.area_trees.specs.Areas.{AreaTreeValue}
 use Rattle.intra.specs.Changes.{InputsDifferAmong}
 use Rattle.event_state.proofs.InPlace.{items_of_slice}
+use Rattle.summaries.specs.Active.{IsWithin}
 use Rattle.calculation.specs.Calculations.{CalculationValue, IsCalculationOf, IsItemOf}
 use Rattle.state_trees.specs.Trees.{inputs_with, AreTreesOf, StatesDifferAmong}
 use Rattle.calculation.specs.Due.{RoutesDifferAmong}
@@ -19,7 +21,7 @@ follow_trees-requires-clause-before c =
       subst (λ (trees : List AreaTreeValue). AreTreesOf b.0 b.0.config.areas trees) old b.1.trees,
       subst (λ (keys : List (Scope × Key)). StatesDifferAmong keys c.deref-2.result.now true b.0 c.args.state.now) (sym c.deref.ensures.value)
           (subst (λ (ids : List ℕ). StatesDifferAmong c.args.keys.items ids true b.0 c.args.state.now) (sym c.deref-2.ensures.value)
-          (any_ranges b.0 c.args.state.now c.args.keys.items c.args.ids.items c.args.ranged b.2)),
+          (any_ranges b.0 c.args.state.now c.args.keys.items c.args.ids.items (is_some c.args.range) b.2)),
     )
 
 pub follow_layers-requires-clause-trees : goal.follow_layers-requires-clause-trees
@@ -39,13 +41,14 @@ follow_layers-requires-clause-before c =
     let new = c.follow_trees.new.trees in
     let vertices = c.follow_trees.new.vertices.items in
     let long = followed_long s s.config.areas old new vertices c.in_ok-work.work all ∙ ap length c.deref_mut.ensures.value in
-    let differ = followed_inputs b.0 s c.args.keys.items c.args.ids.items (any_ranges b.0 s c.args.keys.items c.args.ids.items c.args.ranged b.2) old new vertices c.in_ok-work.work all in (
+    let differ = followed_inputs b.0 s c.args.keys.items c.args.ids.items (any_ranges b.0 s c.args.keys.items c.args.ids.items (is_some c.args.range) b.2) old new vertices c.in_ok-work.work all in (
       b.0,
       c.self.inside.trees.items,
       subst (IsCalculationOf b.0) (sym c.self.view_is) b.1,
       b.2,
       subst (λ (trees : List AreaTreeValue). InputsDifferAmong c.args.keys.items vertices c.args.ids.items (inputs_with b.0 c.self.inside.trees.items) (inputs_with s trees)) (sym (items_of_slice c.self.inside.trees new long))
           (subst (λ (trees : List AreaTreeValue). InputsDifferAmong c.args.keys.items vertices c.args.ids.items (inputs_with b.0 trees) (inputs_with s new)) c.deref_mut.ensures.value differ),
+      b.3,
     )
 
 pub returns-clause-items : goal.returns-clause-items
@@ -53,14 +56,19 @@ returns-clause-items c = λ p item not is. c.in_ok-networks.ensures.items p item
 
 pub returns-clause-routes : goal.returns-clause-routes
 returns-clause-routes c =
-    λ unranged.
-    let routes = c.in_ok-networks.ensures.routes unranged in
+    let routes = c.in_ok-networks.ensures.routes in
     subst (λ (k : CalculationValue). RoutesDifferAmong c.follow_layers.new.dirty.dests.items k c.follow_layers.new.self) c.self.view_is
     (record { intra = routes.intra; members = routes.members; inter = routes.inter; preferred = routes.preferred })
+
+pub returns-clause-named : goal.returns-clause-named
+returns-clause-named c =
+    λ area prefix e.
+    let named = c.in_ok-networks.ensures.named area prefix e in
+    (named.0, λ network within. named.1 network (subst (λ (k : CalculationValue). IsWithin k.intra.entries area prefix network) (sym c.self.view_is) within))
 
 pub returns-clause-work : goal.returns-clause-work
 returns-clause-work c =
     let old : c.args.self.now.trees ≡ c.deref_mut.result.now = ap (λ (k : CalculationValue). k.trees) (sym c.self.view_is) ∙ sym c.deref_mut.ensures.value in
     λ before is differ.
-    followed_work before c.args.state.now c.args.keys.items c.args.ids.items (any_ranges before c.args.state.now c.args.keys.items c.args.ids.items c.args.ranged differ) c.deref_mut.result.now c.follow_trees.new.trees c.follow_trees.new.vertices.items c.in_ok-work.work c.in_ok-work.ensures
+    followed_work before c.args.state.now c.args.keys.items c.args.ids.items (any_ranges before c.args.state.now c.args.keys.items c.args.ids.items (is_some c.args.range) differ) c.deref_mut.result.now c.follow_trees.new.trees c.follow_trees.new.vertices.items c.in_ok-work.work c.in_ok-work.ensures
     is.fit c.in_ok-networks.ensures.right.fit (subst (λ (trees : List AreaTreeValue). AreTreesOf before before.config.areas trees) old is.trees)

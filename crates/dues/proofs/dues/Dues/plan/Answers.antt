@@ -1,5 +1,5 @@
 use Rattle.std.proofs.Common.{◌≡◌, List, length, sym, ap, subst, ◌∙◌}
-use Rattle.std.specs.Prelude.{◌↔◌, option_copied}
+use Rattle.std.specs.Prelude.{◌↔◌}
 use Rattle.std.specs.List.{Contains}
 use Rattle.std.proofs.lemmas.List.{with_items_is}
 use Rattle.ospf_types.specs.declared.key.Dest.{Dest}
@@ -9,7 +9,7 @@ use Rattle.due_lists.specs.Lists.{AreaDuesValue}
 use Rattle.dues.specs.Dues.{DuesValue, AreListsOf}
 use Rattle.dues.specs.Carrying.{AllFit, AllLead}
 use Rattle.dues.specs.Changes.{AreDueAlikeBut, DifferAt}
-use Rattle.dues.proofs.Untouched.{named_lists}
+use Rattle.dues.proofs.Untouched.{lists_now}
 use Rattle.dues.proofs.Turns.{planned_fit, planned_lists, planned_differ, lists_long}
 use Rattle.dues.proofs.dues.Dues.plan.Goals as goal
 
@@ -18,7 +18,7 @@ plan_areas-requires-clause-long c =
     let v = c.args.inputs.now in
     let b = c.requires.before in
     let lists : c.deref_mut.result.now ≡ c.args.self.now.areas = c.deref_mut.ensures.value ∙ ap (λ (w : DuesValue). w.areas) c.self.view_is in
-    ap (λ (ws : List AreaDuesValue). length ws) lists ∙ lists_long b.0 v.areas c.args.self.now.areas (named_lists (option_copied c.args.dests) b.0 v c.args.self.now.areas b.2 b.1.lists)
+    ap (λ (ws : List AreaDuesValue). length ws) lists ∙ lists_long b.0 v.areas c.args.self.now.areas (lists_now b.0 v c.args.self.now.areas b.2.areas b.1.lists)
 
 pub returns-clause-ready : goal.returns-clause-ready
 returns-clause-ready c =
@@ -38,7 +38,7 @@ returns-clause-kept c after carried =
     let leads : AllLead plans c.plan_areas.new.lists after.areas = subst (λ (lists : List AreaDuesValue). AllLead plans lists after.areas) (with_items_is c.self.inside.areas c.plan_areas.new.lists length_is) carried.lists in
     let own : c.deref_mut.result.now ≡ c.args.self.now.areas = c.deref_mut.ensures.value ∙ ap (λ (w : DuesValue). w.areas) c.self.view_is in
     let lists : AreListsOf b.0 v.areas c.deref_mut.result.now =
-    subst (AreListsOf b.0 v.areas) (sym own) (named_lists (option_copied c.args.dests) b.0 v c.args.self.now.areas b.2 b.1.lists) in
+    subst (AreListsOf b.0 v.areas) (sym own) (lists_now b.0 v c.args.self.now.areas b.2.areas b.1.lists) in
     let alike : AreDueAlikeBut c.deref.result.now b.0 v = subst (λ (ds : List Dest). AreDueAlikeBut ds b.0 v) (sym c.deref.ensures.value) (c.in_ok-touched.ensures.enough b.0 b.1 b.2) in
     record {
       active = carried.active ∙ c.in_ok-active.ensures.items ∙ ap (λ (w : DueInputsValue). w.active) c.inputs.view_is;

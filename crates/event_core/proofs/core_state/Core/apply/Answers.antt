@@ -1,8 +1,9 @@
-use Rattle.std.proofs.Common.{◌≡◌, length, ap, subst, sym, refl, ◌∙◌}
-use Rattle.std.specs.Prelude.{Result}
+use Rattle.std.proofs.Common.{length, ap, subst, sym, refl, ◌∙◌}
+use Rattle.std.specs.Prelude.{Result, is_some}
 use Rattle.std.proofs.lemmas.Result.{on_ok_weaker, on_err_weaker}
 use Rattle.ospf_types.specs.declared.memory.Memory.{Memory}
 use Rattle.event_state.specs.States.{State}
+use Rattle.calculation.specs.Active.{RangesDifferAt}
 use Rattle.calculation.specs.Trees.{StatesDifferAmong}
 use Rattle.event_core.specs.declared.core_state.Core.TheInside.{Inside}
 use Rattle.event_core.specs.declared.reply.Reply.{Reply}
@@ -20,8 +21,9 @@ settle-settled-requires-clause-before c =
     let s = c.self.inside.state in
     let told = c.in_ok-serial.ensures in
     let named = c.in_ok-named.named in
-    let differ = subst (λ (u : State). StatesDifferAmong named.keys.items named.interfaces.items named.ranges s u) (sym told.taken) c.in_ok-named.ensures.named in
-    (s, c.journal.ensures.fit (sound_apart s.config (sound_now s c.self.inside.routes c.self.inside.built c.self.invariant)), c.self.invariant.fresh (c.if-is_current.true ∙ ap length c.journal.ensures.value), differ, told.changed.0)
+    let differ = subst (λ (u : State). StatesDifferAmong named.keys.items named.interfaces.items (is_some named.range) s u) (sym told.taken) c.in_ok-named.ensures.named in
+    let ranges = subst (λ (u : State). RangesDifferAt named.range s.config.areas u.config.areas) (sym told.taken) c.in_ok-named.ensures.ranges in
+    (s, c.journal.ensures.fit (sound_apart s.config (sound_now s c.self.inside.routes c.self.inside.built c.self.invariant)), c.self.invariant.fresh (c.if-is_current.true ∙ ap length c.journal.ensures.value), differ, told.changed.0, ranges)
 
 pub start_anew-settled-requires-clause-apart : goal.start_anew-settled-requires-clause-apart
 start_anew-settled-requires-clause-apart c =
@@ -42,7 +44,7 @@ outcome c =
       | then-is_current w ↦
           let did = w.settle-settled.ensures in
           let result = w.settle-settled.result in
-          let differ = subst (λ (v : State). StatesDifferAmong named.keys.items named.interfaces.items named.ranges s v) (sym told.taken) c.in_ok-named.ensures.named in
+          let differ = subst (λ (v : State). StatesDifferAmong named.keys.items named.interfaces.items (is_some named.range) s v) (sym told.taken) c.in_ok-named.ensures.named in
           let settled : IsSettled s u i.routes i.built result w.settle-settled.new.self = record {
             right = did.right;
             fit = did.fit;

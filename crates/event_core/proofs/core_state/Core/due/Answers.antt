@@ -1,6 +1,5 @@
-use Rattle.std.proofs.Common.{◌≡◌, List, sym, ap, subst, ◌∙◌}
-use Rattle.std.specs.Prelude.{Option, option_map}
-use Rattle.dues.specs.Due.{Due}
+use Rattle.std.proofs.Common.{◌≡◌, sym, ap, subst, ◌∙◌}
+use Rattle.std.specs.Prelude.{option_map}
 use Rattle.dues.specs.Dues.{DuesValue, list_in}
 use Rattle.event_state.specs.States.{inputs_of}
 use Rattle.event_core.specs.Cores.{CoreValue, built_state}

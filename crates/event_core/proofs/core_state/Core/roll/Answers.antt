@@ -1,4 +1,4 @@
-use Rattle.std.proofs.Common.{◌≡◌, length, ap, subst, ◌∙◌}
+use Rattle.std.proofs.Common.{length, ap, subst, ◌∙◌}
 use Rattle.event_state.proofs.Configs.{sound_apart}
 use Rattle.event_core.specs.Cores.{CoreValue, Rolls}
 use Rattle.event_core.specs.Kept.{core_of}

@@ -1,7 +1,8 @@
-use Rattle.std.proofs.Common.{◌≡◌, false, List, sym, ap, subst, ◌∙◌}
+use Rattle.std.proofs.Common.{List, sym, ap, subst, ◌∙◌}
 use Rattle.std.specs.Map.{keys_of}
 use Rattle.ospf_types.specs.declared.key.Dest.{Dest}
 use Rattle.ospf_types.specs.declared.prefix.Prefix.{Prefix}
+use Rattle.calculation.specs.Active.{IsRangeNamed}
 use Rattle.calculation.specs.Calculations.{IsCalculationOf, IsTableOf}
 use Rattle.calculation.specs.Due.{AreDuesFor, RoutesDifferAmong}
 use Rattle.event_core.specs.Following.{RoutesValue, AreChanges, AreOtherItems}
@@ -11,15 +12,17 @@ use Rattle.event_core.proofs.routes.Routes.follow.Goals as goal
 pub follow-requires-clause-before : goal.follow-requires-clause-before
 follow-requires-clause-before c =
     let before = c.requires.before in
-    (before.0, subst (λ (r : RoutesValue). IsCalculationOf before.0 r.calculation) (sym c.self.view_is) before.1.calculation, before.2)
+    (before.0, subst (λ (r : RoutesValue). IsCalculationOf before.0 r.calculation) (sym c.self.view_is) before.1.calculation, before.2, before.3)
 
 pub plan_dues-requires : goal.plan_dues-requires
 plan_dues-requires c =
     let b = c.requires.before in
     let old = c.self.inside in
     let due = subst (λ (r : RoutesValue). AreDuesFor b.0 r.calculation r.dues) (sym c.self.view_is) b.1.dues in
-    let routes = λ (unranged : c.args.named.ranges ≡ false). subst (λ (ds : List Dest). RoutesDifferAmong ds old.calculation c.follow.new.self) (sym c.deref-3.ensures.value) (c.in_ok-told.ensures.routes unranged) in
-    record { before = (b.0, old.calculation, due, record { areas = b.2.areas; ranges = b.2.ranges; routes = routes }) }
+    let told : List Dest = c.deref-3.result.now in
+    let routes = subst (λ (ds : List Dest). RoutesDifferAmong ds old.calculation c.follow.new.self) (sym c.deref-3.ensures.value) c.in_ok-told.ensures.routes in
+    let whole = subst (λ (ds : List Dest). IsRangeNamed c.args.named.range ds old.calculation.intra.entries) (sym c.deref-3.ensures.value) c.in_ok-told.ensures.named in
+    record { before = (b.0, old.calculation, due, record { areas = b.2.areas; range = c.args.named.range; ranges = b.3; whole = whole; routes = routes }) }
 
 pub change-requires : goal.change-requires
 change-requires c = c.in_ok-items.ensures.in_order

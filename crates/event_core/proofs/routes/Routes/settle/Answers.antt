@@ -1,4 +1,5 @@
 use Rattle.std.proofs.Common.{ℕ, sym, subst, ap, ◌∙◌}
+use Rattle.std.specs.Prelude.{is_some}
 use Rattle.route_table.specs.Tables.{TableValue}
 use Rattle.event_core.specs.Following.{AreChanges}
 use Rattle.event_core.specs.contracts.routes.Routes.{the_view}
@@ -9,15 +10,15 @@ use Rattle.event_core.proofs.routes.Routes.settle.Goals.{then-changed+in_ok-foll
 pub follow-requires-clause-before : goal.follow-requires-clause-before
 follow-requires-clause-before c =
     let before = c.requires.before in
-    (before.0, still_routes before.0 c.args.self.now c.forget.new.self c.forget.ensures before.2, before.3)
+    (before.0, still_routes before.0 c.args.self.now c.forget.new.self c.forget.ensures before.2, before.3, before.5)
 
-all : (c : goal.Joined-drop) → HasFollowed c.args.state.now c.args.named.keys.items c.args.named.interfaces.items c.args.named.ranges c.args.changed c.args.self.now c.if-changed.self
+all : (c : goal.Joined-drop) → HasFollowed c.args.state.now c.args.named.keys.items c.args.named.interfaces.items (is_some c.args.named.range) c.args.changed c.args.self.now c.if-changed.self
 all c =
     let before = c.requires.before in
     let t = c.args.state.now in
     let keys = c.args.named.keys.items in
     let ids = c.args.named.interfaces.items in
-    let ranged = c.args.named.ranges in
+    let ranged = is_some c.args.named.range in
     let changed = c.args.changed in
     let old = c.args.self.now in
     let mid = c.forget.new.self in
@@ -29,8 +30,8 @@ all c =
     ]
 
 -- the same of what self is made of
-inside : (c : goal.Joined-drop) → HasFollowed c.args.state.now c.args.named.keys.items c.args.named.interfaces.items c.args.named.ranges c.args.changed c.args.self.now (the_view c.self.inside)
-inside c = subst (HasFollowed c.args.state.now c.args.named.keys.items c.args.named.interfaces.items c.args.named.ranges c.args.changed c.args.self.now) (sym c.self.view_is) (all c)
+inside : (c : goal.Joined-drop) → HasFollowed c.args.state.now c.args.named.keys.items c.args.named.interfaces.items (is_some c.args.named.range) c.args.changed c.args.self.now (the_view c.self.inside)
+inside c = subst (HasFollowed c.args.state.now c.args.named.keys.items c.args.named.interfaces.items (is_some c.args.named.range) c.args.changed c.args.self.now) (sym c.self.view_is) (all c)
 
 pub returns-clause-right : goal.returns-clause-right
 returns-clause-right c =
@@ -41,7 +42,7 @@ returns-clause-right c =
 pub returns-clause-fit : goal.returns-clause-fit
 returns-clause-fit c =
     let before = c.requires.before in
-    c.config.ensures.fit (still_apart before.0 c.args.state.now c.args.named.keys.items c.args.named.interfaces.items c.args.named.ranges before.1 before.3)
+    c.config.ensures.fit (still_apart before.0 c.args.state.now c.args.named.keys.items c.args.named.interfaces.items (is_some c.args.named.range) before.1 before.3)
 
 pub returns-clause-exact : goal.returns-clause-exact
 returns-clause-exact c =

@@ -1,0 +1,73 @@
+//! The networks of an area that a prefix covers.
+ghost use Rattle.std.specs.Prelude.{◌≡◌, ◌↔◌, Contains, IfOk, OnOk, IsTrue};
+ghost use Rattle.ospf_types.specs.declared.config.Range.{Range as RangeValue};
+ghost use Rattle.summaries.specs.declared.member.Member.{Member as MemberValue};
+ghost use Rattle.summaries.specs.Active.{IsConfigured, IsMemberWithin};
+ghost use Rattle.summaries.specs.Following.{HasMore, IsAddedWithin};
+
+use crate::active::cost_in;
+use crate::member::Member;
+use intra::Intra;
+use ospf_types::config::AreaConfig;
+use ospf_types::memory::Memory;
+use ospf_types::prefix::Prefix;
+use std::alloc::Global;
+
+/// The networks of the area that the range's prefix covers, as its members.
+pub(crate) fn members_within(
+    alloc: Global,
+    intra: &Intra,
+    area: u32,
+    range: Prefix,
+) -> Result<Vec<Member>, Memory>
+    ensures { IfOk result (λ members. (m : MemberValue) → Contains members.items m ↔ IsMemberWithin intra.now.entries area range m) }
+{
+    let mut members = Vec::new(alloc);
+    for network in &intra.networks(alloc)? {
+        let member = Member {
+            range,
+            area,
+            network: *network,
+        };
+        push_within(intra, member, &mut members)?;
+    }
+    Ok(members)
+}
+
+// Adds the member, where its network is one of its area, and its range covers it.
+fn push_within(intra: &Intra, member: Member, members: &mut Vec<Member>) -> Result<(), Memory>
+    ensures { OnOk result (HasMore (IsAddedWithin intra.now.entries member) members.old.items members.new.items) }
+{
+    if !member.range.covers(member.network) {
+        return Ok(());
+    }
+    if cost_in(intra.get(member.network), member.area).is_none() {
+        return Ok(());
+    }
+    members.push(member)?;
+    Ok(())
+}
+
+/// Whether the area has a range with the prefix.
+pub(crate) fn is_configured(areas: &[AreaConfig], id: u32, prefix: Prefix) -> bool
+    ensures { IsTrue result ↔ IsConfigured areas.now id prefix }
+{
+    for area in areas {
+        if area.id == id && has_range(area, prefix) {
+            return true;
+        }
+    }
+    false
+}
+
+// Whether a range of the area has the prefix.
+fn has_range(area: &AreaConfig, prefix: Prefix) -> bool
+    ensures { IsTrue result ↔ ((r : RangeValue) × Contains area.now.ranges r × (r.prefix ≡ prefix)) }
+{
+    for range in area.ranges.as_slice() {
+        if range.prefix == prefix {
+            return true;
+        }
+    }
+    false
+}
