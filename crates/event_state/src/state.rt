@@ -34,6 +34,9 @@ use std::collections::{BTreeMap, btree_map};
 use std::hash::RandomState;
 use std::marker::Model;
 
+// From how many events on the journal has room for all that it may have.
+const MANY_EVENTS: usize = 65_536;
+
 /// The link-state databases, the interfaces and the ranges, what they began with, and the journal of the events since.
 pub struct State {
     base: Base,
@@ -380,6 +383,7 @@ impl State {
         ensures changed { IfOk result (λ changed. (changed ≡ false) ↔ LooksAlike self.old (changed_by self.old event)) }
     {
         let entry = event.copy(*self.journal.allocator())?;
+        make_room(&mut self.journal, self.limits.events);
         self.journal.push(entry)?;
         match self.carry_out(event) {
             Ok(changed) => Ok(changed),
@@ -489,6 +493,20 @@ impl State {
         ensures changed { (result ≡ false) ↔ LooksAlike self.old (changed_by self.old Event.Second) }
     {
         age_all(self.databases.as_mut_slice())
+    }
+}
+
+// Makes room for all events that the journal may have, once it has many. So large a piece of memory goes back to the
+// system in a roll, and not to a heap that keeps it. Where it is refused, room is made event by event.
+fn make_room(journal: &mut Vec<Event>, most: u64)
+    ensures { journal.new.items ≡ journal.old.items }
+{
+    if journal.len() != MANY_EVENTS {
+        return;
+    }
+    let more = (most as usize).saturating_sub(MANY_EVENTS);
+    match journal.reserve(more) {
+        Ok(()) | Err(_) => {}
     }
 }
 
