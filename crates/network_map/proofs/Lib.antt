@@ -1,0 +1,6 @@
+pub mod Adding
+pub mod Lookups
+pub mod Numbers
+pub mod Places
+pub mod Standing
+pub mod Whole
