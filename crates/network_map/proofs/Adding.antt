@@ -18,6 +18,11 @@ pub record AreAdded {V : Type 0} (hashing : WordHash) (entries : List (Network �
   pub used : s.used ≤ place
   pub bound : length s.numbers.items ≤ 2 ^ s.bits + 64 + s.used
 
+-- what was found is found at the same bits
+pub placed_more : (hashing : WordHash) {s t : Slots} → IsMore s t → (p : Network) (i : ℕ) → IsPlaced s.numbers.items (home_of hashing s.bits p) (base_of hashing s.bits p + i) → IsPlaced t.numbers.items (home_of hashing t.bits p) (base_of hashing t.bits p + i)
+placed_more hashing {s} {t} more p i placed =
+    subst (λ (b : ℕ). IsPlaced t.numbers.items (home_of hashing b p) (base_of hashing b p + i)) (sym more.bits) (more.kept (home_of hashing s.bits p) (base_of hashing s.bits p + i) (some_number hashing s.bits p i) placed)
+
 module _ {V : Type 0} {hashing : WordHash} {entries : List (Network × V)} where
   pub added_none : (s : Slots) → IsReady s (length entries) → length s.numbers.items ≡ 2 ^ s.bits + 64 → s.used ≡ 0 → AreAdded hashing entries s 0
   added_none s ready long unused = record {
@@ -37,11 +42,6 @@ module _ {V : Type 0} {hashing : WordHash} {entries : List (Network × V)} where
     spare = let room = added.room in let used = added.used in omega arith;
   }
 
-  -- what was found is found at the same bits
-  pub placed_more : {s t : Slots} → IsMore s t → (p : Network) (i : ℕ) → IsPlaced s.numbers.items (home_of hashing s.bits p) (base_of hashing s.bits p + i) → IsPlaced t.numbers.items (home_of hashing t.bits p) (base_of hashing t.bits p + i)
-  placed_more {s} {t} more p i placed =
-      subst (λ (b : ℕ). IsPlaced t.numbers.items (home_of hashing b p) (base_of hashing b p + i)) (sym more.bits) (more.kept (home_of hashing s.bits p) (base_of hashing s.bits p + i) (some_number hashing s.bits p i) placed)
-
   pub added_more : {s t : Slots} {place : ℕ} → AreAdded hashing entries s place → IsMore s t → (p : Network) → HasNetwork entries place p → ((q : Network) → HasNetwork entries place q → q ≡ p)
       → IsPlaced t.numbers.items (home_of hashing t.bits p) (base_of hashing t.bits p + place) → AreAdded hashing entries t (place + 1)
   added_more {s} {t} {place} added more p has only here = record {
@@ -51,7 +51,7 @@ module _ {V : Type 0} {hashing : WordHash} {entries : List (Network × V)} where
     placed = λ i q below at. by_place i place
         (λ same. subst (λ (j : ℕ). IsPlaced t.numbers.items (home_of hashing t.bits q) (base_of hashing t.bits q + j)) (sym same)
         (subst (λ (r : Network). IsPlaced t.numbers.items (home_of hashing t.bits r) (base_of hashing t.bits r + place)) (sym (only q (subst (λ (j : ℕ). HasNetwork entries j q) same at))) here))
-        (λ other. placed_more more q i (added.placed i q (omega (arith, other)) at));
+        (λ other. placed_more hashing more q i (added.placed i q (omega (arith, other)) at));
     used = let used = added.used in let one = more.used in omega arith;
     bound = subst (λ (b : ℕ). length t.numbers.items ≤ 2 ^ b + 64 + t.used) (sym more.bits) (let bound = added.bound in let more_bound = more.bound in omega arith);
   }
@@ -78,7 +78,7 @@ module _ {V : Type 0} {hashing : WordHash} {entries : List (Network × V)} where
   more_slotted {s} {t} slotted spare more = record {
     small = subst (λ (b : ℕ). b ≤ 31) (sym more.bits) slotted.small;
     room = subst (λ (b : ℕ). length entries + 2 ≤ 2 ^ b) (sym more.bits) slotted.room;
-    placed = λ i p has. placed_more more p i (slotted.placed i p has);
+    placed = λ i p has. placed_more hashing more p i (slotted.placed i p has);
     used = subst (λ (b : ℕ). t.used ≤ 2 ^ b) (sym more.bits) (let used = more.used in omega arith);
     bound = subst (λ (b : ℕ). length t.numbers.items ≤ 2 ^ b + 64 + t.used) (sym more.bits) (let bound = slotted.bound in let more_bound = more.bound in omega arith);
   }

@@ -44,3 +44,12 @@ module _ {V : Type 0} where
       let rest : len (map_of es) ≡ length es = counted es (once_rest e es once) in
       let more = len-insert network_total (map_of es) e.0 e.1 ∙ counted_more (get (map_of es) e.0) (len (map_of es)) (first_new e es once) in
       more ∙ omega (arith, rest)
+
+  -- the value of the entry that is read
+  pub value_at : (es : List (Network × V)) → IsOnce es → (k : Network) (i : ℕ) → HasNetwork es i k → (x : Network × V) → x ≡ get_or es i x → Some x.1 ≡ get (map_of es) k
+  value_at es once k i has x is =
+      ap (λ (e : Network × V). Some e.1) (is ∙ get_or_from_slice_get es i (k, has.value) x has.stands) ∙ sym (gotten es once k has.value i has.stands)
+
+pub placed_as : {xs ys : List ℕ} {h g m n : ℕ} → xs ≡ ys → h ≡ g → m ≡ n → IsPlaced ys g n → IsPlaced xs h m
+placed_as {xs} {ys} {h} {g} {m} {n} numbers home number placed =
+    subst (λ (zs : List ℕ). IsPlaced zs h m) (sym numbers) (subst (λ (z : ℕ). IsPlaced ys z m) (sym home) (subst (λ (z : ℕ). IsPlaced ys g z) (sym number) placed))

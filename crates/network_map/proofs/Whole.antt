@@ -7,7 +7,7 @@ use Rattle.std.proofs.lemmas.List.{get_or-set_same, get_or-set_other, get_or_pus
 use Rattle.std.proofs.lemmas.Option.{slice_get-get_or, slice_get_within, slice_get_past, get_or_from_slice_get, none-some}
 use Rattle.ospf_types.specs.Network.{Network, network_cmp}
 use Rattle.word_hash.specs.declared.hasher.WordHash.{WordHash}
-use Rattle.network_map.specs.Slots.{base_of, home_of, AreSlotted, HasNetwork, IsMore, IsOnce, IsPlaced, IsReady, IsWhole}
+use Rattle.network_map.specs.Slots.{base_of, home_of, AreSlotted, HasNetwork, IsMore, IsOnce, IsPlaced, IsReady, IsTaken, IsWhole}
 use Rattle.network_map.specs.declared.slots.Slots.{Slots}
 use Rattle.network_map.proofs.Adding.{more_slotted, placed_more}
 use Rattle.network_map.proofs.Lookups.{has_within}
@@ -80,7 +80,7 @@ module _ {V : Type 0} {hashing : WordHash} (es : List (Network × V)) (s : Slots
     replaced_map = put_stands es (set es i (k, v)) whole.once replaced.once i k v (set_here es i (k, v) (has_within es i k has)) (λ q other. set_others es i (k, v) q other)
         (λ f is. ap (λ (z : Network × V). z.0) (one_entry (slice_get es i) f (k, has.value) is has.stands))
 
-module _ {V : Type 0} {hashing : WordHash} (es : List (Network × V)) (once : IsOnce es) (k : Network) (none : get (map_of es) k ≡ None) (v : V) where
+module _ {V : Type 0} (es : List (Network × V)) (once : IsOnce es) (k : Network) (none : get (map_of es) k ≡ None) (v : V) where
   -- an entry of the longer list is the new one or one of before
   old_or_new : {C : Type 0} (i : ℕ) (p : Network) → HasNetwork (es ++ (k, v) ∷ []) i p → (i ≡ length es → p ≡ k → C) → (HasNetwork es i p → C) → C
   old_or_new i p at new old = by_place i (length es)
@@ -103,8 +103,8 @@ module _ {V : Type 0} {hashing : WordHash} (es : List (Network × V)) (once : Is
       (λ f is. absurd (none-some f (sym (slice_get_past es (length es) (omega arith)) ∙ is)))
 
   -- a new network's entry comes last
-  pub pushed : (s t : Slots) → AreSlotted hashing es s → IsReady s (length es) → IsMore s t → IsPlaced t.numbers.items (home_of hashing t.bits k) (base_of hashing t.bits k + length es) → IsWhole hashing (es ++ (k, v) ∷ []) t
-  pushed s t slotted ready more here =
+  pub pushed : (hashing : WordHash) (s t : Slots) → AreSlotted hashing es s → IsReady s (length es) → IsMore s t → IsPlaced t.numbers.items (home_of hashing t.bits k) (base_of hashing t.bits k + length es) → IsWhole hashing (es ++ (k, v) ∷ []) t
+  pushed hashing s t slotted ready more here =
       let rest = more_slotted slotted ready.spare more in
       let one : length (es ++ (k, v) ∷ []) ≡ length es + 1 = length-append es ((k, v) ∷ []) in
       record {
@@ -118,5 +118,73 @@ module _ {V : Type 0} {hashing : WordHash} (es : List (Network × V)) (once : Is
               (λ old. rest.placed i p old);
           used = rest.used;
           bound = rest.bound;
+        };
+      }
+
+-- the entry at the place is gone, and the last one has its place
+pub record IsSwapped {V : Type 0} (es fs : List (Network × V)) (i : ℕ) : Type 0 where
+  pub within : i < length es
+  pub less : length fs + 1 ≡ length es
+  pub moved : (d : Network × V) → i + 1 < length es → get_or fs i d ≡ get_or es (length es - 1) d
+  pub others : (q : ℕ) (d : Network × V) → q ≢ i → q + 1 < length es → get_or fs q d ≡ get_or es q d
+
+module _ {V : Type 0} (es fs : List (Network × V)) (i : ℕ) (swapped : IsSwapped es fs i) where
+  -- an entry that is left was the last one, or stood where it stands
+  before : {C : Type 0} (q : ℕ) (f : Network × V) → slice_get fs q ≡ Some f → (q ≡ i → i + 1 < length es → slice_get es (length es - 1) ≡ Some f → C) → (q ≢ i → q + 1 < length es → slice_get es q ≡ Some f → C) → C
+  before q f is last other =
+      let less = swapped.less in
+      let within : q < length fs = slice_get_within fs q f is in
+      by_place q i
+      (λ same.
+      let at : i < length fs = omega arith in
+      let more : i + 1 < length es = omega arith in
+      last same more (same_get es fs (length es - 1) i (omega arith) at (λ d. sym (swapped.moved d more)) f (subst (λ (j : ℕ). slice_get fs j ≡ Some f) same is)))
+      (λ apart. other apart (omega arith) (same_get es fs q q (omega arith) within (λ d. sym (swapped.others q d apart (omega arith))) f is))
+
+  was_there : (q : ℕ) (f : Network × V) → slice_get fs q ≡ Some f → (r : ℕ) × (r ≢ i) × (slice_get es r ≡ Some f)
+  was_there q f is = before q f is
+      (λ same more at. (length es - 1, (λ one. omega arith), at))
+      (λ apart more at. (q, apart, at))
+
+  still_there : (r : ℕ) (f : Network × V) → r ≢ i → slice_get es r ≡ Some f → (q : ℕ) × (slice_get fs q ≡ Some f)
+  still_there r f apart is =
+      let less = swapped.less in
+      let inside = swapped.within in
+      let within : r < length es = slice_get_within es r f is in
+      by_place r (length es - 1)
+      (λ same.
+      let more : i + 1 < length es = omega (arith, apart) in
+      (i, same_get fs es i r (omega arith) within (λ d. swapped.moved d more ∙ ap (λ (j : ℕ). get_or es j d) (sym same)) f is))
+      (λ other. (r, same_get fs es r r (omega (arith, other)) within (λ d. swapped.others r d apart (omega (arith, other))) f is))
+
+  module _ (once : IsOnce es) where
+    pub taken_once : IsOnce fs
+    taken_once a b p at as_well = before a (p, at.value) at.stands
+        (λ same more last. before b (p, as_well.value) as_well.stands
+        (λ same_too _ _. same ∙ sym same_too)
+        (λ apart below old. absurd (let one = once (length es - 1) b p (record { value = at.value; stands = last }) (record { value = as_well.value; stands = old }) in omega (arith, one))))
+        (λ apart below old. before b (p, as_well.value) as_well.stands
+        (λ same more last. absurd (let one = once a (length es - 1) p (record { value = at.value; stands = old }) (record { value = as_well.value; stands = last }) in omega (arith, one)))
+        (λ _ _ old_too. once a b p (record { value = at.value; stands = old }) (record { value = as_well.value; stands = old_too })))
+
+    pub taken_map : (k : Network) → HasNetwork es i k → map_of fs ≡ remove (map_of es) k
+    taken_map k has = take_stands es fs once taken_once i k has was_there still_there
+
+  pub taken : (hashing : WordHash) (s t : Slots) → IsWhole hashing es s → IsTaken hashing es i s t → IsWhole hashing fs t
+  taken hashing s t whole gone =
+      let slotted = whole.slotted in
+      let less = swapped.less in
+      let used = gone.used in
+      let long = gone.long in
+      record {
+        once = taken_once whole.once;
+        slotted = record {
+          small = subst (λ (b : ℕ). b ≤ 31) (sym gone.bits) slotted.small;
+          room = subst (λ (b : ℕ). length fs + 2 ≤ 2 ^ b) (sym gone.bits) (let room = slotted.room in omega arith);
+          placed = λ q p at. before q (p, at.value) at.stands
+              (λ same more last. subst (λ (j : ℕ). IsPlaced t.numbers.items (home_of hashing t.bits p) (base_of hashing t.bits p + j)) (sym same) (gone.moved p more (record { value = at.value; stands = last })))
+              (λ apart below old. gone.others q p apart below (record { value = at.value; stands = old }));
+          used = subst (λ (b : ℕ). t.used ≤ 2 ^ b) (sym gone.bits) (let few = slotted.used in omega arith);
+          bound = subst (λ (b : ℕ). length t.numbers.items ≤ 2 ^ b + 64 + t.used) (sym gone.bits) (let bound = slotted.bound in omega arith);
         };
       }

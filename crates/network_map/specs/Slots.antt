@@ -64,3 +64,11 @@ IsOnce es = (i j : ℕ) (p : Network) → HasNetwork es i p → HasNetwork es j 
 pub record IsWhole {V : Type 0} (hashing : WordHash) (entries : List (Network × V)) (s : Slots) : Type 0 where
   pub once : IsOnce entries
   pub slotted : AreSlotted hashing entries s
+
+-- the slots are those of the entries without the one at the place, whose place the last one has
+pub record IsTaken {V : Type 0} (hashing : WordHash) (entries : List (Network × V)) (i : ℕ) (s t : Slots) : Type 0 where
+  pub bits : t.bits ≡ s.bits
+  pub used : t.used ≡ s.used
+  pub long : length t.numbers.items ≡ length s.numbers.items
+  pub others : (q : ℕ) (p : Network) → q ≢ i → q + 1 < length entries → HasNetwork entries q p → IsPlaced t.numbers.items (home_of hashing t.bits p) (base_of hashing t.bits p + q)
+  pub moved : (p : Network) → i + 1 < length entries → HasNetwork entries (length entries - 1) p → IsPlaced t.numbers.items (home_of hashing t.bits p) (base_of hashing t.bits p + i)

@@ -161,12 +161,8 @@ impl<V: Drop> NetworkMap<V> {
         else {
             return;
         };
-        self.slots.remove(self.hashing, network, place);
-        let last = self.entries.len() - 1;
-        if place < last {
-            self.slots
-                .relocate(self.hashing, self.entries[last].0, last, place);
-        }
+        self.slots
+            .take(self.hashing, self.entries.as_slice(), place);
         self.entries.swap_remove(place);
     }
 

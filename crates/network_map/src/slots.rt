@@ -2,7 +2,7 @@
 ghost use Rattle.std.specs.Prelude.{◌≡◌, ◌≢◌, ℕ, ◌+◌, ◌^◌, ◌<◌, ◌≤◌, false, [], None, IfSome, IfOk, OnOk, length, slice_index};
 ghost use Rattle.std.specs.List.{slice_get};
 ghost use Rattle.ospf_types.specs.Network.{network_word};
-ghost use Rattle.network_map.specs.Slots.{base_of, home_of, AreSlotted, HasNetwork, IsFree, IsMore, IsPlaced, IsReady};
+ghost use Rattle.network_map.specs.Slots.{base_of, home_of, AreSlotted, HasNetwork, IsFree, IsMore, IsPlaced, IsReady, IsTaken};
 
 use ospf_types::prefix::Prefix;
 use std::alloc::{AllocError, Global};
@@ -150,8 +150,22 @@ impl Slots {
         Ok(())
     }
 
+    // Takes the slot of the entry at the place out of use. The last entry's slot tells that place then.
+    pub(crate) fn take<V>(&mut self, hashing: WordHash, entries: &[(Prefix, V)], place: usize)
+        requires slotted { AreSlotted hashing entries.now self.old }
+        requires within { place < length entries.now }
+        ensures { IsTaken hashing entries.now place self.old self.new }
+    {
+        self.remove(hashing, entries[place].0, place);
+        let last = entries.len() - 1;
+        if place == last {
+            return;
+        }
+        self.relocate(hashing, entries[last].0, last, place);
+    }
+
     // Takes the slot of the network's entry, which is at the place, out of use.
-    pub(crate) fn remove(&mut self, hashing: WordHash, network: Prefix, place: usize)
+    fn remove(&mut self, hashing: WordHash, network: Prefix, place: usize)
         requires bits { self.old.bits ≤ 31 }
         requires room { place + 3 ≤ 2 ^ self.old.bits }
         requires placed { IsPlaced self.old.numbers.items (home_of hashing self.old.bits network) (base_of hashing self.old.bits network + place) }
@@ -170,7 +184,7 @@ impl Slots {
     }
 
     // Notes that the network's entry went from one place to another.
-    pub(crate) fn relocate(&mut self, hashing: WordHash, network: Prefix, from: usize, to: usize)
+    fn relocate(&mut self, hashing: WordHash, network: Prefix, from: usize, to: usize)
         requires bits { self.old.bits ≤ 31 }
         requires from { from + 3 ≤ 2 ^ self.old.bits }
         requires to { to + 3 ≤ 2 ^ self.old.bits }
