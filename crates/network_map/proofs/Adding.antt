@@ -1,6 +1,5 @@
 -- Slots for entries, one after the other.
-use Rattle.std.proofs.Common.{◌≡◌, ◌≢◌, ℕ, ◌+◌, ◌-◌, ◌^◌, ◌<◌, ◌≤◌, List, length, refl, sym, ap, subst, ◌∙◌, arith}
-use Rattle.std.specs.Prelude.{slice_index}
+use Rattle.std.proofs.Common.{◌≡◌, ℕ, ◌+◌, ◌^◌, ◌<◌, ◌≤◌, List, length, sym, subst, arith}
 use Rattle.ospf_types.specs.Network.{Network}
 use Rattle.word_hash.specs.declared.hasher.WordHash.{WordHash}
 use Rattle.network_map.specs.Slots.{base_of, home_of, AreSlotted, HasNetwork, IsMore, IsPlaced, IsReady}

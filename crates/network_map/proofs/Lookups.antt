@@ -1,12 +1,12 @@
 -- What a search tells.
-use Rattle.std.proofs.Common.{◌≡◌, ◌≢◌, ℕ, ◌+◌, ◌-◌, ◌<◌, ◌≤◌, inl, inr, List, [], ◌∷◌, length, get_or, Option, Some, None, is_some, true, false, cond, suc, zero, refl, sym, ap, subst, ◌∙◌, arith}
-use Rattle.std.specs.FinMap.{FinMap, get, len, insert, from_entries, len-empty, len-insert}
-use Rattle.std.specs.List.{slice_get, AllPairs}
-use Rattle.std.proofs.lemmas.Option.{same_Some, none-some, slice_get-get_or, slice_get_within, get_or_from_slice_get}
+use Rattle.std.proofs.Common.{◌≡◌, ◌≢◌, ℕ, ◌+◌, ◌<◌, List, [], ◌∷◌, length, get_or, Option, Some, None, is_some, cond, suc, zero, refl, sym, ap, subst, ◌∙◌, arith}
+use Rattle.std.specs.FinMap.{get, len, len-empty, len-insert}
+use Rattle.std.specs.List.{AllPairs}
+use Rattle.std.proofs.lemmas.Option.{slice_get-get_or, slice_get_within, get_or_from_slice_get}
 use Rattle.ospf_types.proofs.Orders.{network_total}
 use Rattle.ospf_types.specs.Network.{Network, network_cmp}
-use Rattle.network_map.specs.Slots.{HasNetwork, IsPlaced, IsOnce, IsWhole, home_of, base_of}
-use Rattle.network_map.proofs.Standing.{map_of, gotten, nowhere, none_at}
+use Rattle.network_map.specs.Slots.{HasNetwork, IsPlaced, IsOnce}
+use Rattle.network_map.proofs.Standing.{map_of, gotten, nowhere}
 
 module _ {V : Type 0} where
   pub has_at : (es : List (Network × V)) (i : ℕ) (p : Network) (d : Network × V) → i < length es → (get_or es i d).0 ≡ p → HasNetwork es i p

@@ -1,10 +1,10 @@
 -- The numbers of entries.
-use Rattle.std.proofs.Common.{◌≡◌, ◌≢◌, ℕ, ◌+◌, ◌-◌, ◌*◌, ◌/◌, ◌^◌, ◌<◌, ◌≤◌, refl, sym, ap, subst, ◌∙◌, arith}
-use Rattle.std.proofs.lemmas.Nat.{pow_pos, pow-add, shr_below, mul-le, same_from_place}
+use Rattle.std.proofs.Common.{◌≡◌, ◌≢◌, ℕ, ◌+◌, ◌-◌, ◌*◌, ◌/◌, ◌^◌, ◌<◌, ◌≤◌, sym, ap, subst, ◌∙◌, arith}
+use Rattle.std.proofs.lemmas.Nat.{pow-add, shr_below, mul-le, same_from_place}
 use Rattle.ospf_types.specs.Network.{Network, network_word}
 use Rattle.word_hash.specs.Words.{mixed}
 use Rattle.word_hash.specs.declared.hasher.WordHash.{WordHash}
-use Rattle.network_map.specs.Slots.{base_of, home_of}
+use Rattle.network_map.specs.Slots.{base_of}
 
 -- a tag leaves room for a place below it
 pub tag_fits : (h bits : ℕ) → h < 2 ^ 64 → bits ≤ 31 → h / 2 ^ 32 / 2 ^ bits * 2 ^ bits + 2 ^ bits ≤ 2 ^ 32

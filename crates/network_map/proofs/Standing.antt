@@ -1,5 +1,5 @@
 -- Entries and the finite map that they are.
-use Rattle.std.proofs.Common.{◌≡◌, ◌≢◌, ℕ, zero, suc, Bool, true, false, cond, List, [], ◌∷◌, Option, Some, None, IsSome, is_some, refl, sym, ap, subst, ◌∙◌, true≢false}
+use Rattle.std.proofs.Common.{◌≡◌, ◌≢◌, ℕ, zero, suc, Bool, true, false, cond, List, [], ◌∷◌, Option, Some, None, IsSome, refl, sym, ap, subst, ◌∙◌, true≢false}
 use Rattle.std.specs.Ordering.{eq_by_cmp}
 use Rattle.std.specs.Cmp.{eq_by_cmp_equiv}
 use Rattle.std.specs.List.{slice_get}
@@ -9,7 +9,6 @@ use Rattle.std.proofs.lemmas.Option.{same_Some, none-some}
 use Rattle.ospf_types.proofs.Orders.{network_total, network_exact}
 use Rattle.ospf_types.specs.Network.{Network, network_cmp}
 use Rattle.network_map.specs.Slots.{HasNetwork, IsOnce}
-use Rattle.network_map.proofs.Places.{by_place}
 
 -- the same values are in both
 pub same_option : {V : Type 0} (o p : Option V) → ((v : V) → o ≡ Some v → p ≡ Some v) → ((v : V) → p ≡ Some v → o ≡ Some v) → o ≡ p

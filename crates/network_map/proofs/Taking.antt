@@ -1,5 +1,5 @@
 -- Slots after an entry is gone.
-use Rattle.std.proofs.Common.{◌≡◌, ◌≢◌, ℕ, ◌+◌, ◌-◌, ◌^◌, ◌<◌, ◌≤◌, List, length, get_or, sym, ap, subst, ◌∙◌, arith}
+use Rattle.std.proofs.Common.{◌≡◌, ◌≢◌, ℕ, ◌+◌, ◌-◌, ◌<◌, List, length, get_or, sym, ap, subst, ◌∙◌, arith}
 use Rattle.ospf_types.specs.Network.{Network}
 use Rattle.word_hash.specs.declared.hasher.WordHash.{WordHash}
 use Rattle.network_map.specs.Slots.{base_of, home_of, AreSlotted, HasNetwork, IsPlaced, IsTaken}

@@ -1,19 +1,18 @@
 -- What each change makes of a map.
-use Rattle.std.proofs.Common.{◌≡◌, ◌≢◌, ℕ, ◌+◌, ◌-◌, ◌^◌, ◌<◌, ◌≤◌, List, [], ◌∷◌, ◌++◌, length, get_or, Option, Some, None, inl, inr, refl, sym, ap, subst, ◌∙◌, length-append, arith}
-use Rattle.std.specs.FinMap.{FinMap, get, insert, remove}
+use Rattle.std.proofs.Common.{◌≡◌, ◌≢◌, ℕ, ◌+◌, ◌-◌, ◌^◌, ◌<◌, ◌≤◌, List, [], ◌∷◌, ◌++◌, length, get_or, Some, None, inl, inr, refl, sym, ap, subst, ◌∙◌, length-append, arith}
+use Rattle.std.specs.FinMap.{get, insert, remove}
 use Rattle.std.specs.List.{slice_get}
 use Rattle.std.proofs.Math.ListN.{set}
 use Rattle.std.proofs.lemmas.List.{get_or-set_same, get_or-set_other, get_or_push, get_or_append_left, length-set}
 use Rattle.std.proofs.lemmas.Option.{slice_get-get_or, slice_get_within, slice_get_past, get_or_from_slice_get, none-some}
-use Rattle.ospf_types.specs.Network.{Network, network_cmp}
+use Rattle.ospf_types.specs.Network.{Network}
 use Rattle.word_hash.specs.declared.hasher.WordHash.{WordHash}
 use Rattle.network_map.specs.Slots.{base_of, home_of, AreSlotted, HasNetwork, IsMore, IsOnce, IsPlaced, IsReady, IsTaken, IsWhole}
 use Rattle.network_map.specs.declared.slots.Slots.{Slots}
-use Rattle.network_map.proofs.Adding.{more_slotted, placed_more}
+use Rattle.network_map.proofs.Adding.{more_slotted}
 use Rattle.network_map.proofs.Lookups.{has_within}
-use Rattle.network_map.proofs.Numbers.{other_number}
 use Rattle.network_map.proofs.Places.{by_place, below_or_not}
-use Rattle.network_map.proofs.Standing.{map_of, not_both, one_entry, put_stands, take_stands, none_at, nowhere}
+use Rattle.network_map.proofs.Standing.{map_of, one_entry, put_stands, take_stands, none_at, nowhere}
 
 module _ {E : Type 0} where
   -- two lists have one element at two places

@@ -1,4 +1,4 @@
-use Rattle.std.proofs.Common.{◌≡◌, ◌≢◌, ℕ, ◌+◌, ◌-◌, ◌≤◌, Some, None, sym, ap, subst, ◌∙◌, true≢false, arith}
+use Rattle.std.proofs.Common.{◌≡◌, ℕ, sym, subst, ◌∙◌, true≢false, arith}
 use Rattle.ospf_types.proofs.KeyOrders.{prefixes_decided}
 use Rattle.network_map.specs.Slots.{HasNetwork}
 use Rattle.network_map.proofs.Lookups.{has_at, has_within, named_at}

@@ -1,4 +1,4 @@
-use Rattle.std.proofs.Common.{◌≡◌, ◌≢◌, ℕ, ◌+◌, ◌≤◌, sym, ◌∙◌, arith}
+use Rattle.std.proofs.Common.{arith}
 use Rattle.network_map.proofs.Places.{placed_here, placed_inside}
 use Rattle.network_map.proofs.slots.probe.Goals as goal
 

@@ -1,4 +1,4 @@
-use Rattle.std.proofs.Common.{Some, None, List, refl, sym, ap, subst, ◌∙◌}
+use Rattle.std.proofs.Common.{List, refl, sym, ap, subst, ◌∙◌}
 use Rattle.std.specs.FinMap.{FinMap, get}
 use Rattle.ospf_types.specs.Network.{Network, network_cmp}
 use Rattle.network_map.specs.Slots.{HasNetwork}

@@ -1,4 +1,4 @@
-use Rattle.std.proofs.Common.{List, sym, subst, ◌∙◌}
+use Rattle.std.proofs.Common.{List, sym, subst}
 use Rattle.ospf_types.specs.Network.{Network}
 use Rattle.network_map.specs.Slots.{IsWhole, AreSlotted}
 use Rattle.network_map.proofs.map.NetworkMap.shrink.Goals as goal
