@@ -19,6 +19,7 @@ const FIRST: usize = 2;
 
 // The fewest and the most bits of a home.
 const FEWEST: u32 = 3;
+
 const MOST: u32 = 31;
 
 // Slots past the last home, so that the last ones seldom fill.
@@ -136,10 +137,7 @@ impl Slots {
         ensures more { IsMore self.old self.new }
     {
         let number = number(hashing, self.bits, network, place);
-        let free = free_from(
-            self.numbers.as_slice(),
-            home(hashing, self.bits, network),
-        );
+        let free = free_from(self.numbers.as_slice(), home(hashing, self.bits, network));
         if free < self.numbers.len() {
             self.used += usize::from(self.numbers[free] == EMPTY);
             self.numbers[free] = number;
