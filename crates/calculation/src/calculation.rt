@@ -211,12 +211,7 @@ impl Calculation {
 
     /// The routing table, which follows so many events. Networks are hashed under keys that the random state
     /// gives.
-    pub fn table(
-        &self,
-        alloc: Global,
-        serial: u64,
-        hashing: RandomState,
-    ) -> Result<Table, Memory>
+    pub fn table(&self, alloc: Global, serial: u64, hashing: RandomState) -> Result<Table, Memory>
         ensures items { IfOk result (λ table. IsTableOf self.now table.items) }
         ensures serial { IfOk result (λ table. table.serial ≡ serial) }
     {
