@@ -322,7 +322,8 @@ fn named<V>(entries: &[(Prefix, V)], number: u32, base: usize, network: Prefix) 
     ensures found { IfSome result (λ i. HasNetwork entries.now i network) }
     ensures missing { result ≡ None → (i : ℕ) → HasNetwork entries.now i network → number ≢ base + i }
 {
-    let place = (number as usize).checked_sub(base)?;
+    // A number below the base gives a place past the end.
+    let place = (number as usize).wrapping_sub(base);
     if place < entries.len() && entries[place].0 == network {
         return Some(place);
     }
