@@ -2,7 +2,7 @@
 use Rattle.std.proofs.Common.{◌≡◌, ℕ, ◌+◌, ◌^◌, ◌<◌, ◌≤◌, List, length, sym, subst, arith}
 use Rattle.ospf_types.specs.Network.{Network}
 use Rattle.word_hash.specs.declared.hasher.WordHash.{WordHash}
-use Rattle.network_map.specs.Slots.{base_of, home_of, AreSlotted, HasNetwork, IsMore, IsPlaced, IsReady}
+use Rattle.network_map.specs.Slots.{base_of, home_of, AreFew, AreSlotted, HasNetwork, IsMore, IsPlaced, IsReady}
 use Rattle.network_map.specs.declared.slots.Slots.{Slots}
 use Rattle.network_map.proofs.Lookups.{has_within}
 use Rattle.network_map.proofs.Numbers.{some_number}
@@ -16,6 +16,7 @@ pub record AreAdded {V : Type 0} (hashing : WordHash) (entries : List (Network �
   pub placed : (i : ℕ) (p : Network) → i < place → HasNetwork entries i p → IsPlaced s.numbers.items (home_of hashing s.bits p) (base_of hashing s.bits p + i)
   pub used : s.used ≤ place
   pub bound : length s.numbers.items ≤ 2 ^ s.bits + 64 + s.used
+  pub few : AreFew s.bits (length entries)
 
 -- what was found is found at the same bits
 pub placed_more : (hashing : WordHash) {s t : Slots} → IsMore s t → (p : Network) (i : ℕ) → IsPlaced s.numbers.items (home_of hashing s.bits p) (base_of hashing s.bits p + i) → IsPlaced t.numbers.items (home_of hashing t.bits p) (base_of hashing t.bits p + i)
@@ -23,14 +24,15 @@ placed_more hashing {s} {t} more p i placed =
     subst (λ (b : ℕ). IsPlaced t.numbers.items (home_of hashing b p) (base_of hashing b p + i)) (sym more.bits) (more.kept (home_of hashing s.bits p) (base_of hashing s.bits p + i) (some_number hashing s.bits p i) placed)
 
 module _ {V : Type 0} {hashing : WordHash} {entries : List (Network × V)} where
-  pub added_none : (s : Slots) → IsReady s (length entries) → length s.numbers.items ≡ 2 ^ s.bits + 64 → s.used ≡ 0 → AreAdded hashing entries s 0
-  added_none s ready long unused = record {
+  pub added_none : (s : Slots) → IsReady s (length entries) → length s.numbers.items ≡ 2 ^ s.bits + 64 → s.used ≡ 0 → AreFew s.bits (length entries) → AreAdded hashing entries s 0
+  added_none s ready long unused few = record {
     small = ready.small;
     room = ready.room;
     long = ready.long;
     placed = λ i p below. absurd (omega arith);
     used = omega (arith, unused);
     bound = omega (arith, long);
+    few = few;
   }
 
   pub added_ready : {s : Slots} {place : ℕ} → AreAdded hashing entries s place → place < length entries → IsReady s place
@@ -53,6 +55,7 @@ module _ {V : Type 0} {hashing : WordHash} {entries : List (Network × V)} where
         (λ other. placed_more hashing more q i (added.placed i q (omega (arith, other)) at));
     used = let used = added.used in let one = more.used in omega arith;
     bound = subst (λ (b : ℕ). length t.numbers.items ≤ 2 ^ b + 64 + t.used) (sym more.bits) (let bound = added.bound in let more_bound = more.bound in omega arith);
+    few = subst (λ (b : ℕ). AreFew b (length entries)) (sym more.bits) added.few;
   }
 
   pub added_all : {s : Slots} {place : ℕ} → AreAdded hashing entries s place → length entries ≡ place → AreSlotted hashing entries s

@@ -1,6 +1,6 @@
 -- The numbers of entries.
-use Rattle.std.proofs.Common.{◌≡◌, ◌≢◌, ℕ, ◌+◌, ◌-◌, ◌*◌, ◌/◌, ◌^◌, ◌<◌, ◌≤◌, sym, ap, subst, ◌∙◌, arith}
-use Rattle.std.proofs.lemmas.Nat.{pow-add, shr_below, mul-le, same_from_place}
+use Rattle.std.proofs.Common.{◌%◌, ◌≡◌, ◌≢◌, ℕ, ◌+◌, ◌-◌, ◌*◌, ◌/◌, ◌^◌, ◌<◌, ◌≤◌, sym, ap, subst, ◌∙◌, arith}
+use Rattle.std.proofs.lemmas.Nat.{pow-add, shr_below, mul-le, same_from_place, mod-mul-add}
 use Rattle.ospf_types.specs.Network.{Network, network_word}
 use Rattle.word_hash.specs.Words.{mixed}
 use Rattle.word_hash.specs.declared.hasher.WordHash.{WordHash}
@@ -30,3 +30,9 @@ other_number hashing bits p q i j first second other same =
 pub some_number : (hashing : WordHash) (bits : ℕ) (p : Network) (i : ℕ) → 2 ≤ base_of hashing bits p + i
 unfolding base_of
 some_number hashing bits p i = omega arith
+
+-- the place that a number tells
+pub place_back : (n base i : ℕ) → n < 2 ^ 32 → n ≡ base + i → (n + (2 ^ 64 - base)) % 2 ^ 64 ≡ i
+place_back n base i fits is =
+    let whole : n + (2 ^ 64 - base) ≡ 1 * 2 ^ 64 + i = omega arith in
+    ap (λ (m : ℕ). m % 2 ^ 64) whole ∙ mod-mul-add 1 (2 ^ 64) i (omega arith)

@@ -1,5 +1,5 @@
 -- Slots in which entries are found by probing from a home.
-use Rattle.std.specs.Prelude.{ℕ, ◌≡◌, ◌≢◌, ◌<◌, ◌≤◌, ◌+◌, ◌-◌, ◌*◌, ◌/◌, ◌^◌, List, length, slice_index, Some, bit_and}
+use Rattle.std.specs.Prelude.{ℕ, ◌≡◌, ◌≢◌, ◌<◌, ◌≤◌, ◌+◌, ◌-◌, ◌*◌, ◌/◌, ◌^◌, ◌⊎◌, List, length, slice_index, Some, bit_and}
 use Rattle.std.specs.List.{slice_get}
 use Rattle.ospf_types.specs.Network.{Network, network_word}
 use Rattle.word_hash.specs.declared.hasher.WordHash.{WordHash}
@@ -39,6 +39,10 @@ pub record IsReady (s : Slots) (count : ℕ) : Type 0 where
   pub room : count + 3 ≤ 2 ^ s.bits
   pub long : 2 ^ s.bits ≤ length s.numbers.items
   pub spare : s.used < 2 ^ s.bits
+
+-- the fewest homes, or at most eight for each of so many entries
+abbrev pub AreFew : ℕ → ℕ → Type 0
+AreFew bits count = (bits ≡ 3) ⊎ (2 ^ bits ≤ 8 * count)
 
 -- what was found is found, and at most one slot more is in use
 pub record IsMore (s t : Slots) : Type 0 where

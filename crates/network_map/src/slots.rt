@@ -1,8 +1,8 @@
 //! Slots that tell where a network's entry is.
-ghost use Rattle.std.specs.Prelude.{◌≡◌, ◌≢◌, ℕ, ◌+◌, ◌^◌, ◌<◌, ◌≤◌, false, [], None, IfSome, IfOk, OnOk, length, slice_index};
+ghost use Rattle.std.specs.Prelude.{◌≡◌, ◌≢◌, ℕ, ◌+◌, ◌^◌, ◌<◌, ◌≤◌, false, [], None, IfSome, IfOk, OnOk, OnErr, length, slice_index};
 ghost use Rattle.std.specs.List.{slice_get};
 ghost use Rattle.ospf_types.specs.Network.{network_word};
-ghost use Rattle.network_map.specs.Slots.{base_of, home_of, AreSlotted, HasNetwork, IsFree, IsMore, IsPlaced, IsReady, IsTaken};
+ghost use Rattle.network_map.specs.Slots.{base_of, home_of, AreFew, AreSlotted, HasNetwork, IsFree, IsMore, IsPlaced, IsReady, IsTaken};
 
 use ospf_types::prefix::Prefix;
 use std::alloc::{AllocError, Global};
@@ -57,6 +57,7 @@ impl Slots {
         ensures empty { IfOk result (λ s. (q : ℕ) → slice_index s.numbers.items q ≡ 0) }
         ensures length { IfOk result (λ s. length s.numbers.items ≡ 2 ^ s.bits + 64) }
         ensures unused { IfOk result (λ s. s.used ≡ 0) }
+        ensures few { IfOk result (λ s. AreFew s.bits count) }
     {
         let Some(bits) = bits_for(count) else {
             return Err(AllocError);
@@ -77,6 +78,7 @@ impl Slots {
         entries: &[(Prefix, V)],
     ) -> Result<Slots, AllocError>
         ensures slotted { IfOk result (λ s. AreSlotted hashing entries.now s) }
+        ensures few { IfOk result (λ s. AreFew s.bits (length entries.now)) }
         ensures ready { IfOk result (λ s. IsReady s (length entries.now)) }
     {
         let mut slots = Slots::with_room(alloc, entries.len())?;
@@ -134,6 +136,7 @@ impl Slots {
     ) -> Result<(), AllocError>
         requires { IsReady self.old place }
         ensures placed { OnOk result (IsPlaced self.new.numbers.items (home_of hashing self.new.bits network) (base_of hashing self.new.bits network + place)) }
+        ensures err { OnErr result (self.new.numbers.items ≡ self.old.numbers.items) }
         ensures more { IsMore self.old self.new }
     {
         let number = number(hashing, self.bits, network, place);
@@ -168,6 +171,7 @@ impl Slots {
         requires room { place + 3 ≤ 2 ^ self.old.bits }
         requires placed { IsPlaced self.old.numbers.items (home_of hashing self.old.bits network) (base_of hashing self.old.bits network + place) }
         ensures others { (h n : ℕ) → n ≢ base_of hashing self.old.bits network + place → IsPlaced self.old.numbers.items h n → IsPlaced self.new.numbers.items h n }
+        ensures gone { (slot : ℕ) × (slice_index self.old.numbers.items slot ≡ base_of hashing self.old.bits network + place) × (slice_index self.new.numbers.items slot ≡ 1) }
         ensures length { length self.new.numbers.items ≡ length self.old.numbers.items }
         ensures bits { self.new.bits ≡ self.old.bits }
         ensures used { self.new.used ≡ self.old.used }
@@ -234,7 +238,7 @@ fn homes(bits: u32) -> usize
 
 // How many bits the homes of so many entries need, one home in four being full.
 fn bits_for(count: usize) -> Option<u32>
-    ensures { IfSome result (λ bits. (bits ≤ 31) × (3 ≤ bits) × (count + 3 ≤ 2 ^ bits)) }
+    ensures { IfSome result (λ bits. (bits ≤ 31) × (3 ≤ bits) × (count + 3 ≤ 2 ^ bits) × AreFew bits count) }
 {
     for bits in FEWEST..MOST + 1 {
         if count <= homes(bits) / 4 {
@@ -318,7 +322,8 @@ fn named<V>(entries: &[(Prefix, V)], number: u32, base: usize, network: Prefix) 
     ensures found { IfSome result (λ i. HasNetwork entries.now i network) }
     ensures missing { result ≡ None → (i : ℕ) → HasNetwork entries.now i network → number ≢ base + i }
 {
-    let place = (number as usize).checked_sub(base)?;
+    // A number below the base gives a place past the end.
+    let place = (number as usize).wrapping_sub(base);
     if place < entries.len() && entries[place].0 == network {
         return Some(place);
     }
@@ -360,6 +365,7 @@ fn renumber(numbers: &mut Vec<u32>, home: usize, old: u32, new: u32)
     requires new { new ≢ 0 }
     ensures placed { IsPlaced numbers.new.items home new }
     ensures others { (h n : ℕ) → n ≢ old → IsPlaced numbers.old.items h n → IsPlaced numbers.new.items h n }
+    ensures set { (slot : ℕ) × (slice_index numbers.old.items slot ≡ old) × (slice_index numbers.new.items slot ≡ new) }
     ensures length { length numbers.new.items ≡ length numbers.old.items }
 {
     let slot = slot_of(numbers.as_slice(), home, old);

@@ -14,4 +14,4 @@ pub returns-then-count-homes : goal.returns-then-count-homes
 returns-then-count-homes c =
     let least = eight c.loop-bits.bits (omega arith) in
     let homes = c.homes.ensures.value in
-    (omega arith, omega arith, omega (arith, least, homes, c.if-count-homes.true))
+    (omega arith, omega arith, omega (arith, least, homes, c.if-count-homes.true), c.loop-bits.invariant)

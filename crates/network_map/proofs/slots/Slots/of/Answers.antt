@@ -12,3 +12,6 @@ loop-place-preserved g c =
 
 pub returns-clause-slotted : goal.returns-clause-slotted
 returns-clause-slotted g c = added_all c.loop-place.invariant (omega arith)
+
+pub returns-clause-few : goal.returns-clause-few
+returns-clause-few g c = c.loop-place.invariant.few
