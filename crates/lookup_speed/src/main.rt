@@ -1,19 +1,26 @@
 //! Tries `prefix_index` against a plain list of networks, and with networks whose hashes collide. It prints how many answers were
-//! compared and how many differ.
+//! compared and how many differ. With the name of a set of networks it measures look-ups and updates beside an ordered map.
 #![tactic(auto)]
 
 ghost use Rattle.std.specs.Prelude.{◌≤◌};
 
 mod collisions;
+mod ordered;
 mod plain;
 mod random;
+mod sets;
+mod speed;
+mod table;
 mod trial;
 
 use anyhow::Result;
 use collisions::{agreeing_words, one_place, print_found};
 use ospf_types::prefix::Prefix;
 use prefix_index::PrefixIndex;
+use sets::Set;
+use speed::measure;
 use std::alloc::Global;
+use std::env;
 use std::io::Print;
 use trial::Trial;
 
@@ -23,14 +30,26 @@ const COLLIDING: usize = 20_000;
 const GROUPS: u32 = 4096;
 
 fn main(rt: HostRuntime) -> Result<()> {
+    let words: Vec<String> = env::args(&rt)?.collect(rt.alloc())?;
+    let (name, threads) = match words.as_slice() {
+        [_, name] => (name.as_str(), "1"),
+        [_, name, threads] => (name.as_str(), threads.as_str()),
+        _ => return try_index(&rt),
+    };
+    match (Set::named(name), threads.parse()) {
+        (Some(set), Ok(threads)) if threads > 0 => measure(&rt, set, threads),
+        _ => Ok(println!(rt; "usage: lookup_speed [SET [THREADS]]")?),
+    }
+}
+
+// Compares answers, and prints how many.
+fn try_index<R: AllocGlobal + Print>(rt: &R) -> Result<()> {
     let alloc = rt.alloc();
-    let trial = Trial::run(new_index(alloc), alloc)?;
-    trial.print(&rt)?;
+    Trial::run(new_index(alloc), alloc)?.print(rt)?;
     let networks = one_place(alloc, COLLIDING, GROUPS)?;
-    print_found(&rt, new_index(alloc), "one place", networks.as_slice())?;
+    print_found(rt, new_index(alloc), "one place", networks.as_slice())?;
     let networks = agreeing_words(alloc, COLLIDING)?;
-    print_found(&rt, new_index(alloc), "equal low bits", networks.as_slice())?;
-    Ok(())
+    print_found(rt, new_index(alloc), "equal low bits", networks.as_slice())
 }
 
 // An index with no values.
