@@ -7,6 +7,7 @@ ghost use Rattle.std.specs.Prelude.{◌≤◌};
 mod collisions;
 mod ordered;
 mod plain;
+mod publishing;
 mod random;
 mod sets;
 mod speed;
@@ -17,6 +18,7 @@ use anyhow::Result;
 use collisions::{agreeing_words, one_place, print_found};
 use ospf_types::prefix::Prefix;
 use prefix_index::PrefixIndex;
+use publishing::measure_beside_writer;
 use sets::Set;
 use speed::measure;
 use std::alloc::Global;
@@ -31,14 +33,21 @@ const GROUPS: u32 = 4096;
 
 fn main(rt: HostRuntime) -> Result<()> {
     let words: Vec<String> = env::args(&rt)?.collect(rt.alloc())?;
-    let (name, threads) = match words.as_slice() {
-        [_, name] => (name.as_str(), "1"),
-        [_, name, threads] => (name.as_str(), threads.as_str()),
-        _ => return try_index(&rt),
+    let (name, threads, has_writer) = match words.as_slice() {
+        [_, name] => (name.as_str(), "1", false),
+        [_, name, threads] => (name.as_str(), threads.as_str(), false),
+        [_, name, threads, word] if word.as_str() == "writer" => {
+            (name.as_str(), threads.as_str(), true)
+        }
+        [] | [_] => return try_index(&rt),
+        _ => ("", "", false),
     };
     match (Set::named(name), threads.parse()) {
+        (Some(set), Ok(threads)) if threads > 0 && has_writer => {
+            measure_beside_writer(&rt, set, threads)
+        }
         (Some(set), Ok(threads)) if threads > 0 => measure(&rt, set, threads),
-        _ => Ok(println!(rt; "usage: lookup_speed [SET [THREADS]]")?),
+        _ => Ok(println!(rt; "usage: lookup_speed [SET [THREADS [writer]]]")?),
     }
 }
 

@@ -16,7 +16,7 @@ use std::time::{Clock, Instant};
 use std::{fmt, fs, io};
 
 // How many addresses are looked up in a pass, and how many hot ones there are.
-const LOOKUPS: usize = 262_144;
+pub const LOOKUPS: usize = 262_144;
 
 const HOT: usize = 1_000;
 // How many networks are updated in a pass, if there are twice as many.
@@ -30,7 +30,7 @@ const ENOUGH: u64 = 10;
 pub fn measure<R: Files + AllocGlobal + Clock + Print + Threads + Sync>(
     rt: &R,
     set: Set,
-    threads: usize,
+    threads: u32,
 ) -> Result<()> {
     let alloc = rt.alloc();
     let networks = set.networks(alloc)?;
@@ -42,7 +42,7 @@ pub fn measure<R: Files + AllocGlobal + Clock + Print + Threads + Sync>(
         networks,
         random: random.as_slice(),
         hot: hot.as_slice(),
-        threads,
+        threads: threads as usize,
     };
     let mut ordered = Measured::build(rt, OrderedMap::new(alloc), networks)?;
     let mut index = Measured::build(rt, new_index(alloc), networks)?;
@@ -163,7 +163,7 @@ impl<T: Table + Drop + Sync> Measured<T> {
 
 /// A number for each of so many, with one place behind the point.
 #[derive(Clone, Copy)]
-struct Each(u64, usize);
+pub struct Each(pub u64, pub usize);
 
 impl Display for Each {
     fn fmt<W: fmt::Write>(&self, f: &mut fmt::Formatter<W>) -> fmt::Result {
@@ -183,7 +183,7 @@ fn some_of(networks: &[Prefix]) -> &[Prefix] {
         .unwrap_or(networks)
 }
 
-fn insert_all<T: Table>(table: &mut T, networks: &[Prefix]) -> Result<(), Memory> {
+pub fn insert_all<T: Table>(table: &mut T, networks: &[Prefix]) -> Result<(), Memory> {
     for network in networks {
         table.insert(*network, Value::of(*network))?;
     }
@@ -226,14 +226,14 @@ fn found_from<T: Table>(table: &T, addresses: &[u32], thread: usize, sum: u64) -
 }
 
 // Looks up the addresses, and mixes the numbers that are found into the sum.
-fn found<T: Table>(table: &T, addresses: &[u32], sum: u64) -> u64 {
+pub fn found<T: Table>(table: &T, addresses: &[u32], sum: u64) -> u64 {
     let mut sum = sum;
     for address in addresses {
         let number = match table.longest(*address) {
             Some((_, value)) => value.number,
             None => u64::MAX,
         };
-        sum = sum.rotate_left(1) ^ number;
+        sum = sum.rotate_left(1).wrapping_add(number);
     }
     sum
 }
@@ -252,7 +252,7 @@ fn differing<A: Table, B: Table>(one: &A, other: &B, addresses: &[u32]) -> u64 {
     differ
 }
 
-fn nanoseconds_since(rt: &impl Clock, start: Instant) -> io::Result<u64> {
+pub fn nanoseconds_since(rt: &impl Clock, start: Instant) -> io::Result<u64> {
     Ok(u64::try_from(start.elapsed(rt)?.as_nanos()).unwrap_or(u64::MAX))
 }
 
