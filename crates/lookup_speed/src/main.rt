@@ -2,11 +2,7 @@
 //! compared and how many differ. With the name of a set of networks it measures look-ups and updates beside an ordered map.
 #![tactic(auto)]
 
-ghost use Rattle.std.specs.Prelude.{◌≤◌};
-
-mod collisions;
 mod ordered;
-mod plain;
 mod publishing;
 mod random;
 mod sets;
@@ -15,8 +11,6 @@ mod table;
 mod trial;
 
 use anyhow::Result;
-use collisions::{agreeing_words, one_place, print_found};
-use ospf_types::prefix::Prefix;
 use prefix_index::PrefixIndex;
 use publishing::measure_beside_writer;
 use sets::Set;
@@ -24,12 +18,13 @@ use speed::measure;
 use std::alloc::Global;
 use std::env;
 use std::io::Print;
-use trial::Trial;
+use trial::{Trial, find_all};
 
-// How many networks of each kind collide.
-const COLLIDING: usize = 20_000;
-// So many groups has a hash map of 20,000 entries.
-const GROUPS: u32 = 4096;
+// Networks whose hashes collide where the hash has no keys. A hash map of 20,000 entries has 4,096 groups.
+const COLLIDING: [(&str, Set); 2] = [
+    ("one place", Set::OnePlace(20_000, 4_096)),
+    ("equal low bits", Set::EqualBits(20_000)),
+];
 
 fn main(rt: HostRuntime) -> Result<()> {
     let words: Vec<String> = env::args(&rt)?.collect(rt.alloc())?;
@@ -55,31 +50,13 @@ fn main(rt: HostRuntime) -> Result<()> {
 fn try_index<R: AllocGlobal + Print>(rt: &R) -> Result<()> {
     let alloc = rt.alloc();
     Trial::run(new_index(alloc), alloc)?.print(rt)?;
-    let networks = one_place(alloc, COLLIDING, GROUPS)?;
-    print_found(rt, new_index(alloc), "one place", networks.as_slice())?;
-    let networks = agreeing_words(alloc, COLLIDING)?;
-    print_found(rt, new_index(alloc), "equal low bits", networks.as_slice())
+    for (name, set) in COLLIDING {
+        find_all(rt, new_index(alloc), name, set)?;
+    }
+    Ok(())
 }
 
 // An index with no values.
 fn new_index<V: Drop>(alloc: Global) -> PrefixIndex<V> {
     PrefixIndex::new(alloc)
-}
-
-// The network of that length around the address.
-fn network_around(address: u32, length: u8) -> Prefix
-    requires { length ≤ 32 }
-{
-    match Prefix::new(address, length) {
-        Some(network) => network,
-        None => unreachable!(),
-    }
-}
-
-// The longest network that contains the address, with its value.
-fn longest(index: &PrefixIndex<u64>, address: u32) -> Option<(Prefix, u64)> {
-    match index.longest(address) {
-        Some((network, value)) => Some((network, *value)),
-        None => None,
-    }
 }

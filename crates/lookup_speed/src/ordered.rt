@@ -1,7 +1,7 @@
 //! An ordered map from networks to values, whose look-ups walk down the networks. It is what the index is measured beside.
 ghost use Rattle.std.specs.Prelude.{◌<◌, ◌≤◌};
 
-use crate::network_around;
+use crate::sets::network_around;
 use crate::table::{Table, Value};
 use ospf_types::memory::Memory;
 use ospf_types::prefix::Prefix;

@@ -1,7 +1,6 @@
-//! The sets of networks that are measured.
+//! Sets of networks, and addresses in them.
+ghost use Rattle.std.specs.Prelude.{◌≤◌};
 
-use crate::collisions::one_place;
-use crate::network_around;
 use crate::random::Random;
 use ospf_types::prefix::Prefix;
 use std::alloc::{AllocError, Global};
@@ -19,8 +18,10 @@ pub enum Set {
     Dense,
     /// Addresses with a network of each length.
     Nested,
-    /// Host routes that a hash without keys gives one place.
-    Colliding,
+    /// So many host routes that a hash without keys gives one place in a hash map, which has so many groups of entries then.
+    OnePlace(u32, u32),
+    /// So many host routes whose words have the same 20 lowest bits.
+    EqualBits(u32),
 }
 
 const SETS: [(&str, Set); 7] = [
@@ -30,11 +31,15 @@ const SETS: [(&str, Set); 7] = [
     ("hosts", Set::Hosts),
     ("dense", Set::Dense),
     ("nested", Set::Nested),
-    ("colliding", Set::Colliding),
+    ("colliding", Set::OnePlace(100_000, 16_384)),
 ];
 
-// So many groups has a hash map of 100,000 entries.
-const GROUPS: u32 = 16384;
+// With these numbers the library's hash without keys begins and multiplies.
+const START: u64 = 0x243f_6a88_85a3_08d3;
+
+const MULTIPLIER: u64 = 0x9e37_79b9_7f4a_7c05;
+// The low half of 64 bits.
+const LOW: u64 = 0xffff_ffff;
 
 impl Set {
     pub fn named(word: &str) -> Option<Set> {
@@ -55,7 +60,8 @@ impl Set {
             Set::Hosts => hosts(alloc, &mut random)?,
             Set::Dense => dense(alloc)?,
             Set::Nested => nested(alloc, &mut random)?,
-            Set::Colliding => one_place(alloc, 100_000, GROUPS)?,
+            Set::OnePlace(count, groups) => one_place(alloc, count, groups)?,
+            Set::EqualBits(count) => equal_bits(alloc, count)?,
         };
         networks.sort_unstable();
         networks.dedup();
@@ -116,6 +122,54 @@ fn nested(alloc: Global, random: &mut Random) -> Result<Vec<Prefix>, AllocError>
         }
     }
     Ok(networks)
+}
+
+fn one_place(alloc: Global, count: u32, groups: u32) -> Result<Vec<Prefix>, AllocError> {
+    let mut networks = Vec::new(alloc);
+    for address in 0..u32::MAX {
+        if networks.len() >= count as usize {
+            break;
+        }
+        let network = network_around(address, 32);
+        if hash_without_keys(network).checked_rem(groups) == Some(0) {
+            networks.push(network)?;
+        }
+    }
+    Ok(networks)
+}
+
+// The part of its hash by which a hash map without keys finds the network.
+fn hash_without_keys(network: Prefix) -> u32 {
+    let folded = fold_product(START ^ network_word(network), MULTIPLIER);
+    ((folded >> 32) ^ (folded & LOW)) as u32
+}
+
+fn fold_product(a: u64, b: u64) -> u64 {
+    let product = a as u128 * b as u128;
+    (product >> 64) as u64 ^ (product & u64::MAX as u128) as u64
+}
+
+fn equal_bits(alloc: Global, count: u32) -> Result<Vec<Prefix>, AllocError> {
+    let mut networks = Vec::new(alloc);
+    for place in 0..count {
+        networks.push(network_around(place.wrapping_mul(4096), 32))?;
+    }
+    Ok(networks)
+}
+
+/// The network of that length around the address.
+pub fn network_around(address: u32, length: u8) -> Prefix
+    requires { length ≤ 32 }
+{
+    match Prefix::new(address, length) {
+        Some(network) => network,
+        None => unreachable!(),
+    }
+}
+
+/// A number of its own for each network, by which it is hashed.
+pub fn network_word(network: Prefix) -> u64 {
+    u64::from(network.address()) * 256 + u64::from(network.length())
 }
 
 fn shuffle(networks: &mut Vec<Prefix>, random: &mut Random) {

@@ -15,9 +15,9 @@ use std::thread::{Threads, map_indices};
 use std::time::{Clock, Instant};
 use std::{fmt, fs, io};
 
-// How many addresses are looked up in a pass, and how many hot ones there are.
+/// How many addresses are looked up in a pass.
 pub const LOOKUPS: usize = 262_144;
-
+// How many of them differ, if they are hot.
 const HOT: usize = 1_000;
 // How many networks are updated in a pass, if there are twice as many.
 const UPDATES: usize = 2_000;
@@ -46,23 +46,31 @@ pub fn measure<R: Files + AllocGlobal + Clock + Print + Threads + Sync>(
     };
     let mut ordered = Measured::build(rt, OrderedMap::new(alloc), networks)?;
     let mut index = Measured::build(rt, new_index(alloc), networks)?;
-    let start = Instant::now(rt)?;
-    for _ in 0..PASSES {
-        ordered.look_up(rt, &load)?;
-        index.look_up(rt, &load)?;
-        if start.elapsed(rt)?.as_secs() >= ENOUGH {
-            break;
-        }
-    }
+    run_passes(rt, &mut ordered, &mut index, &load)?;
     let differ = differing(&ordered.table, &index.table, load.random);
-    for _ in 0..PASSES {
-        ordered.update(rt, networks)?;
-        index.update(rt, networks)?;
-    }
     ordered.print(rt, "ordered", &load)?;
     index.print(rt, "index", &load)?;
     let is_same = ordered.sum == index.sum;
     println!(rt; "{differ} answers differ, the sums agree: {is_same}")?;
+    Ok(())
+}
+
+// The passes of the two tables take turns, so that what else the machine does slows both.
+fn run_passes<
+    R: AllocGlobal + Clock + Threads + Sync,
+    A: Table + Drop + Sync,
+    B: Table + Drop + Sync,
+>(rt: &R, one: &mut Measured<A>, other: &mut Measured<B>, load: &Load<'_>) -> Result<()> {
+    let start = Instant::now(rt)?;
+    for _ in 0..PASSES {
+        one.look_up(rt, load)?;
+        other.look_up(rt, load)?;
+        one.update(rt, load.networks)?;
+        other.update(rt, load.networks)?;
+        if start.elapsed(rt)?.as_secs() >= ENOUGH {
+            break;
+        }
+    }
     Ok(())
 }
 

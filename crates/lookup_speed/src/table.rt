@@ -1,5 +1,6 @@
 //! What the ordered map and the index have in common.
 
+use crate::sets::network_word;
 use ospf_types::memory::Memory;
 use ospf_types::prefix::Prefix;
 use prefix_index::PrefixIndex;
@@ -12,10 +13,10 @@ pub struct Value {
 }
 
 impl Value {
-    /// A value that has the network's number.
+    /// A value that has the network's word.
     pub fn of(network: Prefix) -> Value {
         Value {
-            number: u64::from(network.address()) * 256 + u64::from(network.length()),
+            number: network_word(network),
             _rest: [0; 6],
         }
     }

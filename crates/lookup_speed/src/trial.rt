@@ -1,8 +1,7 @@
-//! Random updates and look-ups of an index, and of a plain list.
+//! Compares an index with a plain list of networks, which is searched from end to end, and looks for networks whose hashes collide.
 
-use crate::plain::Plain;
 use crate::random::Random;
-use crate::{longest, network_around};
+use crate::sets::{Set, network_around, network_word};
 use ospf_types::memory::Memory;
 use ospf_types::prefix::Prefix;
 use prefix_index::PrefixIndex;
@@ -29,11 +28,15 @@ const CENTRES: [u32; 8] = [
     u32::MAX,
 ];
 
+// A network with its value.
+type Entry = (Prefix, u64);
+
 /// An index and a list with the same networks and values, and what was done with them.
 #[derive(Drop)]
 pub struct Trial {
     index: PrefixIndex<u64>,
-    plain: Plain,
+    // In no order, each network once.
+    plain: Vec<Entry>,
     random: Random,
     insertions: u64,
     removals: u64,
@@ -49,7 +52,7 @@ impl Trial {
     pub fn run(index: PrefixIndex<u64>, alloc: Global) -> Result<Trial, Memory> {
         let mut trial = Trial {
             index,
-            plain: Plain::new(alloc),
+            plain: Vec::new(alloc),
             random: Random::new(1),
             insertions: 0,
             removals: 0,
@@ -96,11 +99,12 @@ impl Trial {
     fn insert(&mut self, most: usize) -> Result<(), Memory> {
         let mut network = self.network();
         if self.plain.len() >= most {
-            network = self.plain.pick(&mut self.random).unwrap_or(network);
+            network = self.some_network().unwrap_or(network);
         }
         let value = self.random.number();
         self.index.insert(network, value)?;
-        self.plain.insert(network, value)?;
+        self.plain.retain(|entry| entry.0 != network);
+        self.plain.push((network, value))?;
         self.insertions = self.insertions.saturating_add(1);
         Ok(())
     }
@@ -109,23 +113,23 @@ impl Trial {
     fn remove(&mut self) {
         let mut network = self.network();
         if self.random.below(4) > 0 {
-            network = self.plain.pick(&mut self.random).unwrap_or(network);
+            network = self.some_network().unwrap_or(network);
         }
         self.index.remove(network);
-        self.plain.remove(network);
+        self.plain.retain(|entry| entry.0 != network);
         self.removals = self.removals.saturating_add(1);
     }
 
     fn compare_match(&mut self) {
         let address = self.address();
-        let is_same = longest(&self.index, address) == self.plain.longest(address);
+        let is_same = longest(&self.index, address) == self.longest(address);
         self.matches = self.matches.saturating_add(1);
         self.note(is_same);
     }
 
     fn compare_value(&mut self) {
         let network = self.network();
-        let value = self.plain.get(network);
+        let value = self.value(network);
         let is_same = self.index.get(network).copied() == value
             && self.index.contains(network) == value.is_some();
         self.values = self.values.saturating_add(1);
@@ -133,7 +137,8 @@ impl Trial {
     }
 
     fn compare_all(&mut self) {
-        let mut left = self.plain.sorted().iter();
+        self.plain.sort_unstable();
+        let mut left = self.plain.as_slice().iter();
         let mut is_same = true;
         for (network, value) in self.index.iter() {
             is_same &= left.next() == Some(&(network, *value));
@@ -145,6 +150,30 @@ impl Trial {
 
     fn note(&mut self, is_same: bool) {
         self.differ = self.differ.saturating_add(u64::from(!is_same));
+    }
+
+    // The list's longest network that contains the address, with its value.
+    fn longest(&self, address: u32) -> Option<Entry> {
+        self.plain
+            .as_slice()
+            .iter()
+            .filter(|entry| entry.0.contains(address))
+            .max_by_key(|entry| entry.0.length())
+            .copied()
+    }
+
+    // The network's value in the list.
+    fn value(&self, network: Prefix) -> Option<u64> {
+        let mut entries = self.plain.as_slice().iter();
+        entries
+            .find(|entry| entry.0 == network)
+            .map(|entry| entry.1)
+    }
+
+    // A network that has a value.
+    fn some_network(&mut self) -> Option<Prefix> {
+        let entry = self.random.pick(self.plain.as_slice());
+        entry.map(|entry| entry.0)
     }
 
     fn network(&mut self) -> Prefix {
@@ -160,5 +189,48 @@ impl Trial {
             return centre ^ (1 << place);
         }
         centre
+    }
+}
+
+/// Puts the networks of the set into an index that has no values, takes every second one out, and prints how many are found by
+/// their addresses, before and after.
+pub fn find_all<R: AllocGlobal + Print>(
+    rt: &R,
+    mut index: PrefixIndex<u64>,
+    name: &str,
+    set: Set,
+) -> Result<(), anyhow::Error> {
+    let networks = set.networks(rt.alloc())?;
+    let networks = networks.as_slice();
+    for network in networks {
+        index.insert(*network, network_word(*network))?;
+    }
+    let (asked, before) = (networks.len(), found(&index, networks));
+    for network in networks.iter().step_by(2) {
+        index.remove(*network);
+    }
+    let after = found(&index, networks);
+    println!(rt;
+        "{name}: {asked} networks, {before} found, {after} found without every second one"
+    )?;
+    Ok(())
+}
+
+// How many of the networks are the longest match of their addresses, with their values.
+fn found(index: &PrefixIndex<u64>, networks: &[Prefix]) -> u64 {
+    let mut found: u64 = 0;
+    for network in networks {
+        let wanted = Some((*network, network_word(*network)));
+        let is_found = longest(index, network.address()) == wanted;
+        found = found.saturating_add(u64::from(is_found));
+    }
+    found
+}
+
+// The longest network that contains the address, with its value.
+fn longest(index: &PrefixIndex<u64>, address: u32) -> Option<Entry> {
+    match index.longest(address) {
+        Some((network, value)) => Some((network, *value)),
+        None => None,
     }
 }
