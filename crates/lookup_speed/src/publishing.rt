@@ -23,7 +23,7 @@ const BURST: usize = 32;
 
 const PASSES: u32 = 10;
 // The writer ends with the readers, and at the latest after so many publications.
-const PUBLICATIONS: u64 = 100_000_000;
+const PUBLICATIONS: u64 = 1_000_000;
 
 /// A network gets this value.
 #[derive(Clone, Copy)]
@@ -171,9 +171,9 @@ fn publish<R: Clock + Wait, T: Table + Drop>(
 ) -> Result<Each> {
     let mut writer = writer;
     let mut random = Random::new(4);
-    let mut made = 0;
+    let mut made: usize = 0;
     let start = Instant::now(rt)?;
-    for count in 0..PUBLICATIONS {
+    for _ in 0..PUBLICATIONS {
         let Some(network) = random.pick(networks) else {
             break;
         };
@@ -185,7 +185,7 @@ fn publish<R: Clock + Wait, T: Table + Drop>(
             .append(Change { network, value })
             .map_err(|_| AllocError)?;
         writer.publish()?;
-        made = count as usize;
+        made = made.saturating_add(1);
     }
     Ok(Each(nanoseconds_since(rt, start)?, made))
 }
