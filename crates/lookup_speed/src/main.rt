@@ -15,9 +15,9 @@ use prefix_index::PrefixIndex;
 use publishing::measure_beside_writer;
 use sets::Set;
 use speed::measure;
-use std::alloc::Global;
-use std::env;
 use std::io::Print;
+use std::random::RandomSource;
+use std::{env, io};
 use trial::{Trial, find_all};
 
 // Networks whose hashes collide where the hash has no keys. A hash map of 20,000 entries has 4,096 groups.
@@ -47,16 +47,15 @@ fn main(rt: HostRuntime) -> Result<()> {
 }
 
 // Compares answers, and prints how many.
-fn try_index<R: AllocGlobal + Print>(rt: &R) -> Result<()> {
-    let alloc = rt.alloc();
-    Trial::run(new_index(alloc), alloc)?.print(rt)?;
+fn try_index<R: AllocGlobal + RandomSource + Print>(rt: &R) -> Result<()> {
+    Trial::run(new_index(rt)?, rt.alloc())?.print(rt)?;
     for (name, set) in COLLIDING {
-        find_all(rt, new_index(alloc), name, set)?;
+        find_all(rt, new_index(rt)?, name, set)?;
     }
     Ok(())
 }
 
 // An index with no values.
-fn new_index<V: Drop>(alloc: Global) -> PrefixIndex<V> {
-    PrefixIndex::new(alloc)
+fn new_index<R: AllocGlobal + RandomSource, V: Drop>(rt: &R) -> io::Result<PrefixIndex<V>> {
+    Ok(PrefixIndex::new(rt.alloc()))
 }

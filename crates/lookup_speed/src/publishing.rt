@@ -13,6 +13,7 @@ use ospf_types::prefix::Prefix;
 use std::alloc::AllocError;
 use std::io;
 use std::io::Print;
+use std::random::RandomSource;
 use std::sync::Wait;
 use std::sync::atomic::{AtomicU64, Ordering};
 use std::thread::{Threads, join, map_vec};
@@ -53,7 +54,7 @@ impl<T: Table + Drop> Absorb<Change> for Shown<T> {
 }
 
 /// Measures so many readers beside a writer, and prints nanoseconds of a look-up by each, and of a publication.
-pub fn measure_beside_writer<R: AllocGlobal + Clock + Print + Threads + Wait + Sync>(
+pub fn measure_beside_writer<R: AllocGlobal + RandomSource + Clock + Print + Threads + Wait + Sync>(
     rt: &R,
     set: Set,
     threads: u32,
@@ -70,7 +71,7 @@ pub fn measure_beside_writer<R: AllocGlobal + Clock + Print + Threads + Wait + S
     };
     let tables = (OrderedMap::new(alloc), OrderedMap::new(alloc));
     run(rt, "ordered", tables, &load)?;
-    run(rt, "index", (new_index(alloc), new_index(alloc)), &load)
+    run(rt, "index", (new_index(rt)?, new_index(rt)?), &load)
 }
 
 /// What is looked up and changed.

@@ -10,6 +10,7 @@ use ospf_types::prefix::Prefix;
 use std::alloc::{AllocError, Global};
 use std::fmt::Display;
 use std::io::Print;
+use std::random::RandomSource;
 use std::rt::Files;
 use std::thread::{Threads, map_indices};
 use std::time::{Clock, Instant};
@@ -27,7 +28,7 @@ const PASSES: u32 = 20;
 const ENOUGH: u64 = 10;
 
 /// Measures look-ups, by so many threads at a time, and updates, and prints a line for each of the two tables.
-pub fn measure<R: Files + AllocGlobal + Clock + Print + Threads + Sync>(
+pub fn measure<R: Files + AllocGlobal + RandomSource + Clock + Print + Threads + Sync>(
     rt: &R,
     set: Set,
     threads: u32,
@@ -45,7 +46,7 @@ pub fn measure<R: Files + AllocGlobal + Clock + Print + Threads + Sync>(
         threads: threads as usize,
     };
     let mut ordered = Measured::build(rt, OrderedMap::new(alloc), networks)?;
-    let mut index = Measured::build(rt, new_index(alloc), networks)?;
+    let mut index = Measured::build(rt, new_index(rt)?, networks)?;
     run_passes(rt, &mut ordered, &mut index, &load)?;
     let differ = differing(&ordered.table, &index.table, load.random);
     ordered.print(rt, "ordered", &load)?;
