@@ -34,9 +34,9 @@ const SETS: [(&str, Set); 7] = [
     ("colliding", Set::OnePlace(100_000, 16_384)),
 ];
 
-// With these numbers the library's hash without keys begins and multiplies.
+// With this number the library's hash without keys begins.
 const START: u64 = 0x243f_6a88_85a3_08d3;
-
+// By this number it multiplies a word of eight bytes.
 const MULTIPLIER: u64 = 0x9e37_79b9_7f4a_7c05;
 // The low half of 64 bits.
 const LOW: u64 = 0xffff_ffff;

@@ -1,4 +1,4 @@
-//! Compares an index with a plain list of networks, which is searched from end to end, and looks for networks whose hashes collide.
+//! Compares an index with a plain list of networks, which is searched from end to end. Looks for networks whose hashes collide.
 
 use crate::random::Random;
 use crate::sets::{Set, network_around, network_word};
@@ -11,7 +11,7 @@ use std::io::Print;
 
 // A run begins with no networks, and has at most so many.
 const RUNS: [usize; 5] = [300, 3, 100, 10, 300];
-
+// It has so many steps. Each is an update, a longest match and a value.
 const STEPS: u32 = 10_000;
 // All networks are compared once in so many steps.
 const WALK: u32 = 2_500;
@@ -127,8 +127,12 @@ impl Trial {
         self.note(is_same);
     }
 
+    // Compares the value of a network that has one, or of one that may have none.
     fn compare_value(&mut self) {
-        let network = self.network();
+        let mut network = self.network();
+        if self.random.below(2) > 0 {
+            network = self.some_network().unwrap_or(network);
+        }
         let value = self.value(network);
         let is_same = self.index.get(network).copied() == value
             && self.index.contains(network) == value.is_some();
