@@ -2,7 +2,7 @@
 use Rattle.std.proofs.Common.{◌≡◌, ℕ, ◌+◌, ◌^◌, ◌<◌, ◌≤◌, List, length, sym, subst, arith}
 use Rattle.ospf_types.specs.Network.{Network}
 use Rattle.word_hash.specs.declared.hasher.WordHash.{WordHash}
-use Rattle.network_map.specs.Slots.{base_of, home_of, AreFew, AreSlotted, HasNetwork, IsMore, IsPlaced, IsReady}
+use Rattle.network_map.specs.Slots.{base_of, home_of, AreFew, AreSlotted, HasNetwork, IsMore, IsPlaced}
 use Rattle.network_map.specs.declared.slots.Slots.{Slots}
 use Rattle.network_map.proofs.Lookups.{has_within}
 use Rattle.network_map.proofs.Numbers.{some_number}
@@ -24,25 +24,6 @@ placed_more hashing {s} {t} more p i placed =
     subst (λ (b : ℕ). IsPlaced t.numbers.items (home_of hashing b p) (base_of hashing b p + i)) (sym more.bits) (more.kept (home_of hashing s.bits p) (base_of hashing s.bits p + i) (some_number hashing s.bits p i) placed)
 
 module _ {V : Type 0} {hashing : WordHash} {entries : List (Network × V)} where
-  pub added_none : (s : Slots) → IsReady s (length entries) → length s.numbers.items ≡ 2 ^ s.bits + 64 → s.used ≡ 0 → AreFew s.bits (length entries) → AreAdded hashing entries s 0
-  added_none s ready long unused few = record {
-    small = ready.small;
-    room = ready.room;
-    long = ready.long;
-    placed = λ i p below. absurd (omega arith);
-    used = omega (arith, unused);
-    bound = omega (arith, long);
-    few = few;
-  }
-
-  pub added_ready : {s : Slots} {place : ℕ} → AreAdded hashing entries s place → place < length entries → IsReady s place
-  added_ready added below = record {
-    small = added.small;
-    room = let room = added.room in omega arith;
-    long = added.long;
-    spare = let room = added.room in let used = added.used in omega arith;
-  }
-
   pub added_more : {s t : Slots} {place : ℕ} → AreAdded hashing entries s place → IsMore s t → (p : Network) → HasNetwork entries place p → ((q : Network) → HasNetwork entries place q → q ≡ p)
       → IsPlaced t.numbers.items (home_of hashing t.bits p) (base_of hashing t.bits p + place) → AreAdded hashing entries t (place + 1)
   added_more {s} {t} {place} added more p has only here = record {
@@ -65,14 +46,6 @@ module _ {V : Type 0} {hashing : WordHash} {entries : List (Network × V)} where
     placed = λ i p has. added.placed i p (subst (λ (n : ℕ). i < n) all (has_within entries i p has)) has;
     used = let room = added.room in let used = added.used in omega arith;
     bound = added.bound;
-  }
-
-  pub all_ready : {s : Slots} {place : ℕ} → AreAdded hashing entries s place → length entries ≡ place → IsReady s (length entries)
-  all_ready added all = record {
-    small = added.small;
-    room = added.room;
-    long = added.long;
-    spare = let room = added.room in let used = added.used in omega arith;
   }
 
   -- one slot more harms no entry

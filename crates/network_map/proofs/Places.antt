@@ -1,5 +1,5 @@
 -- Slots that have a number.
-use Rattle.std.proofs.Common.{◌≡◌, ◌≢◌, ℕ, ◌+◌, ◌<◌, ◌≤◌, ◌⊎◌, inl, inr, true, false, ◌==◌, nat_lt, List, length, refl, sym, subst, ◌∙◌, true≢false, arith}
+use Rattle.std.proofs.Common.{◌≡◌, ◌≢◌, ℕ, ◌<◌, ◌≤◌, ◌⊎◌, inl, inr, true, false, ◌==◌, nat_lt, List, length, refl, sym, subst, ◌∙◌, true≢false, arith}
 use Rattle.std.specs.Prelude.{slice_index}
 use Rattle.std.proofs.lemmas.Bool.Decides.{Decides-eqb, nat_tests}
 use Rattle.std.proofs.Math.ListN.{get_or-eq_default}
@@ -30,19 +30,6 @@ pub inside : (xs : List ℕ) (p : ℕ) → slice_index xs p ≢ 0 → p < length
 inside xs p some = elim (below_or_not p (length xs)) as (λ _. p < length xs) [ inl below ↦ below | inr past ↦ absurd (some (past_end xs p past)) ]
 
 module _ {xs : List ℕ} {h n : ℕ} where
-  -- a slot with another number is passed
-  pub placed_past : IsPlaced xs h n → slice_index xs h ≢ n → IsPlaced xs (h + 1) n
-  placed_past placed other =
-      let at = placed.after in
-      record {
-        slot = placed.slot;
-        after = by_place h placed.slot
-            (λ same. absurd (other (subst (λ (p : ℕ). slice_index xs p ≡ n) (sym same) placed.has)))
-            (λ apart. omega (arith, apart, at));
-        has = placed.has;
-        filled = λ q from below. placed.filled q (omega (arith, from)) below;
-      }
-
   -- the search ends at no empty slot
   pub placed_here : IsPlaced xs h n → n ≢ 0 → slice_index xs h ≢ 0
   placed_here placed some none = by_place h placed.slot

@@ -14,6 +14,8 @@ use std::marker::Model;
 use word_hash::WordHash;
 
 /// Values by network. A look-up of a network that has a value mostly reads one slot and the entry.
+/// Beside the entries, its slots take some 8 to 32 bytes a network while it grows. Removals give memory
+/// back in large steps.
 #[derive(Drop)]
 pub struct NetworkMap<V> {
     alloc: Global,

@@ -26,12 +26,13 @@ const MOST: u32 = 31;
 const TAIL: usize = 64;
 
 /// A number for each slot: 0, 1, or a tag of the network's hash above the entry's place + 2. An entry's
-/// slot is the first one from its network's home on that was free when it came.
+/// slot is the first one from its network's home on that was free when it came. A look-up compares the
+/// network, so a number that no entry has does no harm.
 #[derive(Drop)]
 pub(crate) struct Slots {
     // None until the first entry comes.
     pub(crate) numbers: Vec<u32>,
-    // There are 2 ^ bits homes, and a tag has the bits of a number above these.
+    // There are 2 ^ bits homes. The bits of a number above these are the tag.
     pub(crate) bits: u32,
     // How many slots are not empty.
     pub(crate) used: usize,
@@ -88,7 +89,7 @@ impl Slots {
         Ok(slots)
     }
 
-    // Whether the next entry needs more slots, at that many entries.
+    // Whether the next entry needs more slots: half of the homes are used, or its place has too many bits.
     pub(crate) fn is_full(&self, count: usize) -> bool
         requires { self.now.bits ≤ 31 }
         ensures { result ≡ false → IsReady self.now count }
@@ -97,7 +98,7 @@ impl Slots {
         self.numbers.len() < homes || self.used >= homes / 2 || count >= homes.saturating_sub(2)
     }
 
-    // Whether a sixteenth of the homes would do.
+    // Whether so many entries have more than sixteen homes each.
     pub(crate) fn is_wide(&self, count: usize) -> bool
         requires { self.now.bits ≤ 31 }
     {
