@@ -42,7 +42,7 @@ pub record IsReady (s : Slots) (count : ℕ) : Type 0 where
 
 -- the fewest homes, or at most eight for each of so many entries
 abbrev pub AreFew : ℕ → ℕ → Type 0
-AreFew bits count = (bits ≡ 3) ⊎ (2 ^ bits ≤ 8 * count)
+AreFew bits count = (bits ≡ 3) ⊎ (2 ^ bits ≤ 16 * count)
 
 -- what was found is found, and at most one slot more is in use
 pub record IsMore (s t : Slots) : Type 0 where
