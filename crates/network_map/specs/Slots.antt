@@ -40,7 +40,7 @@ pub record IsReady (s : Slots) (count : ℕ) : Type 0 where
   pub long : 2 ^ s.bits ≤ length s.numbers.items
   pub spare : s.used < 2 ^ s.bits
 
--- the fewest homes, or at most eight for each of so many entries
+-- the fewest homes, or at most sixteen for each of so many entries
 abbrev pub AreFew : ℕ → ℕ → Type 0
 AreFew bits count = (bits ≡ 3) ⊎ (2 ^ bits ≤ 16 * count)
 
