@@ -75,12 +75,21 @@ fn printed(alloc: Global, answer: Result<Reply, Refusal>, networks: usize) -> Re
     Ok(text)
 }
 
+// How many networks the core's table has.
+fn networks_of(core: &Core) -> usize {
+    let mut count: usize = 0;
+    for _ in core.table().items() {
+        count = count.saturating_add(1);
+    }
+    count
+}
+
 fn answers(rt: &HostRuntime, text: &str) -> Result<String, Fail> {
     let (mut core, events) = opened(rt, text)?;
     let mut all = String::new(rt.alloc());
     for event in events {
         let answer = core.apply(event);
-        let line = printed(rt.alloc(), answer, core.table().items().count())?;
+        let line = printed(rt.alloc(), answer, networks_of(&core))?;
         all.push_str(line.as_str())?;
     }
     Ok(all)

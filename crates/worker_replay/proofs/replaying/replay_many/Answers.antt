@@ -1,11 +1,23 @@
-use Rattle.std.proofs.Common.{Err, ap}
+use Rattle.std.proofs.Common.{◌≡◌, Err, sym, ap, ◌∙◌}
+use Rattle.recording.specs.declared.fault.LineFault.{LineFault}
+use Rattle.replay.specs.declared.fault.ReplayFault.TheVariants as replay_fault
+use Rattle.replay.specs.declared.page.Stop.{Stop}
 use Rattle.replay.specs.declared.page.Stop.TheVariants as stop
+use Rattle.replay.specs.Stops.{fault_of}
 use Rattle.replay.proofs.Ends.{stop_of_write, stop_of_memory}
 use Rattle.worker_replay.proofs.Whole.{replays, replays_part, run_whole, or_else}
 use Rattle.worker_replay.proofs.replaying.replay_many.Goals as goal
 
 pub returns-in-Ok-write_output-clause-ok : goal.returns-in-Ok-write_output-clause-ok
 returns-in-Ok-write_output-clause-ok g c = replays _ _ _ _ _ _ _ c.version-version.ensures.value _ _ c.in-Ok.ensures.recording c.in_ok-printed.ensures.run c.in-Ok-write_output.ensures.ok
+
+-- what ends the writing is no fault of a line
+no_line : (s : Stop) (f : LineFault) → fault_of s ≡ replay_fault.Line f → ⊥
+no_line stop.Write f is = cc
+no_line stop.Memory f is = cc
+
+pub returns-clause-line : goal.returns-clause-line
+returns-clause-line g c f h = absurd (no_line c.in-Err-write_output.stop f (sym c.fault_of.ensures ∙ cc h))
 
 pub returns-clause-write : goal.returns-clause-write
 returns-clause-write g c h =
