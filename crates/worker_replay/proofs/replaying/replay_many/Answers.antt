@@ -1,5 +1,6 @@
-use Rattle.std.proofs.Common.{◌≡◌, Err, sym, ap, ◌∙◌}
+use Rattle.std.proofs.Common.{◌≡◌, Err, ap}
 use Rattle.recording.specs.declared.fault.LineFault.{LineFault}
+use Rattle.replay.specs.declared.fault.ReplayFault.{ReplayFault}
 use Rattle.replay.specs.declared.fault.ReplayFault.TheVariants as replay_fault
 use Rattle.replay.specs.declared.page.Stop.{Stop}
 use Rattle.replay.specs.declared.page.Stop.TheVariants as stop
@@ -12,12 +13,12 @@ pub returns-in-Ok-write_output-clause-ok : goal.returns-in-Ok-write_output-claus
 returns-in-Ok-write_output-clause-ok g c = replays _ _ _ _ _ _ _ c.version-version.ensures.value _ _ c.in-Ok.ensures.recording c.in_ok-printed.ensures.run c.in-Ok-write_output.ensures.ok
 
 -- what ends the writing is no fault of a line
-no_line : (s : Stop) (f : LineFault) → fault_of s ≡ replay_fault.Line f → ⊥
-no_line stop.Write f is = cc
-no_line stop.Memory f is = cc
+no_line : (why : Stop) (given : ReplayFault) (f : LineFault) → given ≡ fault_of why → given ≡ replay_fault.Line f → ⊥
+no_line stop.Write given f is h = cc
+no_line stop.Memory given f is h = cc
 
 pub returns-clause-line : goal.returns-clause-line
-returns-clause-line g c f h = absurd (no_line c.in-Err-write_output.stop f (sym c.fault_of.ensures ∙ cc h))
+returns-clause-line g c f h = absurd (no_line c.in-Err-write_output.stop _ f c.fault_of.ensures (cc h))
 
 pub returns-clause-write : goal.returns-clause-write
 returns-clause-write g c h =
