@@ -209,12 +209,13 @@ impl Calculation {
         Ok(None)
     }
 
-    /// The routing table, which follows so many events.
-    pub fn table(&self, alloc: Global, serial: u64) -> Result<Table, Memory>
+    /// The routing table, which follows so many events. Networks are hashed under keys that the random state
+    /// gives.
+    pub fn table(&self, alloc: Global, serial: u64, hashing: RandomState) -> Result<Table, Memory>
         ensures items { IfOk result (λ table. IsTableOf self.now table.items) }
         ensures serial { IfOk result (λ table. table.serial ≡ serial) }
     {
-        let mut table = Table::new(alloc, serial);
+        let mut table = Table::new(alloc, serial, hashing);
         for network in &self.networks(alloc)? {
             if let Some(item) = self.item(alloc, *network)? {
                 table.set(*network, item)?;

@@ -1,6 +1,6 @@
 //! What a core answers to each event: its serial, whether anything that is used changed, and how many networks the table
 //! then has; and that no event builds anything anew.
-use crate::events_of;
+use crate::{events_of, networks_of};
 use event_core::{Core, Event, Refusal, Reply, Standing};
 use std::alloc::Global;
 use std::hash::RandomState;
@@ -80,7 +80,7 @@ fn answers(rt: &HostRuntime, text: &str) -> Result<String, Fail> {
     let mut all = String::new(rt.alloc());
     for event in events {
         let answer = core.apply(event);
-        let line = printed(rt.alloc(), answer, core.table().items().count())?;
+        let line = printed(rt.alloc(), answer, networks_of(core.table()))?;
         all.push_str(line.as_str())?;
     }
     Ok(all)

@@ -4,7 +4,7 @@
 
 mod trial;
 
-pub use trial::{NETWORK, applied, events_of, items, with_stubs};
+pub use trial::{NETWORK, applied, events_of, items, networks_of, with_stubs};
 
 #[cfg(test)]
 mod answers;

@@ -96,6 +96,15 @@ pub fn items(alloc: Global, core: &Core) -> Result<String, Fail> {
     Ok(text)
 }
 
+/// How many networks the table has.
+pub fn networks_of(table: &Table) -> usize {
+    let mut count: usize = 0;
+    for _ in table.items() {
+        count = count.saturating_add(1);
+    }
+    count
+}
+
 fn push_items(alloc: Global, table: &Table, text: &mut String) -> Result<(), Fail> {
     for (network, item) in table.items() {
         let line = printed(alloc, network, item)?;

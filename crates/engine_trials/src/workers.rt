@@ -2,7 +2,7 @@
 ghost use Rattle.std.specs.Prelude.{◌≡◌, IfSome};
 
 use crate::trial::{BORDER, ROOT, install_of, look, opened, published, taken};
-use core_trials::items;
+use core_trials::{items, networks_of};
 use engine::{Core, Engine, Forwarder, Told};
 use ospf_types::memory::Memory;
 use std::alloc::Global;
@@ -202,7 +202,7 @@ fn is_replayed(alloc: Global, hashing: RandomState, core: &Core) -> Result<bool,
     let other = replayed(alloc, hashing, core)?;
     let (one, two) = (items(alloc, core)?, items(alloc, &other)?);
     let are_same = one.as_str() == two.as_str() && have_same_lsas(core, &other)?;
-    Ok(are_same && other.table().items().count() == 750)
+    Ok(are_same && networks_of(other.table()) == 750)
 }
 
 #[test]

@@ -262,7 +262,7 @@ fn from_scratch(
     let (calculation, work) = Calculation::build(alloc, state, hashing)?;
     // proof: what holds of the databases of every state.
     let _ = state.config();
-    let table = calculation.table(alloc, state.serial())?;
+    let table = calculation.table(alloc, state.serial(), hashing)?;
     let dues = calculation.dues(alloc, state)?;
     Ok((calculation, table, dues, work))
 }

@@ -1,14 +1,15 @@
 ghost use Rattle.std.specs.Prelude.{◌≡◌, ◌≤◌, ◌↔◌, IsTrue, IsSome, IfSome};
 ghost use Rattle.ospf_types.specs.Masks.{masked};
-ghost use Rattle.ospf_types.specs.Network.{network_cmp};
+ghost use Rattle.ospf_types.specs.Network.{network_cmp, network_word};
 ghost use Rattle.ospf_types.specs.Lsa.{network_of};
 
 use std::cmp::Ordering;
+use std::hash::{Hash, Hasher};
 use std::marker::Model;
 
 /// A destination network: an address, and how many of its first bits count. The bits past them are
 /// zero. Prefixes stand in the order of their addresses, and at one address the shorter comes first.
-#[derive(Clone, Copy, Debug, PartialEq, Eq, Hash, PartialOrd, Ord)]
+#[derive(Clone, Copy, Debug, PartialEq, Eq, PartialOrd, Ord)]
 pub struct Prefix {
     address: u32,
     length: u8,
@@ -91,6 +92,29 @@ impl Prefix {
         ensures { IsTrue result ↔ Covers self other }
     {
         self.length <= other.length && self.contains(other.address)
+    }
+
+    // A number of its own for each network.
+    fn word(self) -> u64
+        ensures { result ≡ network_word self }
+    {
+        u64::from(self.address) * 256 + u64::from(self.length)
+    }
+}
+
+// As one word: a look-up of an address hashes a network for each length that it tries.
+impl Hash for Prefix {
+    ghost use Rattle.std.specs.Hash as fed;
+    ghost use Rattle.std.specs.Cmp.Rules.{hashing};
+    ghost use Rattle.std.proofs.Common.{rules};
+    ghost use Rattle.ospf_types.specs.Network.{network_word};
+
+    ghost hash_input = { λ p. fed.u64 (network_word p) };
+
+    ghost respects_eq = { Prim.search (hashing, rules) };
+
+    fn hash<H: Hasher>(&self, state: &mut H) {
+        self.word().hash(state);
     }
 }
 

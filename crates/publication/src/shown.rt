@@ -70,7 +70,7 @@ impl Shown {
 fn copy_of(alloc: Global, table: &Table) -> Result<Table, Memory>
     ensures { IfOk result (λ copy. copy ≡ table.now) }
 {
-    let mut copy = Table::new(alloc, table.serial());
+    let mut copy = table.empty_copy(alloc);
     for (prefix, item) in table.items() {
         copy.set(prefix, item.copy(alloc)?)?;
     }

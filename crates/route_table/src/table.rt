@@ -1,19 +1,19 @@
 //! The items of the networks, and how they are found.
-ghost use Rattle.std.specs.Prelude.{◌≡◌, ◌<◌, ◌≤◌, ℕ, OnOk, OnErr, IfOk, IsSome, IfSome, IfNone, option_copied};
+ghost use Rattle.std.specs.Prelude.{◌≡◌, OnOk, OnErr, None, option_copied};
 ghost use Rattle.std.specs.FinMap as map;
-ghost use Rattle.std.specs.BTreeMap.Range.{IsLeBy};
 ghost use Rattle.std.specs.List.Sorted.{IsStrictlySortedBy};
 ghost use Rattle.std.specs.Map.{keys_of};
-ghost use Rattle.ospf_types.specs.Masks.{masked};
-ghost use Rattle.ospf_types.specs.Network.{Network, network_cmp};
-ghost use Rattle.route_table.specs.Tables.{IsMatch, IsLastUpTo, StandsAs, around};
+ghost use Rattle.ospf_types.specs.Network.{network_cmp};
+ghost use Rattle.route_table.specs.Tables.{IsMatch, StandsAs};
 
 use ospf_types::entry::Entry;
 use ospf_types::memory::Memory;
 use ospf_types::prefix::Prefix;
+use prefix_index::PrefixIndex;
 use std::alloc::Global;
-use std::collections::{BTreeMap, btree_map};
+use std::hash::RandomState;
 use std::marker::Model;
+use word_hash::WordHash;
 
 /// What the table has for a network.
 #[derive(Debug, Drop)]
@@ -29,7 +29,9 @@ pub enum Item {
 #[derive(Debug)]
 pub struct Table {
     alloc: Global,
-    items: BTreeMap<Prefix, Item>,
+    // The keys under which networks are hashed.
+    hashing: WordHash,
+    items: PrefixIndex<Item>,
     serial: u64,
 }
 
@@ -38,6 +40,7 @@ impl Drop for Table {
     fn drop(self) {
         let Table {
             alloc: _,
+            hashing: _,
             items: _items,
             serial: _,
         } = self;
@@ -45,19 +48,13 @@ impl Drop for Table {
 }
 
 impl Model for Table {
-    ghost use Rattle.std.specs.FinMap as map;
-    ghost use Rattle.std.specs.List.{All};
-    ghost use Rattle.std.specs.BTreeMap.{keys};
-    ghost use Rattle.std.specs.Prelude.{◌≤◌};
     ghost use Rattle.route_table.specs.Tables.{TableValue, table_code};
 
     ghost Value = { TableValue };
 
     ghost coded = { table_code };
 
-    ghost view = { λ t. record { items = map.from_entries t.items.entries; serial = t.serial } };
-
-    ghost invariant = { λ t. All (λ p. p.length ≤ 32) (keys t.items) };
+    ghost view = { λ t. record { items = t.items; serial = t.serial } };
 }
 
 /// What the longest match of an address answers.
@@ -74,7 +71,7 @@ pub enum Match<'a> {
 /// The networks with their items, in ascending order.
 #[derive(Drop)]
 pub struct Items<'a> {
-    left: btree_map::Iter<'a, Prefix, Item>,
+    left: prefix_index::Iter<'a, Item>,
 }
 
 impl<'a> Model for Items<'a> {
@@ -97,21 +94,35 @@ impl<'a> Iterator for Items<'a> {
     ghost remaining = { item_count (λ s. s) };
 
     fn next(&mut self) -> Option<(Prefix, &'a Item)> {
-        match self.left.next() {
-            Some((prefix, item)) => Some((*prefix, item)),
-            None => None,
-        }
+        self.left.next()
     }
 }
 
 impl Table {
-    /// The table with no items. It takes no memory yet.
-    pub fn new(alloc: Global, serial: u64) -> Table
+    /// The table with no items. It takes no memory yet. Networks are hashed under keys that the random
+    /// state gives.
+    pub fn new(alloc: Global, serial: u64, hashing: RandomState) -> Table
+        ensures { result ≡ record { items = map.empty; serial = serial } }
+    {
+        Table::under(alloc, serial, WordHash::new(hashing))
+    }
+
+    /// A table with no items, which has this one's serial and hashes under its keys. It takes no memory
+    /// yet.
+    pub fn empty_copy(&self, alloc: Global) -> Table
+        ensures { result ≡ record { items = map.empty; serial = self.now.serial } }
+    {
+        Table::under(alloc, self.serial, self.hashing)
+    }
+
+    // The table with no items, under these keys.
+    fn under(alloc: Global, serial: u64, hashing: WordHash) -> Table
         ensures { result ≡ record { items = map.empty; serial = serial } }
     {
         Table {
             alloc,
-            items: BTreeMap::new(alloc),
+            hashing,
+            items: PrefixIndex::new(alloc, hashing),
             serial,
         }
     }
@@ -127,7 +138,7 @@ impl Table {
     pub fn get(&self, prefix: Prefix) -> Option<&Item>
         ensures { option_copied result ≡ map.get self.now.items prefix }
     {
-        self.items.get(&prefix)
+        self.items.get(prefix)
     }
 
     /// The networks with their items, by ascending address, and at one address the shorter first.
@@ -146,15 +157,10 @@ impl Table {
     pub fn lookup(&self, address: u32) -> Match<'_>
         ensures { IsMatch self.now.items address result }
     {
-        // No network of the table that contains the address is longer.
-        let mut length = 32;
-        while let Some((prefix, item)) = self.last_up_to(network_around(address, length)) {
-            if prefix.contains(address) {
-                return match_of(*prefix, item);
-            }
-            length = shorter(address, length, prefix.address());
+        match self.items.longest(address) {
+            Some((prefix, item)) => match_of(prefix, item),
+            None => Match::None,
         }
-        Match::None
     }
 
     /// Sets the network's item, in place of the one that it had. That one's memory serves for it, so
@@ -164,9 +170,7 @@ impl Table {
         ensures err { OnErr result (self.new ≡ self.old) }
         ensures absent { OnErr result (map.get self.old.items prefix ≡ None) }
     {
-        prove!(prefix.length() <= 32);
-        self.items.insert(prefix, item)?;
-        Ok(())
+        self.items.insert(prefix, item)
     }
 
     /// Sets how many events the table follows.
@@ -192,27 +196,7 @@ impl Table {
     pub(crate) fn remove(&mut self, prefix: Prefix)
         ensures { self.new ≡ record self.old { items = map.remove self.old.items prefix } }
     {
-        self.items.remove(&prefix);
-    }
-
-    // The last network of the table up to that one, in their order, with its item.
-    fn last_up_to(&self, bound: Prefix) -> Option<(&Prefix, &Item)>
-        ensures found { IfSome result (λ e. IsLastUpTo self.now.items bound e.0.now e.1.now) }
-        ensures absent { IfNone result ((q : Network) → IsLeBy network_cmp q bound → map.get self.now.items q ≡ None) }
-        ensures within { (q : Network) → IsSome (map.get self.now.items q) → q.length ≤ 32 }
-    {
-        self.items.range(..=bound).next_back()
-    }
-}
-
-// The network of that length around the address.
-fn network_around(address: u32, length: u8) -> Prefix
-    requires { length ≤ 32 }
-    ensures { result ≡ around address length }
-{
-    match Prefix::new(address, length) {
-        Some(network) => network,
-        None => unreachable!(),
+        self.items.remove(prefix);
     }
 }
 
@@ -224,21 +208,4 @@ fn match_of(prefix: Prefix, item: &Item) -> Match<'_>
         Item::Route(entry) => Match::Route(prefix, entry),
         Item::Discard => Match::Discard(prefix),
     }
-}
-
-// The greatest length below that one at which the network around the address begins no later than
-// the bound, or 0.
-fn shorter(address: u32, length: u8, bound: u32) -> u8
-    requires some { 0 < length }
-    requires within { length ≤ 32 }
-    ensures shorter { result < length }
-    ensures skipped { (n : ℕ) → result < n → n < length → bound < masked address n }
-{
-    for less in (1..length).rev() {
-        let host = 32 - u32::from(less);
-        if (address >> host) << host <= bound {
-            return less;
-        }
-    }
-    0
 }

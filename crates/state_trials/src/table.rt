@@ -8,6 +8,7 @@ use ospf_types::memory::Memory;
 use ospf_types::prefix::Prefix;
 use route_table::{Item, Match, Table};
 use std::alloc::Global;
+use std::hash::RandomState;
 use std::test::Fail;
 
 /// A route of that cost over interface 1, or a discard.
@@ -45,10 +46,10 @@ fn set(
     Ok(table.set(network(address, length)?, item(alloc, cost)?)?)
 }
 
-fn table_of(alloc: Global, rows: &[(u32, u8, Option<u32>)]) -> Result<Table, Fail> {
-    let mut table = Table::new(alloc, 4);
+fn table_of(rt: &HostRuntime, rows: &[(u32, u8, Option<u32>)]) -> Result<Table, Fail> {
+    let mut table = Table::new(rt.alloc(), 4, RandomState::new(rt)?);
     for &(address, length, cost) in rows {
-        set(&mut table, alloc, address, length, cost)?;
+        set(&mut table, rt.alloc(), address, length, cost)?;
     }
     Ok(table)
 }
@@ -66,7 +67,7 @@ fn prints(table: &Table, alloc: Global, rows: &[(u32, &str)]) -> Result<bool, Fa
 #[test]
 fn the_longest_match_decides(rt: HostRuntime) -> Result<(), Fail> {
     let table = table_of(
-        rt.alloc(),
+        &rt,
         &[
             (0xc000_02c8, 32, Some(32)),
             (0xc000_0200, 24, Some(24)),
@@ -98,7 +99,7 @@ fn the_longest_match_decides(rt: HostRuntime) -> Result<(), Fail> {
 #[test]
 fn a_route_under_a_discard_is_used(rt: HostRuntime) -> Result<(), Fail> {
     let rows = [(0x0a01_0000, 16, None), (0x0a01_0200, 24, Some(7))];
-    let table = table_of(rt.alloc(), &rows)?;
+    let table = table_of(&rt, &rows)?;
     assert!(rt;
         prints(
             &table,
@@ -131,7 +132,7 @@ fn items_ascend(rt: HostRuntime) -> Result<(), Fail> {
         (0x0a00_0000, 8, Some(3)),
         (0x0a00_0000, 16, Some(4)),
     ];
-    let mut table = table_of(rt.alloc(), &rows)?;
+    let mut table = table_of(&rt, &rows)?;
     let networks = [(0x0a00_0000, 8), (0x0a00_0000, 16), (0x0b00_0000, 8)];
     assert!(rt; lists(&table, 4, &networks));
     table.set_serial(5);
@@ -162,7 +163,7 @@ fn finds_each(table: &Table) -> bool {
 
 #[test]
 fn finds_two_hundred_networks(rt: HostRuntime) -> Result<(), Fail> {
-    let mut table = Table::new(rt.alloc(), 0);
+    let mut table = Table::new(rt.alloc(), 0, RandomState::new(&rt)?);
     for index in 0..200_u8 {
         let address = u32::from_be_bytes([10, 0, index, 0]);
         set(&mut table, rt.alloc(), address, 24, Some(u32::from(index)))?;
@@ -178,7 +179,7 @@ fn a_change_adds_replaces_and_removes(rt: HostRuntime) -> Result<(), Fail> {
         (0x0b00_0000, 8, Some(2)),
         (0x0c00_0000, 8, Some(3)),
     ];
-    let mut table = table_of(rt.alloc(), &rows)?;
+    let mut table = table_of(&rt, &rows)?;
     let changes = vec![in rt.alloc();
         (network(0x0a00_0000, 16)?, Some(item(rt.alloc(), Some(4))?)),
         (network(0x0b00_0000, 8)?, Some(item(rt.alloc(), None)?)),

@@ -12,7 +12,7 @@ pub loop-prefix-init : goal.loop-prefix-init
 loop-prefix-init c =
     let given : List (Network × Item) → List (Network × Option Item) = λ es. map (λ (e : Network × Item). (e.0, Some e.1)) es in
     let left = c.into_iter-prefix-iterator.ensures.into_iter_gives ∙ c.items-prefix-items.ensures.all in
-    let empty = c.new-copy.ensures in (
+    let empty = c.empty_copy-copy.ensures in (
       (λ i. with_all (ap (λ (t : TableValue). t.items) empty i) (given (left i))) ∙ leads _ c.args.table.now.items _ (nothing_leads c.args.table.now.items),
-      ap (λ (t : TableValue). t.serial) empty ∙ c.serial.ensures,
+      ap (λ (t : TableValue). t.serial) empty,
     )

@@ -1,11 +1,24 @@
-use Rattle.std.proofs.Common.{Err, ap}
+use Rattle.std.proofs.Common.{◌≡◌, Err, ap}
+use Rattle.recording.specs.declared.fault.LineFault.{LineFault}
+use Rattle.replay.specs.declared.fault.ReplayFault.{ReplayFault}
+use Rattle.replay.specs.declared.fault.ReplayFault.TheVariants as replay_fault
+use Rattle.replay.specs.declared.page.Stop.{Stop}
 use Rattle.replay.specs.declared.page.Stop.TheVariants as stop
+use Rattle.replay.specs.Stops.{fault_of}
 use Rattle.replay.proofs.Ends.{stop_of_write, stop_of_memory}
 use Rattle.worker_replay.proofs.Whole.{replays, replays_part, run_whole, or_else}
 use Rattle.worker_replay.proofs.replaying.replay_many.Goals as goal
 
 pub returns-in-Ok-write_output-clause-ok : goal.returns-in-Ok-write_output-clause-ok
 returns-in-Ok-write_output-clause-ok g c = replays _ _ _ _ _ _ _ c.version-version.ensures.value _ _ c.in-Ok.ensures.recording c.in_ok-printed.ensures.run c.in-Ok-write_output.ensures.ok
+
+-- what ends the writing is no fault of a line
+no_line : (why : Stop) (given : ReplayFault) (f : LineFault) → given ≡ fault_of why → given ≡ replay_fault.Line f → ⊥
+no_line stop.Write given f is h = cc
+no_line stop.Memory given f is h = cc
+
+pub returns-clause-line : goal.returns-clause-line
+returns-clause-line g c f h = absurd (no_line c.in-Err-write_output.stop _ f c.fault_of.ensures (cc h))
 
 pub returns-clause-write : goal.returns-clause-write
 returns-clause-write g c h =

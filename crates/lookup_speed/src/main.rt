@@ -1,0 +1,64 @@
+//! Tries `prefix_index` against a plain list of networks, and with networks whose hashes collide. It prints how many answers were
+//! compared and how many differ. With the name of a set of networks it measures look-ups and updates beside an ordered map.
+#![tactic(auto)]
+
+mod ordered;
+mod publishing;
+mod random;
+mod sets;
+mod speed;
+mod table;
+mod trial;
+
+use anyhow::Result;
+use prefix_index::PrefixIndex;
+use publishing::measure_beside_writer;
+use sets::Set;
+use speed::measure;
+use std::hash::RandomState;
+use std::io::Print;
+use std::random::RandomSource;
+use std::{env, io};
+use trial::{Trial, find_all};
+use word_hash::WordHash;
+
+// Networks whose hashes collide where the hash has no keys. A hash map of 20,000 entries has 4,096 groups.
+const COLLIDING: [(&str, Set); 2] = [
+    ("one place", Set::OnePlace(20_000, 4_096)),
+    ("equal low bits", Set::EqualBits(20_000)),
+];
+
+fn main(rt: HostRuntime) -> Result<()> {
+    let words: Vec<String> = env::args(&rt)?.collect(rt.alloc())?;
+    let (name, threads, has_writer) = match words.as_slice() {
+        [_, name] => (name.as_str(), "1", false),
+        [_, name, threads] => (name.as_str(), threads.as_str(), false),
+        [_, name, threads, word] if word.as_str() == "writer" => {
+            (name.as_str(), threads.as_str(), true)
+        }
+        [] | [_] => return try_index(&rt),
+        _ => ("", "", false),
+    };
+    match (Set::named(name), threads.parse()) {
+        (Some(set), Ok(threads)) if threads > 0 && has_writer => {
+            measure_beside_writer(&rt, set, threads)
+        }
+        (Some(set), Ok(threads)) if threads > 0 => measure(&rt, set, threads),
+        _ => Ok(println!(rt; "usage: lookup_speed [SET [THREADS [writer]]]")?),
+    }
+}
+
+// Compares answers, and prints how many.
+fn try_index<R: AllocGlobal + RandomSource + Print>(rt: &R) -> Result<()> {
+    Trial::run(new_index(rt)?, rt.alloc())?.print(rt)?;
+    for (name, set) in COLLIDING {
+        find_all(rt, new_index(rt)?, name, set)?;
+    }
+    Ok(())
+}
+
+// An index with no values.
+fn new_index<R: AllocGlobal + RandomSource, V: Drop>(rt: &R) -> io::Result<PrefixIndex<V>> {
+    let hashing = WordHash::new(RandomState::new(rt)?);
+    Ok(PrefixIndex::new(rt.alloc(), hashing))
+}

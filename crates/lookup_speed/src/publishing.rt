@@ -1,0 +1,192 @@
+//! Measures look-ups in a table that a writer changes and publishes all the time, in two copies.
+ghost use Rattle.std.specs.Prelude.{◌<◌};
+
+use crate::new_index;
+use crate::ordered::OrderedMap;
+use crate::random::Random;
+use crate::sets::{Set, addresses};
+use crate::speed::{Each, LOOKUPS, found, insert_all, nanoseconds_since};
+use crate::table::{Table, Value};
+use anyhow::Result;
+use left_right::{Absorb, ReadHandle, WriteHandle};
+use ospf_types::prefix::Prefix;
+use std::alloc::AllocError;
+use std::io;
+use std::io::Print;
+use std::random::RandomSource;
+use std::sync::Wait;
+use std::sync::atomic::{AtomicU64, Ordering};
+use std::thread::{Threads, join, map_vec};
+use std::time::{Clock, Instant};
+
+// How many addresses a reader looks up each time that it enters the table.
+const BURST: usize = 32;
+
+const PASSES: u32 = 10;
+// The writer ends with the readers, and at the latest after so many publications.
+const PUBLICATIONS: u64 = 1_000_000;
+
+/// A network gets this value.
+#[derive(Clone, Copy)]
+struct Change {
+    network: Prefix,
+    value: Value,
+}
+
+/// A copy of the table. A contract says nothing of what is in it.
+#[derive(Drop)]
+struct Shown<T> {
+    table: T,
+}
+
+impl<T: Table + Drop> Absorb<Change> for Shown<T> {
+    type State = ();
+
+    ghost state = { λ shown. tt };
+
+    ghost applied = { λ state change. state };
+
+    fn absorb_first(&mut self, change: &Change, _other: &Shown<T>) -> Result<(), AllocError> {
+        self.table
+            .insert(change.network, change.value)
+            .map_err(|_| AllocError)
+    }
+}
+
+/// Measures so many readers beside a writer, and prints nanoseconds of a look-up by each, and of a publication.
+pub fn measure_beside_writer<R: AllocGlobal + RandomSource + Clock + Print + Threads + Wait + Sync>(
+    rt: &R,
+    set: Set,
+    threads: u32,
+) -> Result<()>
+    requires { 0 < threads }
+{
+    let alloc = rt.alloc();
+    let networks = set.networks(alloc)?;
+    let addresses = addresses(alloc, networks.as_slice(), LOOKUPS)?;
+    let load = Load {
+        networks: networks.as_slice(),
+        addresses: addresses.as_slice(),
+        threads,
+    };
+    let tables = (OrderedMap::new(alloc), OrderedMap::new(alloc));
+    run(rt, "ordered", tables, &load)?;
+    run(rt, "index", (new_index(rt)?, new_index(rt)?), &load)
+}
+
+/// What is looked up and changed.
+#[derive(Clone, Copy)]
+struct Load<'a> {
+    networks: &'a [Prefix],
+    addresses: &'a [u32],
+    threads: u32,
+}
+
+fn run<R: AllocGlobal + Clock + Print + Threads + Wait + Sync, T: Table + Drop + Send + Sync>(
+    rt: &R,
+    name: &str,
+    tables: (T, T),
+    load: &Load<'_>,
+) -> Result<()>
+    requires { 0 < load.now.threads }
+{
+    let (mut first, mut second) = tables;
+    insert_all(&mut first, load.networks)?;
+    insert_all(&mut second, load.networks)?;
+    let (first, second) = (Shown { table: first }, Shown { table: second });
+    let writer = WriteHandle::new(rt.alloc(), rt, first, second, load.threads as usize)?;
+    let mut readers = Vec::new(rt.alloc());
+    for _ in 0..load.threads {
+        readers.push(writer.handle()?)?;
+    }
+    let left = AtomicU64::new(u64::from(load.threads));
+    let (times, publication) = join(
+        rt,
+        || map_vec(
+            rt,
+            readers,
+            &|reader| read(rt, reader, load.addresses, &left),
+        ),
+        || publish(rt, writer, load.networks, &left),
+    );
+    let (times, publication) = (times?, publication?);
+    let time = times
+        .iter()
+        .fold(0, |all: u64, one| all.saturating_add(one.0));
+    let lookup = Each(time, load.addresses.len().saturating_mul(times.len()));
+    let sum = times
+        .iter()
+        .fold(0, |all: u64, one| all.wrapping_add(one.1));
+    println!(rt; "{name} lookup={lookup} publication={publication} sum={sum}")?;
+    Ok(())
+}
+
+// Looks the addresses up, and returns the nanoseconds of the fastest pass, and the sum of what was found.
+fn read<R: Clock, T: Table + Drop>(
+    rt: &R,
+    reader: ReadHandle<Shown<T>>,
+    addresses: &[u32],
+    left: &AtomicU64,
+) -> (u64, u64) {
+    let mut reader = reader;
+    let pass = fastest_pass(rt, &mut reader, addresses);
+    left.fetch_sub(1, Ordering::SeqCst);
+    pass.unwrap_or((0, 0))
+}
+
+fn fastest_pass<R: Clock, T: Table + Drop>(
+    rt: &R,
+    reader: &mut ReadHandle<Shown<T>>,
+    addresses: &[u32],
+) -> io::Result<(u64, u64)> {
+    let (mut fastest, mut sum) = (u64::MAX, 0);
+    for _ in 0..PASSES {
+        let start = Instant::now(rt)?;
+        sum = read_once(reader, addresses, sum);
+        fastest = fastest.min(nanoseconds_since(rt, start)?);
+    }
+    Ok((fastest, sum))
+}
+
+// Enters the table for each burst of addresses.
+fn read_once<T: Table + Drop>(
+    reader: &mut ReadHandle<Shown<T>>,
+    addresses: &[u32],
+    sum: u64,
+) -> u64 {
+    let mut sum = sum;
+    for burst in addresses.chunks(BURST) {
+        if let Some(shown) = reader.enter() {
+            sum = found(&shown.table, burst, sum);
+        }
+    }
+    sum
+}
+
+// Replaces a value and publishes, until no reader is left, and returns the nanoseconds of a publication.
+fn publish<R: Clock + Wait, T: Table + Drop>(
+    rt: &R,
+    writer: WriteHandle<Shown<T>, Change, &R>,
+    networks: &[Prefix],
+    left: &AtomicU64,
+) -> Result<Each> {
+    let mut writer = writer;
+    let mut random = Random::new(4);
+    let mut made: usize = 0;
+    let start = Instant::now(rt)?;
+    for _ in 0..PUBLICATIONS {
+        let Some(network) = random.pick(networks) else {
+            break;
+        };
+        if left.load(Ordering::SeqCst) == 0 {
+            break;
+        }
+        let value = Value::of(network);
+        writer
+            .append(Change { network, value })
+            .map_err(|_| AllocError)?;
+        writer.publish()?;
+        made = made.saturating_add(1);
+    }
+    Ok(Each(nanoseconds_since(rt, start)?, made))
+}

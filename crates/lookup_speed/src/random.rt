@@ -1,0 +1,44 @@
+//! Numbers that look random. Equal seeds give equal numbers.
+ghost use Rattle.std.specs.Prelude.{◌<◌};
+
+/// The state of a generator (splitmix64).
+#[derive(Clone, Copy)]
+pub struct Random {
+    state: u64,
+}
+
+impl Random {
+    pub fn new(seed: u64) -> Random {
+        Random { state: seed }
+    }
+
+    /// The next number.
+    pub fn number(&mut self) -> u64 {
+        self.state = self.state.wrapping_add(0x9e37_79b9_7f4a_7c15);
+        let mixed = (self.state ^ (self.state >> 30)).wrapping_mul(0xbf58_476d_1ce4_e5b9);
+        let mixed = (mixed ^ (mixed >> 27)).wrapping_mul(0x94d0_49bb_1331_11eb);
+        mixed ^ (mixed >> 31)
+    }
+
+    /// The next number, below a bound.
+    pub fn below(&mut self, bound: u32) -> u32
+        requires { 0 < bound }
+        ensures { result < bound }
+    {
+        self.address() % bound
+    }
+
+    /// The next address.
+    pub fn address(&mut self) -> u32 {
+        (self.number() >> 32) as u32
+    }
+
+    /// One of the items, or `None` where there are none.
+    pub fn pick<T: Copy>(&mut self, items: &[T]) -> Option<T> {
+        let count = u32::try_from(items.len()).unwrap_or(u32::MAX);
+        if count == 0 {
+            return None;
+        }
+        items.get(self.below(count) as usize).copied()
+    }
+}

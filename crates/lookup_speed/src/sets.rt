@@ -1,0 +1,209 @@
+//! Sets of networks, and addresses in them.
+ghost use Rattle.std.specs.Prelude.{◌≤◌};
+
+use crate::random::Random;
+use ospf_types::prefix::Prefix;
+use std::alloc::{AllocError, Global};
+
+/// A set of networks.
+#[derive(Clone, Copy)]
+pub enum Set {
+    /// Networks of 16 to 24 bits anywhere: so many, less those that came twice.
+    Anywhere(u32),
+    /// The links of 100 areas, 95,000 externals in 20,000 blocks of 16 bits, and a default.
+    Ospf,
+    /// Host routes, each in a /24 of its own.
+    Hosts,
+    /// Host routes in two blocks of 16 bits.
+    Dense,
+    /// Addresses with a network of each length.
+    Nested,
+    /// So many host routes that a hash without keys gives one place in a hash map, which has so many groups of entries then.
+    OnePlace(u32, u32),
+    /// So many host routes whose words have the same 20 lowest bits.
+    EqualBits(u32),
+}
+
+const SETS: [(&str, Set); 7] = [
+    ("anywhere", Set::Anywhere(100_000)),
+    ("thousand", Set::Anywhere(1_000)),
+    ("ospf", Set::Ospf),
+    ("hosts", Set::Hosts),
+    ("dense", Set::Dense),
+    ("nested", Set::Nested),
+    ("colliding", Set::OnePlace(100_000, 16_384)),
+];
+
+// With this number the library's hash without keys begins.
+const START: u64 = 0x243f_6a88_85a3_08d3;
+// By this number it multiplies a word of eight bytes.
+const MULTIPLIER: u64 = 0x9e37_79b9_7f4a_7c05;
+// The low half of 64 bits.
+const LOW: u64 = 0xffff_ffff;
+
+impl Set {
+    pub fn named(word: &str) -> Option<Set> {
+        for (name, set) in SETS {
+            if name == word {
+                return Some(set);
+            }
+        }
+        None
+    }
+
+    /// The networks of the set, each once, in no order.
+    pub fn networks(self, alloc: Global) -> Result<Vec<Prefix>, AllocError> {
+        let mut random = Random::new(1);
+        let mut networks = match self {
+            Set::Anywhere(count) => anywhere(alloc, count, &mut random)?,
+            Set::Ospf => ospf(alloc, &mut random)?,
+            Set::Hosts => hosts(alloc, &mut random)?,
+            Set::Dense => dense(alloc)?,
+            Set::Nested => nested(alloc, &mut random)?,
+            Set::OnePlace(count, groups) => one_place(alloc, count, groups)?,
+            Set::EqualBits(count) => equal_bits(alloc, count)?,
+        };
+        networks.sort_unstable();
+        networks.dedup();
+        shuffle(&mut networks, &mut random);
+        Ok(networks)
+    }
+}
+
+fn anywhere(alloc: Global, count: u32, random: &mut Random) -> Result<Vec<Prefix>, AllocError> {
+    let mut networks = Vec::new(alloc);
+    for _ in 0..count {
+        let length = 16 + random.below(9) as u8;
+        networks.push(network_around(random.address(), length))?;
+    }
+    Ok(networks)
+}
+
+fn ospf(alloc: Global, random: &mut Random) -> Result<Vec<Prefix>, AllocError> {
+    let mut networks = Vec::new(alloc);
+    networks.push(network_around(0, 0))?;
+    for link in 0..12_000 {
+        // The area's links lie in 10.area.0.0/16.
+        let address = 0x0a00_0000 + (link % 100 << 16) + random.below(65536);
+        let length = [24, 25, 26, 27, 28, 29, 30, 32][random.below(8) as usize];
+        networks.push(network_around(address, length))?;
+    }
+    for _ in 0..95_000 {
+        let address = (random.below(20_000) * 3 << 16) + random.below(65536);
+        networks.push(network_around(address, 16 + random.below(9) as u8))?;
+    }
+    Ok(networks)
+}
+
+fn hosts(alloc: Global, random: &mut Random) -> Result<Vec<Prefix>, AllocError> {
+    let mut networks = Vec::new(alloc);
+    for place in 0..100_000 {
+        let address = (place * 167 << 8) + random.below(256);
+        networks.push(network_around(address, 32))?;
+    }
+    Ok(networks)
+}
+
+fn dense(alloc: Global) -> Result<Vec<Prefix>, AllocError> {
+    let mut networks = Vec::new(alloc);
+    for place in 0..100_000 {
+        let address = 0x0a00_0000 + place * 21_845 % 0x2_0000;
+        networks.push(network_around(address, 32))?;
+    }
+    Ok(networks)
+}
+
+fn nested(alloc: Global, random: &mut Random) -> Result<Vec<Prefix>, AllocError> {
+    let mut networks = Vec::new(alloc);
+    for _ in 0..3_125 {
+        let address = random.address();
+        for length in 1..33 {
+            networks.push(network_around(address, length))?;
+        }
+    }
+    Ok(networks)
+}
+
+fn one_place(alloc: Global, count: u32, groups: u32) -> Result<Vec<Prefix>, AllocError> {
+    let mut networks = Vec::new(alloc);
+    for address in 0..u32::MAX {
+        if networks.len() >= count as usize {
+            break;
+        }
+        let network = network_around(address, 32);
+        if hash_without_keys(network).checked_rem(groups) == Some(0) {
+            networks.push(network)?;
+        }
+    }
+    Ok(networks)
+}
+
+// The part of its hash by which a hash map without keys finds the network.
+fn hash_without_keys(network: Prefix) -> u32 {
+    let folded = fold_product(START ^ network_word(network), MULTIPLIER);
+    ((folded >> 32) ^ (folded & LOW)) as u32
+}
+
+fn fold_product(a: u64, b: u64) -> u64 {
+    let product = a as u128 * b as u128;
+    (product >> 64) as u64 ^ (product & u64::MAX as u128) as u64
+}
+
+fn equal_bits(alloc: Global, count: u32) -> Result<Vec<Prefix>, AllocError> {
+    let mut networks = Vec::new(alloc);
+    for place in 0..count {
+        networks.push(network_around(place.wrapping_mul(4096), 32))?;
+    }
+    Ok(networks)
+}
+
+/// The network of that length around the address.
+pub fn network_around(address: u32, length: u8) -> Prefix
+    requires { length ≤ 32 }
+{
+    match Prefix::new(address, length) {
+        Some(network) => network,
+        None => unreachable!(),
+    }
+}
+
+/// A number of its own for each network, by which it is hashed.
+pub fn network_word(network: Prefix) -> u64 {
+    u64::from(network.address()) * 256 + u64::from(network.length())
+}
+
+fn shuffle(networks: &mut Vec<Prefix>, random: &mut Random) {
+    for place in 1..networks.len() {
+        let other = random.number() as usize % (place + 1);
+        networks.swap(place, other);
+    }
+}
+
+/// So many addresses, each in one of the networks.
+pub fn addresses(alloc: Global, networks: &[Prefix], count: usize) -> Result<Vec<u32>, AllocError> {
+    let mut random = Random::new(2);
+    let mut addresses = Vec::with_capacity(alloc, count)?;
+    for _ in 0..count {
+        let Some(network) = random.pick(networks) else {
+            break;
+        };
+        let host = u32::MAX
+            .checked_shr(u32::from(network.length()))
+            .unwrap_or(0);
+        addresses.push(network.address() | random.address() & host)?;
+    }
+    Ok(addresses)
+}
+
+/// So many of these addresses, in no order.
+pub fn repeated(alloc: Global, some: &[u32], count: usize) -> Result<Vec<u32>, AllocError> {
+    let mut random = Random::new(3);
+    let mut addresses = Vec::with_capacity(alloc, count)?;
+    for _ in 0..count {
+        let Some(address) = random.pick(some) else {
+            break;
+        };
+        addresses.push(address)?;
+    }
+    Ok(addresses)
+}

@@ -1,0 +1,276 @@
+//! Measures the index beside the ordered map. Every time is that of the fastest of several passes.
+
+use crate::new_index;
+use crate::ordered::OrderedMap;
+use crate::sets::{Set, addresses, repeated};
+use crate::table::{Table, Value};
+use anyhow::Result;
+use ospf_types::memory::Memory;
+use ospf_types::prefix::Prefix;
+use std::alloc::{AllocError, Global};
+use std::fmt::Display;
+use std::io::Print;
+use std::random::RandomSource;
+use std::rt::Files;
+use std::thread::{Threads, map_indices};
+use std::time::{Clock, Instant};
+use std::{fmt, fs, io};
+
+/// How many addresses are looked up in a pass.
+pub const LOOKUPS: usize = 262_144;
+// How many of them differ, if they are hot.
+const HOT: usize = 1_000;
+// How many networks are updated in a pass, if there are twice as many.
+const UPDATES: usize = 2_000;
+
+const PASSES: u32 = 20;
+// After so many seconds no further pass begins.
+const ENOUGH: u64 = 10;
+
+/// Measures look-ups, by so many threads at a time, and updates, and prints a line for each of the two tables.
+pub fn measure<R: Files + AllocGlobal + RandomSource + Clock + Print + Threads + Sync>(
+    rt: &R,
+    set: Set,
+    threads: u32,
+) -> Result<()> {
+    let alloc = rt.alloc();
+    let networks = set.networks(alloc)?;
+    let networks = networks.as_slice();
+    let random = addresses(alloc, networks, LOOKUPS)?;
+    let few = addresses(alloc, networks, HOT)?;
+    let hot = repeated(alloc, few.as_slice(), LOOKUPS)?;
+    let load = Load {
+        networks,
+        random: random.as_slice(),
+        hot: hot.as_slice(),
+        threads: threads as usize,
+    };
+    let mut ordered = Measured::build(rt, OrderedMap::new(alloc), networks)?;
+    let mut index = Measured::build(rt, new_index(rt)?, networks)?;
+    run_passes(rt, &mut ordered, &mut index, &load)?;
+    let differ = differing(&ordered.table, &index.table, load.random);
+    ordered.print(rt, "ordered", &load)?;
+    index.print(rt, "index", &load)?;
+    let is_same = ordered.sum == index.sum;
+    println!(rt; "{differ} answers differ, the sums agree: {is_same}")?;
+    Ok(())
+}
+
+// The passes of the two tables take turns, so that what else the machine does slows both.
+fn run_passes<
+    R: AllocGlobal + Clock + Threads + Sync,
+    A: Table + Drop + Sync,
+    B: Table + Drop + Sync,
+>(rt: &R, one: &mut Measured<A>, other: &mut Measured<B>, load: &Load<'_>) -> Result<()> {
+    let start = Instant::now(rt)?;
+    for _ in 0..PASSES {
+        one.look_up(rt, load)?;
+        other.look_up(rt, load)?;
+        one.update(rt, load.networks)?;
+        other.update(rt, load.networks)?;
+        if start.elapsed(rt)?.as_secs() >= ENOUGH {
+            break;
+        }
+    }
+    Ok(())
+}
+
+/// What the tables are asked.
+#[derive(Clone, Copy)]
+struct Load<'a> {
+    networks: &'a [Prefix],
+    random: &'a [u32],
+    hot: &'a [u32],
+    threads: usize,
+}
+
+/// A table, with what was measured.
+#[derive(Drop)]
+struct Measured<T> {
+    table: T,
+    // Kilobytes.
+    memory: u64,
+    // Nanoseconds of a pass.
+    build: u64,
+    random: u64,
+    hot: u64,
+    replace: u64,
+    remove: u64,
+    insert: u64,
+    // Of all numbers that were found.
+    sum: u64,
+}
+
+impl<T: Table + Drop + Sync> Measured<T> {
+    // Gives each of the networks a value.
+    fn build<R: Files + AllocGlobal + Clock>(
+        rt: &R,
+        table: T,
+        networks: &[Prefix],
+    ) -> Result<Measured<T>> {
+        let mut table = table;
+        let before = resident(rt)?;
+        let start = Instant::now(rt)?;
+        insert_all(&mut table, networks)?;
+        let build = nanoseconds_since(rt, start)?;
+        let memory = resident(rt)?.saturating_sub(before);
+        Ok(Measured {
+            table,
+            memory,
+            build,
+            random: u64::MAX,
+            hot: u64::MAX,
+            replace: u64::MAX,
+            remove: u64::MAX,
+            insert: u64::MAX,
+            sum: 0,
+        })
+    }
+
+    fn look_up<R: AllocGlobal + Clock + Threads + Sync>(
+        &mut self,
+        rt: &R,
+        load: &Load<'_>,
+    ) -> Result<()> {
+        let start = Instant::now(rt)?;
+        self.sum = found_by_threads(rt, &self.table, load.random, load.threads, self.sum)?;
+        self.random = self.random.min(nanoseconds_since(rt, start)?);
+        let start = Instant::now(rt)?;
+        self.sum = found_by_threads(rt, &self.table, load.hot, load.threads, self.sum)?;
+        self.hot = self.hot.min(nanoseconds_since(rt, start)?);
+        Ok(())
+    }
+
+    // Replaces the values of some networks, takes them out and puts them in again.
+    fn update(&mut self, rt: &impl Clock, networks: &[Prefix]) -> Result<()> {
+        let some = some_of(networks);
+        let start = Instant::now(rt)?;
+        insert_all(&mut self.table, some)?;
+        self.replace = self.replace.min(nanoseconds_since(rt, start)?);
+        let start = Instant::now(rt)?;
+        remove_all(&mut self.table, some);
+        self.remove = self.remove.min(nanoseconds_since(rt, start)?);
+        let start = Instant::now(rt)?;
+        insert_all(&mut self.table, some)?;
+        self.insert = self.insert.min(nanoseconds_since(rt, start)?);
+        Ok(())
+    }
+
+    // Nanoseconds, but for the build in milliseconds and the memory in megabytes.
+    fn print(&self, rt: &impl Print, name: &str, load: &Load<'_>) -> io::Result<()> {
+        let networks = load.networks.len();
+        let (random, hot) = (Each(self.random, LOOKUPS), Each(self.hot, LOOKUPS));
+        print!(rt; "{name} networks={networks} random={random} hot={hot}")?;
+        let some = some_of(load.networks).len();
+        let (replace, remove) = (Each(self.replace, some), Each(self.remove, some));
+        print!(rt; " replace={replace} remove={remove}")?;
+        let (insert, build) = (Each(self.insert, some), Each(self.build, 1_000_000));
+        let memory = Each(self.memory, 1_024);
+        println!(rt; " insert={insert} build={build} memory={memory}")
+    }
+}
+
+/// A number for each of so many, with one place behind the point.
+#[derive(Clone, Copy)]
+pub struct Each(pub u64, pub usize);
+
+impl Display for Each {
+    fn fmt<W: fmt::Write>(&self, f: &mut fmt::Formatter<W>) -> fmt::Result {
+        let tenths = self
+            .0
+            .saturating_mul(10)
+            .checked_div(self.1 as u64)
+            .unwrap_or(0);
+        write!(f, "{}.{}", tenths / 10, tenths % 10)
+    }
+}
+
+// The networks that are updated.
+fn some_of(networks: &[Prefix]) -> &[Prefix] {
+    networks
+        .get(..UPDATES.min(networks.len() / 2))
+        .unwrap_or(networks)
+}
+
+pub fn insert_all<T: Table>(table: &mut T, networks: &[Prefix]) -> Result<(), Memory> {
+    for network in networks {
+        table.insert(*network, Value::of(*network))?;
+    }
+    Ok(())
+}
+
+fn remove_all<T: Table>(table: &mut T, networks: &[Prefix]) {
+    for network in networks {
+        table.remove(*network);
+    }
+}
+
+// Looks up all addresses in each of so many threads, and adds up what is found.
+fn found_by_threads<R: AllocGlobal + Threads + Sync, T: Table + Sync>(
+    rt: &R,
+    table: &T,
+    addresses: &[u32],
+    threads: usize,
+    sum: u64,
+) -> Result<u64, AllocError> {
+    let sums = map_indices(
+        rt,
+        rt.alloc(),
+        threads,
+        &|thread| { found_from(table, addresses, thread, sum) },
+    )?;
+    Ok(
+        sums.iter()
+            .fold(sum, |all: u64, one| all.wrapping_add(*one)),
+    )
+}
+
+// Looks up all addresses. Each thread begins elsewhere.
+fn found_from<T: Table>(table: &T, addresses: &[u32], thread: usize, sum: u64) -> u64 {
+    let begin = (addresses.len() / 8)
+        .saturating_mul(thread)
+        .min(addresses.len());
+    let (last, first) = addresses.split_at(begin);
+    found(table, last, found(table, first, sum))
+}
+
+// Looks up the addresses, and mixes the numbers that are found into the sum.
+pub fn found<T: Table>(table: &T, addresses: &[u32], sum: u64) -> u64 {
+    let mut sum = sum;
+    for address in addresses {
+        let number = match table.longest(*address) {
+            Some((_, value)) => value.number,
+            None => u64::MAX,
+        };
+        sum = sum.rotate_left(1).wrapping_add(number);
+    }
+    sum
+}
+
+// How many addresses have another longest match, or another value.
+fn differing<A: Table, B: Table>(one: &A, other: &B, addresses: &[u32]) -> u64 {
+    let mut differ: u64 = 0;
+    for address in addresses {
+        let is_same = match (one.longest(*address), other.longest(*address)) {
+            (Some((p, v)), Some((q, w))) => p == q && v.number == w.number,
+            (None, None) => true,
+            _ => false,
+        };
+        differ = differ.saturating_add(u64::from(!is_same));
+    }
+    differ
+}
+
+pub fn nanoseconds_since(rt: &impl Clock, start: Instant) -> io::Result<u64> {
+    Ok(u64::try_from(start.elapsed(rt)?.as_nanos()).unwrap_or(u64::MAX))
+}
+
+// The memory of the process, in kilobytes.
+fn resident<R: Files + AllocGlobal>(rt: &R) -> io::Result<u64> {
+    let text = fs::read_to_string(rt, "/proc/self/statm")?;
+    let pages: Option<u64> = text
+        .split_whitespace()
+        .nth(1)
+        .and_then(|word| word.parse().ok());
+    Ok(pages.unwrap_or(0).saturating_mul(4))
+}

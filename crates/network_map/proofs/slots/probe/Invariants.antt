@@ -1,0 +1,9 @@
+use Rattle.std.proofs.Common.{ℕ, ◌+◌, ◌-◌, length}
+use Rattle.network_map.specs.Slots.{HasNetwork, IsPlaced}
+use Rattle.network_map.proofs.slots.probe.Given as goal
+
+abbrev pub invariant-loop-slot : goal.invariant-loop-slot
+invariant-loop-slot g l = (i : ℕ) → HasNetwork l.entries i l.fn.network → IsPlaced l.numbers l.fn.home (l.fn.base + i) → IsPlaced l.numbers l.slot (l.fn.base + i)
+
+abbrev pub decreases-loop-slot : goal.decreases-loop-slot
+decreases-loop-slot g l = length l.numbers - l.slot

@@ -1,0 +1,374 @@
+//! Slots that tell where a network's entry is.
+ghost use Rattle.std.specs.Prelude.{◌≡◌, ◌≢◌, ℕ, ◌+◌, ◌^◌, ◌<◌, ◌≤◌, false, [], None, IfSome, IfOk, OnOk, OnErr, length, slice_index};
+ghost use Rattle.std.specs.List.{slice_get};
+ghost use Rattle.ospf_types.specs.Network.{network_word};
+ghost use Rattle.network_map.specs.Slots.{base_of, home_of, AreFew, AreSlotted, HasNetwork, IsFree, IsMore, IsPlaced, IsReady, IsTaken};
+
+use ospf_types::prefix::Prefix;
+use std::alloc::{AllocError, Global};
+use word_hash::WordHash;
+
+// No entry ever stood here.
+const EMPTY: u32 = 0;
+
+// An entry that stood here is gone.
+const GONE: u32 = 1;
+
+// The least number that is neither: the number of the first entry with no tag.
+const FIRST: usize = 2;
+
+// The fewest and the most bits of a home.
+const FEWEST: u32 = 3;
+
+const MOST: u32 = 31;
+
+// Slots past the last home, so that the last ones seldom fill.
+const TAIL: usize = 64;
+
+/// A number for each slot: 0, 1, or a tag of the network's hash above the entry's place + 2. An entry's
+/// slot is the first one from its network's home on that was free when it came. A look-up compares the
+/// network, so a number that no entry has does no harm.
+#[derive(Drop)]
+pub(crate) struct Slots {
+    // None until the first entry comes.
+    pub(crate) numbers: Vec<u32>,
+    // There are 2 ^ bits homes. The bits of a number above these are the tag.
+    pub(crate) bits: u32,
+    // How many slots are not empty.
+    pub(crate) used: usize,
+}
+
+impl Slots {
+    // No slots. It takes no memory yet.
+    pub(crate) fn new(alloc: Global) -> Slots
+        ensures none { result.numbers.items ≡ [] }
+        ensures few { result.bits ≡ 3 }
+        ensures unused { result.used ≡ 0 }
+    {
+        Slots {
+            numbers: Vec::new(alloc),
+            bits: FEWEST,
+            used: 0,
+        }
+    }
+
+    // Empty slots, eight for each of so many entries.
+    fn with_room(alloc: Global, count: usize) -> Result<Slots, AllocError>
+        ensures ready { IfOk result (λ s. IsReady s count) }
+        ensures empty { IfOk result (λ s. (q : ℕ) → slice_index s.numbers.items q ≡ 0) }
+        ensures length { IfOk result (λ s. length s.numbers.items ≡ 2 ^ s.bits + 64) }
+        ensures unused { IfOk result (λ s. s.used ≡ 0) }
+        ensures few { IfOk result (λ s. AreFew s.bits count) }
+    {
+        let Some(bits) = bits_for(count) else {
+            return Err(AllocError);
+        };
+        let mut numbers = Vec::new(alloc);
+        numbers.resize(homes(bits) + TAIL, EMPTY)?;
+        Ok(Slots {
+            numbers,
+            bits,
+            used: 0,
+        })
+    }
+
+    // Slots for the entries, and for one more.
+    pub(crate) fn of<V>(
+        alloc: Global,
+        hashing: WordHash,
+        entries: &[(Prefix, V)],
+    ) -> Result<Slots, AllocError>
+        ensures slotted { IfOk result (λ s. AreSlotted hashing entries.now s) }
+        ensures few { IfOk result (λ s. AreFew s.bits (length entries.now)) }
+        ensures ready { IfOk result (λ s. IsReady s (length entries.now)) }
+    {
+        let mut slots = Slots::with_room(alloc, entries.len())?;
+        for place in 0..entries.len() {
+            slots.add(hashing, entries[place].0, place)?;
+        }
+        Ok(slots)
+    }
+
+    // Whether the next entry needs more slots: a quarter of the homes is used, or its place has too many bits.
+    pub(crate) fn is_full(&self, count: usize) -> bool
+        requires { self.now.bits ≤ 31 }
+        ensures { result ≡ false → IsReady self.now count }
+    {
+        let homes = homes(self.bits);
+        self.numbers.len() < homes || self.used >= homes / 4 || count >= homes.saturating_sub(2)
+    }
+
+    // Whether so many entries have more than 32 homes each.
+    pub(crate) fn is_wide(&self, count: usize) -> bool
+        requires { self.now.bits ≤ 31 }
+    {
+        self.bits > FEWEST && count < homes(self.bits) / 32
+    }
+
+    // The place of the network's entry.
+    #[inline]
+    pub(crate) fn find<V>(
+        &self,
+        entries: &[(Prefix, V)],
+        hashing: WordHash,
+        network: Prefix,
+    ) -> Option<usize>
+        requires { self.now.bits ≤ 31 }
+        ensures found { IfSome result (λ i. HasNetwork entries.now i network) }
+        ensures missing { result ≡ None → (i : ℕ) → HasNetwork entries.now i network → IsPlaced self.now.numbers.items (home_of hashing self.now.bits network) (base_of hashing self.now.bits network + i) → ⊥ }
+    {
+        let base = base(hashing, self.bits, network);
+        probe(
+            self.numbers.as_slice(),
+            entries,
+            home(hashing, self.bits, network),
+            base,
+            network,
+        )
+    }
+
+    // Puts the network's entry, which is at the place, into a free slot. Where memory is refused,
+    // nothing changes.
+    pub(crate) fn add(
+        &mut self,
+        hashing: WordHash,
+        network: Prefix,
+        place: usize,
+    ) -> Result<(), AllocError>
+        requires { IsReady self.old place }
+        ensures placed { OnOk result (IsPlaced self.new.numbers.items (home_of hashing self.new.bits network) (base_of hashing self.new.bits network + place)) }
+        ensures err { OnErr result (self.new.numbers.items ≡ self.old.numbers.items) }
+        ensures more { IsMore self.old self.new }
+    {
+        let number = number(hashing, self.bits, network, place);
+        let free = free_from(self.numbers.as_slice(), home(hashing, self.bits, network));
+        if free < self.numbers.len() {
+            self.used += usize::from(self.numbers[free] == EMPTY);
+            self.numbers[free] = number;
+            return Ok(());
+        }
+        self.numbers.push(number)?;
+        self.used += 1;
+        Ok(())
+    }
+
+    // Takes the slot of the entry at the place out of use. The last entry's slot tells that place then.
+    pub(crate) fn take<V>(&mut self, hashing: WordHash, entries: &[(Prefix, V)], place: usize)
+        requires slotted { AreSlotted hashing entries.now self.old }
+        requires within { place < length entries.now }
+        ensures { IsTaken hashing entries.now place self.old self.new }
+    {
+        self.remove(hashing, entries[place].0, place);
+        let last = entries.len() - 1;
+        if place == last {
+            return;
+        }
+        self.relocate(hashing, entries[last].0, last, place);
+    }
+
+    // Takes the slot of the network's entry, which is at the place, out of use.
+    fn remove(&mut self, hashing: WordHash, network: Prefix, place: usize)
+        requires bits { self.old.bits ≤ 31 }
+        requires room { place + 3 ≤ 2 ^ self.old.bits }
+        requires placed { IsPlaced self.old.numbers.items (home_of hashing self.old.bits network) (base_of hashing self.old.bits network + place) }
+        ensures others { (h n : ℕ) → n ≢ base_of hashing self.old.bits network + place → IsPlaced self.old.numbers.items h n → IsPlaced self.new.numbers.items h n }
+        ensures gone { (slot : ℕ) × (slice_index self.old.numbers.items slot ≡ base_of hashing self.old.bits network + place) × (slice_index self.new.numbers.items slot ≡ 1) }
+        ensures length { length self.new.numbers.items ≡ length self.old.numbers.items }
+        ensures bits { self.new.bits ≡ self.old.bits }
+        ensures used { self.new.used ≡ self.old.used }
+    {
+        let number = number(hashing, self.bits, network, place);
+        renumber(
+            &mut self.numbers,
+            home(hashing, self.bits, network),
+            number,
+            GONE,
+        );
+    }
+
+    // Notes that the network's entry went from one place to another.
+    fn relocate(&mut self, hashing: WordHash, network: Prefix, from: usize, to: usize)
+        requires bits { self.old.bits ≤ 31 }
+        requires from { from + 3 ≤ 2 ^ self.old.bits }
+        requires to { to + 3 ≤ 2 ^ self.old.bits }
+        requires placed { IsPlaced self.old.numbers.items (home_of hashing self.old.bits network) (base_of hashing self.old.bits network + from) }
+        ensures placed { IsPlaced self.new.numbers.items (home_of hashing self.new.bits network) (base_of hashing self.new.bits network + to) }
+        ensures others { (h n : ℕ) → n ≢ base_of hashing self.old.bits network + from → IsPlaced self.old.numbers.items h n → IsPlaced self.new.numbers.items h n }
+        ensures length { length self.new.numbers.items ≡ length self.old.numbers.items }
+        ensures bits { self.new.bits ≡ self.old.bits }
+        ensures used { self.new.used ≡ self.old.used }
+    {
+        let old = number(hashing, self.bits, network, from);
+        let new = number(hashing, self.bits, network, to);
+        renumber(
+            &mut self.numbers,
+            home(hashing, self.bits, network),
+            old,
+            new,
+        );
+    }
+}
+
+// Sees to it that there are slots for one entry more. Where memory is refused, they stay.
+pub(crate) fn make_room<V>(
+    slots: &mut Slots,
+    entries: &[(Prefix, V)],
+    hashing: WordHash,
+    alloc: Global,
+) -> Result<(), AllocError>
+    requires { AreSlotted hashing entries.now slots.old }
+    ensures slotted { AreSlotted hashing entries.now slots.new }
+    ensures ready { OnOk result (IsReady slots.new (length entries.now)) }
+{
+    if !slots.is_full(entries.len()) {
+        return Ok(());
+    }
+    *slots = Slots::of(alloc, hashing, entries)?;
+    Ok(())
+}
+
+// How many homes so many bits tell apart.
+#[inline]
+fn homes(bits: u32) -> usize
+    requires { bits ≤ 31 }
+    ensures value { result ≡ 2 ^ bits }
+    ensures bound { result ≤ 2 ^ 31 }
+{
+    1 << bits
+}
+
+// How many bits the homes of so many entries need, one home in eight being full.
+fn bits_for(count: usize) -> Option<u32>
+    ensures { IfSome result (λ bits. (bits ≤ 31) × (3 ≤ bits) × (count + 3 ≤ 2 ^ bits) × AreFew bits count) }
+{
+    for bits in FEWEST..MOST + 1 {
+        if count <= homes(bits) / 8 {
+            return Some(bits);
+        }
+    }
+    None
+}
+
+// The number that a network is hashed by.
+#[inline]
+fn word(network: Prefix) -> u64
+    ensures { result ≡ network_word network }
+{
+    u64::from(network.address()) * 256 + u64::from(network.length())
+}
+
+// The slot at which the search of a network begins: the lowest bits of its hash.
+#[inline]
+fn home(hashing: WordHash, bits: u32, network: Prefix) -> usize
+    requires { bits ≤ 31 }
+    ensures value { result ≡ home_of hashing bits network }
+    ensures within { result < 2 ^ bits }
+{
+    hashing.hash_word(word(network)) as usize & (homes(bits) - 1)
+}
+
+// The number of a network's entry at the place 0: the tag is of the highest bits of its hash.
+#[inline]
+fn base(hashing: WordHash, bits: u32, network: Prefix) -> usize
+    requires { bits ≤ 31 }
+    ensures value { result ≡ base_of hashing bits network }
+    ensures some { 2 ≤ result }
+    ensures bound { result + 2 ^ bits ≤ 2 ^ 32 + 2 }
+{
+    let tag = (hashing.hash_word(word(network)) >> 32) as usize >> bits;
+    tag * homes(bits) + FIRST
+}
+
+// The number of a network's entry.
+#[inline]
+fn number(hashing: WordHash, bits: u32, network: Prefix, place: usize) -> u32
+    requires bits { bits ≤ 31 }
+    requires room { place + 3 ≤ 2 ^ bits }
+    ensures value { result ≡ base_of hashing bits network + place }
+    ensures some { 2 ≤ result }
+{
+    (base(hashing, bits, network) + place) as u32
+}
+
+// The place of the network's entry, found by the numbers from the home on.
+#[inline]
+fn probe<V>(
+    numbers: &[u32],
+    entries: &[(Prefix, V)],
+    home: usize,
+    base: usize,
+    network: Prefix,
+) -> Option<usize>
+    requires { 2 ≤ base }
+    ensures found { IfSome result (λ i. HasNetwork entries.now i network) }
+    ensures missing { result ≡ None → (i : ℕ) → HasNetwork entries.now i network → IsPlaced numbers.now home (base + i) → ⊥ }
+{
+    let mut slot = home;
+    while slot < numbers.len() {
+        let number = numbers[slot];
+        if number == EMPTY {
+            return None;
+        }
+        if let Some(place) = named(entries, number, base, network) {
+            return Some(place);
+        }
+        slot += 1;
+    }
+    None
+}
+
+// The place that the number tells, if the network's entry is there.
+#[inline]
+fn named<V>(entries: &[(Prefix, V)], number: u32, base: usize, network: Prefix) -> Option<usize>
+    ensures found { IfSome result (λ i. HasNetwork entries.now i network) }
+    ensures missing { result ≡ None → (i : ℕ) → HasNetwork entries.now i network → number ≢ base + i }
+{
+    // A number below the base gives a place past the end.
+    let place = (number as usize).wrapping_sub(base);
+    if place < entries.len() && entries[place].0 == network {
+        return Some(place);
+    }
+    None
+}
+
+// The first slot from the home on that is free, or the end.
+fn free_from(numbers: &[u32], home: usize) -> usize
+    requires { home ≤ length numbers.now }
+    ensures { IsFree numbers.now home result }
+{
+    let mut slot = home;
+    while slot < numbers.len() && numbers[slot] > GONE {
+        slot += 1;
+    }
+    slot
+}
+
+// The first slot from the home on that has the number.
+fn slot_of(numbers: &[u32], home: usize, number: u32) -> usize
+    requires some { number ≢ 0 }
+    requires placed { IsPlaced numbers.now home number }
+    ensures after { home ≤ result }
+    ensures within { result < length numbers.now }
+    ensures number { slice_index numbers.now result ≡ number }
+    ensures filled { (q : ℕ) → home ≤ q → q < result → slice_index numbers.now q ≢ 0 }
+{
+    let mut slot = home;
+    while numbers[slot] != number {
+        slot += 1;
+    }
+    slot
+}
+
+// Gives the first slot from the home on that has the number another.
+fn renumber(numbers: &mut Vec<u32>, home: usize, old: u32, new: u32)
+    requires placed { IsPlaced numbers.old.items home old }
+    requires old { old ≢ 0 }
+    requires new { new ≢ 0 }
+    ensures placed { IsPlaced numbers.new.items home new }
+    ensures others { (h n : ℕ) → n ≢ old → IsPlaced numbers.old.items h n → IsPlaced numbers.new.items h n }
+    ensures set { (slot : ℕ) × (slice_index numbers.old.items slot ≡ old) × (slice_index numbers.new.items slot ≡ new) }
+    ensures length { length numbers.new.items ≡ length numbers.old.items }
+{
+    let slot = slot_of(numbers.as_slice(), home, old);
+    numbers[slot] = new;
+}
