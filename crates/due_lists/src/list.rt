@@ -65,16 +65,6 @@ impl AreaDues {
         self.list.as_slice()
     }
 
-    /// The metric at which the destination is due.
-    pub fn metric(&self, dest: Dest) -> Option<u32>
-        ensures { IsMetricIn self.now.list dest result }
-    {
-        match self.place(&dest) {
-            Ok(at) => Some(self.list[at].metric),
-            Err(_) => None,
-        }
-    }
-
     /// Makes room for so many more.
     pub fn reserve(&mut self, more: usize) -> Result<(), Memory>
         ensures area { self.new.area ≡ self.old.area }
@@ -205,11 +195,7 @@ fn place_by_search(list: &[Due], dest: &Dest) -> Result<usize, usize>
 }
 
 // Adds those before the destination. The answer is what comes after it.
-fn push_before<'a>(
-    rest: &'a [Due],
-    dest: &Dest,
-    list: &mut Vec<Due>,
-) -> Result<&'a [Due], Memory>
+fn push_before<'a>(rest: &'a [Due], dest: &Dest, list: &mut Vec<Due>) -> Result<&'a [Due], Memory>
     requires { AreInOrder rest.now }
     ensures pushed { OnOk result (list.new.items ≡ list.old.items ++ those_before dest.now rest.now) }
     ensures left { IfOk result (λ left. left.now ≡ those_after dest.now rest.now) }
