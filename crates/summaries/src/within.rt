@@ -1,9 +1,9 @@
-//! The networks of an area that a prefix covers.
-ghost use Rattle.std.specs.Prelude.{◌≡◌, ◌↔◌, Contains, IfOk, OnOk, IsTrue};
+//! The networks of an area that a prefix covers, and their costs.
+ghost use Rattle.std.specs.Prelude.{◌≡◌, ◌↔◌, ℕ, Contains, IfOk, OnOk, IsTrue};
 ghost use Rattle.ospf_types.specs.declared.config.Range.{Range as RangeValue};
 ghost use Rattle.summaries.specs.declared.member.Member.{Member as MemberValue};
-ghost use Rattle.summaries.specs.Active.{IsConfigured, IsMemberWithin};
-ghost use Rattle.summaries.specs.Following.{HasMore, IsAddedWithin};
+ghost use Rattle.summaries.specs.Active.{IsConfigured};
+ghost use Rattle.summaries.specs.Following.{HasMore, IsAddedWithin, IsCostWithin};
 
 use crate::active::cost_in;
 use crate::member::Member;
@@ -13,38 +13,38 @@ use ospf_types::memory::Memory;
 use ospf_types::prefix::Prefix;
 use std::alloc::Global;
 
-/// The networks of the area that the range's prefix covers, as its members.
-pub(crate) fn members_within(
+/// The networks of the area that the range's prefix covers, as its members, each at its cost.
+pub(crate) fn costs_within(
     alloc: Global,
     intra: &Intra,
     area: u32,
     range: Prefix,
-) -> Result<Vec<Member>, Memory>
-    ensures { IfOk result (λ members. (m : MemberValue) → Contains members.items m ↔ IsMemberWithin intra.now.entries area range m) }
+) -> Result<Vec<(Member, u32)>, Memory>
+    ensures { IfOk result (λ costs. (x : MemberValue × ℕ) → Contains costs.items x ↔ IsCostWithin intra.now.entries area range x) }
 {
-    let mut members = Vec::new(alloc);
+    let mut costs = Vec::new(alloc);
     for network in &intra.networks(alloc)? {
         let member = Member {
             range,
             area,
             network: *network,
         };
-        push_within(intra, member, &mut members)?;
+        push_within(intra, member, &mut costs)?;
     }
-    Ok(members)
+    Ok(costs)
 }
 
 // Adds the member, where its network is one of its area, and its range covers it.
-fn push_within(intra: &Intra, member: Member, members: &mut Vec<Member>) -> Result<(), Memory>
-    ensures { OnOk result (HasMore (IsAddedWithin intra.now.entries member) members.old.items members.new.items) }
+fn push_within(intra: &Intra, member: Member, costs: &mut Vec<(Member, u32)>) -> Result<(), Memory>
+    ensures { OnOk result (HasMore (IsAddedWithin intra.now.entries member) costs.old.items costs.new.items) }
 {
     if !member.range.covers(member.network) {
         return Ok(());
     }
-    if cost_in(intra.get(member.network), member.area).is_none() {
+    let Some(cost) = cost_in(intra.get(member.network), member.area) else {
         return Ok(());
-    }
-    members.push(member)?;
+    };
+    costs.push((member, cost))?;
     Ok(())
 }
 
