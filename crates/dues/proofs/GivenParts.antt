@@ -1,5 +1,5 @@
 -- What gives a summary, part by part.
-use Rattle.std.proofs.Common.{◌≡◌, ℕ, ◌+◌, ◌<◌, ◌≤◌, List, [], length, take, get_or, Option, Some, None, refl, sym, ap, subst, ◌∙◌, ◌⊎◌, inl, inr, arith}
+use Rattle.std.proofs.Common.{◌≡◌, ℕ, ◌+◌, ◌<◌, ◌≤◌, List, [], ◌∷◌, length, take, get_or, Option, Some, None, refl, sym, ap, subst, ◌∙◌, ◌⊎◌, inl, inr, arith}
 use Rattle.std.specs.Prelude.{◌↔◌, IsFalse, Contains, All}
 use Rattle.std.specs.FinMap.{get}
 use Rattle.ospf_types.specs.declared.config.AreaConfig.{AreaConfig}
@@ -8,13 +8,14 @@ use Rattle.ospf_types.specs.declared.prefix.Prefix.{Prefix}
 use Rattle.ospf_types.specs.Address.{Covers}
 use Rattle.ospf_types.specs.Summaries.{IsGreatest}
 use Rattle.ospf_types.proofs.Elements.{no_element, contains_more}
+use Rattle.ospf_types.proofs.InOrder.{only_item}
 use Rattle.summaries.proofs.Greatest.{is_greatest}
 use Rattle.external.specs.Preferred.{PreferredValue}
 use Rattle.dues.specs.declared.giving.Candidate.{Candidate}
 use Rattle.dues.specs.declared.giving.Through.{Through}
 use Rattle.dues.specs.Candidates.{AreOfNetwork, CostsInto, IsPreferredThrough}
 use Rattle.dues.specs.Inputs.{DueInputsValue}
-use Rattle.dues.specs.Giving.{IsMost, IsComponentIn, IsOutside, GivesIn, IntraGives, InterGives, RangeGives, RangeGivesBy, IsRouterDueIn, PreferredGives}
+use Rattle.dues.specs.Giving.{IsMost, IsComponentIn, IsOutside, GivesIn, IntraGives, InterGives, RangeGives, RangeGivesBy, IsRouterDueIn, IsServed, PreferredGives}
 use Rattle.summaries.proofs.Searching.{HasNone}
 
 -- ---- networks outside the ranges of their area
@@ -96,6 +97,15 @@ module _ (v : DueInputsValue) (area : ℕ) (p : Prefix) where
         let is : a.id ≡ through = in_area.3 in
         (a, in_area.2, (λ same. w.2 (sym is ∙ same), (r, in_area.4, in_area.5, in_area.6), subst (λ (id : ℕ). IsGreatest (IsComponentIn v id p) n) (sym is) w.3)),
   ))
+
+-- ---- an area that is served is one of two at least
+
+pub two_active : (active : List ℕ) (area : ℕ) → IsServed active area → 1 < length active
+two_active [] area served = absurd (no_element area served.here)
+two_active (x ∷ []) area served =
+    let another = served.other.0 in
+    absurd (served.other.2 (only_item x another served.other.1 ∙ sym (only_item x area served.here)))
+two_active (x ∷ y ∷ rest) area served = omega arith
 
 -- ---- what may give a summary, in one area
 

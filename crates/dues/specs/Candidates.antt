@@ -1,5 +1,5 @@
 -- What may give a summary for a destination, in whichever area.
-use Rattle.std.specs.Prelude.{ℕ, ◌≡◌, ◌≢◌, ◌↔◌, ◌<◌, IsFalse, List, Contains, All, Option, Some, map}
+use Rattle.std.specs.Prelude.{ℕ, ◌≡◌, ◌≢◌, ◌↔◌, ◌<◌, IsFalse, List, Contains, All, Option, Some, map, length}
 use Rattle.std.specs.FinMap.{get}
 use Rattle.ospf_types.specs.declared.config.AreaConfig.{AreaConfig}
 use Rattle.ospf_types.specs.declared.entry.Entry.{Entry}
@@ -39,8 +39,12 @@ AreOf v (Router router) c = (t : Through) → (c.other ≡ Some t) ↔ IsPreferr
 abbrev pub IsCandidate : DueInputsValue → Candidate → Type 0
 IsCandidate v c = AreOf v c.dest c
 
+-- with fewer than two active areas nothing is due, and nothing is looked up
+abbrev pub IsCandidateOf : DueInputsValue → Candidate → Type 0
+IsCandidateOf v c = 1 < length v.active → IsCandidate v c
+
 abbrev pub AreCandidates : DueInputsValue → List Candidate → Type 0
-AreCandidates v cs = (c : Candidate) → Contains cs c → IsCandidate v c
+AreCandidates v cs = (c : Candidate) → Contains cs c → IsCandidateOf v c
 
 abbrev pub dests_in : List Candidate → List Dest
 dests_in cs = map (λ (c : Candidate). c.dest) cs

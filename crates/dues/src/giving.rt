@@ -7,7 +7,7 @@ ghost use Rattle.ospf_types.specs.Address.{Covers};
 ghost use Rattle.ospf_types.specs.Summaries.{IsGreatest, default_route};
 ghost use Rattle.dues.specs.declared.giving.Through.{Through as ThroughValue};
 ghost use Rattle.dues.specs.Giving.{IsDueIn, IsNetworkDueIn, GivesIn, RangeGives, RangeGivesBy, Advertises, IsOutside, IsServed, IsMost};
-ghost use Rattle.dues.specs.Candidates.{IsCandidate, AreOfNetwork, CostsInto, IsIntraThrough, LeadsThrough, IsPreferredThrough};
+ghost use Rattle.dues.specs.Candidates.{IsCandidateOf, AreOfNetwork, CostsInto, IsIntraThrough, LeadsThrough, IsPreferredThrough};
 
 use crate::inputs::DueInputs;
 use external::Preferred;
@@ -39,11 +39,20 @@ pub(crate) struct Candidate {
     pub is_range: bool,
 }
 
-/// The destination with what may give a summary for it.
+/// The destination with what may give a summary for it. With fewer than two active areas nothing is due, and nothing is
+/// looked up.
 pub(crate) fn find_candidate(inputs: &DueInputs<'_>, dest: Dest) -> Candidate
     ensures dest { result.dest ≡ dest }
-    ensures right { IsCandidate inputs.now result }
+    ensures right { IsCandidateOf inputs.now result }
 {
+    if inputs.active.len() < 2 {
+        return Candidate {
+            dest,
+            intra: None,
+            other: None,
+            is_range: false,
+        };
+    }
     match dest {
         Dest::Net(network) => Candidate {
             dest,
@@ -68,7 +77,7 @@ pub(crate) fn metric(
     candidate: &Candidate,
 ) -> Option<u32>
     requires served { IsTrue served ↔ IsServed inputs.now.active area.now.id }
-    requires right { IsCandidate inputs.now candidate.now }
+    requires right { IsCandidateOf inputs.now candidate.now }
     ensures { (m : ℕ) → (result ≡ Some m) ↔ IsDueIn inputs.now area.now candidate.now.dest m }
 {
     if !served {

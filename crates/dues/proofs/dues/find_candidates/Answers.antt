@@ -6,7 +6,7 @@ use Rattle.std.proofs.lemmas.List.Elements.{Contains-append_cases}
 use Rattle.ospf_types.specs.declared.key.Dest.{Dest}
 use Rattle.ospf_types.proofs.InOrder.{only_item}
 use Rattle.dues.specs.declared.giving.Candidate.{Candidate}
-use Rattle.dues.specs.Candidates.{IsCandidate, dests_in}
+use Rattle.dues.specs.Candidates.{IsCandidateOf, dests_in}
 use Rattle.dues.proofs.dues.find_candidates.Goals as goal
 
 pub loop-dest-preserved : goal.loop-dest-preserved
@@ -24,6 +24,6 @@ loop-dest-preserved c =
       ap dests_in pushed ∙ map-append (λ (x : Candidate). x.dest) found (one ∷ []) ∙ (λ k. was.0 k ++ sym here k) ∙ sym more,
       λ x there. elim (Contains-append_cases found (one ∷ []) x (subst (λ (xs : List Candidate). Contains xs x) pushed there)) [
         | inl before ↦ was.1 x before
-        | inr same ↦ subst (IsCandidate v) (sym (only_item one x same)) c.find_candidate.ensures.right
+        | inr same ↦ subst (IsCandidateOf v) (sym (only_item one x same)) c.find_candidate.ensures.right
       ],
     )
