@@ -14,7 +14,7 @@ use std::marker::Model;
 use word_hash::WordHash;
 
 /// Values by network. A look-up of a network that has a value mostly reads one slot and the entry.
-/// Beside the entries, its slots take some 16 to 64 bytes a network while it grows. Removals give memory
+/// Beside the entries, its slots take some 10 to 40 bytes a network while it grows. Removals give memory
 /// back in large steps.
 #[derive(Drop)]
 pub struct NetworkMap<V> {
