@@ -1,5 +1,5 @@
 -- What may give a summary for a destination, in whichever area.
-use Rattle.std.specs.Prelude.{ℕ, ◌≡◌, ◌≢◌, ◌↔◌, ◌<◌, IsFalse, List, Contains, All, Option, Some, map, length}
+use Rattle.std.specs.Prelude.{ℕ, ◌≡◌, ◌≢◌, ◌↔◌, ◌<◌, IsFalse, List, Contains, Option, Some, map, length}
 use Rattle.std.specs.FinMap.{get}
 use Rattle.ospf_types.specs.declared.config.AreaConfig.{AreaConfig}
 use Rattle.ospf_types.specs.declared.entry.Entry.{Entry}

@@ -148,6 +148,7 @@ impl Intra {
     pub fn entries(&self) -> Slice<'_, Prefix, Entry>
         ensures exact { (p : PrefixValue) (e : EntryValue) → Contains result (p, e) → map.get self.now.entries p ≡ Some e }
         ensures keys { (p : PrefixValue) → Contains (keys_of result) p ↔ IsSome (map.get self.now.entries p) }
+        ensures each_once { AllPairs (λ p q. p ≢ q) (keys_of result) }
     {
         self.entries.as_slice()
     }

@@ -1,8 +1,7 @@
 -- One destination more.
-use Rattle.std.proofs.Common.{◌≡◌, ℕ, ◌+◌, ◌<◌, ◌≤◌, List, ◌∷◌, length, drop, get_or, Option, Some, sym, ap, subst, ◌∙◌, arith}
-use Rattle.std.specs.Prelude.{◌↔◌, Contains, IsTrue}
+use Rattle.std.proofs.Common.{◌≡◌, ℕ, ◌+◌, ◌<◌, ◌≤◌, List, ◌∷◌, length, drop, get_or, sym, ap, subst, ◌∙◌}
+use Rattle.std.specs.Prelude.{◌↔◌, IsTrue}
 use Rattle.std.proofs.lemmas.List.{length-map, get_or-map}
-use Rattle.ospf_types.specs.declared.key.Dest.{Dest}
 use Rattle.ospf_types.proofs.Elements.{first_element}
 use Rattle.due_lists.specs.declared.due.Due.{Due}
 use Rattle.due_lists.specs.Lists.{Metrics, IsMetricIn, due_for}

@@ -1,5 +1,5 @@
 -- Part by part, of the routes that are kept.
-use Rattle.std.proofs.Common.{◌≡◌, ◌<◌, length, Option, Some, ap, subst, ◌∙◌, arith}
+use Rattle.std.proofs.Common.{◌≡◌, Option, Some, ap, subst, ◌∙◌}
 use Rattle.std.specs.Prelude.{◌↔◌, Contains, IsFalse}
 use Rattle.std.specs.FinMap.{get}
 use Rattle.ospf_types.specs.declared.config.AreaConfig.{AreaConfig}
@@ -9,11 +9,6 @@ use Rattle.dues.specs.Inputs.{DueInputsValue}
 use Rattle.dues.specs.Giving.{Advertises}
 use Rattle.dues.specs.Candidates.{IsPreferredThrough}
 use Rattle.dues.proofs.giving.find_candidate.Goals as goal
-
-pub returns-then-len-clause-right : goal.returns-then-len-clause-right
-returns-then-len-clause-right c two =
-    let few : length c.args.inputs.now.active < 2 = subst (λ (w : DueInputsValue). length w.active < 2) c.inputs.view_is c.if-len.true in
-    absurd (omega (arith, few, two))
 
 pub returns-in-Net-clause-right : goal.returns-in-Net-clause-right
 returns-in-Net-clause-right c two = record {

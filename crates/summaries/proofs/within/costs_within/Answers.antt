@@ -10,7 +10,6 @@ use Rattle.std.proofs.lemmas.Option.{get_or_from_slice_get, slice_get_within}
 use Rattle.ospf_types.specs.declared.entry.Entry.{Entry}
 use Rattle.ospf_types.specs.declared.prefix.Prefix.{Prefix}
 use Rattle.summaries.specs.declared.member.Member.{Member}
-use Rattle.summaries.specs.Following.{IsCostWithin}
 use Rattle.summaries.proofs.Inside.{IsOfNetwork, all_within}
 use Rattle.summaries.proofs.Naming.{more_next, more_all}
 use Rattle.summaries.proofs.within.costs_within.Goals as goal
