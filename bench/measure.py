@@ -4,9 +4,11 @@
 For each network: its LSAs, the events of the whole recording, the processor time of a replay, events a second over
 all of it, microseconds for each of the changes at the end (the time of the whole recording less that of one without
 the changes, the least of some runs each), and the greatest memory. Give names of recordings to measure these instead;
-then the last 200 lines are taken for the changes. Nothing here asserts a time.
+then the last 200 lines are taken for the changes. The program is what `./abr build` built, or the one that `--program`
+names. Nothing here asserts a time.
 """
 
+import argparse
 import os
 import subprocess
 import sys
@@ -18,6 +20,10 @@ PROGRAM = os.path.join(TOP, "crates", "abr", "out", "abr")
 NETWORKS = [("grid", "20"), ("grid", "40"), ("ring", "300"), ("random", "300"), ("random", "1000"), ("areas", "300")]
 CHANGES = 200
 RUNS = 7
+
+
+def program():
+    return WORDS.program or PROGRAM
 
 
 def run(words):
@@ -32,14 +38,14 @@ def run(words):
 
 def least(recording):
     """The least processor seconds of a replay, of some runs."""
-    return min(run([PROGRAM, "replay", recording])[0] for _ in range(RUNS))
+    return min(run([program(), "replay", recording])[0] for _ in range(RUNS))
 
 
 def memory(recording):
     """The greatest memory of a replay in megabytes, where the host has a `time` that tells it."""
     if not os.path.exists(TIME):
         return "-"
-    _, said = run([TIME, "-f", "%M", PROGRAM, "replay", recording])
+    _, said = run([TIME, "-f", "%M", program(), "replay", recording])
     return f"{int(said.split()[-1]) / 1024:.1f}"
 
 
@@ -57,11 +63,12 @@ def measure(name, lines, folder):
 
 
 def main():
-    subprocess.run([os.path.join(TOP, "abr"), "--version"], check=True, stdout=subprocess.DEVNULL)
+    if not os.access(program(), os.X_OK):
+        sys.exit(f"measure: {program()} is not there: run `./abr build`")
     print(f"{'network':16} {'LSAs':>6} {'events':>7} {'ms':>9} {'events/s':>10} {'us/change':>10} {'MB':>8}")
     with tempfile.TemporaryDirectory() as folder:
-        if len(sys.argv) > 1:
-            for name in sys.argv[1:]:
+        if WORDS.recordings:
+            for name in WORDS.recordings:
                 with open(name) as recording:
                     measure(os.path.basename(name), recording.readlines(), folder)
             return
@@ -71,5 +78,13 @@ def main():
             measure(f"{shape} {size}", lines, folder)
 
 
+def words():
+    parser = argparse.ArgumentParser(usage="measure.py [--program FILE] [RECORDING..]")
+    parser.add_argument("--program")
+    parser.add_argument("recordings", nargs="*")
+    return parser.parse_args()
+
+
 if __name__ == "__main__":
+    WORDS = words()
     main()

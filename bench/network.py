@@ -5,8 +5,9 @@
     bench/network.py ring ROUTERS    a ring of routers
     bench/network.py random ROUTERS  a connected network of degree four on average, with transit networks
     bench/network.py areas ROUTERS   a backbone and two areas of so many routers each
+    bench/network.py externals COUNT a random network of 300 routers, one of which has so many external routes
 
-Options: --changes N, how many events follow once all LSAs are there (200 unless given; a metric that
+An area holds at most 16,384 routers, and an AS 65,536 external routes: more are refused. Options: --changes N, how many events follow once all LSAs are there (200 unless given; a metric that
 changes, a link that goes or comes, a stub link that changes its metric, a refresh), and --seed N. One seed
 always writes the same recording. The calculating router is 10.0.0.1, a corner of the grid and a member of
 each area.
@@ -16,6 +17,10 @@ import argparse
 import random
 
 STUB_LINKS = 3
+# What `abr` holds of an area and of an AS, and how large the network is beside external routes.
+MOST_ROUTERS = 16384
+MOST_EXTERNALS = 65536
+ROUTERS_BESIDE_EXTERNALS = 300
 
 
 def address(number):
@@ -58,6 +63,8 @@ class Area:
         self.lans = []  # lists of members
         self.stubs = {r: [choose.randint(1, 10) for _ in range(STUB_LINKS)] for r in self.routers}
         self.sequence = {r: 0 for r in self.routers}
+        self.places = {r: n for n, r in enumerate(self.routers)}
+        self.boundary = None  # the AS boundary router, if there is one
 
     def join(self, a, b):
         for ends in ((a, b), (b, a)):
@@ -65,8 +72,7 @@ class Area:
 
     def point(self, a, b):
         """The address of router a on its link to router b."""
-        places = {r: n for n, r in enumerate(self.routers)}
-        low, high = sorted((places[a], places[b]))
+        low, high = sorted((self.places[a], self.places[b]))
         base = 0x60000000 + (self.number << 24) + ((low * len(self.routers) + high) << 2)
         return base + (1 if a < b else 2)
 
@@ -83,11 +89,12 @@ class Area:
         for lan, members in enumerate(self.lans):
             if router in members:
                 links.append(link(self.member(lan, members[0]), self.member(lan, router), 2, 10))
-        place = self.routers.index(router)
+        place = self.places[router]
         for n, metric in enumerate(self.stubs[router]):
             prefix = 0x14000000 + (self.number << 24) + ((place * STUB_LINKS + n) << 8)
             links.append(link(prefix, 0xFFFFFF00, 3, metric))
-        body = bytes([0, 0]) + len(links).to_bytes(2, "big") + b"".join(links)
+        flags = 2 if router == self.boundary else 0
+        body = bytes([flags, 0]) + len(links).to_bytes(2, "big") + b"".join(links)
         return lsa(1, router, router, self.sequence[router], body)
 
     def network_lsa(self, lan):
@@ -123,6 +130,25 @@ class Area:
         elif what < 0.9:
             self.stubs[router][self.choose.randrange(STUB_LINKS)] = self.choose.randint(1, 10)
         return [self.install(self.router_lsa(router))]
+
+
+class Externals:
+    """External routes of type 2 that one AS boundary router advertises."""
+
+    def __init__(self, count, router, choose):
+        self.router = router
+        self.choose = choose
+        self.sequence = [0] * count
+
+    def install(self, n):
+        self.sequence[n] += 1
+        prefix = 0x30000000 + (n << 8)
+        body = (0xFFFFFF00).to_bytes(4, "big") + (0x80000000 + self.choose.randint(1, 100)).to_bytes(4, "big") + bytes(8)
+        return f"install as {lsa(5, prefix, self.router, self.sequence[n], body).hex()}"
+
+    def change(self):
+        """An event: the metric of some external route differs."""
+        return [self.install(self.choose.randrange(len(self.sequence)))]
 
 
 def grid(side, choose):
@@ -162,22 +188,39 @@ def networks(arguments, choose):
         return grid(arguments.size, choose)
     if arguments.shape == "ring":
         return ring(arguments.size, choose)
+    if arguments.shape == "externals":
+        return [fill(Area(0, 0x0A000001, ROUTERS_BESIDE_EXTERNALS, choose), choose)]
     if arguments.shape == "random":
         return [fill(Area(0, 0x0A000001, arguments.size, choose), choose)]
     return [fill(Area(n, 0x0A000001 + (n << 16), arguments.size, choose), choose) for n in range(3)]
 
 
+def fault_of_size(shape, size):
+    """Returns why there is no such network, or nothing."""
+    if size < 3:
+        return "a size of three or more"
+    if shape == "externals":
+        return f"an AS holds at most {MOST_EXTERNALS} external routes, not {size}" if size > MOST_EXTERNALS else ""
+    routers = size * size if shape == "grid" else size
+    return f"an area holds at most {MOST_ROUTERS} routers, not {routers}" if routers > MOST_ROUTERS else ""
+
+
 def main():
     parser = argparse.ArgumentParser(description=__doc__, formatter_class=argparse.RawDescriptionHelpFormatter)
-    parser.add_argument("shape", choices=["grid", "ring", "random", "areas"])
+    parser.add_argument("shape", choices=["grid", "ring", "random", "areas", "externals"])
     parser.add_argument("size", type=int)
     parser.add_argument("--changes", type=int, default=200)
     parser.add_argument("--seed", type=int, default=1)
     arguments = parser.parse_args()
-    if arguments.size < 3:
-        parser.error("a size of three or more")
+    fault = fault_of_size(arguments.shape, arguments.size)
+    if fault:
+        parser.error(fault)
     choose = random.Random(arguments.seed)
     areas = networks(arguments, choose)
+    externals = []
+    if arguments.shape == "externals":
+        areas[0].boundary = areas[0].routers[1]
+        externals = [Externals(arguments.size, areas[0].boundary, choose)]
     print("abr 1")
     print("router 10.0.0.1")
     for area in areas:
@@ -192,9 +235,12 @@ def main():
             print(area.install(area.router_lsa(router)))
         for lan in range(len(area.lans)):
             print(area.install(area.network_lsa(lan)))
+    for each in externals:
+        for n in range(arguments.size):
+            print(each.install(n))
     lines = []
     while len(lines) < arguments.changes:
-        lines += choose.choice(areas).change()
+        lines += choose.choice(areas + externals).change()
     for line in lines[: arguments.changes]:
         print(line)
 

@@ -2,5 +2,4 @@ pub mod Parts
 pub mod Placing
 pub mod Changing
 pub mod Merging
-pub mod Pushing
 pub mod Putting

@@ -245,3 +245,28 @@ put_in_order d metric old new ordered kinds e = record {
   put = subst (IsPut d metric old) (sym e) (is_put d metric old);
   invariant = (subst AreInOrder (sym e) (ordered_with d metric old ordered), subst AreOfKind (sym e) (of_kind_with d metric old kinds));
 }
+
+-- ---- what is left of a list while destinations are looked up in their order
+
+-- of these destinations it tells what the list tells
+pub record IsLeft (list rest : List Due) (dests : List Dest) : Type 0 where
+  pub in_order : AreInOrder rest
+  pub of_kind : AreOfKind rest
+  pub same : (d : Dest) → Contains dests d → (due : Due) → due.dest ≡ d → Contains rest due ↔ Contains list due
+
+pub all_left : (list : List Due) (dests : List Dest) → AreInOrder list → AreOfKind list → IsLeft list list dests
+all_left list dests in_order of_kind = record { in_order = in_order; of_kind = of_kind; same = λ d c due is. (λ h. h, λ h. h) }
+
+-- what comes after the first tells of the others
+pub left_after : (list rest : List Due) (d : Dest) (dests : List Dest) → ((e : Dest) → Contains dests e → dest_cmp d e ≡ Less) → IsLeft list rest (d ∷ dests) → IsLeft list (those_after d rest) dests
+left_after list rest d dests later left = record {
+  in_order = ordered_filter (λ due. is_gt (dest_cmp due.dest d)) rest left.in_order;
+  of_kind = All-filter (λ due. is_gt (dest_cmp due.dest d)) (λ due. due.kind ≡ kind_of due.dest) rest left.of_kind;
+  same = λ e c due is.
+      let test : Due → Bool = λ due. is_gt (dest_cmp due.dest d) in
+      let greater : dest_cmp due.dest d ≡ Greater = ap (λ (f : Dest). dest_cmp f d) is ∙ turned_back d e (later e c) in
+      let was = left.same e (later_element d e dests c) due is in (
+        λ h. was.0 (kept_from test rest due h),
+        λ h. kept test rest due (was.1 h) (ap is_gt greater),
+      );
+}

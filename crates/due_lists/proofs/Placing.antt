@@ -1,20 +1,21 @@
 -- What a search by destination finds in a list in order, and what an edit at that place makes of it.
-use Rattle.std.proofs.Common.{◌≡◌, ℕ, suc, ◌+◌, ◌<◌, ◌≤◌, List, [], ◌∷◌, ◌++◌, map, length, take, drop, get_or, set, Some, None, Result, Ok, Err, IfOk, IfErr, sym, ap, subst, ◌∙◌, add-one, arith}
+use Rattle.std.proofs.Common.{◌≡◌, ℕ, zero, suc, ◌+◌, ◌<◌, ◌≤◌, List, [], ◌∷◌, ◌++◌, map, length, take, drop, get_or, set, Some, None, Result, Ok, Err, IfOk, IfErr, sym, ap, subst, ◌∙◌, add-one, arith}
 use Rattle.std.specs.declared.cmp.Ordering.TheVariants.{Less, Equal, Greater}
 use Rattle.std.specs.Ordering.{is_lt, ordering_index}
-use Rattle.std.specs.List.{insert, remove}
+use Rattle.std.specs.List.{insert, remove, slice_get}
 use Rattle.std.specs.List.Sorted.{IsSearchInRange, IsBinarySearchResult, IsNonDecreasingBy, IsPartitionPoint}
 use Rattle.std.proofs.lemmas.List.{get_or-map, length-map, get_or-take, get_or-drop, length-take, length-drop, take-append-drop, drop_more, set_split}
 use Rattle.std.proofs.lemmas.List.Elements.{All-cons, All-nil, All-get_or}
 use Rattle.std.proofs.lemmas.List.Sorted.{searchable_from_sorted}
 use Rattle.std.proofs.lemmas.Map.Keys.{Less-from_sorted}
+use Rattle.std.proofs.lemmas.Option.{get_or_from_slice_get, slice_get_within}
 use Rattle.ospf_types.specs.declared.key.Dest.{Dest}
 use Rattle.ospf_types.specs.Keys.{dest_cmp}
 use Rattle.ospf_types.proofs.Orders.{dest_total, dest_exact}
 use Rattle.due_lists.specs.declared.due.Due.{Due}
 use Rattle.due_lists.specs.Lists.{due_for, kind_of, AreInOrder, AreOfKind}
 use Rattle.due_lists.specs.Places.{those_before, those_after, with_metric, IsAt, IsGapFor}
-use Rattle.due_lists.proofs.Parts.{turned_back, parted, AreAll}
+use Rattle.due_lists.proofs.Parts.{turned, turned_back, parted, AreAll}
 
 less_at : (list : List Due) → AreInOrder list → (i j : ℕ) (e : Due) → i < j → j < length list → dest_cmp (get_or list i e).dest (get_or list j e).dest ≡ Less
 less_at list ordered i j e lt in_range =
@@ -67,6 +68,25 @@ module _ (list : List Due) (ordered : AreInOrder list) (d : Dest) where
         before = sym parts.0 ∙ ap (those_before d) whole;
         after = sym parts.1 ∙ ap (those_after d) whole;
       }
+
+  module _ (first : Due) (stands : slice_get list 0 ≡ Some first) where
+    read : (e : Due) → get_or list 0 e ≡ first
+    read e = get_or_from_slice_get list 0 first e stands
+
+    -- the first of the list is the destination
+    pub is_first : dest_cmp first.dest d ≡ Equal → IsAt list d 0
+    is_first equal = is_at 0 (slice_get_within list 0 first stands) (λ e. ap (λ (due : Due). dest_cmp due.dest d) (read e) ∙ equal)
+
+    -- or it comes after the destination, and so do the others
+    pub is_past : dest_cmp first.dest d ≡ Greater → IsGapFor list d 0
+    is_past greater = is_gap 0 (omega arith) (λ k e low high. absurd (omega (arith, high)), λ k e low high. later e k high)
+      where
+        later : (e : Due) (k : ℕ) → k < length list → dest_cmp (get_or list k e).dest d ≡ Greater
+        later e zero high = ap (λ (due : Due). dest_cmp due.dest d) (read e) ∙ greater
+        later e (suc k) high =
+            let other : Dest = (get_or list (suc k) e).dest in
+            let more : dest_cmp first.dest other ≡ Less = ap (λ (due : Due). dest_cmp due.dest other) (sym (read e)) ∙ less_at list ordered 0 (suc k) e (omega arith) high in
+            turned_back d other (dest_total.trans d first.dest other (turned first.dest d greater) more)
 
   -- a search by destination ends at it, or where it would go
   pub searched : (r : Result ℕ ℕ) → IsSearchInRange r (length list) → IsBinarySearchResult (λ due. dest_cmp due.dest d) list r → record { found : IfOk r (IsAt list d); absent : IfErr r (IsGapFor list d) }

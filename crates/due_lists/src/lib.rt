@@ -7,5 +7,5 @@ mod list;
 mod plan;
 
 pub use due::Due;
-pub use list::AreaDues;
+pub use list::{AreaDues, look_up};
 pub use plan::AreaPlan;

@@ -65,16 +65,6 @@ impl AreaDues {
         self.list.as_slice()
     }
 
-    /// The metric at which the destination is due.
-    pub fn metric(&self, dest: Dest) -> Option<u32>
-        ensures { IsMetricIn self.now.list dest result }
-    {
-        match self.place(&dest) {
-            Ok(at) => Some(self.list[at].metric),
-            Err(_) => None,
-        }
-    }
-
     /// Makes room for so many more.
     pub fn reserve(&mut self, more: usize) -> Result<(), Memory>
         ensures area { self.new.area ≡ self.old.area }
@@ -112,7 +102,7 @@ impl AreaDues {
         let mut list = Vec::with_capacity(alloc, most)?;
         let mut rest = self.list.as_slice();
         for (dest, metric) in metrics {
-            rest = push_before(rest, *dest, &mut list)?;
+            rest = push_before(rest, dest, &mut list)?;
             push_at(*dest, *metric, &mut list)?;
         }
         list.extend_from_slice(rest)?;
@@ -160,29 +150,62 @@ impl AreaDues {
         ensures found { IfOk result (IsAt self.now.list dest.now) }
         ensures absent { IfErr result (IsGapFor self.now.list dest.now) }
     {
-        self.list.binary_search_by_key(dest, |due| due.dest)
+        place_by_search(self.list.as_slice(), dest)
     }
 }
 
-// Adds those before the destination. The answer is what comes after it.
-fn push_before<'a>(
-    mut rest: &'a [Due],
-    dest: Dest,
-    list: &mut Vec<Due>,
-) -> Result<&'a [Due], Memory>
-    requires { AreInOrder rest.now }
-    ensures pushed { OnOk result (list.new.items ≡ list.old.items ++ those_before dest rest.now) }
-    ensures left { IfOk result (λ left. left.now ≡ those_after dest rest.now) }
+/// The metric at which the destination is due by this list, and what comes after it in the list. Destinations that are
+/// looked up in ascending order are looked up in what came after the one before.
+pub fn look_up<'a>(list: &'a [Due], dest: &Dest) -> (Option<u32>, &'a [Due])
+    requires in_order { AreInOrder list.now }
+    requires of_kind { AreOfKind list.now }
+    ensures metric { IsMetricIn list.now dest.now result.0 }
+    ensures after { result.1.now ≡ those_after dest.now list.now }
 {
-    while let [due, after @ ..] = rest {
-        match due.dest.cmp(&dest) {
-            Ordering::Less => list.push(*due)?,
-            Ordering::Equal => {}
-            Ordering::Greater => return Ok(rest),
-        }
-        rest = after;
+    match place_in(list, dest) {
+        Ok(at) => (Some(list[at].metric), &list[at + 1..]),
+        Err(at) => (None, &list[at..]),
     }
-    Ok(rest)
+}
+
+// Where the destination is, or where it would go. Destinations in their order mostly stand side by side, so the front of
+// the list is tried first.
+fn place_in(list: &[Due], dest: &Dest) -> Result<usize, usize>
+    requires { AreInOrder list.now }
+    ensures found { IfOk result (IsAt list.now dest.now) }
+    ensures absent { IfErr result (IsGapFor list.now dest.now) }
+{
+    let Some(first) = list.first() else {
+        return Err(0);
+    };
+    match first.dest.cmp(dest) {
+        Ordering::Equal => Ok(0),
+        Ordering::Greater => Err(0),
+        Ordering::Less => place_by_search(list, dest),
+    }
+}
+
+// Where the destination is, or where it would go.
+fn place_by_search(list: &[Due], dest: &Dest) -> Result<usize, usize>
+    requires { AreInOrder list.now }
+    ensures found { IfOk result (IsAt list.now dest.now) }
+    ensures absent { IfErr result (IsGapFor list.now dest.now) }
+{
+    list.binary_search_by_key(dest, |due| due.dest)
+}
+
+// Adds those before the destination. The answer is what comes after it.
+fn push_before<'a>(rest: &'a [Due], dest: &Dest, list: &mut Vec<Due>) -> Result<&'a [Due], Memory>
+    requires { AreInOrder rest.now }
+    ensures pushed { OnOk result (list.new.items ≡ list.old.items ++ those_before dest.now rest.now) }
+    ensures left { IfOk result (λ left. left.now ≡ those_after dest.now rest.now) }
+{
+    let (end, begin) = match place_in(rest, dest) {
+        Ok(at) => (at, at + 1),
+        Err(at) => (at, at),
+    };
+    list.extend_from_slice(&rest[..end])?;
+    Ok(&rest[begin..])
 }
 
 // Adds the destination, where it is due.

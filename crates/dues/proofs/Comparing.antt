@@ -9,8 +9,9 @@ use Rattle.std.specs.declared.cmp.Ordering.TheVariants.{Less}
 use Rattle.std.specs.List.{Contains, AllByRecursion}
 use Rattle.std.specs.List.Sorted.{IsStrictlySortedBy}
 use Rattle.std.specs.Map.{keys_of}
-use Rattle.std.proofs.lemmas.List.{take_all, drop_all, map-append}
-use Rattle.std.proofs.lemmas.List.Elements.{Contains-append_left, Contains-append_right, Contains-append_cases}
+use Rattle.std.proofs.lemmas.List.{take_all, drop_all, map-append, take-append-drop}
+use Rattle.std.proofs.lemmas.Map.Keys.{sorted_head}
+use Rattle.std.proofs.lemmas.List.Elements.{All-contains, All-from_recursion, Contains-append_left, Contains-append_right, Contains-append_cases}
 use Rattle.ospf_types.specs.declared.config.AreaConfig.{AreaConfig}
 use Rattle.ospf_types.specs.declared.key.Dest.{Dest}
 use Rattle.ospf_types.specs.Keys.{dest_cmp}
@@ -49,6 +50,19 @@ sorted_without : (xs : List Dest) (d : Dest) (rest : List Dest) → IsStrictlySo
 unfolding IsStrictlySortedBy
 sorted_without [] d rest h = h.1
 sorted_without (x ∷ xs) d rest h = (all_without (λ e. dest_cmp x e ≡ Less) xs d rest h.0, sorted_without xs d rest h.1)
+
+sorted_last : (xs ys : List Dest) → IsStrictlySortedBy dest_cmp (xs ++ ys) → IsStrictlySortedBy dest_cmp ys
+unfolding IsStrictlySortedBy
+sorted_last [] ys h = h
+sorted_last (x ∷ xs) ys h = sorted_last xs ys h.1
+
+-- those behind a destination of a list in order come after it
+pub later_dests : (dests : List Dest) (i : ℕ) (d : Dest) → i < length dests → d ≡ get_or dests i d → IsStrictlySortedBy dest_cmp dests → (e : Dest) → Contains (drop (i + 1) dests) e → dest_cmp d e ≡ Less
+later_dests dests i d lt at ordered e c =
+    let rest = drop (i + 1) dests in
+    let whole : take i dests ++ d ∷ rest ≡ dests = ap (λ (ds : List Dest). take i dests ++ ds) (sym (left_at dests i d lt at)) ∙ take-append-drop i dests in
+    let last : IsStrictlySortedBy dest_cmp (d ∷ rest) = sorted_last (take i dests) (d ∷ rest) (subst (IsStrictlySortedBy dest_cmp) (sym whole) ordered) in
+    All-contains (λ f. dest_cmp d f ≡ Less) rest e (All-from_recursion (λ f. dest_cmp d f ≡ Less) rest (sorted_head dest_cmp d rest last)) c
 
 -- ---- so many destinations were compared
 

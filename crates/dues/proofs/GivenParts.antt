@@ -1,24 +1,22 @@
 -- What gives a summary, part by part.
-use Rattle.std.proofs.Common.{◌≡◌, ℕ, ◌+◌, ◌<◌, ◌≤◌, List, [], length, take, get_or, Option, Some, None, refl, sym, ap, subst, ◌∙◌, ◌⊎◌, inl, inr, arith}
-use Rattle.std.specs.Prelude.{◌↔◌, Contains, All}
+use Rattle.std.proofs.Common.{◌≡◌, ℕ, ◌+◌, ◌<◌, ◌≤◌, List, [], ◌∷◌, length, take, get_or, Option, Some, None, refl, sym, subst, ◌∙◌, ◌⊎◌, inl, inr, arith}
+use Rattle.std.specs.Prelude.{◌↔◌, IsFalse, Contains, All}
 use Rattle.std.specs.FinMap.{get}
 use Rattle.ospf_types.specs.declared.config.AreaConfig.{AreaConfig}
-use Rattle.ospf_types.specs.declared.entry.Entry.{Entry}
-use Rattle.ospf_types.specs.declared.key.Dest.TheVariants.{Net}
+use Rattle.ospf_types.specs.declared.config.Stub.{Stub}
 use Rattle.ospf_types.specs.declared.prefix.Prefix.{Prefix}
 use Rattle.ospf_types.specs.Address.{Covers}
 use Rattle.ospf_types.specs.Summaries.{IsGreatest}
 use Rattle.ospf_types.proofs.Elements.{no_element, contains_more}
+use Rattle.ospf_types.proofs.InOrder.{only_item}
 use Rattle.summaries.proofs.Greatest.{is_greatest}
+use Rattle.external.specs.Preferred.{PreferredValue}
+use Rattle.dues.specs.declared.giving.Candidate.{Candidate}
+use Rattle.dues.specs.declared.giving.Through.{Through}
+use Rattle.dues.specs.Candidates.{AreOfNetwork, CostsInto, IsPreferredThrough}
 use Rattle.dues.specs.Inputs.{DueInputsValue}
-use Rattle.dues.specs.Giving.{IsMost, IsComponentIn, IsOutside, GivesIn, IntraGives, InterGives, RangeGives, RangeGivesBy, Enters}
+use Rattle.dues.specs.Giving.{IsMost, IsComponentIn, IsOutside, GivesIn, IntraGives, InterGives, RangeGives, RangeGivesBy, IsRouterDueIn, IsServed, PreferredGives}
 use Rattle.summaries.proofs.Searching.{HasNone}
-
-some_same : {A : Type 0} {x y : A} → Some x ≡ Some y → x ≡ y
-some_same e = cc
-
-pub some_none : (n : ℕ) → Some n ≡ None → ⊥
-some_none n wrong = absurd cc
 
 -- ---- networks outside the ranges of their area
 
@@ -100,47 +98,73 @@ module _ (v : DueInputsValue) (area : ℕ) (p : Prefix) where
         (a, in_area.2, (λ same. w.2 (sym is ∙ same), (r, in_area.4, in_area.5, in_area.6), subst (λ (id : ℕ). IsGreatest (IsComponentIn v id p) n) (sym is) w.3)),
   ))
 
--- ---- entries that lead through another area
+-- ---- an area that is served is one of two at least
 
-nothing : (G : ℕ → Type 0) (o : Option ℕ) → o ≡ None → ((m : ℕ) → G m → ⊥) → (m : ℕ) → (o ≡ Some m) ↔ G m
-nothing G o none never m = (λ is. absurd (let wrong : None ≡ Some m = sym none ∙ is in cc), λ gives. absurd (never m gives))
+pub two_active : (active : List ℕ) (area : ℕ) → IsServed active area → 1 < length active
+two_active [] area served = absurd (no_element area served.here)
+two_active (x ∷ []) area served =
+    let another = served.other.0 in
+    absurd (served.other.2 (only_item x another served.other.1 ∙ sym (only_item x area served.here)))
+two_active (x ∷ y ∷ rest) area served = omega arith
 
--- it leads through one
-one_through : (area s t : ℕ) (e : Entry) → Enters area s e → Enters area t e → s ≡ t
-one_through area s t e one other = some_same (sym one.through_area ∙ other.through_area)
+-- ---- what may give a summary, in one area
 
-module _ (v : DueInputsValue) (area : ℕ) (p : Prefix) (e : Entry) where
-  module _ (has : get v.intra.entries p ≡ Some e) where
-    own_entry : (f : Entry) → get v.intra.entries p ≡ Some f → f ≡ e
-    own_entry f is = some_same (sym is ∙ has)
+module _ (v : DueInputsValue) (area : ℕ) (p : Prefix) (c : Candidate) (of : AreOfNetwork v p c) where
+  pub intra_gives : (o : Option ℕ) → ((m : ℕ) → (o ≡ Some m) ↔ CostsInto c.intra area m) → (m : ℕ) → (o ≡ Some m) ↔ IntraGives v area p m
+  intra_gives o costs m = (
+    λ is.
+        let w = (costs m).0 is in
+        let through = (of.intra w.0).0 w.1 in
+        let e = through.0 in
+        (e.0, w.0.area, e.1, record { through_area = e.2; foreign = w.2; finite = e.3 }, through.1, e.4 ∙ w.3),
+    λ g.
+        let t : Through = record { area = g.1; cost = g.0.cost } in
+        (costs m).1 (t, (of.intra t).1 ((g.0, g.2, g.3.through_area, g.3.finite, refl), g.4), g.3.foreign, g.5),
+  )
 
-    pub intra_stays : (o : Option ℕ) → o ≡ None → ((t : ℕ) → Enters area t e → ⊥) → (m : ℕ) → (o ≡ Some m) ↔ IntraGives v area p m
-    intra_stays o none never = nothing (IntraGives v area p) o none (λ m g. never g.1 (subst (Enters area g.1) (own_entry g.0 g.2) g.3))
+  pub inter_gives : (o : Option ℕ) → ((m : ℕ) → (o ≡ Some m) ↔ CostsInto c.other area m) → (m : ℕ) → (o ≡ Some m) ↔ InterGives v area p m
+  inter_gives o costs m = (
+    λ is.
+        let w = (costs m).0 is in
+        let e = (of.other w.0).0 w.1 in
+        (e.0, w.0.area, e.1, record { through_area = e.2; foreign = w.2; finite = e.3 }, e.4 ∙ w.3),
+    λ g.
+        let t : Through = record { area = g.1; cost = g.0.cost } in
+        (costs m).1 (t, (of.other t).1 (g.0, g.2, g.3.through_area, g.3.finite, refl), g.3.foreign, g.4),
+  )
 
-    module _ (t : ℕ) (enters : Enters area t e) where
-      pub intra_inside : (IsOutside v.areas t p → ⊥) → (m : ℕ) → (None ≡ Some m) ↔ IntraGives v area p m
-      intra_inside inside = nothing (IntraGives v area p) None refl (λ m g.
-          let entered : Enters area g.1 e = subst (Enters area g.1) (own_entry g.0 g.2) g.3 in
-          inside (subst (λ (s : ℕ). IsOutside v.areas s p) (one_through area g.1 t e entered enters) g.4))
+  -- where no advertised range has the prefix, none gives one
+  pub no_range : IsFalse c.is_range → IsMost (RangeGives v area p) None
+  no_range none = record {
+    found = λ n e. absurd (let wrong : None ≡ Some n = e in cc);
+    reached = λ n w. let by = w.1 in absurd (of.ranges none by.0 by.2 (by.1, by.4, by.5, by.6));
+  }
 
-      pub intra_outside : IsOutside v.areas t p → (m : ℕ) → (Some e.cost ≡ Some m) ↔ IntraGives v area p m
-      intra_outside outside m = (
-        λ is. (e, t, has, enters, outside, some_same is),
-        λ g. ap (λ (f : Entry). Some f.cost) (sym (own_entry g.0 g.2)) ∙ ap Some g.5,
-      )
+-- what is the greatest with nothing beside it
+pub most_alone : (own : Option ℕ) → IsMost (λ n. (own ≡ Some n) ⊎ (None ≡ Some n)) own
+most_alone own = record {
+  found = λ n e. inl e;
+  reached = λ n w. elim w [ inl e ↦ (n, e, omega arith) | inr wrong ↦ absurd cc ];
+}
 
-  module _ (has : get v.inter.entries (Net p) ≡ Some e) where
-    far_entry : (f : Entry) → get v.inter.entries (Net p) ≡ Some f → f ≡ e
-    far_entry f is = some_same (sym is ∙ has)
+-- an AS boundary router, by the preferred route
+pub router_gives : (area : ℕ) (stub : Option Stub) (preferred : Option PreferredValue) (through : Option Through) (o : Option ℕ) → ((t : Through) → (through ≡ Some t) ↔ IsPreferredThrough preferred t)
+    → ((m : ℕ) → (o ≡ Some m) ↔ ((stub ≡ None) × CostsInto through area m)) → (m : ℕ) → (o ≡ Some m) ↔ ((stub ≡ None) × PreferredGives preferred area m)
+router_gives area stub preferred through o of costs m = (
+  λ is.
+      let w = (costs m).0 is in
+      let t = w.1 in
+      let by = (of t.0).0 t.1 in
+      (w.0, (by.0, by.1, (λ same. t.2 (sym by.2 ∙ same)), by.3, by.4 ∙ t.3)),
+  λ g.
+      let by = g.1 in
+      let t : Through = record { area = by.0.preference.area; cost = by.0.preference.cost } in
+      (costs m).1 (g.0, (t, (of t).1 (by.0, by.1, refl, by.3, refl), by.2, by.4)),
+)
 
-    pub inter_stays : (o : Option ℕ) → o ≡ None → ((t : ℕ) → Enters area t e → ⊥) → (m : ℕ) → (o ≡ Some m) ↔ InterGives v area p m
-    inter_stays o none never = nothing (InterGives v area p) o none (λ m g. never g.1 (subst (Enters area g.1) (far_entry g.0 g.2) g.3))
-
-    pub inter_enters : (t : ℕ) → Enters area t e → (m : ℕ) → (Some e.cost ≡ Some m) ↔ InterGives v area p m
-    inter_enters t enters m = (
-      λ is. (e, t, has, enters, some_same is),
-      λ g. ap (λ (f : Entry). Some f.cost) (sym (far_entry g.0 g.2)) ∙ ap Some g.4,
-    )
+pub router_due : (v : DueInputsValue) (area : ℕ) (stub : Option Stub) (router m : ℕ) → ((stub ≡ None) × PreferredGives (get v.external.preferred router) area m) ↔ IsRouterDueIn v area stub router m
+router_due v area None router m = (λ w. w.1, λ gives. (refl, gives))
+router_due v area (Some stub) router m = (λ w. absurd (let wrong : Some stub ≡ None = w.0 in cc), λ none. absurd none)
 
 -- ---- the greatest of all that gives one
 

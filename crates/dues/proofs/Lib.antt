@@ -1,6 +1,7 @@
 pub mod Adding
 pub mod Frame
 pub mod GivenParts
+pub mod Throughs
 pub mod HopsStay
 pub mod Entries
 pub mod Areas

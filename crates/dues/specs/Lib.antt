@@ -1,5 +1,6 @@
 pub mod Inputs
 pub mod Giving
+pub mod Candidates
 pub mod Dues
 pub mod Carrying
 pub mod Touched

@@ -1,10 +1,13 @@
-ghost use Rattle.std.specs.Prelude.{◌≡◌, ◌↔◌, ◌++◌, [], length, map as list_map, Contains, IfOk, OnOk, OnErr, option_map};
+ghost use Rattle.std.specs.Prelude.{◌≡◌, ◌↔◌, ◌++◌, List, [], length, map as list_map, Contains, IfOk, OnOk, OnErr, option_map};
 ghost use Rattle.std.specs.List.{flat_map};
 ghost use Rattle.std.specs.Map.{keys_of};
 ghost use Rattle.std.specs.List.Sorted.{IsStrictlySortedBy};
 ghost use Rattle.ospf_types.specs.declared.key.Dest.{Dest as DestValue};
 ghost use Rattle.ospf_types.specs.Inputs.{Inputs as Definitions};
 ghost use Rattle.ospf_types.specs.Keys.{dest_cmp};
+ghost use Rattle.due_lists.specs.declared.due.Due.{Due as DueValue};
+ghost use Rattle.due_lists.specs.Lists.{AreInOrder, AreOfKind, IsMetricIn};
+ghost use Rattle.dues.specs.Candidates.{AreCandidates, dests_in};
 ghost use Rattle.dues.specs.Inputs.{DueInputsValue};
 ghost use Rattle.dues.specs.Dues.{AreDuesOf, DuesValue, dests_of, list_in, listed, lists_of};
 ghost use Rattle.ospf_types.specs.RangeChanges.{areas_without_ranges};
@@ -13,10 +16,10 @@ ghost use Rattle.dues.specs.Carrying.{AllFit, AllLead, IsReady, IsCarriedOut};
 ghost use Rattle.dues.specs.Planning.{ArePlanned, IsPlannedIn};
 ghost use Rattle.dues.specs.Right.{AreInputsOf, IsRightFor};
 
-use crate::giving::metric;
+use crate::giving::{Candidate, find_candidate, is_served, metric};
 use crate::inputs::DueInputs;
 use crate::touched::{all, ascending, touched};
-use due_lists::{AreaDues, AreaPlan, Due};
+use due_lists::{AreaDues, AreaPlan, Due, look_up};
 use ospf_types::config::AreaConfig;
 use ospf_types::key::Dest;
 use ospf_types::memory::Memory;
@@ -119,10 +122,11 @@ impl Dues {
         ensures exact { IfOk result (λ made. (after : DuesValue) (d : DestValue) → IsCarriedOut made.0 self.new after → Contains made.1.items d ↔ DiffersAt self.old after d) }
     {
         let touched = self.touched(alloc, inputs, dests)?;
+        let candidates = find_candidates(alloc, inputs, &touched)?;
         let mut named = Vec::new(alloc);
-        let areas = plan_areas(alloc, inputs, &mut self.areas, &touched, &mut named)?;
+        let areas = plan_areas(alloc, inputs, &mut self.areas, &candidates, &mut named)?;
         let active = Vec::from_slice(alloc, inputs.active)?;
-        Ok((Plan { areas, active }, ascending(named)))
+        Ok((Plan { areas, active }, ascending(named)?))
     }
 
     /// Makes the changes of a plan. It takes no memory.
@@ -193,7 +197,7 @@ impl Dues {
     {
         let mut found = all(alloc, inputs)?;
         self.push_own(&mut found)?;
-        Ok(ascending(found))
+        ascending(found)
     }
 
     // Adds what is due in an area.
@@ -217,42 +221,61 @@ fn push_dests(list: &[Due], dests: &mut Vec<Dest>) -> Result<(), Memory>
     Ok(())
 }
 
+// The destinations, each with what may give a summary for it.
+fn find_candidates(
+    alloc: Global,
+    inputs: &DueInputs<'_>,
+    dests: &[Dest],
+) -> Result<Vec<Candidate>, Memory>
+    ensures dests { IfOk result (λ found. dests_in found.items ≡ dests.now) }
+    ensures right { IfOk result (λ found. AreCandidates inputs.now found.items) }
+{
+    let mut found = Vec::with_capacity(alloc, dests.len())?;
+    for dest in dests {
+        found.push(find_candidate(inputs, *dest))?;
+    }
+    Ok(found)
+}
+
 // What is to change in each of the lists, to these destinations. Those that are due otherwise in an area are added.
 fn plan_areas(
     alloc: Global,
     inputs: &DueInputs<'_>,
     lists: &mut [AreaDues],
-    dests: &[Dest],
+    candidates: &[Candidate],
     named: &mut Vec<Dest>,
 ) -> Result<Vec<AreaPlan>, Memory>
     requires long { length lists.old ≡ length inputs.now.areas }
-    requires in_order { IsStrictlySortedBy dest_cmp dests.now }
+    requires right { AreCandidates inputs.now candidates.now }
+    requires in_order { IsStrictlySortedBy dest_cmp (dests_in candidates.now) }
     ensures same { listed lists.new ≡ listed lists.old }
-    ensures planned { IfOk result (λ plans. ArePlanned inputs.now dests.now inputs.now.areas lists.old lists.new plans.items named.old.items named.new.items) }
+    ensures planned { IfOk result (λ plans. ArePlanned inputs.now (dests_in candidates.now) inputs.now.areas lists.old lists.new plans.items named.old.items named.new.items) }
 {
     let mut plans = Vec::with_capacity(alloc, lists.len())?;
     for (place, area) in inputs.areas.iter().enumerate() {
-        let plan = plan_area(alloc, inputs, area, &mut lists[place], dests, named)?;
+        let dues = &mut lists[place];
+        let plan = plan_area(alloc, inputs, area, dues, candidates, named)?;
         plans.push(plan)?;
     }
     Ok(plans)
 }
 
-// The same of one area.
+// Plans one area.
 fn plan_area(
     alloc: Global,
     inputs: &DueInputs<'_>,
     area: &AreaConfig,
     dues: &mut AreaDues,
-    dests: &[Dest],
+    candidates: &[Candidate],
     named: &mut Vec<Dest>,
 ) -> Result<AreaPlan, Memory>
-    requires { IsStrictlySortedBy dest_cmp dests.now }
+    requires right { AreCandidates inputs.now candidates.now }
+    requires in_order { IsStrictlySortedBy dest_cmp (dests_in candidates.now) }
     ensures area { dues.new.area ≡ dues.old.area }
     ensures list { dues.new.list ≡ dues.old.list }
-    ensures planned { IfOk result (λ plan. IsPlannedIn inputs.now dests.now area.now dues.old dues.new plan named.old.items named.new.items) }
+    ensures planned { IfOk result (λ plan. IsPlannedIn inputs.now (dests_in candidates.now) area.now dues.old dues.new plan named.old.items named.new.items) }
 {
-    let metrics = changes(alloc, inputs, area, dues, dests)?;
+    let metrics = changes(alloc, inputs, area, dues.as_slice(), candidates)?;
     push_named(&metrics, named)?;
     let plan = AreaPlan::of(alloc, metrics, dues)?;
     Ok(plan)
@@ -273,32 +296,40 @@ fn changes(
     alloc: Global,
     inputs: &DueInputs<'_>,
     area: &AreaConfig,
-    dues: &AreaDues,
-    dests: &[Dest],
+    list: &[Due],
+    candidates: &[Candidate],
 ) -> Result<Vec<(Dest, Option<u32>)>, Memory>
-    requires { IsStrictlySortedBy dest_cmp dests.now }
-    ensures { IfOk result (λ metrics. AreChangesIn inputs.now area.now dues.now.list dests.now metrics.items) }
+    requires list { AreInOrder list.now }
+    requires kinds { AreOfKind list.now }
+    requires right { AreCandidates inputs.now candidates.now }
+    requires in_order { IsStrictlySortedBy dest_cmp (dests_in candidates.now) }
+    ensures { IfOk result (λ metrics. AreChangesIn inputs.now area.now list.now (dests_in candidates.now) metrics.items) }
 {
+    let served = is_served(inputs.active, area.id);
     let mut metrics = Vec::new(alloc);
-    for dest in dests {
-        push_change(dest, metric(inputs, area, *dest), dues, &mut metrics)?;
+    let mut rest = list;
+    for candidate in candidates {
+        let (had, after) = look_up(rest, &candidate.dest);
+        let metric = metric(inputs, area, served, candidate);
+        push_change(candidate.dest, metric, had, &mut metrics)?;
+        rest = after;
     }
     Ok(metrics)
 }
 
-// Adds the destination at this metric, unless the list has it so.
+// Adds the destination at this metric, unless that is the one that it had.
 fn push_change(
-    dest: &Dest,
+    dest: Dest,
     metric: Option<u32>,
-    dues: &AreaDues,
+    had: Option<u32>,
     metrics: &mut Vec<(Dest, Option<u32>)>,
 ) -> Result<(), Memory>
-    ensures { OnOk result (IsChangeAdded dues.now.list dest.now metric metrics.old.items metrics.new.items) }
+    ensures { OnOk result ((list : List DueValue) → IsMetricIn list dest had → IsChangeAdded list dest metric metrics.old.items metrics.new.items) }
 {
-    if metric == dues.metric(*dest) {
+    if metric == had {
         return Ok(());
     }
-    metrics.push((*dest, metric))?;
+    metrics.push((dest, metric))?;
     Ok(())
 }
 

@@ -28,17 +28,17 @@ pub(crate) fn touched(
     for dest in dests {
         push_ranges_over(areas, dest, &mut found)?;
     }
-    Ok(ascending(found))
+    ascending(found)
 }
 
-/// The destinations, ascending, each once.
-pub(crate) fn ascending(mut dests: Vec<Dest>) -> Vec<Dest>
-    ensures in_order { IsStrictlySortedBy dest_cmp result.items }
-    ensures same { (d : DestValue) → Contains result.items d ↔ Contains dests.items d }
+/// The destinations, ascending, each once. Those that stand in order already cost little.
+pub(crate) fn ascending(mut dests: Vec<Dest>) -> Result<Vec<Dest>, Memory>
+    ensures in_order { IfOk result (λ found. IsStrictlySortedBy dest_cmp found.items) }
+    ensures same { IfOk result (λ found. (d : DestValue) → Contains found.items d ↔ Contains dests.items d) }
 {
-    dests.sort_unstable();
+    dests.sort()?;
     dests.dedup();
-    dests
+    Ok(dests)
 }
 
 // Adds the prefixes of the ranges that have the destination, where that is a network.
@@ -51,7 +51,7 @@ fn push_ranges_over(areas: &[AreaConfig], dest: &Dest, found: &mut Vec<Dest>) ->
     }
 }
 
-// The same of one network.
+// Adds the prefixes of the ranges that have the network.
 fn push_ranges(areas: &[AreaConfig], network: Prefix, found: &mut Vec<Dest>) -> Result<(), Memory>
     ensures { OnOk result (HasAlso (IsOver areas.now network) found.old.items found.new.items) }
 {
@@ -61,15 +61,26 @@ fn push_ranges(areas: &[AreaConfig], network: Prefix, found: &mut Vec<Dest>) -> 
     Ok(())
 }
 
-// The same of one area.
+// Adds those of one area.
 fn push_ranges_of(area: &AreaConfig, network: Prefix, found: &mut Vec<Dest>) -> Result<(), Memory>
     ensures { OnOk result (HasAlso (IsOverIn area.now.ranges network) found.old.items found.new.items) }
 {
     for range in area.ranges.as_slice() {
         if range.prefix.covers(network) {
-            found.push(Dest::Net(range.prefix))?;
+            push_also(Dest::Net(range.prefix), found)?;
         }
     }
+    Ok(())
+}
+
+// Adds the destination, unless it is the last.
+fn push_also(dest: Dest, found: &mut Vec<Dest>) -> Result<(), Memory>
+    ensures { OnOk result (HasAlso (λ d. d ≡ dest) found.old.items found.new.items) }
+{
+    if found.last() == Some(&dest) {
+        return Ok(());
+    }
+    found.push(dest)?;
     Ok(())
 }
 

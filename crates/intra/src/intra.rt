@@ -2,6 +2,8 @@ ghost use Rattle.std.specs.Prelude.{◌≡◌, ◌≢◌, ◌↔◌, ◌<◌, �
 ghost use Rattle.std.specs.FinMap as map;
 ghost use Rattle.std.specs.List.{AllPairs};
 ghost use Rattle.std.specs.Ordering.{nat_cmp};
+ghost use Rattle.std.specs.Map.{keys_of};
+ghost use Rattle.ospf_types.specs.declared.entry.Entry.{Entry as EntryValue};
 ghost use Rattle.ospf_types.specs.declared.key.Dest.TheVariants as dest_value;
 ghost use Rattle.ospf_types.specs.declared.key.Key.{Key as KeyValue};
 ghost use Rattle.ospf_types.specs.declared.key.Scope.{Scope as ScopeValue};
@@ -25,6 +27,7 @@ use crate::choose::choose;
 use crate::dirty::Dirty;
 use crate::inputs::{AreaInputs, Inputs};
 use indexmap::IndexMap;
+use indexmap::map::Slice;
 use lsdb::Database;
 use ospf_types::entry::Entry;
 use ospf_types::key::{Dest, Key, Scope};
@@ -139,6 +142,15 @@ impl Intra {
     {
         let networks = Vec::from_slice(alloc, self.entries.keys().as_slice())?;
         Ok(networks)
+    }
+
+    /// The networks that have an entry, each with it, in no stated order.
+    pub fn entries(&self) -> Slice<'_, Prefix, Entry>
+        ensures exact { (p : PrefixValue) (e : EntryValue) → Contains result (p, e) → map.get self.now.entries p ≡ Some e }
+        ensures keys { (p : PrefixValue) → Contains (keys_of result) p ↔ IsSome (map.get self.now.entries p) }
+        ensures each_once { AllPairs (λ p q. p ≢ q) (keys_of result) }
+    {
+        self.entries.as_slice()
     }
 
     /// A border router or AS boundary router that is reached in the area, by its Router ID.

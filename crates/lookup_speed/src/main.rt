@@ -52,7 +52,8 @@ fn main(rt: HostRuntime) -> Result<()> {
 fn try_index<R: AllocGlobal + RandomSource + Print>(rt: &R) -> Result<()> {
     Trial::run(new_index(rt)?, rt.alloc())?.print(rt)?;
     for (name, set) in COLLIDING {
-        find_all(rt, new_index(rt)?, name, set)?;
+        let networks = set.networks(rt.alloc())?;
+        find_all(rt, new_index(rt)?, name, networks.as_slice())?;
     }
     Ok(())
 }

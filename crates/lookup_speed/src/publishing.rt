@@ -9,6 +9,7 @@ use crate::speed::{Each, LOOKUPS, found, insert_all, nanoseconds_since};
 use crate::table::{Table, Value};
 use anyhow::Result;
 use left_right::{Absorb, ReadHandle, WriteHandle};
+use ospf_types::memory::Memory;
 use ospf_types::prefix::Prefix;
 use std::alloc::AllocError;
 use std::io;
@@ -69,9 +70,14 @@ pub fn measure_beside_writer<R: AllocGlobal + RandomSource + Clock + Print + Thr
         addresses: addresses.as_slice(),
         threads,
     };
-    let tables = (OrderedMap::new(alloc), OrderedMap::new(alloc));
-    run(rt, "ordered", tables, &load)?;
-    run(rt, "index", (new_index(rt)?, new_index(rt)?), &load)
+    run(
+        rt,
+        "ordered",
+        OrderedMap::new(alloc),
+        OrderedMap::new(alloc),
+        &load,
+    )?;
+    run(rt, "index", new_index(rt)?, new_index(rt)?, &load)
 }
 
 /// What is looked up and changed.
@@ -85,16 +91,35 @@ struct Load<'a> {
 fn run<R: AllocGlobal + Clock + Print + Threads + Wait + Sync, T: Table + Drop + Send + Sync>(
     rt: &R,
     name: &str,
-    tables: (T, T),
+    first: T,
+    second: T,
     load: &Load<'_>,
 ) -> Result<()>
     requires { 0 < load.now.threads }
 {
-    let (mut first, mut second) = tables;
-    insert_all(&mut first, load.networks)?;
-    insert_all(&mut second, load.networks)?;
-    let (first, second) = (Shown { table: first }, Shown { table: second });
+    let first = with_networks(first, load.networks)?;
+    let second = with_networks(second, load.networks)?;
     let writer = WriteHandle::new(rt.alloc(), rt, first, second, load.threads as usize)?;
+    let (lookup, publication, sum) = read_and_publish(rt, writer, load)?;
+    println!(rt; "{name} lookup={lookup} publication={publication} sum={sum}")?;
+    Ok(())
+}
+
+// The table with the networks.
+fn with_networks<T: Table + Drop>(table: T, networks: &[Prefix]) -> Result<Shown<T>, Memory> {
+    let mut table = table;
+    insert_all(&mut table, networks)?;
+    Ok(Shown { table })
+}
+
+// Returns the times of a look-up and of a publication, and the sum of what was found.
+fn read_and_publish<R: AllocGlobal + Clock + Threads + Wait + Sync, T: Table + Drop + Send + Sync>(
+    rt: &R,
+    writer: WriteHandle<Shown<T>, Change, &R>,
+    load: &Load<'_>,
+) -> Result<(Each, Each, u64)>
+    requires { 0 < load.now.threads }
+{
     let mut readers = Vec::new(rt.alloc());
     for _ in 0..load.threads {
         readers.push(writer.handle()?)?;
@@ -109,16 +134,18 @@ fn run<R: AllocGlobal + Clock + Print + Threads + Wait + Sync, T: Table + Drop +
         ),
         || publish(rt, writer, load.networks, &left),
     );
-    let (times, publication) = (times?, publication?);
-    let time = times
-        .iter()
-        .fold(0, |all: u64, one| all.saturating_add(one.0));
-    let lookup = Each(time, load.addresses.len().saturating_mul(times.len()));
-    let sum = times
-        .iter()
-        .fold(0, |all: u64, one| all.wrapping_add(one.1));
-    println!(rt; "{name} lookup={lookup} publication={publication} sum={sum}")?;
-    Ok(())
+    let (lookup, sum) = added(times?.as_slice(), load.addresses.len());
+    Ok((lookup, publication?, sum))
+}
+
+// The time of a look-up by one reader, and the sum of what all found.
+fn added(times: &[(u64, u64)], lookups: usize) -> (Each, u64) {
+    let (mut time, mut sum): (u64, u64) = (0, 0);
+    for one in times {
+        time = time.saturating_add(one.0);
+        sum = sum.wrapping_add(one.1);
+    }
+    (Each(time, lookups.saturating_mul(times.len())), sum)
 }
 
 // Looks the addresses up, and returns the nanoseconds of the fastest pass, and the sum of what was found.

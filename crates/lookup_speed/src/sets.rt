@@ -54,33 +54,40 @@ impl Set {
     /// The networks of the set, each once, in no order.
     pub fn networks(self, alloc: Global) -> Result<Vec<Prefix>, AllocError> {
         let mut random = Random::new(1);
-        let mut networks = match self {
-            Set::Anywhere(count) => anywhere(alloc, count, &mut random)?,
-            Set::Ospf => ospf(alloc, &mut random)?,
-            Set::Hosts => hosts(alloc, &mut random)?,
-            Set::Dense => dense(alloc)?,
-            Set::Nested => nested(alloc, &mut random)?,
-            Set::OnePlace(count, groups) => one_place(alloc, count, groups)?,
-            Set::EqualBits(count) => equal_bits(alloc, count)?,
-        };
+        let mut networks = Vec::new(alloc);
+        self.push_all(&mut networks, &mut random)?;
         networks.sort_unstable();
         networks.dedup();
         shuffle(&mut networks, &mut random);
         Ok(networks)
     }
+
+    fn push_all(self, networks: &mut Vec<Prefix>, random: &mut Random) -> Result<(), AllocError> {
+        match self {
+            Set::Anywhere(count) => push_anywhere(networks, count, random),
+            Set::Ospf => push_ospf(networks, random),
+            Set::Hosts => push_hosts(networks, random),
+            Set::Dense => push_dense(networks),
+            Set::Nested => push_nested(networks, random),
+            Set::OnePlace(count, groups) => push_one_place(networks, count, groups),
+            Set::EqualBits(count) => push_equal_bits(networks, count),
+        }
+    }
 }
 
-fn anywhere(alloc: Global, count: u32, random: &mut Random) -> Result<Vec<Prefix>, AllocError> {
-    let mut networks = Vec::new(alloc);
+fn push_anywhere(
+    networks: &mut Vec<Prefix>,
+    count: u32,
+    random: &mut Random,
+) -> Result<(), AllocError> {
     for _ in 0..count {
         let length = 16 + random.below(9) as u8;
         networks.push(network_around(random.address(), length))?;
     }
-    Ok(networks)
+    Ok(())
 }
 
-fn ospf(alloc: Global, random: &mut Random) -> Result<Vec<Prefix>, AllocError> {
-    let mut networks = Vec::new(alloc);
+fn push_ospf(networks: &mut Vec<Prefix>, random: &mut Random) -> Result<(), AllocError> {
     networks.push(network_around(0, 0))?;
     for link in 0..12_000 {
         // The area's links lie in 10.area.0.0/16.
@@ -92,40 +99,36 @@ fn ospf(alloc: Global, random: &mut Random) -> Result<Vec<Prefix>, AllocError> {
         let address = (random.below(20_000) * 3 << 16) + random.below(65536);
         networks.push(network_around(address, 16 + random.below(9) as u8))?;
     }
-    Ok(networks)
+    Ok(())
 }
 
-fn hosts(alloc: Global, random: &mut Random) -> Result<Vec<Prefix>, AllocError> {
-    let mut networks = Vec::new(alloc);
+fn push_hosts(networks: &mut Vec<Prefix>, random: &mut Random) -> Result<(), AllocError> {
     for place in 0..100_000 {
         let address = (place * 167 << 8) + random.below(256);
         networks.push(network_around(address, 32))?;
     }
-    Ok(networks)
+    Ok(())
 }
 
-fn dense(alloc: Global) -> Result<Vec<Prefix>, AllocError> {
-    let mut networks = Vec::new(alloc);
+fn push_dense(networks: &mut Vec<Prefix>) -> Result<(), AllocError> {
     for place in 0..100_000 {
         let address = 0x0a00_0000 + place * 21_845 % 0x2_0000;
         networks.push(network_around(address, 32))?;
     }
-    Ok(networks)
+    Ok(())
 }
 
-fn nested(alloc: Global, random: &mut Random) -> Result<Vec<Prefix>, AllocError> {
-    let mut networks = Vec::new(alloc);
+fn push_nested(networks: &mut Vec<Prefix>, random: &mut Random) -> Result<(), AllocError> {
     for _ in 0..3_125 {
         let address = random.address();
         for length in 1..33 {
             networks.push(network_around(address, length))?;
         }
     }
-    Ok(networks)
+    Ok(())
 }
 
-fn one_place(alloc: Global, count: u32, groups: u32) -> Result<Vec<Prefix>, AllocError> {
-    let mut networks = Vec::new(alloc);
+fn push_one_place(networks: &mut Vec<Prefix>, count: u32, groups: u32) -> Result<(), AllocError> {
     for address in 0..u32::MAX {
         if networks.len() >= count as usize {
             break;
@@ -135,7 +138,7 @@ fn one_place(alloc: Global, count: u32, groups: u32) -> Result<Vec<Prefix>, Allo
             networks.push(network)?;
         }
     }
-    Ok(networks)
+    Ok(())
 }
 
 // The part of its hash by which a hash map without keys finds the network.
@@ -149,12 +152,11 @@ fn fold_product(a: u64, b: u64) -> u64 {
     (product >> 64) as u64 ^ (product & u64::MAX as u128) as u64
 }
 
-fn equal_bits(alloc: Global, count: u32) -> Result<Vec<Prefix>, AllocError> {
-    let mut networks = Vec::new(alloc);
+fn push_equal_bits(networks: &mut Vec<Prefix>, count: u32) -> Result<(), AllocError> {
     for place in 0..count {
         networks.push(network_around(place.wrapping_mul(4096), 32))?;
     }
-    Ok(networks)
+    Ok(())
 }
 
 /// The network of that length around the address.

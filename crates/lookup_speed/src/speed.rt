@@ -33,26 +33,25 @@ pub fn measure<R: Files + AllocGlobal + RandomSource + Clock + Print + Threads +
     set: Set,
     threads: u32,
 ) -> Result<()> {
-    let alloc = rt.alloc();
-    let networks = set.networks(alloc)?;
-    let networks = networks.as_slice();
-    let random = addresses(alloc, networks, LOOKUPS)?;
-    let few = addresses(alloc, networks, HOT)?;
-    let hot = repeated(alloc, few.as_slice(), LOOKUPS)?;
+    let asked = Asked::of(rt.alloc(), set)?;
     let load = Load {
-        networks,
-        random: random.as_slice(),
-        hot: hot.as_slice(),
+        networks: asked.networks.as_slice(),
+        random: asked.random.as_slice(),
+        hot: asked.hot.as_slice(),
         threads: threads as usize,
     };
-    let mut ordered = Measured::build(rt, OrderedMap::new(alloc), networks)?;
-    let mut index = Measured::build(rt, new_index(rt)?, networks)?;
-    run_passes(rt, &mut ordered, &mut index, &load)?;
-    let differ = differing(&ordered.table, &index.table, load.random);
-    ordered.print(rt, "ordered", &load)?;
-    index.print(rt, "index", &load)?;
-    let is_same = ordered.sum == index.sum;
-    println!(rt; "{differ} answers differ, the sums agree: {is_same}")?;
+    let mut ordered = Measured::build(rt, OrderedMap::new(rt.alloc()), load.networks)?;
+    measure_index(rt, &mut ordered, &load)
+}
+
+fn measure_index<R: Files + AllocGlobal + RandomSource + Clock + Print + Threads + Sync>(
+    rt: &R,
+    ordered: &mut Measured<OrderedMap>,
+    load: &Load<'_>,
+) -> Result<()> {
+    let mut index = Measured::build(rt, new_index(rt)?, load.networks)?;
+    run_passes(rt, ordered, &mut index, load)?;
+    print_both(rt, ordered, &index, load)?;
     Ok(())
 }
 
@@ -64,15 +63,48 @@ fn run_passes<
 >(rt: &R, one: &mut Measured<A>, other: &mut Measured<B>, load: &Load<'_>) -> Result<()> {
     let start = Instant::now(rt)?;
     for _ in 0..PASSES {
-        one.look_up(rt, load)?;
-        other.look_up(rt, load)?;
-        one.update(rt, load.networks)?;
-        other.update(rt, load.networks)?;
+        one.pass(rt, load)?;
+        other.pass(rt, load)?;
         if start.elapsed(rt)?.as_secs() >= ENOUGH {
             break;
         }
     }
     Ok(())
+}
+
+fn print_both<A: Table, B: Table>(
+    rt: &impl Print,
+    ordered: &Measured<A>,
+    index: &Measured<B>,
+    load: &Load<'_>,
+) -> io::Result<()> {
+    ordered.print(rt, "ordered", load)?;
+    index.print(rt, "index", load)?;
+    let differ = differing(&ordered.table, &index.table, load.random);
+    let is_same = ordered.sum == index.sum;
+    println!(rt; "{differ} answers differ, the sums agree: {is_same}")
+}
+
+/// The networks of a set, and the addresses that are looked up.
+#[derive(Drop)]
+struct Asked {
+    networks: Vec<Prefix>,
+    random: Vec<u32>,
+    hot: Vec<u32>,
+}
+
+impl Asked {
+    fn of(alloc: Global, set: Set) -> Result<Asked, AllocError> {
+        let networks = set.networks(alloc)?;
+        let random = addresses(alloc, networks.as_slice(), LOOKUPS)?;
+        let few = addresses(alloc, networks.as_slice(), HOT)?;
+        let hot = repeated(alloc, few.as_slice(), LOOKUPS)?;
+        Ok(Asked {
+            networks,
+            random,
+            hot,
+        })
+    }
 }
 
 /// What the tables are asked.
@@ -127,6 +159,15 @@ impl<T: Table + Drop + Sync> Measured<T> {
         })
     }
 
+    fn pass<R: AllocGlobal + Clock + Threads + Sync>(
+        &mut self,
+        rt: &R,
+        load: &Load<'_>,
+    ) -> Result<()> {
+        self.look_up(rt, load)?;
+        self.update(rt, some_of(load.networks))
+    }
+
     fn look_up<R: AllocGlobal + Clock + Threads + Sync>(
         &mut self,
         rt: &R,
@@ -134,28 +175,31 @@ impl<T: Table + Drop + Sync> Measured<T> {
     ) -> Result<()> {
         let start = Instant::now(rt)?;
         self.sum = found_by_threads(rt, &self.table, load.random, load.threads, self.sum)?;
-        self.random = self.random.min(nanoseconds_since(rt, start)?);
-        let start = Instant::now(rt)?;
+        let middle = Instant::now(rt)?;
         self.sum = found_by_threads(rt, &self.table, load.hot, load.threads, self.sum)?;
-        self.hot = self.hot.min(nanoseconds_since(rt, start)?);
+        let end = Instant::now(rt)?;
+        self.random = self.random.min(nanoseconds(start, middle));
+        self.hot = self.hot.min(nanoseconds(middle, end));
         Ok(())
     }
 
-    // Replaces the values of some networks, takes them out and puts them in again.
+    // Replaces the values of the networks, takes them out and puts them in again.
     fn update(&mut self, rt: &impl Clock, networks: &[Prefix]) -> Result<()> {
-        let some = some_of(networks);
         let start = Instant::now(rt)?;
-        insert_all(&mut self.table, some)?;
-        self.replace = self.replace.min(nanoseconds_since(rt, start)?);
-        let start = Instant::now(rt)?;
-        remove_all(&mut self.table, some);
-        self.remove = self.remove.min(nanoseconds_since(rt, start)?);
-        let start = Instant::now(rt)?;
-        insert_all(&mut self.table, some)?;
-        self.insert = self.insert.min(nanoseconds_since(rt, start)?);
+        insert_all(&mut self.table, networks)?;
+        let replaced = Instant::now(rt)?;
+        remove_all(&mut self.table, networks);
+        let removed = Instant::now(rt)?;
+        insert_all(&mut self.table, networks)?;
+        let end = Instant::now(rt)?;
+        self.replace = self.replace.min(nanoseconds(start, replaced));
+        self.remove = self.remove.min(nanoseconds(replaced, removed));
+        self.insert = self.insert.min(nanoseconds(removed, end));
         Ok(())
     }
+}
 
+impl<T> Measured<T> {
     // Nanoseconds, but for the build in milliseconds and the memory in megabytes.
     fn print(&self, rt: &impl Print, name: &str, load: &Load<'_>) -> io::Result<()> {
         let networks = load.networks.len();
@@ -259,6 +303,10 @@ fn differing<A: Table, B: Table>(one: &A, other: &B, addresses: &[u32]) -> u64 {
         differ = differ.saturating_add(u64::from(!is_same));
     }
     differ
+}
+
+fn nanoseconds(start: Instant, end: Instant) -> u64 {
+    u64::try_from(end.duration_since(start).as_nanos()).unwrap_or(u64::MAX)
 }
 
 pub fn nanoseconds_since(rt: &impl Clock, start: Instant) -> io::Result<u64> {

@@ -1,7 +1,7 @@
 //! Compares an index with a plain list of networks, which is searched from end to end. Looks for networks whose hashes collide.
 
 use crate::random::Random;
-use crate::sets::{Set, network_around, network_word};
+use crate::sets::{network_around, network_word};
 use ospf_types::memory::Memory;
 use ospf_types::prefix::Prefix;
 use prefix_index::PrefixIndex;
@@ -196,16 +196,14 @@ impl Trial {
     }
 }
 
-/// Puts the networks of the set into an index that has no values, takes every second one out, and prints how many are found by
+/// Puts the networks into an index that has no values, takes every second one out, and prints how many are found by
 /// their addresses, before and after.
-pub fn find_all<R: AllocGlobal + Print>(
-    rt: &R,
+pub fn find_all(
+    rt: &impl Print,
     mut index: PrefixIndex<u64>,
     name: &str,
-    set: Set,
-) -> Result<(), anyhow::Error> {
-    let networks = set.networks(rt.alloc())?;
-    let networks = networks.as_slice();
+    networks: &[Prefix],
+) -> anyhow::Result<()> {
     for network in networks {
         index.insert(*network, network_word(*network))?;
     }

@@ -1,18 +1,18 @@
 -- What each change makes of a map.
-use Rattle.std.proofs.Common.{◌≡◌, ◌≢◌, ℕ, ◌+◌, ◌-◌, ◌^◌, ◌<◌, ◌≤◌, List, [], ◌∷◌, ◌++◌, length, get_or, Some, None, inl, inr, refl, sym, ap, subst, ◌∙◌, length-append, arith}
-use Rattle.std.specs.FinMap.{get, insert, remove}
+use Rattle.std.proofs.Common.{◌≡◌, ◌≢◌, ℕ, ◌+◌, ◌-◌, ◌^◌, ◌<◌, ◌≤◌, List, [], ◌∷◌, ◌++◌, length, get_or, Some, None, is_some, true, inl, inr, refl, sym, ap, subst, ◌∙◌, length-append, arith}
+use Rattle.std.specs.FinMap.{FinMap, get, insert, remove}
 use Rattle.std.specs.List.{slice_get}
 use Rattle.std.proofs.Math.ListN.{set}
 use Rattle.std.proofs.lemmas.List.{get_or-set_same, get_or-set_other, get_or_push, get_or_append_left, length-set}
 use Rattle.std.proofs.lemmas.Option.{slice_get-get_or, slice_get_within, slice_get_past, get_or_from_slice_get, none-some}
-use Rattle.ospf_types.specs.Network.{Network}
+use Rattle.ospf_types.specs.Network.{Network, network_cmp}
 use Rattle.word_hash.specs.declared.hasher.WordHash.{WordHash}
 use Rattle.network_map.specs.Slots.{base_of, home_of, AreSlotted, HasNetwork, IsMore, IsOnce, IsPlaced, IsReady, IsTaken, IsWhole}
 use Rattle.network_map.specs.declared.slots.Slots.{Slots}
 use Rattle.network_map.proofs.Adding.{more_slotted}
 use Rattle.network_map.proofs.Lookups.{has_within}
 use Rattle.network_map.proofs.Places.{by_place, below_or_not}
-use Rattle.network_map.proofs.Standing.{map_of, one_entry, put_stands, take_stands, none_at, nowhere}
+use Rattle.network_map.proofs.Standing.{map_of, gotten, one_entry, put_stands, take_stands, none_at, nowhere}
 
 module _ {E : Type 0} where
   -- two lists have one element at two places
@@ -45,10 +45,18 @@ module _ {E : Type 0} where
         | inr past ↦ slice_get_past (xs ++ e ∷ []) q (omega (arith, one, other)) ∙ sym (slice_get_past xs q past)
       ]
 
+-- a network that has an entry has a value
+pub has_value : {V : Type 0} (es : List (Network × V)) → IsOnce es → (k : Network) (i : ℕ) → HasNetwork es i k → (m : FinMap network_cmp V) → map_of es ≡ m → is_some (get m k) ≡ true
+has_value {V} es once k i has m is = ap is_some (ap (λ (n : FinMap network_cmp V). get n k) (sym is) ∙ gotten es once k has.value i has.stands)
+
 module _ {V : Type 0} {hashing : WordHash} (es : List (Network × V)) (s : Slots) (whole : IsWhole hashing es s) (k : Network) where
   -- a network that is not found has no entry
   pub missing : ((i : ℕ) → HasNetwork es i k → IsPlaced s.numbers.items (home_of hashing s.bits k) (base_of hashing s.bits k + i) → ⊥) → get (map_of es) k ≡ None
   missing none = nowhere es k (λ i has. none i has (whole.slotted.placed i k has))
+
+  -- and no value
+  pub none_by : (m : FinMap network_cmp V) → map_of es ≡ m → ((i : ℕ) → HasNetwork es i k → IsPlaced s.numbers.items (home_of hashing s.bits k) (base_of hashing s.bits k + i) → ⊥) → get m k ≡ None
+  none_by m is none = ap (λ (n : FinMap network_cmp V). get n k) (sym is) ∙ missing none
 
   module _ (i : ℕ) (has : HasNetwork es i k) (v : V) where
     named_still : (q : ℕ) (p : Network) → HasNetwork (set es i (k, v)) q p → HasNetwork es q p

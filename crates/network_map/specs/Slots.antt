@@ -40,9 +40,9 @@ pub record IsReady (s : Slots) (count : ℕ) : Type 0 where
   pub long : 2 ^ s.bits ≤ length s.numbers.items
   pub spare : s.used < 2 ^ s.bits
 
--- the fewest homes, or at most sixteen for each of so many entries
+-- the fewest homes, or fewer than ten for each of so many entries
 abbrev pub AreFew : ℕ → ℕ → Type 0
-AreFew bits count = (bits ≡ 3) ⊎ (2 ^ bits ≤ 16 * count)
+AreFew bits count = (bits ≡ 3) ⊎ (2 ^ bits < 10 * count)
 
 -- what was found is found, and at most one slot more is in use
 pub record IsMore (s t : Slots) : Type 0 where

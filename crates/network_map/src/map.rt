@@ -1,5 +1,5 @@
 //! The map.
-ghost use Rattle.std.specs.Prelude.{◌≡◌, ◌≢◌, ◌<◌, None, OnOk, OnErr, is_some, option_copied};
+ghost use Rattle.std.specs.Prelude.{◌≡◌, ◌≢◌, ◌<◌, ◌^◌, true, None, IfNone, IfSome, IsSome, OnOk, OnErr, is_some, option_copied};
 ghost use Rattle.std.specs.FinMap as map;
 ghost use Rattle.std.specs.List.{AllPairs};
 ghost use Rattle.ospf_types.specs.Network.{network_cmp};
@@ -14,7 +14,7 @@ use std::marker::Model;
 use word_hash::WordHash;
 
 /// Values by network. A look-up of a network that has a value mostly reads one slot and the entry.
-/// Beside the entries, its slots take some 16 to 64 bytes a network while it grows. Removals give memory
+/// Beside the entries, its slots take some 10 to 40 bytes a network while it grows. Removals give memory
 /// back in large steps.
 #[derive(Drop)]
 pub struct NetworkMap<V> {
@@ -50,7 +50,8 @@ impl<V> NetworkMap<V> {
     /// How many networks have a value.
     #[inline]
     pub fn len(&self) -> usize
-        ensures { result ≡ map.len self.now }
+        ensures count { result ≡ map.len self.now }
+        ensures small { result < 2 ^ 31 }
     {
         self.entries.len()
     }
@@ -106,40 +107,38 @@ impl<V: Drop> NetworkMap<V> {
         ensures err { OnErr result (self.new ≡ self.old) }
         ensures absent { OnErr result (map.get self.old network ≡ None) }
     {
+        match self.replace(network, value) {
+            None => Ok(()),
+            Some(value) => self.add(network, value),
+        }
+    }
+
+    /// Gives a network that has a value the value in its place. Where it has none, the value comes back,
+    /// and nothing changes.
+    pub fn replace(&mut self, network: Prefix, value: V) -> Option<V>
+        ensures replaced { IfNone result (self.new ≡ map.insert self.old network value) }
+        ensures stood { IfNone result (IsSome (map.get self.old network)) }
+        ensures returned { IfSome result (λ v. v ≡ value) }
+        ensures unchanged { is_some result ≡ true → self.new ≡ self.old }
+        ensures absent { is_some result ≡ true → map.get self.old network ≡ None }
+    {
         match self
             .slots
             .find(self.entries.as_slice(), self.hashing, network)
         {
             Some(place) => {
                 self.entries[place] = (network, value);
-                Ok(())
+                None
             }
-            None => self.add(network, value),
+            None => Some(value),
         }
     }
 
-    /// Takes the network's value out. Where far fewer are left than there were, it gives memory back.
-    pub fn remove(&mut self, network: Prefix)
-        ensures { self.new ≡ map.remove self.old network }
-    {
-        self.take(network);
-        self.shrink();
-    }
-
-    /// Takes all values out, and gives their memory back.
-    pub fn clear(&mut self)
-        ensures { self.new ≡ map.empty }
-    {
-        self.entries = Vec::new(self.alloc);
-        self.slots = Slots::new(self.alloc);
-    }
-
-    // Gives a network that has no value the value.
-    fn add(&mut self, network: Prefix, value: V) -> Result<(), Memory>
+    /// Gives a network that has no value the value. Where memory is refused, nothing changes.
+    pub fn add(&mut self, network: Prefix, value: V) -> Result<(), Memory>
         requires { map.get self.old network ≡ None }
         ensures ok { OnOk result (self.new ≡ map.insert self.old network value) }
         ensures err { OnErr result (self.new ≡ self.old) }
-        ensures absent { OnErr result (map.get self.old network ≡ None) }
     {
         make_room(
             &mut self.slots,
@@ -153,19 +152,40 @@ impl<V: Drop> NetworkMap<V> {
         Ok(())
     }
 
-    // Takes the network's value out. The last entry takes the place of its own.
-    fn take(&mut self, network: Prefix)
-        ensures { self.new ≡ map.remove self.old network }
+    /// Takes the network's value out, and says whether it had one. Where far fewer are left than there
+    /// were, it gives memory back.
+    pub fn remove(&mut self, network: Prefix) -> bool
+        ensures removed { self.new ≡ map.remove self.old network }
+        ensures stood { result ≡ is_some (map.get self.old network) }
+    {
+        let stood = self.take(network);
+        self.shrink();
+        stood
+    }
+
+    /// Takes all values out, and gives their memory back.
+    pub fn clear(&mut self)
+        ensures { self.new ≡ map.empty }
+    {
+        self.entries = Vec::new(self.alloc);
+        self.slots = Slots::new(self.alloc);
+    }
+
+    // Takes the network's value out, and says whether it had one. The last entry takes the place of its own.
+    fn take(&mut self, network: Prefix) -> bool
+        ensures removed { self.new ≡ map.remove self.old network }
+        ensures stood { result ≡ is_some (map.get self.old network) }
     {
         let Some(place) = self
             .slots
             .find(self.entries.as_slice(), self.hashing, network)
         else {
-            return;
+            return false;
         };
         self.slots
             .take(self.hashing, self.entries.as_slice(), place);
         self.entries.swap_remove(place);
+        true
     }
 
     // Makes fewer slots, where far fewer entries are left. Where memory is refused, they stay.

@@ -52,7 +52,7 @@ impl Slots {
         }
     }
 
-    // Empty slots, eight for each of so many entries.
+    // Empty slots, at least five for each of so many entries.
     fn with_room(alloc: Global, count: usize) -> Result<Slots, AllocError>
         ensures ready { IfOk result (λ s. IsReady s count) }
         ensures empty { IfOk result (λ s. (q : ℕ) → slice_index s.numbers.items q ≡ 0) }
@@ -89,20 +89,21 @@ impl Slots {
         Ok(slots)
     }
 
-    // Whether the next entry needs more slots: a quarter of the homes is used, or its place has too many bits.
+    // Whether the next entry needs more slots: two fifths of the homes are used, or its place has too many
+    // bits.
     pub(crate) fn is_full(&self, count: usize) -> bool
         requires { self.now.bits ≤ 31 }
         ensures { result ≡ false → IsReady self.now count }
     {
         let homes = homes(self.bits);
-        self.numbers.len() < homes || self.used >= homes / 4 || count >= homes.saturating_sub(2)
+        self.numbers.len() < homes || self.used >= homes / 5 * 2 || count >= homes.saturating_sub(2)
     }
 
-    // Whether so many entries have more than 32 homes each.
+    // Whether so many entries have more than 20 homes each.
     pub(crate) fn is_wide(&self, count: usize) -> bool
         requires { self.now.bits ≤ 31 }
     {
-        self.bits > FEWEST && count < homes(self.bits) / 32
+        self.bits > FEWEST && count < homes(self.bits) / 20
     }
 
     // The place of the network's entry.
@@ -237,12 +238,12 @@ fn homes(bits: u32) -> usize
     1 << bits
 }
 
-// How many bits the homes of so many entries need, one home in eight being full.
+// How many bits the homes of so many entries need, at most one home in five being full.
 fn bits_for(count: usize) -> Option<u32>
     ensures { IfSome result (λ bits. (bits ≤ 31) × (3 ≤ bits) × (count + 3 ≤ 2 ^ bits) × AreFew bits count) }
 {
     for bits in FEWEST..MOST + 1 {
-        if count <= homes(bits) / 8 {
+        if count <= homes(bits) / 5 {
             return Some(bits);
         }
     }

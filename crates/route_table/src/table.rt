@@ -1,5 +1,5 @@
 //! The items of the networks, and how they are found.
-ghost use Rattle.std.specs.Prelude.{◌≡◌, OnOk, OnErr, None, option_copied};
+ghost use Rattle.std.specs.Prelude.{◌≡◌, ◌<◌, ◌^◌, OnOk, OnErr, None, length, option_copied};
 ghost use Rattle.std.specs.FinMap as map;
 ghost use Rattle.std.specs.List.Sorted.{IsStrictlySortedBy};
 ghost use Rattle.std.specs.Map.{keys_of};
@@ -145,6 +145,7 @@ impl Table {
     pub fn items(&self) -> Items<'_>
         ensures all { result ≡ map.entries self.now.items }
         ensures in_order { IsStrictlySortedBy network_cmp (keys_of result) }
+        ensures few { length result < 2 ^ 63 }
     {
         Items {
             left: self.items.iter(),

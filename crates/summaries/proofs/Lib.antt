@@ -9,3 +9,4 @@ pub mod Searching
 mod Turning
 mod Weighing
 mod Inside
+mod Taken

@@ -1,5 +1,5 @@
 -- How active ranges follow the routes: the members that named networks may be, and the prefixes that they touch.
-use Rattle.std.specs.Prelude.{ℕ, ◌≡◌, ◌⊎◌, ◌↔◌, ◌++◌, List, [], ◌∷◌, Contains, Option, Some, IsTrue}
+use Rattle.std.specs.Prelude.{ℕ, ◌≡◌, ◌⊎◌, ◌↔◌, ◌++◌, List, [], ◌∷◌, Contains, Option, Some, None, IsTrue}
 use Rattle.std.specs.FinMap.{get}
 use Rattle.ospf_types.specs.declared.config.AreaConfig.{AreaConfig}
 use Rattle.ospf_types.specs.declared.config.Range.{Range}
@@ -9,7 +9,7 @@ use Rattle.ospf_types.specs.declared.key.Dest.TheVariants.{Net}
 use Rattle.ospf_types.specs.declared.prefix.Prefix.{Prefix}
 use Rattle.ospf_types.specs.Address.{Covers}
 use Rattle.intra.specs.Intras.{EntriesByPrefix}
-use Rattle.summaries.specs.Active.{ActiveValue, IsActiveIn, IsConfigured, IsWithin}
+use Rattle.summaries.specs.Active.{ActiveValue, IsActiveIn, IsConfigured, IsMemberWithin}
 use Rattle.summaries.specs.declared.active.Noted.{Noted}
 use Rattle.summaries.specs.declared.member.Member.{Member}
 
@@ -31,21 +31,37 @@ IsNamedIn a network m = (network ≡ m.network) × (a.id ≡ m.area) × ((r : Ra
 abbrev pub HasMore : {A : Type 0} → (A → Type 0) → List A → List A → Type 0
 HasMore {A} more before after = (x : A) → Contains after x ↔ (Contains before x ⊎ more x)
 
--- the one member, where its network lies within its range
-abbrev pub IsAddedWithin : EntriesByPrefix → Member → Member → Type 0
-IsAddedWithin entries member m = (m ≡ member) × IsWithin entries m.area m.range m.network
-
 -- ---- their costs
 
 -- the entry is one through the area at this cost
 abbrev pub IsCostIn : Option Entry → ℕ → ℕ → Type 0
 IsCostIn entry area cost = (e : Entry) × (entry ≡ Some e) × (e.area ≡ Some area) × (e.cost ≡ cost)
 
+-- the one member, at the cost of its network's entry, where its range covers the network
+abbrev pub IsAddedWithin : EntriesByPrefix → Member → Member × ℕ → Type 0
+IsAddedWithin entries member x = (x.0 ≡ member) × Covers member.range member.network × IsCostIn (get entries member.network) member.area x.1
+
+-- it is a member that a network within the range is of it, and the cost of the network's entry
+abbrev pub IsCostWithin : EntriesByPrefix → ℕ → Prefix → Member × ℕ → Type 0
+IsCostWithin entries area range x = IsMemberWithin entries area range x.0 × IsCostIn (get entries x.0.network) x.0.area x.1
+
 -- these members have the costs of the entries, and the others what they had
 pub record AreFollowed (entries : EntriesByPrefix) (named : List Member) (old new : ActiveValue) : Type 0 where
   pub spent : new.spent ≡ old.spent
   pub here : (m : Member) → Contains named m → (cost : ℕ) → (get new.members m ≡ Some cost) ↔ IsCostIn (get entries m.network) m.area cost
   pub others : (m : Member) → (Contains named m → ⊥) → get new.members m ≡ get old.members m
+
+-- these members have costs that come with them, and the others what they had
+pub record AreTakenIn (costs : List (Member × ℕ)) (old new : ActiveValue) : Type 0 where
+  pub spent : new.spent ≡ old.spent
+  pub here : (m : Member) (c : ℕ) → Contains costs (m, c) → (cost : ℕ) × (get new.members m ≡ Some cost) × Contains costs (m, cost)
+  pub others : (m : Member) → ((c : ℕ) → Contains costs (m, c) → ⊥) → get new.members m ≡ get old.members m
+
+-- the area's range has no members, and the others are as they were
+pub record HasLeft (area : ℕ) (range : Prefix) (old new : ActiveValue) : Type 0 where
+  pub spent : new.spent ≡ old.spent
+  pub here : (m : Member) → m.range ≡ range → m.area ≡ area → get new.members m ≡ None
+  pub others : (m : Member) → ((m.range ≡ range) × (m.area ≡ area) → ⊥) → get new.members m ≡ get old.members m
 
 -- ---- which ranges are active
 

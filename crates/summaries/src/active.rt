@@ -13,12 +13,12 @@ ghost use Rattle.intra.specs.Right.{IsRightFor as IsIntraRight};
 ghost use Rattle.summaries.specs.declared.active.Noted.{Noted as NotedValue};
 ghost use Rattle.summaries.specs.declared.member.Member.{Member as MemberValue};
 ghost use Rattle.summaries.specs.Active.{AreRangesOf, EntriesDifferAmong, DiffersAt, HasCost, IsActiveIn, IsMemberWithin, RangesDifferAt, spent_ranges};
-ghost use Rattle.summaries.specs.Following.{AreFollowed, IsCostIn, IsNamed, IsNotedOf, IsOnceMore, IsTold, HasTurned};
+ghost use Rattle.summaries.specs.Following.{AreFollowed, AreTakenIn, HasLeft, IsCostIn, IsNamed, IsNotedOf, IsOnceMore, IsTold, HasTurned};
 ghost use Rattle.summaries.specs.Right.{AreConfigured, IsRightFor};
 
 use crate::member::Member;
 use crate::named::named_members;
-use crate::within::{is_configured, members_within};
+use crate::within::{costs_within, is_configured};
 use intra::Intra;
 use ospf_types::config::AreaConfig;
 use ospf_types::entry::Entry;
@@ -208,12 +208,13 @@ impl ActiveRanges {
         ensures exact { IfOk result (λ members. (m : MemberValue) → Contains members.items m ↔ IsMemberWithin intra.now.entries named.0 named.1 m) }
     {
         let (area, range) = named;
-        let members = members_within(alloc, intra, area, range)?;
+        let costs = costs_within(alloc, intra, area, range)?;
         if is_configured(areas, area, range) {
-            self.follow(intra, members.as_slice())?;
+            self.take_in(alloc, costs.as_slice())?;
         } else {
-            self.leave(members.as_slice())?;
+            self.leave(area, range);
         }
+        let members = members_of(alloc, costs.as_slice())?;
         Ok(members)
     }
 
@@ -266,14 +267,20 @@ impl ActiveRanges {
         Ok(())
     }
 
-    // The members are no longer any.
-    fn leave(&mut self, named: &[Member]) -> Result<(), Memory>
-        ensures { OnOk result (AreFollowed map.empty named.now self.old self.new) }
+    // Takes the members in, in the place of those with the same networks.
+    fn take_in(&mut self, alloc: Global, costs: &[(Member, u32)]) -> Result<(), Memory>
+        ensures { OnOk result (AreTakenIn costs.now self.old self.new) }
     {
-        for member in named {
-            self.put(*member, None)?;
-        }
+        let mut members: BTreeMap<Member, u32> = costs.iter().copied().collect(alloc)?;
+        self.members.append(&mut members)?;
         Ok(())
+    }
+
+    // Drops the members of the area's range.
+    fn leave(&mut self, area: u32, range: Prefix)
+        ensures { HasLeft area range self.old self.new }
+    {
+        self.members.retain(|member, _cost| member.range != range || member.area != area);
     }
 
     // The member takes the cost of its network's entry, where that is one through the member's area.
@@ -328,6 +335,14 @@ fn each_range(alloc: Global, members: &[Member]) -> Result<Vec<Prefix>, Memory>
 {
     let prefixes = members.iter().map(|member| member.range).collect(alloc)?;
     Ok(prefixes)
+}
+
+// The members without their costs.
+fn members_of(alloc: Global, costs: &[(Member, u32)]) -> Result<Vec<Member>, Memory>
+    ensures { IfOk result (λ members. members.items ≡ list_map (λ x. x.0) costs.now) }
+{
+    let members = costs.iter().map(|pair| pair.0).collect(alloc)?;
+    Ok(members)
 }
 
 // The networks as destinations.

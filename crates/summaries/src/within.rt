@@ -1,50 +1,58 @@
-//! The networks of an area that a prefix covers.
-ghost use Rattle.std.specs.Prelude.{◌≡◌, ◌↔◌, Contains, IfOk, OnOk, IsTrue};
+//! The networks of an area that a prefix covers, and their costs.
+ghost use Rattle.std.specs.Prelude.{◌≡◌, ◌↔◌, ℕ, Some, Contains, IfOk, OnOk, IsTrue};
+ghost use Rattle.std.specs.FinMap as map;
+ghost use Rattle.intra.specs.Intras.{EntriesByPrefix};
 ghost use Rattle.ospf_types.specs.declared.config.Range.{Range as RangeValue};
 ghost use Rattle.summaries.specs.declared.member.Member.{Member as MemberValue};
-ghost use Rattle.summaries.specs.Active.{IsConfigured, IsMemberWithin};
-ghost use Rattle.summaries.specs.Following.{HasMore, IsAddedWithin};
+ghost use Rattle.summaries.specs.Active.{IsConfigured};
+ghost use Rattle.summaries.specs.Following.{HasMore, IsAddedWithin, IsCostWithin};
 
 use crate::active::cost_in;
 use crate::member::Member;
 use intra::Intra;
 use ospf_types::config::AreaConfig;
+use ospf_types::entry::Entry;
 use ospf_types::memory::Memory;
 use ospf_types::prefix::Prefix;
 use std::alloc::Global;
 
-/// The networks of the area that the range's prefix covers, as its members.
-pub(crate) fn members_within(
+/// The networks of the area that the range's prefix covers, as its members, each at its cost, ascending.
+pub(crate) fn costs_within(
     alloc: Global,
     intra: &Intra,
     area: u32,
     range: Prefix,
-) -> Result<Vec<Member>, Memory>
-    ensures { IfOk result (λ members. (m : MemberValue) → Contains members.items m ↔ IsMemberWithin intra.now.entries area range m) }
+) -> Result<Vec<(Member, u32)>, Memory>
+    ensures { IfOk result (λ costs. (x : MemberValue × ℕ) → Contains costs.items x ↔ IsCostWithin intra.now.entries area range x) }
 {
-    let mut members = Vec::new(alloc);
-    for network in &intra.networks(alloc)? {
+    let entries = intra.entries();
+    let mut costs = Vec::new(alloc);
+    for place in 0..entries.len() {
+        let Some((network, entry)) = entries.get_index(place) else {
+            unreachable!()
+        };
         let member = Member {
             range,
             area,
             network: *network,
         };
-        push_within(intra, member, &mut members)?;
+        push_within(entry, member, &mut costs)?;
     }
-    Ok(members)
+    costs.sort_unstable();
+    Ok(costs)
 }
 
-// Adds the member, where its network is one of its area, and its range covers it.
-fn push_within(intra: &Intra, member: Member, members: &mut Vec<Member>) -> Result<(), Memory>
-    ensures { OnOk result (HasMore (IsAddedWithin intra.now.entries member) members.old.items members.new.items) }
+// Adds the member, where its network's entry is one of its area, and its range covers the network.
+fn push_within(entry: &Entry, member: Member, costs: &mut Vec<(Member, u32)>) -> Result<(), Memory>
+    ensures { OnOk result ((entries : EntriesByPrefix) → map.get entries member.network ≡ Some entry.now → HasMore (IsAddedWithin entries member) costs.old.items costs.new.items) }
 {
     if !member.range.covers(member.network) {
         return Ok(());
     }
-    if cost_in(intra.get(member.network), member.area).is_none() {
+    let Some(cost) = cost_in(Some(entry), member.area) else {
         return Ok(());
-    }
-    members.push(member)?;
+    };
+    costs.push((member, cost))?;
     Ok(())
 }
 

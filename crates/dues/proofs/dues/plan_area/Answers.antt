@@ -1,6 +1,9 @@
-use Rattle.std.proofs.Common.{◌++◌, ◌∙◌, ap}
+use Rattle.std.proofs.Common.{◌++◌, ◌∙◌, ap, subst, List}
 use Rattle.std.specs.Map.{keys_of}
 use Rattle.due_lists.specs.Lists.{Metrics}
+use Rattle.due_lists.specs.declared.due.Due.{Due}
+use Rattle.dues.specs.Candidates.{dests_in}
+use Rattle.dues.specs.Changes.{AreChangesIn}
 use Rattle.dues.proofs.dues.plan_area.Goals as goal
 
 pub of-requires : goal.of-requires
@@ -10,8 +13,11 @@ pub returns-clause-planned : goal.returns-clause-planned
 returns-clause-planned c =
     let of = c.in_ok-plan.ensures in
     let read = c.deref.ensures.value in
+    let v = c.args.inputs.now in
+    let dests = dests_in c.args.candidates.now in
+    let changes = subst (λ (list : List Due). AreChangesIn v c.args.area.now list dests c.in_ok-metrics.metrics.items) c.as_slice.ensures.value c.in_ok-metrics.ensures in
     record {
       metrics = c.in_ok-metrics.metrics.items;
       named = c.in_ok-push_named.ensures ∙ ap (λ (ms : Metrics). c.args.named.now.items ++ keys_of ms) read;
-      turn = record { changes = c.in_ok-metrics.ensures; same_area = of.area; same_list = of.list; fits = of.fits; leads = of.leads };
+      turn = record { changes = changes; same_area = of.area; same_list = of.list; fits = of.fits; leads = of.leads };
     }

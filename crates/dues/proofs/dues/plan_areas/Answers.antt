@@ -1,6 +1,7 @@
 use Rattle.std.proofs.Common.{◌≡◌, ◌+◌, ◌<◌, ◌≤◌, List, length, get_or, set, sym, ap, subst, ◌∙◌, arith}
 use Rattle.ospf_types.specs.declared.config.AreaConfig.{AreaConfig}
 use Rattle.due_lists.specs.declared.plan.AreaPlan.{AreaPlan}
+use Rattle.dues.specs.Candidates.{dests_in}
 use Rattle.dues.specs.Inputs.{DueInputsValue}
 use Rattle.due_lists.specs.Lists.{AreaDuesValue}
 use Rattle.dues.specs.Planning.{ArePlannedTo}
@@ -16,8 +17,8 @@ bounds-lists-place c =
 pub loop-place-init : goal.loop-place-init
 loop-place-init c =
     let v = c.args.inputs.now in
-    subst (λ (plans : List AreaPlan). ArePlannedTo v c.args.dests.now v.areas c.args.lists.now c.args.lists.now plans c.args.named.now.items c.args.named.now.items 0) (sym c.in_ok-plans.ensures.items)
-    (none_planned v c.args.dests.now v.areas c.args.lists.now c.args.named.now.items)
+    subst (λ (plans : List AreaPlan). ArePlannedTo v (dests_in c.args.candidates.now) v.areas c.args.lists.now c.args.lists.now plans c.args.named.now.items c.args.named.now.items 0) (sym c.in_ok-plans.ensures.items)
+    (none_planned v (dests_in c.args.candidates.now) v.areas c.args.lists.now c.args.named.now.items)
 
 pub loop-place-preserved : goal.loop-place-preserved
 loop-place-preserved c =
@@ -31,8 +32,8 @@ loop-place-preserved c =
     let was : AreaDuesValue = get_or now i c.index-lists-place.result in
     let was_at : was ≡ get_or now i was = ap (get_or now i) c.index-lists-place.is in
     let new : AreaDuesValue = c.plan_area.new.dues in
-    subst (λ (plans : List AreaPlan). ArePlannedTo v c.args.dests.now v.areas c.args.lists.now (set now i new) plans c.args.named.now.items c.plan_area.new.named.items (i + 1)) (sym c.in_ok-push.ensures.items)
-    (planned_more v c.args.dests.now v.areas c.args.lists.now now c.loop-place.plans.items c.args.named.now.items c.loop-place.named.items i a was new c.in_ok-plan.plan c.plan_area.new.named.items
+    subst (λ (plans : List AreaPlan). ArePlannedTo v (dests_in c.args.candidates.now) v.areas c.args.lists.now (set now i new) plans c.args.named.now.items c.plan_area.new.named.items (i + 1)) (sym c.in_ok-push.ensures.items)
+    (planned_more v (dests_in c.args.candidates.now) v.areas c.args.lists.now now c.loop-place.plans.items c.args.named.now.items c.loop-place.named.items i a was new c.in_ok-plan.plan c.plan_area.new.named.items
     lt (c.loop-place.auto.lists ∙ c.requires.long) c.requires.long at was_at c.in_ok-plan.ensures.area c.in_ok-plan.ensures.list c.in_ok-plan.ensures.planned c.loop-place.invariant)
 
 pub returns-clause-planned : goal.returns-clause-planned
@@ -40,7 +41,7 @@ returns-clause-planned c =
     let v = c.args.inputs.now in
     let areas : c.inputs.inside.areas.now ≡ v.areas = ap (λ (w : DueInputsValue). w.areas) c.inputs.view_is in
     let past : length v.areas ≤ c.loop-place.place = subst (λ (list : List AreaConfig). length list ≤ c.loop-place.place) areas c.loop-place-test.false in
-    all_planned v c.args.dests.now v.areas c.args.lists.now c.loop-place.lists c.loop-place.plans.items c.args.named.now.items c.loop-place.named.items c.loop-place.place
+    all_planned v (dests_in c.args.candidates.now) v.areas c.args.lists.now c.loop-place.lists c.loop-place.plans.items c.args.named.now.items c.loop-place.named.items c.loop-place.place
     past c.requires.long (c.loop-place.auto.lists ∙ c.requires.long) c.loop-place.invariant
 
 -- where memory is refused, the list in its place is as it was

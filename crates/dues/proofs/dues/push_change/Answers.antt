@@ -6,16 +6,16 @@ use Rattle.dues.proofs.Comparing.{one_metric, equal_tested}
 use Rattle.dues.proofs.dues.push_change.Goals as goal
 
 pub returns-then-eq : goal.returns-then-eq
-returns-then-eq c =
-    let same : c.args.metric ≡ c.metric.result = same_areas c.args.metric c.metric.result (sym c.eq.ensures ∙ c.if-eq.true) in
-    inl (refl, subst (λ (m : Option ℕ). IsMetricIn c.args.dues.now.list c.args.dest.now m) (sym same) c.metric.ensures)
+returns-then-eq c = λ list has.
+    let same : c.args.metric ≡ c.args.had = same_areas c.args.metric c.args.had (sym c.eq.ensures ∙ c.if-eq.true) in
+    inl (refl, subst (λ (m : Option ℕ). IsMetricIn list c.args.dest m) (sym same) has)
 
 pub returns : goal.returns
-returns c = inr (
+returns c = λ list had. inr (
   c.in_ok-push.ensures.items,
   λ has.
-      let same : c.args.metric ≡ c.metric.result = one_metric c.args.dues.now.list c.args.dest.now c.args.metric c.metric.result has c.metric.ensures in
-      let equal : true ≡ c.eq.result = sym (c.eq.ensures ∙ equal_tested c.args.metric c.metric.result same) in
+      let same : c.args.metric ≡ c.args.had = one_metric list c.args.dest c.args.metric c.args.had has had in
+      let equal : true ≡ c.eq.result = sym (c.eq.ensures ∙ equal_tested c.args.metric c.args.had same) in
       let differs : true ≡ false = equal ∙ c.if-eq.false in
       absurd cc,
 )

@@ -7,8 +7,8 @@ use Rattle.dues.proofs.giving.network_metric.Goals as goal
 
 pub returns-in-Some : goal.returns-in-Some
 returns-in-Some c =
-    subst (λ (stub : Option Stub). (m : ℕ) → (c.stub_metric.result ≡ Some m) ↔ IsNetworkDueIn c.args.inputs.now c.args.area stub c.args.network m) (sym c.in-Some.is) c.stub_metric.ensures
+    subst (λ (stub : Option Stub). (m : ℕ) → (c.stub_metric.result ≡ Some m) ↔ IsNetworkDueIn c.args.inputs.now c.args.area.now.id stub c.args.network m) (sym c.in-Some.is) c.stub_metric.ensures
 
 pub returns-in-None : goal.returns-in-None
 returns-in-None c =
-    subst (λ (stub : Option Stub). (m : ℕ) → (c.greatest_given.result ≡ Some m) ↔ IsNetworkDueIn c.args.inputs.now c.args.area stub c.args.network m) (sym c.in-None.is) c.greatest_given.ensures
+    subst (λ (stub : Option Stub). (m : ℕ) → (c.greatest_given.result ≡ Some m) ↔ IsNetworkDueIn c.args.inputs.now c.args.area.now.id stub c.args.network m) (sym c.in-None.is) c.greatest_given.ensures

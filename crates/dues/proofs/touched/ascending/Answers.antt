@@ -9,10 +9,10 @@ use Rattle.dues.proofs.touched.ascending.Goals as goal
 
 pub returns-clause-in_order : goal.returns-clause-in_order
 returns-clause-in_order c =
-    let in_order = subst (λ (R : Dest → Dest → Ordering). IsSorted R c.sort_unstable.new.self.items) dest_cmp_is c.sort_unstable.ensures.sorted in
-    strictly dest_total dest_exact dests_order c.args.dests.items c.sort_unstable.new.self.items c.dedup.new.self.items c.sort_unstable.ensures.permutation in_order c.dedup.ensures.filtered
+    let in_order = subst (λ (R : Dest → Dest → Ordering). IsSorted R c.sort.new.self.items) dest_cmp_is c.in_ok-sort.ensures.sorted in
+    strictly dest_total dest_exact dests_order c.args.dests.items c.sort.new.self.items c.dedup.new.self.items c.sort.ensures.permutation in_order c.dedup.ensures.filtered
 
 pub returns-clause-same : goal.returns-clause-same
 returns-clause-same c =
-    let in_order = subst (λ (R : Dest → Dest → Ordering). IsSorted R c.sort_unstable.new.self.items) dest_cmp_is c.sort_unstable.ensures.sorted in
-    same_items dest_total dest_exact dests_order c.args.dests.items c.sort_unstable.new.self.items c.dedup.new.self.items c.sort_unstable.ensures.permutation in_order c.dedup.ensures.filtered
+    let in_order = subst (λ (R : Dest → Dest → Ordering). IsSorted R c.sort.new.self.items) dest_cmp_is c.in_ok-sort.ensures.sorted in
+    same_items dest_total dest_exact dests_order c.args.dests.items c.sort.new.self.items c.dedup.new.self.items c.sort.ensures.permutation in_order c.dedup.ensures.filtered

@@ -1,12 +1,11 @@
 -- One range more.
-use Rattle.std.proofs.Common.{◌≡◌, List, sym, subst, ◌∙◌, ap, true, false}
+use Rattle.std.proofs.Common.{◌≡◌, List, sym, subst, ◌∙◌, ap, true, false, inl, inr}
 use Rattle.ospf_types.specs.declared.config.Range.{Range}
 use Rattle.ospf_types.specs.declared.key.Dest.{Dest}
-use Rattle.ospf_types.specs.declared.key.Dest.TheVariants.{Net}
 use Rattle.dues.specs.Touched.{HasAlso, IsOverIn, IsOverBy}
-use Rattle.dues.proofs.Adding.{also_none, also_one, also_next, also_all}
+use Rattle.dues.proofs.Adding.{also_none, also_next, also_all}
 use Rattle.dues.proofs.touched.push_ranges_of.Goals as goal
-use Rattle.dues.proofs.touched.push_ranges_of.Goals.{then-covers+in_ok-push, else-covers}
+use Rattle.dues.proofs.touched.push_ranges_of.Goals.{then-covers+in_ok-push_also, else-covers}
 
 pub loop-range-preserved : goal.loop-range-preserved
 loop-range-preserved c =
@@ -14,7 +13,7 @@ loop-range-preserved c =
     let r = c.range-item.result in
     let before = c.loop-range.found.items in
     let here : HasAlso (P r) before c.if-covers.found.items = elim c.if-covers.branch [
-      | then-covers+in_ok-push w ↦ also_one (P r) before c.if-covers.found.items (Net r.prefix) (ap (λ v. v.items) w.found-is ∙ w.in_ok-push.ensures.items) (λ d is. is.1)
+      | then-covers+in_ok-push_also w ↦ subst (λ (ds : List Dest). HasAlso (P r) before ds) (sym (ap (λ v. v.items) w.found-is)) (λ d is. w.in_ok-push_also.ensures d (elim is [ inl was ↦ inl was | inr over ↦ inr over.1 ]))
       | else-covers w ↦ subst (λ (ds : List Dest). HasAlso (P r) before ds) (sym (ap (λ v. v.items) w.found-is)) (also_none (P r) before (λ d is. let wrong : true ≡ false = sym (c.covers.ensures.1 is.0) ∙ w.if-covers.false in absurd cc))
     ] in
     also_next P c.as_slice-range-items.result.now c.loop-range.range-index r c.args.found.now.items before c.if-covers.found.items c.loop-range-test.true c.range-item.is c.loop-range.invariant here

@@ -4,6 +4,7 @@ use Rattle.std.specs.List.{Contains}
 use Rattle.std.proofs.lemmas.List.{with_items_is}
 use Rattle.ospf_types.specs.declared.key.Dest.{Dest}
 use Rattle.due_lists.specs.declared.plan.AreaPlan.{AreaPlan}
+use Rattle.dues.specs.Candidates.{dests_in}
 use Rattle.dues.specs.Inputs.{DueInputsValue}
 use Rattle.due_lists.specs.Lists.{AreaDuesValue}
 use Rattle.dues.specs.Dues.{DuesValue, AreListsOf}
@@ -26,7 +27,7 @@ returns-clause-ready c =
     let planned = c.in_ok-areas.ensures.planned in
     let length_is : length c.plan_areas.new.lists ≡ c.self.inside.areas.len = c.plan_areas.auto.lists ∙ ap (λ (ws : List AreaDuesValue). length ws) c.deref_mut.ensures.value ∙ sym c.self.inside.areas.ok.0 in
     subst (AllFit c.in_ok-areas.areas.items) (sym (with_items_is c.self.inside.areas c.plan_areas.new.lists length_is))
-    (planned_fit v c.deref.result.now v.areas c.deref_mut.result.now c.plan_areas.new.lists c.in_ok-areas.areas.items c.new-named.result.items c.plan_areas.new.named.items planned)
+    (planned_fit v (dests_in c.deref-2.result.now) v.areas c.deref_mut.result.now c.plan_areas.new.lists c.in_ok-areas.areas.items c.new-named.result.items c.plan_areas.new.named.items planned)
 
 pub returns-clause-kept : goal.returns-clause-kept
 returns-clause-kept c after carried =
@@ -39,10 +40,11 @@ returns-clause-kept c after carried =
     let own : c.deref_mut.result.now ≡ c.args.self.now.areas = c.deref_mut.ensures.value ∙ ap (λ (w : DuesValue). w.areas) c.self.view_is in
     let lists : AreListsOf b.0 v.areas c.deref_mut.result.now =
     subst (AreListsOf b.0 v.areas) (sym own) (lists_now b.0 v c.args.self.now.areas b.2.areas b.1.lists) in
-    let alike : AreDueAlikeBut c.deref.result.now b.0 v = subst (λ (ds : List Dest). AreDueAlikeBut ds b.0 v) (sym c.deref.ensures.value) (c.in_ok-touched.ensures.enough b.0 b.1 b.2) in
+    let named_are : dests_in c.deref-2.result.now ≡ touched = ap dests_in c.deref-2.ensures.value ∙ c.in_ok-candidates.ensures.dests ∙ c.deref.ensures.value in
+    let alike : AreDueAlikeBut (dests_in c.deref-2.result.now) b.0 v = subst (λ (ds : List Dest). AreDueAlikeBut ds b.0 v) (sym named_are) (c.in_ok-touched.ensures.enough b.0 b.1 b.2) in
     record {
       active = carried.active ∙ c.in_ok-active.ensures.items ∙ ap (λ (w : DueInputsValue). w.active) c.inputs.view_is;
-      lists = planned_lists v c.deref.result.now v.areas c.deref_mut.result.now c.plan_areas.new.lists plans c.new-named.result.items c.plan_areas.new.named.items c.in_ok-areas.ensures.planned after.areas leads b.0 alike lists;
+      lists = planned_lists v (dests_in c.deref-2.result.now) v.areas c.deref_mut.result.now c.plan_areas.new.lists plans c.new-named.result.items c.plan_areas.new.named.items c.in_ok-areas.ensures.planned after.areas leads b.0 alike lists;
     }
 
 pub returns-clause-exact : goal.returns-clause-exact
@@ -52,7 +54,7 @@ returns-clause-exact c after d carried =
     let length_is : length c.plan_areas.new.lists ≡ c.self.inside.areas.len = c.plan_areas.auto.lists ∙ ap (λ (ws : List AreaDuesValue). length ws) c.deref_mut.ensures.value ∙ sym c.self.inside.areas.ok.0 in
     let leads : AllLead plans c.plan_areas.new.lists after.areas = subst (λ (lists : List AreaDuesValue). AllLead plans lists after.areas) (with_items_is c.self.inside.areas c.plan_areas.new.lists length_is) carried.lists in
     let own : c.deref_mut.result.now ≡ c.args.self.now.areas = c.deref_mut.ensures.value ∙ ap (λ (w : DuesValue). w.areas) c.self.view_is in
-    let same = c.ascending.ensures.same d in
+    let same = c.in_ok-ascending.ensures.same d in
     let differ = subst (λ (lists : List AreaDuesValue). Contains c.plan_areas.new.named.items d ↔ DifferAt lists after.areas d) own
-    (planned_differ v c.deref.result.now v.areas c.deref_mut.result.now c.plan_areas.new.lists plans c.new-named.result.items c.plan_areas.new.named.items c.in_ok-areas.ensures.planned after.areas leads c.new-named.ensures.items d) in
+    (planned_differ v (dests_in c.deref-2.result.now) v.areas c.deref_mut.result.now c.plan_areas.new.lists plans c.new-named.result.items c.plan_areas.new.named.items c.in_ok-areas.ensures.planned after.areas leads c.new-named.ensures.items d) in
     (λ h. differ.0 (same.0 h), λ h. same.1 (differ.1 h))
