@@ -6,8 +6,9 @@
 # Of each recording the last 100 lines are the events that are measured: what a replay takes with them, less what it takes
 # without them, so that loading falls out; the parsing of their lines counts. With no recording these are networks of
 # bench/network.py, and then ranges of 16, 64, 256 and more networks, which are set and dropped ten times each. A hash is a
-# key of a hash map that is hashed by a call; an allocation is a call of malloc, calloc or realloc. Nothing here asserts a
-# number. The program is what `./abr build` built, unless FILE is another.
+# key of a hash map that is hashed by a call; an allocation is a call of malloc, calloc or realloc. The keys of hash maps
+# differ from run to run, and instructions with them, by some thousand an event: run it more than once. Nothing here asserts
+# a number. The program is what `./abr build` built, unless FILE is another.
 set -euo pipefail
 top=$(cd "$(dirname "$0")/.." && pwd)
 program=$top/crates/abr/out/abr

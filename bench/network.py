@@ -7,8 +7,9 @@
     bench/network.py areas ROUTERS   a backbone and two areas of so many routers each
     bench/network.py externals COUNT a random network of 300 routers, one of which has so many external routes
 
-An area holds at most 16,384 routers, and an AS 65,536 external routes: more are refused. Options: --changes N, how many events follow once all LSAs are there (200 unless given; a metric that
-changes, a link that goes or comes, a stub link that changes its metric, a refresh), and --seed N. One seed
+An area holds at most 16,384 routers, and an AS 65,536 external routes: more are refused.
+
+Options: --changes N, how many events follow once all LSAs are there (200 unless given; a metric that changes, a link that goes or comes, a stub link that changes its metric, a refresh), and --seed N. One seed
 always writes the same recording. The calculating router is 10.0.0.1, a corner of the grid and a member of
 each area.
 """
