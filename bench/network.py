@@ -9,9 +9,10 @@
 
 An area holds at most 16,384 routers, and an AS 65,536 external routes: more are refused.
 
-Options: --changes N, how many events follow once all LSAs are there (200 unless given; a metric that changes, a link that goes or comes, a stub link that changes its metric, a refresh), and --seed N. One seed
-always writes the same recording. The calculating router is 10.0.0.1, a corner of the grid and a member of
-each area.
+Options: --changes N, how many events follow once all LSAs are there (200 unless given; a metric that changes, a link
+that goes or comes, a stub link that changes its metric, a refresh, an external route at another metric), and --seed N.
+One seed always writes the same recording. The calculating router is 10.0.0.1, a corner of the grid and a member of each
+area.
 """
 
 import argparse
