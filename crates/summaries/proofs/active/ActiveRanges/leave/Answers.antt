@@ -24,9 +24,9 @@ returns c =
     let others = filter apart old.entries in
     let all = YieldsList-from_rest {shows = λ (y : Bor Member × Bor ℕ). (y.0.now, y.1.now)} old.entries c.iter.ensures.rest in
     let got = fact_from_collect (IsFromIterResult member_cmp) c.collect.result c.collect.ensures.ran
-        (YieldsList-from_map _ (λ (x : Member × ℕ). x)
-          (YieldsList-at c.map.ensures.source (YieldsList-from_filter _ apart (YieldsList-at c.filter.ensures.source all) c.filter.ensures.closure (λ x b q k. (search rules, search rules))))
-          c.map.ensures.closure (λ x b q k. (search rules, search rules))) in
+    (YieldsList-from_map _ (λ (x : Member × ℕ). x)
+    (YieldsList-at c.map.ensures.source (YieldsList-from_filter _ apart (YieldsList-at c.filter.ensures.source all) c.filter.ensures.closure (λ x b q k. (search rules, search rules))))
+    c.map.ensures.closure (λ x b q k. (search rules, search rules))) in
     let made = IfOk-at_ok (IsFromIterResult member_cmp others) c.in_ok-self-inside.was (subst (λ (xs : List (Member × ℕ)). IfOk c.collect.result (IsFromIterResult member_cmp xs)) (map-id others) got) in
     let new = c.in_ok-self-inside.field-0 in
     subst (λ (v : ActiveValue). HasLeft area range v (record { members = from_entries new.entries; spent = c.self.inside.spent })) c.self.view_is (left_out old new range area c.iter.ensures.ordered made c.self.inside.spent)
