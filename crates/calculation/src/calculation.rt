@@ -192,7 +192,7 @@ impl Calculation {
         ensures kept { IfOk result (λ plan. (after : DuesValue) → IsCarriedOut plan dues.new after → AreDuesFor state.now self.now after) }
     {
         let active = active_areas(alloc, state)?;
-        let (plan, _) = dues.plan(alloc, &self.due_inputs(state, &active), dests)?;
+        let plan = dues.plan(alloc, &self.due_inputs(state, &active), dests)?;
         Ok(plan)
     }
 

@@ -204,8 +204,19 @@ fn push_before<'a>(rest: &'a [Due], dest: &Dest, list: &mut Vec<Due>) -> Result<
         Ok(at) => (at, at + 1),
         Err(at) => (at, at),
     };
-    list.extend_from_slice(&rest[..end])?;
+    push_all(&rest[..end], list)?;
     Ok(&rest[begin..])
+}
+
+// Adds what is due. Mostly that is nothing, since changes stand side by side.
+fn push_all(dues: &[Due], list: &mut Vec<Due>) -> Result<(), Memory>
+    ensures { OnOk result (list.new.items ≡ list.old.items ++ dues.now) }
+{
+    if dues.is_empty() {
+        return Ok(());
+    }
+    list.extend_from_slice(dues)?;
+    Ok(())
 }
 
 // Adds the destination, where it is due.

@@ -1,10 +1,12 @@
 -- What is due otherwise than before is touched.
 --   alike_touched: where the same areas are active as before
+--   alike_few: where fewer than two are, and nothing is due
 --   alike_all: where all that is due and all that was due is touched
 --   lists_now: the lists of before are those of the areas now, of which the ranges may differ
-use Rattle.std.proofs.Common.{◌≡◌, ℕ, List, [], ◌∷◌, ◌++◌, refl, sym, ap, subst, ◌∙◌, inl, inr}
+use Rattle.std.proofs.Common.{◌≡◌, ◌<◌, ℕ, List, [], ◌∷◌, ◌++◌, Ordering, arith, length, refl, sym, ap, subst, ◌∙◌, inl, inr}
 use Rattle.std.specs.Prelude.{◌↔◌}
 use Rattle.std.specs.List.{Contains, flat_map}
+use Rattle.std.specs.List.Sorted.{IsStrictlySortedBy}
 use Rattle.std.proofs.lemmas.List.Elements.{Contains-append_left, Contains-append_right}
 use Rattle.ospf_types.specs.declared.config.AreaConfig.{AreaConfig}
 use Rattle.ospf_types.specs.declared.key.Dest.{Dest}
@@ -13,7 +15,7 @@ use Rattle.ospf_types.specs.RangeChanges.{with_others, areas_without_ranges}
 use Rattle.ospf_types.proofs.Elements.{no_element, first_or_later, mapped_element}
 use Rattle.due_lists.specs.declared.due.Due.{Due}
 use Rattle.dues.specs.Inputs.{DueInputsValue}
-use Rattle.dues.specs.Giving.{IsDueIn}
+use Rattle.dues.specs.Giving.{IsDueIn, IsServed}
 use Rattle.due_lists.specs.Lists.{AreaDuesValue, due_for}
 use Rattle.dues.specs.Dues.{AreDuesOf, AreListsOf, IsListOf, DuesValue, dests_of}
 use Rattle.dues.specs.Changes.{AreDueAlikeBut, InputsDifferAmong}
@@ -25,6 +27,29 @@ pub alike_touched : (dests touched : List Dest) (before now : DueInputsValue) (w
     → AreDuesOf before w → InputsDifferAmong dests before now → AreDueAlikeBut touched before now
 alike_touched dests touched before now w enough active were differ a d there absent m =
     due_stays dests before now differ (sym active ∙ were.active) d (λ t. absent (enough d t)) a m
+
+-- one active area has no other
+no_other : (active : List ℕ) (area : ℕ) → length active < 2 → IsServed active area → ⊥
+no_other [] area few served = no_element area served.here
+no_other (x ∷ []) area few served = served.other.2 (only x served.other.0 served.other.1 ∙ sym (only x area served.here))
+  where
+    only : (x n : ℕ) → Contains (x ∷ []) n → n ≡ x
+    only x n there = elim (first_or_later x n [] there) [
+      | inl same ↦ same
+      | inr later ↦ absurd (no_element n later)
+    ]
+no_other (x ∷ y ∷ active) area few served = omega (arith, few)
+
+-- where fewer than two areas are active, and the same ones as before
+pub alike_few : (touched : List Dest) (before now : DueInputsValue) (w : DuesValue) → length now.active < 2 → w.active ≡ now.active → AreDuesOf before w → AreDueAlikeBut touched before now
+alike_few touched before now w few active were a d there absent m = (
+  λ h. absurd (no_other before.active a.id (subst (λ (xs : List ℕ). length xs < 2) (sym active ∙ were.active) few) h.served),
+  λ h. absurd (no_other now.active a.id few h.served),
+)
+
+pub none_in_order : {A : Type 0} (cmp : A → A → Ordering) → IsStrictlySortedBy cmp []
+unfolding IsStrictlySortedBy
+none_in_order cmp = tt
 
 -- what was due in an area is in its list
 listed_dest : (v : DueInputsValue) (areas : List AreaConfig) (lists : List AreaDuesValue) → AreListsOf v areas lists → (a : AreaConfig) (d : Dest) (m : ℕ) → Contains areas a → IsDueIn v a d m → Contains (flat_map dests_of lists) d

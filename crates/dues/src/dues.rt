@@ -101,32 +101,27 @@ impl Dues {
         ensures unchanged { OnErr result (lists_of self.new ≡ lists_of self.old) }
         ensures active { OnErr result (self.new.active ≡ self.old.active) }
     {
-        let (plan, named) = self.plan(alloc, inputs, dests)?;
+        let (plan, named) = self.planned(alloc, inputs, dests)?;
+        let named = ascending(named)?;
         self.carry_out(plan);
         Ok(named)
     }
 
-    /// What `update` would change, and its answer: the lists stay, and get room for it.
+    /// What `update` would change: the lists stay, and get room for it.
     pub fn plan(
         &mut self,
         alloc: Global,
         inputs: &DueInputs<'_>,
         dests: &[Dest],
-    ) -> Result<(Plan, Vec<Dest>), Memory>
+    ) -> Result<Plan, Memory>
         requires before { (before : DueInputsValue) × AreDuesOf before self.old × InputsDifferAmong dests.now before inputs.now }
         ensures unchanged { lists_of self.new ≡ lists_of self.old }
         ensures active { self.new.active ≡ self.old.active }
-        ensures ready { IfOk result (λ made. IsReady made.0 self.new) }
-        ensures kept { IfOk result (λ made. (after : DuesValue) → IsCarriedOut made.0 self.new after → AreDuesOf inputs.now after) }
-        ensures in_order { IfOk result (λ made. IsStrictlySortedBy dest_cmp made.1.items) }
-        ensures exact { IfOk result (λ made. (after : DuesValue) (d : DestValue) → IsCarriedOut made.0 self.new after → Contains made.1.items d ↔ DiffersAt self.old after d) }
+        ensures ready { IfOk result (λ plan. IsReady plan self.new) }
+        ensures kept { IfOk result (λ plan. (after : DuesValue) → IsCarriedOut plan self.new after → AreDuesOf inputs.now after) }
     {
-        let touched = self.touched(alloc, inputs, dests)?;
-        let candidates = find_candidates(alloc, inputs, &touched)?;
-        let mut named = Vec::new(alloc);
-        let areas = plan_areas(alloc, inputs, &mut self.areas, &candidates, &mut named)?;
-        let active = Vec::from_slice(alloc, inputs.active)?;
-        Ok((Plan { areas, active }, ascending(named)?))
+        let (plan, _) = self.planned(alloc, inputs, dests)?;
+        Ok(plan)
     }
 
     /// Makes the changes of a plan. It takes no memory.
@@ -174,6 +169,28 @@ impl Dues {
         })
     }
 
+    // What is to change, with room for it in the lists, and the destinations that this names, in no stated order.
+    fn planned(
+        &mut self,
+        alloc: Global,
+        inputs: &DueInputs<'_>,
+        dests: &[Dest],
+    ) -> Result<(Plan, Vec<Dest>), Memory>
+        requires before { (before : DueInputsValue) × AreDuesOf before self.old × InputsDifferAmong dests.now before inputs.now }
+        ensures unchanged { lists_of self.new ≡ lists_of self.old }
+        ensures active { self.new.active ≡ self.old.active }
+        ensures ready { IfOk result (λ made. IsReady made.0 self.new) }
+        ensures kept { IfOk result (λ made. (after : DuesValue) → IsCarriedOut made.0 self.new after → AreDuesOf inputs.now after) }
+        ensures exact { IfOk result (λ made. (after : DuesValue) (d : DestValue) → IsCarriedOut made.0 self.new after → Contains made.1.items d ↔ DiffersAt self.old after d) }
+    {
+        let touched = self.touched(alloc, inputs, dests)?;
+        let candidates = find_candidates(alloc, inputs, &touched)?;
+        let mut named = Vec::new(alloc);
+        let areas = plan_areas(alloc, inputs, &mut self.areas, &candidates, &mut named)?;
+        let active = Vec::from_slice(alloc, inputs.active)?;
+        Ok((Plan { areas, active }, named))
+    }
+
     // The destinations whose summaries may differ, ascending, each once: all where other areas are active than before.
     fn touched(
         &self,
@@ -184,10 +201,15 @@ impl Dues {
         ensures in_order { IfOk result (λ found. IsStrictlySortedBy dest_cmp found.items) }
         ensures enough { IfOk result (λ found. (before : DueInputsValue) → AreDuesOf before self.now → InputsDifferAmong dests.now before inputs.now → AreDueAlikeBut found.items before inputs.now) }
     {
-        if self.active.as_slice() == inputs.active {
-            return touched(alloc, inputs.areas, dests);
+        let are_same = self.active.as_slice() == inputs.active;
+        if !are_same {
+            return self.all(alloc, inputs);
         }
-        self.all(alloc, inputs)
+        // 12.4.3: only an area border router sends summaries.
+        if inputs.active.len() < 2 {
+            return Ok(Vec::new(alloc));
+        }
+        touched(alloc, inputs.areas, dests)
     }
 
     // All destinations that are due or may be, ascending, each once.

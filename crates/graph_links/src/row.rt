@@ -3,7 +3,7 @@ use crate::end::End;
 use crate::link::Link;
 use indexmap::IndexMap;
 use ospf_types::entry::Vertex;
-use std::hash::RandomState;
+use word_hash::WordHash;
 
 /// A vertex that is there: where its LSA leads, and its links.
 pub struct Row {
@@ -24,7 +24,7 @@ impl Drop for Row {
 }
 
 /// The vertices that are there.
-pub type Rows = IndexMap<Vertex, Row, RandomState>;
+pub type Rows = IndexMap<Vertex, Row, WordHash>;
 
 /// Where vertices lead whose LSAs change, none where the LSA goes.
-pub type StagedEnds = IndexMap<Vertex, Option<Vec<End>>, RandomState>;
+pub type StagedEnds = IndexMap<Vertex, Option<Vec<End>>, WordHash>;

@@ -1,12 +1,9 @@
 -- How steps that follow named LSAs, vertices and routers go together, one after another.
-use Rattle.std.proofs.Common.{◌≡◌, ◌≢◌, ℕ, ◌+◌, ◌<◌, true, false, true≢false, nat_eq, List, [], ◌∷◌, ◌++◌, length, Option, Some, None, Ordering, refl, sym, ap, subst, ◌∙◌, ◌⊎◌, inl, inr, arith}
+use Rattle.std.proofs.Common.{◌≡◌, ◌≢◌, ℕ, true, nat_eq, List, [], ◌∷◌, ◌++◌, length, Option, Some, refl, sym, ap, subst, ◌∙◌, ◌⊎◌, inl, inr, arith}
 use Rattle.std.specs.Prelude.{◌↔◌, is_some}
-use Rattle.std.specs.FinMap.{IsAntisymmetric, get}
-use Rattle.std.specs.Ordering.{eq_by_cmp}
-use Rattle.std.specs.Cmp.{IsTotalOrder, eq_by_cmp_equiv}
+use Rattle.std.specs.FinMap.{get}
 use Rattle.std.specs.List.{Contains}
 use Rattle.std.proofs.lemmas.Bool.{cases_eq, eqb-true}
-use Rattle.std.proofs.lemmas.Map.Views.{tells_apart}
 use Rattle.std.proofs.lemmas.List.Elements.{Contains-append_left, Contains-push, Contains-push_cases}
 use Rattle.ospf_types.specs.declared.entry.Vertex.{Vertex}
 use Rattle.ospf_types.specs.declared.entry.Vertex.TheVariants.{Router, Network}
@@ -19,9 +16,8 @@ use Rattle.lsdb.specs.Databases.{Database}
 use Rattle.spf.specs.HandedOn.{IsOfSome}
 use Rattle.area_trees.specs.Areas.{body_at, vertex_of, router_key, network_key, IsUsed, IsStanding}
 use Rattle.intra.specs.Inputs.{AreaValue}
-use Rattle.intra.specs.Indexes.{IndexValue, IsIndex, IsIndexOf, IsOfferedFor, OfferedValue, IsSource, AreTouched, offers_of}
+use Rattle.intra.specs.Indexes.{IndexValue, IsIndex, IsIndexOf, IsOfferedFor, AreTouched}
 use Rattle.intra.specs.Intras.{AreaIntraValue}
-use Rattle.intra.specs.Reached.{ReachedValue}
 use Rattle.intra.specs.Following.{LsasDifferAmong, NamesVertex, NamesIn, IsCurrent, IsTaken, HasOffered, IsGathered, IsRenewed, router_now}
 use Rattle.ospf_types.proofs.VertexOrder.{vertex_total, vertex_exact}
 pub use Rattle.result_map.proofs.KeyedMaps.{one_or_other}

@@ -1,10 +1,9 @@
 -- The transit network that stands for a prefix.
-use Rattle.std.proofs.Common.{◌≡◌, ℕ, ◌<◌, ◌≤◌, List, [], ◌∷◌, ◌++◌, Option, Some, None, refl, sym, ap, subst, ◌∙◌, ◌⊎◌, inl, inr, ⊎_elim, arith}
+use Rattle.std.proofs.Common.{◌≡◌, ℕ, List, [], ◌∷◌, ◌++◌, Option, Some, None, refl, sym, ap, subst, ◌∙◌, ◌⊎◌, ⊎_elim, arith}
 use Rattle.std.specs.Prelude.{IfSome}
 use Rattle.std.specs.List.{Contains}
 use Rattle.std.proofs.lemmas.List.Elements.{Contains-append_left, Contains-push, Contains-push_cases}
-use Rattle.ospf_types.specs.declared.entry.Vertex.{Vertex}
-use Rattle.ospf_types.specs.declared.entry.Vertex.TheVariants.{Router, Network}
+use Rattle.ospf_types.specs.declared.entry.Vertex.TheVariants.{Network}
 use Rattle.ospf_types.specs.declared.prefix.Prefix.{Prefix}
 use Rattle.ospf_types.proofs.Elements.{no_element}
 use Rattle.intra.specs.declared.area_index.Source.{Source}

@@ -1,21 +1,21 @@
 -- Entries that are chosen anew one after another, and the networks that are named.
-use Rattle.std.proofs.Common.{◌≡◌, ◌≢◌, ℕ, zero, suc, ◌+◌, ◌<◌, ◌≤◌, List, [], ◌∷◌, ◌++◌, append_assoc, map, length, get_or, take, drop, Option, Ordering, true, true≢false, refl, sym, ap, subst, ◌∙◌, ◌⊎◌, inl, inr, arith, add-one, drop-cons}
+use Rattle.std.proofs.Common.{◌≡◌, ◌≢◌, ℕ, zero, suc, ◌+◌, ◌<◌, ◌≤◌, List, [], ◌∷◌, ◌++◌, append_assoc, map, length, get_or, take, drop, Option, Ordering, true, true≢false, refl, sym, ap, subst, ◌∙◌, inl, inr, arith, add-one, drop-cons}
 use Rattle.std.specs.Prelude.{◌↔◌}
 use Rattle.std.specs.FinMap.{get}
-use Rattle.std.specs.declared.cmp.Ordering.TheVariants.{Less, Equal, Greater}
+use Rattle.std.specs.declared.cmp.Ordering.TheVariants.{Less}
 use Rattle.std.specs.Ordering.{nat_cmp, eq_by_cmp, is_eq}
 use Rattle.std.specs.Cmp.{IsTotalOrder, eq_by_cmp_equiv}
 use Rattle.std.specs.List.{Contains, AllByRecursion}
 use Rattle.std.specs.List.Sorted.{IsStrictlySortedBy}
 use Rattle.std.proofs.lemmas.List.{take_all, drop_all}
-use Rattle.std.proofs.lemmas.List.Elements.{Contains-append_left, Contains-append_right, Contains-push, Contains-push_cases}
+use Rattle.std.proofs.lemmas.List.Elements.{Contains-append_left, Contains-push, Contains-push_cases}
 use Rattle.ospf_types.specs.declared.key.Dest.{Dest}
 use Rattle.ospf_types.specs.declared.key.Dest.TheVariants.{Net, Router}
 use Rattle.ospf_types.specs.declared.prefix.Prefix.{Prefix}
 use Rattle.ospf_types.specs.declared.hop.Path.{Path}
 use Rattle.ospf_types.specs.Intra.{AreaCost}
 use Rattle.ospf_types.specs.Network.{network_cmp}
-use Rattle.ospf_types.proofs.Elements.{no_element, first_element, later_element, first_or_later}
+use Rattle.ospf_types.proofs.Elements.{no_element, first_or_later}
 use Rattle.ospf_types.proofs.Orders.{network_total, network_exact}
 use Rattle.spf.proofs.OfSome.{contains_more}
 use Rattle.ospf_types.specs.Keys.{dest_cmp}

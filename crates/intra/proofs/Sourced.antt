@@ -6,7 +6,6 @@ use Rattle.std.specs.FinMap.{get}
 use Rattle.ospf_types.specs.declared.config.Interface.{Interface}
 use Rattle.ospf_types.specs.declared.entry.Vertex.{Vertex}
 use Rattle.ospf_types.specs.declared.entry.Vertex.TheVariants.{Router, Network}
-use Rattle.ospf_types.specs.declared.hop.NextHop.{NextHop}
 use Rattle.ospf_types.specs.declared.hop.NextHop.TheVariants.{Direct}
 use Rattle.ospf_types.specs.declared.hop.Path.{Path}
 use Rattle.ospf_types.specs.declared.prefix.Prefix.{Prefix}
@@ -21,7 +20,7 @@ use Rattle.intra.specs.Choosing.{TakesPaths, AmongSources, ThisSource, KeyedStub
 use Rattle.intra.specs.Indexes.{IndexValue, IndexedOffers, IsSource, sources_of}
 use Rattle.intra.specs.Inputs.{AreaValue, InputsValue, distance_at, hops_at}
 use Rattle.intra.specs.Intras.{AreaIntraValue, IsEntryFor}
-use Rattle.intra.specs.Offers.{Offering, IsReachedFor, IsNearest, OffersTransit, OffersStub, OffersOwn, KeyedOffers}
+use Rattle.intra.specs.Offers.{Offering, IsNearest, OffersTransit, OffersStub, OffersOwn, KeyedOffers}
 use Rattle.path_choice.specs.Takes.{OnlyOffer, OfferedBySome}
 use Rattle.path_choice.proofs.Taking.{takes_none, takes_same, takes_two, taken_chosen}
 use Rattle.intra.proofs.Nearest.{nearest_is_one}

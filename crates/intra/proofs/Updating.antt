@@ -1,11 +1,9 @@
 -- Routes that were those of earlier inputs are those of the present ones once all that may differ followed.
-use Rattle.std.proofs.Common.{◌≡◌, ◌≢◌, ℕ, zero, suc, ◌+◌, ◌<◌, ◌≤◌, nat_eq, true, false, List, [], ◌∷◌, ◌++◌, map, length, get_or, Option, Some, None, Ordering, refl, sym, ap, subst, ◌∙◌, ◌⊎◌, inl, inr, arith}
+use Rattle.std.proofs.Common.{◌≡◌, ◌≢◌, ℕ, zero, suc, ◌<◌, nat_eq, true, false, List, [], ◌∷◌, ◌++◌, map, length, get_or, Option, Some, None, refl, sym, ap, subst, ◌∙◌, ◌⊎◌, inl, inr, arith}
 use Rattle.std.specs.Prelude.{◌↔◌, option_map, option_and_then, if◌then◌else◌}
-use Rattle.std.specs.FinMap.{IsAntisymmetric, get}
-use Rattle.std.specs.Cmp.{IsTotalOrder}
+use Rattle.std.specs.FinMap.{get}
 use Rattle.std.specs.List.{Contains}
 use Rattle.std.proofs.lemmas.List.Elements.{Contains-append_left, Contains-append_right, Contains-append_cases}
-use Rattle.ospf_types.specs.declared.entry.Entry.{Entry}
 use Rattle.ospf_types.specs.declared.entry.Vertex.{Vertex}
 use Rattle.ospf_types.specs.declared.entry.Vertex.TheVariants as vertex
 use Rattle.ospf_types.specs.declared.hop.NextHop.{NextHop}
@@ -20,8 +18,8 @@ use Rattle.ospf_types.proofs.Elements.{no_element, first_element, later_element,
 use Rattle.ospf_types.proofs.Orders.{network_total, network_exact}
 use Rattle.lsa_codec.specs.Readers.{flags_of}
 use Rattle.area_trees.specs.Areas.{router_key}
-use Rattle.intra.specs.Changes.{DiffersAmong, AreasDifferAmong, InputsDifferAmong, HasOtherRouter, DiffersAt}
-use Rattle.intra.specs.Following.{IsRouterNamed, router_now}
+use Rattle.intra.specs.Changes.{AreasDifferAmong, InputsDifferAmong, HasOtherRouter, DiffersAt}
+use Rattle.intra.specs.Following.{router_now}
 use Rattle.intra.specs.Indexes.{IndexValue, OfferedValue, IsIndexOf, IsOfferedFor, IsSource, IndexedOffers, bits_of}
 use Rattle.intra.specs.Inputs.{AreaValue, InputsValue, distance_at, hops_at}
 use Rattle.intra.specs.Intras.{AreaIntraValue, IntraValue, IsAreaIntra, AreAreaIntras, IsEntryFor, IsIntraOf}
@@ -30,7 +28,7 @@ use Rattle.intra.specs.Reached.{ReachedByRouter, ReachedValue, IsReachedOf, reac
 use Rattle.intra.specs.Renewing.{AreRenewed}
 use Rattle.intra.specs.Updating.{IsKeptBefore, AreKeptBefore, AreFirst, IsFollowed, IsSettled, HasOtherAmong}
 use Rattle.intra.proofs.Following.{one_or_other}
-use Rattle.intra.proofs.Frame.{AreIndexesOf, IsClean, AreClean, indexes_in, indexes_of, indexed_is, entry_same, entry_kept, router_kept}
+use Rattle.intra.proofs.Frame.{IsClean, AreClean, indexes_in, indexes_of, indexed_is, entry_same, entry_kept, router_kept}
 
 -- ---- area by area
 

@@ -12,9 +12,9 @@ use Rattle.lsdb.specs.Databases.{Database}
 use Rattle.spf.specs.HandedOn.{IsOfSome}
 use Rattle.area_trees.specs.Areas.{body_at, vertex_of, IsStanding}
 use Rattle.intra.specs.Inputs.{AreaValue, distance_at, hops_at}
-use Rattle.intra.specs.Indexes.{IndexValue, OfferedValue, IsIndex, IsIndexOf, IsOfferedFor, IsSource, AreTouched, offers_of}
+use Rattle.intra.specs.Indexes.{IndexValue, OfferedValue, IsIndex, IsOfferedFor, IsSource, AreTouched, offers_of}
 use Rattle.intra.specs.Intras.{AreaIntraValue}
-use Rattle.intra.specs.Reached.{ReachedByRouter, ReachedValue, reached_by}
+use Rattle.intra.specs.Reached.{ReachedValue, reached_by}
 
 -- ---- the index follows the LSAs
 

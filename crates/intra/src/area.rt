@@ -23,14 +23,14 @@ use ospf_types::memory::Memory;
 use ospf_types::prefix::Prefix;
 use path_choice::{Reached, are_same, keep};
 use std::alloc::Global;
-use std::hash::RandomState;
 use std::marker::Model;
+use word_hash::WordHash;
 
 /// What is kept of an area.
 pub(crate) struct AreaIntra {
     id: u32,
     index: AreaIndex,
-    reached: IndexMap<u32, Reached, RandomState>,
+    reached: IndexMap<u32, Reached, WordHash>,
 }
 
 // proof: one call drops it, in place of a drop of each part wherever one is held.
@@ -67,7 +67,7 @@ impl Model for AreaIntra {
 
 impl AreaIntra {
     /// What is kept of an area without LSAs.
-    pub(crate) fn new(alloc: Global, id: u32, hashing: RandomState) -> AreaIntra
+    pub(crate) fn new(alloc: Global, id: u32, hashing: WordHash) -> AreaIntra
         ensures { result ≡ record { id = id; index = record { offered = map.empty; sources = map.empty }; reached = map.empty } }
     {
         AreaIntra {

@@ -18,8 +18,8 @@ use ospf_types::memory::Memory;
 use ospf_types::prefix::Prefix;
 use path_choice::are_same;
 use std::alloc::Global;
-use std::hash::RandomState;
 use std::marker::Model;
+use word_hash::WordHash;
 
 /// A vertex that offers a prefix, at a metric beside its distance.
 #[derive(Clone, Copy, PartialEq, Eq)]
@@ -31,8 +31,8 @@ pub(crate) struct Source {
 /// What each vertex of an area offers, as it was last taken from its LSA, and who offers each prefix.
 pub(crate) struct AreaIndex {
     alloc: Global,
-    offered: IndexMap<Vertex, Offered, RandomState>,
-    sources: IndexMap<Prefix, Vec<Source>, RandomState>,
+    offered: IndexMap<Vertex, Offered, WordHash>,
+    sources: IndexMap<Prefix, Vec<Source>, WordHash>,
 }
 
 // proof: one call drops it, in place of a drop of each part wherever one is held.
@@ -72,7 +72,7 @@ impl Model for AreaIndex {
 
 impl AreaIndex {
     /// The index of no LSAs.
-    pub(crate) fn new(alloc: Global, hashing: RandomState) -> AreaIndex
+    pub(crate) fn new(alloc: Global, hashing: WordHash) -> AreaIndex
         ensures { result ≡ record { offered = map.empty; sources = map.empty } }
     {
         AreaIndex {

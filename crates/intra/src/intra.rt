@@ -37,12 +37,13 @@ use path_choice::{Reached, are_same};
 use std::alloc::Global;
 use std::hash::RandomState;
 use std::marker::Model;
+use word_hash::WordHash;
 
 /// The intra-area routes of a router: the entry of each network, and in each area the border routers and AS boundary
 /// routers that are reached.
 pub struct Intra {
     areas: Vec<AreaIntra>,
-    entries: IndexMap<Prefix, Entry, RandomState>,
+    entries: IndexMap<Prefix, Entry, WordHash>,
     spent: bool,
 }
 
@@ -91,7 +92,7 @@ impl Intra {
         ensures kept { IfOk result (IsIntraOf inputs.now) }
         ensures right { IfOk result (λ intra. (s : Definitions) → AreInputsOf s inputs.now → IsRightFor s intra) }
     {
-        let mut intra = Intra::blank(alloc, inputs.areas, hashing)?;
+        let mut intra = Intra::blank(alloc, inputs.areas, WordHash::new(hashing))?;
         let mut dirty = Dirty {
             vertices: Vec::new(alloc),
             keys: Vec::new(alloc),
@@ -188,7 +189,7 @@ impl Intra {
 
 impl Intra {
     // The routes of areas without LSAs.
-    fn blank(alloc: Global, areas: &[AreaInputs<'_>], hashing: RandomState) -> Result<Intra, Memory>
+    fn blank(alloc: Global, areas: &[AreaInputs<'_>], hashing: WordHash) -> Result<Intra, Memory>
         ensures { IfOk result (λ intra. intra ≡ record { areas = list_map (λ a. record { id = a.id; index = record { offered = map.empty; sources = map.empty }; reached = map.empty }) areas.now; entries = map.empty; spent = false }) }
     {
         let mut kept = Vec::with_capacity(alloc, areas.len())?;

@@ -22,11 +22,12 @@ use ospf_types::memory::Memory;
 use std::alloc::Global;
 use std::hash::RandomState;
 use std::marker::Model;
+use word_hash::WordHash;
 
 /// A link-state database (RFC 2328, 12): LSAs by key, each at its present age. A key's row stays
 /// until it is purged, or the last row takes the place of one that is.
 pub struct Database {
-    rows: IndexMap<Key, Checked, RandomState>,
+    rows: IndexMap<Key, Checked, WordHash>,
     ages: Vec<u16>,
     kinds: Vec<u8>,
     routers: Vec<u32>,
@@ -69,7 +70,7 @@ impl Database {
         ensures { result ≡ record { lsas = map.empty; order = []; limit = limit } }
     {
         Database {
-            rows: IndexMap::with_hasher(alloc, hashing),
+            rows: IndexMap::with_hasher(alloc, WordHash::new(hashing)),
             ages: Vec::new(alloc),
             kinds: Vec::new(alloc),
             routers: Vec::new(alloc),

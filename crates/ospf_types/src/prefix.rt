@@ -95,7 +95,7 @@ impl Prefix {
     }
 
     // A number of its own for each network.
-    fn word(self) -> u64
+    pub(crate) fn word(self) -> u64
         ensures { result ≡ network_word self }
     {
         u64::from(self.address) * 256 + u64::from(self.length)

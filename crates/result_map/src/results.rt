@@ -13,10 +13,11 @@ use ospf_types::memory::Memory;
 use std::alloc::Global;
 use std::hash::{Hash, RandomState};
 use std::marker::Model;
+use word_hash::WordHash;
 
 /// Results by key, each of which is chosen anew where something that it rests on may differ.
 pub struct ResultMap<K: Eq + Hash, V> {
-    entries: IndexMap<K, V, RandomState>,
+    entries: IndexMap<K, V, WordHash>,
 }
 
 // proof: one call drops it, in place of a drop of each part wherever one is held.
@@ -42,7 +43,7 @@ impl<K: ResultKey, V: Same + Drop> ResultMap<K, V> {
         ensures { result.entries ≡ [] }
     {
         ResultMap {
-            entries: IndexMap::with_hasher(alloc, hashing),
+            entries: IndexMap::with_hasher(alloc, WordHash::new(hashing)),
         }
     }
 

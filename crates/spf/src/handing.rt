@@ -14,15 +14,15 @@ use hop_sets::HopSet;
 use ospf_types::entry::Vertex;
 use ospf_types::memory::Memory;
 use std::alloc::Global;
-use std::hash::RandomState;
 use tree_parts::{Distances, HopColumns, Members, Touched};
 use vertex_graph::{Graph, Link};
 use vertex_queue::Queue;
+use word_hash::WordHash;
 
 /// Brings the next hops to those after. The answer is the vertices whose next hops were written.
 pub(crate) fn hand(
     alloc: Global,
-    hashing: RandomState,
+    hashing: WordHash,
     graph: &Graph,
     distances: &Distances,
     losses: &Losses,
@@ -68,7 +68,7 @@ pub(crate) fn hand(
 // Takes the next hops of what is lost and is not reached again. The answer is those vertices.
 fn blank(
     alloc: Global,
-    hashing: RandomState,
+    hashing: WordHash,
     distances: &Distances,
     lost: &[Vertex],
     hops: &mut HopColumns,

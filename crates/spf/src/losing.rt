@@ -14,9 +14,9 @@ use indexmap::IndexMap;
 use ospf_types::entry::Vertex;
 use ospf_types::memory::Memory;
 use std::alloc::Global;
-use std::hash::RandomState;
 use tree_parts::{Distances, Members};
 use vertex_graph::{Graph, Link, LinkChanges};
+use word_hash::WordHash;
 
 /// The vertices that lose their distance, and those whose least links changed by that.
 pub(crate) struct Losses {
@@ -37,7 +37,7 @@ impl Drop for Losses {
 /// What is lost by the links that went.
 pub(crate) fn lose(
     alloc: Global,
-    hashing: RandomState,
+    hashing: WordHash,
     graph: &Graph,
     changes: &LinkChanges,
     distances: &Distances,
@@ -59,11 +59,11 @@ struct Search {
     losses: Losses,
     suspects: Members,
     // At which of the links into a vertex the last search for support stopped.
-    stops: IndexMap<Vertex, usize, RandomState>,
+    stops: IndexMap<Vertex, usize, WordHash>,
 }
 
 impl Search {
-    fn new(alloc: Global, hashing: RandomState) -> Search
+    fn new(alloc: Global, hashing: WordHash) -> Search
         ensures lost { result.losses.lost ≡ [] }
         ensures stale { result.losses.stale ≡ [] }
         ensures suspects { result.suspects ≡ [] }
@@ -156,7 +156,7 @@ impl Search {
 // Whether a link into the vertex supports it at its distance. The search goes on where the last one
 // for the vertex stopped. What that one passed over is read again only before the vertex is lost.
 fn is_supported(
-    stops: &mut IndexMap<Vertex, usize, RandomState>,
+    stops: &mut IndexMap<Vertex, usize, WordHash>,
     graph: &Graph,
     lost: &Members,
     distances: &Distances,

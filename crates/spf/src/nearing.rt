@@ -15,16 +15,16 @@ use crate::losing::Losses;
 use ospf_types::entry::Vertex;
 use ospf_types::memory::Memory;
 use std::alloc::Global;
-use std::hash::RandomState;
 use tree_parts::{Distances, Members, Touched};
 use vertex_graph::{Graph, Link};
 use vertex_queue::Queue;
+use word_hash::WordHash;
 
 /// Finds the distances after. Vertices whose least links changed by them become stale. The answer is
 /// the vertices that moved.
 pub(crate) fn near(
     alloc: Global,
-    hashing: RandomState,
+    hashing: WordHash,
     graph: &Graph,
     came: &[Link],
     losses: &mut Losses,

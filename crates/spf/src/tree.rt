@@ -18,6 +18,7 @@ use std::marker::Model;
 use tree_parts::differing::{differing, remember};
 use tree_parts::{Distances, HopColumns, Members, Touched};
 use vertex_graph::{Graph, Link, LinkChanges};
+use word_hash::WordHash;
 
 // What the second and the third part of a repair did.
 struct Renewed {
@@ -43,7 +44,7 @@ pub struct Tree {
     hops: HopColumns,
     changed: Vec<Vertex>,
     spent: bool,
-    hashing: RandomState,
+    hashing: WordHash,
 }
 
 // proof: one call drops it, in place of a drop of each part wherever one is held.
@@ -86,6 +87,7 @@ impl Tree {
         ensures changed { IfOk result (λ built. built.0.changed ≡ []) }
         ensures work { IfOk result (λ built. IsWorkForAll graph.now built.0 built.1.taken built.1.hop_sets) }
     {
+        let hashing = WordHash::new(hashing);
         let mut tree = Tree {
             distances: Distances::with_room(alloc, hashing, graph.len())?,
             hops: HopColumns::with_room(alloc, hashing, graph.len())?,

@@ -5,15 +5,15 @@ use Rattle.std.proofs.Common.{◌≡◌, ℕ, Bool, true, false, cond, not, ◌|
 use Rattle.std.specs.Prelude.{◌↔◌, Contains, Decides, IfSome}
 use Rattle.std.specs.Ordering.{eq_by_cmp}
 use Rattle.std.specs.Cmp.{IsTotalOrder, nat_cmp_total, eq_by_cmp_equiv, unsigned_Decides}
-use Rattle.std.specs.List.{filter}
+use Rattle.std.specs.List.{IsDistinct, filter}
 use Rattle.std.specs.Map.{keys_of, lookup}
 use Rattle.std.specs.Option.{option_or}
-use Rattle.std.specs.BTreeMap.{BTreeMap, InsertsAll, IsFromIterResult, is_at}
+use Rattle.std.specs.BTreeMap.{BTreeMap, InsertsAll, IsFromIterResult, IsOrdered, is_at}
 use Rattle.std.specs.FinMap.{empty, get, from_entries}
 use Rattle.std.proofs.lemmas.Map.Entries.{lookup-filter-keys}
 use Rattle.std.proofs.lemmas.Map.Keys.{IsDistinct-from_sorted}
 use Rattle.std.proofs.lemmas.Map.Lookups.{CmpEqualImpliesEq, exact_unsigned}
-use Rattle.std.proofs.lemmas.Map.Made.{update_all_distinct}
+use Rattle.std.proofs.lemmas.Map.Made.{IsDistinct-keys_filter, update_all_distinct, update_all_none}
 use Rattle.std.proofs.lemmas.Map.Views.{tells_apart, btree_map_contains_key_from_list, IfSome-btree_map_get_from_list}
 use Rattle.ospf_types.specs.declared.config.AreaConfig.{AreaConfig}
 use Rattle.ospf_types.specs.declared.entry.Entry.{Entry}
@@ -77,21 +77,29 @@ neither_not true true p q = refl
 neither_not true false p q = sym q
 neither_not false b p q = sym p
 
-module _ (old new : BTreeMap Member ℕ) (range : Prefix) (area : ℕ) (kept : new.entries ≡ filter (λ x. is_apart range area x.0) old.entries) where
-  kept_or_none : (m : Member) → get (from_entries {R = member_cmp} new.entries) m ≡ cond (is_apart range area m) (get (from_entries {R = member_cmp} old.entries) m) None
-  kept_or_none m =
-      get-lookup member_total new.entries m ∙ ap (lookup (is_at (member_cmp m))) kept
-      ∙ lookup-filter-keys (is_at (member_cmp m)) (is_apart range area) (is_apart range area m) (λ k tied. ap (is_apart range area) (sym (tells_apart member_exact m k tied))) old.entries
-      ∙ ap (λ (o : Option ℕ). cond (is_apart range area m) o None) (sym (get-lookup member_total old.entries m))
+module _ (old new : BTreeMap Member ℕ) (range : Prefix) (area : ℕ) (ordered : IsOrdered member_cmp old) where
+  abbrev apart : Member × ℕ → Bool
+  apart x = is_apart range area x.0
 
-  pub left_out : (spent : Bool) → HasLeft area range (record { members = from_entries old.entries; spent = spent }) (record { members = from_entries new.entries; spent = spent })
-  left_out spent = record {
-    spent = refl;
-    here = λ m prefix id. kept_or_none m ∙ ap (λ (b : Bool). cond b (get (from_entries {R = member_cmp} old.entries) m) None)
-        (neither_not (prefixes_equal m.range range) (m.area == area) ((prefixes_decided m.range range).1 prefix) ((unsigned_Decides m.area area).1 id));
-    others = λ m other. kept_or_none m ∙ ap (λ (b : Bool). cond b (get (from_entries {R = member_cmp} old.entries) m) None)
-        (either_not (prefixes_equal m.range range) (m.area == area) (prefixes_decided m.range range) (unsigned_Decides m.area area) other);
-  }
+  others_apart : IsDistinct (eq_by_cmp member_cmp) (keys_of (filter apart old.entries))
+  others_apart = IsDistinct-keys_filter (eq_by_cmp member_cmp) apart old.entries (IsDistinct-from_sorted member_cmp (keys_of old.entries) ordered)
+
+  module _ (made : IsFromIterResult member_cmp (filter apart old.entries) new) where
+    kept_or_none : (m : Member) → get (from_entries {R = member_cmp} new.entries) m ≡ cond (is_apart range area m) (get (from_entries {R = member_cmp} old.entries) m) None
+    kept_or_none m =
+        get-lookup member_total new.entries m ∙ made.0 m
+        ∙ update_all_none (eq_by_cmp_equiv member_total) (eq_by_cmp member_cmp) (λ x y. refl) (filter apart old.entries) m others_apart
+        ∙ lookup-filter-keys (is_at (member_cmp m)) (is_apart range area) (is_apart range area m) (λ k tied. ap (is_apart range area) (sym (tells_apart member_exact m k tied))) old.entries
+        ∙ ap (λ (o : Option ℕ). cond (is_apart range area m) o None) (sym (get-lookup member_total old.entries m))
+
+    pub left_out : (spent : Bool) → HasLeft area range (record { members = from_entries old.entries; spent = spent }) (record { members = from_entries new.entries; spent = spent })
+    left_out spent = record {
+      spent = refl;
+      here = λ m prefix id. kept_or_none m ∙ ap (λ (b : Bool). cond b (get (from_entries {R = member_cmp} old.entries) m) None)
+          (neither_not (prefixes_equal m.range range) (m.area == area) ((prefixes_decided m.range range).1 prefix) ((unsigned_Decides m.area area).1 id));
+      others = λ m other. kept_or_none m ∙ ap (λ (b : Bool). cond b (get (from_entries {R = member_cmp} old.entries) m) None)
+          (either_not (prefixes_equal m.range range) (m.area == area) (prefixes_decided m.range range) (unsigned_Decides m.area area) other);
+    }
 
 -- ---- the members within a range follow
 

@@ -212,7 +212,7 @@ impl ActiveRanges {
         if is_configured(areas, area, range) {
             self.take_in(alloc, costs.as_slice())?;
         } else {
-            self.leave(area, range);
+            self.leave(alloc, area, range)?;
         }
         let members = members_of(alloc, costs.as_slice())?;
         Ok(members)
@@ -276,11 +276,18 @@ impl ActiveRanges {
         Ok(())
     }
 
-    // Drops the members of the area's range.
-    fn leave(&mut self, area: u32, range: Prefix)
-        ensures { HasLeft area range self.old self.new }
+    // Drops the members of the area's range. To take single ones out of the map would cost several times as much as to
+    // collect the others.
+    fn leave(&mut self, alloc: Global, area: u32, range: Prefix) -> Result<(), Memory>
+        ensures { OnOk result (HasLeft area range self.old self.new) }
     {
-        self.members.retain(|member, _cost| member.range != range || member.area != area);
+        self.members = self
+            .members
+            .iter()
+            .filter(|pair| pair.0.range != range || pair.0.area != area)
+            .map(|(member, cost)| (*member, *cost))
+            .collect(alloc)?;
+        Ok(())
     }
 
     // The member takes the cost of its network's entry, where that is one through the member's area.

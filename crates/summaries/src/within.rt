@@ -16,7 +16,7 @@ use ospf_types::memory::Memory;
 use ospf_types::prefix::Prefix;
 use std::alloc::Global;
 
-/// The networks of the area that the range's prefix covers, as its members, each at its cost, ascending.
+/// The networks of the area that the range's prefix covers, as its members, each at its cost.
 pub(crate) fn costs_within(
     alloc: Global,
     intra: &Intra,
@@ -38,7 +38,8 @@ pub(crate) fn costs_within(
         };
         push_within(entry, member, &mut costs)?;
     }
-    costs.sort_unstable();
+    // What is made of members in their order costs less.
+    costs.sort_unstable_by_key(|(member, _)| member.network);
     Ok(costs)
 }
 

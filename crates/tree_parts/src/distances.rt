@@ -7,12 +7,12 @@ use indexmap::IndexMap;
 use ospf_types::entry::Vertex;
 use ospf_types::memory::Memory;
 use std::alloc::Global;
-use std::hash::RandomState;
 use std::marker::Model;
+use word_hash::WordHash;
 
 /// The vertices that are reached, each at its distance: a sum of metrics below 2^30.
 pub struct Distances {
-    entries: IndexMap<Vertex, u32, RandomState>,
+    entries: IndexMap<Vertex, u32, WordHash>,
 }
 
 // proof: one call drops it, in place of a drop of each part wherever one is held.
@@ -41,7 +41,7 @@ impl Model for Distances {
 
 impl Distances {
     /// None, with room for so many vertices.
-    pub fn with_room(alloc: Global, hashing: RandomState, room: usize) -> Result<Distances, Memory>
+    pub fn with_room(alloc: Global, hashing: WordHash, room: usize) -> Result<Distances, Memory>
         ensures { IfOk result (λ none. none ≡ map.empty) }
     {
         let entries = IndexMap::with_capacity_and_hasher(alloc, room, hashing)?;

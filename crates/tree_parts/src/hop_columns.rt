@@ -8,12 +8,12 @@ use indexmap::IndexMap;
 use ospf_types::entry::Vertex;
 use ospf_types::memory::Memory;
 use std::alloc::Global;
-use std::hash::RandomState;
 use std::marker::Model;
+use word_hash::WordHash;
 
 /// The next hops of each vertex that has some, ascending, each once.
 pub struct HopColumns {
-    entries: IndexMap<Vertex, HopSet, RandomState>,
+    entries: IndexMap<Vertex, HopSet, WordHash>,
 }
 
 // proof: one call drops it, in place of a drop of each part wherever one is held.
@@ -43,7 +43,7 @@ impl Model for HopColumns {
 
 impl HopColumns {
     /// None, with room for so many vertices.
-    pub fn with_room(alloc: Global, hashing: RandomState, room: usize) -> Result<HopColumns, Memory>
+    pub fn with_room(alloc: Global, hashing: WordHash, room: usize) -> Result<HopColumns, Memory>
         ensures { IfOk result (λ none. none ≡ map.empty) }
     {
         let entries = IndexMap::with_capacity_and_hasher(alloc, room, hashing)?;

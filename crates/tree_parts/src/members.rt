@@ -6,12 +6,12 @@ use indexmap::IndexSet;
 use ospf_types::entry::Vertex;
 use ospf_types::memory::Memory;
 use std::alloc::Global;
-use std::hash::RandomState;
 use std::marker::Model;
+use word_hash::WordHash;
 
 /// A list of vertices has each vertex once, in the order in which they were added.
 pub struct Members {
-    vertices: IndexSet<Vertex, RandomState>,
+    vertices: IndexSet<Vertex, WordHash>,
 }
 
 // proof: one call drops it, in place of a drop of each part wherever one is held.
@@ -34,7 +34,7 @@ impl Model for Members {
 
 impl Members {
     /// No vertices.
-    pub fn new(alloc: Global, hashing: RandomState) -> Members
+    pub fn new(alloc: Global, hashing: WordHash) -> Members
         ensures { result ≡ [] }
     {
         Members {

@@ -4,6 +4,7 @@ use ospf_types::memory::Memory;
 use std::hash::RandomState;
 use std::test::Fail;
 use vertex_queue::Queue;
+use word_hash::WordHash;
 
 fn fill(queue: &mut Queue) -> Result<(), Memory> {
     queue.put(Vertex::Router(1), 10)?;
@@ -31,7 +32,7 @@ fn enter_and_leave(queue: &mut Queue) -> Result<bool, Memory> {
 
 #[test]
 fn the_nearest_leaves_first_and_networks_before_routers(rt: HostRuntime) -> Result<(), Fail> {
-    let mut queue = Queue::new(rt.alloc(), RandomState::new(&rt)?);
+    let mut queue = Queue::new(rt.alloc(), WordHash::new(RandomState::new(&rt)?));
     assert!(rt; enter_and_leave(&mut queue)?);
     Ok(())
 }
@@ -46,7 +47,7 @@ fn clears(queue: &mut Queue) -> Result<bool, Memory> {
 
 #[test]
 fn a_cleared_queue_can_be_used_again(rt: HostRuntime) -> Result<(), Fail> {
-    let mut queue = Queue::new(rt.alloc(), RandomState::new(&rt)?);
+    let mut queue = Queue::new(rt.alloc(), WordHash::new(RandomState::new(&rt)?));
     assert!(rt; clears(&mut queue)?);
     Ok(())
 }

@@ -15,6 +15,7 @@ use ospf_types::memory::Memory;
 use std::alloc::Global;
 use std::hash::RandomState;
 use std::marker::Model;
+use word_hash::WordHash;
 
 /// The graph of an area, as far as LSAs and interfaces were handed in.
 pub struct Graph {
@@ -58,7 +59,7 @@ impl Graph {
     {
         Graph {
             root,
-            rows: IndexMap::with_hasher(alloc, hashing),
+            rows: IndexMap::with_hasher(alloc, WordHash::new(hashing)),
             interfaces: Vec::new(alloc),
         }
     }

@@ -16,10 +16,10 @@ use lsa_codec::Checked;
 use ospf_types::entry::Vertex;
 use ospf_types::memory::Memory;
 use std::alloc::Global;
-use std::hash::RandomState;
+use word_hash::WordHash;
 
 /// The vertices whose rows may change.
-pub(crate) type Touched = IndexSet<Vertex, RandomState>;
+pub(crate) type Touched = IndexSet<Vertex, WordHash>;
 
 /// Where the vertices lead that are handed in and lead elsewhere than before, and the vertices whose rows may
 /// change by that: those, and what they cease or begin to lead to, or lead to otherwise.
@@ -40,7 +40,7 @@ impl Drop for Staging {
 
 impl Staging {
     /// Nothing handed in.
-    pub(crate) fn new(alloc: Global, hashing: RandomState) -> Staging
+    pub(crate) fn new(alloc: Global, hashing: WordHash) -> Staging
         ensures ends { result.ends.entries ≡ [] }
         ensures touched { result.touched.keys ≡ [] }
     {

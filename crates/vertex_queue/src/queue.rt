@@ -12,12 +12,12 @@ use ospf_types::memory::Memory;
 use std::alloc::Global;
 use std::cmp::Reverse;
 use std::collections::BinaryHeap;
-use std::hash::RandomState;
 use std::marker::Model;
+use word_hash::WordHash;
 
 /// The vertices that wait, each at its distance, a sum of metrics.
 pub struct Queue {
-    distances: IndexMap<Vertex, u32, RandomState>,
+    distances: IndexMap<Vertex, u32, WordHash>,
     // Each vertex that waits, at its distance, and others that no longer do.
     order: BinaryHeap<Reverse<Waiting>>,
 }
@@ -52,7 +52,7 @@ impl Model for Queue {
 
 impl Queue {
     /// No vertices.
-    pub fn new(alloc: Global, hashing: RandomState) -> Queue
+    pub fn new(alloc: Global, hashing: WordHash) -> Queue
         ensures { result ≡ map.empty }
     {
         Queue {
@@ -132,7 +132,7 @@ impl Queue {
 // The answer begins with its place in the map.
 fn pop_waiting(
     order: &mut BinaryHeap<Reverse<Waiting>>,
-    distances: &IndexMap<Vertex, u32, RandomState>,
+    distances: &IndexMap<Vertex, u32, WordHash>,
 ) -> Option<(usize, Waiting)>
     requires { AreQueue distances.now.entries (heap_items order.old) }
     ensures none { IfNone result (distances.now.entries ≡ []) }
@@ -154,7 +154,7 @@ fn pop_waiting(
 }
 
 // The vertex's place in the map, if it waits at the distance.
-fn place_of(distances: &IndexMap<Vertex, u32, RandomState>, entry: Waiting) -> Option<usize>
+fn place_of(distances: &IndexMap<Vertex, u32, WordHash>, entry: Waiting) -> Option<usize>
     ensures place { IfSome result (λ place. IsAt distances.now.entries entry place) }
     ensures waits { IfSome result (λ _. Waits distances.now.entries entry) }
     ensures none { IfNone result (¬ Waits distances.now.entries entry) }

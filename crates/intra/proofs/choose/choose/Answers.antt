@@ -1,4 +1,4 @@
-use Rattle.std.proofs.Common.{map, Some, None, sym, ◌∙◌}
+use Rattle.std.proofs.Common.{map, Some, None, sym}
 use Rattle.intra.specs.Indexes.{IndexedOffers}
 use Rattle.intra.proofs.Sourced.{chosen_from, entry_from}
 use Rattle.intra.proofs.choose.choose.Goals as goal

@@ -5,10 +5,9 @@ use Rattle.std.specs.List.{Contains}
 use Rattle.spf.proofs.OfSome.{contains_at}
 use Rattle.intra.specs.Inputs.{AreaValue, InputsValue}
 use Rattle.intra.specs.Intras.{AreaIntraValue}
-use Rattle.intra.specs.Following.{IsGathered, LsasDifferAmong}
-use Rattle.intra.specs.Indexes.{IsIndexOf}
+use Rattle.intra.specs.Following.{IsGathered}
 use Rattle.intra.specs.Updating.{IsFollowed, IsKeptBefore}
-use Rattle.intra.proofs.Placing.{first_none, first_more, first_weaker, followed_grown, followed_from, kept_before}
+use Rattle.intra.proofs.Placing.{first_more, first_weaker, followed_grown, followed_from, kept_before}
 use Rattle.intra.proofs.intra.follow_areas.Goals as goal
 
 pub follow-requires-clause-ready : goal.follow-requires-clause-ready

@@ -1,7 +1,5 @@
 -- The member of one network more.
 use Rattle.std.proofs.Common.{◌≡◌, ℕ, ◌<◌, ◌≤◌, List, [], Some, length, get_or, sym, ap, subst, ◌∙◌}
-use Rattle.std.specs.Prelude.{◌↔◌, Contains}
-use Rattle.std.specs.FinMap.{get}
 use Rattle.std.specs.List.{slice_get}
 use Rattle.std.specs.Map.{keys_of}
 use Rattle.std.proofs.lemmas.List.{length-map, get_or-map}
@@ -38,6 +36,6 @@ returns c x =
     let long : length es ≤ place = subst (λ (n : ℕ). n ≤ place) c.len-place-end.ensures c.loop-place-test.false in
     let past : length (keys_of es) ≤ place = subst (λ (n : ℕ). n ≤ place) (sym (length-map es (λ (y : Prefix × Entry). y.0))) long in
     let is = all_within entries c.args.area c.args.range (keys_of es) c.entries-entries.ensures.keys costs (more_all (IsOfNetwork entries c.args.area c.args.range) (keys_of es) place [] costs past c.loop-place.invariant) x in
-    let sorted : List (Member × ℕ) = c.sort_unstable.new.self.items in
-    let moved = c.sort_unstable.ensures.permutation in
+    let sorted : List (Member × ℕ) = c.sort_unstable_by_key.new.self.items in
+    let moved = c.sort_unstable_by_key.ensures.permutation in
     (λ there. is.0 (Contains-permutation sorted costs x (IsPermutation-sym costs sorted moved) there), λ within. Contains-permutation costs sorted x moved (is.1 within))

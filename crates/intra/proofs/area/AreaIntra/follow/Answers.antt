@@ -1,6 +1,5 @@
 -- The named keys, the named vertices, and the root.
 use Rattle.std.proofs.Common.{ℕ, ◌≡◌, List, sym, subst, refl, ◌∙◌}
-use Rattle.std.specs.List.{Contains}
 use Rattle.ospf_types.specs.declared.entry.Vertex.{Vertex}
 use Rattle.ospf_types.specs.declared.entry.Vertex.TheVariants.{Router}
 use Rattle.ospf_types.specs.declared.key.Key.{Key}

@@ -1,7 +1,6 @@
 -- One named key more.
-use Rattle.std.proofs.Common.{ℕ, ◌≡◌, ◌+◌, get_or, take, ap, sym, subst}
+use Rattle.std.proofs.Common.{ℕ, ◌+◌, get_or, take, subst}
 use Rattle.std.proofs.lemmas.List.{get_or_default}
-use Rattle.ospf_types.specs.declared.entry.Vertex.{Vertex}
 use Rattle.ospf_types.specs.declared.key.Key.{Key}
 use Rattle.ospf_types.specs.declared.key.Scope.{Scope}
 use Rattle.ospf_types.specs.declared.key.Scope.TheVariants.{Area}

@@ -1,12 +1,8 @@
 -- From areas without LSAs no more differs than the LSAs that there are.
 use Rattle.std.proofs.Common.{◌≡◌, List, sym, ap, subst, ◌∙◌}
-use Rattle.std.specs.Prelude.{IsSome}
-use Rattle.std.specs.FinMap.{get}
 use Rattle.std.specs.List.{Contains}
-use Rattle.ospf_types.specs.declared.key.Key.{Key}
-use Rattle.ospf_types.specs.declared.key.Scope.TheVariants.{Area}
 use Rattle.intra.specs.Inputs.{AreaValue, InputsValue}
-use Rattle.intra.specs.Intras.{IntraValue, IsIntraOf}
+use Rattle.intra.specs.Intras.{IsIntraOf}
 use Rattle.intra.proofs.Frame.{blank, blanked, blank_is, blank_differs}
 use Rattle.intra.proofs.intra.Intra.build.Goals as goal
 
@@ -17,6 +13,6 @@ update-requires-clause-before c =
     let start : c.in_ok-intra.intra ≡ blank v.areas = c.in_ok-intra.ensures ∙ ap blank areas in (
       blanked v,
       subst (IsIntraOf (blanked v)) (sym start) (blank_is v),
-      blank_differs c.push_all_keys.new.keys.items c.new.result.items c.new-3.result.items v (λ a key there some.
+      blank_differs c.push_all_keys.new.keys.items c.new-2.result.items c.new-4.result.items v (λ a key there some.
           c.in_ok-push_all_keys.ensures a key (subst (λ (l : List AreaValue). Contains l a) (sym areas) there) some),
     )

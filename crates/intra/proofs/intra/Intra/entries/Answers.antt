@@ -1,5 +1,5 @@
 -- The entries, each once, of the map that is seen.
-use Rattle.std.proofs.Common.{◌≡◌, ◌≢◌, Bool, List, Some, subst, sym, ap, ◌∙◌}
+use Rattle.std.proofs.Common.{◌≢◌, Bool, List, subst, sym, ap, ◌∙◌}
 use Rattle.std.specs.Prelude.{◌↔◌, Contains, IsSome}
 use Rattle.std.specs.Cmp.{eq_by_cmp_equiv}
 use Rattle.std.specs.List.{AllPairs, IsDistinct}

@@ -1,5 +1,5 @@
 -- What was gathered, sorted, each once.
-use Rattle.std.proofs.Common.{◌≡◌, ℕ, List, length, ap, subst, sym, refl, ◌∙◌}
+use Rattle.std.proofs.Common.{◌≡◌, length, ap, sym, ◌∙◌}
 use Rattle.intra.specs.Intras.{IntraValue}
 use Rattle.ospf_types.proofs.Orders.{network_total, network_exact}
 use Rattle.intra.specs.Updating.{IsFollowed}

@@ -1,5 +1,5 @@
 -- All that may differ followed.
-use Rattle.std.proofs.Common.{◌≡◌, ◌++◌, ℕ, List, map, length, subst, sym, ap, ◌∙◌}
+use Rattle.std.proofs.Common.{◌++◌, ℕ, List, map, subst, sym, ap, ◌∙◌}
 use Rattle.std.specs.Prelude.{◌↔◌}
 use Rattle.std.specs.List.{Contains}
 use Rattle.std.specs.List.Sorted.{IsStrictlySortedBy}
@@ -8,8 +8,7 @@ use Rattle.ospf_types.specs.declared.key.Dest.TheVariants.{Net, Router}
 use Rattle.ospf_types.specs.declared.prefix.Prefix.{Prefix}
 use Rattle.intra.specs.Changes.{DiffersAt}
 use Rattle.ospf_types.specs.Keys.{dest_cmp}
-use Rattle.intra.specs.Intras.{AreAreaIntras, IntraValue}
-use Rattle.intra.specs.Renewing.{AreRenewed}
+use Rattle.intra.specs.Intras.{AreAreaIntras}
 use Rattle.intra.proofs.Updating.{updated, exactly, are_before, renewed_from}
 use Rattle.intra.proofs.Renewing.{dests_sorted}
 use Rattle.intra.proofs.intra.Intra.update_parts.Goals as goal

@@ -1,6 +1,5 @@
-use Rattle.std.proofs.Common.{rules, List, ◌≡◌, sym, ◌∙◌}
+use Rattle.std.proofs.Common.{◌≡◌, sym, ◌∙◌}
 use Rattle.std.proofs.lemmas.Slice.Eq.{slice_eq-Decides}
-use Rattle.ospf_types.specs.declared.hop.Path.{Path}
 use Rattle.ospf_types.proofs.Paths.{path_eq-Decides}
 use Rattle.ospf_types.proofs.entry.Paths.is_same.Goals as goal
 

@@ -7,7 +7,7 @@ use Rattle.summaries.specs.declared.member.Member.{Member}
 use Rattle.summaries.proofs.Reconfigured.{ranges_set, ranges_dropped}
 use Rattle.summaries.proofs.Taken.{members_exact, taken_followed, left_followed}
 use Rattle.summaries.proofs.active.ActiveRanges.reconfigure_parts.Goals as goal
-use Rattle.summaries.proofs.active.ActiveRanges.reconfigure_parts.Goals.{then-is_configured+in_ok-take_in, else-is_configured}
+use Rattle.summaries.proofs.active.ActiveRanges.reconfigure_parts.Goals.{then-is_configured+in_ok-take_in, else-is_configured+in_ok-leave}
 
 pub returns-clause-kept : goal.returns-clause-kept
 returns-clause-kept c =
@@ -25,11 +25,11 @@ returns-clause-kept c =
           let new = w.take_in.new.self in
           let taken = subst (λ (xs : List (Member × ℕ)). AreTakenIn xs old new) w.as_slice.ensures.value w.in_ok-take_in.ensures in
           subst (AreRangesOf areas entries) (sym w.self-is) (ranges_set b.0 areas area range b.2 entries old new b.1 members exact (c.is_configured.ensures.0 w.if-is_configured.true) (taken_followed entries area range costs c.in_ok-costs.ensures old new taken))
-      | else-is_configured w ↦
+      | else-is_configured+in_ok-leave w ↦
           let new = w.leave.new.self in
           let absent : IsConfigured areas area range → ⊥ = λ configured. let wrong : IsTrue c.is_configured.result = c.is_configured.ensures.1 configured in let e : true ≡ false = sym wrong ∙ w.if-is_configured.false in cc in
           subst (AreRangesOf areas entries) (sym w.self-is)
-          (ranges_dropped b.0 areas area range b.2 entries old new b.1 members exact absent (left_followed entries area range costs c.in_ok-costs.ensures old new b.0 b.1 w.leave.ensures))
+          (ranges_dropped b.0 areas area range b.2 entries old new b.1 members exact absent (left_followed entries area range costs c.in_ok-costs.ensures old new b.0 b.1 w.in_ok-leave.ensures))
     ]
 
 pub returns-clause-exact : goal.returns-clause-exact

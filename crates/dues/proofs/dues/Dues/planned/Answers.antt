@@ -12,7 +12,7 @@ use Rattle.dues.specs.Carrying.{AllFit, AllLead}
 use Rattle.dues.specs.Changes.{AreDueAlikeBut, DifferAt}
 use Rattle.dues.proofs.Untouched.{lists_now}
 use Rattle.dues.proofs.Turns.{planned_fit, planned_lists, planned_differ, lists_long}
-use Rattle.dues.proofs.dues.Dues.plan.Goals as goal
+use Rattle.dues.proofs.dues.Dues.planned.Goals as goal
 
 pub plan_areas-requires-clause-long : goal.plan_areas-requires-clause-long
 plan_areas-requires-clause-long c =
@@ -54,7 +54,5 @@ returns-clause-exact c after d carried =
     let length_is : length c.plan_areas.new.lists ≡ c.self.inside.areas.len = c.plan_areas.auto.lists ∙ ap (λ (ws : List AreaDuesValue). length ws) c.deref_mut.ensures.value ∙ sym c.self.inside.areas.ok.0 in
     let leads : AllLead plans c.plan_areas.new.lists after.areas = subst (λ (lists : List AreaDuesValue). AllLead plans lists after.areas) (with_items_is c.self.inside.areas c.plan_areas.new.lists length_is) carried.lists in
     let own : c.deref_mut.result.now ≡ c.args.self.now.areas = c.deref_mut.ensures.value ∙ ap (λ (w : DuesValue). w.areas) c.self.view_is in
-    let same = c.in_ok-ascending.ensures.same d in
-    let differ = subst (λ (lists : List AreaDuesValue). Contains c.plan_areas.new.named.items d ↔ DifferAt lists after.areas d) own
-    (planned_differ v (dests_in c.deref-2.result.now) v.areas c.deref_mut.result.now c.plan_areas.new.lists plans c.new-named.result.items c.plan_areas.new.named.items c.in_ok-areas.ensures.planned after.areas leads c.new-named.ensures.items d) in
-    (λ h. differ.0 (same.0 h), λ h. same.1 (differ.1 h))
+    subst (λ (lists : List AreaDuesValue). Contains c.plan_areas.new.named.items d ↔ DifferAt lists after.areas d) own
+    (planned_differ v (dests_in c.deref-2.result.now) v.areas c.deref_mut.result.now c.plan_areas.new.lists plans c.new-named.result.items c.plan_areas.new.named.items c.in_ok-areas.ensures.planned after.areas leads c.new-named.ensures.items d)
