@@ -1,14 +1,14 @@
 #!/usr/bin/env bash
-# Prints instructions, hashes and allocations an event, by callgrind (valgrind has to be there).
+# Prints instructions and allocations an event, by callgrind (valgrind has to be there).
 #
 #     bench/instructions.sh [--program FILE] [RECORDING..]
 #
 # Of each recording the last 100 lines are the events that are measured: what a replay takes with them, less what it takes
 # without them, so that loading falls out; the parsing of their lines counts. With no recording these are networks of
-# bench/network.py, and then ranges of 16, 64, 256 and more networks, which are set and dropped ten times each. A hash is a
-# key of a hash map that is hashed by a call; an allocation is a call of malloc, calloc or realloc. The keys of hash maps
-# differ from run to run, and instructions with them, by some thousand an event: run it more than once. Nothing here asserts
-# a number. The program is what `./abr build` built, unless FILE is another.
+# bench/network.py, and then ranges of 16, 64, 256 and more networks, which are set and dropped ten times each. An allocation
+# is a call of malloc, calloc or realloc. Hashes are part of the code that asks for them, and so are not counted. The keys of
+# hash maps differ from run to run, and instructions with them: run it more than once. Nothing here asserts a number. The
+# program is what `./abr build` built, unless FILE is another.
 set -euo pipefail
 top=$(cd "$(dirname "$0")/.." && pwd)
 program=$top/crates/abr/out/abr
@@ -20,7 +20,7 @@ fi
 room=$(mktemp -d)
 trap 'rm -rf "$room"' EXIT
 
-# Prints the instructions, hashes and allocations of a replay.
+# Prints the instructions and allocations of a replay.
 counts() {
     valgrind --tool=callgrind --callgrind-out-file="$room/out" "$program" replay "$1" > "$room/printed" 2> "$room/said" ||
         { tail -n 3 "$room/said" >&2; exit 1; }
@@ -29,10 +29,9 @@ counts() {
                    if (name != "") names[id] = name
                    if (/^cfn=/) called = names[id] }
         /^calls=/ { split(substr($0, 7), parts, " ")
-                    if (called ~ /::hash_one(::|$)/) hashes += parts[1]
                     if (called ~ /^(malloc|calloc|realloc)$/) allocations += parts[1] }
         /^(totals|summary):/ { total = $2 }
-        END { print total, hashes + 0, allocations + 0 }' "$room/out"
+        END { print total, allocations + 0 }' "$room/out"
 }
 
 # Prints a row: what the longer recording takes beyond the shorter one, by so many events.
@@ -41,7 +40,7 @@ row() {
     before=$(counts "$shorter")
     after=$(counts "$longer")
     awk -v name="$name" -v n="$events" '
-        { printf "%-28s %12.0f %8.1f %12.1f\n", name, ($4 - $1) / n, ($5 - $2) / n, ($6 - $3) / n }' <<< "$before $after"
+        { printf "%-28s %12.0f %12.1f\n", name, ($3 - $1) / n, ($4 - $2) / n }' <<< "$before $after"
 }
 
 changes() {
@@ -59,7 +58,7 @@ ranges() {
     row "$name" "$room/shorter" "$room/longer" 20
 }
 
-printf "%-28s %12s %8s %12s\n" "" instructions hashes allocations
+printf "%-28s %12s %12s\n" "" instructions allocations
 for recording in "$@"; do
     changes "$(basename "$recording")" "$recording"
 done
