@@ -3,7 +3,7 @@ use Rattle.std.specs.Prelude.{Contains}
 use Rattle.std.proofs.lemmas.List.{length-drop, take_all}
 use Rattle.graph_links.specs.declared.link.Link.{Link}
 use Rattle.graph_links.proofs.ByCost.{behind_cheaper}
-use Rattle.graph_links.proofs.missing_links.is_among.Goals as goal
+use Rattle.graph_links.proofs.changes.is_among.Goals as goal
 
 pub returns : goal.returns
 returns c =

@@ -6,7 +6,7 @@ use Rattle.ospf_types.proofs.Elements.{no_element}
 use Rattle.graph_links.specs.declared.link.Link.{Link}
 use Rattle.graph_links.proofs.ByCost.{none_behind}
 use Rattle.graph_links.proofs.Growing.{more}
-use Rattle.graph_links.proofs.missing_links.is_among_first.Goals as goal
+use Rattle.graph_links.proofs.changes.is_among_first.Goals as goal
 
 pub loop-other-init : goal.loop-other-init
 loop-other-init c = no_element c.args.link.now

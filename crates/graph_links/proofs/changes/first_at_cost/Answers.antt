@@ -1,7 +1,7 @@
 use Rattle.std.proofs.Common.{rules}
 use Rattle.std.proofs.lemmas.List.Sorted.{IsPartitionPoint-from_clause}
 use Rattle.graph_links.proofs.ByCost.{is_cheaper, parted_cheaper, first_of_tests}
-use Rattle.graph_links.proofs.missing_links.first_at_cost.Goals as goal
+use Rattle.graph_links.proofs.changes.first_at_cost.Goals as goal
 
 pub returns-clause-split : goal.returns-clause-split
 returns-clause-split c =

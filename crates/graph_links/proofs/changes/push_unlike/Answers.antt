@@ -6,7 +6,7 @@ use Rattle.graph_links.specs.declared.link.Link.{Link}
 use Rattle.graph_links.specs.Pairs.{AreApart}
 use Rattle.graph_links.proofs.Apart.{apart_given, apart_end}
 use Rattle.graph_links.proofs.Linking.{unlike_more, unlike_all}
-use Rattle.graph_links.proofs.missing_links.push_unlike.Goals as goal
+use Rattle.graph_links.proofs.changes.push_unlike.Goals as goal
 
 pub loop-link-init : goal.loop-link-init
 loop-link-init c =
