@@ -46,9 +46,9 @@ loop-one-preserved c =
     let gone_new : List Link = c.push_changes.new.gone.items in
     let came_new : List Link = c.push_changes.new.came.items in
     let taken : (l : Link) → Contains gone_new l ↔ (Contains gone l ⊎ IsTaken rows l f) =
-        subst (λ (p : List Link × List Link). (l : Link) → Contains gone_new l ↔ (Contains gone l ⊎ (Contains p.0 l × (Contains p.1 l → ⊥)))) (λ k. (before k, after k)) c.in_ok-push_changes.ensures.gone in
+    subst (λ (p : List Link × List Link). (l : Link) → Contains gone_new l ↔ (Contains gone l ⊎ (Contains p.0 l × (Contains p.1 l → ⊥)))) (λ k. (before k, after k)) c.in_ok-push_changes.ensures.gone in
     let brought : (l : Link) → Contains came_new l ↔ (Contains came l ⊎ IsBrought rows l f) =
-        subst (λ (p : List Link × List Link). (l : Link) → Contains came_new l ↔ (Contains came l ⊎ (Contains p.1 l × (Contains p.0 l → ⊥)))) (λ k. (before k, after k)) c.in_ok-push_changes.ensures.came in
+    subst (λ (p : List Link × List Link). (l : Link) → Contains came_new l ↔ (Contains came l ⊎ (Contains p.1 l × (Contains p.0 l → ⊥)))) (λ k. (before k, after k)) c.in_ok-push_changes.ensures.came in
     record {
       gone = of_more (IsTaken rows) fresh i f lt gone gone_new c.loop-one.invariant.gone (subst (λ (g : Fresh). (l : Link) → Contains gone_new l ↔ (Contains gone l ⊎ IsTaken rows l g)) c.one-item.is taken);
       came = of_more (IsBrought rows) fresh i f lt came came_new c.loop-one.invariant.came (subst (λ (g : Fresh). (l : Link) → Contains came_new l ↔ (Contains came l ⊎ IsBrought rows l g)) c.one-item.is brought);
