@@ -178,7 +178,7 @@ impl ActiveRanges {
 }
 
 impl ActiveRanges {
-    // The same; after an error some members followed and others did not.
+    // Follows the routes; after an error some members followed and others did not.
     fn update_parts(
         &mut self,
         alloc: Global,
@@ -223,7 +223,7 @@ impl ActiveRanges {
         Ok(had)
     }
 
-    // The same, by the entries of all networks.
+    // Follows the range by the entries of all networks; after an error its members may have followed.
     fn reconfigure_by_entries(
         &mut self,
         alloc: Global,
@@ -351,7 +351,7 @@ impl ActiveRanges {
         self.put(alloc, AreaRange { prefix, area }, network, cost)
     }
 
-    // The network of the range has this cost.
+    // Gives the network of the range this cost. With none it is no member.
     fn put(
         &mut self,
         alloc: Global,
@@ -372,7 +372,7 @@ impl ActiveRanges {
         put_network(networks, network, cost)
     }
 
-    // The same, where the range has no networks yet.
+    // Gives the range its first network at this cost, or nothing.
     fn put_first(
         &mut self,
         alloc: Global,

@@ -11,7 +11,7 @@ use ospf_types::prefix::Prefix;
 use std::alloc::Global;
 use std::collections::BTreeMap;
 
-/// The network has this cost.
+/// Gives the network this cost. With none it is taken out.
 pub(crate) fn put_network(
     networks: &mut BTreeMap<Prefix, u32>,
     network: Prefix,
