@@ -400,7 +400,6 @@ fn push_range(range: &Option<(u32, Prefix)>, dests: &mut Vec<Dest>) -> Result<()
 fn push_members(members: &[Member], dests: &mut Vec<Dest>) -> Result<(), Memory>
     ensures { OnOk result (dests.new.items ≡ dests.old.items ++ list_map (λ m. dest_value.Net m.network) members.now) }
 {
-    dests.reserve(members.len())?;
     for member in members {
         dests.push(Dest::Net(member.network))?;
     }
