@@ -2,17 +2,16 @@
 --   planned_more: one more area has its plan
 --   all_fit: the plans may be carried out
 --   lists_after: the lists are those of the inputs then
---   differ_after: just the destinations that were added differ then
-use Rattle.std.proofs.Common.{◌≡◌, ℕ, suc, add-zero, append-nil, ◌+◌, ◌<◌, ◌≤◌, List, [], ◌∷◌, ◌++◌, length, map, get_or, set, take, drop, Option, refl, sym, ap, subst, ◌∙◌, inl, inr, arith}
+use Rattle.std.proofs.Common.{◌≡◌, ℕ, suc, add-zero, ◌+◌, ◌<◌, ◌≤◌, List, [], ◌∷◌, ◌++◌, length, map, get_or, set, take, drop, Option, refl, sym, ap, subst, ◌∙◌, inl, inr, arith}
 use Rattle.std.specs.Prelude.{◌↔◌}
-use Rattle.std.specs.List.{Contains, flat_map}
+use Rattle.std.specs.List.{Contains}
 use Rattle.std.specs.Map.{keys_of}
 use Rattle.std.proofs.Math.Seq.{map-set_same}
-use Rattle.std.proofs.lemmas.List.{take_all, take_more, take_more_set, drop-set-lt, drop-drop, get_or-drop, map-append, flat_map_more}
-use Rattle.std.proofs.lemmas.List.Elements.{All-contains, Contains-append_left, Contains-append_right, Contains-append_cases}
+use Rattle.std.proofs.lemmas.List.{take_all, take_more, take_more_set, drop-set-lt, drop-drop, get_or-drop, map-append}
+use Rattle.std.proofs.lemmas.List.Elements.{All-contains}
 use Rattle.ospf_types.specs.declared.config.AreaConfig.{AreaConfig}
 use Rattle.ospf_types.specs.declared.key.Dest.{Dest}
-use Rattle.ospf_types.proofs.Elements.{no_element, first_element, later_element, mapped_from}
+use Rattle.ospf_types.proofs.Elements.{first_element, later_element, mapped_from}
 use Rattle.ospf_types.proofs.Orders.{dest_total, dest_exact}
 use Rattle.result_map.proofs.KeyedMaps.{listed_or_not}
 use Rattle.due_lists.specs.declared.due.Due.{Due}
@@ -24,7 +23,6 @@ use Rattle.due_lists.specs.Lists.{AreaDuesValue, AreInOrder, AreOfKind, Metrics,
 use Rattle.dues.specs.Dues.{IsListOf, AreListsOf, listed}
 use Rattle.due_lists.specs.Plans.{Fits, Leads}
 use Rattle.dues.specs.Carrying.{AllFit, AllLead}
-use Rattle.dues.specs.Changes.{DiffersIn, DifferAt}
 use Rattle.dues.specs.Planning.{Turn, IsTurn, AreTurns, IsPlannedIn, ArePlanned, ArePlannedTo}
 
 -- ---- one more area has its plan
@@ -34,9 +32,9 @@ module _ (v : DueInputsValue) (dests : List Dest) where
   turns_more [] x are is = (is, tt)
   turns_more (y ∷ turns) x are is = (are.0, turns_more turns x are.1 is)
 
-  pub none_planned : (areas : List AreaConfig) (old : List AreaDuesValue) (named : List Dest) → ArePlannedTo v dests areas old old [] named named 0
-  none_planned areas old named = record {
-    first = record { turns = []; areas_are = refl; old_are = refl; new_are = refl; plans_are = refl; named = sym (append-nil named); each = tt };
+  pub none_planned : (areas : List AreaConfig) (old : List AreaDuesValue) → ArePlannedTo v dests areas old old [] 0
+  none_planned areas old = record {
+    first = record { turns = []; areas_are = refl; old_are = refl; new_are = refl; plans_are = refl; each = tt };
     rest = refl;
     same = refl;
   }
@@ -51,20 +49,19 @@ listed_set lists i x old at area list =
     let same : f x ≡ f old = λ k. (area k, list k) in
     map-set_same f lists i x old (same ∙ ap f at)
 
-module _ (v : DueInputsValue) (dests : List Dest) (areas : List AreaConfig) (old now : List AreaDuesValue) (plans : List AreaPlan) (before named : List Dest) (i : ℕ) where
+module _ (v : DueInputsValue) (dests : List Dest) (areas : List AreaConfig) (old now : List AreaDuesValue) (plans : List AreaPlan) (i : ℕ) where
   -- the list at the place is as it was
-  pub still_there : (x : AreaDuesValue) → i < length now → x ≡ get_or now i x → ArePlannedTo v dests areas old now plans before named i → get_or old i x ≡ x
+  pub still_there : (x : AreaDuesValue) → i < length now → x ≡ get_or now i x → ArePlannedTo v dests areas old now plans i → get_or old i x ≡ x
   still_there x lt at to =
       ap (λ (k : ℕ). get_or old k x) (sym (add-zero i)) ∙ sym (get_or-drop i old 0 x) ∙ ap (λ (ys : List AreaDuesValue). get_or ys 0 x) (sym to.rest)
       ∙ get_or-drop i now 0 x ∙ ap (λ (k : ℕ). get_or now k x) (add-zero i) ∙ sym at
 
-  pub planned_more : (a : AreaConfig) (was new : AreaDuesValue) (plan : AreaPlan) (after : List Dest) → i < length areas → length now ≡ length areas → length old ≡ length areas
-      → a ≡ get_or areas i a → was ≡ get_or now i was → new.area ≡ was.area → new.list ≡ was.list → IsPlannedIn v dests a was new plan named after
-      → ArePlannedTo v dests areas old now plans before named i → ArePlannedTo v dests areas old (set now i new) (plans ++ plan ∷ []) before after (i + 1)
-  planned_more a was new plan after lt now_long old_long area_at was_at same_area same_list is to =
+  pub planned_more : (a : AreaConfig) (was new : AreaDuesValue) (plan : AreaPlan) → i < length areas → length now ≡ length areas → length old ≡ length areas
+      → a ≡ get_or areas i a → was ≡ get_or now i was → new.area ≡ was.area → new.list ≡ was.list → IsPlannedIn v dests a was new plan
+      → ArePlannedTo v dests areas old now plans i → ArePlannedTo v dests areas old (set now i new) (plans ++ plan ∷ []) (i + 1)
+  planned_more a was new plan lt now_long old_long area_at was_at same_area same_list is to =
       let first = to.first in
       let x : Turn = record { area = a; old = was; new = new; plan = plan; metrics = is.metrics } in
-      let names : Turn → List Dest = λ x. keys_of x.metrics in
       let lt_now : i < length now = omega (arith, lt, now_long) in
       let lt_old : i < length old = omega (arith, lt, old_long) in
       let here = still_there was lt_now was_at to in
@@ -75,18 +72,17 @@ module _ (v : DueInputsValue) (dests : List Dest) (areas : List AreaConfig) (old
           old_are = mapped_more (λ (y : Turn). y.old) first.turns x (take i old) (take (i + 1) old) first.old_are (take_more old i was lt_old ∙ ap (λ (w : AreaDuesValue). take i old ++ w ∷ []) here);
           new_are = mapped_more (λ (y : Turn). y.new) first.turns x (take i now) (take (i + 1) (set now i new)) first.new_are (take_more_set now i new lt_now);
           plans_are = mapped_more (λ (y : Turn). y.plan) first.turns x plans (plans ++ plan ∷ []) first.plans_are refl;
-          named = is.named ∙ ap (λ (ds : List Dest). ds ++ names x) first.named ∙ flat_map_more names before first.turns x;
           each = turns_more v dests first.turns x first.each is.turn;
         };
         rest = drop-set-lt (i + 1) now i new (omega arith) ∙ sym (drop-drop 1 i now) ∙ ap (drop 1) to.rest ∙ drop-drop 1 i old;
         same = listed_set now i new was was_at same_area same_list ∙ to.same;
       }
 
-  pub all_planned : length areas ≤ i → length old ≡ length areas → length now ≡ length areas → ArePlannedTo v dests areas old now plans before named i → ArePlanned v dests areas old now plans before named
+  pub all_planned : length areas ≤ i → length old ≡ length areas → length now ≡ length areas → ArePlannedTo v dests areas old now plans i → ArePlanned v dests areas old now plans
   all_planned le old_long now_long to =
-      subst (λ (list : List AreaConfig). ArePlanned v dests list old now plans before named) (take_all i areas le)
-      (subst (λ (list : List AreaDuesValue). ArePlanned v dests (take i areas) list now plans before named) (take_all i old (omega (arith, le, old_long)))
-      (subst (λ (list : List AreaDuesValue). ArePlanned v dests (take i areas) (take i old) list plans before named) (take_all i now (omega (arith, le, now_long))) to.first))
+      subst (λ (list : List AreaConfig). ArePlanned v dests list old now plans) (take_all i areas le)
+      (subst (λ (list : List AreaDuesValue). ArePlanned v dests (take i areas) list now plans) (take_all i old (omega (arith, le, old_long)))
+      (subst (λ (list : List AreaDuesValue). ArePlanned v dests (take i areas) (take i old) list plans) (take_all i now (omega (arith, le, now_long))) to.first))
 
 -- ---- what a plan makes of a list
 
@@ -148,19 +144,6 @@ module _ (v : DueInputsValue) (dests : List Dest) (x : Turn) (after : AreaDuesVa
           );
         }
 
-  -- just what is named differs then
-  differs_after : (d : Dest) → Contains (keys_of x.metrics) d ↔ DiffersIn x.old.list after.list d
-  differs_after d = (
-    λ c same. (is.changes.named d c).1 (λ m.
-        let here = told_named d c m in
-        let alike = same (due_for d m) refl in
-        (λ h. alike.0 (here.0 h), λ h. here.1 (alike.1 h))),
-    λ differs. elim (listed_or_not dest_total dest_exact d (keys_of x.metrics)) [
-      | inl c ↦ c
-      | inr absent ↦ absurd (differs (λ due at. changed.others due (λ c. absent (subst (Contains (keys_of x.metrics)) at c))))
-    ],
-  )
-
 -- ---- what the plans make of the lists
 
 module _ (v : DueInputsValue) (dests : List Dest) where
@@ -182,23 +165,9 @@ module _ (v : DueInputsValue) (dests : List Dest) where
         lists_after before turns after are.1 (λ a d c. alike a d (later_element x.area a areas c)) was.1 lead.1,
       )
 
-  pub differ_after : (turns : List Turn) (after : List AreaDuesValue) (d : Dest) → AreTurns v dests turns → AllLead (map (λ (x : Turn). x.plan) turns) (map (λ (x : Turn). x.new) turns) after
-      → Contains (flat_map (λ (x : Turn). keys_of x.metrics) turns) d ↔ DifferAt (map (λ (x : Turn). x.old) turns) after d
-  differ_after [] [] d are lead = (λ c. no_element d c, λ h. absurd h)
-  differ_after [] (w ∷ after) d are lead = absurd lead
-  differ_after (x ∷ turns) [] d are lead = absurd lead
-  differ_after (x ∷ turns) (w ∷ after) d are lead =
-      let here = differs_after v dests x w are.0 lead.0 d in
-      let later = differ_after turns after d are.1 lead.1 in
-      let first : List Dest = keys_of x.metrics in
-      let rest : List Dest = flat_map (λ (x : Turn). keys_of x.metrics) turns in (
-        λ c. elim (Contains-append_cases first rest d c) [ inl h ↦ inl (here.0 h) | inr h ↦ inr (later.0 h) ],
-        λ h. elim h [ inl h ↦ Contains-append_left first rest d (here.1 h) | inr h ↦ Contains-append_right first rest d (later.1 h) ],
-      )
-
 -- ---- what is planned
 
-module _ (v : DueInputsValue) (dests : List Dest) (areas : List AreaConfig) (old new : List AreaDuesValue) (plans : List AreaPlan) (before named : List Dest) (planned : ArePlanned v dests areas old new plans before named) where
+module _ (v : DueInputsValue) (dests : List Dest) (areas : List AreaConfig) (old new : List AreaDuesValue) (plans : List AreaPlan) (planned : ArePlanned v dests areas old new plans) where
   -- the plans may be carried out
   pub planned_fit : AllFit plans new
   planned_fit = subst (λ (ps : List AreaPlan). AllFit ps new) planned.plans_are (subst (AllFit (map (λ (x : Turn). x.plan) planned.turns)) planned.new_are (all_fit v dests planned.turns planned.each))
@@ -213,14 +182,6 @@ module _ (v : DueInputsValue) (dests : List Dest) (areas : List AreaConfig) (old
         subst (λ (bs : List AreaConfig). AreListsOf v bs after) planned.areas_are
         (lists_after v dests was planned.turns after planned.each (λ a d c. alike a d (subst (λ (bs : List AreaConfig). Contains bs a) planned.areas_are c))
         (subst (λ (bs : List AreaConfig). AreListsOf was bs (map (λ (x : Turn). x.old) planned.turns)) (sym planned.areas_are) (subst (AreListsOf was areas) (sym planned.old_are) lists)) led)
-
-    -- just what was added differs then
-    pub planned_differ : before ≡ [] → (d : Dest) → Contains named d ↔ DifferAt old after d
-    planned_differ none d =
-        let names : List Dest = flat_map (λ (x : Turn). keys_of x.metrics) planned.turns in
-        let is : named ≡ names = planned.named ∙ ap (λ (ds : List Dest). ds ++ names) none in
-        subst (λ (lists : List AreaDuesValue). Contains named d ↔ DifferAt lists after d) planned.old_are
-        (subst (λ (ds : List Dest). Contains ds d ↔ DifferAt (map (λ (x : Turn). x.old) planned.turns) after d) (sym is) (differ_after v dests planned.turns after d planned.each led))
 
 -- there is a list for each area
 pub lists_long : (v : DueInputsValue) (areas : List AreaConfig) (lists : List AreaDuesValue) → AreListsOf v areas lists → length lists ≡ length areas

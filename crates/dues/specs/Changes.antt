@@ -13,8 +13,7 @@ use Rattle.summaries.specs.declared.member.Member.{Member}
 use Rattle.due_lists.specs.declared.due.Due.{Due}
 use Rattle.dues.specs.Inputs.{DueInputsValue}
 use Rattle.dues.specs.Giving.{IsDueIn}
-use Rattle.due_lists.specs.Lists.{AreaDuesValue, Metrics, AreMetricsInOrder, IsMetricIn, due_for}
-use Rattle.dues.specs.Dues.{DuesValue}
+use Rattle.due_lists.specs.Lists.{Metrics, AreMetricsInOrder, IsMetricIn, due_for}
 
 -- the routes differ in no more than is named, and ranges in one that is named whole, if in any; of other active areas nothing need be named
 pub record InputsDifferAmong (dests : List Dest) (old new : DueInputsValue) : Type 0 where
@@ -30,20 +29,6 @@ pub record InputsDifferAmong (dests : List Dest) (old new : DueInputsValue) : Ty
 -- no other destination is due in an area otherwise than before
 abbrev pub AreDueAlikeBut : List Dest → DueInputsValue → DueInputsValue → Type 0
 AreDueAlikeBut dests old new = (a : AreaConfig) (d : Dest) → Contains new.areas a → (Contains dests d → ⊥) → (m : ℕ) → IsDueIn old a d m ↔ IsDueIn new a d m
-
--- what is due to the destination in the area differs
-abbrev pub DiffersIn : List Due → List Due → Dest → Type 0
-DiffersIn old new d = ((due : Due) → due.dest ≡ d → Contains new due ↔ Contains old due) → ⊥
-
--- in one of the areas, which are the same ones in one order
-abbrev pub DifferAt : List AreaDuesValue → List AreaDuesValue → Dest → Type 0
-DifferAt [] [] d = ⊥
-DifferAt (a ∷ old) (b ∷ new) d = DiffersIn a.list b.list d ⊎ DifferAt old new d
-DifferAt [] (b ∷ new) d = ⊥
-DifferAt (a ∷ old) [] d = ⊥
-
-abbrev pub DiffersAt : DuesValue → DuesValue → Dest → Type 0
-DiffersAt old new d = DifferAt old.areas new.areas d
 
 -- just those of the destinations that are due at another metric than the list has, in their order, each at that metric
 pub record AreChangesIn (v : DueInputsValue) (a : AreaConfig) (list : List Due) (dests : List Dest) (metrics : Metrics) : Type 0 where

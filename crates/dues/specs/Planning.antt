@@ -1,7 +1,5 @@
 -- The plans of the areas, made one by one.
-use Rattle.std.specs.Prelude.{ℕ, ◌≡◌, List, [], ◌∷◌, ◌++◌, map, take, drop}
-use Rattle.std.specs.List.{flat_map}
-use Rattle.std.specs.Map.{keys_of}
+use Rattle.std.specs.Prelude.{ℕ, ◌≡◌, List, [], ◌∷◌, map, take, drop}
 use Rattle.ospf_types.specs.declared.config.AreaConfig.{AreaConfig}
 use Rattle.ospf_types.specs.declared.key.Dest.{Dest}
 use Rattle.due_lists.specs.declared.plan.AreaPlan.{AreaPlan}
@@ -31,24 +29,22 @@ abbrev pub AreTurns : DueInputsValue → List Dest → List Turn → Type 0
 AreTurns v dests [] = Unit {0}
 AreTurns v dests (x ∷ xs) = IsTurn v dests x × AreTurns v dests xs
 
--- the area has its plan, and the destinations whose metric differs were added
-pub record IsPlannedIn (v : DueInputsValue) (dests : List Dest) (a : AreaConfig) (old new : AreaDuesValue) (plan : AreaPlan) (before after : List Dest) : Type 0 where
+-- the area has its plan
+pub record IsPlannedIn (v : DueInputsValue) (dests : List Dest) (a : AreaConfig) (old new : AreaDuesValue) (plan : AreaPlan) : Type 0 where
   pub metrics : Metrics
-  pub named : after ≡ before ++ keys_of metrics
   pub turn : IsTurn v dests (record { area = a; old = old; new = new; plan = plan; metrics = metrics })
 
--- each of these areas has its plan, and the destinations whose metric differs in one of them were added
-pub record ArePlanned (v : DueInputsValue) (dests : List Dest) (areas : List AreaConfig) (old new : List AreaDuesValue) (plans : List AreaPlan) (before after : List Dest) : Type 0 where
+-- each of these areas has its plan
+pub record ArePlanned (v : DueInputsValue) (dests : List Dest) (areas : List AreaConfig) (old new : List AreaDuesValue) (plans : List AreaPlan) : Type 0 where
   pub turns : List Turn
   pub areas_are : map (λ (x : Turn). x.area) turns ≡ areas
   pub old_are : map (λ (x : Turn). x.old) turns ≡ old
   pub new_are : map (λ (x : Turn). x.new) turns ≡ new
   pub plans_are : map (λ (x : Turn). x.plan) turns ≡ plans
-  pub named : after ≡ before ++ flat_map (λ (x : Turn). keys_of x.metrics) turns
   pub each : AreTurns v dests turns
 
 -- so many of the areas have their plans, and the other lists are as they were
-pub record ArePlannedTo (v : DueInputsValue) (dests : List Dest) (areas : List AreaConfig) (old new : List AreaDuesValue) (plans : List AreaPlan) (before after : List Dest) (i : ℕ) : Type 0 where
-  pub first : ArePlanned v dests (take i areas) (take i old) (take i new) plans before after
+pub record ArePlannedTo (v : DueInputsValue) (dests : List Dest) (areas : List AreaConfig) (old new : List AreaDuesValue) (plans : List AreaPlan) (i : ℕ) : Type 0 where
+  pub first : ArePlanned v dests (take i areas) (take i old) (take i new) plans
   pub rest : drop i new ≡ drop i old
   pub same : listed new ≡ listed old

@@ -1,8 +1,6 @@
-ghost use Rattle.std.specs.Prelude.{◌≡◌, ◌↔◌, ◌++◌, List, [], length, map as list_map, Contains, IfOk, OnOk, OnErr, option_map};
+ghost use Rattle.std.specs.Prelude.{◌≡◌, ◌↔◌, ◌++◌, List, [], length, map as list_map, Contains, IfOk, OnOk, option_map};
 ghost use Rattle.std.specs.List.{flat_map};
-ghost use Rattle.std.specs.Map.{keys_of};
 ghost use Rattle.std.specs.List.Sorted.{IsStrictlySortedBy};
-ghost use Rattle.ospf_types.specs.declared.key.Dest.{Dest as DestValue};
 ghost use Rattle.ospf_types.specs.Inputs.{Inputs as Definitions};
 ghost use Rattle.ospf_types.specs.Keys.{dest_cmp};
 ghost use Rattle.due_lists.specs.declared.due.Due.{Due as DueValue};
@@ -11,7 +9,7 @@ ghost use Rattle.dues.specs.Candidates.{AreCandidates, dests_in};
 ghost use Rattle.dues.specs.Inputs.{DueInputsValue};
 ghost use Rattle.dues.specs.Dues.{AreDuesOf, DuesValue, dests_of, list_in, listed, lists_of};
 ghost use Rattle.ospf_types.specs.RangeChanges.{areas_without_ranges};
-ghost use Rattle.dues.specs.Changes.{InputsDifferAmong, AreDueAlikeBut, DiffersAt, AreChangesIn, IsChangeAdded};
+ghost use Rattle.dues.specs.Changes.{InputsDifferAmong, AreDueAlikeBut, AreChangesIn, IsChangeAdded};
 ghost use Rattle.dues.specs.Carrying.{AllFit, AllLead, IsReady, IsCarriedOut};
 ghost use Rattle.dues.specs.Planning.{ArePlanned, IsPlannedIn};
 ghost use Rattle.dues.specs.Right.{AreInputsOf, IsRightFor};
@@ -80,34 +78,13 @@ impl Dues {
         ensures right { IfOk result (λ dues. (s : Definitions) → AreInputsOf s inputs.now → IsRightFor s dues) }
     {
         let mut dues = Dues::none(alloc, inputs.areas)?;
-        dues.update(alloc, inputs, &[])?;
+        let plan = dues.plan(alloc, inputs, &[])?;
+        dues.carry_out(plan);
         Ok(dues)
     }
 
-    /// Follows the inputs, of which the routes to the named destinations may differ, and one range, if its prefix and the
-    /// networks of its area that it covers are named. The answer is the destinations that are due in some area at another metric than before, or are no longer due there, or now are; ascending, each once.
-    /// Where memory is refused, all is as it was.
-    pub fn update(
-        &mut self,
-        alloc: Global,
-        inputs: &DueInputs<'_>,
-        dests: &[Dest],
-    ) -> Result<Vec<Dest>, Memory>
-        requires before { (before : DueInputsValue) × AreDuesOf before self.old × InputsDifferAmong dests.now before inputs.now }
-        ensures kept { OnOk result (AreDuesOf inputs.now self.new) }
-        ensures right { OnOk result ((s : Definitions) → AreInputsOf s inputs.now → IsRightFor s self.new) }
-        ensures in_order { IfOk result (λ named. IsStrictlySortedBy dest_cmp named.items) }
-        ensures exact { IfOk result (λ named. (d : DestValue) → Contains named.items d ↔ DiffersAt self.old self.new d) }
-        ensures unchanged { OnErr result (lists_of self.new ≡ lists_of self.old) }
-        ensures active { OnErr result (self.new.active ≡ self.old.active) }
-    {
-        let (plan, named) = self.planned(alloc, inputs, dests)?;
-        let named = ascending(named)?;
-        self.carry_out(plan);
-        Ok(named)
-    }
-
-    /// What `update` would change: the lists stay, and get room for it.
+    /// What is to change where the routes to the named destinations may differ, and one range, if its prefix and the networks
+    /// of its area that it covers are named: the lists stay, and get room for it.
     pub fn plan(
         &mut self,
         alloc: Global,
@@ -120,8 +97,11 @@ impl Dues {
         ensures ready { IfOk result (λ plan. IsReady plan self.new) }
         ensures kept { IfOk result (λ plan. (after : DuesValue) → IsCarriedOut plan self.new after → AreDuesOf inputs.now after) }
     {
-        let (plan, _) = self.planned(alloc, inputs, dests)?;
-        Ok(plan)
+        let touched = self.touched(alloc, inputs, dests)?;
+        let candidates = find_candidates(alloc, inputs, &touched)?;
+        let areas = plan_areas(alloc, inputs, &mut self.areas, &candidates)?;
+        let active = Vec::from_slice(alloc, inputs.active)?;
+        Ok(Plan { areas, active })
     }
 
     /// Makes the changes of a plan. It takes no memory.
@@ -167,28 +147,6 @@ impl Dues {
             areas: lists,
             active: Vec::new(alloc),
         })
-    }
-
-    // What is to change, with room for it in the lists, and the destinations that this names, in no stated order.
-    fn planned(
-        &mut self,
-        alloc: Global,
-        inputs: &DueInputs<'_>,
-        dests: &[Dest],
-    ) -> Result<(Plan, Vec<Dest>), Memory>
-        requires before { (before : DueInputsValue) × AreDuesOf before self.old × InputsDifferAmong dests.now before inputs.now }
-        ensures unchanged { lists_of self.new ≡ lists_of self.old }
-        ensures active { self.new.active ≡ self.old.active }
-        ensures ready { IfOk result (λ made. IsReady made.0 self.new) }
-        ensures kept { IfOk result (λ made. (after : DuesValue) → IsCarriedOut made.0 self.new after → AreDuesOf inputs.now after) }
-        ensures exact { IfOk result (λ made. (after : DuesValue) (d : DestValue) → IsCarriedOut made.0 self.new after → Contains made.1.items d ↔ DiffersAt self.old after d) }
-    {
-        let touched = self.touched(alloc, inputs, dests)?;
-        let candidates = find_candidates(alloc, inputs, &touched)?;
-        let mut named = Vec::new(alloc);
-        let areas = plan_areas(alloc, inputs, &mut self.areas, &candidates, &mut named)?;
-        let active = Vec::from_slice(alloc, inputs.active)?;
-        Ok((Plan { areas, active }, named))
     }
 
     // The destinations whose summaries may differ, ascending, each once: all where other areas are active than before.
@@ -259,24 +217,23 @@ fn find_candidates(
     Ok(found)
 }
 
-// What is to change in each of the lists, to these destinations. Those that are due otherwise in an area are added.
+// What is to change in each of the lists, to these destinations.
 fn plan_areas(
     alloc: Global,
     inputs: &DueInputs<'_>,
     lists: &mut [AreaDues],
     candidates: &[Candidate],
-    named: &mut Vec<Dest>,
 ) -> Result<Vec<AreaPlan>, Memory>
     requires long { length lists.old ≡ length inputs.now.areas }
     requires right { AreCandidates inputs.now candidates.now }
     requires in_order { IsStrictlySortedBy dest_cmp (dests_in candidates.now) }
     ensures same { listed lists.new ≡ listed lists.old }
-    ensures planned { IfOk result (λ plans. ArePlanned inputs.now (dests_in candidates.now) inputs.now.areas lists.old lists.new plans.items named.old.items named.new.items) }
+    ensures planned { IfOk result (λ plans. ArePlanned inputs.now (dests_in candidates.now) inputs.now.areas lists.old lists.new plans.items) }
 {
     let mut plans = Vec::with_capacity(alloc, lists.len())?;
     for (place, area) in inputs.areas.iter().enumerate() {
         let dues = &mut lists[place];
-        let plan = plan_area(alloc, inputs, area, dues, candidates, named)?;
+        let plan = plan_area(alloc, inputs, area, dues, candidates)?;
         plans.push(plan)?;
     }
     Ok(plans)
@@ -289,16 +246,14 @@ fn plan_area(
     area: &AreaConfig,
     dues: &mut AreaDues,
     candidates: &[Candidate],
-    named: &mut Vec<Dest>,
 ) -> Result<AreaPlan, Memory>
     requires right { AreCandidates inputs.now candidates.now }
     requires in_order { IsStrictlySortedBy dest_cmp (dests_in candidates.now) }
     ensures area { dues.new.area ≡ dues.old.area }
     ensures list { dues.new.list ≡ dues.old.list }
-    ensures planned { IfOk result (λ plan. IsPlannedIn inputs.now (dests_in candidates.now) area.now dues.old dues.new plan named.old.items named.new.items) }
+    ensures planned { IfOk result (λ plan. IsPlannedIn inputs.now (dests_in candidates.now) area.now dues.old dues.new plan) }
 {
     let metrics = changes(alloc, inputs, area, dues.as_slice(), candidates)?;
-    push_named(&metrics, named)?;
     let plan = AreaPlan::of(alloc, metrics, dues)?;
     Ok(plan)
 }
@@ -328,7 +283,7 @@ fn changes(
     ensures { IfOk result (λ metrics. AreChangesIn inputs.now area.now list.now (dests_in candidates.now) metrics.items) }
 {
     let served = is_served(inputs.active, area.id);
-    let mut metrics = Vec::new(alloc);
+    let mut metrics = Vec::with_capacity(alloc, candidates.len())?;
     let mut rest = list;
     for candidate in candidates {
         let (had, after) = look_up(rest, &candidate.dest);
@@ -352,15 +307,5 @@ fn push_change(
         return Ok(());
     }
     metrics.push((dest, metric))?;
-    Ok(())
-}
-
-// Adds the destinations.
-fn push_named(metrics: &[(Dest, Option<u32>)], named: &mut Vec<Dest>) -> Result<(), Memory>
-    ensures { OnOk result (named.new.items ≡ named.old.items ++ keys_of metrics.now) }
-{
-    for (dest, _) in metrics {
-        named.push(*dest)?;
-    }
     Ok(())
 }

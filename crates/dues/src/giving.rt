@@ -118,29 +118,15 @@ fn network_metric(
     requires { AreOfNetwork inputs.now network candidate.now }
     ensures { (m : ℕ) → (result ≡ Some m) ↔ IsNetworkDueIn inputs.now area.now.id area.now.stub network m }
 {
-    match area.stub {
-        Some(stub) => stub_metric(inputs, area.id, stub, candidate, network),
-        None => greatest_given(inputs, area.id, candidate, network),
+    if let Some(stub) = area.stub {
+        if is_default(network) {
+            return Some(stub.cost);
+        }
+        if !stub.summaries {
+            return None;
+        }
     }
-}
-
-fn stub_metric(
-    inputs: &DueInputs<'_>,
-    area: u32,
-    stub: Stub,
-    candidate: &Candidate,
-    network: Prefix,
-) -> Option<u32>
-    requires { AreOfNetwork inputs.now network candidate.now }
-    ensures { (m : ℕ) → (result ≡ Some m) ↔ IsNetworkDueIn inputs.now area (Some stub) network m }
-{
-    if is_default(network) {
-        return Some(stub.cost);
-    }
-    if stub.summaries {
-        return greatest_given(inputs, area, candidate, network);
-    }
-    None
+    greatest_given(inputs, area.id, candidate, network)
 }
 
 fn is_default(network: Prefix) -> bool
@@ -285,7 +271,10 @@ fn advertises(area: &AreaConfig, prefix: Prefix) -> bool
 fn greater(a: Option<u32>, b: Option<u32>) -> Option<u32>
     ensures { IsMost (λ n. (a ≡ Some n) ⊎ (b ≡ Some n)) result }
 {
-    a.max(b)
+    match b {
+        Some(_) => a.max(b),
+        None => a,
+    }
 }
 
 // Whether an area has an advertised range with the prefix.

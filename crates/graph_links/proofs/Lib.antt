@@ -8,8 +8,9 @@ pub mod Neighbouring
 pub mod ByCost
 pub mod Details
 pub mod Growing
-pub mod Keeping
 pub mod Linking
 pub mod Pairing
 pub mod Placing
 pub mod PairAlike
+pub mod Taking
+pub mod Missing

@@ -14,7 +14,7 @@ use Rattle.graph_links.specs.declared.link.Link.{Link}
 use Rattle.graph_links.specs.declared.link.Up.{Up}
 use Rattle.graph_links.specs.contracts.end.EndOrd.TheImpl as end_order
 use Rattle.graph_links.specs.Pairs.{Names, IsPairLink}
-use Rattle.graph_links.specs.Sides.{Leading, LinksBy, ends_or, AreOut, AreInto, AreMissing, IsOutTo, IsIntoFrom, IsMissingTo, IsMissing}
+use Rattle.graph_links.specs.Sides.{Leading, LinksBy, ends_or, AreOut, AreInto, IsOutTo, IsIntoFrom}
 use Rattle.graph_links.proofs.EndOrders.{end_exact, end_cmp_is}
 use Rattle.graph_links.proofs.Growing.{IsGrown, front}
 use Rattle.graph_links.proofs.PairAlike.{pair_names, pair_named}
@@ -87,39 +87,6 @@ unlike_all others initial has rest new done before k = (
   λ c. (before k).0 (inl c),
   λ h. ⊎_elim (λ (c : Contains new k). c) (λ (n : Contains rest k × (Contains others k → ⊥)). absurd (no_element k (subst (λ (ls : List Link). Contains ls k) done n.0))) ((before k).1 h),
 )
-
-module _ (Here There : Links) where
-  pub only_pushed : (Link_of : Links) (v w : Vertex) (none links : List Link) → none ≡ [] → IsPushed Link_of v w none links → (l : Link) → Contains links l ↔ IsOutTo Link_of v l w
-  only_pushed Link_of v w none links is pushes l = (
-    λ c. ⊎_elim (λ (n : Contains none l). absurd (no_element l (subst (λ (ls : List Link). Contains ls l) is n))) (λ (o : IsOutTo Link_of v l w). o) ((pushes l).0 c),
-    λ o. (pushes l).1 (inr o),
-  )
-
-  pub missing_to : (v w : Vertex) (none none_there has others old new : List Link) → none ≡ [] → none_there ≡ [] → IsPushed Here v w none has → IsPushed There v w none_there others
-      → ((l : Link) → Contains new l ↔ (Contains old l ⊎ (Contains has l × (Contains others l → ⊥)))) → (l : Link) → Contains new l ↔ (Contains old l ⊎ IsMissingTo Here There v l w)
-  missing_to v w none none_there has others old new is is_there here there pushes l =
-      let mine = only_pushed Here v w none has is here l in
-      let theirs = only_pushed There v w none_there others is_there there l in (
-        λ c. ⊎_elim (λ (o : Contains old l). inl o) (λ (n : Contains has l × (Contains others l → ⊥)). let own = mine.0 n.0 in inr (own, λ t. n.1 (theirs.1 (own.0, own.1, t)))) ((pushes l).0 c),
-        λ h. (pushes l).1 (⊎_elim (λ (o : Contains old l). inl o) (λ (n : IsMissingTo Here There v l w). inr (mine.1 n.0, λ t. n.1 (theirs.0 t).2)) h),
-      )
-
-  pub missing_as : (v from w : Vertex) (old new : List Link) → from ≡ v → ((l : Link) → Contains new l ↔ (Contains old l ⊎ IsMissingTo Here There from l w)) → (l : Link) → Contains new l ↔ (Contains old l ⊎ IsMissingTo Here There v l w)
-  missing_as v from w old new is grows = subst (λ (u : Vertex). (l : Link) → Contains new l ↔ (Contains old l ⊎ IsMissingTo Here There u l w)) is grows
-
-  pub missing_all : (v : Vertex) (ends : List End) (found : List Vertex) (old new : List Link) → ((w : Vertex) → Contains found w ↔ Names ends w) → ((w : Vertex) (cost : ℕ) (label : Label) → Here v w cost label → Names ends w)
-      → IsGrown (IsMissingTo Here There v) found old new → (l : Link) → Contains new l ↔ (Contains old l ⊎ IsMissing Here There l v)
-  missing_all v ends found old new named names grown l = (
-    λ c. ⊎_elim (λ (o : Contains old l). inl o) (λ (n : (w : Vertex) × Contains found w × IsMissingTo Here There v l w). inr (n.2.0.0, n.2.0.2, n.2.1)) ((grown l).0 c),
-    λ h. (grown l).1 (⊎_elim (λ (o : Contains old l). inl o)
-        (λ (n : IsMissing Here There l v). inr (l.to, (named l.to).1 (names l.to l.cost l.label (subst (λ u. Here u l.to l.cost l.label) n.0 n.1)), ((n.0, refl, n.1), n.2))) h),
-  )
-
-  pub missing_from_all : (vertices : List Vertex) (links : List Link) → IsGrown (IsMissing Here There) vertices [] links → AreMissing vertices Here There links
-  missing_from_all vertices links grown l = (
-    λ c. ⊎_elim (λ (n : Contains [] l). absurd (no_element l n)) (λ (n : (w : Vertex) × Contains vertices w × IsMissing Here There l w). (subst (Contains vertices) (sym n.2.0) n.1, n.2.1, n.2.2)) ((grown l).0 c),
-    λ h. (grown l).1 (inr (l.from, h.0, (refl, h.1, h.2))),
-  )
 
 -- a vertex names those that it has links to, and those that have links to it
 module _ (root : ℕ) (ups : List Up) (leading : Leading) (v : Vertex) (ends : List End) (are : ends ≡ ends_or (leading v)) where

@@ -1,24 +1,22 @@
 -- A graph before or after a change: its rows, over them the ends that are staged, and the links that follow.
-use Rattle.std.specs.Prelude.{◌↔◌, ◌⊎◌, ℕ, ◌≡◌, ◌≢◌, IsTrue, List, [], map, Contains, Option, Some, None, option_map}
+use Rattle.std.specs.Prelude.{◌↔◌, ◌⊎◌, ℕ, ◌≡◌, ◌≢◌, List, [], map, Contains, Option, Some, None, option_map}
 use Rattle.std.specs.FinMap.{find}
 use Rattle.std.specs.Global.{Vec}
 use Rattle.std.specs.List.{All}
 use Rattle.std.specs.List.Sorted.{IsNonDecreasingBy, IsStrictlySortedBy}
 use Rattle.ospf_types.specs.declared.entry.Vertex.{Vertex}
-use Rattle.ospf_types.specs.declared.label.Label.{Label}
 use Rattle.ospf_types.specs.Distances.{Links}
 use Rattle.ospf_types.specs.Vertices.{vertex_cmp}
 use Rattle.graph_links.specs.declared.end.End.{End}
 use Rattle.graph_links.specs.declared.fresh.Fresh.{Fresh}
 use Rattle.graph_links.specs.declared.link.Link.{Link}
 use Rattle.graph_links.specs.declared.link.Up.{Up}
-use Rattle.graph_links.specs.declared.missing_links.Both.{Both}
 use Rattle.graph_links.specs.declared.pair.Named.{Named}
 use Rattle.graph_links.specs.declared.row.Row.{Row}
 use Rattle.graph_links.specs.declared.side.Side.{Side}
 use Rattle.graph_links.specs.EndOrder.{end_cmp}
 use Rattle.graph_links.specs.Pairs.{AreApart, AreCheap}
-use Rattle.graph_links.specs.Pairs.{IsPairLink, IsSameLocal}
+use Rattle.graph_links.specs.Pairs.{IsPairLink}
 
 -- where each vertex leads, where it is there
 abbrev pub Leading : Type 0
@@ -67,14 +65,6 @@ IsNamed side named = named.ends.now ≡ ends_or (ends_in side named.vertex)
 abbrev pub HasSameRows : Side → Side → Type 0
 HasSameRows here there = here.rows.now.entries ≡ there.rows.now.entries
 
--- one vertex as either side has it
-pub record IsOnBoth (here there : Side) (both : Both) : Type 0 where
-  pub same_vertex : both.there.vertex ≡ both.here.vertex
-  pub named_here : IsNamed here both.here
-  pub named_there : IsNamed there both.there
-  pub same_local : IsTrue both.is_same_local → IsSameLocal here.local there.local both.here.vertex
-  pub same_ends : IsTrue both.is_same_ends → both.here.ends.now ≡ both.there.ends.now
-
 -- ---- rows
 
 -- a link from one vertex to another
@@ -84,18 +74,6 @@ IsOutTo Link_of v l w = (l.from ≡ v) × (l.to ≡ w) × Link_of l.from l.to l.
 -- a link to one vertex from another
 abbrev pub IsIntoFrom : Links → Vertex → Link → Vertex → Type 0
 IsIntoFrom Link_of v l w = (l.from ≡ w) × (l.to ≡ v) × Link_of l.from l.to l.cost l.label
-
--- each link from one vertex to another that is in one graph is in the other
-abbrev pub IsKept : Links → Links → Vertex → Vertex → Type 0
-IsKept Here There v w = (cost : ℕ) (label : Label) → Here v w cost label → There v w cost label
-
--- a link from one vertex to another that is in one graph alone
-abbrev pub IsMissingTo : Links → Links → Vertex → Link → Vertex → Type 0
-IsMissingTo Here There v l w = IsOutTo Here v l w × (There l.from l.to l.cost l.label → ⊥)
-
--- a link out of the vertex that is in one graph alone
-abbrev pub IsMissing : Links → Links → Link → Vertex → Type 0
-IsMissing Here There l v = (l.from ≡ v) × Here l.from l.to l.cost l.label × (There l.from l.to l.cost l.label → ⊥)
 
 abbrev pub AreOut : Links → Vertex → List Link → Type 0
 AreOut Link_of v links = (l : Link) → Contains links l ↔ ((l.from ≡ v) × Link_of l.from l.to l.cost l.label)
@@ -135,6 +113,35 @@ abbrev pub IsChanged : Leading → Links → List Vertex → RowList → RowList
 IsChanged leading Link_of touched old new = (v : Vertex) →
     (Contains touched v × IsFreshRow leading Link_of v (find vertex_cmp v new))
     ⊎ ((Contains touched v → ⊥) × (find vertex_cmp v new ≡ find vertex_cmp v old))
+
+-- the links out of a vertex by its row, none where it has no row
+abbrev pub out_of : Option Row → List Link
+out_of None = []
+out_of (Some row) = row.out.items
+
+-- each row has the links of its vertex, by where the rows' vertices lead
+abbrev pub AreRowsBy : ℕ → List Up → RowList → Type 0
+AreRowsBy root ups rows = (v : Vertex) (row : Row) → find vertex_cmp v rows ≡ Some row → IsRow (LinksBy root ups (row_ends rows)) v row
+
+-- links out of the vertex, each once
+abbrev pub AreLinksOut : Vertex → List Link → Type 0
+AreLinksOut v links = AreApart links × ((l : Link) → Contains links l → l.from ≡ v)
+
+-- what a row has before and after are links out of its vertex
+abbrev pub AreOwn : RowList → List Fresh → Type 0
+AreOwn rows fresh = (f : Fresh) → Contains fresh f → AreLinksOut f.vertex (out_of (find vertex_cmp f.vertex rows)) × AreLinksOut f.vertex (out_of f.row)
+
+-- the vertex of the fresh row had the link, and has it no longer
+abbrev pub IsTaken : RowList → Link → Fresh → Type 0
+IsTaken rows l f = Contains (out_of (find vertex_cmp f.vertex rows)) l × (Contains (out_of f.row) l → ⊥)
+
+-- it has the link, and had it not
+abbrev pub IsBrought : RowList → Link → Fresh → Type 0
+IsBrought rows l f = Contains (out_of f.row) l × (Contains (out_of (find vertex_cmp f.vertex rows)) l → ⊥)
+
+-- just the links that are so for one of the fresh rows
+abbrev pub AreOfFresh : (Link → Fresh → Type 0) → List Fresh → List Link → Type 0
+AreOfFresh P fresh links = (l : Link) → Contains links l ↔ ((f : Fresh) × Contains fresh f × P l f)
 
 -- in ascending cost
 abbrev pub IsByCost : List Link → Type 0

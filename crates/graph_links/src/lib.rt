@@ -3,20 +3,20 @@
 #![tactic(auto)]
 
 mod at_vertex;
+mod changes;
 mod end;
 mod fresh;
 mod link;
-mod missing_links;
 mod neighbours;
 mod pair;
 mod row;
 mod side;
 mod ways;
 
+pub use changes::changed_links;
 pub use end::End;
 pub use fresh::{Fresh, fresh_rows, place};
 pub use link::{Link, LinkChanges, Up};
-pub use missing_links::missing;
 pub use pair::{Local, Named};
 pub use row::{Row, Rows, StagedEnds};
 pub use side::{Side, row_ends, slice_of, slice_or_none};

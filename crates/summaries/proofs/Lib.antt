@@ -6,6 +6,11 @@ mod Naming
 pub mod Reconfigured
 pub mod Right
 pub mod Searching
+mod Activity
+mod Grouped
+mod Kept
+mod Lists
+mod Standing
 mod Turning
 mod Weighing
 mod Inside

@@ -1,105 +1,111 @@
 -- Members that are taken in all at once, and a range whose members are dropped.
 --   members_exact: without their costs they are the members within the range
 --   taken_followed, left_followed: so the members follow
-use Rattle.std.proofs.Common.{◌≡◌, ℕ, Bool, true, false, cond, not, ◌||◌, ◌==◌, List, map, Option, Some, None, Ordering, refl, sym, ap, subst, ◌∙◌, inl, inr}
-use Rattle.std.specs.Prelude.{◌↔◌, Contains, Decides, IfSome}
-use Rattle.std.specs.Ordering.{eq_by_cmp}
-use Rattle.std.specs.Cmp.{IsTotalOrder, nat_cmp_total, eq_by_cmp_equiv, unsigned_Decides}
-use Rattle.std.specs.List.{IsDistinct, filter}
+use Rattle.std.proofs.Common.{◌≡◌, ℕ, Bool, cond, List, map, Option, Some, None, refl, sym, ap, subst, ◌∙◌, inl, inr}
+use Rattle.std.specs.Prelude.{◌↔◌, Contains, IfSome}
+use Rattle.std.specs.Cmp.{nat_cmp_total}
 use Rattle.std.specs.Map.{keys_of, lookup}
-use Rattle.std.specs.Option.{option_or}
-use Rattle.std.specs.BTreeMap.{BTreeMap, InsertsAll, IsFromIterResult, IsOrdered, is_at}
-use Rattle.std.specs.FinMap.{empty, get, from_entries}
-use Rattle.std.proofs.lemmas.Map.Entries.{lookup-filter-keys}
-use Rattle.std.proofs.lemmas.Map.Keys.{IsDistinct-from_sorted}
-use Rattle.std.proofs.lemmas.Map.Lookups.{CmpEqualImpliesEq, exact_unsigned}
-use Rattle.std.proofs.lemmas.Map.Made.{IsDistinct-keys_filter, update_all_distinct, update_all_none}
-use Rattle.std.proofs.lemmas.Map.Views.{tells_apart, btree_map_contains_key_from_list, IfSome-btree_map_get_from_list}
+use Rattle.std.specs.BTreeMap.{IsFromIterResult, is_at}
+use Rattle.std.specs.FinMap.{empty, get}
+use Rattle.std.proofs.lemmas.Map.Lookups.{exact_unsigned}
+use Rattle.std.proofs.lemmas.Map.Views.{btree_map_contains_key_from_list, IfSome-btree_map_get_from_list}
 use Rattle.ospf_types.specs.declared.config.AreaConfig.{AreaConfig}
 use Rattle.ospf_types.specs.declared.entry.Entry.{Entry}
 use Rattle.ospf_types.specs.declared.prefix.Prefix.{Prefix}
+use Rattle.ospf_types.specs.Network.{network_cmp}
 use Rattle.ospf_types.proofs.Elements.{mapped_element, mapped_from}
-use Rattle.ospf_types.proofs.KeyOrders.{prefixes_equal, prefixes_decided}
-use Rattle.ospf_types.proofs.Maps.{get-lookup}
 use Rattle.ospf_types.proofs.Orders.{network_total, network_exact}
 use Rattle.intra.specs.Intras.{EntriesByPrefix}
 use Rattle.intra.proofs.Following.{one_or_other}
-use Rattle.summaries.specs.Active.{ActiveValue, AreRangesOf, IsMember, IsMemberWithin, IsWithin, member_cmp}
+use Rattle.summaries.specs.Active.{ActiveValue, AreRangesOf, IsMember, IsMemberWithin, IsWithin}
 use Rattle.summaries.specs.Following.{AreFollowed, AreTakenIn, HasLeft, IsCostIn, IsCostWithin}
+use Rattle.summaries.specs.Grouped.{Networks, NetworksByRange, range_cmp}
+use Rattle.summaries.specs.declared.member.AreaRange.{AreaRange}
 use Rattle.summaries.specs.declared.member.Member.{Member}
 use Rattle.summaries.proofs.Following.{left_here}
+use Rattle.summaries.proofs.Grouped.{changed_here, changed_elsewhere, ranges_value}
 use Rattle.summaries.proofs.Inside.{some_number}
-use Rattle.summaries.proofs.Members.{member_total, member_exact, some_value}
+use Rattle.summaries.proofs.Lists.{no_value}
+use Rattle.summaries.proofs.Members.{some_value}
 
--- ---- pairs that are collected, and appended to a map
+-- ---- the networks of a range that is taken in
 
-module _ {K X : Type 0} {R : K → K → Ordering} (total : IsTotalOrder R) (exact : CmpEqualImpliesEq R) (old new own : BTreeMap K X) (pairs : List (K × X)) (made : IsFromIterResult R pairs own) (appended : InsertsAll R old own.entries new) where
-  -- a key has what came, else what it had
-  came_or_was : (q : K) → get (from_entries {R = R} new.entries) q ≡ option_or (lookup (is_at (R q)) own.entries) (get (from_entries {R = R} old.entries) q)
-  came_or_was q =
-      get-lookup total new.entries q ∙ appended.0 q ∙ update_all_distinct (eq_by_cmp_equiv total) (eq_by_cmp R) (λ x y. refl) (λ k. lookup (is_at (R k)) old.entries) own.entries q (IsDistinct-from_sorted R (keys_of own.entries) made.1)
-      ∙ ap (option_or (lookup (is_at (R q)) own.entries)) (sym (get-lookup total old.entries q))
+some_same : {A : Type 0} {x y : A} → Some x ≡ Some y → x ≡ y
+some_same e = cc
 
-  came : (q : K) → IfSome (lookup (is_at (R q)) own.entries) (λ x. Contains pairs (q, x))
-  came q = IfSome-btree_map_get_from_list total exact pairs own made q
+if_some : {A : Type 0} (P : A → Type 0) (o : Option A) → IfSome o P → (x : A) → o ≡ Some x → P x
+if_some P None holds x is = absurd (let wrong : None ≡ Some x = is in cc)
+if_some P (Some y) holds x is = subst P (some_same is) holds
 
-  -- a key of a pair has a value that came with it
-  pub came_here : (q : K) (x : X) → Contains pairs (q, x) → (y : X) × (get (from_entries {R = R} new.entries) q ≡ Some y) × Contains pairs (q, y)
-  came_here q x there =
-      let key : Contains (keys_of pairs) q = mapped_element (λ (p : K × X). p.0) pairs (q, x) there in
-      let some = some_value (lookup (is_at (R q)) own.entries) ((btree_map_contains_key_from_list total exact pairs own made q).1 key) in (
-        some.0,
-        came_or_was q ∙ ap (λ (o : Option X). option_or o (get (from_entries {R = R} old.entries) q)) some.1,
-        subst (λ (o : Option X). IfSome o (λ y. Contains pairs (q, y))) some.1 (came q),
-      )
+module _ (es fs : NetworksByRange) (was is : Bool) (area : ℕ) (range : Prefix) (costs : List (Member × ℕ)) (within : (m : Member) (cost : ℕ) → Contains costs (m, cost) → (m.range ≡ range) × (m.area ≡ area)) (networks : Networks) where
+  abbrev taken : AreaRange
+  taken = record { prefix = range; area = area }
 
-  no_value : (q : K) → ((x : X) → Contains pairs (q, x) → ⊥) → (o : Option X) → IfSome o (λ x. Contains pairs (q, x)) → o ≡ None
-  no_value q absent None is = refl
-  no_value q absent (Some x) is = absurd (absent x is)
+  abbrev as_network : Member × ℕ → Prefix × ℕ
+  as_network x = (x.0.network, x.1)
 
-  -- and another what it had
-  pub was_elsewhere : (q : K) → ((x : X) → Contains pairs (q, x) → ⊥) → get (from_entries {R = R} new.entries) q ≡ get (from_entries {R = R} old.entries) q
-  was_elsewhere q absent = came_or_was q ∙ ap (λ (o : Option X). option_or o (get (from_entries {R = R} old.entries) q)) (no_value q absent (lookup (is_at (R q)) own.entries) (came q))
+  abbrev pairs : List (Prefix × ℕ)
+  pairs = map as_network costs
 
--- ---- those of a range that are left out
+  -- a network stands for the member
+  member_of : (m : Member) → m.range ≡ range → m.area ≡ area → (cost : ℕ) → Contains pairs (m.network, cost) → Contains costs (m, cost)
+  member_of m prefix id cost there =
+      let from = mapped_from as_network costs (m.network, cost) there in
+      let x = from.0.0 in
+      let own = within x from.0.1 from.1 in
+      let same : x ≡ m = λ i. record { range = (own.0 ∙ sym prefix) i; area = (own.1 ∙ sym id) i; network = (from.2 i).0 } in
+      subst (λ (y : Member × ℕ). Contains costs y) (λ i. (same i, (from.2 i).1)) from.1
 
--- it is not of the area's range
-abbrev pub is_apart : Prefix → ℕ → Member → Bool
-is_apart range area m = not (prefixes_equal m.range range) || not (m.area == area)
+  module _ (made : IsFromIterResult network_cmp pairs networks) (updates : (q : AreaRange) → lookup (is_at (range_cmp q)) fs ≡ cond (is_at (range_cmp taken) q) (Some networks) (lookup (is_at (range_cmp q)) es)) where
+    came : (p : Prefix) (cost : ℕ) → lookup (is_at (network_cmp p)) networks.entries ≡ Some cost → Contains pairs (p, cost)
+    came p cost there = if_some (λ c. Contains pairs (p, c)) (lookup (is_at (network_cmp p)) networks.entries) (IfSome-btree_map_get_from_list network_total network_exact pairs networks made p) cost there
 
-either_not : {P Q : Type 0} → (a b : Bool) → Decides a P → Decides b Q → (P × Q → ⊥) → (not a || not b) ≡ true
-either_not true true p q none = absurd (none (p.0 refl, q.0 refl))
-either_not true false p q none = refl
-either_not false b p q none = refl
+    now : (m : Member) → m.range ≡ range → m.area ≡ area → get (ranges_value fs is).members m ≡ lookup (is_at (network_cmp m.network)) networks.entries
+    now m prefix id = changed_here es fs was is taken (Some networks) updates m (λ i. record { prefix = prefix i; area = id i })
 
-neither_not : (a b : Bool) → a ≡ true → b ≡ true → (not a || not b) ≡ false
-neither_not true true p q = refl
-neither_not true false p q = sym q
-neither_not false b p q = sym p
-
-module _ (old new : BTreeMap Member ℕ) (range : Prefix) (area : ℕ) (ordered : IsOrdered member_cmp old) where
-  abbrev apart : Member × ℕ → Bool
-  apart x = is_apart range area x.0
-
-  others_apart : IsDistinct (eq_by_cmp member_cmp) (keys_of (filter apart old.entries))
-  others_apart = IsDistinct-keys_filter (eq_by_cmp member_cmp) apart old.entries (IsDistinct-from_sorted member_cmp (keys_of old.entries) ordered)
-
-  module _ (made : IsFromIterResult member_cmp (filter apart old.entries) new) where
-    kept_or_none : (m : Member) → get (from_entries {R = member_cmp} new.entries) m ≡ cond (is_apart range area m) (get (from_entries {R = member_cmp} old.entries) m) None
-    kept_or_none m =
-        get-lookup member_total new.entries m ∙ made.0 m
-        ∙ update_all_none (eq_by_cmp_equiv member_total) (eq_by_cmp member_cmp) (λ x y. refl) (filter apart old.entries) m others_apart
-        ∙ lookup-filter-keys (is_at (member_cmp m)) (is_apart range area) (is_apart range area m) (λ k tied. ap (is_apart range area) (sym (tells_apart member_exact m k tied))) old.entries
-        ∙ ap (λ (o : Option ℕ). cond (is_apart range area m) o None) (sym (get-lookup member_total old.entries m))
-
-    pub left_out : (spent : Bool) → HasLeft area range (record { members = from_entries old.entries; spent = spent }) (record { members = from_entries new.entries; spent = spent })
-    left_out spent = record {
-      spent = refl;
-      here = λ m prefix id. kept_or_none m ∙ ap (λ (b : Bool). cond b (get (from_entries {R = member_cmp} old.entries) m) None)
-          (neither_not (prefixes_equal m.range range) (m.area == area) ((prefixes_decided m.range range).1 prefix) ((unsigned_Decides m.area area).1 id));
-      others = λ m other. kept_or_none m ∙ ap (λ (b : Bool). cond b (get (from_entries {R = member_cmp} old.entries) m) None)
-          (either_not (prefixes_equal m.range range) (m.area == area) (prefixes_decided m.range range) (unsigned_Decides m.area area) other);
+    pub taken_in : is ≡ was → AreTakenIn area range costs (ranges_value es was) (ranges_value fs is)
+    taken_in spent = record {
+      spent = spent;
+      here = λ m c there.
+          let own = within m c there in
+          let key : Contains (keys_of pairs) m.network = mapped_element (λ (x : Prefix × ℕ). x.0) pairs (m.network, c) (mapped_element as_network costs (m, c) there) in
+          let some = some_value (lookup (is_at (network_cmp m.network)) networks.entries) ((btree_map_contains_key_from_list network_total network_exact pairs networks made m.network).1 key) in
+          (some.0, now m own.0 own.1 ∙ some.1, member_of m own.0 own.1 some.0 (came m.network some.0 some.1));
+      none = λ m prefix id absent. now m prefix id ∙ no_value (lookup (is_at (network_cmp m.network)) networks.entries) (λ cost there. absent cost (member_of m prefix id cost (came m.network cost there)));
+      others = λ m other. changed_elsewhere es fs was is taken (Some networks) updates m (λ same. other (ap (λ (r : AreaRange). r.prefix) same, ap (λ (r : AreaRange). r.area) same));
     }
+
+-- ---- a range that is dropped
+
+module _ (es fs : NetworksByRange) (was is : Bool) (area : ℕ) (range : Prefix)
+    (updates : (q : AreaRange) → lookup (is_at (range_cmp q)) fs ≡ cond (is_at (range_cmp (record { prefix = range; area = area })) q) None (lookup (is_at (range_cmp q)) es)) where
+  pub left_out : is ≡ was → HasLeft area range (ranges_value es was) (ranges_value fs is)
+  left_out spent = record {
+    spent = spent;
+    here = λ m prefix id. changed_here es fs was is (record { prefix = range; area = area }) None updates m (λ i. record { prefix = prefix i; area = id i });
+    others = λ m other. changed_elsewhere es fs was is (record { prefix = range; area = area }) None updates m (λ same. other (ap (λ (r : AreaRange). r.prefix) same, ap (λ (r : AreaRange). r.area) same));
+  }
+
+-- ---- members of other ranges stay
+
+pub stays_but_range : (area : ℕ) (range : Prefix) (old new : ActiveValue) (members : List Member) → ((m : Member) → m.range ≡ range → m.area ≡ area → (Contains members m → ⊥) → get new.members m ≡ get old.members m)
+    → ((m : Member) → ((m.range ≡ range) × (m.area ≡ area) → ⊥) → get new.members m ≡ get old.members m) → (m : Member) → (Contains members m → ⊥) → get new.members m ≡ get old.members m
+stays_but_range area range old new members here others m absent = elim (one_or_other network_total network_exact range m.range) [
+  | inr other ↦ others m (λ w. other w.0)
+  | inl prefix ↦ elim (one_or_other nat_cmp_total exact_unsigned area m.area) [
+    | inr other ↦ others m (λ w. other w.1)
+    | inl id ↦ here m prefix id absent
+  ]
+]
+
+-- a range that is dropped, with members that are all that it had
+pub gone_followed : (area : ℕ) (range : Prefix) (old new : ActiveValue) (members : List Member) → HasLeft area range old new → ((m : Member) → Contains members m → (m.range ≡ range) × (m.area ≡ area))
+    → ((m : Member) → m.range ≡ range → m.area ≡ area → (Contains members m → ⊥) → get old.members m ≡ None) → AreFollowed empty members old new
+gone_followed area range old new members left within none_was = record {
+  spent = left.spent;
+  here = λ m c cost. let is = within m c in left_here new m (left.here m is.0 is.1) cost;
+  others = stays_but_range area range old new members (λ m prefix id absent. left.here m prefix id ∙ sym (none_was m prefix id absent)) left.others;
+}
 
 -- ---- the members within a range follow
 
@@ -108,10 +114,6 @@ some_entry d e same = cc
 
 one_cost : (o : Option Entry) (area a b : ℕ) → IsCostIn o area a → IsCostIn o area b → a ≡ b
 one_cost o area a b v w = sym v.3 ∙ ap (λ (e : Entry). e.cost) (some_entry v.0 w.0 (sym v.1 ∙ w.1)) ∙ w.3
-
-no_number : (o : Option ℕ) → ((n : ℕ) → o ≡ Some n → ⊥) → o ≡ None
-no_number None none = refl
-no_number (Some n) none = absurd (none n refl)
 
 module _ (entries : EntriesByPrefix) (area : ℕ) (range : Prefix) (costs : List (Member × ℕ)) (exact : (x : Member × ℕ) → Contains costs x ↔ IsCostWithin entries area range x) where
   abbrev members : List Member
@@ -126,8 +128,18 @@ module _ (entries : EntriesByPrefix) (area : ℕ) (range : Prefix) (costs : List
         mapped_element (λ (x : Member × ℕ). x.0) costs (m, e.0.cost) ((exact (m, e.0.cost)).1 (is, (e.0, e.1, e.2 ∙ ap Some (sym is.0), refl))),
   )
 
-  module _ (old new : ActiveValue) where
-    pub taken_followed : AreTakenIn costs old new → AreFollowed entries members old new
+  module _ (old new : ActiveValue) (before : List AreaConfig) (was : AreRangesOf before entries old) where
+    -- it had no others
+    none_was : (m : Member) → (Contains members m → ⊥) → m.range ≡ range → m.area ≡ area → get old.members m ≡ None
+    none_was m absent prefix id = no_value (get old.members m) (λ cost is.
+        let w : IsMember before entries m cost = (was.members m cost).0 is in
+        let within : IsWithin entries m.area m.range m.network = (w.0, w.1, w.2, w.5) in
+        absent ((members_exact m).1 (id, prefix, subst (λ (n : ℕ). IsWithin entries n range m.network) id (subst (λ (q : Prefix). IsWithin entries m.area q m.network) prefix within))))
+
+    pub left_followed : HasLeft area range old new → AreFollowed empty members old new
+    left_followed left = gone_followed area range old new members left (λ m c. let is = (members_exact m).0 c in (is.1, is.0)) (λ m prefix id absent. none_was m absent prefix id)
+
+    pub taken_followed : AreTakenIn area range costs old new → AreFollowed entries members old new
     taken_followed taken = record {
       spent = taken.spent;
       here = λ m c cost.
@@ -138,26 +150,5 @@ module _ (entries : EntriesByPrefix) (area : ℕ) (range : Prefix) (costs : List
             λ h. subst (IsCostIn (get entries m.network) m.area) (some_number now.0 cost (sym now.1 ∙ h)) is,
             λ w. now.1 ∙ ap Some (one_cost (get entries m.network) m.area now.0 cost is w),
           );
-      others = λ m absent. taken.others m (λ c there. absent (mapped_element (λ (x : Member × ℕ). x.0) costs (m, c) there));
+      others = stays_but_range area range old new members (λ m prefix id absent. taken.none m prefix id (λ c there. absent (mapped_element (λ (x : Member × ℕ). x.0) costs (m, c) there)) ∙ sym (none_was m absent prefix id)) taken.others;
     }
-
-    module _ (before : List AreaConfig) (was : AreRangesOf before entries old) (left : HasLeft area range old new) where
-      -- it had no others
-      none_was : (m : Member) → (Contains members m → ⊥) → m.range ≡ range → m.area ≡ area → get old.members m ≡ None
-      none_was m absent prefix id = no_number (get old.members m) (λ cost is.
-          let w : IsMember before entries m cost = (was.members m cost).0 is in
-          let within : IsWithin entries m.area m.range m.network = (w.0, w.1, w.2, w.5) in
-          absent ((members_exact m).1 (id, prefix, subst (λ (n : ℕ). IsWithin entries n range m.network) id (subst (λ (q : Prefix). IsWithin entries m.area q m.network) prefix within))))
-
-      pub left_followed : AreFollowed empty members old new
-      left_followed = record {
-        spent = left.spent;
-        here = λ m c cost. let is = (members_exact m).0 c in left_here new m (left.here m is.1 is.0) cost;
-        others = λ m absent. elim (one_or_other network_total network_exact range m.range) [
-          | inr other ↦ left.others m (λ w. other w.0)
-          | inl prefix ↦ elim (one_or_other nat_cmp_total exact_unsigned area m.area) [
-            | inr other ↦ left.others m (λ w. other w.1)
-            | inl id ↦ left.here m prefix id ∙ sym (none_was m absent prefix id)
-          ]
-        ];
-      }

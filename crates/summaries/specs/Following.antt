@@ -51,11 +51,16 @@ pub record AreFollowed (entries : EntriesByPrefix) (named : List Member) (old ne
   pub here : (m : Member) → Contains named m → (cost : ℕ) → (get new.members m ≡ Some cost) ↔ IsCostIn (get entries m.network) m.area cost
   pub others : (m : Member) → (Contains named m → ⊥) → get new.members m ≡ get old.members m
 
--- these members have costs that come with them, and the others what they had
-pub record AreTakenIn (costs : List (Member × ℕ)) (old new : ActiveValue) : Type 0 where
+-- it is one of the members that the area's range has
+abbrev pub IsMemberIn : ActiveValue → ℕ → Prefix → Member → Type 0
+IsMemberIn v area range m = (m.range ≡ range) × (m.area ≡ area) × ((cost : ℕ) × (get v.members m ≡ Some cost))
+
+-- the area's range has these members at costs that come with them, and no others; those of other ranges have what they had
+pub record AreTakenIn (area : ℕ) (range : Prefix) (costs : List (Member × ℕ)) (old new : ActiveValue) : Type 0 where
   pub spent : new.spent ≡ old.spent
   pub here : (m : Member) (c : ℕ) → Contains costs (m, c) → (cost : ℕ) × (get new.members m ≡ Some cost) × Contains costs (m, cost)
-  pub others : (m : Member) → ((c : ℕ) → Contains costs (m, c) → ⊥) → get new.members m ≡ get old.members m
+  pub none : (m : Member) → m.range ≡ range → m.area ≡ area → ((c : ℕ) → Contains costs (m, c) → ⊥) → get new.members m ≡ None
+  pub others : (m : Member) → ((m.range ≡ range) × (m.area ≡ area) → ⊥) → get new.members m ≡ get old.members m
 
 -- the area's range has no members, and the others are as they were
 pub record HasLeft (area : ℕ) (range : Prefix) (old new : ActiveValue) : Type 0 where
@@ -76,8 +81,3 @@ HasTurned v n = (IsTrue n.active × (IsActiveIn v n.prefix → ⊥)) ⊎ ((IsTru
 -- the prefix is added where that is so
 abbrev pub IsTold : ActiveValue → Noted → List Prefix → List Prefix → Type 0
 IsTold v n before after = ((after ≡ before) × (HasTurned v n → ⊥)) ⊎ ((after ≡ before ++ n.prefix ∷ []) × HasTurned v n)
-
--- the prefix comes at the end, unless it stands there
-abbrev pub IsOnceMore : List Prefix → Prefix → List Prefix → Type 0
-IsOnceMore before p after = ((after ≡ before) × (front : List Prefix) × (before ≡ front ++ p ∷ []))
-    ⊎ ((after ≡ before ++ p ∷ []) × ((front : List Prefix) → before ≡ front ++ p ∷ [] → ⊥))

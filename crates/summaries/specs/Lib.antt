@@ -1,3 +1,4 @@
 pub mod Active
 pub mod Following
+pub mod Grouped
 pub mod Right

@@ -1,5 +1,5 @@
 //! Active ranges: those that have a member.
-ghost use Rattle.std.specs.Prelude.{◌≡◌, ◌≢◌, ◌↔◌, ◌<◌, ℕ, Some, Contains, IsTrue, IfOk, OnOk, OnErr, List, option_copied, map as list_map};
+ghost use Rattle.std.specs.Prelude.{◌≡◌, ◌≢◌, ◌↔◌, ◌<◌, ℕ, [], Some, None, Contains, IsTrue, IfOk, OnOk, OnErr, List, option_copied, map as list_map};
 ghost use Rattle.std.specs.FinMap as map;
 ghost use Rattle.std.specs.List.Sorted.{IsStrictlySortedBy};
 ghost use Rattle.ospf_types.specs.declared.config.AreaConfig.{AreaConfig as AreaConfigValue};
@@ -13,11 +13,13 @@ ghost use Rattle.intra.specs.Right.{IsRightFor as IsIntraRight};
 ghost use Rattle.summaries.specs.declared.active.Noted.{Noted as NotedValue};
 ghost use Rattle.summaries.specs.declared.member.Member.{Member as MemberValue};
 ghost use Rattle.summaries.specs.Active.{AreRangesOf, EntriesDifferAmong, DiffersAt, HasCost, IsActiveIn, IsMemberWithin, RangesDifferAt, spent_ranges};
-ghost use Rattle.summaries.specs.Following.{AreFollowed, AreTakenIn, HasLeft, IsCostIn, IsNamed, IsNotedOf, IsOnceMore, IsTold, HasTurned};
+ghost use Rattle.summaries.specs.Following.{AreFollowed, AreTakenIn, HasLeft, IsCostIn, IsNamed, IsMemberIn, IsNotedOf, HasMore, IsTold, HasTurned};
+ghost use Rattle.summaries.specs.Grouped.{member_of};
 ghost use Rattle.summaries.specs.Right.{AreConfigured, IsRightFor};
 
-use crate::member::Member;
+use crate::member::{AreaRange, Member};
 use crate::named::named_members;
+use crate::networks::{as_members, costliest_of, networks_of, put_network};
 use crate::within::{costs_within, is_configured};
 use intra::Intra;
 use ospf_types::config::AreaConfig;
@@ -31,7 +33,7 @@ use std::marker::Model;
 
 /// The ranges of the areas that are active: each with the networks that it has, at the cost of their entries.
 pub struct ActiveRanges {
-    members: BTreeMap<Member, u32>,
+    ranges: BTreeMap<AreaRange, BTreeMap<Prefix, u32>>,
     spent: bool,
 }
 
@@ -39,7 +41,7 @@ pub struct ActiveRanges {
 impl Drop for ActiveRanges {
     fn drop(self) {
         let ActiveRanges {
-            members: _members,
+            ranges: _ranges,
             spent: _,
         } = self;
     }
@@ -49,12 +51,13 @@ impl Model for ActiveRanges {
     ghost use Rattle.std.specs.FinMap as map;
     ghost use Rattle.std.specs.Coded.{Coded, codes};
     ghost use Rattle.summaries.specs.Active.{ActiveValue, CostsByMember, member_code};
+    ghost use Rattle.summaries.specs.Grouped.{members_in};
 
     ghost Value = { ActiveValue };
 
     ghost coded = { let members : Coded CostsByMember = map.code member_code (Prim.hlevel codes) in Prim.hlevel (codes, members) };
 
-    ghost view = { λ a. record { members = map.from_entries a.members.entries; spent = a.spent } };
+    ghost view = { λ a. record { members = map.from_entries (members_in a.ranges.entries); spent = a.spent } };
 }
 
 // The prefix of a range, and whether a range with it was active.
@@ -71,7 +74,7 @@ impl ActiveRanges {
         ensures right { IfOk result (λ active. (s : Definitions) → AreConfigured s.areas areas.now → IsIntraRight s intra.now → IsRightFor s active) }
     {
         let mut active = ActiveRanges {
-            members: BTreeMap::new(alloc),
+            ranges: BTreeMap::new(alloc),
             spent: false,
         };
         let networks = intra.networks(alloc)?;
@@ -131,26 +134,27 @@ impl ActiveRanges {
     pub fn contains(&self, prefix: Prefix) -> bool
         ensures { IsTrue result ↔ IsActiveIn self.now prefix }
     {
-        match self.members.range(Member::least_of(prefix)..).next() {
-            Some((member, _)) => member.range == prefix,
-            None => false,
+        for (range, networks) in self.ranges.range(AreaRange::least_of(prefix)..) {
+            if range.prefix != prefix {
+                return false;
+            }
+            if !networks.is_empty() {
+                return true;
+            }
         }
+        false
     }
 
     /// The greatest cost below the limit that a network of the area's range with this prefix has.
     pub fn costliest(&self, range: Prefix, area: u32, limit: u32) -> Option<u32>
         ensures { (cost : ℕ) → (result ≡ Some cost) ↔ IsGreatest (λ c. HasCost self.now range area c × (c < limit)) cost }
     {
-        let mut most = None;
-        for (member, cost) in self.members.range(Member::least_in(range, area)..) {
-            if member.range != range || member.area != area {
-                return most;
-            }
-            if *cost < limit {
-                most = most.max(Some(*cost));
-            }
-        }
-        most
+        let area_range = AreaRange {
+            prefix: range,
+            area,
+        };
+        let networks = self.ranges.get(&area_range)?;
+        costliest_of(networks, limit)
     }
 
     /// The prefixes of active ranges, ascending, each once.
@@ -159,10 +163,10 @@ impl ActiveRanges {
         ensures exact { IfOk result (λ prefixes. (p : PrefixValue) → Contains prefixes.items p ↔ IsActiveIn self.now p) }
     {
         let mut prefixes = Vec::new(alloc);
-        for member in self.members.keys() {
-            push_once(member.range, &mut prefixes)?;
+        for (range, networks) in self.ranges.iter() {
+            push_active(range.prefix, networks, &mut prefixes)?;
         }
-        Ok(prefixes)
+        Ok(ascending(prefixes))
     }
 
     /// Whether an update was refused memory.
@@ -174,7 +178,7 @@ impl ActiveRanges {
 }
 
 impl ActiveRanges {
-    // The same; after an error some members followed and others did not.
+    // Follows the routes; after an error some members followed and others did not.
     fn update_parts(
         &mut self,
         alloc: Global,
@@ -190,7 +194,7 @@ impl ActiveRanges {
         let named = named_members(alloc, areas, dests)?;
         let touched = ranges_of(alloc, named.as_slice())?;
         let noted = self.noted(alloc, touched.as_slice())?;
-        self.follow(intra, named.as_slice())?;
+        self.follow(alloc, intra, named.as_slice())?;
         let turned = self.turned(alloc, noted.as_slice())?;
         Ok(turned)
     }
@@ -208,14 +212,52 @@ impl ActiveRanges {
         ensures exact { IfOk result (λ members. (m : MemberValue) → Contains members.items m ↔ IsMemberWithin intra.now.entries named.0 named.1 m) }
     {
         let (area, range) = named;
+        let had = self.members_in(alloc, area, range)?;
+        if had.is_empty() {
+            return self.reconfigure_by_entries(alloc, areas, intra, named);
+        }
+        // Where the range has members, they are all that it can have.
+        if !is_configured(areas, area, range) {
+            self.leave(area, range);
+        }
+        Ok(had)
+    }
+
+    // Follows the range by the entries of all networks; after an error its members may have followed.
+    fn reconfigure_by_entries(
+        &mut self,
+        alloc: Global,
+        areas: &[AreaConfig],
+        intra: &Intra,
+        named: (u32, Prefix),
+    ) -> Result<Vec<Member>, Memory>
+        requires before { (before : List AreaConfigValue) × AreRangesOf before intra.now.entries self.old × RangesDifferAt (Some named) before areas.now }
+        ensures kept { OnOk result (AreRangesOf areas.now intra.now.entries self.new) }
+        ensures exact { IfOk result (λ members. (m : MemberValue) → Contains members.items m ↔ IsMemberWithin intra.now.entries named.0 named.1 m) }
+    {
+        let (area, range) = named;
         let costs = costs_within(alloc, intra, area, range)?;
         if is_configured(areas, area, range) {
-            self.take_in(alloc, costs.as_slice())?;
+            self.take_in(alloc, named, costs.as_slice())?;
         } else {
-            self.leave(alloc, area, range)?;
+            self.leave(area, range);
         }
         let members = members_of(alloc, costs.as_slice())?;
         Ok(members)
+    }
+
+    // The members of the area's range.
+    fn members_in(&self, alloc: Global, area: u32, range: Prefix) -> Result<Vec<Member>, Memory>
+        ensures { IfOk result (λ members. (m : MemberValue) → Contains members.items m ↔ IsMemberIn self.now area range m) }
+    {
+        let area_range = AreaRange {
+            prefix: range,
+            area,
+        };
+        match self.ranges.get(&area_range) {
+            Some(networks) => as_members(alloc, area_range, networks),
+            None => Ok(Vec::new(alloc)),
+        }
     }
 
     // Whether ranges with the prefixes are active now.
@@ -258,69 +300,104 @@ impl ActiveRanges {
     }
 
     // The members take the costs of the entries.
-    fn follow(&mut self, intra: &Intra, named: &[Member]) -> Result<(), Memory>
+    fn follow(&mut self, alloc: Global, intra: &Intra, named: &[Member]) -> Result<(), Memory>
         ensures { OnOk result (AreFollowed intra.now.entries named.now self.old self.new) }
     {
         for member in named {
-            self.follow_member(intra, *member)?;
+            self.follow_member(alloc, intra, *member)?;
         }
         Ok(())
     }
 
-    // Takes the members in, in the place of those with the same networks.
-    fn take_in(&mut self, alloc: Global, costs: &[(Member, u32)]) -> Result<(), Memory>
-        ensures { OnOk result (AreTakenIn costs.now self.old self.new) }
+    // The area's range has these members, and no others.
+    fn take_in(
+        &mut self,
+        alloc: Global,
+        named: (u32, Prefix),
+        costs: &[(Member, u32)],
+    ) -> Result<(), Memory>
+        requires within { (m : MemberValue) (cost : ℕ) → Contains costs.now (m, cost) → (m.range ≡ named.1) × (m.area ≡ named.0) }
+        ensures { OnOk result (AreTakenIn named.0 named.1 costs.now self.old self.new) }
     {
-        let mut members: BTreeMap<Member, u32> = costs.iter().copied().collect(alloc)?;
-        self.members.append(&mut members)?;
+        let (area, prefix) = named;
+        let networks = networks_of(alloc, costs)?;
+        self.ranges.insert(AreaRange { prefix, area }, networks)?;
         Ok(())
     }
 
-    // Drops the members of the area's range. To take single ones out of the map would cost several times as much as to
-    // collect the others.
-    fn leave(&mut self, alloc: Global, area: u32, range: Prefix) -> Result<(), Memory>
-        ensures { OnOk result (HasLeft area range self.old self.new) }
+    // Drops the members of the area's range.
+    fn leave(&mut self, area: u32, range: Prefix)
+        ensures { HasLeft area range self.old self.new }
     {
-        self.members = self
-            .members
-            .iter()
-            .filter(|pair| pair.0.range != range || pair.0.area != area)
-            .map(|(member, cost)| (*member, *cost))
-            .collect(alloc)?;
-        Ok(())
+        let range = AreaRange {
+            prefix: range,
+            area,
+        };
+        self.ranges.remove(&range);
     }
 
     // The member takes the cost of its network's entry, where that is one through the member's area.
-    fn follow_member(&mut self, intra: &Intra, member: Member) -> Result<(), Memory>
+    fn follow_member(&mut self, alloc: Global, intra: &Intra, member: Member) -> Result<(), Memory>
         ensures spent { OnOk result (self.new.spent ≡ self.old.spent) }
         ensures here { OnOk result ((cost : ℕ) → (map.get self.new.members member ≡ Some cost) ↔ IsCostIn (map.get intra.now.entries member.network) member.area cost) }
         ensures others { OnOk result ((m : MemberValue) → m ≢ member → map.get self.new.members m ≡ map.get self.old.members m) }
     {
-        let cost = cost_in(intra.get(member.network), member.area);
-        self.put(member, cost)
+        let Member {
+            range: prefix,
+            area,
+            network,
+        } = member;
+        let cost = cost_in(intra.get(network), area);
+        self.put(alloc, AreaRange { prefix, area }, network, cost)
     }
 
-    // The member has this cost.
-    fn put(&mut self, member: Member, cost: Option<u32>) -> Result<(), Memory>
+    // Gives the network of the range this cost. With none it is no member.
+    fn put(
+        &mut self,
+        alloc: Global,
+        range: AreaRange,
+        network: Prefix,
+        cost: Option<u32>,
+    ) -> Result<(), Memory>
         ensures spent { OnOk result (self.new.spent ≡ self.old.spent) }
-        ensures here { OnOk result (map.get self.new.members member ≡ cost) }
-        ensures others { OnOk result ((m : MemberValue) → m ≢ member → map.get self.new.members m ≡ map.get self.old.members m) }
+        ensures here { OnOk result (map.get self.new.members (member_of range network) ≡ cost) }
+        ensures others { OnOk result ((m : MemberValue) → m ≢ member_of range network → map.get self.new.members m ≡ map.get self.old.members m) }
     {
-        match cost {
-            Some(cost) => {
-                self.members.insert(member, cost)?;
-            }
-            None => {
-                self.members.remove(&member);
-            }
+        if !self.ranges.contains_key(&range) {
+            return self.put_first(alloc, range, network, cost);
         }
+        let Some(networks) = self.ranges.get_mut(&range) else {
+            unreachable!()
+        };
+        put_network(networks, network, cost)
+    }
+
+    // Gives the range its first network at this cost, or nothing.
+    fn put_first(
+        &mut self,
+        alloc: Global,
+        range: AreaRange,
+        network: Prefix,
+        cost: Option<u32>,
+    ) -> Result<(), Memory>
+        requires none { (p : PrefixValue) → map.get self.old.members (member_of range p) ≡ None }
+        ensures spent { OnOk result (self.new.spent ≡ self.old.spent) }
+        ensures here { OnOk result (map.get self.new.members (member_of range network) ≡ cost) }
+        ensures others { OnOk result ((m : MemberValue) → m ≢ member_of range network → map.get self.new.members m ≡ map.get self.old.members m) }
+    {
+        let Some(cost) = cost else {
+            return Ok(());
+        };
+        let mut networks = BTreeMap::new(alloc);
+        networks.insert(network, cost)?;
+        self.ranges.insert(range, networks)?;
         Ok(())
     }
 
     fn spend(&mut self)
         ensures { self.new ≡ spent_ranges }
     {
-        self.members.clear();
+        self.ranges.clear();
         self.spent = true;
     }
 }
@@ -330,10 +407,18 @@ fn ranges_of(alloc: Global, members: &[Member]) -> Result<Vec<Prefix>, Memory>
     ensures in_order { IfOk result (λ prefixes. IsStrictlySortedBy network_cmp prefixes.items) }
     ensures exact { IfOk result (λ prefixes. (p : PrefixValue) → Contains prefixes.items p ↔ Contains (list_map (λ m. m.range) members.now) p) }
 {
-    let mut prefixes = each_range(alloc, members)?;
+    let prefixes = each_range(alloc, members)?;
+    Ok(ascending(prefixes))
+}
+
+// The prefixes, ascending, each once.
+fn ascending(mut prefixes: Vec<Prefix>) -> Vec<Prefix>
+    ensures in_order { IsStrictlySortedBy network_cmp result.items }
+    ensures same { (p : PrefixValue) → Contains result.items p ↔ Contains prefixes.items p }
+{
     prefixes.sort_unstable();
     prefixes.dedup();
-    Ok(prefixes)
+    prefixes
 }
 
 // The prefix of each member's range.
@@ -373,11 +458,15 @@ pub(crate) fn cost_in(entry: Option<&Entry>, area: u32) -> Option<u32>
     }
 }
 
-// Adds the prefix, unless it is the last.
-fn push_once(prefix: Prefix, prefixes: &mut Vec<Prefix>) -> Result<(), Memory>
-    ensures { OnOk result (IsOnceMore prefixes.old.items prefix prefixes.new.items) }
+// Adds the prefix, where the range has a network.
+fn push_active(
+    prefix: Prefix,
+    networks: &BTreeMap<Prefix, u32>,
+    prefixes: &mut Vec<Prefix>,
+) -> Result<(), Memory>
+    ensures { OnOk result (HasMore (λ p. (p ≡ prefix) × (networks.now.entries ≢ [])) prefixes.old.items prefixes.new.items) }
 {
-    if prefixes.last() == Some(&prefix) {
+    if networks.is_empty() {
         return Ok(());
     }
     prefixes.push(prefix)?;

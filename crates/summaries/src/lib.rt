@@ -5,6 +5,7 @@
 mod active;
 mod member;
 mod named;
+mod networks;
 mod within;
 
 pub use active::ActiveRanges;

@@ -26,7 +26,7 @@ pub(crate) fn named_members(
     Ok(members)
 }
 
-// The same of one destination.
+// Adds what one destination may be a member of.
 fn push_named(areas: &[AreaConfig], dest: Dest, members: &mut Vec<Member>) -> Result<(), Memory>
     ensures { OnOk result (HasMore (IsNamedBy areas.now dest) members.old.items members.new.items) }
 {
@@ -39,7 +39,7 @@ fn push_named(areas: &[AreaConfig], dest: Dest, members: &mut Vec<Member>) -> Re
     Ok(())
 }
 
-// The same of one network in one area.
+// Adds what one network may be a member of in one area.
 fn push_covering(
     area: &AreaConfig,
     network: Prefix,

@@ -19,7 +19,7 @@ use Rattle.graph_links.specs.declared.row.Row.{Row}
 use Rattle.vertex_graph.specs.Graphs.{GraphValue, link_of, LinksOf, HasRoot, AreLinksFrom, AreLinksTo, HasEnds, HasFewRouters, AreExact, most_routers}
 use Rattle.graph_links.specs.Pairs.{AreApart, Names}
 use Rattle.vertex_graph.specs.Rows.{graph_of, AreRows}
-use Rattle.graph_links.specs.Sides.{Leading, RowList, row_ends, ends_or, LinksBy, AreOut, AreInto, IsRow, IsFreshRow, AreMissing}
+use Rattle.graph_links.specs.Sides.{Leading, RowList, row_ends, ends_or, LinksBy, AreOut, AreInto, IsRow, IsFreshRow, AreMissing, AreRowsBy}
 use Rattle.graph_links.specs.Sides.{IsChanged}
 use Rattle.vertex_graph.specs.Stagings.{AreTouched}
 use Rattle.graph_links.proofs.EndOrders.{vertex_total, vertex_exact}
@@ -166,6 +166,13 @@ module _ (root : ℕ) (rows rows_new : RowList) (ups ups_new : List Up) (after :
               (λ (u : Contains touched l.from → ⊥). absurd (h.1 (old_is.1 (((untouched l.from u).1.out l.to l.cost l.label).1 (new_is.0 h.0))))) (touched_or_not l.from),
         );
       }
+
+-- the rows that a graph has are those of its links
+pub rows_right : (root : ℕ) (rows : RowList) (ups : List Up) → AreRows root rows ups → AreRowsBy root ups rows
+rows_right root rows ups old v row at =
+    let g = graph_of root rows ups in
+    let same : AreSame (LinksOf g) (LinksBy root ups (row_ends rows)) = links_by g old.ends (row_ends rows) (get_graph root rows ups) in
+    row_alike (LinksOf g) (LinksBy root ups (row_ends rows)) v (same_alike (LinksOf g) (LinksBy root ups (row_ends rows)) same v) row (old.right v row at)
 
 -- ---- the two kinds of change
 

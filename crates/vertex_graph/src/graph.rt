@@ -131,7 +131,7 @@ impl Graph {
             root: self.root,
             interfaces: &self.interfaces,
         };
-        let changes = change(alloc, &mut self.rows, local, local, &staging)?;
+        let changes = change(alloc, &mut self.rows, local, &staging)?;
         Ok(changes)
     }
 
@@ -157,15 +157,11 @@ impl Graph {
         let alloc = *self.interfaces.allocator();
         let ups = Vec::from_slice(alloc, interfaces)?;
         let staging = stage_root(alloc, &self.rows, self.root)?;
-        let was = Local {
-            root: self.root,
-            interfaces: &self.interfaces,
-        };
-        let is = Local {
+        let local = Local {
             root: self.root,
             interfaces: &ups,
         };
-        let changes = change(alloc, &mut self.rows, was, is, &staging)?;
+        let changes = change(alloc, &mut self.rows, local, &staging)?;
         self.interfaces = ups;
         Ok(changes)
     }

@@ -1,6 +1,4 @@
-use Rattle.std.proofs.Common.{◌++◌, ◌∙◌, ap, subst, List}
-use Rattle.std.specs.Map.{keys_of}
-use Rattle.due_lists.specs.Lists.{Metrics}
+use Rattle.std.proofs.Common.{subst, List}
 use Rattle.due_lists.specs.declared.due.Due.{Due}
 use Rattle.dues.specs.Candidates.{dests_in}
 use Rattle.dues.specs.Changes.{AreChangesIn}
@@ -12,12 +10,10 @@ of-requires c = c.in_ok-metrics.ensures.in_order
 pub returns-clause-planned : goal.returns-clause-planned
 returns-clause-planned c =
     let of = c.in_ok-plan.ensures in
-    let read = c.deref.ensures.value in
     let v = c.args.inputs.now in
     let dests = dests_in c.args.candidates.now in
     let changes = subst (λ (list : List Due). AreChangesIn v c.args.area.now list dests c.in_ok-metrics.metrics.items) c.as_slice.ensures.value c.in_ok-metrics.ensures in
     record {
       metrics = c.in_ok-metrics.metrics.items;
-      named = c.in_ok-push_named.ensures ∙ ap (λ (ms : Metrics). c.args.named.now.items ++ keys_of ms) read;
       turn = record { changes = changes; same_area = of.area; same_list = of.list; fits = of.fits; leads = of.leads };
     }

@@ -17,8 +17,8 @@ bounds-lists-place c =
 pub loop-place-init : goal.loop-place-init
 loop-place-init c =
     let v = c.args.inputs.now in
-    subst (λ (plans : List AreaPlan). ArePlannedTo v (dests_in c.args.candidates.now) v.areas c.args.lists.now c.args.lists.now plans c.args.named.now.items c.args.named.now.items 0) (sym c.in_ok-plans.ensures.items)
-    (none_planned v (dests_in c.args.candidates.now) v.areas c.args.lists.now c.args.named.now.items)
+    subst (λ (plans : List AreaPlan). ArePlannedTo v (dests_in c.args.candidates.now) v.areas c.args.lists.now c.args.lists.now plans 0) (sym c.in_ok-plans.ensures.items)
+    (none_planned v (dests_in c.args.candidates.now) v.areas c.args.lists.now)
 
 pub loop-place-preserved : goal.loop-place-preserved
 loop-place-preserved c =
@@ -32,8 +32,8 @@ loop-place-preserved c =
     let was : AreaDuesValue = get_or now i c.index-lists-place.result in
     let was_at : was ≡ get_or now i was = ap (get_or now i) c.index-lists-place.is in
     let new : AreaDuesValue = c.plan_area.new.dues in
-    subst (λ (plans : List AreaPlan). ArePlannedTo v (dests_in c.args.candidates.now) v.areas c.args.lists.now (set now i new) plans c.args.named.now.items c.plan_area.new.named.items (i + 1)) (sym c.in_ok-push.ensures.items)
-    (planned_more v (dests_in c.args.candidates.now) v.areas c.args.lists.now now c.loop-place.plans.items c.args.named.now.items c.loop-place.named.items i a was new c.in_ok-plan.plan c.plan_area.new.named.items
+    subst (λ (plans : List AreaPlan). ArePlannedTo v (dests_in c.args.candidates.now) v.areas c.args.lists.now (set now i new) plans (i + 1)) (sym c.in_ok-push.ensures.items)
+    (planned_more v (dests_in c.args.candidates.now) v.areas c.args.lists.now now c.loop-place.plans.items i a was new c.in_ok-plan.plan
     lt (c.loop-place.auto.lists ∙ c.requires.long) c.requires.long at was_at c.in_ok-plan.ensures.area c.in_ok-plan.ensures.list c.in_ok-plan.ensures.planned c.loop-place.invariant)
 
 pub returns-clause-planned : goal.returns-clause-planned
@@ -41,7 +41,7 @@ returns-clause-planned c =
     let v = c.args.inputs.now in
     let areas : c.inputs.inside.areas.now ≡ v.areas = ap (λ (w : DueInputsValue). w.areas) c.inputs.view_is in
     let past : length v.areas ≤ c.loop-place.place = subst (λ (list : List AreaConfig). length list ≤ c.loop-place.place) areas c.loop-place-test.false in
-    all_planned v (dests_in c.args.candidates.now) v.areas c.args.lists.now c.loop-place.lists c.loop-place.plans.items c.args.named.now.items c.loop-place.named.items c.loop-place.place
+    all_planned v (dests_in c.args.candidates.now) v.areas c.args.lists.now c.loop-place.lists c.loop-place.plans.items c.loop-place.place
     past c.requires.long (c.loop-place.auto.lists ∙ c.requires.long) c.loop-place.invariant
 
 -- where memory is refused, the list in its place is as it was

@@ -1,14 +1,25 @@
--- By whether the area is a stub area.
-use Rattle.std.proofs.Common.{◌≡◌, ℕ, Option, Some, sym, subst}
+-- No stub area, or another network than the default route of one that is sent networks.
+use Rattle.std.proofs.Common.{◌≡◌, Bool, true, false, not, Option, Some, refl, sym, subst, ◌∙◌, inl, inr}
 use Rattle.std.specs.Prelude.{◌↔◌}
 use Rattle.ospf_types.specs.declared.config.Stub.{Stub}
+use Rattle.ospf_types.specs.Summaries.{default_route}
 use Rattle.dues.specs.Giving.{IsNetworkDueIn}
 use Rattle.dues.proofs.giving.network_metric.Goals as goal
+use Rattle.dues.proofs.giving.network_metric.Goals.{in-Some+else-is_default+else-not-stub, in_default}
 
-pub returns-in-Some : goal.returns-in-Some
-returns-in-Some c =
-    subst (λ (stub : Option Stub). (m : ℕ) → (c.stub_metric.result ≡ Some m) ↔ IsNetworkDueIn c.args.inputs.now c.args.area.now.id stub c.args.network m) (sym c.in-Some.is) c.stub_metric.ensures
+is_sent : (b : Bool) → not b ≡ false → b ≡ true
+is_sent true is = refl
+is_sent false is = absurd (let wrong : true ≡ false = is in cc)
 
-pub returns-in-None : goal.returns-in-None
-returns-in-None c =
-    subst (λ (stub : Option Stub). (m : ℕ) → (c.greatest_given.result ≡ Some m) ↔ IsNetworkDueIn c.args.inputs.now c.args.area.now.id stub c.args.network m) (sym c.in-None.is) c.greatest_given.ensures
+pub returns : goal.returns
+returns c m =
+    let given = c.greatest_given.ensures m in
+    elim c.match-area.branch [
+      | in-Some+else-is_default+else-not-stub w ↦
+          let other : c.args.network ≡ default_route → ⊥ = λ same. let wrong : true ≡ false = sym (w.is_default.ensures.1 same) ∙ w.if-is_default.false in absurd cc in
+          subst (λ (stub : Option Stub). (c.greatest_given.result ≡ Some m) ↔ IsNetworkDueIn c.args.inputs.now c.args.area.now.id stub c.args.network m) (sym w.in-Some.is) (
+            λ is. inr (other, is_sent w.in-Some.stub.summaries w.if-not-stub.false, given.0 is),
+            λ due. elim due [ inl own ↦ absurd (other own.0) | inr told ↦ given.1 told.2 ],
+          )
+      | in_default w ↦ subst (λ (stub : Option Stub). (c.greatest_given.result ≡ Some m) ↔ IsNetworkDueIn c.args.inputs.now c.args.area.now.id stub c.args.network m) (sym w.in_default.is) given
+    ]

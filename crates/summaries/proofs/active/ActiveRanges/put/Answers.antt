@@ -1,23 +1,47 @@
--- One member is set, or taken out.
-use Rattle.std.proofs.Common.{Some, None, sym, ap, ◌∙◌}
+-- One network is set, or taken out.
+use Rattle.std.proofs.Common.{◌≡◌, ◌≢◌, Option, Some, None, refl, sym, ap, ◌∙◌}
+use Rattle.std.specs.BTreeMap.{Updates, is_at}
 use Rattle.std.specs.FinMap.{get}
+use Rattle.std.specs.Map.{lookup}
+use Rattle.std.proofs.lemmas.Result.{on_ok_weaker}
+use Rattle.ospf_types.specs.Network.{network_cmp}
 use Rattle.summaries.specs.Active.{ActiveValue}
-use Rattle.summaries.proofs.Members.{member_total, member_exact, updated_here, updated_elsewhere}
+use Rattle.summaries.specs.Grouped.{Networks, member_of, range_cmp}
+use Rattle.summaries.specs.declared.member.Member.{Member}
+use Rattle.summaries.proofs.Grouped.{cost_among, found, put_here, put_elsewhere}
+use Rattle.summaries.proofs.Lists.{nothing_there}
 use Rattle.summaries.proofs.active.ActiveRanges.put.Goals as goal
 
-pub returns-in_ok-insert-in-Some-clause-here : goal.returns-in_ok-insert-in-Some-clause-here
-returns-in_ok-insert-in-Some-clause-here c =
-    updated_here member_total member_exact c.self.inside.members.entries c.insert.new.self.entries c.args.member (Some c.in-Some.cost) c.in_ok-insert-in-Some.ensures.updates.0 ∙ sym c.in-Some.is
+pub put_first-requires : goal.put_first-requires
+put_first-requires c = record {
+  none = λ p.
+      let old = c.self.inside.ranges.entries in
+      let none : lookup (is_at (range_cmp c.args.range)) old ≡ None = nothing_there (lookup (is_at (range_cmp c.args.range)) old) (sym c.contains_key.ensures ∙ c.if-not-contains_key.true) in
+      ap (λ (v : ActiveValue). get v.members (member_of c.args.range p)) (sym c.self.view_is)
+      ∙ found old c.self.inside.spent (member_of c.args.range p) ∙ ap (λ (o : Option Networks). cost_among o p) none;
+}
 
-pub returns-in_ok-insert-in-Some-clause-others : goal.returns-in_ok-insert-in-Some-clause-others
-returns-in_ok-insert-in-Some-clause-others c = λ m other.
-    updated_elsewhere member_total member_exact c.self.inside.members.entries c.insert.new.self.entries c.args.member (Some c.in-Some.cost) c.in_ok-insert-in-Some.ensures.updates.0 m other
-    ∙ ap (λ (v : ActiveValue). get v.members m) c.self.view_is
+pub returns-clause-here : goal.returns-clause-here
+returns-clause-here c =
+    let es = c.self.inside.ranges.entries in
+    let spent = c.self.inside.spent in
+    let new = c.put_network.new.networks in
+    let fs = (c.get_mut.follows.lender new).entries in
+    let had = c.in-Some.networks.now in
+    let stood : Some had ≡ lookup (is_at (range_cmp c.args.range)) es = c.in-Some.ensures.value in
+    let outer = ((c.get_mut.follows.holds new).3 (rw (sym stood) refl)).0 in
+    on_ok_weaker c.put_network.result
+    (λ (inner : Updates network_cmp had new c.args.network c.args.cost). put_here es fs spent spent (member_of c.args.range c.args.network) c.args.cost (Some had) new (sym stood) outer inner.0) c.put_network.ensures
 
-pub returns-in-None-clause-here : goal.returns-in-None-clause-here
-returns-in-None-clause-here c =
-    updated_here member_total member_exact c.self.inside.members.entries c.remove.new.self.entries c.args.member None c.remove.ensures.updates.0 ∙ sym c.in-None.is
-
-pub returns-in-None-clause-others : goal.returns-in-None-clause-others
-returns-in-None-clause-others c = λ m other.
-    updated_elsewhere member_total member_exact c.self.inside.members.entries c.remove.new.self.entries c.args.member None c.remove.ensures.updates.0 m other ∙ ap (λ (v : ActiveValue). get v.members m) c.self.view_is
+pub returns-clause-others : goal.returns-clause-others
+returns-clause-others c =
+    let es = c.self.inside.ranges.entries in
+    let spent = c.self.inside.spent in
+    let new = c.put_network.new.networks in
+    let fs = (c.get_mut.follows.lender new).entries in
+    let had = c.in-Some.networks.now in
+    let member = member_of c.args.range c.args.network in
+    let stood : Some had ≡ lookup (is_at (range_cmp c.args.range)) es = c.in-Some.ensures.value in
+    let outer = ((c.get_mut.follows.holds new).3 (rw (sym stood) refl)).0 in
+    on_ok_weaker c.put_network.result
+    (λ (inner : Updates network_cmp had new c.args.network c.args.cost) (m : Member) (other : m ≢ member). put_elsewhere es fs spent spent member c.args.cost (Some had) new (sym stood) outer inner.0 m other ∙ ap (λ (v : ActiveValue). get v.members m) c.self.view_is) c.put_network.ensures

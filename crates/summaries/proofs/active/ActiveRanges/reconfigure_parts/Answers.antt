@@ -1,13 +1,13 @@
--- The members were taken in, or dropped.
-use Rattle.std.proofs.Common.{◌≡◌, List, map, sym, ap, subst, ◌∙◌, true, false}
-use Rattle.std.specs.Prelude.{◌↔◌, ℕ, Contains, IsTrue}
-use Rattle.summaries.specs.Active.{AreRangesOf, IsConfigured, IsMemberWithin}
-use Rattle.summaries.specs.Following.{AreTakenIn}
-use Rattle.summaries.specs.declared.member.Member.{Member}
+-- The range has members: they stay, or are dropped.
+use Rattle.std.proofs.Common.{◌≡◌, true, false, sym, subst, ◌∙◌}
+use Rattle.std.specs.Prelude.{IsTrue}
+use Rattle.summaries.specs.Active.{AreRangesOf, IsConfigured}
+use Rattle.summaries.proofs.Lists.{first_of}
 use Rattle.summaries.proofs.Reconfigured.{ranges_set, ranges_dropped}
-use Rattle.summaries.proofs.Taken.{members_exact, taken_followed, left_followed}
+use Rattle.summaries.proofs.Standing.{all_within, none_but, stood_followed}
+use Rattle.summaries.proofs.Taken.{gone_followed}
 use Rattle.summaries.proofs.active.ActiveRanges.reconfigure_parts.Goals as goal
-use Rattle.summaries.proofs.active.ActiveRanges.reconfigure_parts.Goals.{then-is_configured+in_ok-take_in, else-is_configured+in_ok-leave}
+use Rattle.summaries.proofs.active.ActiveRanges.reconfigure_parts.Goals.{then-not-is_configured, else-not-is_configured}
 
 pub returns-clause-kept : goal.returns-clause-kept
 returns-clause-kept c =
@@ -17,25 +17,23 @@ returns-clause-kept c =
     let range = c.args.named.1 in
     let entries = c.args.intra.now.entries in
     let old = c.args.self.now in
-    let costs = c.in_ok-costs.costs.items in
-    let members = map (λ (x : Member × ℕ). x.0) costs in
-    let exact = members_exact entries area range costs c.in_ok-costs.ensures in
-    elim c.if-is_configured.branch [
-      | then-is_configured+in_ok-take_in w ↦
-          let new = w.take_in.new.self in
-          let taken = subst (λ (xs : List (Member × ℕ)). AreTakenIn xs old new) w.as_slice.ensures.value w.in_ok-take_in.ensures in
-          subst (AreRangesOf areas entries) (sym w.self-is) (ranges_set b.0 areas area range b.2 entries old new b.1 members exact (c.is_configured.ensures.0 w.if-is_configured.true) (taken_followed entries area range costs c.in_ok-costs.ensures old new taken))
-      | else-is_configured+in_ok-leave w ↦
+    let had = c.in_ok-had.had in
+    let first = first_of had (sym c.is_empty.ensures ∙ c.if-is_empty.false) in
+    let all = all_within b.0 entries old area range b.1 had.items c.in_ok-had.ensures first.0 first.1 in
+    elim c.if-not-is_configured.branch [
+      | then-not-is_configured w ↦
           let new = w.leave.new.self in
-          let absent : IsConfigured areas area range → ⊥ = λ configured. let wrong : IsTrue c.is_configured.result = c.is_configured.ensures.1 configured in let e : true ≡ false = sym wrong ∙ w.if-is_configured.false in cc in
-          subst (AreRangesOf areas entries) (sym w.self-is)
-          (ranges_dropped b.0 areas area range b.2 entries old new b.1 members exact absent (left_followed entries area range costs c.in_ok-costs.ensures old new b.0 b.1 w.in_ok-leave.ensures))
+          let absent : IsConfigured areas area range → ⊥ = λ configured. let wrong : IsTrue c.is_configured.result = c.is_configured.ensures.1 configured in let e : true ≡ false = sym wrong ∙ w.if-not-is_configured.true in cc in
+          let followed = gone_followed area range old new had.items w.leave.ensures (λ m c. let is = (all m).0 c in (is.1, is.0)) (none_but old area range had.items c.in_ok-had.ensures) in
+          subst (AreRangesOf areas entries) (sym w.self-is) (ranges_dropped b.0 areas area range b.2 entries old new b.1 had.items all absent followed)
+      | else-not-is_configured w ↦
+          let configured = c.is_configured.ensures.0 w.if-not-is_configured.false in
+          subst (AreRangesOf areas entries) (sym w.self-is) (ranges_set b.0 areas area range b.2 entries old old b.1 had.items all configured (stood_followed b.0 entries old area range b.1 had.items c.in_ok-had.ensures first.0 first.1))
     ]
 
 pub returns-clause-exact : goal.returns-clause-exact
-returns-clause-exact c = λ m.
-    let entries = c.args.intra.now.entries in
-    let area = c.args.named.0 in
-    let range = c.args.named.1 in
-    let is = c.in_ok-members.ensures ∙ ap (λ (xs : List (Member × ℕ)). map (λ (x : Member × ℕ). x.0) xs) c.as_slice-2.ensures.value in
-    subst (λ (ms : List Member). Contains ms m ↔ IsMemberWithin entries area range m) (sym is) (members_exact entries area range c.in_ok-costs.costs.items c.in_ok-costs.ensures m)
+returns-clause-exact c =
+    let b = c.requires.before in
+    let had = c.in_ok-had.had in
+    let first = first_of had (sym c.is_empty.ensures ∙ c.if-is_empty.false) in
+    all_within b.0 c.args.intra.now.entries c.args.self.now c.args.named.0 c.args.named.1 b.1 had.items c.in_ok-had.ensures first.0 first.1

@@ -1,11 +1,12 @@
-use Rattle.std.proofs.Common.{ap, subst, ◌∙◌}
+use Rattle.std.proofs.Common.{ap, refl, subst, ◌∙◌}
 use Rattle.vertex_graph.specs.Graphs.{GraphValue, AreExact}
 use Rattle.vertex_graph.specs.Rows.{graph_of}
-use Rattle.vertex_graph.proofs.Outcomes.{rows_in_order, unstaged_in_order, ups_rows, ups_map, ups_exact}
+use Rattle.vertex_graph.proofs.Changed.{rows_right}
+use Rattle.vertex_graph.proofs.Outcomes.{unstaged_in_order, ups_rows, ups_map, ups_exact}
 use Rattle.vertex_graph.proofs.graph.Graph.interfaces.Goals as goal
 
 pub change-requires-clause-before : goal.change-requires-clause-before
-change-requires-clause-before c = rows_in_order c.self.inside.root c.self.inside.rows.entries c.self.inside.interfaces.items c.self.invariant
+change-requires-clause-before c = let i = c.self.inside in (i.root, i.interfaces.items, rows_right i.root i.rows.entries i.interfaces.items c.self.invariant)
 
 pub change-requires-clause-after : goal.change-requires-clause-after
 change-requires-clause-after c = unstaged_in_order c.self.inside.root c.self.inside.rows.entries c.self.inside.interfaces.items c.in_ok-staging.staging.ends.entries c.self.invariant c.in_ok-staging.ensures.ends
@@ -14,15 +15,15 @@ pub invariant_of-self-2 : goal.invariant_of-self-2
 invariant_of-self-2 c =
     let i = c.self.inside in
     let staging = c.in_ok-staging in
-    ups_rows i.root i.rows.entries c.change.new.rows.entries i.interfaces.items c.in_ok-ups.ups.items c.deref.result.now c.deref-2.result.now staging.staging.ends.entries staging.staging.touched.keys
-    c.self.invariant c.deref.ensures.value c.deref-2.ensures.value staging.ensures.ends staging.ensures.root staging.ensures.neighbours c.in_ok-changes.ensures.changed
+    ups_rows i.root i.rows.entries c.change.new.rows.entries i.interfaces.items c.in_ok-ups.ups.items i.interfaces.items c.deref.result.now staging.staging.ends.entries staging.staging.touched.keys
+    c.self.invariant refl c.deref.ensures.value staging.ensures.ends staging.ensures.root staging.ensures.neighbours c.in_ok-changes.ensures.changed
 
 pub returns-clause-ends : goal.returns-clause-ends
 returns-clause-ends c =
     let i = c.self.inside in
     let staging = c.in_ok-staging in
-    ups_map i.root i.rows.entries c.change.new.rows.entries i.interfaces.items c.in_ok-ups.ups.items c.deref.result.now c.deref-2.result.now staging.staging.ends.entries staging.staging.touched.keys
-    c.self.invariant c.deref.ensures.value c.deref-2.ensures.value staging.ensures.ends staging.ensures.root staging.ensures.neighbours c.in_ok-changes.ensures.changed
+    ups_map i.root i.rows.entries c.change.new.rows.entries i.interfaces.items c.in_ok-ups.ups.items i.interfaces.items c.deref.result.now staging.staging.ends.entries staging.staging.touched.keys
+    c.self.invariant refl c.deref.ensures.value staging.ensures.ends staging.ensures.root staging.ensures.neighbours c.in_ok-changes.ensures.changed
     ∙ ap (λ (g : GraphValue). g.ends) c.self.view_is
 
 pub returns-clause-exact : goal.returns-clause-exact
@@ -31,7 +32,8 @@ returns-clause-exact c =
     let staging = c.in_ok-staging in
     let gone = c.in_ok-changes.changes.gone.items in
     let came = c.in_ok-changes.changes.came.items in
+    let right = rows_right i.root i.rows.entries i.interfaces.items c.self.invariant in
     subst (λ (g : GraphValue). AreExact g (graph_of i.root c.change.new.rows.entries c.in_ok-ups.ups.items) gone came) c.self.view_is
-    (ups_exact i.root i.rows.entries c.change.new.rows.entries i.interfaces.items c.in_ok-ups.ups.items c.deref.result.now c.deref-2.result.now staging.staging.ends.entries staging.staging.touched.keys
-    c.self.invariant c.deref.ensures.value c.deref-2.ensures.value staging.ensures.ends staging.ensures.root staging.ensures.neighbours c.in_ok-changes.ensures.changed
-    gone came c.in_ok-changes.ensures.gone c.in_ok-changes.ensures.came c.in_ok-changes.ensures.gone_once c.in_ok-changes.ensures.came_once)
+    (ups_exact i.root i.rows.entries c.change.new.rows.entries i.interfaces.items c.in_ok-ups.ups.items i.interfaces.items c.deref.result.now staging.staging.ends.entries staging.staging.touched.keys
+    c.self.invariant refl c.deref.ensures.value staging.ensures.ends staging.ensures.root staging.ensures.neighbours c.in_ok-changes.ensures.changed
+    gone came (c.in_ok-changes.ensures.gone i.root i.interfaces.items right) (c.in_ok-changes.ensures.came i.root i.interfaces.items right) c.in_ok-changes.ensures.gone_once c.in_ok-changes.ensures.came_once)

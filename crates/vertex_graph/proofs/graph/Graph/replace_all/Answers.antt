@@ -1,11 +1,14 @@
-use Rattle.std.proofs.Common.{sym, subst}
+use Rattle.std.proofs.Common.{List, sym, subst}
 use Rattle.vertex_graph.specs.Graphs.{GraphValue, handed_of, AreFewAfter, IsReplaced, AreExact}
 use Rattle.vertex_graph.specs.Rows.{graph_of}
-use Rattle.vertex_graph.proofs.Outcomes.{rows_in_order, staged_in_order, ends_rows, ends_replaced, ends_exact}
+use Rattle.graph_links.specs.declared.link.Up.{Up}
+use Rattle.graph_links.specs.Sides.{AreRowsBy}
+use Rattle.vertex_graph.proofs.Changed.{rows_right}
+use Rattle.vertex_graph.proofs.Outcomes.{staged_in_order, ends_rows, ends_replaced, ends_exact}
 use Rattle.vertex_graph.proofs.graph.Graph.replace_all.Goals as goal
 
 pub change-requires-clause-before : goal.change-requires-clause-before
-change-requires-clause-before c = rows_in_order c.self.inside.root c.self.inside.rows.entries c.self.inside.interfaces.items c.self.invariant
+change-requires-clause-before c = let i = c.self.inside in (i.root, i.interfaces.items, rows_right i.root i.rows.entries i.interfaces.items c.self.invariant)
 
 pub change-requires-clause-after : goal.change-requires-clause-after
 change-requires-clause-after c =
@@ -35,7 +38,8 @@ returns-clause-exact c =
     let handed = handed_of c.args.lsas.now in
     let gone = c.in_ok-changes.changes.gone.items in
     let came = c.in_ok-changes.changes.came.items in
+    let right = subst (λ (ups : List Up). AreRowsBy i.root ups i.rows.entries) (sym c.deref.ensures.value) (rows_right i.root i.rows.entries i.interfaces.items c.self.invariant) in
     subst (λ (g : GraphValue). AreExact g (graph_of i.root c.change.new.rows.entries i.interfaces.items) gone came) c.self.view_is
     (ends_exact i.root i.rows.entries c.change.new.rows.entries i.interfaces.items c.deref.result.now staging.staging.ends.entries staging.staging.touched.keys handed
     c.self.invariant c.deref.ensures.value staging.ensures.handed staging.ensures.touched c.in_ok-changes.ensures.changed (subst (λ (g : GraphValue). AreFewAfter g handed) (sym c.self.view_is) c.requires.few)
-    gone came c.in_ok-changes.ensures.gone c.in_ok-changes.ensures.came c.in_ok-changes.ensures.gone_once c.in_ok-changes.ensures.came_once)
+    gone came (c.in_ok-changes.ensures.gone i.root c.deref.result.now right) (c.in_ok-changes.ensures.came i.root c.deref.result.now right) c.in_ok-changes.ensures.gone_once c.in_ok-changes.ensures.came_once)

@@ -1,0 +1,15 @@
+-- So far the links of the rows up to here.
+use Rattle.std.proofs.Common.{map, take}
+use Rattle.graph_links.specs.declared.fresh.Fresh.{Fresh}
+use Rattle.graph_links.specs.Pairs.{AreApart}
+use Rattle.graph_links.specs.Sides.{AreOfFresh, IsBrought, IsTaken}
+use Rattle.graph_links.proofs.Apart.{Apart}
+use Rattle.graph_links.proofs.changes.changed_links.Given as goal
+
+abbrev pub invariant-loop-one : goal.invariant-loop-one
+invariant-loop-one l = record {
+  gone : AreOfFresh (IsTaken l.rows.entries) (take l.one-index l.fresh) l.gone.items;
+  came : AreOfFresh (IsBrought l.rows.entries) (take l.one-index l.fresh) l.came.items;
+  gone_once : Apart (map (λ (f : Fresh). f.vertex) l.fresh) → AreApart l.gone.items;
+  came_once : Apart (map (λ (f : Fresh). f.vertex) l.fresh) → AreApart l.came.items;
+}

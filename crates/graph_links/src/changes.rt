@@ -1,0 +1,215 @@
+//! The links that a change takes and brings, by the rows of vertices before it and after it.
+ghost use Rattle.std.specs.Prelude.{◌≡◌, ◌≢◌, ◌↔◌, ◌⊎◌, ◌≤◌, ◌<◌, ◌++◌, ◌∷◌, [], length, take, IsTrue, IfOk, OnOk, Contains, option_copied, map as list_map};
+ghost use Rattle.std.specs.List.{AllPairs};
+ghost use Rattle.std.specs.List.Sorted.{IsPartitionPoint};
+ghost use Rattle.graph_links.specs.Pairs.{AreApart};
+ghost use Rattle.graph_links.specs.Sides.{AreOfFresh, AreOwn, IsBrought, IsByCost, IsTaken, out_of};
+ghost use Rattle.graph_links.specs.declared.link.Link.{Link as LinkValue};
+
+use crate::fresh::Fresh;
+use crate::link::{Link, LinkChanges};
+use crate::row::{Row, Rows};
+use ospf_types::label::Label;
+use ospf_types::listed::Listed;
+use ospf_types::memory::Memory;
+use std::alloc::Global;
+
+/// The links out of the vertices of the fresh rows that they had before and have no longer, and those that they have now and had
+/// not, each once.
+pub fn changed_links(alloc: Global, rows: &Rows, fresh: &[Fresh]) -> Result<LinkChanges, Memory>
+    requires { AreOwn rows.now.entries fresh.now }
+    ensures gone { IfOk result (λ changes. AreOfFresh (IsTaken rows.now.entries) fresh.now changes.gone.items) }
+    ensures came { IfOk result (λ changes. AreOfFresh (IsBrought rows.now.entries) fresh.now changes.came.items) }
+    ensures gone_once { AllPairs (λ v w. v ≢ w) (list_map (λ f. f.vertex) fresh.now) → IfOk result (λ changes. AreApart changes.gone.items) }
+    ensures came_once { AllPairs (λ v w. v ≢ w) (list_map (λ f. f.vertex) fresh.now) → IfOk result (λ changes. AreApart changes.came.items) }
+{
+    let mut gone = Vec::new(alloc);
+    let mut came = Vec::new(alloc);
+    for one in fresh {
+        let before = out_links(rows.get(&one.vertex));
+        let after = out_links(one.row.as_ref());
+        push_changes(alloc, before, after, &mut gone, &mut came)?;
+    }
+    Ok(LinkChanges { gone, came })
+}
+
+// Adds the links that are before alone to those that went, and those that are after alone to those that came.
+fn push_changes(
+    alloc: Global,
+    before: &[Link],
+    after: &[Link],
+    gone: &mut Vec<Link>,
+    came: &mut Vec<Link>,
+) -> Result<(), Memory>
+    requires before { AreApart before.now }
+    requires after { AreApart after.now }
+    ensures gone { OnOk result ((l : LinkValue) → Contains gone.new.items l ↔ (Contains gone.old.items l ⊎ (Contains before.now l × (Contains after.now l → ⊥)))) }
+    ensures came { OnOk result ((l : LinkValue) → Contains came.new.items l ↔ (Contains came.old.items l ⊎ (Contains after.now l × (Contains before.now l → ⊥)))) }
+    ensures gone_once { OnOk result (AreApart (gone.old.items ++ before.now) → AreApart gone.new.items) }
+    ensures came_once { OnOk result (AreApart (came.old.items ++ after.now) → AreApart came.new.items) }
+{
+    let same = same_front(before, after);
+    let (before, after) = (&before[same..], &after[same..]);
+    push_missing(alloc, before, after, gone)?;
+    push_missing(alloc, after, before, came)?;
+    Ok(())
+}
+
+// The links out of a vertex by its row; none where it has no row.
+fn out_links(row: Option<&Row>) -> &[Link]
+    ensures { result.now ≡ out_of (option_copied row.entry) }
+{
+    match row {
+        Some(row) => row.out.as_slice(),
+        None => &[],
+    }
+}
+
+// How many links at the front are the same in both.
+fn same_front(one: &[Link], other: &[Link]) -> usize
+    ensures within_one { result ≤ length one.now }
+    ensures within_other { result ≤ length other.now }
+    ensures same { take result one.now ≡ take result other.now }
+{
+    for (place, link) in one.iter().enumerate() {
+        match other.get(place) {
+            Some(same) if is_same(link, same) => {}
+            _ => return place,
+        }
+    }
+    one.len()
+}
+
+// Adds copies of the links that are not among others.
+fn push_missing(
+    alloc: Global,
+    has: &[Link],
+    others: &[Link],
+    links: &mut Vec<Link>,
+) -> Result<(), Memory>
+    ensures missing { OnOk result ((l : LinkValue) → Contains links.new.items l ↔ (Contains links.old.items l ⊎ (Contains has.now l × (Contains others.now l → ⊥)))) }
+    ensures apart { OnOk result (AreApart (links.old.items ++ has.now) → AreApart links.new.items) }
+{
+    if has.is_empty() {
+        return Ok(());
+    }
+    let others = by_cost(copies(alloc, others)?);
+    push_unlike(copies(alloc, has)?, others.as_slice(), links)
+}
+
+fn copies(alloc: Global, links: &[Link]) -> Result<Vec<Link>, Memory>
+    ensures { IfOk result (λ made. made.items ≡ links.now) }
+{
+    let mut made = Vec::with_capacity(alloc, links.len())?;
+    for link in links {
+        made.push(copy(alloc, link)?)?;
+    }
+    Ok(made)
+}
+
+fn copy(alloc: Global, link: &Link) -> Result<Link, Memory>
+    ensures { IfOk result (λ made. made ≡ link.now) }
+{
+    let label = match &link.label {
+        Label::Over(interface) => Label::Over(*interface),
+        Label::At(addresses) => Label::At(Listed::from_slice(alloc, addresses.as_slice())?),
+        Label::Plain => Label::Plain,
+    };
+    Ok(Link {
+        from: link.from,
+        to: link.to,
+        cost: link.cost,
+        label,
+    })
+}
+
+// The links in ascending cost: there may be thousands between two routers.
+fn by_cost(links: Vec<Link>) -> Vec<Link>
+    ensures same { (l : LinkValue) → Contains result.items l ↔ Contains links.items l }
+    ensures ascending { IsByCost result.items }
+{
+    let mut links = links;
+    links.sort_unstable_by_key(|link| link.cost);
+    links
+}
+
+// Adds the links that are not among others.
+fn push_unlike(has: Vec<Link>, others: &[Link], links: &mut Vec<Link>) -> Result<(), Memory>
+    requires { IsByCost others.now }
+    ensures unlike { OnOk result ((l : LinkValue) → Contains links.new.items l ↔ (Contains links.old.items l ⊎ (Contains has.items l × (Contains others.now l → ⊥)))) }
+    ensures apart { OnOk result (AreApart (links.old.items ++ has.items) → AreApart links.new.items) }
+{
+    for link in has {
+        push_unless(link, others, links)?;
+    }
+    Ok(())
+}
+
+// Adds the link, unless it is among others.
+fn push_unless(link: Link, others: &[Link], links: &mut Vec<Link>) -> Result<(), Memory>
+    requires { IsByCost others.now }
+    ensures unlike { OnOk result ((l : LinkValue) → Contains links.new.items l ↔ (Contains links.old.items l ⊎ ((l ≡ link) × (Contains others.now l → ⊥)))) }
+    ensures once { OnOk result ((links.new.items ≡ links.old.items) ⊎ (links.new.items ≡ links.old.items ++ link ∷ [])) }
+{
+    if is_among(&link, others) {
+        return Ok(());
+    }
+    links.push(link)?;
+    Ok(())
+}
+
+// Whether the link is among others, which are in ascending cost.
+fn is_among(link: &Link, others: &[Link]) -> bool
+    requires { IsByCost others.now }
+    ensures { IsTrue result ↔ Contains others.now link.now }
+{
+    let first = first_at_cost(others, link.cost);
+    is_among_first(link, &others[first..])
+}
+
+// How many links are cheaper.
+fn first_at_cost(links: &[Link], cost: u16) -> usize
+    requires { IsByCost links.now }
+    ensures within { result ≤ length links.now }
+    ensures split { IsPartitionPoint (λ (l : LinkValue). l.cost < cost) (λ (l : LinkValue). cost ≤ l.cost) links.now result }
+{
+    links.partition_point(|link| link.cost < cost)
+}
+
+// Whether the link is among others, which are in ascending cost. What is dearer is not looked at.
+fn is_among_first(link: &Link, others: &[Link]) -> bool
+    requires { IsByCost others.now }
+    ensures { IsTrue result ↔ Contains others.now link.now }
+{
+    for other in others {
+        if link.cost < other.cost {
+            return false;
+        }
+        if is_same(link, other) {
+            return true;
+        }
+    }
+    false
+}
+
+// Whether two links are the same.
+fn is_same(one: &Link, other: &Link) -> bool
+    ensures { IsTrue result ↔ (one.now ≡ other.now) }
+{
+    one.from == other.from
+        && one.to == other.to
+        && one.cost == other.cost
+        && is_same_label(&one.label, &other.label)
+}
+
+// Whether two labels are the same.
+fn is_same_label(one: &Label, other: &Label) -> bool
+    ensures { IsTrue result ↔ (one.now ≡ other.now) }
+{
+    match (one, other) {
+        (Label::Over(a), Label::Over(b)) => a == b,
+        (Label::At(a), Label::At(b)) => a.as_slice() == b.as_slice(),
+        (Label::Plain, Label::Plain) => true,
+        _ => false,
+    }
+}
