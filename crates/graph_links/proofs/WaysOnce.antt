@@ -1,17 +1,15 @@
 -- The ways of a router, sorted, of which each is kept once, and the links by them.
-use Rattle.std.proofs.Common.{◌≡◌, ℕ, ◌+◌, ◌<◌, ◌≤◌, ◌∷◌, length, get_or, take, append_assoc, Bool, List, [], ◌++◌, map, Option, Some, None, Ordering, refl, sym, ap, subst, ◌∙◌}
+use Rattle.std.proofs.Common.{◌≡◌, ℕ, ◌+◌, ◌<◌, ◌≤◌, ◌∷◌, length, get_or, take, append-nil, append_assoc, arith, Bool, List, [], ◌++◌, map, Option, Some, None, Ordering, refl, sym, ap, subst, ◌∙◌}
 use Rattle.std.specs.Prelude.{◌↔◌, ◌==◌, Contains}
-use Rattle.std.specs.List.{dedup}
-use Rattle.std.specs.List.Retain.{IsFiltered, DiffersFromLast}
+use Rattle.std.specs.List.{dedup, refill}
 use Rattle.std.specs.List.Sorted.{IsSorted, IsStrictlySortedBy, IsPermutation}
 use Rattle.std.specs.Option.{option_cmp, option_eq}
 use Rattle.std.specs.Ordering.{nat_cmp, is_eq, ordering_then, eq_by_cmp}
 use Rattle.std.specs.Cmp.{IsTotalOrder, nat_cmp_total, both_tied, unsigned_ties, eq_by_cmp_equiv}
 use Rattle.std.specs.Cmp.Lexicographic.{options_total}
 use Rattle.std.proofs.lemmas.Cmp.{on_total, then_total}
-use Rattle.std.proofs.lemmas.List.{take_more, take_all, map-append}
+use Rattle.std.proofs.lemmas.List.{drop_all, take_more, take_all, map-append}
 use Rattle.std.proofs.lemmas.List.Elements.{All-push}
-use Rattle.std.proofs.lemmas.List.Filters.{dedup_is}
 use Rattle.std.proofs.lemmas.List.Kept.{IsStrictlySortedBy-dedup, Contains-dedup, Contains-from_dedup}
 use Rattle.std.proofs.lemmas.List.Sorted.{Contains-permutation, IsPermutation-sym}
 use Rattle.std.proofs.lemmas.Map.Lookups.{CmpEqualImpliesEq, exact_pairs, exact_unsigned}
@@ -68,9 +66,14 @@ way_tied a b =
 way_tied_is : (way_equality.eq-value).it ≡ eq_by_cmp way_cmp
 way_tied_is i a b = way_tied a b i
 
-module _ (all sorted kept : List Way) (moved : IsPermutation all sorted) (in_order : IsSorted way_order.ghosts.cmp sorted) (filtered : IsFiltered (DiffersFromLast (way_equality.eq-value).it) [] sorted kept) where
+-- a list that was sorted in its place
+pub in_place : {X : Type 0} (xs ws : List X) → length ws ≡ length xs → refill (length xs) xs ws ≡ ws
+in_place xs ws long =
+    ap (λ ys. take (length xs) (ws ++ ys)) (drop_all (length ws) xs (omega (arith, long))) ∙ ap (take (length xs)) (append-nil ws) ∙ take_all (length xs) ws (omega (arith, long))
+
+module _ (all sorted kept : List Way) (moved : IsPermutation all sorted) (in_order : IsSorted way_order.ghosts.cmp sorted) (each_once : kept ≡ dedup (way_equality.eq-value).it sorted) where
   kept_is : kept ≡ dedup (eq_by_cmp way_cmp) sorted
-  kept_is = dedup_is (way_equality.eq-value).it sorted kept filtered ∙ ap (λ (same : Way → Way → Bool). dedup same sorted) way_tied_is
+  kept_is = each_once ∙ ap (λ (same : Way → Way → Bool). dedup same sorted) way_tied_is
 
   -- each is kept once
   pub ways_once : Apart kept

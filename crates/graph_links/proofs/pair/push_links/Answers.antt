@@ -14,7 +14,7 @@ returns-in_ok-ways-in-Router-clause-pushed c =
     let ways = c.in_ok-ways-in-Router.ways.items in
     on_ok_weaker c.push_ways.result
     (λ pushed. adds_ways a.local.root c.in-Router.router a.local.interfaces.now a.to.vertex a.from.ends.now a.to.ends.now c.ends_at.result.now ways c.ends_at.ensures.exact c.in_ok-ways-in-Router.ensures.exact
-    a.from.vertex a.links.now.items c.push_ways.new.links.items c.in-Router.is (subst (λ (ws : List Way). c.push_ways.new.links.items ≡ a.links.now.items ++ map (link_by c.in-Router.router a.to.vertex) ws) c.as_slice.ensures.value pushed) named) c.push_ways.ensures.pushed
+    a.from.vertex a.links.now.items c.push_ways.new.links.items c.in-Router.is (subst (λ (ws : List Way). c.push_ways.new.links.items ≡ a.links.now.items ++ map (link_by c.in-Router.router a.to.vertex) ws) c.as_slice.ensures pushed) named) c.push_ways.ensures.pushed
 
 pub returns-in_ok-ways-in-Router-clause-apart : goal.returns-in_ok-ways-in-Router-clause-apart
 returns-in_ok-ways-in-Router-clause-apart c =
@@ -22,7 +22,7 @@ returns-in_ok-ways-in-Router-clause-apart c =
     let ways = c.in_ok-ways-in-Router.ways.items in
     on_ok_weaker c.push_ways.result
     (λ pushed. apart_ways a.local.root c.in-Router.router a.local.interfaces.now a.to.vertex a.from.ends.now a.to.ends.now c.ends_at.result.now ways c.ends_at.ensures.exact c.in_ok-ways-in-Router.ensures.exact
-    a.from.vertex a.links.now.items c.push_ways.new.links.items c.in-Router.is (subst (λ (ws : List Way). c.push_ways.new.links.items ≡ a.links.now.items ++ map (link_by c.in-Router.router a.to.vertex) ws) c.as_slice.ensures.value pushed) c.in_ok-ways-in-Router.ensures.each_once) c.push_ways.ensures.pushed
+    a.from.vertex a.links.now.items c.push_ways.new.links.items c.in-Router.is (subst (λ (ws : List Way). c.push_ways.new.links.items ≡ a.links.now.items ++ map (link_by c.in-Router.router a.to.vertex) ws) c.as_slice.ensures pushed) c.in_ok-ways-in-Router.ensures.each_once) c.push_ways.ensures.pushed
 
 pub returns-else-not-names-2-clause-pushed : goal.returns-else-not-names-2-clause-pushed
 returns-else-not-names-2-clause-pushed c =
