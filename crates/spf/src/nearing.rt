@@ -29,37 +29,32 @@ pub(crate) fn near(
     came: &[Link],
     losses: &mut Losses,
     distances: &mut Distances,
+    queue: &mut Queue,
     touched: &mut Touched,
 ) -> Result<Members, Memory>
     requires started { AreStarted (LinksOf graph.now) (Among came.now) graph.now.root (HasRoot graph.now) (map.get distances.old) losses.old.lost }
     requires links { (l : LinkValue) → Contains came.now l → LinksOf graph.now l.from l.to l.cost l.label }
+    requires none_wait { queue.old ≡ map.empty }
     requires fits { touched.old.taken ≡ 0 }
     ensures neared { IfOk result (λ moved. AreNeared graph.now came.now (map.get distances.old) (map.get distances.new) losses.old.lost losses.old.stale losses.new.stale moved) }
     ensures lost { OnOk result (losses.new.lost ≡ losses.old.lost) }
+    ensures none_wait { OnOk result (queue.new ≡ map.empty) }
     ensures counted { IfOk result (λ moved. touched.new ≡ record { taken = length moved; hop_sets = touched.old.hop_sets }) }
     ensures small { OnOk result (touched.new.taken < 2 ^ 63) }
 {
     let root = graph.root();
     reset(graph, losses.lost.as_slice(), distances)?;
-    let mut queue = Queue::new(alloc, hashing);
     offer_into(
         graph,
         losses.lost.as_slice(),
         distances,
-        &mut queue,
+        queue,
         &mut losses.stale,
     )?;
-    offer_reached(root, came, distances, &mut queue, &mut losses.stale)?;
+    offer_reached(root, came, distances, queue, &mut losses.stale)?;
     let mut moved = Members::new(alloc, hashing);
-    while let Some((vertex, distance)) = touched.take(&mut queue) {
-        reach(
-            graph,
-            vertex,
-            distance,
-            distances,
-            &mut queue,
-            &mut losses.stale,
-        )?;
+    while let Some((vertex, distance)) = touched.take(queue) {
+        reach(graph, vertex, distance, distances, queue, &mut losses.stale)?;
         moved.add(vertex)?;
         prove!(moved.len() < usize::MAX);
     }
