@@ -137,12 +137,12 @@ module _ (root router : ℕ) (ups : List Up) (to : Vertex) (ends back here : Lis
         subst (λ (v : Vertex). Names back v → (l : Link) → Contains (map (link_by router to) ways) l ↔ IsFromTo root ups v ends to back l) (sym is) by_ways named in
         subst (λ (ls : List Link). Adds old ls (IsFromTo root ups from ends to back)) (sym pushed) (adds_list old (map (link_by router to) ways) (IsFromTo root ups from ends to back) links)
 
-    -- none of which is there twice
-    pub apart_ways : Apart ways → KeepsApart from to old new
-    apart_ways once apart none =
-        subst AreApart (sym pushed)
-        (apart_append old (map (link_by router to) ways) apart (apart_mapped (link_by router to) (link_one router to) ways once)
-        (λ l early late. let by = mapped_from (link_by router to) ways l late in none l early (sym (ap (λ (k : Link). k.from) by.2) ∙ sym is) (sym (ap (λ (k : Link). k.to) by.2))))
+-- none of which is there twice
+pub apart_ways : (router : ℕ) (from to : Vertex) (ways : List Way) (old new : List Link) → from ≡ Router router → new ≡ old ++ map (link_by router to) ways → Apart ways → KeepsApart from to old new
+apart_ways router from to ways old new is pushed once apart none =
+    subst AreApart (sym pushed)
+    (apart_append old (map (link_by router to) ways) apart (apart_mapped (link_by router to) (link_one router to) ways once)
+    (λ l early late. let by = mapped_from (link_by router to) ways l late in none l early (sym (ap (λ (k : Link). k.from) by.2) ∙ sym is) (sym (ap (λ (k : Link). k.to) by.2))))
 
 -- the loop over ways, one on
 pub links_on : (router : ℕ) (to : Vertex) (ways : List Way) (i : ℕ) (d : Way) (old now new : List Link) (l : Link) → i < length ways

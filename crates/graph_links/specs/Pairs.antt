@@ -1,7 +1,7 @@
 -- The links from one vertex to another, by what the two lead to.
 use Rattle.std.specs.Prelude.{◌↔◌, ◌⊎◌, ℕ, ◌≡◌, ◌≢◌, ◌<◌, ◌==◌, Bool, false, List, Option, Some, None, Contains}
 use Rattle.std.specs.List.{All, AllPairs}
-use Rattle.std.specs.List.Sorted.{IsStrictlyIncreasing}
+use Rattle.std.specs.List.Sorted.{IsStrictlyIncreasing, IsStrictlySortedBy}
 use Rattle.ospf_types.specs.declared.entry.Vertex.{Vertex}
 use Rattle.ospf_types.specs.declared.entry.Vertex.TheVariants.{Router, Network}
 use Rattle.ospf_types.specs.declared.label.Label.{Label}
@@ -11,10 +11,17 @@ use Rattle.graph_links.specs.declared.link.Up.{Up}
 use Rattle.graph_links.specs.declared.end.End.{End}
 use Rattle.graph_links.specs.declared.pair.Local.{Local}
 use Rattle.graph_links.specs.declared.ways.Way.{Way}
+use Rattle.graph_links.specs.EndOrder.{end_cmp}
 
 -- one of the ends is at the vertex
 abbrev pub Names : List End → Vertex → Type 0
 Names ends v = (e : End) × Contains ends e × (e.to ≡ v)
+
+-- all the ends of a list that are at the vertex, of which there is one at least
+pub record AreAllAt (v : Vertex) (all : List End) (ends : List End) : Type 0 where
+  pub in_order : IsStrictlySortedBy end_cmp ends
+  pub exact : (e : End) → Contains ends e ↔ (Contains all e × (e.to ≡ v))
+  pub some : Names ends v
 
 -- the two lists have the same ends at the vertex
 abbrev pub AreAlikeAt : Vertex → List End → List End → Type 0
