@@ -1,5 +1,5 @@
 -- The links from one vertex to another, by what the two lead to.
-use Rattle.std.specs.Prelude.{◌↔◌, ◌⊎◌, ℕ, ◌≡◌, ◌≢◌, ◌<◌, ◌==◌, Bool, false, List, Option, Some, None, Contains}
+use Rattle.std.specs.Prelude.{◌↔◌, ◌⊎◌, ℕ, ◌≡◌, ◌≢◌, ◌<◌, ◌==◌, if◌then◌else◌, Bool, false, List, [], ◌∷◌, ◌++◌, map, Option, Some, None, Contains}
 use Rattle.std.specs.List.{All, AllPairs}
 use Rattle.std.specs.List.Sorted.{IsStrictlyIncreasing, IsStrictlySortedBy}
 use Rattle.ospf_types.specs.declared.entry.Vertex.{Vertex}
@@ -54,6 +54,17 @@ IsWay root ups router e way = (e.metric ≡ way.cost) × (0 < way.cost) × IsOut
 -- a way over one of some ends
 abbrev pub IsWayOver : ℕ → List Up → ℕ → List End → Way → Type 0
 IsWayOver root ups router ends way = (e : End) × Contains ends e × IsWay root ups router e way
+
+-- a link by each way of a router over these ends is added, behind those that there were
+pub record AddsOver (root : ℕ) (ups : List Up) (router : ℕ) (ends : List End) (to : Vertex) (old new : List Link) : Type 0 where
+  pub ways : List Way
+  pub exact : (w : Way) → Contains ways w ↔ IsWayOver root ups router ends w
+  pub each_once : AllPairs (λ v w. v ≢ w) ways
+  pub added : new ≡ old ++ map (link_by router to) ways
+
+-- the way of a router other than the root over one of its ends, if the metric is not 0
+abbrev pub plain_ways : End → List Way
+plain_ways e = if e.metric == 0 then [] else record { cost = e.metric; interface = None } ∷ []
 
 -- the link of a network to a vertex that leads to these ends, whether the network leads back or not
 abbrev pub IsOnto : ℕ → Vertex → List End → Link → Type 0

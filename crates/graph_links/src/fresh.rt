@@ -28,7 +28,7 @@ pub fn fresh_rows(alloc: Global, side: Side<'_>, vertices: &[Vertex]) -> Result<
     requires { IsInOrder (ends_in side) }
     ensures { IfOk result (λ fresh. AreFresh (ends_in side.entry) (LinksIn side.entry) vertices.now fresh.items) }
 {
-    let mut fresh = Vec::new(alloc);
+    let mut fresh = Vec::with_capacity(alloc, vertices.len())?;
     for vertex in vertices {
         let row = fresh_row(alloc, side, *vertex)?;
         fresh.push(Fresh {

@@ -1,7 +1,7 @@
 //! The links from one vertex to another.
 ghost use Rattle.std.specs.Prelude.{◌≡◌, ◌<◌, ◌++◌, ◌∷◌, [], if◌then◌else◌, eqb, map as list_map, List, OnOk, IfOk};
 ghost use Rattle.std.specs.List.{dedup};
-ghost use Rattle.graph_links.specs.Pairs.{Adds, AreAllAt, AreCheap, IsOnto, IsPairLink, KeepsApart, is_last, link_by};
+ghost use Rattle.graph_links.specs.Pairs.{Adds, AddsOver, AreAllAt, AreCheap, IsOnto, IsPairLink, KeepsApart, is_last, link_by, plain_ways};
 ghost use Rattle.graph_links.specs.declared.end.End.{End as EndValue};
 ghost use Rattle.graph_links.specs.declared.link.Link.{Link as LinkValue};
 
@@ -42,11 +42,47 @@ pub(crate) fn push_links(
 {
     match from.vertex {
         Vertex::Router(router) => {
-            let ways = ways_over(alloc, local, router, from.ends)?;
-            push_ways(router, to.vertex, ways.as_slice(), links)
+            push_from_router(alloc, local, router, from.ends, to.vertex, links)
         }
         Vertex::Network(network) => push_from_network(alloc, network, to, links),
     }
+}
+
+/// Adds the links of a router to a vertex by its ways over its ends there. Mostly it has one.
+fn push_from_router(
+    alloc: Global,
+    local: Local<'_>,
+    router: u32,
+    ends: &[End],
+    to: Vertex,
+    links: &mut Vec<Link>,
+) -> Result<(), Memory>
+    ensures pushed { OnOk result (AddsOver local.entry.root local.entry.interfaces.now router ends.now to links.old.items links.new.items) }
+    ensures cheap { OnOk result (AreCheap links.old.items → AreCheap links.new.items) }
+{
+    match ends {
+        [only] if router != local.root => push_over_end(router, to, *only, links),
+        _ => {
+            let ways = ways_over(alloc, local, router, ends)?;
+            push_ways(router, to, ways.as_slice(), links)
+        }
+    }
+}
+
+/// Adds the link of a router other than the root to a vertex that it has this one end at, unless the metric is 0.
+fn push_over_end(router: u32, to: Vertex, end: End, links: &mut Vec<Link>) -> Result<(), Memory>
+    ensures pushed { OnOk result (links.new.items ≡ links.old.items ++ list_map (link_by router to) (plain_ways end)) }
+    ensures cheap { OnOk result (AreCheap links.old.items → AreCheap links.new.items) }
+{
+    if end.metric == 0 {
+        return Ok(());
+    }
+    let way = Way {
+        cost: end.metric,
+        interface: None,
+    };
+    links.push(link_by(router, to, way))?;
+    Ok(())
 }
 
 /// Adds the links of a router to a vertex by these ways.

@@ -1,29 +1,34 @@
-use Rattle.std.proofs.Common.{◌≡◌, ◌++◌, List, map, subst}
+use Rattle.std.proofs.Common.{List, subst}
 use Rattle.std.proofs.lemmas.Result.{on_ok_weaker}
 use Rattle.ospf_types.specs.declared.entry.Vertex.{Vertex}
 use Rattle.ospf_types.specs.declared.entry.Vertex.TheVariants.{Network}
-use Rattle.graph_links.specs.Pairs.{AreAllAt, IsOnto, link_by}
-use Rattle.graph_links.specs.declared.ways.Way.{Way}
+use Rattle.graph_links.specs.declared.link.Link.{Link}
+use Rattle.graph_links.specs.Pairs.{AddsOver, AreAllAt, IsOnto}
 use Rattle.graph_links.proofs.Adding.{ok_same}
 use Rattle.graph_links.proofs.Pairing.{IsFromTo, all_named, network_pair, apart_from}
 use Rattle.graph_links.proofs.WaysOnce.{adds_ways, apart_ways}
 use Rattle.graph_links.proofs.pair.push_links.Goals as goal
 
-pub returns-in_ok-ways-in-Router-clause-pushed : goal.returns-in_ok-ways-in-Router-clause-pushed
-returns-in_ok-ways-in-Router-clause-pushed c ends back own other =
+pub returns-in-Router-clause-pushed : goal.returns-in-Router-clause-pushed
+returns-in-Router-clause-pushed c ends back own other =
     let a = c.args in
-    let ways = c.in_ok-ways-in-Router.ways.items in
-    on_ok_weaker c.push_ways.result
-    (λ pushed. adds_ways a.local.root c.in-Router.router a.local.interfaces.now a.to.vertex ends back a.from.ends.now ways own.exact c.in_ok-ways-in-Router.ensures.exact
-    a.from.vertex a.links.now.items c.push_ways.new.links.items c.in-Router.is (subst (λ (ws : List Way). c.push_ways.new.links.items ≡ a.links.now.items ++ map (link_by c.in-Router.router a.to.vertex) ws) c.as_slice.ensures pushed) (all_named a.from.vertex back a.to.ends.now other)) c.push_ways.ensures.pushed
+    let router = c.in-Router.router in
+    let old : List Link = a.links.now.items in
+    let new : List Link = c.push_from_router.new.links.items in
+    on_ok_weaker c.push_from_router.result
+    (λ (adds : AddsOver a.local.root a.local.interfaces.now router a.from.ends.now a.to.vertex old new).
+    adds_ways a.local.root router a.local.interfaces.now a.to.vertex ends back a.from.ends.now adds.ways own.exact adds.exact
+    a.from.vertex old new c.in-Router.is adds.added (all_named a.from.vertex back a.to.ends.now other)) c.push_from_router.ensures.pushed
 
-pub returns-in_ok-ways-in-Router-clause-apart : goal.returns-in_ok-ways-in-Router-clause-apart
-returns-in_ok-ways-in-Router-clause-apart c =
+pub returns-in-Router-clause-apart : goal.returns-in-Router-clause-apart
+returns-in-Router-clause-apart c =
     let a = c.args in
-    let ways = c.in_ok-ways-in-Router.ways.items in
-    on_ok_weaker c.push_ways.result
-    (λ pushed. apart_ways c.in-Router.router a.from.vertex a.to.vertex ways a.links.now.items c.push_ways.new.links.items c.in-Router.is (subst (λ (ws : List Way). c.push_ways.new.links.items ≡ a.links.now.items ++ map (link_by c.in-Router.router a.to.vertex) ws) c.as_slice.ensures pushed)
-    c.in_ok-ways-in-Router.ensures.each_once) c.push_ways.ensures.pushed
+    let router = c.in-Router.router in
+    let old : List Link = a.links.now.items in
+    let new : List Link = c.push_from_router.new.links.items in
+    on_ok_weaker c.push_from_router.result
+    (λ (adds : AddsOver a.local.root a.local.interfaces.now router a.from.ends.now a.to.vertex old new).
+    apart_ways router a.from.vertex a.to.vertex adds.ways old new c.in-Router.is adds.added adds.each_once) c.push_from_router.ensures.pushed
 
 pub returns-in-Network-clause-pushed : goal.returns-in-Network-clause-pushed
 returns-in-Network-clause-pushed c ends back own other =
