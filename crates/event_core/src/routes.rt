@@ -277,7 +277,8 @@ fn other_items(
     requires { IsStrictlySortedBy network_cmp networks.now }
     ensures { IfOk result (λ items. AreOtherItems calculation.now table.now.items networks.now items.items) }
 {
-    let mut items = Vec::new(alloc);
+    // Room for some; where many are other ones, more is made.
+    let mut items = Vec::with_capacity(alloc, networks.len().min(16))?;
     for network in networks {
         push_other(alloc, calculation, table, *network, &mut items)?;
     }
