@@ -277,8 +277,7 @@ fn other_items(
     requires { IsStrictlySortedBy network_cmp networks.now }
     ensures { IfOk result (λ items. AreOtherItems calculation.now table.now.items networks.now items.items) }
 {
-    // Room for some; where many are other ones, more is made.
-    let mut items = Vec::with_capacity(alloc, networks.len().min(16))?;
+    let mut items = Vec::new(alloc);
     for network in networks {
         push_other(alloc, calculation, table, *network, &mut items)?;
     }
@@ -315,7 +314,7 @@ fn are_same(a: Option<&Item>, b: Option<&Item>) -> bool
 }
 
 // The networks of the items.
-fn networks_of(alloc: Global, items: &[(Prefix, Option<Item>)]) -> Result<Vec<Prefix>, Memory>
+fn networks_of<V>(alloc: Global, items: &[(Prefix, V)]) -> Result<Vec<Prefix>, Memory>
     ensures { IfOk result (λ networks. networks.items ≡ keys_of items.now) }
 {
     let networks = items.iter().map(|item| item.0).collect(alloc)?;
