@@ -423,7 +423,7 @@ fn networks_of(alloc: Global, dests: &[Dest]) -> Result<Vec<Prefix>, Memory>
     ensures in_order { IfOk result (λ networks. IsStrictlySortedBy network_cmp networks.items) }
     ensures exact { IfOk result (λ networks. (p : PrefixValue) → Contains networks.items p ↔ Contains dests.now (dest_value.Net p)) }
 {
-    let mut networks = Vec::new(alloc);
+    let mut networks = Vec::with_capacity(alloc, dests.len())?;
     for dest in dests {
         if let Dest::Net(network) = *dest {
             networks.push(network)?;

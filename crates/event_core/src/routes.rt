@@ -314,7 +314,7 @@ fn are_same(a: Option<&Item>, b: Option<&Item>) -> bool
 }
 
 // The networks of the items.
-fn networks_of(alloc: Global, items: &[(Prefix, Option<Item>)]) -> Result<Vec<Prefix>, Memory>
+fn networks_of<V>(alloc: Global, items: &[(Prefix, V)]) -> Result<Vec<Prefix>, Memory>
     ensures { IfOk result (λ networks. networks.items ≡ keys_of items.now) }
 {
     let networks = items.iter().map(|item| item.0).collect(alloc)?;

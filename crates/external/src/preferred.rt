@@ -15,6 +15,7 @@ use ospf_types::key::Dest;
 use ospf_types::memory::Memory;
 use path_choice::{Best, Choice, ExactOrd, Reached};
 use result_map::Same;
+use smallvec::SmallVec;
 use std::alloc::Global;
 use std::cmp::Reverse;
 use std::marker::Model;
@@ -25,7 +26,7 @@ pub struct Preferred {
     class: u8,
     cost: u32,
     area: u32,
-    hops: Vec<NextHop>,
+    hops: SmallVec<NextHop, 1>,
 }
 
 // proof: one call drops it, in place of a drop of each part wherever one is held.

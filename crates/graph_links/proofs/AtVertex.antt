@@ -4,7 +4,7 @@ use Rattle.std.specs.Prelude.{◌↔◌}
 use Rattle.std.specs.declared.cmp.Ordering.TheVariants.{Less, Equal, Greater}
 use Rattle.std.specs.List.{Contains, slice_range}
 use Rattle.std.specs.List.Sorted.{IsStrictlySortedBy, IsPartitionPoint, IsPartitionedBy}
-use Rattle.std.specs.Ordering.{nat_cmp, ordering_then, is_lt, is_le}
+use Rattle.std.specs.Ordering.{nat_cmp, ordering_then, ordering_reverse, is_lt, is_le}
 use Rattle.std.proofs.lemmas.Bool.{cases_lt}
 use Rattle.std.proofs.lemmas.Cmp.{tied_itself}
 use Rattle.std.proofs.lemmas.List.{get_or-take, get_or-drop, get_or_default, length-take-le, length-drop}
@@ -13,7 +13,6 @@ use Rattle.ospf_types.specs.declared.entry.Vertex.{Vertex}
 use Rattle.ospf_types.specs.Vertices.{vertex_cmp}
 use Rattle.graph_links.specs.declared.end.End.{End}
 use Rattle.graph_links.specs.EndOrder.{end_cmp, listed_end}
-use Rattle.graph_links.specs.Pairs.{Names}
 use Rattle.graph_links.proofs.EndOrders.{vertex_total, vertex_exact, end_total}
 
 -- an end that stands before another is not at a greater vertex
@@ -154,32 +153,48 @@ module _ (v : Vertex) where
         ∙ ap (λ (e : End). end_cmp (get_or xs (first + k) (listed_end 0)) e) next
         ∙ Less-from_sorted end_cmp xs (first + k) (first + (k + 1)) (listed_end 0) sorted (omega arith) (omega arith))
 
-  -- the end at the first place that is not at a lesser vertex is at this one, where any is
-  pub first_at_it : (xs : List End) (first : ℕ) (e : End) → IsStrictlySortedBy end_cmp xs → IsFirst xs first → first < length xs → get_or xs first e ≡ e → Names xs v → e.to ≡ v
-  first_at_it xs first e sorted low within at named =
-      let d : End = named.0 in
-      let k : ℕ = named.1.0 in
-      let below : k < length xs = named.1.1 in
-      let there : get_or xs k e ≡ d = get_or_default xs k e d below ∙ named.1.2 in
-      let tie : vertex_cmp (get_or xs k e).to v ≡ Equal = ap (λ (x : End). vertex_cmp x.to v) there ∙ ap (λ (w : Vertex). vertex_cmp w v) named.2 ∙ tied_itself vertex_total v in
-      ⊎_elim (λ (lt : k < first). let less = low.0 k e (omega arith) lt in absurd cc)
-      (λ (ge : first ≤ k).
-      ⊎_elim (λ (lt : first < k).
-      let less = Less-from_sorted end_cmp xs first k e sorted lt below in
-      ⊎_elim
-      (λ (l : vertex_cmp (get_or xs first e).to (get_or xs k e).to ≡ Less).
-      absurd (low.1 first e (omega arith) within (ap (λ (w : Vertex). vertex_cmp (get_or xs first e).to w) (sym (ap (λ (x : End). x.to) there ∙ named.2)) ∙ l)))
-      (λ (same : (get_or xs first e).to ≡ (get_or xs k e).to). ap (λ (x : End). x.to) (sym at) ∙ same ∙ ap (λ (x : End). x.to) there ∙ named.2)
-      (before (get_or xs first e) (get_or xs k e) less))
-      (λ (le : k ≤ first). let same : k ≡ first = omega arith in ap (λ (x : End). x.to) (sym at ∙ ap (λ (n : ℕ). get_or xs n e) (sym same) ∙ there) ∙ named.2)
-      (cases_lt first k))
-      (cases_lt k first)
+  -- ---- the ends at the vertex, passed one by one from the first
 
-  -- and where there is no such place, none is
-  pub none_at_it : (xs : List End) (first : ℕ) → IsFirst xs first → length xs ≤ first → Names xs v → ⊥
-  none_at_it xs first low past named =
-      let d : End = named.0 in
-      let tie : vertex_cmp (get_or xs named.1.0 d).to v ≡ Equal = ap (λ (x : End). vertex_cmp x.to v) named.1.2 ∙ ap (λ (w : Vertex). vertex_cmp w v) named.2 ∙ tied_itself vertex_total v in
-      let below : named.1.0 < length xs = named.1.1 in
-      let less = low.0 named.1.0 d (omega arith) (omega arith) in
-      absurd cc
+  -- no end before this place is at a greater vertex
+  abbrev pub ArePassed : List End → ℕ → Type 0
+  ArePassed xs i = (k : ℕ) (d : End) → k < i → vertex_cmp (get_or xs k d).to v ≢ Greater
+
+  pub passed_first : (xs : List End) (i : ℕ) → IsFirst xs i → ArePassed xs i
+  passed_first xs i first k d lt greater = let less = first.0 k d (omega arith) lt in absurd cc
+
+  pub passed_more : (xs : List End) (i : ℕ) (d : End) → i < length xs → (get_or xs i d).to ≡ v → ArePassed xs i → ArePassed xs (i + 1)
+  passed_more xs i d within at passed k e lt greater =
+      ⊎_elim (λ (before_it : k < i). passed k e before_it greater)
+      (λ (ge : i ≤ k).
+      let same : k ≡ i = omega (arith, ge, lt) in
+      let here : get_or xs k e ≡ get_or xs i d = ap (λ (n : ℕ). get_or xs n e) same ∙ sym (get_or_default xs i d e within) in
+      let tie : vertex_cmp (get_or xs k e).to v ≡ Equal = ap (λ (x : End). vertex_cmp x.to v) here ∙ ap (λ (w : Vertex). vertex_cmp w v) at ∙ tied_itself vertex_total v in
+      absurd cc)
+      (cases_lt k i)
+
+  greater_than : (o : Ordering) → o ≢ Less → o ≢ Equal → o ≡ Greater
+  greater_than Less l e = absurd (l refl)
+  greater_than Equal l e = absurd (e refl)
+  greater_than Greater l e = refl
+
+  -- what stands behind an end at a greater vertex is at one too
+  above : (a b : End) → end_cmp a b ≡ Less → vertex_cmp a.to v ≡ Greater → vertex_cmp b.to v ≡ Greater
+  above a b less greater =
+      ⊎_elim
+      (λ (l : vertex_cmp a.to b.to ≡ Less).
+      let from : vertex_cmp v a.to ≡ Less = vertex_total.antisymm v a.to ∙ ap ordering_reverse greater in
+      vertex_total.antisymm b.to v ∙ ap ordering_reverse (vertex_total.trans v a.to b.to from l))
+      (λ (e : a.to ≡ b.to). subst (λ (w : Vertex). vertex_cmp w v ≡ Greater) e greater)
+      (before a b less)
+
+  -- so where none is left, or the next is at another vertex, all of them are passed
+  pub all_passed : (xs : List End) (first i : ℕ) → IsStrictlySortedBy end_cmp xs → IsFirst xs first → first ≤ i → ArePassed xs i → (i < length xs → (get_or xs i (listed_end 0)).to ≢ v) → IsPast xs i
+  all_passed xs first i sorted low from passed other = (
+    λ k d zero lt. passed k d lt,
+    λ k d ge within.
+        let lt : i < length xs = omega (arith, ge, within) in
+        let here : vertex_cmp (get_or xs i d).to v ≡ Greater = greater_than (vertex_cmp (get_or xs i d).to v) (low.1 i d from lt) (λ tie. other lt (ap (λ (x : End). x.to) (get_or_default xs i (listed_end 0) d lt) ∙ vertex_exact (get_or xs i d).to v tie)) in
+        ⊎_elim (λ (behind : i < k). above (get_or xs i d) (get_or xs k d) (Less-from_sorted end_cmp xs i k d sorted behind within) here)
+        (λ (le : k ≤ i). let same : i ≡ k = omega (arith, ge, le) in subst (λ (n : ℕ). vertex_cmp (get_or xs n d).to v ≡ Greater) same here)
+        (cases_lt i k),
+  )

@@ -1,6 +1,6 @@
 -- The Link Data of the ends at a vertex, ascending and each once.
-use Rattle.std.proofs.Common.{◌≡◌, ℕ, ◌+◌, ◌<◌, Bool, true, false, cond, eqb, List, [], ◌∷◌, ◌++◌, length, get_or, drop, map, Result, Ok, Err, Option, Some, None, Ordering, refl, sym, ap, subst, ◌∙◌, append_assoc, arith}
-use Rattle.std.specs.Prelude.{◌↔◌, ◌==◌, IfOk}
+use Rattle.std.proofs.Common.{◌≡◌, ℕ, ◌+◌, ◌<◌, Bool, true, false, cond, eqb, List, [], ◌∷◌, ◌++◌, length, get_or, drop, map, Option, Some, None, Ordering, refl, sym, ap, subst, ◌∙◌, append_assoc, arith}
+use Rattle.std.specs.Prelude.{◌↔◌, ◌==◌}
 use Rattle.std.specs.declared.cmp.Ordering.TheVariants.{Less, Equal, Greater}
 use Rattle.std.specs.List.{Contains, dedup, dedup_from}
 use Rattle.std.specs.List.Sorted.{IsSorted, IsStrictlySortedBy}
@@ -13,7 +13,6 @@ use Rattle.std.proofs.lemmas.List.Kept.{Contains-dedup_nat, Contains-from_dedup}
 use Rattle.std.proofs.lemmas.Map.Keys.{Less-from_sorted, IsStrictlyIncreasing-dedup, sorted_from_strictly_increasing}
 use Rattle.std.proofs.lemmas.Map.Lookups.{exact_unsigned}
 use Rattle.ospf_types.specs.declared.entry.Vertex.{Vertex}
-use Rattle.ospf_types.specs.declared.memory.Memory.{Memory}
 use Rattle.ospf_types.specs.Vertices.{vertex_cmp}
 use Rattle.ospf_types.proofs.Elements.{mapped_element, mapped_from}
 use Rattle.ospf_types.proofs.OneBest.{same_list}
@@ -106,9 +105,3 @@ rest_on before after last es i none whole lt h is =
     ap (λ (rest : List End). before ++ rest_of last (map (λ (e : End). e.detail) rest)) (sym (drop_more es i none lt)) ∙ h in
     ap (λ (xs : List ℕ). xs ++ rest_of (Some (get_or es i none).detail) (map (λ (e : End). e.detail) (drop (i + 1) es))) is
     ∙ rest_added before last (get_or es i none).detail (map (λ (e : End). e.detail) (drop (i + 1) es)) whole next
-
--- the same of a result
-pub if_details : (v : Vertex) (all es : List End) (r : Result (List ℕ) Memory) → IsStrictlySortedBy end_cmp es → ((e : End) → Contains es e ↔ (Contains all e × (e.to ≡ v)))
-    → IfOk r (λ details. details ≡ dedup eqb (map (λ (e : End). e.detail) es)) → IfOk r (λ addresses. AreDetailsTo v all addresses)
-if_details v all es (Ok details) sorted exact is = subst (λ (xs : List ℕ). AreDetailsTo v all xs) (sym is) (details_of_ends v all es sorted exact)
-if_details v all es (Err error) sorted exact is = tt

@@ -4,11 +4,11 @@ pub mod AtVertex
 pub mod Adding
 pub mod Apart
 pub mod WaysOnce
-pub mod Neighbouring
 pub mod ByCost
 pub mod Details
 pub mod Growing
 pub mod Linking
+pub mod Walking
 pub mod Pairing
 pub mod Placing
 pub mod PairAlike

@@ -1,22 +1,22 @@
--- The vertices that a vertex leads to, and its links found by way of them.
-use Rattle.std.proofs.Common.{◌≡◌, ◌⊎◌, inl, inr, ⊎_elim, ℕ, true, List, [], ◌∷◌, length, get_or, Ok, Err, Result, Ordering, refl, sym, ap, subst, ◌∙◌}
+-- The links between two vertices on a side of a change, and the vertices that a vertex names.
+use Rattle.std.proofs.Common.{◌≡◌, ◌≢◌, ◌⊎◌, inl, inr, ⊎_elim, ℕ, true, List, [], ◌∷◌, length, get_or, Ok, Err, Result, Ordering, refl, sym, ap, subst, ◌∙◌}
 use Rattle.std.specs.Prelude.{◌↔◌, Contains, IfOk}
 use Rattle.std.specs.List.{HoldsAt}
-use Rattle.std.specs.List.Sorted.{IsSearchInRange}
+use Rattle.std.specs.List.Sorted.{IsSearchInRange, IsStrictlySortedBy}
 use Rattle.std.specs.Result.{is_ok}
 use Rattle.std.specs.declared.cmp.Ordering.TheVariants.{Equal}
 use Rattle.ospf_types.specs.declared.entry.Vertex.{Vertex}
-use Rattle.ospf_types.specs.declared.label.Label.{Label}
 use Rattle.ospf_types.specs.Distances.{Links}
-use Rattle.ospf_types.proofs.Elements.{no_element}
+use Rattle.ospf_types.proofs.Elements.{no_element, first_element}
 use Rattle.graph_links.specs.declared.end.End.{End}
 use Rattle.graph_links.specs.declared.link.Link.{Link}
 use Rattle.graph_links.specs.declared.link.Up.{Up}
 use Rattle.graph_links.specs.contracts.end.EndOrd.TheImpl as end_order
-use Rattle.graph_links.specs.Pairs.{Names, IsPairLink}
-use Rattle.graph_links.specs.Sides.{Leading, LinksBy, ends_or, AreOut, AreInto, IsOutTo, IsIntoFrom}
+use Rattle.graph_links.specs.EndOrder.{end_cmp}
+use Rattle.graph_links.specs.Pairs.{AreAllAt, Names, IsPairLink}
+use Rattle.graph_links.specs.Sides.{Leading, LinksBy, ends_or, IsOutTo, IsIntoFrom}
 use Rattle.graph_links.proofs.EndOrders.{end_exact, end_cmp_is}
-use Rattle.graph_links.proofs.Growing.{IsGrown, front}
+use Rattle.graph_links.proofs.Growing.{front}
 use Rattle.graph_links.proofs.PairAlike.{pair_names, pair_named}
 
 -- an end that a search comes upon is there
@@ -42,23 +42,29 @@ as_pushed root ups leading v w from to ends back old new from_is to_is ends_are 
       λ c. here.1 (⊎_elim (λ (o : Contains old l). inl o) (λ (n : IsOutTo (LinksBy root ups leading) v l w). inr (n.0, n.1, subst Link_of (λ i. (n.0 i, n.1 i)) n.2)) c),
     )
 
-pub pushed_as : (Link_of : Links) (v w from to : Vertex) (old new : List Link) → from ≡ v → to ≡ w → IsPushed Link_of from to old new → IsPushed Link_of v w old new
-pushed_as Link_of v w from to old new from_is to_is pushes = subst (λ (p : Vertex × Vertex). IsPushed Link_of p.0 p.1 old new) (λ i. (from_is i, to_is i)) pushes
+-- where the other has no end at the vertex, there are none either way
+module _ (root : ℕ) (ups : List Up) (leading : Leading) (v w : Vertex) (back : List End) (none : back ≡ []) (exact : (e : End) → Contains back e ↔ (Contains (ends_or (leading w)) e × (e.to ≡ v))) where
+  not_named : Names (ends_or (leading w)) v → ⊥
+  not_named named = no_element named.0 (subst (λ (es : List End). Contains es named.0) none ((exact named.0).1 (named.1, named.2)))
 
-module _ (Link_of : Links) (v : Vertex) (ends : List End) (found : List Vertex) (links : List Link) (named : (w : Vertex) → Contains found w ↔ Names ends w) where
-  -- the links out of a vertex lead to vertices that it names
-  pub out_all : ((w : Vertex) (cost : ℕ) (label : Label) → Link_of v w cost label → Names ends w) → IsGrown (IsOutTo Link_of v) found [] links → AreOut Link_of v links
-  out_all names grown l = (
-    λ c. ⊎_elim (λ (n : Contains [] l). absurd (no_element l n)) (λ (n : (w : Vertex) × Contains found w × IsOutTo Link_of v l w). (n.2.0, n.2.2)) ((grown l).0 c),
-    λ h. (grown l).1 (inr (l.to, (named l.to).1 (names l.to l.cost l.label (subst (λ u. Link_of u l.to l.cost l.label) h.0 h.1)), (h.0, refl, h.1))),
-  )
+  pub none_out : (l : Link) → IsOutTo (LinksBy root ups leading) v l w → ⊥
+  none_out l is =
+      let Link_of : Vertex × Vertex → Type 0 = λ p. LinksBy root ups leading p.0 p.1 l.cost l.label in
+      not_named (pair_named root ups v w (ends_or (leading v)) (ends_or (leading w)) l.cost l.label (subst Link_of (λ i. (is.0 i, is.1 i)) is.2))
 
-  -- and those into it come from such vertices
-  pub into_all : ((w : Vertex) (cost : ℕ) (label : Label) → Link_of w v cost label → Names ends w) → IsGrown (IsIntoFrom Link_of v) found [] links → AreInto Link_of v links
-  into_all names grown l = (
-    λ c. ⊎_elim (λ (n : Contains [] l). absurd (no_element l n)) (λ (n : (w : Vertex) × Contains found w × IsIntoFrom Link_of v l w). (n.2.1, n.2.2)) ((grown l).0 c),
-    λ h. (grown l).1 (inr (l.from, (named l.from).1 (names l.from l.cost l.label (subst (λ u. Link_of l.from u l.cost l.label) h.0 h.1)), (refl, h.0, h.1))),
-  )
+  pub none_into : (l : Link) → IsIntoFrom (LinksBy root ups leading) v l w → ⊥
+  none_into l is =
+      let Link_of : Vertex × Vertex → Type 0 = λ p. LinksBy root ups leading p.0 p.1 l.cost l.label in
+      not_named (pair_names root ups w v (ends_or (leading w)) (ends_or (leading v)) l.cost l.label (subst Link_of (λ i. (is.0 i, is.1 i)) is.2))
+
+-- so nothing is pushed
+pub none_pushed : (links : List Link) (P : Link → Type 0) → ((l : Link) → P l → ⊥) → (l : Link) → Contains links l ↔ (Contains links l ⊎ P l)
+none_pushed links P none l = (λ c. inl c, λ h. ⊎_elim (λ (c : Contains links l). c) (λ (p : P l). absurd (none l p)) h)
+
+-- ends that are not none are all that there are at the vertex
+pub some_at : (v : Vertex) (all ends : List End) → IsStrictlySortedBy end_cmp ends → ((e : End) → Contains ends e ↔ (Contains all e × (e.to ≡ v))) → ends ≢ [] → AreAllAt v all ends
+some_at v all [] sorted exact some = absurd (some refl)
+some_at v all (e ∷ es) sorted exact some = record { in_order = sorted; exact = exact; some = (e, first_element e es, ((exact e).0 (first_element e es)).1) }
 
 -- ---- links that are missing in another graph
 
@@ -87,11 +93,3 @@ unlike_all others initial has rest new done before k = (
   λ c. (before k).0 (inl c),
   λ h. ⊎_elim (λ (c : Contains new k). c) (λ (n : Contains rest k × (Contains others k → ⊥)). absurd (no_element k (subst (λ (ls : List Link). Contains ls k) done n.0))) ((before k).1 h),
 )
-
--- a vertex names those that it has links to, and those that have links to it
-module _ (root : ℕ) (ups : List Up) (leading : Leading) (v : Vertex) (ends : List End) (are : ends ≡ ends_or (leading v)) where
-  pub out_named : (w : Vertex) (cost : ℕ) (label : Label) → LinksBy root ups leading v w cost label → Names ends w
-  out_named w cost label link = subst (λ (es : List End). Names es w) (sym are) (pair_names root ups v w (ends_or (leading v)) (ends_or (leading w)) cost label link)
-
-  pub into_named : (w : Vertex) (cost : ℕ) (label : Label) → LinksBy root ups leading w v cost label → Names ends w
-  into_named w cost label link = subst (λ (es : List End). Names es w) (sym are) (pair_named root ups w v (ends_or (leading w)) (ends_or (leading v)) cost label link)

@@ -8,10 +8,14 @@ use Rattle.ospf_types.specs.declared.memory.Memory.{Memory}
 use Rattle.graph_links.specs.declared.end.End.{End}
 use Rattle.graph_links.specs.declared.link.Link.{Link}
 use Rattle.graph_links.specs.declared.link.Up.{Up}
-use Rattle.graph_links.specs.Pairs.{Adds, AreApart, AreDetailsTo, IsOnto, IsPairLink, KeepsApart, Names}
+use Rattle.graph_links.specs.Pairs.{Adds, AreAllAt, AreApart, AreDetailsTo, IsOnto, IsPairLink, KeepsApart, Names}
 use Rattle.graph_links.proofs.Adding.{adds_one}
 use Rattle.graph_links.proofs.Apart.{apart_push}
 use Rattle.graph_links.proofs.Details.{one_list_of_details}
+
+-- a vertex with ends at another names it
+pub all_named : (v : Vertex) (all ends : List End) → AreAllAt v all ends → Names all v
+all_named v all ends are = (are.some.0, ((are.exact are.some.0).0 are.some.1).0, are.some.2)
 
 -- a link from one vertex to the other
 abbrev pub IsFromTo : ℕ → List Up → Vertex → List End → Vertex → List End → Link → Type 0

@@ -117,6 +117,32 @@ module _ (P : Link → Fresh → Type 0) where
       let among : Contains (take i (map vertex_of fresh)) h.0.vertex = subst (λ (vs : List Vertex). Contains vs h.0.vertex) (mapped_front i fresh) (mapped_element vertex_of (take i fresh) h.0 h.1) in
       not_among_earlier (map vertex_of fresh) i d.vertex long once (subst (Contains (take i (map vertex_of fresh))) (same ∙ sym here) among))
 
+-- ---- links that are not among others
+
+-- just those that there were, and those of the front that are not among the others
+abbrev pub AreMissingUpTo : List Link → List Link → List Link → ℕ → List Link → Type 0
+AreMissingUpTo others old has i new = (l : Link) → Contains new l ↔ (Contains old l ⊎ (Contains (take i has) l × (Contains others l → ⊥)))
+
+pub missing_none : (others old has : List Link) → AreMissingUpTo others old has 0 old
+missing_none others old has l = (λ c. inl c, λ h. elim h [ inl was ↦ was | inr n ↦ absurd (no_element l n.0) ])
+
+pub missing_more : (others old has : List Link) (i : ℕ) (d : Link) (mid new : List Link) → i < length has → AreMissingUpTo others old has i mid
+    → ((l : Link) → Contains new l ↔ (Contains mid l ⊎ ((l ≡ get_or has i d) × (Contains others l → ⊥)))) → AreMissingUpTo others old has (i + 1) new
+missing_more others old has i d mid new lt before one l =
+    let all = more_at has i d lt l in (
+      λ c. elim ((one l).0 c) [
+        | inl was ↦ elim ((before l).0 was) [ inl o ↦ inl o | inr n ↦ inr (all.1 (inl n.0), n.1) ]
+        | inr n ↦ inr (all.1 (inr n.0), n.1)
+      ],
+      λ h. (one l).1 (elim h [
+        | inl o ↦ inl ((before l).1 (inl o))
+        | inr n ↦ elim (all.0 n.0) [ inl early ↦ inl ((before l).1 (inr (early, n.1))) | inr same ↦ inr (same, n.1) ]
+      ]),
+    )
+
+pub missing_all : (others old has : List Link) (i : ℕ) (new : List Link) → length has ≤ i → AreMissingUpTo others old has i new → (l : Link) → Contains new l ↔ (Contains old l ⊎ (Contains has l × (Contains others l → ⊥)))
+missing_all others old has i new past are = subst (λ (ls : List Link). (l : Link) → Contains new l ↔ (Contains old l ⊎ (Contains ls l × (Contains others l → ⊥)))) (take_all i has past) are
+
 -- ---- a list of copies
 
 pub copied_more : (links : List Link) (i : ℕ) (d : Link) (made new : List Link) (copy : Link) → i < length links → made ≡ take i links → copy ≡ get_or links i d → new ≡ made ++ copy ∷ [] → new ≡ take (i + 1) links

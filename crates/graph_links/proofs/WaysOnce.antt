@@ -1,17 +1,16 @@
 -- The ways of a router, sorted, of which each is kept once, and the links by them.
-use Rattle.std.proofs.Common.{◌≡◌, ℕ, ◌+◌, ◌<◌, ◌≤◌, ◌∷◌, length, get_or, take, append_assoc, Bool, List, [], ◌++◌, map, Option, Some, None, Ordering, refl, sym, ap, subst, ◌∙◌}
+use Rattle.std.proofs.Common.{◌≡◌, ◌≢◌, inl, inr, true, false, cond, ℕ, ◌+◌, ◌<◌, ◌≤◌, ◌∷◌, length, get_or, take, append-nil, append_assoc, arith, Bool, List, [], ◌++◌, map, Option, Some, None, Ordering, refl, sym, ap, subst, ◌∙◌}
 use Rattle.std.specs.Prelude.{◌↔◌, ◌==◌, Contains}
-use Rattle.std.specs.List.{dedup}
-use Rattle.std.specs.List.Retain.{IsFiltered, DiffersFromLast}
+use Rattle.std.specs.List.{dedup, refill}
 use Rattle.std.specs.List.Sorted.{IsSorted, IsStrictlySortedBy, IsPermutation}
 use Rattle.std.specs.Option.{option_cmp, option_eq}
 use Rattle.std.specs.Ordering.{nat_cmp, is_eq, ordering_then, eq_by_cmp}
 use Rattle.std.specs.Cmp.{IsTotalOrder, nat_cmp_total, both_tied, unsigned_ties, eq_by_cmp_equiv}
 use Rattle.std.specs.Cmp.Lexicographic.{options_total}
+use Rattle.std.proofs.lemmas.Bool.Decides.{nat_tests}
 use Rattle.std.proofs.lemmas.Cmp.{on_total, then_total}
-use Rattle.std.proofs.lemmas.List.{take_more, take_all, map-append}
+use Rattle.std.proofs.lemmas.List.{drop_all, take_more, take_all, map-append}
 use Rattle.std.proofs.lemmas.List.Elements.{All-push}
-use Rattle.std.proofs.lemmas.List.Filters.{dedup_is}
 use Rattle.std.proofs.lemmas.List.Kept.{IsStrictlySortedBy-dedup, Contains-dedup, Contains-from_dedup}
 use Rattle.std.proofs.lemmas.List.Sorted.{Contains-permutation, IsPermutation-sym}
 use Rattle.std.proofs.lemmas.Map.Lookups.{CmpEqualImpliesEq, exact_pairs, exact_unsigned}
@@ -20,16 +19,16 @@ use Rattle.ospf_types.specs.declared.entry.Vertex.{Vertex}
 use Rattle.ospf_types.specs.declared.entry.Vertex.TheVariants.{Router}
 use Rattle.ospf_types.specs.declared.label.Label.{Label}
 use Rattle.ospf_types.specs.declared.label.Label.TheVariants.{Over, At, Plain}
-use Rattle.ospf_types.proofs.Elements.{mapped_element, mapped_from}
+use Rattle.ospf_types.proofs.Elements.{first_element, first_or_later, mapped_element, mapped_from, no_element}
 use Rattle.graph_links.specs.contracts.ways.WayOrd.TheImpl as way_order
 use Rattle.graph_links.specs.contracts.ways.WayPartialEq.TheImpl as way_equality
 use Rattle.graph_links.specs.declared.end.End.{End}
 use Rattle.graph_links.specs.declared.link.Link.{Link}
 use Rattle.graph_links.specs.declared.link.Up.{Up}
 use Rattle.graph_links.specs.declared.ways.Way.{Way}
-use Rattle.graph_links.specs.Pairs.{Adds, AreApart, AreCheap, IsOutLabel, KeepsApart, Names, label_over, link_by}
+use Rattle.graph_links.specs.Pairs.{Adds, AreApart, AreCheap, IsOutLabel, IsWay, IsWayOver, KeepsApart, Names, label_over, link_by, plain_ways}
 use Rattle.graph_links.proofs.Adding.{AreWays, adds_list}
-use Rattle.graph_links.proofs.Apart.{Apart, apart_append, apart_mapped, apart_strict}
+use Rattle.graph_links.proofs.Apart.{Apart, apart_append, apart_cons, apart_mapped, apart_nil, apart_strict}
 use Rattle.graph_links.proofs.Pairing.{IsFromTo}
 
 -- ---- the order of ways
@@ -68,9 +67,14 @@ way_tied a b =
 way_tied_is : (way_equality.eq-value).it ≡ eq_by_cmp way_cmp
 way_tied_is i a b = way_tied a b i
 
-module _ (all sorted kept : List Way) (moved : IsPermutation all sorted) (in_order : IsSorted way_order.ghosts.cmp sorted) (filtered : IsFiltered (DiffersFromLast (way_equality.eq-value).it) [] sorted kept) where
+-- a list that was sorted in its place
+pub in_place : {X : Type 0} (xs ws : List X) → length ws ≡ length xs → refill (length xs) xs ws ≡ ws
+in_place xs ws long =
+    ap (λ ys. take (length xs) (ws ++ ys)) (drop_all (length ws) xs (omega (arith, long))) ∙ ap (take (length xs)) (append-nil ws) ∙ take_all (length xs) ws (omega (arith, long))
+
+module _ (all sorted kept : List Way) (moved : IsPermutation all sorted) (in_order : IsSorted way_order.ghosts.cmp sorted) (each_once : kept ≡ dedup (way_equality.eq-value).it sorted) where
   kept_is : kept ≡ dedup (eq_by_cmp way_cmp) sorted
-  kept_is = dedup_is (way_equality.eq-value).it sorted kept filtered ∙ ap (λ (same : Way → Way → Bool). dedup same sorted) way_tied_is
+  kept_is = each_once ∙ ap (λ (same : Way → Way → Bool). dedup same sorted) way_tied_is
 
   -- each is kept once
   pub ways_once : Apart kept
@@ -134,12 +138,51 @@ module _ (root router : ℕ) (ups : List Up) (to : Vertex) (ends back here : Lis
         subst (λ (v : Vertex). Names back v → (l : Link) → Contains (map (link_by router to) ways) l ↔ IsFromTo root ups v ends to back l) (sym is) by_ways named in
         subst (λ (ls : List Link). Adds old ls (IsFromTo root ups from ends to back)) (sym pushed) (adds_list old (map (link_by router to) ways) (IsFromTo root ups from ends to back) links)
 
-    -- none of which is there twice
-    pub apart_ways : Apart ways → KeepsApart from to old new
-    apart_ways once apart none =
-        subst AreApart (sym pushed)
-        (apart_append old (map (link_by router to) ways) apart (apart_mapped (link_by router to) (link_one router to) ways once)
-        (λ l early late. let by = mapped_from (link_by router to) ways l late in none l early (sym (ap (λ (k : Link). k.from) by.2) ∙ sym is) (sym (ap (λ (k : Link). k.to) by.2))))
+-- none of which is there twice
+pub apart_ways : (router : ℕ) (from to : Vertex) (ways : List Way) (old new : List Link) → from ≡ Router router → new ≡ old ++ map (link_by router to) ways → Apart ways → KeepsApart from to old new
+apart_ways router from to ways old new is pushed once apart none =
+    subst AreApart (sym pushed)
+    (apart_append old (map (link_by router to) ways) apart (apart_mapped (link_by router to) (link_one router to) ways once)
+    (λ l early late. let by = mapped_from (link_by router to) ways l late in none l early (sym (ap (λ (k : Link). k.from) by.2) ∙ sym is) (sym (ap (λ (k : Link). k.to) by.2))))
+
+-- ---- the way over one end, elsewhere than at the root
+
+pub one_end : (es : List End) (d : End) → 1 ≤ length es → length es < 2 → get_or es 0 d ∷ [] ≡ es
+one_end [] d some few = absurd (omega (arith, some))
+one_end (e ∷ []) d some few = refl
+one_end (e ∷ f ∷ es) d some few = absurd (omega (arith, few))
+
+module _ (root router : ℕ) (ups : List Up) (e : End) (elsewhere : router ≢ root) where
+  plain_label : (o : Option ℕ) → IsOutLabel root ups router e.detail (label_over o) → o ≡ None
+  plain_label None is = refl
+  plain_label (Some id) is = absurd (elsewhere is.0)
+
+  pub plain_are : AreWays root ups router (e ∷ []) (plain_ways e)
+  plain_are w =
+      let way : Way = record { cost = e.metric; interface = None } in
+      let one : IsWayOver root ups router (e ∷ []) w → (0 < e.metric) × (way ≡ w) =
+      λ h.
+      let is : IsWay root ups router e w = elim (first_or_later e h.0 [] h.1) [ inl same ↦ subst (λ (x : End). IsWay root ups router x w) same h.2 | inr c ↦ absurd (no_element h.0 c) ] in
+      let cost : e.metric ≡ w.cost = is.0 in
+      let some : 0 < w.cost = is.1 in
+      (omega (arith, cost, some), λ i. record { cost = cost i; interface = sym (plain_label w.interface is.2) i }) in
+      elim (e.metric == 0) as (λ b. e.metric == 0 ≡ b → Contains (cond b [] (way ∷ [])) w ↔ IsWayOver root ups router (e ∷ []) w) [
+        | true ↦ λ t. (λ c. absurd (no_element w c), λ h. let some = (one h).0 in absurd (grind (arith, nat_tests)))
+        | false ↦ λ t. (
+          λ c.
+              let same : w ≡ way = elim (first_or_later way w [] c) [ inl is ↦ is | inr none ↦ absurd (no_element w none) ] in
+              let some : 0 < e.metric = grind (arith, nat_tests) in
+              subst (IsWayOver root ups router (e ∷ [])) (sym same) (e, first_element e [], (refl, some, elsewhere)),
+          λ h. subst (Contains (way ∷ [])) (one h).1 (first_element way []),
+        )
+      ] refl
+
+pub plain_once : (e : End) → Apart (plain_ways e)
+plain_once e =
+    let way : Way = record { cost = e.metric; interface = None } in
+    elim (e.metric == 0) as (λ b. Apart (cond b [] (way ∷ []))) [ true ↦ apart_nil | false ↦ apart_cons way [] (no_element way) apart_nil ]
+
+-- ---- links pushed one by one
 
 -- the loop over ways, one on
 pub links_on : (router : ℕ) (to : Vertex) (ways : List Way) (i : ℕ) (d : Way) (old now new : List Link) (l : Link) → i < length ways

@@ -1,7 +1,7 @@
 -- The links from one vertex to another, by what the two lead to.
-use Rattle.std.specs.Prelude.{◌↔◌, ◌⊎◌, ℕ, ◌≡◌, ◌≢◌, ◌<◌, ◌==◌, Bool, false, List, Option, Some, None, Contains}
+use Rattle.std.specs.Prelude.{◌↔◌, ◌⊎◌, ℕ, ◌≡◌, ◌≢◌, ◌<◌, ◌==◌, if◌then◌else◌, Bool, false, List, [], ◌∷◌, ◌++◌, map, Option, Some, None, Contains}
 use Rattle.std.specs.List.{All, AllPairs}
-use Rattle.std.specs.List.Sorted.{IsStrictlyIncreasing}
+use Rattle.std.specs.List.Sorted.{IsStrictlyIncreasing, IsStrictlySortedBy}
 use Rattle.ospf_types.specs.declared.entry.Vertex.{Vertex}
 use Rattle.ospf_types.specs.declared.entry.Vertex.TheVariants.{Router, Network}
 use Rattle.ospf_types.specs.declared.label.Label.{Label}
@@ -11,10 +11,17 @@ use Rattle.graph_links.specs.declared.link.Up.{Up}
 use Rattle.graph_links.specs.declared.end.End.{End}
 use Rattle.graph_links.specs.declared.pair.Local.{Local}
 use Rattle.graph_links.specs.declared.ways.Way.{Way}
+use Rattle.graph_links.specs.EndOrder.{end_cmp}
 
 -- one of the ends is at the vertex
 abbrev pub Names : List End → Vertex → Type 0
 Names ends v = (e : End) × Contains ends e × (e.to ≡ v)
+
+-- all the ends of a list that are at the vertex, of which there is one at least
+pub record AreAllAt (v : Vertex) (all : List End) (ends : List End) : Type 0 where
+  pub in_order : IsStrictlySortedBy end_cmp ends
+  pub exact : (e : End) → Contains ends e ↔ (Contains all e × (e.to ≡ v))
+  pub some : Names ends v
 
 -- the two lists have the same ends at the vertex
 abbrev pub AreAlikeAt : Vertex → List End → List End → Type 0
@@ -47,6 +54,17 @@ IsWay root ups router e way = (e.metric ≡ way.cost) × (0 < way.cost) × IsOut
 -- a way over one of some ends
 abbrev pub IsWayOver : ℕ → List Up → ℕ → List End → Way → Type 0
 IsWayOver root ups router ends way = (e : End) × Contains ends e × IsWay root ups router e way
+
+-- a link by each way of a router over these ends is added, behind those that there were
+pub record AddsOver (root : ℕ) (ups : List Up) (router : ℕ) (ends : List End) (to : Vertex) (old new : List Link) : Type 0 where
+  pub ways : List Way
+  pub exact : (w : Way) → Contains ways w ↔ IsWayOver root ups router ends w
+  pub each_once : AllPairs (λ v w. v ≢ w) ways
+  pub added : new ≡ old ++ map (link_by router to) ways
+
+-- the way of a router other than the root over one of its ends, if the metric is not 0
+abbrev pub plain_ways : End → List Way
+plain_ways e = if e.metric == 0 then [] else record { cost = e.metric; interface = None } ∷ []
 
 -- the link of a network to a vertex that leads to these ends, whether the network leads back or not
 abbrev pub IsOnto : ℕ → Vertex → List End → Link → Type 0

@@ -11,7 +11,6 @@ use Rattle.graph_links.specs.declared.end.End.{End}
 use Rattle.graph_links.specs.declared.fresh.Fresh.{Fresh}
 use Rattle.graph_links.specs.declared.link.Link.{Link}
 use Rattle.graph_links.specs.declared.link.Up.{Up}
-use Rattle.graph_links.specs.declared.pair.Named.{Named}
 use Rattle.graph_links.specs.declared.row.Row.{Row}
 use Rattle.graph_links.specs.declared.side.Side.{Side}
 use Rattle.graph_links.specs.EndOrder.{end_cmp}
@@ -56,10 +55,6 @@ LinksIn side = LinksBy side.local.root side.local.interfaces.now (ends_in side)
 
 abbrev pub IsInOrder : Leading → Type 0
 IsInOrder leading = (v : Vertex) → IsStrictlySortedBy end_cmp (ends_or (leading v))
-
--- where the vertex leads is where it leads on that side
-abbrev pub IsNamed : Side → Named → Type 0
-IsNamed side named = named.ends.now ≡ ends_or (ends_in side named.vertex)
 
 -- both sides have the same rows, and differ in what is staged
 abbrev pub HasSameRows : Side → Side → Type 0

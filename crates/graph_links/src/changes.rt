@@ -80,6 +80,9 @@ fn same_front(one: &[Link], other: &[Link]) -> usize
     one.len()
 }
 
+// So many links are compared one by one, where they stand.
+const FEW: usize = 8;
+
 // Adds copies of the links that are not among others.
 fn push_missing(
     alloc: Global,
@@ -93,8 +96,56 @@ fn push_missing(
     if has.is_empty() {
         return Ok(());
     }
+    if others.len() <= FEW {
+        return push_unlike_few(alloc, has, others, links);
+    }
     let others = by_cost(copies(alloc, others)?);
     push_unlike(copies(alloc, has)?, others.as_slice(), links)
+}
+
+// Adds copies of the links that are not among a few others.
+fn push_unlike_few(
+    alloc: Global,
+    has: &[Link],
+    others: &[Link],
+    links: &mut Vec<Link>,
+) -> Result<(), Memory>
+    ensures missing { OnOk result ((l : LinkValue) → Contains links.new.items l ↔ (Contains links.old.items l ⊎ (Contains has.now l × (Contains others.now l → ⊥)))) }
+    ensures apart { OnOk result (AreApart (links.old.items ++ has.now) → AreApart links.new.items) }
+{
+    for link in has {
+        push_unless_same(alloc, link, others, links)?;
+    }
+    Ok(())
+}
+
+// Adds a copy of the link, unless it is one of a few others.
+fn push_unless_same(
+    alloc: Global,
+    link: &Link,
+    others: &[Link],
+    links: &mut Vec<Link>,
+) -> Result<(), Memory>
+    ensures unlike { OnOk result ((l : LinkValue) → Contains links.new.items l ↔ (Contains links.old.items l ⊎ ((l ≡ link.now) × (Contains others.now l → ⊥)))) }
+    ensures once { OnOk result ((links.new.items ≡ links.old.items) ⊎ (links.new.items ≡ links.old.items ++ link.now ∷ [])) }
+{
+    if is_one_of(link, others) {
+        return Ok(());
+    }
+    links.push(copy(alloc, link)?)?;
+    Ok(())
+}
+
+// Whether the link is one of a few others.
+fn is_one_of(link: &Link, others: &[Link]) -> bool
+    ensures { IsTrue result ↔ Contains others.now link.now }
+{
+    for other in others {
+        if is_same(link, other) {
+            return true;
+        }
+    }
+    false
 }
 
 fn copies(alloc: Global, links: &[Link]) -> Result<Vec<Link>, Memory>

@@ -7,9 +7,9 @@ ghost use Rattle.ospf_types.specs.declared.entry.Vertex.{Vertex as VertexValue};
 ghost use Rattle.std.specs.HashMap.{spare};
 ghost use Rattle.graph_links.specs.Sides.{ends_in, ends_or, LinksIn, IsInOrder, IsRow, IsFreshRow, AreFresh, IsPlaced};
 
+use crate::at_vertex::past_from;
 use crate::end::End;
-use crate::neighbours::neighbours;
-use crate::pair::Named;
+use crate::pair::Facing;
 use crate::row::{Row, Rows};
 use crate::side::Side;
 use ospf_types::entry::Vertex;
@@ -28,7 +28,7 @@ pub fn fresh_rows(alloc: Global, side: Side<'_>, vertices: &[Vertex]) -> Result<
     requires { IsInOrder (ends_in side) }
     ensures { IfOk result (λ fresh. AreFresh (ends_in side.entry) (LinksIn side.entry) vertices.now fresh.items) }
 {
-    let mut fresh = Vec::new(alloc);
+    let mut fresh = Vec::with_capacity(alloc, vertices.len())?;
     for vertex in vertices {
         let row = fresh_row(alloc, side, *vertex)?;
         fresh.push(Fresh {
@@ -53,21 +53,25 @@ fn fresh_row(alloc: Global, side: Side<'_>, vertex: Vertex) -> Result<Option<Row
     }
 }
 
-// The row of a vertex that is there.
+// The row of a vertex that is there. Its ends are in order, so those at one vertex stand together.
 fn row_of(alloc: Global, side: Side<'_>, vertex: Vertex, ends: &[End]) -> Result<Row, Memory>
     requires in_order { IsInOrder (ends_in side) }
     requires ends { ends.now ≡ ends_or (ends_in side vertex) }
     ensures ends { IfOk result (λ row. row.ends.items ≡ ends.now) }
     ensures links { IfOk result (IsRow (LinksIn side.entry) vertex) }
 {
-    let found = neighbours(alloc, ends)?;
-    let mut out = Vec::with_capacity(alloc, found.len())?;
-    let mut into = Vec::with_capacity(alloc, found.len())?;
-    let own = Named { vertex, ends };
-    for to in found.as_slice() {
-        let other = side.named(*to);
-        side.push_links(alloc, own, other, &mut out)?;
-        side.push_links(alloc, other, own, &mut into)?;
+    let mut out = Vec::with_capacity(alloc, ends.len())?;
+    let mut into = Vec::with_capacity(alloc, ends.len())?;
+    let mut first = 0;
+    while first < ends.len() {
+        let to = ends[first].to;
+        let past = past_from(ends, first, to);
+        let own = Facing {
+            vertex,
+            ends: &ends[first..past],
+        };
+        side.push_both(alloc, own, to, &mut out, &mut into)?;
+        first = past;
     }
     let ends = Vec::from_slice(alloc, ends)?;
     Ok(Row { ends, out, into })

@@ -1,14 +1,10 @@
 //! The links from one vertex to another.
-ghost use Rattle.std.specs.Prelude.{◌≡◌, ◌<◌, ◌↔◌, ◌++◌, ◌∷◌, [], if◌then◌else◌, eqb, map as list_map, OnOk, IfOk, Contains};
+ghost use Rattle.std.specs.Prelude.{◌≡◌, ◌<◌, ◌++◌, ◌∷◌, [], if◌then◌else◌, eqb, map as list_map, List, OnOk, IfOk};
 ghost use Rattle.std.specs.List.{dedup};
-ghost use Rattle.std.specs.List.Sorted.{IsStrictlySortedBy};
-ghost use Rattle.graph_links.specs.EndOrder.{end_cmp};
-ghost use Rattle.graph_links.specs.Pairs.{AreCheap};
-ghost use Rattle.graph_links.specs.Pairs.{Adds, AreDetailsTo, IsOnto, IsPairLink, KeepsApart, is_last, link_by};
+ghost use Rattle.graph_links.specs.Pairs.{Adds, AddsOver, AreAllAt, AreCheap, IsOnto, IsPairLink, KeepsApart, is_last, link_by, plain_ways};
 ghost use Rattle.graph_links.specs.declared.end.End.{End as EndValue};
 ghost use Rattle.graph_links.specs.declared.link.Link.{Link as LinkValue};
 
-use crate::at_vertex::{ends_at, names};
 use crate::end::End;
 use crate::link::{Link, Up};
 use crate::ways::{Way, ways_over};
@@ -18,11 +14,11 @@ use ospf_types::listed::Listed;
 use ospf_types::memory::Memory;
 use std::alloc::Global;
 
-/// A vertex with where its LSA leads.
+/// A vertex with the ends of its LSA that are at another.
 #[derive(Clone, Copy)]
-pub struct Named<'a> {
-    pub vertex: Vertex,
-    pub ends: &'a [End],
+pub(crate) struct Facing<'a> {
+    pub(crate) vertex: Vertex,
+    pub(crate) ends: &'a [End],
 }
 
 /// What the links of a router rest on beside LSAs: the Router ID of the root, and its interfaces.
@@ -32,35 +28,61 @@ pub struct Local<'a> {
     pub interfaces: &'a [Up],
 }
 
-/// Adds the links from one vertex to another, each once.
+/// Adds the links from one vertex to another, each once. Each of the two names the other.
 pub(crate) fn push_links(
     alloc: Global,
     local: Local<'_>,
-    from: Named<'_>,
-    to: Named<'_>,
+    from: Facing<'_>,
+    to: Facing<'_>,
     links: &mut Vec<Link>,
 ) -> Result<(), Memory>
-    requires from_in_order { IsStrictlySortedBy end_cmp from.ends.now }
-    requires to_in_order { IsStrictlySortedBy end_cmp to.ends.now }
-    ensures pushed { OnOk result (Adds links.old.items links.new.items (λ (l : LinkValue). (l.from ≡ from.entry.vertex) × (l.to ≡ to.entry.vertex) × IsPairLink local.entry.root local.entry.interfaces.now from.entry.vertex from.entry.ends.now to.entry.vertex to.entry.ends.now l.cost l.label)) }
+    ensures pushed { (ends back : List EndValue) → AreAllAt to.entry.vertex ends from.entry.ends.now → AreAllAt from.entry.vertex back to.entry.ends.now → OnOk result (Adds links.old.items links.new.items (λ (l : LinkValue). (l.from ≡ from.entry.vertex) × (l.to ≡ to.entry.vertex) × IsPairLink local.entry.root local.entry.interfaces.now from.entry.vertex ends to.entry.vertex back l.cost l.label)) }
     ensures cheap { OnOk result (AreCheap links.old.items → AreCheap links.new.items) }
     ensures apart { OnOk result (KeepsApart from.entry.vertex to.entry.vertex links.old.items links.new.items) }
 {
-    if !names(to.ends, from.vertex) {
-        return Ok(());
-    }
     match from.vertex {
         Vertex::Router(router) => {
-            let ways = ways_over(alloc, local, router, ends_at(from.ends, to.vertex))?;
-            push_ways(router, to.vertex, ways.as_slice(), links)
+            push_from_router(alloc, local, router, from.ends, to.vertex, links)
         }
-        Vertex::Network(network) => {
-            if !names(from.ends, to.vertex) {
-                return Ok(());
-            }
-            push_from_network(alloc, network, to, links)
+        Vertex::Network(network) => push_from_network(alloc, network, to, links),
+    }
+}
+
+/// Adds the links of a router to a vertex by its ways over its ends there. Mostly it has one.
+fn push_from_router(
+    alloc: Global,
+    local: Local<'_>,
+    router: u32,
+    ends: &[End],
+    to: Vertex,
+    links: &mut Vec<Link>,
+) -> Result<(), Memory>
+    ensures pushed { OnOk result (AddsOver local.entry.root local.entry.interfaces.now router ends.now to links.old.items links.new.items) }
+    ensures cheap { OnOk result (AreCheap links.old.items → AreCheap links.new.items) }
+{
+    match ends {
+        [only] if router != local.root => push_over_end(router, to, *only, links),
+        _ => {
+            let ways = ways_over(alloc, local, router, ends)?;
+            push_ways(router, to, ways.as_slice(), links)
         }
     }
+}
+
+/// Adds the link of a router other than the root to a vertex that it has this one end at, unless the metric is 0.
+fn push_over_end(router: u32, to: Vertex, end: End, links: &mut Vec<Link>) -> Result<(), Memory>
+    ensures pushed { OnOk result (links.new.items ≡ links.old.items ++ list_map (link_by router to) (plain_ways end)) }
+    ensures cheap { OnOk result (AreCheap links.old.items → AreCheap links.new.items) }
+{
+    if end.metric == 0 {
+        return Ok(());
+    }
+    let way = Way {
+        cost: end.metric,
+        interface: None,
+    };
+    links.push(link_by(router, to, way))?;
+    Ok(())
 }
 
 /// Adds the links of a router to a vertex by these ways.
@@ -95,18 +117,17 @@ fn link_by(router: u32, to: Vertex, way: Way) -> Link
 fn push_from_network(
     alloc: Global,
     network: u32,
-    to: Named<'_>,
+    to: Facing<'_>,
     links: &mut Vec<Link>,
 ) -> Result<(), Memory>
-    requires { IsStrictlySortedBy end_cmp to.ends.now }
-    ensures pushed { OnOk result (Adds links.old.items links.new.items (IsOnto network to.entry.vertex to.entry.ends.now)) }
+    ensures pushed { (back : List EndValue) → AreAllAt (Vertex.Network network) back to.entry.ends.now → OnOk result (Adds links.old.items links.new.items (IsOnto network to.entry.vertex back)) }
     ensures cheap { OnOk result (AreCheap links.old.items → AreCheap links.new.items) }
     ensures apart { OnOk result (KeepsApart (Vertex.Network network) to.entry.vertex links.old.items links.new.items) }
 {
     let Vertex::Router(_) = to.vertex else {
         return Ok(());
     };
-    let addresses = details_to(alloc, Vertex::Network(network), to.ends)?;
+    let addresses = each_once(alloc, to.ends)?;
     links.push(Link {
         from: Vertex::Network(network),
         to: to.vertex,
@@ -114,14 +135,6 @@ fn push_from_network(
         label: Label::At(addresses),
     })?;
     Ok(())
-}
-
-/// The Link Data of the ends at the vertex, ascending, each once.
-fn details_to(alloc: Global, vertex: Vertex, ends: &[End]) -> Result<Listed<u32>, Memory>
-    requires { IsStrictlySortedBy end_cmp ends.now }
-    ensures { IfOk result (λ addresses. AreDetailsTo vertex ends.now addresses) }
-{
-    each_once(alloc, ends_at(ends, vertex))
 }
 
 /// The Link Data of the ends, without what equals the one before it.

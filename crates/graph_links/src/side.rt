@@ -3,12 +3,13 @@ ghost use Rattle.std.specs.Prelude.{◌≡◌, ◌↔◌, ◌⊎◌, OnOk, Conta
 ghost use Rattle.std.specs.FinMap.{find};
 ghost use Rattle.ospf_types.specs.Vertices.{vertex_cmp};
 ghost use Rattle.graph_links.specs.declared.link.Link.{Link as LinkValue};
-ghost use Rattle.graph_links.specs.Pairs.{AreCheap, KeepsApart};
+ghost use Rattle.graph_links.specs.Pairs.{AreAllAt, AreCheap, KeepsApart};
 ghost use Rattle.graph_links.specs.Sides as sides;
 
+use crate::at_vertex::ends_at;
 use crate::end::End;
 use crate::link::Link;
-use crate::pair::{Local, Named, push_links};
+use crate::pair::{Facing, Local, push_links};
 use crate::row::{Rows, StagedEnds};
 use ospf_types::entry::Vertex;
 use ospf_types::memory::Memory;
@@ -79,31 +80,35 @@ impl<'a> Side<'a> {
         find_staged(self.staged, vertex).is_some()
     }
 
-    /// The vertex with where it leads, nowhere where it is not there.
-    pub fn named(self, vertex: Vertex) -> Named<'a>
-        ensures vertex { result.vertex ≡ vertex }
-        ensures ends { sides.IsNamed self.entry result }
-    {
-        let ends = slice_or_none(self.find(vertex));
-        Named { vertex, ends }
-    }
-
-    /// Adds the links from one vertex to another, each once.
-    pub fn push_links(
+    /// Adds the links between a vertex and another that it leads to, out of it and into it, each once. It is given with all its
+    /// ends there.
+    pub(crate) fn push_both(
         self,
         alloc: Global,
-        from: Named<'_>,
-        to: Named<'_>,
-        links: &mut Vec<Link>,
+        own: Facing<'_>,
+        to: Vertex,
+        out: &mut Vec<Link>,
+        into: &mut Vec<Link>,
     ) -> Result<(), Memory>
         requires in_order { sides.IsInOrder (sides.ends_in self) }
-        requires from { sides.IsNamed self from }
-        requires to { sides.IsNamed self to }
-        ensures pushed { OnOk result ((l : LinkValue) → Contains links.new.items l ↔ (Contains links.old.items l ⊎ sides.IsOutTo (sides.LinksIn self.entry) from.entry.vertex l to.entry.vertex)) }
-        ensures cheap { OnOk result (AreCheap links.old.items → AreCheap links.new.items) }
-        ensures apart { OnOk result (KeepsApart from.entry.vertex to.entry.vertex links.old.items links.new.items) }
+        requires own { AreAllAt to (sides.ends_or (sides.ends_in self own.vertex)) own.ends.now }
+        ensures out { OnOk result ((l : LinkValue) → Contains out.new.items l ↔ (Contains out.old.items l ⊎ sides.IsOutTo (sides.LinksIn self.entry) own.entry.vertex l to)) }
+        ensures into { OnOk result ((l : LinkValue) → Contains into.new.items l ↔ (Contains into.old.items l ⊎ sides.IsIntoFrom (sides.LinksIn self.entry) own.entry.vertex l to)) }
+        ensures out_cheap { OnOk result (AreCheap out.old.items → AreCheap out.new.items) }
+        ensures into_cheap { OnOk result (AreCheap into.old.items → AreCheap into.new.items) }
+        ensures out_apart { OnOk result (KeepsApart own.entry.vertex to out.old.items out.new.items) }
+        ensures into_apart { OnOk result (KeepsApart to own.entry.vertex into.old.items into.new.items) }
     {
-        push_links(alloc, self.local, from, to, links)?;
+        let back = ends_at(slice_or_none(self.find(to)), own.vertex);
+        if back.is_empty() {
+            return Ok(());
+        }
+        let other = Facing {
+            vertex: to,
+            ends: back,
+        };
+        push_links(alloc, self.local, own, other, out)?;
+        push_links(alloc, self.local, other, own, into)?;
         Ok(())
     }
 }

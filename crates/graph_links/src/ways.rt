@@ -8,36 +8,43 @@ use crate::end::End;
 use crate::link::Up;
 use crate::pair::Local;
 use ospf_types::memory::Memory;
+use smallvec::SmallVec;
 use std::alloc::Global;
 
 /// What tells a router's links to one vertex apart: the metric, and at the root the interface.
-#[derive(Clone, Copy, PartialEq, Eq, PartialOrd, Ord)]
+#[derive(Clone, Copy, Default, PartialEq, Eq, PartialOrd, Ord)]
 pub(crate) struct Way {
     pub(crate) cost: u16,
     pub(crate) interface: Option<u8>,
 }
 
-/// The ways of a router over these of its ends, each once: there may be thousands of ends at one vertex.
+/// The ways of a router over these of its ends, each once: there may be thousands of ends at one vertex. Up to two take
+/// no memory.
 pub(crate) fn ways_over(
     alloc: Global,
     local: Local<'_>,
     router: u32,
     ends: &[End],
-) -> Result<Vec<Way>, Memory>
+) -> Result<SmallVec<Way, 2>, Memory>
     ensures exact { IfOk result (λ ways. (w : WayValue) → Contains ways.items w ↔ IsWayOver local.entry.root local.entry.interfaces.now router ends.now w) }
     ensures each_once { IfOk result (λ ways. AllPairs (λ v w. v ≢ w) ways.items) }
 {
     let mut ways = all_ways(alloc, local, router, ends)?;
-    ways.sort_unstable();
+    ways.as_mut_slice().sort_unstable();
     ways.dedup();
     Ok(ways)
 }
 
 /// The ways over each of the ends in turn.
-fn all_ways(alloc: Global, local: Local<'_>, router: u32, ends: &[End]) -> Result<Vec<Way>, Memory>
+fn all_ways(
+    alloc: Global,
+    local: Local<'_>,
+    router: u32,
+    ends: &[End],
+) -> Result<SmallVec<Way, 2>, Memory>
     ensures { IfOk result (λ ways. (w : WayValue) → Contains ways.items w ↔ IsWayOver local.entry.root local.entry.interfaces.now router ends.now w) }
 {
-    let mut ways = Vec::new(alloc);
+    let mut ways = SmallVec::new(alloc);
     for end in ends {
         push_over(local, router, *end, &mut ways)?;
     }
@@ -46,7 +53,12 @@ fn all_ways(alloc: Global, local: Local<'_>, router: u32, ends: &[End]) -> Resul
 
 /// Adds the ways of a router over one of its ends: none where the metric is 0, else one, or at the root
 /// one for each interface that has the address.
-fn push_over(local: Local<'_>, router: u32, end: End, ways: &mut Vec<Way>) -> Result<(), Memory>
+fn push_over(
+    local: Local<'_>,
+    router: u32,
+    end: End,
+    ways: &mut SmallVec<Way, 2>,
+) -> Result<(), Memory>
     ensures { OnOk result (Adds ways.old.items ways.new.items (IsWay local.entry.root local.entry.interfaces.now router end)) }
 {
     if end.metric == 0 {
@@ -67,7 +79,7 @@ fn push_over_interfaces(
     interfaces: &[Up],
     root: u32,
     end: End,
-    ways: &mut Vec<Way>,
+    ways: &mut SmallVec<Way, 2>,
 ) -> Result<(), Memory>
     requires { 0 < end.metric }
     ensures { OnOk result (Adds ways.old.items ways.new.items (IsWay root interfaces.now root end)) }
@@ -79,7 +91,12 @@ fn push_over_interfaces(
 }
 
 /// Adds a way of the root over one of its ends if the interface has the address.
-fn push_over_interface(up: Up, root: u32, end: End, ways: &mut Vec<Way>) -> Result<(), Memory>
+fn push_over_interface(
+    up: Up,
+    root: u32,
+    end: End,
+    ways: &mut SmallVec<Way, 2>,
+) -> Result<(), Memory>
     requires { 0 < end.metric }
     ensures { OnOk result (Adds ways.old.items ways.new.items (IsWay root (up ∷ []) root end)) }
 {

@@ -218,7 +218,7 @@ impl Intra {
     {
         let prefixes = self.follow(alloc, inputs, dirty)?;
         let routers = self.renew_routers(alloc, inputs, dirty)?;
-        let mut dests = Vec::new(alloc);
+        let mut dests = Vec::with_capacity(alloc, prefixes.len())?;
         self.renew_entries(alloc, inputs, prefixes.as_slice(), &mut dests)?;
         add_routers(routers.as_slice(), &mut dests)?;
         Ok(dests)

@@ -7,6 +7,7 @@ use ospf_types::key::{Key, Scope};
 use ospf_types::listed::Listed;
 use ospf_types::memory::Memory;
 use ospf_types::prefix::Prefix;
+use smallvec::SmallVec;
 use std::alloc::{AllocError, Global};
 use std::cmp::Ordering;
 use std::test::Fail;
@@ -40,7 +41,7 @@ fn entry(alloc: Global, hop: NextHop, advertiser: Option<u32>) -> Result<Entry, 
         area: None,
         cost: 20,
         cost2: 5,
-        paths: Paths::new(Vec::from_slice(alloc, &[path])?),
+        paths: Paths::new(SmallVec::from_slice(alloc, &[path])?),
     })
 }
 

@@ -2,6 +2,7 @@
 //! which is searched from the place that a network's hash names, tells where a network's entry is.
 #![tactic(auto)]
 
+mod home_bits;
 mod map;
 mod slots;
 

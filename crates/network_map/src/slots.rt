@@ -4,6 +4,7 @@ ghost use Rattle.std.specs.List.{slice_get};
 ghost use Rattle.ospf_types.specs.Network.{network_word};
 ghost use Rattle.network_map.specs.Slots.{base_of, home_of, AreFew, AreSlotted, HasNetwork, IsFree, IsMore, IsPlaced, IsReady, IsTaken};
 
+use crate::home_bits::{HomeBits, homes};
 use ospf_types::prefix::Prefix;
 use std::alloc::{AllocError, Global};
 use word_hash::WordHash;
@@ -22,6 +23,9 @@ const FEWEST: u32 = 3;
 
 const MOST: u32 = 31;
 
+// How many homes the fewest bits tell apart.
+const LEAST: usize = 8;
+
 // Slots past the last home, so that the last ones seldom fill.
 const TAIL: usize = 64;
 
@@ -33,7 +37,7 @@ pub(crate) struct Slots {
     // None until the first entry comes.
     pub(crate) numbers: Vec<u32>,
     // There are 2 ^ bits homes. The bits of a number above these are the tag.
-    pub(crate) bits: u32,
+    pub(crate) bits: HomeBits,
     // How many slots are not empty.
     pub(crate) used: usize,
 }
@@ -47,7 +51,7 @@ impl Slots {
     {
         Slots {
             numbers: Vec::new(alloc),
-            bits: FEWEST,
+            bits: HomeBits::new(FEWEST),
             used: 0,
         }
     }
@@ -67,7 +71,7 @@ impl Slots {
         numbers.resize(homes(bits) + TAIL, EMPTY)?;
         Ok(Slots {
             numbers,
-            bits,
+            bits: HomeBits::new(bits),
             used: 0,
         })
     }
@@ -95,15 +99,14 @@ impl Slots {
         requires { self.now.bits ≤ 31 }
         ensures { result ≡ false → IsReady self.now count }
     {
-        let homes = homes(self.bits);
+        let homes = self.bits.homes();
         self.numbers.len() < homes || self.used >= homes / 5 * 2 || count >= homes.saturating_sub(2)
     }
 
     // Whether so many entries have more than 20 homes each.
-    pub(crate) fn is_wide(&self, count: usize) -> bool
-        requires { self.now.bits ≤ 31 }
-    {
-        self.bits > FEWEST && count < homes(self.bits) / 20
+    pub(crate) fn is_wide(&self, count: usize) -> bool {
+        let homes = self.bits.homes();
+        homes > LEAST && count < homes / 20
     }
 
     // The place of the network's entry.
@@ -114,7 +117,6 @@ impl Slots {
         hashing: WordHash,
         network: Prefix,
     ) -> Option<usize>
-        requires { self.now.bits ≤ 31 }
         ensures found { IfSome result (λ i. HasNetwork entries.now i network) }
         ensures missing { result ≡ None → (i : ℕ) → HasNetwork entries.now i network → IsPlaced self.now.numbers.items (home_of hashing self.now.bits network) (base_of hashing self.now.bits network + i) → ⊥ }
     {
@@ -169,7 +171,6 @@ impl Slots {
 
     // Takes the slot of the network's entry, which is at the place, out of use.
     fn remove(&mut self, hashing: WordHash, network: Prefix, place: usize)
-        requires bits { self.old.bits ≤ 31 }
         requires room { place + 3 ≤ 2 ^ self.old.bits }
         requires placed { IsPlaced self.old.numbers.items (home_of hashing self.old.bits network) (base_of hashing self.old.bits network + place) }
         ensures others { (h n : ℕ) → n ≢ base_of hashing self.old.bits network + place → IsPlaced self.old.numbers.items h n → IsPlaced self.new.numbers.items h n }
@@ -189,7 +190,6 @@ impl Slots {
 
     // Notes that the network's entry went from one place to another.
     fn relocate(&mut self, hashing: WordHash, network: Prefix, from: usize, to: usize)
-        requires bits { self.old.bits ≤ 31 }
         requires from { from + 3 ≤ 2 ^ self.old.bits }
         requires to { to + 3 ≤ 2 ^ self.old.bits }
         requires placed { IsPlaced self.old.numbers.items (home_of hashing self.old.bits network) (base_of hashing self.old.bits network + from) }
@@ -228,16 +228,6 @@ pub(crate) fn make_room<V>(
     Ok(())
 }
 
-// How many homes so many bits tell apart.
-#[inline]
-fn homes(bits: u32) -> usize
-    requires { bits ≤ 31 }
-    ensures value { result ≡ 2 ^ bits }
-    ensures bound { result ≤ 2 ^ 31 }
-{
-    1 << bits
-}
-
 // How many bits the homes of so many entries need, at most one home in five being full.
 fn bits_for(count: usize) -> Option<u32>
     ensures { IfSome result (λ bits. (bits ≤ 31) × (3 ≤ bits) × (count + 3 ≤ 2 ^ bits) × AreFew bits count) }
@@ -260,31 +250,27 @@ fn word(network: Prefix) -> u64
 
 // The slot at which the search of a network begins: the lowest bits of its hash.
 #[inline]
-fn home(hashing: WordHash, bits: u32, network: Prefix) -> usize
-    requires { bits ≤ 31 }
+fn home(hashing: WordHash, bits: HomeBits, network: Prefix) -> usize
     ensures value { result ≡ home_of hashing bits network }
     ensures within { result < 2 ^ bits }
 {
-    hashing.hash_word(word(network)) as usize & (homes(bits) - 1)
+    bits.home(hashing.hash_word(word(network)))
 }
 
 // The number of a network's entry at the place 0: the tag is of the highest bits of its hash.
 #[inline]
-fn base(hashing: WordHash, bits: u32, network: Prefix) -> usize
-    requires { bits ≤ 31 }
+fn base(hashing: WordHash, bits: HomeBits, network: Prefix) -> usize
     ensures value { result ≡ base_of hashing bits network }
     ensures some { 2 ≤ result }
     ensures bound { result + 2 ^ bits ≤ 2 ^ 32 + 2 }
 {
-    let tag = (hashing.hash_word(word(network)) >> 32) as usize >> bits;
-    tag * homes(bits) + FIRST
+    bits.tag(hashing.hash_word(word(network))) + FIRST
 }
 
 // The number of a network's entry.
 #[inline]
-fn number(hashing: WordHash, bits: u32, network: Prefix, place: usize) -> u32
-    requires bits { bits ≤ 31 }
-    requires room { place + 3 ≤ 2 ^ bits }
+fn number(hashing: WordHash, bits: HomeBits, network: Prefix, place: usize) -> u32
+    requires { place + 3 ≤ 2 ^ bits }
     ensures value { result ≡ base_of hashing bits network + place }
     ensures some { 2 ≤ result }
 {

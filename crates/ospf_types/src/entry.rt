@@ -5,6 +5,7 @@ ghost use Rattle.ospf_types.specs.Vertices.{vertex_cmp, vertex_word};
 
 use crate::hop::Path;
 use crate::memory::Memory;
+use smallvec::SmallVec;
 use std::alloc::Global;
 use std::cmp::Ordering;
 use std::hash::{Hash, Hasher};
@@ -66,10 +67,10 @@ pub enum PathType {
     External2,
 }
 
-/// Paths in their order, each once.
+/// Paths in their order, each once. One stands in the value; more take memory.
 #[derive(Debug)]
 pub struct Paths {
-    items: Vec<Path>,
+    items: SmallVec<Path, 1>,
 }
 
 // proof: one call drops it, in place of a drop of each part wherever one is held.
@@ -94,7 +95,7 @@ impl Model for Paths {
 
 impl Paths {
     /// The paths of a list that is in their order and has each once.
-    pub fn new(items: Vec<Path>) -> Paths
+    pub fn new(items: SmallVec<Path, 1>) -> Paths
         requires { IsStrictlySortedBy path_cmp items.items }
         ensures { result ≡ items.items }
     {
@@ -181,7 +182,7 @@ impl Entry {
             area: self.area,
             cost: self.cost,
             cost2: self.cost2,
-            paths: Paths::new(Vec::from_slice(alloc, self.paths.as_slice())?),
+            paths: Paths::new(SmallVec::from_slice(alloc, self.paths.as_slice())?),
         })
     }
 }

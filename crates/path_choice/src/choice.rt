@@ -8,8 +8,10 @@ ghost use Rattle.path_choice.specs.Takes.{Takes, OnlyOffer};
 
 use ospf_types::hop::{NextHop, Path};
 use ospf_types::memory::Memory;
+use smallvec::SmallVec;
 use std::alloc::Global;
 use std::cmp::{Ordering, Reverse};
+use std::default::MadeWith;
 use std::marker::Model;
 
 /// An order in which only equal values tie.
@@ -98,10 +100,10 @@ impl AreaCost {
 }
 
 /// The least key at which something was offered, with all that was offered at it: in order, each
-/// once.
+/// once. One item stands in the value; more take memory.
 pub struct Choice<K, X> {
     key: K,
-    items: Vec<X>,
+    items: SmallVec<X, 1>,
 }
 
 // proof: one call drops it, in place of a drop of each part wherever one is held.
@@ -138,7 +140,7 @@ impl<K, X> Choice<K, X> {
     }
 
     /// The key, and what was offered at it.
-    pub fn into_parts(self) -> (K, Vec<X>)
+    pub fn into_parts(self) -> (K, SmallVec<X, 1>)
         ensures key { result.0 ≡ self.key }
         ensures items { result.1.items ≡ self.items }
     {
@@ -147,19 +149,19 @@ impl<K, X> Choice<K, X> {
     }
 }
 
-impl<K: ExactOrd + Drop, X: ExactOrd + Drop> Choice<K, X> {
+impl<K: ExactOrd + Drop, X: ExactOrd + Drop + MadeWith<Global>> Choice<K, X> {
     // The choice of a first offer.
     fn of(alloc: Global, key: K, item: X) -> Result<Choice<K, X>, Memory>
         ensures { IfOk result (λ choice. choice ≡ record { key = key; items = item ∷ [] }) }
     {
-        let mut items = Vec::new(alloc);
+        let mut items = SmallVec::new(alloc);
         items.push(item)?;
         Ok(Choice { key, items })
     }
 
     // Takes one more offer: a lesser key is chosen, one more item at the key joins the others, and
     // a greater key changes nothing.
-    fn offer(&mut self, key: K, item: X) -> Result<(), Memory>
+    fn offer(&mut self, alloc: Global, key: K, item: X) -> Result<(), Memory>
         ensures lesser { OnOk result (K.cmp key self.old.key ≡ Ordering.Less → self.new ≡ record { key = key; items = item ∷ [] }) }
         ensures tied { OnOk result (K.cmp key self.old.key ≡ Ordering.Equal → (self.new.key ≡ self.old.key) × HasAlso self.old.items item self.new.items) }
         ensures greater { OnOk result (K.cmp key self.old.key ≡ Ordering.Greater → self.new ≡ self.old) }
@@ -168,9 +170,7 @@ impl<K: ExactOrd + Drop, X: ExactOrd + Drop> Choice<K, X> {
     {
         match key.cmp(&self.key) {
             Ordering::Less => {
-                self.items.insert(0, item)?;
-                self.items.truncate(1);
-                self.key = key;
+                *self = Choice::of(alloc, key, item)?;
                 Ok(())
             }
             Ordering::Equal => {
@@ -183,12 +183,15 @@ impl<K: ExactOrd + Drop, X: ExactOrd + Drop> Choice<K, X> {
 }
 
 // Puts the item in its place, unless it is there.
-fn add_in_order<X: ExactOrd + Drop>(items: &mut Vec<X>, item: X) -> Result<(), Memory>
+fn add_in_order<X: ExactOrd + Drop + MadeWith<Global>>(
+    items: &mut SmallVec<X, 1>,
+    item: X,
+) -> Result<(), Memory>
     ensures added { OnOk result (HasAlso items.old.items item items.new.items) }
     ensures in_order { OnOk result (IsStrictlySortedBy X.cmp items.old.items → IsStrictlySortedBy X.cmp items.new.items) }
     ensures err { OnErr result (items.new.items ≡ items.old.items) }
 {
-    match items.binary_search(&item) {
+    match items.as_slice().binary_search(&item) {
         Ok(_) => Ok(()),
         Err(place) => Ok(items.insert(place, item)?),
     }
@@ -210,7 +213,7 @@ impl<K, X> Model for Best<K, X> {
     ghost view = { λ b. b.choice };
 }
 
-impl<K: ExactOrd + Drop, X: ExactOrd + Drop> Best<K, X> {
+impl<K: ExactOrd + Drop, X: ExactOrd + Drop + MadeWith<Global>> Best<K, X> {
     /// The best of no offers.
     pub fn new(alloc: Global) -> Best<K, X>
         ensures { result ≡ None }
@@ -228,7 +231,7 @@ impl<K: ExactOrd + Drop, X: ExactOrd + Drop> Best<K, X> {
     {
         match &mut self.choice {
             Some(choice) => {
-                choice.offer(key, item)?;
+                choice.offer(self.alloc, key, item)?;
                 Ok(())
             }
             None => {

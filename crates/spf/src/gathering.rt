@@ -1,5 +1,5 @@
 //! What the least links into a vertex give it, of the next hops of their tails (RFC 2328, 16.1.1).
-ghost use Rattle.std.specs.Prelude.{◌≡◌, ◌↔◌, ℕ, IfSome, IfNone, IsTrue, IfOk, OnOk, Contains, option_copied, option_to_list};
+ghost use Rattle.std.specs.Prelude.{◌≡◌, ◌↔◌, ℕ, IfSome, IfNone, IsTrue, IfOk, OnOk, Contains, Some, option_copied, option_to_list};
 ghost use Rattle.std.specs.FinMap as map;
 ghost use Rattle.ospf_types.specs.Distances.{FirstOnly};
 ghost use Rattle.ospf_types.specs.declared.hop.NextHop.{NextHop as Hop};
@@ -18,18 +18,19 @@ use std::alloc::Global;
 use tree_parts::{Distances, HopColumns};
 use vertex_graph::{Graph, Link};
 
-/// The next hops that the least links into a vertex give it.
+/// The next hops that the least links into a vertex, which is this far, give it.
 pub(crate) fn gather(
     alloc: Global,
     graph: &Graph,
     distances: &Distances,
     hops: &HopColumns,
     vertex: Vertex,
+    far: u32,
 ) -> Result<HopSet, Memory>
+    requires { map.get distances.now vertex ≡ Some far }
     ensures { IfOk result (λ set. (h : Hop) → Contains set h ↔ IsGiven (LinksOf graph.now) graph.now.root (map.get distances.now) (hops_of hops.now) vertex h) }
 {
     let root = graph.root();
-    let far = distances.get(vertex);
     let mut set = HopSet::new(alloc);
     for link in graph.links_to(vertex) {
         add_given(root, distances, hops, link, far, &mut set)?;
@@ -62,10 +63,10 @@ fn add_given(
     distances: &Distances,
     hops: &HopColumns,
     link: &Link,
-    far: Option<u32>,
+    far: u32,
     set: &mut HopSet,
 ) -> Result<(), Memory>
-    requires { far ≡ map.get distances.now link.now.to }
+    requires { map.get distances.now link.now.to ≡ Some far }
     ensures { OnOk result (IsUnion set.old set.new (IsGivenOver root (map.get distances.now) (hops_of hops.now) link.now)) }
 {
     if !is_least(distances, link, far) {
@@ -81,12 +82,12 @@ fn add_given(
 }
 
 // Whether a link is a least link: its head, which is this far, is as far as tail and link together.
-fn is_least(distances: &Distances, link: &Link, far: Option<u32>) -> bool
-    requires { far ≡ map.get distances.now link.now.to }
+fn is_least(distances: &Distances, link: &Link, far: u32) -> bool
+    requires { map.get distances.now link.now.to ≡ Some far }
     ensures { IsTrue result ↔ IsLeastLink (map.get distances.now) link.now }
 {
     match distances.get(link.from) {
-        Some(near) => far == Some(near + u32::from(link.cost)),
+        Some(near) => near + u32::from(link.cost) == far,
         None => false,
     }
 }

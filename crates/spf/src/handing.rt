@@ -4,7 +4,7 @@ ghost use Rattle.std.specs.Prelude.{◌≡◌, ◌-◌, ◌^◌, ◌<◌, ◌≤
 ghost use Rattle.std.specs.FinMap as map;
 ghost use Rattle.vertex_graph.specs.Graphs.{LinksOf};
 ghost use Rattle.tree_parts.specs.Members.{HasNoDoubles};
-ghost use Rattle.tree_parts.specs.Maps.{most_distance, with_hops};
+ghost use Rattle.tree_parts.specs.Maps.{with_hops};
 ghost use Rattle.spf.specs.HandedOn.{IsOfSome, ArePut, IsReachedAt, IsHeadOver, IsLeastHead, IsLeastLink, AreBlanked, IsSettled};
 ghost use Rattle.spf.specs.Parts.{AreUnsettled, AreSettled, hops_of};
 
@@ -28,8 +28,10 @@ pub(crate) fn hand(
     losses: &Losses,
     moved: &Members,
     hops: &mut HopColumns,
+    queue: &mut Queue,
     touched: &mut Touched,
 ) -> Result<Members, Memory>
+    requires none_wait { queue.old ≡ map.empty }
     requires unsettled { AreUnsettled graph.now (map.get distances.now) (hops_of hops.old) losses.now.lost moved.now losses.now.stale }
     requires fits { touched.old.taken < 2 ^ 63 }
     requires none_written { touched.old.hop_sets ≡ 0 }
@@ -46,19 +48,19 @@ pub(crate) fn hand(
         touched,
     )?;
     let root = graph.root();
-    let mut queue = Queue::new(alloc, hashing);
-    put_reached(root, distances, moved.as_slice(), &mut queue)?;
-    put_reached(root, distances, losses.stale.as_slice(), &mut queue)?;
+    put_reached(root, distances, moved.as_slice(), queue)?;
+    put_reached(root, distances, losses.stale.as_slice(), queue)?;
     prove!(distances.len() <= usize::MAX / 2);
-    while let Some((vertex, _)) = touched.take(&mut queue) {
+    while let Some((vertex, distance)) = touched.take(queue) {
         settle(
             alloc,
             graph,
             distances,
             vertex,
+            distance,
             hops,
             touched,
-            &mut queue,
+            queue,
             &mut written,
         )?;
     }
@@ -89,30 +91,32 @@ fn blank(
     Ok(written)
 }
 
-// Brings the next hops of a vertex to those that its least links give it. If they are others, the
-// heads of its least links wait.
+// Brings the next hops of a vertex, which is at this distance, to those that its least links give it. If they
+// are others, the heads of its least links wait.
 fn settle(
     alloc: Global,
     graph: &Graph,
     distances: &Distances,
     vertex: Vertex,
+    distance: u32,
     hops: &mut HopColumns,
     touched: &mut Touched,
     queue: &mut Queue,
     written: &mut Members,
 ) -> Result<(), Memory>
+    requires at { map.get distances.now vertex ≡ Some distance }
     requires fresh { Contains written.old vertex → ⊥ }
     requires counted { touched.old.hop_sets ≡ length written.old }
     ensures settled { OnOk result (IsSettled (LinksOf graph.now) graph.now.root (map.get distances.now) queue.old queue.new (hops_of hops.old) (hops_of hops.new) written.old written.new vertex) }
     ensures taken { OnOk result (touched.new.taken ≡ touched.old.taken) }
     ensures counted { OnOk result (touched.new.hop_sets ≡ length written.new) }
 {
-    let set = gather(alloc, graph, distances, hops, vertex)?;
+    let set = gather(alloc, graph, distances, hops, vertex, distance)?;
     if are_same(hops.get(vertex), &set) {
         return Ok(());
     }
     write(vertex, Some(set), hops, touched, written)?;
-    put_heads(graph, distances, vertex, queue)
+    put_heads(graph, distances, vertex, distance, queue)
 }
 
 // Writes the next hops of a vertex where none were written yet.
@@ -168,17 +172,18 @@ fn put_if_reached(
     }
 }
 
-// Lets the heads of the least links out of a vertex wait, but not the root.
+// Lets the heads of the least links out of a vertex, which is this near, wait, but not the root.
 fn put_heads(
     graph: &Graph,
     distances: &Distances,
     vertex: Vertex,
+    near: u32,
     queue: &mut Queue,
 ) -> Result<(), Memory>
+    requires { map.get distances.now vertex ≡ Some near }
     ensures { OnOk result (ArePut (map.get distances.now) (IsLeastHead (LinksOf graph.now) graph.now.root (map.get distances.now) vertex) (map.get queue.old) (map.get queue.new)) }
 {
     let root = graph.root();
-    let near = distances.get(vertex);
     for link in graph.links_from(vertex) {
         put_head(root, distances, link, near, queue)?;
     }
@@ -190,11 +195,10 @@ fn put_head(
     root: u32,
     distances: &Distances,
     link: &Link,
-    near: Option<u32>,
+    near: u32,
     queue: &mut Queue,
 ) -> Result<(), Memory>
-    requires near { near ≡ map.get distances.now link.now.from }
-    requires bounded { IfSome near (λ distance. distance < most_distance) }
+    requires { map.get distances.now link.now.from ≡ Some near }
     ensures { OnOk result (ArePut (map.get distances.now) (IsHeadOver root (map.get distances.now) link.now) (map.get queue.old) (map.get queue.new)) }
 {
     if is_root(root, link.to) {
@@ -208,16 +212,14 @@ fn put_head(
 
 // The distance of a link's head, if that is a least link: the head is as far as its tail, which is this near,
 // and the link together.
-fn least_distance(distances: &Distances, link: &Link, near: Option<u32>) -> Option<u32>
-    requires near { near ≡ map.get distances.now link.now.from }
-    requires bounded { IfSome near (λ distance. distance < most_distance) }
+fn least_distance(distances: &Distances, link: &Link, near: u32) -> Option<u32>
+    requires { map.get distances.now link.now.from ≡ Some near }
     ensures least { IfSome result (λ distance. IsLeastLink (map.get distances.now) link.now) }
     ensures head { IfSome result (λ distance. map.get distances.now link.now.to ≡ Some distance) }
     ensures none { IfNone result (IsLeastLink (map.get distances.now) link.now → ⊥) }
 {
-    let near = near?;
     let far = distances.get(link.to)?;
-    if near + u32::from(link.cost) == far {
+    if u64::from(near) + u64::from(link.cost) == u64::from(far) {
         Some(far)
     } else {
         None

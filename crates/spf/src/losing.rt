@@ -58,7 +58,7 @@ pub(crate) fn lose(
 struct Search {
     losses: Losses,
     suspects: Members,
-    // At which of the links into a vertex the last search for support stopped.
+    // At which of the links into a vertex a search for support stopped, if it passed over many.
     stops: IndexMap<Vertex, usize, WordHash>,
 }
 
@@ -153,8 +153,8 @@ impl Search {
     }
 }
 
-// Whether a link into the vertex supports it at its distance. The search goes on where the last one
-// for the vertex stopped. What that one passed over is read again only before the vertex is lost.
+// Whether a link into the vertex supports it at its distance. The search goes on where one for the vertex stopped, if
+// that passed over eight links or more. What that one passed over is read again only before the vertex is lost.
 fn is_supported(
     stops: &mut IndexMap<Vertex, usize, WordHash>,
     graph: &Graph,
@@ -169,10 +169,23 @@ fn is_supported(
     let start = stops.get(&vertex).copied().unwrap_or(0).min(links.len());
     let (passed, open) = links.split_at(start);
     if let Some(place) = find_support(open, lost, distances, distance) {
-        stops.insert(vertex, start + place)?;
+        note_stop(stops, vertex, start + place, place)?;
         return Ok(true);
     }
     Ok(find_support(passed, lost, distances, distance).is_some())
+}
+
+// Notes where a search for support stopped that passed over many links. A few are soon read again, and take no memory.
+fn note_stop(
+    stops: &mut IndexMap<Vertex, usize, WordHash>,
+    vertex: Vertex,
+    stop: usize,
+    passed: usize,
+) -> Result<(), Memory> {
+    if passed >= 8 {
+        stops.insert(vertex, stop)?;
+    }
+    Ok(())
 }
 
 // The place of the first link that supports its head at the distance.

@@ -1,6 +1,7 @@
 //! The second part of a repair: the distances after, from those that are kept and the links that came.
-ghost use Rattle.std.specs.Prelude.{◌≡◌, ◌↔◌, ◌^◌, ◌<◌, IfOk, OnOk, IsTrue, Contains, length};
+ghost use Rattle.std.specs.Prelude.{◌≡◌, ◌↔◌, ◌^◌, ◌<◌, ℕ, Option, IfOk, OnOk, IsTrue, Contains, length};
 ghost use Rattle.std.specs.FinMap as map;
+ghost use Rattle.ospf_types.specs.declared.entry.Vertex.{Vertex as VertexValue};
 ghost use Rattle.ospf_types.specs.declared.entry.Vertex.TheVariants.{Router as RouterValue};
 ghost use Rattle.vertex_graph.specs.Graphs.{LinksOf, HasRoot};
 ghost use Rattle.vertex_graph.specs.Pairs.{AreCheap};
@@ -29,37 +30,32 @@ pub(crate) fn near(
     came: &[Link],
     losses: &mut Losses,
     distances: &mut Distances,
+    queue: &mut Queue,
     touched: &mut Touched,
 ) -> Result<Members, Memory>
     requires started { AreStarted (LinksOf graph.now) (Among came.now) graph.now.root (HasRoot graph.now) (map.get distances.old) losses.old.lost }
     requires links { (l : LinkValue) → Contains came.now l → LinksOf graph.now l.from l.to l.cost l.label }
+    requires none_wait { queue.old ≡ map.empty }
     requires fits { touched.old.taken ≡ 0 }
     ensures neared { IfOk result (λ moved. AreNeared graph.now came.now (map.get distances.old) (map.get distances.new) losses.old.lost losses.old.stale losses.new.stale moved) }
     ensures lost { OnOk result (losses.new.lost ≡ losses.old.lost) }
+    ensures none_wait { OnOk result (queue.new ≡ map.empty) }
     ensures counted { IfOk result (λ moved. touched.new ≡ record { taken = length moved; hop_sets = touched.old.hop_sets }) }
     ensures small { OnOk result (touched.new.taken < 2 ^ 63) }
 {
     let root = graph.root();
     reset(graph, losses.lost.as_slice(), distances)?;
-    let mut queue = Queue::new(alloc, hashing);
     offer_into(
         graph,
         losses.lost.as_slice(),
         distances,
-        &mut queue,
+        queue,
         &mut losses.stale,
     )?;
-    offer_reached(root, came, distances, &mut queue, &mut losses.stale)?;
+    offer_reached(root, came, distances, queue, &mut losses.stale)?;
     let mut moved = Members::new(alloc, hashing);
-    while let Some((vertex, distance)) = touched.take(&mut queue) {
-        reach(
-            graph,
-            vertex,
-            distance,
-            distances,
-            &mut queue,
-            &mut losses.stale,
-        )?;
+    while let Some((vertex, distance)) = touched.take(queue) {
+        reach(graph, vertex, distance, distances, queue, &mut losses.stale)?;
         moved.add(vertex)?;
         prove!(moved.len() < usize::MAX);
     }
@@ -125,7 +121,29 @@ fn offer_into(
 {
     let root = graph.root();
     for vertex in vertices {
-        offer_reached(root, graph.links_to(*vertex), distances, queue, stale)?;
+        let far = distances.get(*vertex);
+        offer_to(root, graph.links_to(*vertex), far, distances, queue, stale)?;
+    }
+    Ok(())
+}
+
+// Offers the head of these links, which is this far, what it has over them, where the tails are reached.
+fn offer_to(
+    root: u32,
+    links: &[Link],
+    far: Option<u32>,
+    distances: &Distances,
+    queue: &mut Queue,
+    stale: &mut Members,
+) -> Result<(), Memory>
+    requires cheap { AreCheap links.now }
+    requires head { (l : LinkValue) → Contains links.now l → map.get distances.now l.to ≡ far }
+    ensures { OnOk result (AreMade (OverReached root (map.get distances.now) links.now) (map.get distances.now) (map.get queue.old) (map.get queue.new) stale.old stale.new) }
+{
+    for link in links {
+        if let Some(near) = distances.get(link.from) {
+            offer_over(root, link, near, far, queue, stale)?;
+        }
     }
     Ok(())
 }
@@ -143,7 +161,8 @@ fn offer_reached(
 {
     for link in links {
         if let Some(near) = distances.get(link.from) {
-            offer_over(root, link, near, distances, queue, stale)?;
+            let far = distances.get(link.to);
+            offer_over(root, link, near, far, queue, stale)?;
         }
     }
     Ok(())
@@ -163,34 +182,29 @@ fn offer_from(
     ensures { OnOk result (AreMade (OverLinks root links.now near) (map.get distances.now) (map.get queue.old) (map.get queue.new) stale.old stale.new) }
 {
     for link in links {
-        offer_over(root, link, near, distances, queue, stale)?;
+        let far = distances.get(link.to);
+        offer_over(root, link, near, far, queue, stale)?;
     }
     Ok(())
 }
 
-// Offers the head of a link what it has over it, unless that is the root.
+// Offers the head of a link, which is this far, what it has over it, unless that is the root.
 fn offer_over(
     root: u32,
     link: &Link,
     near: u32,
-    distances: &Distances,
+    far: Option<u32>,
     queue: &mut Queue,
     stale: &mut Members,
 ) -> Result<(), Memory>
     requires reached { near < most_distance }
     requires cheap { link.now.cost < 65536 }
-    ensures { OnOk result (AreMade (OverLink root link.now near) (map.get distances.now) (map.get queue.old) (map.get queue.new) stale.old stale.new) }
+    ensures { OnOk result ((distance : VertexValue → Option ℕ) → distance link.now.to ≡ far → AreMade (OverLink root link.now near) distance (map.get queue.old) (map.get queue.new) stale.old stale.new) }
 {
     if is_root(root, link.to) {
         return Ok(());
     }
-    offer(
-        link.to,
-        near + u32::from(link.cost),
-        distances,
-        queue,
-        stale,
-    )
+    offer(link.to, near + u32::from(link.cost), far, queue, stale)
 }
 
 fn is_root(root: u32, vertex: Vertex) -> bool
@@ -202,17 +216,17 @@ fn is_root(root: u32, vertex: Vertex) -> bool
     }
 }
 
-// Offers the vertex a distance. If it is nearer the vertex is queued; if it is as near, it is stale.
+// Offers a vertex, which is this far, a distance. If that is nearer the vertex is queued; if it is as near, it is stale.
 fn offer(
     vertex: Vertex,
     distance: u32,
-    distances: &Distances,
+    far: Option<u32>,
     queue: &mut Queue,
     stale: &mut Members,
 ) -> Result<(), Memory>
-    ensures { OnOk result (AreMade (OneOffer vertex distance) (map.get distances.now) (map.get queue.old) (map.get queue.new) stale.old stale.new) }
+    ensures { OnOk result ((at : VertexValue → Option ℕ) → at vertex ≡ far → AreMade (OneOffer vertex distance) at (map.get queue.old) (map.get queue.new) stale.old stale.new) }
 {
-    let Some(least) = distances.get(vertex) else {
+    let Some(least) = far else {
         return queue.put(vertex, distance);
     };
     if distance < least {

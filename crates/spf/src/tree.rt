@@ -18,6 +18,7 @@ use std::marker::Model;
 use tree_parts::differing::{differing, remember};
 use tree_parts::{Distances, HopColumns, Members, Touched};
 use vertex_graph::{Graph, Link, LinkChanges};
+use vertex_queue::Queue;
 use word_hash::WordHash;
 
 // What the second and the third part of a repair did.
@@ -44,6 +45,8 @@ pub struct Tree {
     hops: HopColumns,
     changed: Vec<Vertex>,
     spent: bool,
+    // Kept for its memory: nothing waits between two repairs.
+    queue: Queue,
     hashing: WordHash,
 }
 
@@ -55,6 +58,7 @@ impl Drop for Tree {
             hops: _hops,
             changed: _changed,
             spent: _,
+            queue: _queue,
             hashing: _,
         } = self;
     }
@@ -93,6 +97,7 @@ impl Tree {
             hops: HopColumns::with_room(alloc, hashing, graph.len())?,
             changed: Vec::new(alloc),
             spent: false,
+            queue: Queue::new(alloc, hashing),
             hashing,
         };
         let mut losses = Losses {
@@ -212,6 +217,8 @@ impl Tree {
     {
         let _ = self.hops.len();
         let mut touched = Touched::none();
+        // proof: nothing waits, as a tree is not repaired once it was refused memory.
+        empty(&mut self.queue);
         let moved = near(
             alloc,
             self.hashing,
@@ -219,6 +226,7 @@ impl Tree {
             came,
             losses,
             &mut self.distances,
+            &mut self.queue,
             &mut touched,
         )?;
         let written = hand(
@@ -229,6 +237,7 @@ impl Tree {
             losses,
             &moved,
             &mut self.hops,
+            &mut self.queue,
             &mut touched,
         )?;
         let _ = self.hops.len();
@@ -247,5 +256,14 @@ impl Tree {
         self.hops.clear();
         self.changed.clear();
         self.spent = true;
+    }
+}
+
+// Takes out all that waits.
+fn empty(queue: &mut Queue)
+    ensures { queue.new ≡ map.empty }
+{
+    if !queue.is_empty() {
+        queue.clear();
     }
 }

@@ -36,8 +36,9 @@ pub fn area_inputs<'a>(
 pub fn interfaces(alloc: Global, state: &State) -> Result<Vec<(u8, Interface)>, Memory>
     ensures { IfOk result (λ interfaces. interfaces.items ≡ map.entries state.now.interfaces) }
 {
-    let mut interfaces = Vec::new(alloc);
-    for (id, interface) in state.interfaces() {
+    let all = state.interfaces();
+    let mut interfaces = Vec::with_capacity(alloc, all.len())?;
+    for (id, interface) in all {
         interfaces.push((*id, *interface))?;
     }
     Ok(interfaces)

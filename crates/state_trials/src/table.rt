@@ -7,6 +7,7 @@ use ospf_types::hop::{NextHop, Path};
 use ospf_types::memory::Memory;
 use ospf_types::prefix::Prefix;
 use route_table::{Item, Match, Table};
+use smallvec::SmallVec;
 use std::alloc::Global;
 use std::hash::RandomState;
 use std::test::Fail;
@@ -25,7 +26,7 @@ fn item(alloc: Global, cost: Option<u32>) -> Result<Item, Memory> {
         area: Some(0),
         cost,
         cost2: 0,
-        paths: Paths::new(Vec::from_slice(alloc, &[path])?),
+        paths: Paths::new(SmallVec::from_slice(alloc, &[path])?),
     }))
 }
 

@@ -21,7 +21,8 @@ pub fn remember(
 ) -> Result<Vec<(Vertex, Option<u32>)>, Memory>
     ensures { IfOk result (λ remembered. remembered.items ≡ list_map (λ v. (v, map.get distances.now v)) (root ∷ lost.now)) }
 {
-    let mut remembered = Vec::from_slice(alloc, &[(root, distances.get(root))])?;
+    let mut remembered = Vec::with_capacity(alloc, 8)?;
+    remembered.push((root, distances.get(root)))?;
     for vertex in lost {
         remembered.push((*vertex, distances.get(*vertex)))?;
     }

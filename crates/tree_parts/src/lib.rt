@@ -4,6 +4,7 @@
 
 pub mod differing;
 mod distances;
+mod few;
 mod hop_columns;
 mod members;
 mod touched;

@@ -2,6 +2,7 @@
 ghost use Rattle.std.specs.Prelude.{◌≡◌, ◌↔◌, ◌<◌, ◌^◌, ◌++◌, ◌∷◌, [], IfNone, IfSome, IsTrue, OnOk, OnErr, IfOk, Contains, length};
 ghost use Rattle.tree_parts.specs.Members.{HasNoDoubles, IsAdded, IsWithMember};
 
+use crate::few::Few;
 use indexmap::IndexSet;
 use ospf_types::entry::Vertex;
 use ospf_types::memory::Memory;
@@ -9,9 +10,18 @@ use std::alloc::Global;
 use std::marker::Model;
 use word_hash::WordHash;
 
-/// A list of vertices has each vertex once, in the order in which they were added.
+/// A list of vertices has each vertex once, in the order in which they were added. Up to eight take no memory.
 pub struct Members {
-    vertices: IndexSet<Vertex, WordHash>,
+    vertices: Vertices,
+    alloc: Global,
+    hashing: WordHash,
+}
+
+// Few are compared in turn, many are looked up by their hash.
+#[derive(Drop)]
+enum Vertices {
+    Few(Few),
+    Many(IndexSet<Vertex, WordHash>),
 }
 
 // proof: one call drops it, in place of a drop of each part wherever one is held.
@@ -19,6 +29,8 @@ impl Drop for Members {
     fn drop(self) {
         let Members {
             vertices: _vertices,
+            alloc: _,
+            hashing: _,
         } = self;
     }
 }
@@ -29,7 +41,9 @@ impl Model for Members {
 
     ghost Value = { List Vertex };
 
-    ghost view = { λ m. m.vertices.keys };
+    ghost use Rattle.tree_parts.specs.Listed.{listed};
+
+    ghost view = { λ m. listed m.vertices };
 }
 
 impl Members {
@@ -38,7 +52,9 @@ impl Members {
         ensures { result ≡ [] }
     {
         Members {
-            vertices: IndexSet::with_hasher(alloc, hashing),
+            vertices: Vertices::Few(Few::new()),
+            alloc,
+            hashing,
         }
     }
 
@@ -46,7 +62,10 @@ impl Members {
     pub fn has(&self, vertex: Vertex) -> bool
         ensures { IsTrue result ↔ Contains self.now vertex }
     {
-        self.vertices.contains(&vertex)
+        match &self.vertices {
+            Vertices::Few(few) => few.has(vertex),
+            Vertices::Many(many) => many.contains(&vertex),
+        }
     }
 
     /// How many vertices are there.
@@ -54,7 +73,10 @@ impl Members {
         ensures value { result ≡ length self.now }
         ensures small { result < 2 ^ 63 }
     {
-        self.vertices.len()
+        match &self.vertices {
+            Vertices::Few(few) => few.len(),
+            Vertices::Many(many) => many.len(),
+        }
     }
 
     /// Lends the vertices, in the order in which they were added.
@@ -62,7 +84,10 @@ impl Members {
         ensures value { result.now ≡ self.now }
         ensures apart { HasNoDoubles self.now }
     {
-        self.vertices.as_slice()
+        match &self.vertices {
+            Vertices::Few(few) => few.as_slice(),
+            Vertices::Many(many) => many.as_slice(),
+        }
     }
 
     /// Adds the vertex at the end, unless it is there. The answer is whether it was not.
@@ -71,7 +96,21 @@ impl Members {
         ensures added { OnOk result (IsAdded self.old self.new vertex) }
         ensures unchanged { OnErr result (self.new ≡ self.old) }
     {
-        Ok(self.vertices.insert(vertex)?)
+        match &mut self.vertices {
+            Vertices::Few(few) => {
+                if few.has(vertex) {
+                    return Ok(false);
+                }
+                if few.has_room() {
+                    few.push(vertex);
+                    return Ok(true);
+                }
+                let many = with_vertex(self.alloc, self.hashing, few.as_slice(), vertex)?;
+                self.vertices = Vertices::Many(many);
+                Ok(true)
+            }
+            Vertices::Many(many) => Ok(many.insert(vertex)?),
+        }
     }
 
     /// Takes the last vertex out.
@@ -80,6 +119,28 @@ impl Members {
         ensures still_none { IfNone result (self.new ≡ []) }
         ensures last { IfSome result (λ vertex. self.old ≡ self.new ++ vertex ∷ []) }
     {
-        self.vertices.pop()
+        match &mut self.vertices {
+            Vertices::Few(few) => few.pop(),
+            Vertices::Many(many) => many.pop(),
+        }
     }
+}
+
+// These vertices and one more, looked up by their hash.
+fn with_vertex(
+    alloc: Global,
+    hashing: WordHash,
+    vertices: &[Vertex],
+    vertex: Vertex,
+) -> Result<IndexSet<Vertex, WordHash>, Memory>
+    requires apart { HasNoDoubles vertices.now }
+    requires fresh { Contains vertices.now vertex → ⊥ }
+    ensures { IfOk result (λ many. many.keys ≡ vertices.now ++ vertex ∷ []) }
+{
+    let mut many = IndexSet::with_capacity_and_hasher(alloc, 16, hashing)?;
+    for vertex in vertices {
+        many.insert(*vertex)?;
+    }
+    many.insert(vertex)?;
+    Ok(many)
 }

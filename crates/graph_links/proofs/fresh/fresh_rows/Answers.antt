@@ -4,7 +4,7 @@ use Rattle.graph_links.proofs.Placing.{fresh_none, fresh_more, fresh_all}
 use Rattle.graph_links.proofs.fresh.fresh_rows.Goals as goal
 
 pub loop-vertex-init : goal.loop-vertex-init
-loop-vertex-init c = fresh_none (ends_in c.args.side) (LinksIn c.args.side) c.new-fresh.result.items c.new-fresh.ensures.items
+loop-vertex-init c = fresh_none (ends_in c.args.side) (LinksIn c.args.side) c.in_ok-fresh.fresh.items c.in_ok-fresh.ensures.items
 
 pub loop-vertex-preserved : goal.loop-vertex-preserved
 loop-vertex-preserved c =

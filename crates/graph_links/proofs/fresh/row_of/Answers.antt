@@ -1,54 +1,89 @@
-use Rattle.std.proofs.Common.{◌<◌, List, [], refl, sym, subst, ◌∙◌}
-use Rattle.std.proofs.lemmas.List.Elements.{All-nil}
-use Rattle.graph_links.specs.declared.link.Link.{Link}
+use Rattle.std.proofs.Common.{◌<◌, ◌-◌, List, get_or, length, refl, sym, subst, arith}
+use Rattle.std.specs.List.{slice_range}
 use Rattle.std.specs.List.Sorted.{IsStrictlySortedBy}
+use Rattle.std.proofs.lemmas.List.Elements.{All-nil}
 use Rattle.ospf_types.specs.declared.entry.Vertex.{Vertex}
-use Rattle.ospf_types.proofs.Elements.{no_element}
-use Rattle.graph_links.specs.EndOrder.{end_cmp}
-use Rattle.graph_links.specs.Pairs.{AreApart, AreCheap}
-use Rattle.graph_links.proofs.Apart.{Apart, apart_nil}
-use Rattle.graph_links.proofs.Neighbouring.{only_old}
+use Rattle.graph_links.specs.declared.end.End.{End}
+use Rattle.graph_links.specs.declared.link.Link.{Link}
+use Rattle.graph_links.specs.EndOrder.{end_cmp, listed_end}
+use Rattle.graph_links.specs.Pairs.{AreAllAt, AreApart, AreCheap}
 use Rattle.graph_links.specs.Sides.{ends_in, LinksIn, IsOutTo, IsIntoFrom}
-use Rattle.graph_links.proofs.Growing.{IsGrown, grown_none, grown_more_at, grown_all}
-use Rattle.graph_links.proofs.Linking.{pushed_as, out_all, into_all, out_named, into_named}
+use Rattle.graph_links.proofs.Apart.{apart_nil}
+use Rattle.graph_links.proofs.AtVertex.{IsFirst}
+use Rattle.graph_links.proofs.Walking.{IsLinkInto, IsLinkOut, all_at, cut_first, cut_none, cut_past, goes_on, into_named, names_more, out_named, walked_all, walked_more, walked_none, walked_others}
 use Rattle.graph_links.proofs.fresh.row_of.Goals as goal
 
-pub loop-to-init : goal.loop-to-init
-loop-to-init c =
-    let Out = IsOutTo (LinksIn c.args.side) c.args.vertex in
-    let Into = IsIntoFrom (LinksIn c.args.side) c.args.vertex in
+pub loop-first-init : goal.loop-first-init
+loop-first-init c =
+    let L = LinksIn c.args.side in
+    let v = c.args.vertex in
     record {
-      out = subst (λ (links : List Link). IsGrown Out [] [] links) (sym c.in_ok-out.ensures.items) (grown_none Out []);
-      into = subst (λ (links : List Link). IsGrown Into [] [] links) (sym c.in_ok-into.ensures.items) (grown_none Into []);
+      within = omega arith;
+      cut = cut_none c.args.ends.now;
+      out = walked_none (IsLinkOut L v) (λ (k : Link). k.to) c.args.ends.now c.in_ok-out.out.items c.in_ok-out.ensures.items;
+      into = walked_none (IsLinkInto L v) (λ (k : Link). k.from) c.args.ends.now c.in_ok-into.into.items c.in_ok-into.ensures.items;
       out_cheap = subst AreCheap (sym c.in_ok-out.ensures.items) (All-nil (λ (l : Link). l.cost < 65536));
       into_cheap = subst AreCheap (sym c.in_ok-into.ensures.items) (All-nil (λ (l : Link). l.cost < 65536));
       out_once = subst AreApart (sym c.in_ok-out.ensures.items) apart_nil;
       into_once = subst AreApart (sym c.in_ok-into.ensures.items) apart_nil;
     }
 
-pub loop-to-preserved : goal.loop-to-preserved
-loop-to-preserved c =
+pub past_from-past-requires-clause-split : goal.past_from-past-requires-clause-split
+past_from-past-requires-clause-split c =
+    let ends : List End = c.args.ends.now in
+    let i = c.loop-first.first in
+    let sorted : IsStrictlySortedBy end_cmp ends = subst (IsStrictlySortedBy end_cmp) (sym c.requires.ends) (c.requires.in_order c.args.vertex) in
+    cut_first ends i (listed_end 0) (get_or ends i (listed_end 0)).to sorted c.loop-first.invariant.cut c.loop-first-test.true refl
+
+pub push_both-requires-clause-own : goal.push_both-requires-clause-own
+push_both-requires-clause-own c =
+    let ends : List End = c.args.ends.now in
+    let i = c.loop-first.first in
+    let to : Vertex = (get_or ends i (listed_end 0)).to in
+    let past = c.past_from-past.result in
+    let sorted : IsStrictlySortedBy end_cmp ends = subst (IsStrictlySortedBy end_cmp) (sym c.requires.ends) (c.requires.in_order c.args.vertex) in
+    let low : IsFirst to ends i = cut_first ends i (listed_end 0) to sorted c.loop-first.invariant.cut c.loop-first-test.true refl in
+    let all : AreAllAt to ends (slice_range ends i past) = all_at to ends i past (listed_end 0) c.loop-first-test.true refl c.past_from-past.ensures.within low c.past_from-past.ensures.split sorted in
+    subst (λ (es : List End). AreAllAt to es (slice_range ends i past)) c.requires.ends all
+
+pub loop-first-smaller : goal.loop-first-smaller
+loop-first-smaller c =
+    let ends : List End = c.args.ends.now in
+    let i = c.loop-first.first in
+    let to : Vertex = (get_or ends i (listed_end 0)).to in
+    let past = c.past_from-past.result in
+    let sorted : IsStrictlySortedBy end_cmp ends = subst (IsStrictlySortedBy end_cmp) (sym c.requires.ends) (c.requires.in_order c.args.vertex) in
+    let low : IsFirst to ends i = cut_first ends i (listed_end 0) to sorted c.loop-first.invariant.cut c.loop-first-test.true refl in
+    let on : i < past = goes_on to ends i past (listed_end 0) c.loop-first-test.true refl c.past_from-past.ensures.within low c.past_from-past.ensures.split in
+    let lt : i < length ends = c.loop-first-test.true in
+    let within = c.past_from-past.ensures.within in
+    let less : length ends - past < length ends - i = omega (arith, on, lt, within) in
+    less
+
+pub loop-first-preserved : goal.loop-first-preserved
+loop-first-preserved c =
     let L = LinksIn c.args.side in
     let v = c.args.vertex in
-    let all = c.as_slice-to-items.result.now in
-    let i = c.loop-to.to-index in
-    let out = c.loop-to.out.items in
-    let into = c.loop-to.into.items in
-    let out_new = c.push_links.new.links.items in
-    let into_new = c.push_links-in-loop-to.new.links.items in
-    let to = c.named-other.result.vertex in
-    let to_is = c.named-other.ensures.vertex in
-    let sorted : IsStrictlySortedBy end_cmp c.args.ends.now = subst (IsStrictlySortedBy end_cmp) (sym c.requires.ends) (c.requires.in_order v) in
-    let once : Apart all = subst (λ (vs : List Vertex). Apart vs) (sym c.as_slice-to-items.ensures.value) (c.in_ok-found.ensures.each_once sorted) in
+    let ends : List End = c.args.ends.now in
+    let i = c.loop-first.first in
+    let to : Vertex = (get_or ends i (listed_end 0)).to in
+    let past = c.past_from-past.result in
+    let sorted : IsStrictlySortedBy end_cmp ends = subst (IsStrictlySortedBy end_cmp) (sym c.requires.ends) (c.requires.in_order v) in
+    let low : IsFirst to ends i = cut_first ends i (listed_end 0) to sorted c.loop-first.invariant.cut c.loop-first-test.true refl in
+    let within = c.past_from-past.ensures.within in
+    let names = names_more to ends i past (listed_end 0) c.loop-first-test.true refl within low c.past_from-past.ensures.split in
+    let out : List Link = c.loop-first.out.items in
+    let into : List Link = c.loop-first.into.items in
+    let pushed = c.in_ok-push_both.ensures in
     record {
-      out = grown_more_at (IsOutTo L v) all i _ [] out out_new c.loop-to-test.true c.loop-to.invariant.out (pushed_as L v _ v to out out_new refl to_is c.in_ok-push_links.ensures.pushed);
-      into = grown_more_at (IsIntoFrom L v) all i _ [] into into_new c.loop-to-test.true c.loop-to.invariant.into (pushed_as L _ v to v into into_new to_is refl c.in_ok-push_links-2.ensures.pushed);
-      out_cheap = c.in_ok-push_links.ensures.cheap c.loop-to.invariant.out_cheap;
-      into_cheap = c.in_ok-push_links-2.ensures.cheap c.loop-to.invariant.into_cheap;
-      out_once = c.in_ok-push_links.ensures.apart c.loop-to.invariant.out_once
-          (λ l early from at. no_element l (only_old (IsOutTo L v) (λ (k : Link). k.to) (λ k w is. is.1) all i _ c.loop-to-test.true once [] out c.loop-to.invariant.out l early (at ∙ to_is)));
-      into_once = c.in_ok-push_links-2.ensures.apart c.loop-to.invariant.into_once
-          (λ l early from at. no_element l (only_old (IsIntoFrom L v) (λ (k : Link). k.from) (λ k w is. is.0) all i _ c.loop-to-test.true once [] into c.loop-to.invariant.into l early (from ∙ to_is)));
+      within = within;
+      cut = cut_past to ends past c.past_from-past.ensures.split;
+      out = walked_more (IsLinkOut L v) (λ (k : Link). k.to) ends to i past out c.push_both.new.out.items (λ (l : Link). IsOutTo L v l to) names (λ l. (λ h. ((h.0, h.2), h.1), λ h. (h.0.0, h.1, h.0.1))) pushed.out c.loop-first.invariant.out;
+      into = walked_more (IsLinkInto L v) (λ (k : Link). k.from) ends to i past into c.push_both.new.into.items (λ (l : Link). IsIntoFrom L v l to) names (λ l. (λ h. ((h.1, h.2), h.0), λ h. (h.1, h.0.0, h.0.1))) pushed.into c.loop-first.invariant.into;
+      out_cheap = pushed.out_cheap c.loop-first.invariant.out_cheap;
+      into_cheap = pushed.into_cheap c.loop-first.invariant.into_cheap;
+      out_once = pushed.out_apart c.loop-first.invariant.out_once (λ l early from at. walked_others (IsLinkOut L v) (λ (k : Link). k.to) ends to i out c.loop-first.invariant.within low c.loop-first.invariant.out l early at);
+      into_once = pushed.into_apart c.loop-first.invariant.into_once (λ l early from at. walked_others (IsLinkInto L v) (λ (k : Link). k.from) ends to i into c.loop-first.invariant.within low c.loop-first.invariant.into l early from);
     }
 
 pub returns-clause-links : goal.returns-clause-links
@@ -56,18 +91,14 @@ returns-clause-links c =
     let side = c.args.side in
     let L = LinksIn side in
     let v = c.args.vertex in
-    let found = c.in_ok-found.found.items in
-    let past = c.loop-to-test.false in
-    let same = c.as_slice-to-items.ensures.value in
+    let ends : List End = c.args.ends.now in
+    let i = c.loop-first.first in
+    let past = c.loop-first-test.false in
     record {
-      out =
-          out_all L v c.args.ends.now found c.loop-to.out.items c.in_ok-found.ensures.exact (out_named side.local.root side.local.interfaces.now (ends_in side) v c.args.ends.now c.requires.ends)
-          (grown_all (IsOutTo L v) c.as_slice-to-items.result.now found c.loop-to.to-index [] c.loop-to.out.items past same c.loop-to.invariant.out);
-      into =
-          into_all L v c.args.ends.now found c.loop-to.into.items c.in_ok-found.ensures.exact (into_named side.local.root side.local.interfaces.now (ends_in side) v c.args.ends.now c.requires.ends)
-          (grown_all (IsIntoFrom L v) c.as_slice-to-items.result.now found c.loop-to.to-index [] c.loop-to.into.items past same c.loop-to.invariant.into);
-      out_cheap = c.loop-to.invariant.out_cheap;
-      into_cheap = c.loop-to.invariant.into_cheap;
-      out_once = c.loop-to.invariant.out_once;
-      into_once = c.loop-to.invariant.into_once;
+      out = walked_all (IsLinkOut L v) (λ (k : Link). k.to) ends i c.loop-first.out.items past (out_named side.local.root side.local.interfaces.now (ends_in side) v ends c.requires.ends) c.loop-first.invariant.out;
+      into = walked_all (IsLinkInto L v) (λ (k : Link). k.from) ends i c.loop-first.into.items past (into_named side.local.root side.local.interfaces.now (ends_in side) v ends c.requires.ends) c.loop-first.invariant.into;
+      out_cheap = c.loop-first.invariant.out_cheap;
+      into_cheap = c.loop-first.invariant.into_cheap;
+      out_once = c.loop-first.invariant.out_once;
+      into_once = c.loop-first.invariant.into_once;
     }

@@ -1,15 +1,22 @@
-use Rattle.std.proofs.Common.{take, []}
+-- So far the links of the groups up to here.
+use Rattle.std.proofs.Common.{length, ◌-◌, ◌≤◌}
+use Rattle.graph_links.specs.declared.link.Link.{Link}
 use Rattle.graph_links.specs.Pairs.{AreApart, AreCheap}
-use Rattle.graph_links.specs.Sides.{LinksIn, IsOutTo, IsIntoFrom}
-use Rattle.graph_links.proofs.Growing.{IsGrown}
+use Rattle.graph_links.specs.Sides.{LinksIn}
+use Rattle.graph_links.proofs.Walking.{AreWalked, IsCut, IsLinkInto, IsLinkOut}
 use Rattle.graph_links.proofs.fresh.row_of.Given as goal
 
-abbrev pub invariant-loop-to : goal.invariant-loop-to
-invariant-loop-to l = record {
-  out : IsGrown (IsOutTo (LinksIn l.fn.side) l.fn.vertex) (take l.to-index l.to-items) [] l.out.items;
-  into : IsGrown (IsIntoFrom (LinksIn l.fn.side) l.fn.vertex) (take l.to-index l.to-items) [] l.into.items;
+abbrev pub invariant-loop-first : goal.invariant-loop-first
+invariant-loop-first l = record {
+  within : l.first ≤ length l.ends;
+  cut : IsCut l.ends l.first;
+  out : AreWalked (IsLinkOut (LinksIn l.fn.side) l.fn.vertex) (λ (k : Link). k.to) l.ends l.first l.out.items;
+  into : AreWalked (IsLinkInto (LinksIn l.fn.side) l.fn.vertex) (λ (k : Link). k.from) l.ends l.first l.into.items;
   out_cheap : AreCheap l.out.items;
   into_cheap : AreCheap l.into.items;
   out_once : AreApart l.out.items;
   into_once : AreApart l.into.items;
 }
+
+abbrev pub decreases-loop-first : goal.decreases-loop-first
+decreases-loop-first l = length l.ends - l.first

@@ -5,4 +5,4 @@ use Rattle.lsa_trials.proofs.types.entry.Goals as goal
 
 pub new-requires : goal.new-requires
 unfolding IsStrictlySortedBy
-new-requires c = subst (IsStrictlySortedBy path_cmp) (sym c.in_ok-from_slice.ensures.items) (tt, tt)
+new-requires c = subst (IsStrictlySortedBy path_cmp) (sym c.in_ok-from_slice.ensures.ok) (tt, tt)

@@ -1,5 +1,4 @@
-use Rattle.std.proofs.Common.{ℕ, ◌-◌, ap, ◌∙◌, bit_and}
-use Rattle.std.proofs.Common.{◌^◌}
+use Rattle.std.proofs.Common.{ℕ, ◌-◌, ◌^◌, ap, ◌∙◌, bit_and}
 use Rattle.word_hash.specs.Words.{mixed}
 use Rattle.network_map.specs.Slots.{home_of}
 use Rattle.network_map.proofs.slots.home.Goals as goal
@@ -7,5 +6,4 @@ use Rattle.network_map.proofs.slots.home.Goals as goal
 pub returns-clause-value : goal.returns-clause-value
 unfolding home_of
 returns-clause-value c =
-    ap (λ (n : ℕ). bit_and c.hash_word.result (n - 1)) c.homes.ensures.value
-    ∙ ap (λ (n : ℕ). bit_and n (2 ^ c.args.bits - 1)) (c.hash_word.ensures ∙ ap (mixed c.args.hashing.multiplier c.args.hashing.start) c.word.ensures)
+    c.home.ensures ∙ ap (λ (n : ℕ). bit_and n (2 ^ c.args.bits - 1)) (c.hash_word.ensures ∙ ap (mixed c.args.hashing.multiplier c.args.hashing.start) c.word.ensures)

@@ -1,4 +1,4 @@
-use Rattle.std.proofs.Common.{ℕ, List, [], ap, subst, sym, ◌∙◌}
+use Rattle.std.proofs.Common.{ℕ, List, [], ap, subst, ◌∙◌}
 use Rattle.std.specs.FinMap.{get}
 use Rattle.ospf_types.specs.declared.hop.NextHop.{NextHop}
 use Rattle.vertex_graph.specs.Graphs.{LinksOf}
@@ -14,7 +14,7 @@ loop-link-init c = union_start (IsGivenOver c.root-root.result (get c.args.dista
 pub add_given-requires : goal.add_given-requires
 add_given-requires c =
     let here = contains_at c.links_to-link-items.result.now c.loop-link.link-index c.link-item.result c.loop-link-test.true c.link-item.is in
-    c.get-far.ensures.value ∙ ap (get c.args.distances.now) (sym ((c.links_to-link-items.ensures.exact c.link-item.result).0 here).0)
+    ap (get c.args.distances.now) ((c.links_to-link-items.ensures.exact c.link-item.result).0 here).0 ∙ c.requires
 
 pub loop-link-preserved : goal.loop-link-preserved
 loop-link-preserved c =

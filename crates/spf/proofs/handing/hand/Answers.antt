@@ -11,25 +11,28 @@ use Rattle.spf.proofs.handing.hand.Goals as goal
 pub loop-vertex-init : goal.loop-vertex-init
 loop-vertex-init c =
     let blanked = subst (λ (lost : List Vertex). AreBlanked (get c.args.distances.now) lost c.args.hops.now c.blank.new.hops c.in_ok-written.written) c.as_slice.ensures.value c.in_ok-written.ensures.blanked in
-    let first = put_named (get c.args.distances.now) c.root-root.result c.args.graph.now.root c.as_slice-2.result.now c.args.moved.now (get c.new-queue.result) (get c.put_reached.new.queue) c.root-root.ensures.value c.as_slice-2.ensures.value c.in_ok-put_reached.ensures in
+    let first = put_named (get c.args.distances.now) c.root-root.result c.args.graph.now.root c.as_slice-2.result.now c.args.moved.now (get c.args.queue.now) (get c.put_reached.new.queue) c.root-root.ensures.value c.as_slice-2.ensures.value c.in_ok-put_reached.ensures in
     let second =
     put_named (get c.args.distances.now) c.root-root.result c.args.graph.now.root c.as_slice-3.result.now c.args.losses.now.stale (get c.put_reached.new.queue) (get c.put_reached-2.new.queue) c.root-root.ensures.value c.as_slice-3.ensures.value c.in_ok-put_reached-2.ensures
     in
-    amidst_start c.requires.unsettled blanked c.new-queue.result c.put_reached.new.queue c.put_reached-2.new.queue c.blank.new.touched.taken c.blank.new.touched.hop_sets c.new-queue.ensures c.in_ok-written.ensures.counted first second
+    amidst_start c.requires.unsettled blanked c.args.queue.now c.put_reached.new.queue c.put_reached-2.new.queue c.blank.new.touched.taken c.blank.new.touched.hop_sets c.requires.none_wait c.in_ok-written.ensures.counted first second
 
 pub take-requires : goal.take-requires
 take-requires c = omega (arith, taken_few c.args.distances.now c.loop-vertex.invariant, c.len.ensures.small, c.len.ensures.value, c.requires.fits, c.in_ok-written.ensures.taken)
 
+pub settle-requires-clause-at : goal.settle-requires-clause-at
+settle-requires-clause-at c = (c.loop-vertex.invariant.handing.queued c.in-Some.vertex c.in-Some.distance c.in-Some.ensures.first.waits).0
+
 pub settle-requires-clause-fresh : goal.settle-requires-clause-fresh
-settle-requires-clause-fresh c = not_written_yet c.loop-vertex.invariant c.in-Some.vertex c.in-Some.field-0-1 c.in-Some.ensures.first.waits
+settle-requires-clause-fresh c = not_written_yet c.loop-vertex.invariant c.in-Some.vertex c.in-Some.distance c.in-Some.ensures.first.waits
 
 pub loop-vertex-smaller : goal.loop-vertex-smaller
 loop-vertex-smaller c =
-    omega (arith, taken_fewer c.args.distances.now c.loop-vertex.invariant c.in-Some.vertex c.in-Some.field-0-1 c.in-Some.ensures.first.waits, ap (λ (t : Touched). t.taken) c.in-Some.ensures.counted, c.in_ok-settle.ensures.taken)
+    omega (arith, taken_fewer c.args.distances.now c.loop-vertex.invariant c.in-Some.vertex c.in-Some.distance c.in-Some.ensures.first.waits, ap (λ (t : Touched). t.taken) c.in-Some.ensures.counted, c.in_ok-settle.ensures.taken)
 
 pub loop-vertex-preserved : goal.loop-vertex-preserved
 loop-vertex-preserved c =
-    amidst_round c.loop-vertex.invariant c.in-Some.vertex c.in-Some.field-0-1 c.in-Some.ensures.first c.take.new.queue c.in-Some.ensures.rest c.in_ok-settle.ensures.settled c.settle.new.touched.taken c.settle.new.touched.hop_sets
+    amidst_round c.loop-vertex.invariant c.in-Some.vertex c.in-Some.distance c.in-Some.ensures.first c.take.new.queue c.in-Some.ensures.rest c.in_ok-settle.ensures.settled c.settle.new.touched.taken c.settle.new.touched.hop_sets
     (c.in_ok-settle.ensures.taken ∙ ap (λ (t : Touched). t.taken) c.in-Some.ensures.counted) c.in_ok-settle.ensures.counted
 
 pub returns-clause-settled : goal.returns-clause-settled

@@ -1,4 +1,4 @@
-use Rattle.std.proofs.Common.{ℕ, ap, subst, sym, ◌∙◌}
+use Rattle.std.proofs.Common.{ℕ, ap, subst, ◌∙◌}
 use Rattle.std.specs.FinMap.{get}
 use Rattle.vertex_graph.specs.Graphs.{LinksOf}
 use Rattle.spf.specs.HandedOn.{IsOfSome, ArePut, IsHeadOver}
@@ -12,7 +12,7 @@ loop-link-init c = put_start (get c.args.distances.now) (IsHeadOver c.root-root.
 pub put_head-requires : goal.put_head-requires
 put_head-requires c =
     let here = contains_at c.links_from-link-items.result.now c.loop-link.link-index c.link-item.result c.loop-link-test.true c.link-item.is in
-    record { near = c.get-near.ensures.value ∙ ap (get c.args.distances.now) (sym ((c.links_from-link-items.ensures.exact c.link-item.result).0 here).0); bounded = c.get-near.ensures.bounded }
+    ap (get c.args.distances.now) ((c.links_from-link-items.ensures.exact c.link-item.result).0 here).0 ∙ c.requires
 
 pub loop-link-preserved : goal.loop-link-preserved
 loop-link-preserved c =

@@ -14,8 +14,8 @@ offer_reached-requires c = λ k d within.
 
 pub loop-vertex-init : goal.loop-vertex-init
 loop-vertex-init c = record {
-  sought = sought_at_start c.args.graph.now c.args.came.now c.args.losses.now.lost c.as_slice.result.now c.as_slice-2.result.now c.new-moved.result c.reset.new.distances c.new-queue.result c.offer_into.new.queue c.offer_reached.new.queue
-      c.root-root.result c.as_slice.ensures.value c.as_slice-2.ensures.value c.new-queue.ensures c.new-moved.ensures c.root-root.ensures.value c.requires.started c.requires.links c.in_ok-reset.ensures c.in_ok-offer_into.ensures c.in_ok-offer_reached.ensures;
+  sought = sought_at_start c.args.graph.now c.args.came.now c.args.losses.now.lost c.as_slice.result.now c.as_slice-2.result.now c.new-moved.result c.reset.new.distances c.args.queue.now c.offer_into.new.queue c.offer_reached.new.queue
+      c.root-root.result c.as_slice.ensures.value c.as_slice-2.ensures.value c.requires.none_wait c.new-moved.ensures c.root-root.ensures.value c.requires.started c.requires.links c.in_ok-reset.ensures c.in_ok-offer_into.ensures c.in_ok-offer_reached.ensures;
   lost = refl;
   counted = λ i. record { taken = (c.requires.fits ∙ sym (ap length c.new-moved.ensures)) i; hop_sets = c.args.touched.now.hop_sets };
   small = omega (arith, ap length c.new-moved.ensures);

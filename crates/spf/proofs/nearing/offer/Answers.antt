@@ -6,17 +6,21 @@ use Rattle.spf.proofs.nearing.offer.Goals as goal
 
 pub returns-in_default : goal.returns-in_default
 returns-in_default c =
-    let at : None ≡ get c.args.distances.now c.args.vertex = c.in_default.ensures.value in
-    on_ok_weaker c.put.result (queued (get c.args.distances.now) c.args.vertex c.args.distance c.args.queue.now c.put.new.self c.args.stale.now (λ d is. absurd cc)) c.put.ensures.put
+    on_ok_weaker c.put.result
+    (λ put at here.
+    let none : at c.args.vertex ≡ None = here ∙ c.in_default.is in
+    queued at c.args.vertex c.args.distance c.args.queue.now c.put.new.self c.args.stale.now (λ d is. let wrong : Some d ≡ None = sym is ∙ none in absurd cc) put)
+    c.put.ensures.put
 
 pub returns-then-distance-least : goal.returns-then-distance-least
 returns-then-distance-least c =
-    let at : Some c.in-Some.least ≡ get c.args.distances.now c.args.vertex = c.in-Some.ensures.value in
     on_ok_weaker c.put-then-distance-least.result
-    (queued (get c.args.distances.now) c.args.vertex c.args.distance c.args.queue.now c.put-then-distance-least.new.self c.args.stale.now (λ d is. let number : c.in-Some.least ≡ d = cc in omega arith))
+    (λ put at here.
+    queued at c.args.vertex c.args.distance c.args.queue.now c.put-then-distance-least.new.self c.args.stale.now
+    (λ d is. let number : c.in-Some.least ≡ d = let both : Some c.in-Some.least ≡ Some d = sym c.in-Some.is ∙ sym here ∙ is in cc in omega arith) put)
     c.put-then-distance-least.ensures.put
 
 pub returns-in_ok-add : goal.returns-in_ok-add
-returns-in_ok-add c =
-    offer_told (get c.args.distances.now) c.args.vertex c.args.distance (get c.args.queue.now) c.args.stale.now c.add.new.self
-    (sym c.in-Some.ensures.value ∙ ap Some (sym c.if-distance-least-2.true)) c.in_ok-add.ensures.added
+returns-in_ok-add c = λ at here.
+    offer_told at c.args.vertex c.args.distance (get c.args.queue.now) c.args.stale.now c.add.new.self
+    (here ∙ c.in-Some.is ∙ ap Some (sym c.if-distance-least-2.true)) c.in_ok-add.ensures.added

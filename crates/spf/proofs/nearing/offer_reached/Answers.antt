@@ -14,7 +14,7 @@ loop-link-preserved c =
     elim c.match-get.branch [
       | in-Some+in_ok-offer_over w ↦
           made_renamed {offers = OverReached c.args.root distance (take (i + 1) links)} w.queue-is w.stale-is
-          (reached_more c.args.root distance links i l c.loop-link-test.true c.link-item.is w.in-Some.near (sym w.in-Some.ensures.value) c.loop-link.invariant w.in_ok-offer_over.ensures)
+          (reached_more c.args.root distance links i l c.loop-link-test.true c.link-item.is w.in-Some.near (sym w.in-Some.ensures.value) c.loop-link.invariant (w.in_ok-offer_over.ensures distance (sym w.get-far.ensures.value)))
       | in_default w ↦
           made_renamed {offers = OverReached c.args.root distance (take (i + 1) links)} w.queue-is w.stale-is
           (unreached_more c.args.root distance links i l c.loop-link-test.true c.link-item.is (sym w.in_default.ensures.value) c.loop-link.invariant)

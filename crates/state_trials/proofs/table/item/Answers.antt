@@ -3,4 +3,4 @@ use Rattle.state_trials.proofs.table.item.Goals as goal
 
 pub new-requires : goal.new-requires
 unfolding IsStrictlySortedBy
-new-requires c = rw c.in_ok-from_slice.ensures.items (tt, tt)
+new-requires c = rw c.in_ok-from_slice.ensures.ok (tt, tt)

@@ -6,7 +6,7 @@ use Rattle.spf.proofs.tree.Tree.build.Goals as goal
 
 pub renew-requires : goal.renew-requires
 renew-requires c = record {
-  begun = ([], blank_begun _ c.new-2.result c.new-3.result c.root.result (λ i. record { distances = c.in_ok-with_room.ensures i; hops = c.in_ok-with_room-2.ensures i; changed = c.new.ensures.items i; spent = false }) c.new-2.ensures c.new-3.ensures c.root.ensures.value c.links_from-came.ensures.exact);
+  begun = ([], blank_begun _ c.new-3.result c.new-4.result c.root.result (λ i. record { distances = c.in_ok-with_room.ensures i; hops = c.in_ok-with_room-2.ensures i; changed = c.new.ensures.items i; spent = false }) c.new-3.ensures c.new-4.ensures c.root.ensures.value c.links_from-came.ensures.exact);
 }
 
 pub returns : goal.returns

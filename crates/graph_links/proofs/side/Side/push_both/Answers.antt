@@ -1,0 +1,68 @@
+use Rattle.std.proofs.Common.{◌≡◌, ◌≢◌, Bool, true, false, List, [], length, refl, sym, ap, subst, ◌∙◌, arith}
+use Rattle.std.specs.Prelude.{◌↔◌, ◌==◌, Contains}
+use Rattle.std.proofs.lemmas.Bool.{false≢true}
+use Rattle.std.proofs.lemmas.Bool.Decides.{nat_tests}
+use Rattle.std.proofs.lemmas.List.{nil_from_length}
+use Rattle.ospf_types.specs.declared.entry.Vertex.{Vertex}
+use Rattle.graph_links.specs.declared.end.End.{End}
+use Rattle.graph_links.specs.Pairs.{AreAllAt}
+use Rattle.graph_links.specs.Sides.{ends_in, ends_or, LinksIn, IsOutTo, IsIntoFrom}
+use Rattle.graph_links.proofs.Linking.{as_pushed, none_into, none_out, none_pushed, some_at}
+use Rattle.graph_links.proofs.side.Side.push_both.Goals.{In_ok-push_links-2}
+use Rattle.graph_links.proofs.side.Side.push_both.Goals as goal
+
+-- the ends of the other that are at the vertex, by another name of the list of all
+found : (v : Vertex) (back here all : List End) → here ≡ all → ((e : End) → Contains back e ↔ (Contains here e × (e.to ≡ v))) → (e : End) → Contains back e ↔ (Contains all e × (e.to ≡ v))
+found v back here all same exact = subst (λ (es : List End). (e : End) → Contains back e ↔ (Contains es e × (e.to ≡ v))) same exact
+
+none : (es : List End) (test : Bool) → test ≡ (length es == 0) → test ≡ true → es ≡ []
+none es test is empty = nil_from_length es (grind (arith, nat_tests))
+
+some : (es : List End) (test : Bool) → test ≡ (length es == 0) → test ≡ false → es ≢ []
+some es test is other empty = false≢true (sym other ∙ is ∙ ap (λ (fs : List End). length fs == 0) empty)
+
+pub returns-then-is_empty-clause-out : goal.returns-then-is_empty-clause-out
+returns-then-is_empty-clause-out c =
+    let side = c.args.self in
+    let v = c.args.own.vertex in
+    let to = c.args.to in
+    let back : List End = c.ends_at-back.result.now in
+    none_pushed c.args.out.now.items (λ l. IsOutTo (LinksIn side) v l to)
+    (none_out side.local.root side.local.interfaces.now (ends_in side) v to back (none back c.is_empty.result c.is_empty.ensures c.if-is_empty.true)
+    (found v back c.slice_or_none.result.now (ends_or (ends_in side to)) (c.slice_or_none.ensures ∙ ap ends_or c.find.ensures) c.ends_at-back.ensures.exact))
+
+pub returns-then-is_empty-clause-into : goal.returns-then-is_empty-clause-into
+returns-then-is_empty-clause-into c =
+    let side = c.args.self in
+    let v = c.args.own.vertex in
+    let to = c.args.to in
+    let back : List End = c.ends_at-back.result.now in
+    none_pushed c.args.into.now.items (λ l. IsIntoFrom (LinksIn side) v l to)
+    (none_into side.local.root side.local.interfaces.now (ends_in side) v to back (none back c.is_empty.result c.is_empty.ensures c.if-is_empty.true)
+    (found v back c.slice_or_none.result.now (ends_or (ends_in side to)) (c.slice_or_none.ensures ∙ ap ends_or c.find.ensures) c.ends_at-back.ensures.exact))
+
+there : (c : In_ok-push_links-2) → AreAllAt c.args.own.vertex (ends_or (ends_in c.args.self c.args.to)) c.ends_at-back.result.now
+there c =
+    let v = c.args.own.vertex in
+    let back : List End = c.ends_at-back.result.now in
+    let all : List End = ends_or (ends_in c.args.self c.args.to) in
+    some_at v all back c.ends_at-back.ensures.in_order (found v back c.slice_or_none.result.now all (c.slice_or_none.ensures ∙ ap ends_or c.find.ensures) c.ends_at-back.ensures.exact)
+    (some back c.is_empty.result c.is_empty.ensures c.if-is_empty.false)
+
+pub returns-clause-out : goal.returns-clause-out
+returns-clause-out c =
+    let side = c.args.self in
+    let v = c.args.own.vertex in
+    let to = c.args.to in
+    let leading = ends_in side in
+    as_pushed side.local.root side.local.interfaces.now leading v to v to (ends_or (leading v)) (ends_or (leading to)) c.args.out.now.items c.push_links.new.links.items refl refl refl refl
+    (c.in_ok-push_links.ensures.pushed (ends_or (leading v)) (ends_or (leading to)) c.requires.own (there c))
+
+pub returns-clause-into : goal.returns-clause-into
+returns-clause-into c =
+    let side = c.args.self in
+    let v = c.args.own.vertex in
+    let to = c.args.to in
+    let leading = ends_in side in
+    as_pushed side.local.root side.local.interfaces.now leading to v to v (ends_or (leading to)) (ends_or (leading v)) c.args.into.now.items c.push_links-2.new.links.items refl refl refl refl
+    (c.in_ok-push_links-2.ensures.pushed (ends_or (leading to)) (ends_or (leading v)) (there c) c.requires.own)
