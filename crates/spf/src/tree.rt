@@ -138,7 +138,7 @@ impl Tree {
         ensures value { result ≡ map.get self.now.distances vertex }
         ensures bounded { IfSome result (λ distance. distance < most_distance) }
     {
-        self.distances.get(vertex)
+        self.distances.find(vertex)
     }
 
     /// The next hops of a vertex, ascending, each once; none for the root, where it is not reached, and where the
@@ -147,7 +147,7 @@ impl Tree {
         ensures value { result.now ≡ listed_hops (map.get self.now.hops vertex) }
         ensures in_order { IsStrictlySortedBy hop_cmp result.now }
     {
-        match self.hops.get(vertex) {
+        match self.hops.find(vertex) {
             Some(hops) => hops.as_slice(),
             None => &[],
         }
