@@ -193,7 +193,10 @@ fn write_at<V: Drop>(
 }
 
 // Takes the vertex's value out, and says whether it had one. The entry keeps its place.
-fn take<V: Drop>(entries: &mut IndexMap<Vertex, (u32, Option<V>), WordHash>, vertex: &Placed) -> bool
+fn take<V: Drop>(
+    entries: &mut IndexMap<Vertex, (u32, Option<V>), WordHash>,
+    vertex: &Placed,
+) -> bool
     ensures taken { values_of entries.new.entries ≡ map.remove (values_of entries.old.entries) vertex.now }
     ensures had { result ≡ is_some (map.get (values_of entries.old.entries) vertex.now) }
 {
@@ -225,11 +228,7 @@ fn take_by_hash<V: Drop>(
 
 // The entry at the index goes to the place, the one that was there to its own, and so on. It ends at an
 // entry that waits for a place beyond all entries, or whose place another has by right.
-fn settle<V>(
-    entries: &mut IndexMap<Vertex, (u32, Option<V>), WordHash>,
-    index: usize,
-    place: usize,
-)
+fn settle<V>(entries: &mut IndexMap<Vertex, (u32, Option<V>), WordHash>, index: usize, place: usize)
     requires { index < length entries.old.entries }
     ensures { values_of entries.new.entries ≡ values_of entries.old.entries }
 {
@@ -267,7 +266,7 @@ fn swap_with<V>(
     ensures same { values_of entries.new.entries ≡ values_of entries.old.entries }
     ensures as_many { length entries.new.entries ≡ length entries.old.entries }
 {
-    if place < entries.len() {
+    if place < entries.len() && place != index {
         entries.swap_indices(index, place);
     }
 }
