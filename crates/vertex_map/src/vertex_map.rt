@@ -230,7 +230,8 @@ fn take_by_hash<V: Drop>(
 // entry that waits for a place beyond all entries, or whose place another has by right.
 fn settle<V>(entries: &mut IndexMap<Vertex, (u32, Option<V>), WordHash>, index: usize, place: usize)
     requires { index < length entries.old.entries }
-    ensures { values_of entries.new.entries ≡ values_of entries.old.entries }
+    ensures same { values_of entries.new.entries ≡ values_of entries.old.entries }
+    ensures as_many { length entries.new.entries ≡ length entries.old.entries }
 {
     let mut next = exchange(entries, index, place);
     for _ in 0..entries.len() {
@@ -271,10 +272,10 @@ fn swap_with<V>(
     }
 }
 
-// Whether no entry is to go to the place: it is beyond all, or the entry's that is there.
+// Whether no other entry is to go to the place: it is beyond all, or that of a vertex with a value.
 fn is_home<V>(entries: &IndexMap<Vertex, (u32, Option<V>), WordHash>, place: usize) -> bool {
     match entries.get_index(place) {
-        Some((_, kept)) => kept.0 as usize == place,
+        Some((_, kept)) => kept.0 as usize == place && kept.1.is_some(),
         None => true,
     }
 }
@@ -289,6 +290,17 @@ fn make_room<V: Drop>(
 {
     if is_sparse(values, entries.len()) && !entries.contains_key(&vertex) {
         tidy(entries);
+        settle_all(entries);
+    }
+}
+
+// Each entry goes to its place.
+fn settle_all<V>(entries: &mut IndexMap<Vertex, (u32, Option<V>), WordHash>)
+    ensures { values_of entries.new.entries ≡ values_of entries.old.entries }
+{
+    for index in 0..entries.len() {
+        let place = entries[index].0 as usize;
+        settle(entries, index, place);
     }
 }
 
