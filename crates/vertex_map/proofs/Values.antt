@@ -26,26 +26,26 @@ module _ {V : Type 0} where
   get_with m v (Some x) q = get-insert vertex_total m v x q
   get_with m v None q = get-remove vertex_total m v q
 
-  seen : (b : Bool) (o : Option V) (r : Option (Option V)) → inner (cond b (Some o) r) ≡ cond b o (inner r)
-  seen true o r = refl
-  seen false o r = refl
+  seen : (b : Bool) (p : ℕ × Option V) (r : Option (ℕ × Option V)) → inner (cond b (Some p) r) ≡ cond b p.1 (inner r)
+  seen true p r = refl
+  seen false p r = refl
 
   -- what a look-up finds is the vertex's value
-  pub value_is : (es : List (Vertex × Option V)) (q : Vertex) → inner (lookup (vertices_equal q) es) ≡ get (values_of es) q
+  pub value_is : (es : List (Vertex × (ℕ × Option V))) (q : Vertex) → inner (lookup (vertices_equal q) es) ≡ get (values_of es) q
   value_is [] q = sym (get-empty vertex_cmp q)
   value_is (e ∷ es) q =
       seen (vertices_equal q e.0) e.1 (lookup (vertices_equal q) es)
-      ∙ (λ i. cond (vertices_order i q e.0) e.1 (value_is es q i)) ∙ sym (get_with (values_of es) e.0 e.1 q)
+      ∙ (λ i. cond (vertices_order i q e.0) e.1.1 (value_is es q i)) ∙ sym (get_with (values_of es) e.0 e.1.1 q)
 
   -- an entry's value is that of its vertex
-  pub found_at : (es : List (Vertex × Option V)) (w v : Vertex) (o : Option V) → lookup (vertices_equal w) es ≡ Some o → w ≡ v → get (values_of es) v ≡ o
-  found_at es w v o is same = sym (value_is es v) ∙ ap inner (subst (λ (x : Vertex). lookup (vertices_equal x) es ≡ Some o) same is)
+  pub found_at : (es : List (Vertex × (ℕ × Option V))) (w v : Vertex) (p : ℕ × Option V) → lookup (vertices_equal w) es ≡ Some p → w ≡ v → get (values_of es) v ≡ p.1
+  found_at es w v p is same = sym (value_is es v) ∙ ap inner (subst (λ (x : Vertex). lookup (vertices_equal x) es ≡ Some p) same is)
 
-  pub not_found : (es : List (Vertex × Option V)) (v : Vertex) → lookup (vertices_equal v) es ≡ None → get (values_of es) v ≡ None
+  pub not_found : (es : List (Vertex × (ℕ × Option V))) (v : Vertex) → lookup (vertices_equal v) es ≡ None → get (values_of es) v ≡ None
   not_found es v none = sym (value_is es v) ∙ ap inner none
 
   -- a look-up finds the vertex's own entry
-  pub key_found : (es : List (Vertex × Option V)) (v w : Vertex) → lookup_key (vertices_equal v) es ≡ Some w → w ≡ v
+  pub key_found : (es : List (Vertex × (ℕ × Option V))) (v w : Vertex) → lookup_key (vertices_equal v) es ≡ Some w → w ≡ v
   key_found [] v w is = absurd cc
   key_found (e ∷ es) v w is = by (key_found es v w) (vertices_equal v e.0) refl is
     where
@@ -54,14 +54,14 @@ module _ {V : Type 0} where
       by rest false other later = rest later
 
   -- what an update at one vertex leaves
-  pub updated : (es fs : List (Vertex × Option V)) (v : Vertex) (o : Option V) → ((q : Vertex) → lookup (vertices_equal q) fs ≡ cond (vertices_equal v q) (Some o) (lookup (vertices_equal q) es)) → values_of fs ≡ with_value (values_of es) v o
-  updated es fs v o updates = same_map vertex_total vertex_exact (values_of fs) (with_value (values_of es) v o) (λ q.
-      sym (value_is fs q) ∙ ap inner (updates q) ∙ seen (vertices_equal v q) o (lookup (vertices_equal q) es)
-      ∙ (λ i. cond (vertices_order i v q) o (value_is es q i))
-      ∙ ap (λ b. cond b o (get (values_of es) q)) ((eq_by_cmp_equiv vertex_total).symm v q) ∙ sym (get_with (values_of es) v o q))
+  pub updated : (es fs : List (Vertex × (ℕ × Option V))) (v : Vertex) (p : ℕ × Option V) → ((q : Vertex) → lookup (vertices_equal q) fs ≡ cond (vertices_equal v q) (Some p) (lookup (vertices_equal q) es)) → values_of fs ≡ with_value (values_of es) v p.1
+  updated es fs v p updates = same_map vertex_total vertex_exact (values_of fs) (with_value (values_of es) v p.1) (λ q.
+      sym (value_is fs q) ∙ ap inner (updates q) ∙ seen (vertices_equal v q) p (lookup (vertices_equal q) es)
+      ∙ (λ i. cond (vertices_order i v q) p.1 (value_is es q i))
+      ∙ ap (λ b. cond b p.1 (get (values_of es) q)) ((eq_by_cmp_equiv vertex_total).symm v q) ∙ sym (get_with (values_of es) v p.1 q))
 
   -- entries in which each look-up finds the same have the same values
-  pub same_values : (es fs : List (Vertex × Option V)) → ((q : Vertex) → lookup (vertices_equal q) fs ≡ lookup (vertices_equal q) es) → values_of fs ≡ values_of es
+  pub same_values : (es fs : List (Vertex × (ℕ × Option V))) → ((q : Vertex) → lookup (vertices_equal q) fs ≡ lookup (vertices_equal q) es) → values_of fs ≡ values_of es
   same_values es fs same = same_map vertex_total vertex_exact (values_of fs) (values_of es) (λ q. sym (value_is fs q) ∙ ap inner (same q) ∙ value_is es q)
 
   -- a vertex without a value is taken out
@@ -81,9 +81,9 @@ module _ {V : Type 0} where
   len_removed m v had is = len-remove vertex_total m v ∙ ap (λ b. cond b (len m - 1) (len m)) (sym is)
 
   -- no more than entries
-  pub len_most : (es : List (Vertex × Option V)) → len (values_of es) ≤ length es
+  pub len_most : (es : List (Vertex × (ℕ × Option V))) → len (values_of es) ≤ length es
   len_most [] = omega (arith, len-empty vertex_cmp V)
-  len_most (e ∷ es) = with_one (values_of es) e.0 e.1 (length es) (len_most es)
+  len_most (e ∷ es) = with_one (values_of es) e.0 e.1.1 (length es) (len_most es)
     where
       grown : (b : Bool) (n : ℕ) → cond b n (n + 1) ≤ n + 1
       grown true n = omega arith
@@ -107,20 +107,20 @@ module _ {V : Type 0} where
 
   -- ---- the entries that have a value
 
-  abbrev pub has_value : Vertex × Option V → Bool
-  has_value e = is_some e.1
+  abbrev pub has_value : Vertex × (ℕ × Option V) → Bool
+  has_value e = is_some e.1.1
 
-  absent : (v : Vertex) (es : List (Vertex × Option V)) → AllByRecursion (λ k. vertices_equal v k ≡ false) (keys_of es) → lookup (vertices_equal v) es ≡ None
+  absent : (v : Vertex) (es : List (Vertex × (ℕ × Option V))) → AllByRecursion (λ k. vertices_equal v k ≡ false) (keys_of es) → lookup (vertices_equal v) es ≡ None
   absent v [] none = refl
   absent v (e ∷ es) none = ap (λ b. cond b (Some e.1) (lookup (vertices_equal v) es)) none.0 ∙ absent v es none.1
 
   -- the others can be given up
-  pub values_kept : (es : List (Vertex × Option V)) → IsDistinct vertices_equal (keys_of es) → values_of (filter has_value es) ≡ values_of es
+  pub values_kept : (es : List (Vertex × (ℕ × Option V))) → IsDistinct vertices_equal (keys_of es) → values_of (filter has_value es) ≡ values_of es
   values_kept [] unique = refl
-  values_kept (e ∷ es) unique = by e.1 refl (values_kept es (IsDistinct-tail vertices_equal e.0 (keys_of es) unique))
+  values_kept (e ∷ es) unique = by e.1.1 refl (values_kept es (IsDistinct-tail vertices_equal e.0 (keys_of es) unique))
     where
-      by : (o : Option V) → e.1 ≡ o → values_of (filter has_value es) ≡ values_of es → values_of (cond (is_some e.1) (e ∷ filter has_value es) (filter has_value es)) ≡ values_of (e ∷ es)
-      by (Some x) is rest = ap (λ b. values_of (cond b (e ∷ filter has_value es) (filter has_value es))) (ap is_some is) ∙ ap (λ m. with_value m e.0 e.1) rest
+      by : (o : Option V) → e.1.1 ≡ o → values_of (filter has_value es) ≡ values_of es → values_of (cond (is_some e.1.1) (e ∷ filter has_value es) (filter has_value es)) ≡ values_of (e ∷ es)
+      by (Some x) is rest = ap (λ b. values_of (cond b (e ∷ filter has_value es) (filter has_value es))) (ap is_some is) ∙ ap (λ m. with_value m e.0 e.1.1) rest
       by None is rest =
           ap (λ b. values_of (cond b (e ∷ filter has_value es) (filter has_value es))) (ap is_some is) ∙ rest
           ∙ none_taken (values_of es) e.0 (not_found es e.0 (absent e.0 es (IsDistinct-head vertices_equal e.0 (keys_of es) unique)))

@@ -77,6 +77,12 @@ impl Placed {
         self.vertex
     }
 
+    // The same as the number that it was made with.
+    #[inline]
+    pub(crate) fn number(&self) -> u32 {
+        self.place
+    }
+
     /// Where it is looked for first.
     #[inline]
     pub fn place(&self) -> usize {

@@ -14,12 +14,12 @@ returns-in_default-clause-had g c =
 pub returns-clause-taken : goal.returns-clause-taken
 returns-clause-taken g c =
     c.write_at.ensures c.args.vertex (
-      c.in-Some.value.now,
+      c.in-Some.kept.now,
       c.in-Some.ensures.entry
-          ∙ ap (λ v. Some (v, c.in-Some.value.now)) (key_found c.args.entries.now.entries c.args.vertex c.in-Some.field-0-1.now (sym c.in-Some.ensures.key)),
+          ∙ ap (λ v. Some (v, c.in-Some.kept.now)) (key_found c.args.entries.now.entries c.args.vertex c.in-Some.field-0-1.now (sym c.in-Some.ensures.key)),
     )
 
 pub returns-clause-had : goal.returns-clause-had
 returns-clause-had g c =
     c.is_some-had.ensures
-    ∙ ap is_some (sym (found_at c.args.entries.now.entries c.args.vertex c.args.vertex c.in-Some.value.now (sym c.in-Some.ensures.value) refl))
+    ∙ ap is_some (sym (found_at c.args.entries.now.entries c.args.vertex c.args.vertex c.in-Some.kept.now (sym c.in-Some.ensures.value) refl))

@@ -6,7 +6,7 @@ use Rattle.vertex_map.proofs.vertex_map.VertexMap.find.Goals as goal
 
 pub returns-in-Some : goal.returns-in-Some
 returns-in-Some g c =
-    c.as_ref.ensures.value ∙ sym (found_at c.self.inside.entries.entries c.args.vertex c.args.vertex c.in-Some.value.now (sym c.in-Some.ensures.value) refl)
+    c.as_ref.ensures.value ∙ sym (found_at c.self.inside.entries.entries c.args.vertex c.args.vertex c.in-Some.kept.now (sym c.in-Some.ensures.value) refl)
     ∙ ap (λ (m : FinMap vertex_cmp g.row.V.Denot). get m c.args.vertex) c.self.view_is
 
 pub returns-in-None : goal.returns-in-None

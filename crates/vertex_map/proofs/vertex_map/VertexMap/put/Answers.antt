@@ -7,8 +7,8 @@ use Rattle.vertex_map.proofs.vertex_map.VertexMap.put.Goals as goal
 
 abbrev after : goal.returns-clause-ok
 after g c =
-    c.move_to.ensures
-    ∙ updated c.make_room.new.entries.entries c.insert_full.new.self.entries c.args.vertex (Some c.args.value) c.in_ok-index.ensures.updates.0
+    c.settle.ensures.same
+    ∙ updated c.make_room.new.entries.entries c.insert_full.new.self.entries c.args.vertex (c.args.number, Some c.args.value) c.in_ok-index.ensures.updates.0
     ∙ ap (λ (m : FinMap vertex_cmp g.row.V.Denot). insert m c.args.vertex c.args.value) (c.make_room.ensures ∙ c.self.view_is)
 
 pub returns-clause-ok : goal.returns-clause-ok
