@@ -1,0 +1,35 @@
+-- The bytes of hexadecimal digits, a pair of digits after the other.
+use Rattle.std.proofs.Common.{ℕ, ◌≡◌, ◌+◌, ◌*◌, ◌<◌, ◌≤◌, List, [], ◌∷◌, length, take, drop, slice_index, Option, Some, None, Result, Ok, Err, arith, refl, ap, sym, ◌∙◌}
+use Rattle.hex.specs.Hex.{decode_pairs, decode_sized, digit_or_error, hex_digit_value, pair_value, ◌>>=◌}
+use Rattle.hex.specs.declared.error.FromHexError.{FromHexError}
+use Rattle.hex.proofs.HexLemmas.{decode_of-even}
+use Rattle.hex.proofs.Pairs.{decode_done, decode_err, decode_pairs-ok_pair, prepend}
+use Rattle.recording.specs.Reading.{bytes_of, bytes_or_none}
+
+-- what two digits say does not depend on their place
+anywhere : (high low place byte : ℕ) (first second : Option ℕ)
+    → (digit_or_error high place first >>= (λ h. digit_or_error low (place + 1) second >>= (λ l. Ok (h * 16 + l)))) ≡ Ok byte
+    → (digit_or_error high 0 first >>= (λ h. digit_or_error low 1 second >>= (λ l. Ok (h * 16 + l)))) ≡ Ok byte
+anywhere high low place byte (Some h) (Some l) e = e
+anywhere high low place byte (Some h) None e = cc e
+anywhere high low place byte None second e = cc e
+
+pub alone : (high low place byte : ℕ) → pair_value high low place ≡ Ok byte → decode_sized (high ∷ low ∷ []) 1 ≡ Ok (byte ∷ [])
+unfolding decode_pairs
+alone high low place byte e = decode_pairs-ok_pair 0 high low byte [] (anywhere high low place byte (hex_digit_value high) (hex_digit_value low) e)
+
+-- where the whole decodes, so does the next pair
+module _ (digits out bytes : List ℕ) (i : ℕ) (fits : 2 * i + 1 < length digits) (whole : decode_pairs 0 digits ≡ Ok bytes)
+    (so_far : decode_pairs 0 digits ≡ prepend (take i out) (decode_pairs (2 * i) (drop (2 * i) digits))) where
+  read : (found : Result ℕ FromHexError) → pair_value (slice_index digits (2 * i)) (slice_index digits (2 * i + 1)) (2 * i) ≡ found
+      → (byte : ℕ) × (pair_value (slice_index digits (2 * i)) (slice_index digits (2 * i + 1)) (2 * i) ≡ Ok byte)
+  read (Ok byte) e = (byte, e)
+  read (Err why) e = cc (sym whole ∙ decode_err digits out i why fits e so_far)
+
+  pub next_pair : (byte : ℕ) × (pair_value (slice_index digits (2 * i)) (slice_index digits (2 * i + 1)) (2 * i) ≡ Ok byte)
+  next_pair = read (pair_value (slice_index digits (2 * i)) (slice_index digits (2 * i + 1)) (2 * i)) refl
+
+pub all_pairs : (digits out : List ℕ) (i : ℕ) → length digits ≡ 2 * length out → length out ≤ i
+    → decode_pairs 0 digits ≡ prepend (take i out) (decode_pairs (2 * i) (drop (2 * i) digits)) → out ≡ bytes_of digits
+all_pairs digits out i twice past so_far =
+    sym (ap bytes_or_none (decode_of-even digits (omega (arith, twice)) ∙ decode_done digits out i past (omega (arith, twice)) so_far))

@@ -1,0 +1,27 @@
+//! The bytes that hexadecimal digits write.
+ghost use Rattle.std.specs.Prelude.{◌≡◌, ◌*◌, ℕ, length};
+ghost use Rattle.hex.specs.Hex.{decode_of, pair_value};
+ghost use Rattle.recording.specs.Reading.{bytes_of};
+
+use hex::FromHex;
+
+/// Puts the bytes that the digits write.
+pub(crate) fn decode(digits: &[u8], bytes: &mut [u8])
+    requires digits { decode_of digits.now ≡ Ok (bytes_of digits.now) }
+    requires room { length digits.now ≡ 2 * length bytes.old }
+    ensures { bytes.new ≡ bytes_of digits.now }
+{
+    for place in 0..bytes.len() {
+        bytes[place] = byte_of(digits[2 * place], digits[2 * place + 1]);
+    }
+}
+
+// The byte that two digits write. Where one is no digit the answer is 0 and nothing ends, so that many bytes are decoded at once.
+fn byte_of(high: u8, low: u8) -> u8
+    ensures { (place byte : ℕ) → pair_value high low place ≡ Ok byte → result ≡ byte }
+{
+    match <[u8; 1]>::from_hex([high, low]) {
+        Ok(bytes) => bytes[0],
+        Err(_) => 0,
+    }
+}
