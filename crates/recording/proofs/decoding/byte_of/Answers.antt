@@ -1,10 +1,8 @@
-use Rattle.std.proofs.Common.{ap, sym, ◌∙◌, slice_index_or}
-use Rattle.recording.specs.Reading.{bytes_or_none}
-use Rattle.recording.proofs.Decoded.{alone}
+use Rattle.std.proofs.Common.{◌+◌, arith}
+use Rattle.recording.proofs.Decoded.{both_digits}
 use Rattle.recording.proofs.decoding.byte_of.Goals as goal
 
-pub returns-in-Ok : goal.returns-in-Ok
-returns-in-Ok c place byte e = ap (λ r. slice_index_or (bytes_or_none r) 0 0) (sym c.in-Ok.is ∙ c.from_hex.ensures ∙ alone c.args.high c.args.low place byte e)
-
-pub returns-in-Err : goal.returns-in-Err
-returns-in-Err c place byte e = cc (sym c.in-Err.is ∙ c.from_hex.ensures ∙ alone c.args.high c.args.low place byte e)
+pub returns : goal.returns
+returns c place byte e =
+    let found = both_digits c.args.high c.args.low place byte e in
+    omega (arith, c.digit_value.ensures.value place found.0 found.2, c.digit_value-2.ensures.value (place + 1) found.1 found.3, found.4)
