@@ -1,6 +1,6 @@
 -- An index stays one as the offers of a vertex are taken out and put in, one prefix at a time.
-use Rattle.std.proofs.Common.{◌≡◌, ◌≢◌, ℕ, ◌+◌, ◌<◌, ◌≤◌, true, false, List, [], ◌∷◌, ◌++◌, length, take, get_or, None, refl, sym, ap, subst, ◌∙◌, ◌⊎◌, inl, inr, arith}
-use Rattle.std.specs.Prelude.{◌↔◌}
+use Rattle.std.proofs.Common.{◌≡◌, ◌≢◌, ℕ, ◌+◌, ◌<◌, ◌≤◌, true, false, Bor, List, [], ◌∷◌, ◌++◌, length, take, get_or, Option, Some, None, refl, sym, ap, subst, ◌∙◌, ◌⊎◌, inl, inr, arith}
+use Rattle.std.specs.Prelude.{◌↔◌, option_copied, option_map}
 use Rattle.std.specs.FinMap.{get, insert, remove}
 use Rattle.std.specs.List.{Contains}
 use Rattle.std.proofs.lemmas.Bool.{false≢true}
@@ -10,10 +10,13 @@ use Rattle.ospf_types.specs.declared.entry.Vertex.{Vertex}
 use Rattle.ospf_types.specs.declared.prefix.Prefix.{Prefix}
 use Rattle.ospf_types.proofs.Elements.{no_element}
 use Rattle.ospf_types.proofs.Orders.{network_total, network_exact}
+use Rattle.ospf_types.specs.Lsa.{Body, Lsa}
+use Rattle.lsdb.specs.Databases.{Database}
+use Rattle.area_trees.specs.Areas.{IsStanding}
 use Rattle.spf.proofs.OfSome.{contains_more}
 use Rattle.intra.specs.declared.area_index.Source.{Source}
 use Rattle.intra.specs.declared.offered.Offer.{Offer}
-use Rattle.intra.specs.Indexes.{IndexValue, OfferedValue, SourcesByPrefix, IsIndex, IsSource, AreTouched, sources_of, offers_of}
+use Rattle.intra.specs.Indexes.{IndexValue, OfferedValue, SourcesByPrefix, IsIndex, IsSource, IsOfferedFor, AreTouched, body_of, sources_of, offers_of}
 use Rattle.intra.specs.IndexSteps.{AreGone, HaveCome, IsPrefixOf, IsOfferOf, AreNamed}
 use Rattle.ospf_types.proofs.VertexOrder.{vertices_equal, vertices_decided, vertex_total, vertex_exact}
 use Rattle.ospf_types.proofs.KeyOrders.{prefixes_equal, prefixes_decided}
@@ -269,3 +272,14 @@ module _ (v : Vertex) (offers same : List Offer) (is : offers ≡ same) where
 
   pub named_kept : (before after : List Prefix) → AreNamed offers before after → AreNamed same before after
   named_kept before after named = subst (λ (os : List Offer). AreNamed os before after) is named
+
+-- ---- what stands for a vertex
+
+body_is : (o : Option (Bor Lsa)) → option_map (λ (l : Bor Lsa). l.now.body) o ≡ body_of (option_copied o)
+body_is None = refl
+body_is (Some l) = refl
+
+-- what is offered by the LSA that stands for the vertex
+pub taken_from : (d e : Database) (v : Vertex) (lsa : Option (Bor Lsa)) (offered : Option OfferedValue) → e ≡ d → IsStanding e v (option_map (λ (l : Bor Lsa). l.now.body) lsa) → IsOfferedFor v (body_of (option_copied lsa)) offered
+    → (body : Option Body) × IsStanding d v body × IsOfferedFor v body offered
+taken_from d e v lsa offered same stands is = (body_of (option_copied lsa), subst (λ (x : Database). IsStanding x v (body_of (option_copied lsa))) same (subst (IsStanding e v) (body_is lsa) stands), is)

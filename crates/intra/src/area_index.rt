@@ -1,18 +1,19 @@
 //! The index of an area: what each vertex offers, and who offers each prefix. It follows the area's LSAs alone.
-ghost use Rattle.std.specs.Prelude.{◌≡◌, ◌≢◌, ◌↔◌, ℕ, List, Option, None, Contains, IfOk, OnOk, option_copied};
+ghost use Rattle.std.specs.Prelude.{◌≡◌, ◌≢◌, ◌↔◌, ℕ, List, Option, Some, None, Contains, IfOk, IfSome, IsTrue, OnOk, option_copied};
 ghost use Rattle.std.specs.FinMap as map;
 ghost use Rattle.std.specs.List.{AllPairs};
 ghost use Rattle.vertex_graph.specs.Up.{Up as UpValue};
 ghost use Rattle.ospf_types.specs.declared.entry.Vertex.{Vertex as VertexValue};
-ghost use Rattle.ospf_types.specs.Lsa.{Body};
-ghost use Rattle.area_trees.specs.Areas.{IsAreaTree, IsStanding};
+ghost use Rattle.ospf_types.specs.Lsa.{Body, key_of};
+ghost use Rattle.area_trees.specs.Areas.{IsAreaTree, IsStanding, vertex_of};
 ghost use Rattle.ospf_types.specs.declared.prefix.Prefix.{Prefix as PrefixValue};
-ghost use Rattle.intra.specs.Indexes.{IsIndex, IsSource, IsOfferedFor, AreTouched, sources_of};
+ghost use Rattle.intra.specs.Indexes.{IsIndex, IsSource, IsOfferedFor, AreTouched, body_of, sources_of};
 ghost use Rattle.intra.specs.IndexSteps.{AreGone, HaveCome, IsPrefixOf, IsOfferOf, AreNamed};
 
 use crate::inputs::AreaInputs;
 use crate::offered::{Offer, Offered, offers_in};
 use indexmap::IndexMap;
+use lsa_codec::Checked;
 use ospf_types::entry::Vertex;
 use ospf_types::memory::Memory;
 use ospf_types::prefix::Prefix;
@@ -114,7 +115,11 @@ impl AreaIndex {
         ensures others { OnOk result ((w : VertexValue) → w ≢ vertex → map.get self.new.offered w ≡ map.get self.old.offered w) }
         ensures touched { OnOk result (AreTouched self.old self.new dirty.old.items dirty.new.items) }
     {
-        let fresh = standing_offers(self.alloc, area, vertex)?;
+        let standing = area.tree.standing(area.database, vertex);
+        if are_as_said(self.offered(vertex), vertex, standing) {
+            return Ok(());
+        }
+        let fresh = standing_offers(self.alloc, vertex, standing)?;
         if are_same(self.offered(vertex), fresh.as_ref()) {
             return Ok(());
         }
@@ -238,16 +243,28 @@ impl AreaIndex {
     }
 }
 
+// Whether the offers are what the LSA that stands for the vertex says.
+fn are_as_said(offered: Option<&Offered>, vertex: Vertex, standing: Option<&Checked>) -> bool
+    requires { IfSome (option_copied standing) (λ lsa. vertex_of (key_of lsa) ≡ Some vertex) }
+    ensures { IsTrue result → IsOfferedFor vertex (body_of (option_copied standing.entry)) (option_copied offered.entry) }
+{
+    match (offered, standing) {
+        (Some(offered), Some(lsa)) => offered.is_said_by(vertex, lsa),
+        (None, None) => true,
+        _ => false,
+    }
+}
+
 // What the LSA that stands for the vertex offers, if there is one.
 fn standing_offers(
     alloc: Global,
-    area: &AreaInputs<'_>,
     vertex: Vertex,
+    standing: Option<&Checked>,
 ) -> Result<Option<Offered>, Memory>
-    requires { (root : ℕ) × (ups : List UpValue) × IsAreaTree root area.now.lsas ups area.now.tree }
-    ensures { IfOk result (λ offered. (body : Option Body) × IsStanding area.now.lsas vertex body × IsOfferedFor vertex body offered) }
+    requires { IfSome (option_copied standing) (λ lsa. vertex_of (key_of lsa) ≡ Some vertex) }
+    ensures { IfOk result (IsOfferedFor vertex (body_of (option_copied standing.entry))) }
 {
-    match area.tree.standing(area.database, vertex) {
+    match standing {
         Some(lsa) => Ok(Some(offers_in(alloc, vertex, lsa)?)),
         None => Ok(None),
     }
