@@ -18,7 +18,7 @@ use crate::area_index::AreaIndex;
 use crate::dirty::Dirty;
 use crate::inputs::AreaInputs;
 use crate::named::Named;
-use crate::offered::Offer;
+use crate::offered::push_prefixes;
 use area_trees::vertex_of;
 use indexmap::IndexMap;
 use ospf_types::entry::Vertex;
@@ -378,17 +378,6 @@ fn has_bits(flags: Option<u8>) -> bool
         Some(flags) => has_bit(flags),
         None => false,
     }
-}
-
-// Adds the prefixes of the offers.
-fn push_prefixes(offers: &[Offer], prefixes: &mut Vec<Prefix>) -> Result<(), Memory>
-    ensures kept { OnOk result ((p : PrefixValue) → Contains prefixes.old.items p → Contains prefixes.new.items p) }
-    ensures offered { OnOk result ((p : PrefixValue) (metric : ℕ) → Contains offers.now (record { prefix = p; metric = metric }) → Contains prefixes.new.items p) }
-{
-    for offer in offers {
-        prefixes.push(offer.prefix)?;
-    }
-    Ok(())
 }
 
 // The vertex that an LSA with this key stands for, where it is one of the area.

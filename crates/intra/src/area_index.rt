@@ -1,5 +1,5 @@
 //! The index of an area: what each vertex offers, and who offers each prefix. It follows the area's LSAs alone.
-ghost use Rattle.std.specs.Prelude.{◌≡◌, ◌≢◌, ◌↔◌, ℕ, List, Option, Some, None, Contains, IfOk, IfSome, IsTrue, OnOk, option_copied};
+ghost use Rattle.std.specs.Prelude.{◌≡◌, ◌≢◌, ◌↔◌, ◌⊎◌, ℕ, List, Option, Some, None, Contains, IfOk, IfSome, IsTrue, OnOk, option_copied};
 ghost use Rattle.std.specs.FinMap as map;
 ghost use Rattle.std.specs.List.{AllPairs};
 ghost use Rattle.vertex_graph.specs.Up.{Up as UpValue};
@@ -7,11 +7,11 @@ ghost use Rattle.ospf_types.specs.declared.entry.Vertex.{Vertex as VertexValue};
 ghost use Rattle.ospf_types.specs.Lsa.{Body, key_of};
 ghost use Rattle.area_trees.specs.Areas.{IsAreaTree, IsStanding, vertex_of};
 ghost use Rattle.ospf_types.specs.declared.prefix.Prefix.{Prefix as PrefixValue};
-ghost use Rattle.intra.specs.Indexes.{IsIndex, IsSource, IsOfferedFor, AreTouched, body_of, sources_of};
-ghost use Rattle.intra.specs.IndexSteps.{AreGone, HaveCome, IsPrefixOf, IsOfferOf, AreNamed};
+ghost use Rattle.intra.specs.Indexes.{IsIndex, IsSource, IsOfferedFor, AreTouched, body_of, offers_of, sources_of};
+ghost use Rattle.intra.specs.IndexSteps.{AreGone, HaveCome, IsPrefixOf, IsOfferOf, AreAlike};
 
 use crate::inputs::AreaInputs;
-use crate::offered::{Offer, Offered, offers_in};
+use crate::offered::{Offer, Offered, offers_in, push_prefixes};
 use indexmap::IndexMap;
 use lsa_codec::Checked;
 use ospf_types::entry::Vertex;
@@ -100,8 +100,8 @@ impl AreaIndex {
         }
     }
 
-    /// Takes what the LSA that stands for the vertex offers now in the place of what it offered. Where the two differ,
-    /// the prefixes of both are added to those that are dirty.
+    /// Takes what the LSA that stands for the vertex offers now in the place of what it offered. The prefixes in which
+    /// the two differ are added to those that are dirty.
     pub(crate) fn follow(
         &mut self,
         area: &AreaInputs<'_>,
@@ -123,10 +123,11 @@ impl AreaIndex {
         if are_same(self.offered(vertex), fresh.as_ref()) {
             return Ok(());
         }
-        self.take_out(vertex, dirty)?;
+        let gone = self.take_out(vertex);
+        name_differing(listed(gone.as_ref()), listed(fresh.as_ref()), dirty)?;
         match fresh {
             Some(fresh) => {
-                self.put_in(vertex, fresh, dirty)?;
+                self.put_in(vertex, fresh)?;
                 Ok(())
             }
             None => Ok(()),
@@ -135,38 +136,26 @@ impl AreaIndex {
 }
 
 impl AreaIndex {
-    // Takes out what the vertex offers, and names its prefixes.
-    fn take_out(&mut self, vertex: Vertex, dirty: &mut Vec<Prefix>) -> Result<(), Memory>
+    // Takes out what the vertex offers.
+    fn take_out(&mut self, vertex: Vertex) -> Option<Offered>
         requires { IsIndex self.old }
-        ensures index { OnOk result (IsIndex self.new) }
-        ensures offered { OnOk result (self.new.offered ≡ map.remove self.old.offered vertex) }
-        ensures touched { OnOk result (AreTouched self.old self.new dirty.old.items dirty.new.items) }
+        ensures value { result ≡ map.get self.old.offered vertex }
+        ensures index { IsIndex self.new }
+        ensures offered { self.new.offered ≡ map.remove self.old.offered vertex }
     {
-        match self.offered.swap_remove(&vertex) {
-            Some(gone) => {
-                self.remove_sources(vertex, gone.offers(), dirty)?;
-                Ok(())
-            }
-            None => Ok(()),
-        }
+        let gone = self.offered.swap_remove(&vertex);
+        self.remove_sources(vertex, listed(gone.as_ref()));
+        gone
     }
 
     // The vertex no longer offers the prefixes of these offers.
-    fn remove_sources(
-        &mut self,
-        vertex: Vertex,
-        offers: &[Offer],
-        dirty: &mut Vec<Prefix>,
-    ) -> Result<(), Memory>
-        ensures offered { OnOk result (self.new.offered ≡ self.old.offered) }
-        ensures gone { OnOk result (AreGone (IsPrefixOf vertex offers.now) self.old self.new) }
-        ensures named { OnOk result (AreNamed offers.now dirty.old.items dirty.new.items) }
+    fn remove_sources(&mut self, vertex: Vertex, offers: &[Offer])
+        ensures offered { self.new.offered ≡ self.old.offered }
+        ensures gone { AreGone (IsPrefixOf vertex offers.now) self.old self.new }
     {
         for offer in offers {
             self.remove_source(vertex, offer.prefix);
-            dirty.push(offer.prefix)?;
         }
-        Ok(())
     }
 
     // The vertex no longer offers the prefix.
@@ -183,40 +172,27 @@ impl AreaIndex {
         }
     }
 
-    // Puts in what the vertex offers, of which nothing is there, and names its prefixes.
-    fn put_in(
-        &mut self,
-        vertex: Vertex,
-        fresh: Offered,
-        dirty: &mut Vec<Prefix>,
-    ) -> Result<(), Memory>
+    // Puts in what the vertex offers, of which nothing is there.
+    fn put_in(&mut self, vertex: Vertex, fresh: Offered) -> Result<(), Memory>
         requires index { IsIndex self.old }
         requires absent { map.get self.old.offered vertex ≡ None }
         ensures index { OnOk result (IsIndex self.new) }
         ensures offered { OnOk result (self.new.offered ≡ map.insert self.old.offered vertex fresh) }
-        ensures touched { OnOk result (AreTouched self.old self.new dirty.old.items dirty.new.items) }
     {
-        self.add_sources(vertex, fresh.offers(), dirty)?;
+        self.add_sources(vertex, fresh.offers())?;
         self.offered.insert(vertex, fresh)?;
         Ok(())
     }
 
     // The vertex offers these prefixes too.
-    fn add_sources(
-        &mut self,
-        vertex: Vertex,
-        offers: &[Offer],
-        dirty: &mut Vec<Prefix>,
-    ) -> Result<(), Memory>
+    fn add_sources(&mut self, vertex: Vertex, offers: &[Offer]) -> Result<(), Memory>
         requires absent { (p : PrefixValue) (metric : ℕ) → IsSource self.old vertex p metric → ⊥ }
         requires each_once { AllPairs (λ a b. a ≢ b) offers.now }
         ensures offered { OnOk result (self.new.offered ≡ self.old.offered) }
         ensures come { OnOk result (HaveCome (IsOfferOf vertex offers.now) self.old self.new) }
-        ensures named { OnOk result (AreNamed offers.now dirty.old.items dirty.new.items) }
     {
         for offer in offers {
             self.add_source(vertex, *offer)?;
-            dirty.push(offer.prefix)?;
         }
         Ok(())
     }
@@ -268,6 +244,48 @@ fn standing_offers(
         Some(lsa) => Ok(Some(offers_in(alloc, vertex, lsa)?)),
         None => Ok(None),
     }
+}
+
+// The prefixes with their metrics, none where nothing is offered.
+fn listed(offered: Option<&Offered>) -> &[Offer]
+    ensures { result.now ≡ offers_of (option_copied offered.entry) }
+{
+    match offered {
+        Some(offered) => offered.offers(),
+        None => &[],
+    }
+}
+
+// Adds the prefixes of the offers that do not stand at one place of both lists. All others are offered alike.
+fn name_differing(before: &[Offer], after: &[Offer], dirty: &mut Vec<Prefix>) -> Result<(), Memory>
+    ensures kept { OnOk result ((p : PrefixValue) → Contains dirty.old.items p → Contains dirty.new.items p) }
+    ensures alike { OnOk result (AreAlike dirty.new.items before.now after.now) }
+{
+    let (mut left, mut right) = (before, after);
+    while let [one, more @ ..] = left {
+        let [other, rest @ ..] = right else {
+            break;
+        };
+        name_both(*one, *other, dirty)?;
+        left = more;
+        right = rest;
+    }
+    push_prefixes(left, dirty)?;
+    push_prefixes(right, dirty)?;
+    Ok(())
+}
+
+// Adds the prefixes of the two offers, where they differ.
+fn name_both(one: Offer, other: Offer, dirty: &mut Vec<Prefix>) -> Result<(), Memory>
+    ensures kept { OnOk result ((p : PrefixValue) → Contains dirty.old.items p → Contains dirty.new.items p) }
+    ensures named { OnOk result ((one ≡ other) ⊎ (Contains dirty.new.items one.prefix × Contains dirty.new.items other.prefix)) }
+{
+    if one == other {
+        return Ok(());
+    }
+    dirty.push(one.prefix)?;
+    dirty.push(other.prefix)?;
+    Ok(())
 }
 
 // Leaves out all of the vertex.

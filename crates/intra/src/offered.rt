@@ -1,9 +1,10 @@
 //! What the LSA of a vertex offers: the prefixes of stub links, or that of the transit network.
-ghost use Rattle.std.specs.Prelude.{◌≡◌, ◌≢◌, ◌↔◌, Some, Contains, IfOk, IfSome, IsTrue};
+ghost use Rattle.std.specs.Prelude.{◌≡◌, ◌≢◌, ◌↔◌, Some, Contains, IfOk, IfSome, IsTrue, OnOk, ℕ};
 ghost use Rattle.std.specs.List.{AllPairs, filter_map, cons_option};
 ghost use Rattle.ospf_types.specs.Lsa.{key_of};
 ghost use Rattle.lsa_codec.specs.Readers.{flags_of, links_of, prefix_of};
 ghost use Rattle.area_trees.specs.Areas.{vertex_of};
+ghost use Rattle.ospf_types.specs.declared.prefix.Prefix.{Prefix as PrefixValue};
 ghost use Rattle.intra.specs.declared.offered.Offer.{Offer as OfferValue};
 ghost use Rattle.intra.specs.Indexes.{IsOfferedBy, bits_of};
 ghost use Rattle.intra.specs.Stubs.{offer_of_link, stub_of_link, transit_offers};
@@ -122,6 +123,17 @@ fn after_link<'a>(offers: &'a [Offer], link: Link) -> Option<&'a [Offer]>
         [first, rest @ ..] if *first == offer => Some(rest),
         _ => None,
     }
+}
+
+/// Adds the prefixes of the offers.
+pub(crate) fn push_prefixes(offers: &[Offer], prefixes: &mut Vec<Prefix>) -> Result<(), Memory>
+    ensures kept { OnOk result ((p : PrefixValue) → Contains prefixes.old.items p → Contains prefixes.new.items p) }
+    ensures offered { OnOk result ((p : PrefixValue) (metric : ℕ) → Contains offers.now (record { prefix = p; metric = metric }) → Contains prefixes.new.items p) }
+{
+    for offer in offers {
+        prefixes.push(offer.prefix)?;
+    }
+    Ok(())
 }
 
 /// What the LSA that stands for the vertex offers.
