@@ -1,14 +1,17 @@
 -- The entries of a map from vertices, and the finite map that they make.
-use Rattle.std.proofs.Common.{◌≡◌, ◌≢◌, ◌+◌, ◌≤◌, Bool, true, false, cond, List, [], ◌∷◌, length, Option, Some, None, refl, sym, ap, subst, ◌∙◌, arith}
-use Rattle.std.specs.Prelude.{is_some, IfSome}
+use Rattle.std.proofs.Common.{◌≡◌, ◌≢◌, suc, ◌+◌, ◌-◌, ◌≤◌, get_or, Bool, true, false, cond, List, [], ◌∷◌, length, Option, Some, None, refl, sym, ap, subst, ◌∙◌, arith}
+use Rattle.std.specs.Prelude.{is_some, position, swap_remove, slice_set, IfSome, if◌then◌else◌}
+use Rattle.std.specs.Option.{option_map_or}
 use Rattle.std.specs.Ordering.{eq_by_cmp}
 use Rattle.std.specs.Cmp.{eq_by_cmp_equiv}
-use Rattle.std.specs.List.{Contains, AllByRecursion, IsDistinct}
+use Rattle.std.specs.List.{All, Contains, AllByRecursion, IsDistinct}
 use Rattle.std.specs.Map.{keys_of, lookup}
 use Rattle.std.specs.FinMap.{FinMap, find, get, keys, entries, len-entries, contains_key-keys, insert, remove, len, contains_key, from_entries, empty, get-empty, get-from_entries, get-insert, get-remove, len-insert, len-empty, same_map}
 use Rattle.std.proofs.lemmas.Map.Keys.{IsDistinct-head, IsDistinct-tail}
 use Rattle.std.proofs.lemmas.Map.Views.{tells_apart, Contains-from_any}
 use Rattle.std.proofs.lemmas.Map.Entries.{length-keys_of}
+use Rattle.std.proofs.lemmas.List.Elements.{All-cons, All-set, All-take}
+use Rattle.indexmap.specs.IndexMap.{insert_entry, swap_remove_entry}
 use Rattle.ospf_types.specs.declared.entry.Vertex.{Vertex}
 use Rattle.ospf_types.specs.Vertices.{vertex_cmp}
 use Rattle.ospf_types.proofs.Maps.{find-lookup}
@@ -90,21 +93,52 @@ module _ {X : Type 0} where
   pub gone_elsewhere : (m : FinMap vertex_cmp X) (v w : Vertex) → w ≢ v → get (remove m v) w ≡ get m w
   gone_elsewhere m v w other = get-remove vertex_total m v w ∙ ap (λ b. cond b None (get m w)) (apart_by_order v w other)
 
--- ---- what holds of each value
+-- ---- what holds of each value of a map
 
 module _ {X : Type 0} (P : X → Type 0) where
-  abbrev pub AllValues : FinMap vertex_cmp X → Type 0
-  AllValues m = (v : Vertex) → IfSome (get m v) P
+  abbrev pub AreAll : FinMap vertex_cmp X → Type 0
+  AreAll m = (v : Vertex) → IfSome (get m v) P
 
-  pub all_none : AllValues empty
+  pub all_none : AreAll empty
   all_none v = subst (λ (o : Option X). IfSome o P) (sym (get-empty vertex_cmp v)) tt
 
-  pub all_inserted : (m : FinMap vertex_cmp X) (v : Vertex) (x : X) → AllValues m → P x → AllValues (insert m v x)
+  pub all_inserted : (m : FinMap vertex_cmp X) (v : Vertex) (x : X) → AreAll m → P x → AreAll (insert m v x)
   all_inserted m v x all here w =
       subst (λ (o : Option X). IfSome o P) (sym (get-insert vertex_total m v x w))
       (elim (eq_by_cmp vertex_cmp w v) as (λ b. IfSome (cond b (Some x) (get m w)) P) [ true ↦ here | false ↦ all w ])
 
-  pub all_removed : (m : FinMap vertex_cmp X) (v : Vertex) → AllValues m → AllValues (remove m v)
+  pub all_removed : (m : FinMap vertex_cmp X) (v : Vertex) → AreAll m → AreAll (remove m v)
   all_removed m v all w =
       subst (λ (o : Option X). IfSome o P) (sym (get-remove vertex_total m v w))
       (elim (eq_by_cmp vertex_cmp w v) as (λ b. IfSome (cond b None (get m w)) P) [ true ↦ tt | false ↦ all w ])
+
+-- ---- what holds of each value, by keys of any type
+
+module _ {K X : Type 0} (P : X → Type 0) where
+  abbrev pub AllValues : List (K × X) → Type 0
+  AllValues es = All (λ (e : K × X). P e.1) es
+
+  pub all_values_inserted : (eq : K → K → Bool) (es : List (K × X)) (v : K) (x : X) → AllValues es → P x → AllValues (insert_entry eq es v x)
+  all_values_inserted eq [] v x all here = All-cons (λ (e : K × X). P e.1) (v, x) [] here all
+  all_values_inserted eq (e ∷ es) v x all here =
+      let rest : AllValues es = λ k d within. all (suc k) d (omega (arith, within)) in
+      let first : P e.1 = all 0 e (omega arith) in
+      elim (eq v e.0) as (λ b. AllValues (if b then (e.0, x) ∷ es else e ∷ insert_entry eq es v x)) [
+        | true ↦ All-cons (λ (e : K × X). P e.1) (e.0, x) es here rest
+        | false ↦ All-cons (λ (e : K × X). P e.1) e (insert_entry eq es v x) first (all_values_inserted eq es v x rest here)
+      ]
+
+  pub all_values_removed : (test : K → Bool) (es : List (K × X)) → AllValues es → AllValues (swap_remove_entry test es)
+  all_values_removed test [] all = all
+  all_values_removed test (e ∷ es) all =
+      elim (position test (keys_of (e ∷ es))) as (λ o. AllValues (option_map_or (λ i. swap_remove (e ∷ es) i e) o (e ∷ es))) [
+        | None ↦ all
+        | Some i ↦ All-take (λ (e : K × X). P e.1) (length (e ∷ es) - 1) (slice_set (e ∷ es) i (get_or (e ∷ es) (length (e ∷ es) - 1) e))
+            (All-set (λ (e : K × X). P e.1) (e ∷ es) i (get_or (e ∷ es) (length (e ∷ es) - 1) e) (all (length (e ∷ es) - 1) e (omega arith)) all)
+      ]
+
+  pub some_looked_up : (test : K → Bool) (es : List (K × X)) → AllValues es → IfSome (lookup test es) P
+  some_looked_up test [] all = tt
+  some_looked_up test (e ∷ es) all =
+      let rest : AllValues es = λ k d within. all (suc k) d (omega (arith, within)) in
+      elim (test e.0) as (λ b. IfSome (cond b (Some e.1) (lookup test es)) P) [ true ↦ all 0 e (omega arith) | false ↦ some_looked_up test es rest ]

@@ -6,7 +6,7 @@ use Rattle.std.proofs.lemmas.List.Elements.{Contains-append_left, Contains-push}
 use Rattle.ospf_types.specs.declared.prefix.Prefix.{Prefix}
 use Rattle.spf.proofs.OfSome.{contains_more}
 use Rattle.intra.specs.declared.offered.Offer.{Offer}
-use Rattle.intra.proofs.area.push_prefixes.Goals as goal
+use Rattle.intra.proofs.offered.push_prefixes.Goals as goal
 
 pub loop-offer-preserved : goal.loop-offer-preserved
 loop-offer-preserved c =

@@ -2,7 +2,7 @@
 use Rattle.std.proofs.Common.{ℕ, take}
 use Rattle.std.specs.List.{Contains}
 use Rattle.ospf_types.specs.declared.prefix.Prefix.{Prefix}
-use Rattle.intra.proofs.area.push_prefixes.Given as goal
+use Rattle.intra.proofs.offered.push_prefixes.Given as goal
 
 abbrev pub invariant-loop-offer : goal.invariant-loop-offer
 invariant-loop-offer l = record {
