@@ -133,6 +133,13 @@ impl Tree {
         repaired
     }
 
+    /// Says that no link went or came: no vertex changed.
+    pub fn rest(&mut self)
+        ensures { self.new ≡ record { distances = self.old.distances; hops = self.old.hops; changed = []; spent = self.old.spent } }
+    {
+        self.changed.clear();
+    }
+
     /// The distance of a vertex, a sum of metrics below 2^30; none where it is not reached, or the tree is spent.
     pub fn distance(&self, vertex: Vertex) -> Option<u32>
         ensures value { result ≡ map.get self.now.distances vertex }
