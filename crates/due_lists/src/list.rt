@@ -92,7 +92,7 @@ impl AreaDues {
         let _ = self.list.len();
     }
 
-    /// The list with these changes, in one pass.
+    /// The list with these changes, in one pass, and room for an eighth more.
     pub fn merged(&self, alloc: Global, metrics: &[(Dest, Option<u32>)]) -> Result<Vec<Due>, Memory>
         requires { AreMetricsInOrder metrics.now }
         ensures changed { IfOk result (λ list. IsChangedBy metrics.now self.now.list list.items) }
@@ -100,7 +100,7 @@ impl AreaDues {
         ensures of_kind { IfOk result (λ list. AreOfKind list.items) }
     {
         let most = self.list.len().saturating_add(metrics.len());
-        let mut list = Vec::with_capacity(alloc, most)?;
+        let mut list = Vec::with_capacity(alloc, most.saturating_add(most / 8))?;
         let mut rest = self.list.as_slice();
         for (dest, metric) in metrics {
             rest = push_before(rest, dest, &mut list)?;
