@@ -7,8 +7,8 @@ use Rattle.ospf_types.specs.declared.key.Key.{Key}
 use Rattle.ospf_types.specs.declared.key.Scope.{Scope}
 use Rattle.ospf_types.specs.declared.key.Scope.TheVariants.{Area}
 use Rattle.lsdb.specs.Databases.{Database}
-use Rattle.offer_index.specs.Indexes.{OfferIndexValue, IsIndexOf, LsasDifferAmong, GroupLeadsTo, HasDest, IsInGroup}
-use Rattle.offer_index.specs.declared.group.Group.TheVariants.{To, By}
+use Rattle.offer_index.specs.Indexes.{OfferIndexValue, IsIndexOf, LsasDifferAmong, GroupLeadsTo, IsLedTo, HasDest}
+use Rattle.offer_index.specs.declared.group.Group.TheVariants.{By}
 use Rattle.inter.specs.Inputs.{ExaminedValue, InterInputsValue}
 use Rattle.inter.specs.Inters.{IsIndexFor}
 
@@ -36,10 +36,6 @@ IsIndexSince root keys (Some x) i = (before : Database) × IsIndexOf root (Area 
 abbrev pub AreLed : Option ℕ → Option ℕ → OfferIndexValue → OfferIndexValue → List Dest → Type 0
 AreLed area_before area_after old new dests = (k : Key) → ((area_after ≡ area_before) × (get new.routes k ≡ get old.routes k))
     ⊎ ((d : Dest) → HasDest (get old.routes k) d ⊎ HasDest (get new.routes k) d → Contains dests d)
-
--- a summary leads to the destination
-abbrev pub IsLedTo : OfferIndexValue → Dest → Type 0
-IsLedTo i dest = (k : Key) × IsInGroup i (To dest) k
 
 -- the list has all of before, the destination if a summary leads to it, and, where it is a router, all that the router's summaries lead to
 pub record IsPushed (i : OfferIndexValue) (dest : Dest) (before after : List Dest) : Type 0 where

@@ -4,8 +4,8 @@ ghost use Rattle.std.specs.FinMap as map;
 ghost use Rattle.ospf_types.specs.declared.key.Dest.{Dest as DestValue};
 ghost use Rattle.ospf_types.specs.declared.key.Dest.TheVariants as dest_value;
 ghost use Rattle.offer_index.specs.declared.group.Group.TheVariants as group_value;
-ghost use Rattle.offer_index.specs.Indexes.{AreTouched, GroupLeadsTo};
-ghost use Rattle.inter.specs.Following.{IsIndexBefore, IsIndexSince, AreLed, IsLedTo, IsPushed, ArePushed};
+ghost use Rattle.offer_index.specs.Indexes.{AreTouched, GroupLeadsTo, IsLedTo};
+ghost use Rattle.inter.specs.Following.{IsIndexBefore, IsIndexSince, AreLed, IsPushed, ArePushed};
 ghost use Rattle.inter.specs.Inputs.{examined_area};
 ghost use Rattle.inter.specs.Inters.{IsIndexFor};
 

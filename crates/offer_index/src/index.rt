@@ -11,7 +11,7 @@ ghost use Rattle.lsdb.specs.Databases.{Database as Lsas};
 ghost use Rattle.offer_index.specs.Advertised.{AdvertisedValue, advertised_at};
 ghost use Rattle.offer_index.specs.declared.group.Group.TheVariants as group_value;
 ghost use Rattle.offer_index.specs.declared.group.Group.{Group as GroupValue};
-ghost use Rattle.offer_index.specs.Indexes.{IsIndexOf, LsasDifferAmong, IsInGroup, GroupLeadsTo, IsForwardedTo, IsForwardedInto, AreTouched};
+ghost use Rattle.offer_index.specs.Indexes.{IsIndexOf, LsasDifferAmong, IsInGroup, IsLedTo, GroupLeadsTo, IsForwardedTo, IsForwardedInto, AreTouched};
 ghost use Rattle.offer_index.specs.Members.{IsMemberBy};
 ghost use Rattle.result_map.specs.Results.{result_at};
 
@@ -173,7 +173,7 @@ impl OfferIndex {
 
     /// Whether something is advertised to the destination.
     pub fn leads_to(&self, dest: Dest) -> bool
-        ensures { IsTrue result ↔ ((k : KeyValue) × IsInGroup self.now (group_value.To dest) k) }
+        ensures { IsTrue result ↔ IsLedTo self.now dest }
     {
         self.members.has_dest(dest)
     }
