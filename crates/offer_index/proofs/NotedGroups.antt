@@ -40,6 +40,11 @@ none_noted n dests addresses (To d) c = no_element d (subst (λ (ds : List Dest)
 none_noted n dests addresses (By r) c = c
 none_noted n dests addresses (Forwarded a) c = no_element a (subst (λ (ns : List ℕ). Contains ns a) addresses c)
 
+-- nothing is in a list of no length
+pub none_in : {X : Type 0} (xs : List X) → length xs ≡ 0 → (x : X) → Contains xs x → ⊥
+none_in [] none x c = no_element x c
+none_in (y ∷ ys) none x c = absurd (omega (arith, none))
+
 -- some
 pub some_number : (ns : List ℕ) (empty : Bool) → IsTrue empty ↔ (length ns ≡ 0) → IsTrue (not empty) ↔ ((a : ℕ) × Contains ns a)
 some_number [] true is = (λ wrong. absurd (let e : false ≡ true = wrong in cc), λ w. absurd (no_element w.0 w.1))

@@ -87,6 +87,10 @@ impl Noted {
     pub(crate) fn has_dest(&self, dest: Dest) -> bool
         ensures { IsTrue result ↔ IsNoted self.now (group_value.To dest) }
     {
+        // Where there is none, nothing is hashed.
+        if self.dests.is_empty() {
+            return false;
+        }
         self.dests.contains(&dest)
     }
 
