@@ -15,7 +15,6 @@ use Rattle.ospf_types.proofs.Orders.{key_total}
 use Rattle.offer_index.specs.Advertised.{AdvertisedValue}
 use Rattle.offer_index.specs.Indexes.{AdvertisedByKey, OfferIndexValue, IsOfGroup, IsInGroup, GroupLeadsTo, IsForwardedTo, IsForwardedInto}
 use Rattle.offer_index.specs.declared.group.Group.{Group}
-use Rattle.offer_index.specs.declared.group.Group.TheVariants.{Forwarded}
 use Rattle.offer_index.specs.Members.{AreMembersOf}
 use Rattle.offer_index.specs.Noted.{HasKey}
 use Rattle.offer_index.proofs.Groups.{Member}

@@ -1,10 +1,10 @@
-use Rattle.std.proofs.Common.{◌≡◌, List, sym, subst, ◌∙◌, inl, inr, ◌⊎◌}
+use Rattle.std.proofs.Common.{List, sym, subst, ◌∙◌, inl, inr}
 use Rattle.std.specs.Prelude.{Contains}
 use Rattle.std.specs.List.{All}
 use Rattle.std.proofs.lemmas.Map.Views.{All-insert_key}
 use Rattle.ospf_types.specs.declared.key.Key.{Key}
 use Rattle.offer_index.specs.Members.{HasSmallKey}
-use Rattle.offer_index.specs.Noted.{AreNoted, AreNotedBut}
+use Rattle.offer_index.specs.Noted.{AreNotedBut}
 use Rattle.offer_index.proofs.Groups.{Member, derived_cmp, derived_exact}
 use Rattle.offer_index.proofs.MemberLists.{stays_with, is_put_in, came_or_was}
 use Rattle.offer_index.proofs.NotedGroups.{noted_ahead, noted_with, same_noted}

@@ -1,4 +1,3 @@
-use Rattle.std.proofs.Common.{sym, subst}
 use Rattle.offer_index.specs.declared.group.Group.TheVariants.{To}
 use Rattle.offer_index.proofs.NotedGroups.{noted_just}
 use Rattle.offer_index.proofs.members.Members.has_dest.Goals as goal

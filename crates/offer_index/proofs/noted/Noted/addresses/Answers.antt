@@ -1,4 +1,4 @@
-use Rattle.std.proofs.Common.{ℕ, Bool, List, sym, ap, subst, ◌∙◌, ◌≡◌, rules}
+use Rattle.std.proofs.Common.{ℕ, Bool, List, sym, subst, ◌∙◌, ◌≡◌, rules}
 use Rattle.std.specs.Prelude.{Contains}
 use Rattle.std.specs.declared.ops.Bound.TheVariants.{Included}
 use Rattle.std.specs.Ordering.{nat_cmp}

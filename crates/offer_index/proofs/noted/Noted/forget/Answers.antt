@@ -1,7 +1,5 @@
-use Rattle.std.proofs.Common.{◌∙◌, ℕ, List, sym, ap, subst, inl, inr, ◌⊎◌, ◌≡◌}
-use Rattle.std.specs.Prelude.{Contains}
+use Rattle.std.proofs.Common.{◌∙◌, sym, ap, subst}
 use Rattle.std.specs.Ordering.{eq_by_cmp, nat_cmp}
-use Rattle.ospf_types.specs.declared.key.Dest.{Dest}
 use Rattle.offer_index.specs.declared.group.Group.TheVariants.{To, Forwarded}
 use Rattle.offer_index.specs.declared.noted.Noted.{Noted}
 use Rattle.offer_index.specs.Noted.{IsNoted}
