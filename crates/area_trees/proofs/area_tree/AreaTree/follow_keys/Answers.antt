@@ -45,8 +45,7 @@ returns-then-is_empty-clause-changed c =
 pub returns-then-is_empty-clause-bounded : goal.returns-then-is_empty-clause-bounded
 returns-then-is_empty-clause-bounded c =
     let g = c.self.inside.area.graph in
-    let old = c.args.self.now.tree in
-    (
+    let old = c.args.self.now.tree in (
       [],
       [],
       subst (λ (v : AreaTreeValue). AreExact v.area.graph g [] []) c.self.view_is (same_graph g),
