@@ -6,10 +6,18 @@ use std::test::Fail;
 use vertex_map::{Placed, VertexMap};
 use word_hash::WordHash;
 
-// A hundred vertices, the last place first.
+// The places of a hundred vertices, the last first.
+fn place_of(number: u32) -> u32 {
+    99u32.saturating_sub(number)
+}
+
+// A hundred vertices at their places.
 fn fill(map: &mut VertexMap<u32>) -> Result<(), Memory> {
     for number in 0..100u32 {
-        map.insert(&Placed::new(Vertex::Router(number), 99 - number), number)?;
+        map.insert(
+            &Placed::new(Vertex::Router(number), place_of(number)),
+            number,
+        )?;
     }
     Ok(())
 }
@@ -21,10 +29,10 @@ fn at(map: &VertexMap<u32>, vertex: &Placed) -> Option<u32> {
 // Whether the vertex has its number, wherever it is looked for.
 fn is_there(map: &VertexMap<u32>, number: u32) -> bool {
     let vertex = Vertex::Router(number);
-    at(map, &Placed::new(vertex, 99 - number)) == Some(number)
+    at(map, &Placed::new(vertex, place_of(number))) == Some(number)
         && at(map, &Placed::new(vertex, number)) == Some(number)
         && at(map, &Placed::nowhere(vertex)) == Some(number)
-        && at(map, &Placed::new(Vertex::Network(number), 99 - number)).is_none()
+        && at(map, &Placed::new(Vertex::Network(number), place_of(number))).is_none()
 }
 
 fn finds_all(map: &mut VertexMap<u32>) -> Result<bool, Memory> {
