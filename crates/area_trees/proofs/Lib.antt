@@ -8,4 +8,5 @@ pub mod Held
 pub mod Standing
 pub mod Leading
 pub mod Inside
+pub mod Resting
 pub mod Work

@@ -176,6 +176,10 @@ impl AreaTree {
         ensures bounded { IfOk result (λ touched. IsWorkBounded self.old self.new touched.taken touched.hop_sets) }
         ensures work { IfOk result (λ touched. IsWorkDone self.new.area.graph self.old.tree self.new.tree touched.taken touched.hop_sets) }
     {
+        if keys.is_empty() {
+            self.tree.rest();
+            return Ok(Touched::none());
+        }
         let changes = self.area.follow(alloc, database, keys)?;
         self.tree.repair(alloc, self.area.graph(), &changes)
     }

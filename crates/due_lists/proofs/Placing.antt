@@ -28,7 +28,7 @@ module _ (list : List Due) (ordered : AreInOrder list) (d : Dest) where
   searchable : IsNonDecreasingBy (λ due. ordering_index (dest_cmp due.dest d)) list
   searchable = searchable_from_sorted dest_total (λ due. due.dest) list d (λ k e low high. ap is_lt (turned_back (get_or list k e).dest (get_or list (k + 1) e).dest (less_at list ordered k (k + 1) e (omega arith) high)))
 
-  is_at : (at : ℕ) → at < length list → ((e : Due) → dest_cmp (get_or list at e).dest d ≡ Equal) → IsAt list d at
+  pub is_at : (at : ℕ) → at < length list → ((e : Due) → dest_cmp (get_or list at e).dest d ≡ Equal) → IsAt list d at
   is_at at in_range equal =
       let here : (e : Due) → (get_or list at e).dest ≡ d = λ e. dest_exact _ _ (equal e) in
       let some = due_for d 0 in

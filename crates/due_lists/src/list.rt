@@ -84,14 +84,15 @@ impl AreaDues {
         ensures list_in_order { AreInOrder self.new.list }
         ensures list_of_kind { AreOfKind self.new.list }
     {
+        let mut near = 0;
         for (dest, metric) in metrics {
-            self.put(*dest, *metric);
+            near = self.put(near, *dest, *metric);
         }
         // (the type keeps the order of its list, and a look at the list brings that into the proof)
         let _ = self.list.len();
     }
 
-    /// The list with these changes, in one pass.
+    /// The list with these changes, in one pass, and room for an eighth more.
     pub fn merged(&self, alloc: Global, metrics: &[(Dest, Option<u32>)]) -> Result<Vec<Due>, Memory>
         requires { AreMetricsInOrder metrics.now }
         ensures changed { IfOk result (λ list. IsChangedBy metrics.now self.now.list list.items) }
@@ -99,7 +100,7 @@ impl AreaDues {
         ensures of_kind { IfOk result (λ list. AreOfKind list.items) }
     {
         let most = self.list.len().saturating_add(metrics.len());
-        let mut list = Vec::with_capacity(alloc, most)?;
+        let mut list = Vec::with_capacity(alloc, most.saturating_add(most / 8))?;
         let mut rest = self.list.as_slice();
         for (dest, metric) in metrics {
             rest = push_before(rest, dest, &mut list)?;
@@ -121,36 +122,50 @@ impl AreaDues {
 }
 
 impl AreaDues {
-    // The destination is due at this metric; for none it is not due.
-    fn put(&mut self, dest: Dest, metric: Option<u32>)
+    // The destination is due at this metric; for none it is not due. It may stand at the place `near`. The answer is the
+    // place after it.
+    fn put(&mut self, near: usize, dest: Dest, metric: Option<u32>) -> usize
         requires { 0 < self.old.room }
         ensures area { self.new.area ≡ self.old.area }
         ensures list { IsPut dest metric self.old.list self.new.list }
         ensures room { self.old.room ≤ self.new.room + 1 }
     {
-        let place = self.place(&dest);
+        let place = self.place(near, &dest);
         let Some(metric) = metric else {
-            if let Ok(at) = place {
-                self.list.remove(at);
+            match place {
+                Ok(at) => {
+                    self.list.remove(at);
+                    return at;
+                }
+                Err(at) => return at,
             }
-            return;
         };
         let due = Due::of(dest, metric);
         match place {
-            Ok(at) => self.list[at] = due,
+            Ok(at) => {
+                self.list[at] = due;
+                at + 1
+            }
             Err(at) => match self.list.insert(at, due) {
-                Ok(()) => {}
+                Ok(()) => at + 1,
                 Err(_) => unreachable!(),
             },
         }
     }
 
-    // Where the destination is, or where it would go.
-    fn place(&self, dest: &Dest) -> Result<usize, usize>
+    // Where the destination is, or where it would go. The place `near` is tried first.
+    fn place(&self, near: usize, dest: &Dest) -> Result<usize, usize>
         ensures found { IfOk result (IsAt self.now.list dest.now) }
         ensures absent { IfErr result (IsGapFor self.now.list dest.now) }
     {
-        place_by_search(self.list.as_slice(), dest)
+        let list = self.list.as_slice();
+        let Some(due) = list.get(near) else {
+            return place_by_search(list, dest);
+        };
+        match due.dest.cmp(dest) {
+            Ordering::Equal => Ok(near),
+            _ => place_by_search(list, dest),
+        }
     }
 }
 

@@ -9,7 +9,8 @@ use ospf_types::key::Dest;
 use ospf_types::memory::Memory;
 use std::alloc::Global;
 
-// With more changes than this the list is made anew, in one pass; with fewer each is put in its place.
+// With more changes than this, of which some move what comes after them, the list is made anew, in one pass; else each is
+// put in its place.
 const FEW: usize = 8;
 
 /// What is to change in one area.
@@ -22,10 +23,12 @@ pub enum AreaPlan {
 }
 
 impl AreaPlan {
-    /// The plan of these changes. The list stays, and gets room.
+    /// The plan of these changes. The list stays, and gets room. Where some destinations come or go, `moves` is to be
+    /// `true`: a list that is mostly moved is made anew instead, which costs less.
     pub fn of(
         alloc: Global,
         metrics: Vec<(Dest, Option<u32>)>,
+        moves: bool,
         dues: &mut AreaDues,
     ) -> Result<AreaPlan, Memory>
         requires { AreMetricsInOrder metrics.items }
@@ -34,7 +37,7 @@ impl AreaPlan {
         ensures fits { IfOk result (λ plan. Fits plan dues.new) }
         ensures leads { IfOk result (λ plan. (after : AreaDuesValue) → Leads plan dues.new after → IsChangedBy metrics.items dues.old.list after.list) }
     {
-        if metrics.len() > FEW {
+        if moves && metrics.len() > FEW {
             let list = dues.merged(alloc, &metrics)?;
             return Ok(AreaPlan::Whole(list));
         }

@@ -15,7 +15,7 @@ use Rattle.ospf_types.proofs.Elements.{no_element, contains_more}
 use Rattle.summaries.specs.Active.{IsActiveIn}
 use Rattle.dues.specs.Inputs.{DueInputsValue}
 use Rattle.dues.specs.Giving.{IsDueIn, IsDueTo, IsNetworkDueIn, IsRouterDueIn, GivesIn}
-use Rattle.dues.specs.Touched.{HasAlso, IsOverDest, IsTouchedBy, IsRangeOver}
+use Rattle.dues.specs.Touched.{HasAlso, IsOverIn, IsTouchedBy, IsRangeOver}
 
 -- ---- one after the other
 
@@ -52,7 +52,7 @@ module _ {A : Type 0} (P : A → Dest → Type 0) where
 
 -- ---- those that are touched
 
-pub all_touched : (areas : List AreaConfig) (dests found : List Dest) → HasAlso (IsOfSome (IsOverDest areas) dests) dests found → (d : Dest) → IsTouchedBy areas dests d → Contains found d
+pub all_touched : (areas : List AreaConfig) (dests found : List Dest) → HasAlso (IsOfSome (λ (a : AreaConfig). IsOverIn a.ranges dests) areas) dests found → (d : Dest) → IsTouchedBy areas dests d → Contains found d
 all_touched areas dests found has d touched = elim touched [
   | inl named ↦ has d (inl named)
   | inr over ↦
@@ -62,7 +62,7 @@ all_touched areas dests found has d touched = elim touched [
       let r = w.1 in
       let network = w.2 in
       let prefix : r.prefix ≡ p = w.5 in
-      has d (inr (Net network, w.6, (a, w.3, (r, w.4, (subst (λ (q : Prefix). Covers q network) (sym prefix) w.7, over.1 ∙ ap Net (sym prefix))))))
+      has d (inr (a, w.3, (r, w.4, (over.1 ∙ ap Net (sym prefix), (Net network, w.6, subst (λ (q : Prefix). Covers q network) (sym prefix) w.7)))))
 ]
 
 -- ---- those that may be due

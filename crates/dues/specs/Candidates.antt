@@ -1,5 +1,5 @@
--- What may give a summary for a destination, in whichever area.
-use Rattle.std.specs.Prelude.{ℕ, ◌≡◌, ◌≢◌, ◌↔◌, ◌<◌, IsFalse, List, Contains, Option, Some, map, length}
+-- What gives a summary for a destination, whichever the area.
+use Rattle.std.specs.Prelude.{ℕ, ◌≡◌, ◌≢◌, ◌↔◌, ◌<◌, ◌≤◌, List, Contains, Option, Some, None, map, length, if◌then◌else◌, ◌==◌}
 use Rattle.std.specs.FinMap.{get}
 use Rattle.ospf_types.specs.declared.config.AreaConfig.{AreaConfig}
 use Rattle.ospf_types.specs.declared.entry.Entry.{Entry}
@@ -7,11 +7,13 @@ use Rattle.ospf_types.specs.declared.key.Dest.{Dest}
 use Rattle.ospf_types.specs.declared.key.Dest.TheVariants.{Net, Router}
 use Rattle.ospf_types.specs.declared.prefix.Prefix.{Prefix}
 use Rattle.ospf_types.specs.Inter.{LSInfinity}
+use Rattle.ospf_types.specs.Summaries.{IsGreatest}
 use Rattle.external.specs.Preferred.{PreferredValue}
 use Rattle.dues.specs.declared.giving.Candidate.{Candidate}
+use Rattle.dues.specs.declared.giving.Given.{Given}
 use Rattle.dues.specs.declared.giving.Through.{Through}
 use Rattle.dues.specs.Inputs.{DueInputsValue}
-use Rattle.dues.specs.Giving.{Advertises, IsOutside}
+use Rattle.dues.specs.Giving.{Advertises, GivesIn, IsComponentIn, IsOutside, PreferredGives}
 
 -- there is an entry, which leads through this area at this finite cost
 abbrev pub LeadsThrough : Option Entry → Through → Type 0
@@ -25,19 +27,35 @@ IsIntraThrough v p t = LeadsThrough (get v.intra.entries p) t × IsOutside v.are
 abbrev pub IsPreferredThrough : Option PreferredValue → Through → Type 0
 IsPreferredThrough o t = (w : PreferredValue) × (o ≡ Some w) × (w.preference.area ≡ t.area) × (w.preference.cost < LSInfinity) × (w.preference.cost ≡ t.cost)
 
--- what may give a summary for the network
-pub record AreOfNetwork (v : DueInputsValue) (p : Prefix) (c : Candidate) : Type 0 where
-  pub intra : (t : Through) → (c.intra ≡ Some t) ↔ IsIntraThrough v p t
-  pub other : (t : Through) → (c.other ≡ Some t) ↔ LeadsThrough (get v.inter.entries (Net p)) t
-  pub ranges : IsFalse c.is_range → (a : AreaConfig) → Contains v.areas a → Advertises a p → ⊥
+-- the area, at the greatest cost of its advertised range with the prefix
+abbrev pub IsRangeThrough : DueInputsValue → AreaConfig → Prefix → Through → Type 0
+IsRangeThrough v a p t = (t.area ≡ a.id) × Advertises a p × IsGreatest (IsComponentIn v a.id p) t.cost
 
--- what may give one for the destination
-abbrev pub AreOf : DueInputsValue → Dest → Candidate → Type 0
-AreOf v (Net p) c = AreOfNetwork v p c
-AreOf v (Router router) c = (t : Through) → (c.other ≡ Some t) ↔ IsPreferredThrough (get v.external.preferred router) t
+-- ---- the greatest metrics
+
+-- what has the greatest metric counts in other areas than its own, and what comes next in that
+abbrev pub metric_beside : Option Through → Option ℕ → ℕ → Option ℕ
+metric_beside None next area = next
+metric_beside (Some t) next area = if t.area == area then next else Some t.cost
+
+abbrev pub metric_into : Given → ℕ → Option ℕ
+metric_into g area = metric_beside g.most g.next area
+
+-- what comes next is no greater
+abbrev pub IsOrdered : Given → Type 0
+IsOrdered g = (m : ℕ) → g.next ≡ Some m → (t : Through) × (g.most ≡ Some t) × (m ≤ t.cost)
+
+-- it tells what the network is due at in the area, but for what a stub area is sent
+abbrev pub IsNetworkIn : DueInputsValue → ℕ → Prefix → Given → Type 0
+IsNetworkIn v area p g = (m : ℕ) → (metric_into g area ≡ Some m) ↔ IsGreatest (GivesIn v area p) m
+
+-- what gives one for the destination
+abbrev pub AreOf : DueInputsValue → Dest → Given → Type 0
+AreOf v (Net p) g = (area : ℕ) → IsNetworkIn v area p g
+AreOf v (Router router) g = (area m : ℕ) → (metric_into g area ≡ Some m) ↔ PreferredGives (get v.external.preferred router) area m
 
 abbrev pub IsCandidate : DueInputsValue → Candidate → Type 0
-IsCandidate v c = AreOf v c.dest c
+IsCandidate v c = AreOf v c.dest c.given
 
 -- with fewer than two active areas nothing is due, and nothing is looked up
 abbrev pub IsCandidateOf : DueInputsValue → Candidate → Type 0

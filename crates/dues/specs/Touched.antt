@@ -22,22 +22,18 @@ IsTouchedBy areas dests d = Contains dests d ⊎ ((p : Prefix) × (d ≡ Net p) 
 abbrev pub HasAlso : (Dest → Type 0) → List Dest → List Dest → Type 0
 HasAlso also before after = (d : Dest) → Contains before d ⊎ also d → Contains after d
 
--- the prefix of the range, which has the network
-abbrev pub IsOverBy : Prefix → Range → Dest → Type 0
-IsOverBy network r d = Covers r.prefix network × (d ≡ Net r.prefix)
+-- a network that the prefix covers
+abbrev pub IsNetIn : Prefix → Dest → Type 0
+IsNetIn p (Net network) = Covers p network
+IsNetIn p (Router router) = ⊥
 
--- of one of these ranges
-abbrev pub IsOverIn : List Range → Prefix → Dest → Type 0
-IsOverIn ranges network d = (r : Range) × Contains ranges r × IsOverBy network r d
+-- the prefix, which has one of the networks
+abbrev pub IsOver : List Dest → Prefix → Dest → Type 0
+IsOver dests p d = (d ≡ Net p) × ((named : Dest) × Contains dests named × IsNetIn p named)
 
--- of one of the areas
-abbrev pub IsOver : List AreaConfig → Prefix → Dest → Type 0
-IsOver areas network d = (a : AreaConfig) × Contains areas a × IsOverIn a.ranges network d
-
--- where the destination is a network
-abbrev pub IsOverDest : List AreaConfig → Dest → Dest → Type 0
-IsOverDest areas (Net network) d = IsOver areas network d
-IsOverDest areas (Router router) d = ⊥
+-- that of one of these ranges
+abbrev pub IsOverIn : List Range → List Dest → Dest → Type 0
+IsOverIn ranges dests d = (r : Range) × Contains ranges r × IsOver dests r.prefix d
 
 -- one of these networks
 abbrev pub IsNetOf : List Prefix → Dest → Type 0

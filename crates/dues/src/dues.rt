@@ -253,8 +253,8 @@ fn plan_area(
     ensures list { dues.new.list ≡ dues.old.list }
     ensures planned { IfOk result (λ plan. IsPlannedIn inputs.now (dests_in candidates.now) area.now dues.old dues.new plan) }
 {
-    let metrics = changes(alloc, inputs, area, dues.as_slice(), candidates)?;
-    let plan = AreaPlan::of(alloc, metrics, dues)?;
+    let (metrics, moves) = changes(alloc, inputs, area, dues.as_slice(), candidates)?;
+    let plan = AreaPlan::of(alloc, metrics, moves, dues)?;
     Ok(plan)
 }
 
@@ -268,44 +268,46 @@ fn carry_out_areas(plans: Vec<AreaPlan>, lists: &mut [AreaDues])
     }
 }
 
-// Of these destinations those that are due at another metric than the list has, with that metric.
+// Of these destinations those that are due at another metric than the list has, with that metric; and whether some of them
+// come to the list or leave it.
 fn changes(
     alloc: Global,
     inputs: &DueInputs<'_>,
     area: &AreaConfig,
     list: &[Due],
     candidates: &[Candidate],
-) -> Result<Vec<(Dest, Option<u32>)>, Memory>
+) -> Result<(Vec<(Dest, Option<u32>)>, bool), Memory>
     requires list { AreInOrder list.now }
     requires kinds { AreOfKind list.now }
     requires right { AreCandidates inputs.now candidates.now }
     requires in_order { IsStrictlySortedBy dest_cmp (dests_in candidates.now) }
-    ensures { IfOk result (λ metrics. AreChangesIn inputs.now area.now list.now (dests_in candidates.now) metrics.items) }
+    ensures { IfOk result (λ found. AreChangesIn inputs.now area.now list.now (dests_in candidates.now) found.0.items) }
 {
     let served = is_served(inputs.active, area.id);
     let mut metrics = Vec::with_capacity(alloc, candidates.len())?;
+    let mut moves = false;
     let mut rest = list;
     for candidate in candidates {
         let (had, after) = look_up(rest, &candidate.dest);
-        let metric = metric(inputs, area, served, candidate);
-        push_change(candidate.dest, metric, had, &mut metrics)?;
+        let metric = metric(area, served, candidate);
+        moves |= push_change(candidate.dest, metric, had, &mut metrics)?;
         rest = after;
     }
-    Ok(metrics)
+    Ok((metrics, moves))
 }
 
-// Adds the destination at this metric, unless that is the one that it had.
+// Adds the destination at this metric, unless that is the one that it had. The answer is whether it comes or leaves.
 fn push_change(
     dest: Dest,
     metric: Option<u32>,
     had: Option<u32>,
     metrics: &mut Vec<(Dest, Option<u32>)>,
-) -> Result<(), Memory>
+) -> Result<bool, Memory>
     ensures { OnOk result ((list : List DueValue) → IsMetricIn list dest had → IsChangeAdded list dest metric metrics.old.items metrics.new.items) }
 {
     if metric == had {
-        return Ok(());
+        return Ok(false);
     }
     metrics.push((dest, metric))?;
-    Ok(())
+    Ok(metric.is_some() != had.is_some())
 }

@@ -1,13 +1,13 @@
 //! What gives a summary for a destination, and the greatest metric of what gives one (RFC 2328, 12.4.3).
-ghost use Rattle.std.specs.Prelude.{ℕ, ◌≡◌, ◌≢◌, ◌↔◌, ◌⊎◌, Some, None, Contains, IsTrue, IsFalse, All, option_copied};
+ghost use Rattle.std.specs.Prelude.{ℕ, ◌≡◌, ◌≢◌, ◌↔◌, ◌≤◌, ◌⊎◌, Some, None, Contains, IsTrue, All, option_copied};
 ghost use Rattle.std.specs.FinMap as map;
-ghost use Rattle.ospf_types.specs.declared.config.AreaConfig.{AreaConfig as AreaConfigValue};
 ghost use Rattle.ospf_types.specs.declared.key.Dest.TheVariants as dest_value;
 ghost use Rattle.ospf_types.specs.Address.{Covers};
 ghost use Rattle.ospf_types.specs.Summaries.{IsGreatest, default_route};
 ghost use Rattle.dues.specs.declared.giving.Through.{Through as ThroughValue};
-ghost use Rattle.dues.specs.Giving.{IsDueIn, IsNetworkDueIn, GivesIn, RangeGives, RangeGivesBy, Advertises, IsOutside, IsServed, IsMost};
-ghost use Rattle.dues.specs.Candidates.{IsCandidateOf, AreOfNetwork, CostsInto, IsIntraThrough, LeadsThrough, IsPreferredThrough};
+ghost use Rattle.dues.specs.Inputs.{DueInputsValue};
+ghost use Rattle.dues.specs.Giving.{IsDueIn, IsNetworkDueIn, GivesIn, PreferredGives, RangeGives, Advertises, IsOutside, IsServed, IsMost};
+ghost use Rattle.dues.specs.Candidates.{IsCandidateOf, IsNetworkIn, IsOrdered, metric_into, CostsInto, IsIntraThrough, IsRangeThrough, LeadsThrough, IsPreferredThrough};
 
 use crate::inputs::DueInputs;
 use external::Preferred;
@@ -19,28 +19,87 @@ use ospf_types::prefix::Prefix;
 /// The metric of a destination that is not reached (RFC 2328, appendix B).
 pub(crate) const LS_INFINITY: u32 = 0xff_ffff;
 
-/// An area that a route leads through, and its cost, which is finite.
+/// An area that a route leads through, or whose range it is, and its cost, which is finite.
 #[derive(Clone, Copy, Debug, PartialEq, Eq)]
 pub(crate) struct Through {
     pub area: u32,
     pub cost: u32,
 }
 
-/// A destination, and what may give a summary for it, looked up once for all areas. A route gives none in the area that it
-/// leads through.
+/// The greatest metrics of what gives a summary for a destination. What leads through an area gives none in that area.
+#[derive(Clone, Copy, Debug)]
+pub(crate) struct Given {
+    // What has the greatest metric.
+    most: Option<Through>,
+    // The greatest metric of what leads through another area than that.
+    next: Option<u32>,
+}
+
+/// A destination, and what gives a summary for it, looked up once for all areas.
 #[derive(Clone, Copy, Debug)]
 pub(crate) struct Candidate {
     pub dest: Dest,
-    // The intra-area route of a network that no range of its area has.
-    pub intra: Option<Through>,
-    // The inter-area route of a network; the preferred route of an AS boundary router.
-    pub other: Option<Through>,
-    // Whether an advertised range has the prefix.
-    pub is_range: bool,
+    pub given: Given,
 }
 
-/// The destination with what may give a summary for it. With fewer than two active areas nothing is due, and nothing is
-/// looked up.
+impl Given {
+    // Nothing gives one.
+    fn none() -> Given
+        ensures in_order { IsOrdered result }
+        ensures none { (area : ℕ) → metric_into result area ≡ None }
+    {
+        Given {
+            most: None,
+            next: None,
+        }
+    }
+
+    // What gives one, and this besides.
+    fn with(self, through: Option<Through>) -> Given
+        requires { IsOrdered self }
+        ensures in_order { IsOrdered result }
+        ensures greatest { (area : ℕ) → IsMost (λ n. (metric_into self area ≡ Some n) ⊎ CostsInto through area n) (metric_into result area) }
+    {
+        let Some(through) = through else {
+            return self;
+        };
+        let Some(most) = self.most else {
+            return Given {
+                most: Some(through),
+                next: None,
+            };
+        };
+        if through.area == most.area {
+            return Given {
+                most: Some(costlier(most, through)),
+                next: self.next,
+            };
+        }
+        if through.cost > most.cost {
+            return Given {
+                most: Some(through),
+                next: Some(most.cost),
+            };
+        }
+        Given {
+            most: Some(most),
+            next: greater(self.next, through.cost),
+        }
+    }
+
+    // The greatest metric in the area.
+    fn metric_into(self, area: u32) -> Option<u32>
+        ensures { result ≡ metric_into self area }
+    {
+        match self.most {
+            Some(through) if through.area != area => Some(through.cost),
+            _ => self.next,
+        }
+    }
+}
+
+/// The destination with what gives a summary for it. With fewer than two active areas nothing is due, and nothing is looked
+/// up.
 pub(crate) fn find_candidate(inputs: &DueInputs<'_>, dest: Dest) -> Candidate
     ensures dest { result.dest ≡ dest }
     ensures right { IsCandidateOf inputs.now result }
@@ -48,44 +107,31 @@ pub(crate) fn find_candidate(inputs: &DueInputs<'_>, dest: Dest) -> Candidate
     if inputs.active.len() < 2 {
         return Candidate {
             dest,
-            intra: None,
-            other: None,
-            is_range: false,
+            given: Given::none(),
         };
     }
     match dest {
         Dest::Net(network) => Candidate {
             dest,
-            intra: intra_through(inputs, network),
-            other: inter_through(inputs, network),
-            is_range: is_advertised(inputs.areas, network),
+            given: network_given(inputs, network),
         },
         Dest::Router(router) => Candidate {
             dest,
-            intra: None,
-            other: preferred_through(inputs.external.preferred(router)),
-            is_range: false,
+            given: router_given(inputs.external.preferred(router)),
         },
     }
 }
 
 /// The metric at which the destination is due in the area; none where it is not.
-pub(crate) fn metric(
-    inputs: &DueInputs<'_>,
-    area: &AreaConfig,
-    served: bool,
-    candidate: &Candidate,
-) -> Option<u32>
-    requires served { IsTrue served ↔ IsServed inputs.now.active area.now.id }
-    requires right { IsCandidateOf inputs.now candidate.now }
-    ensures { (m : ℕ) → (result ≡ Some m) ↔ IsDueIn inputs.now area.now candidate.now.dest m }
+pub(crate) fn metric(area: &AreaConfig, served: bool, candidate: &Candidate) -> Option<u32>
+    ensures { (v : DueInputsValue) → (IsTrue served ↔ IsServed v.active area.now.id) → IsCandidateOf v candidate.now → (m : ℕ) → (result ≡ Some m) ↔ IsDueIn v area.now candidate.now.dest m }
 {
     if !served {
         return None;
     }
     match candidate.dest {
-        Dest::Net(network) => network_metric(inputs, area, candidate, network),
-        Dest::Router(_) => router_metric(area.stub, area.id, candidate.other),
+        Dest::Net(network) => network_metric(area, candidate.given, network),
+        Dest::Router(_) => router_metric(area.stub, area.id, candidate.given),
     }
 }
 
@@ -109,14 +155,8 @@ fn has_other(active: &[u32], area: u32) -> bool
 }
 
 // A stub area is sent its default route, and other networks only where its configuration says so.
-fn network_metric(
-    inputs: &DueInputs<'_>,
-    area: &AreaConfig,
-    candidate: &Candidate,
-    network: Prefix,
-) -> Option<u32>
-    requires { AreOfNetwork inputs.now network candidate.now }
-    ensures { (m : ℕ) → (result ≡ Some m) ↔ IsNetworkDueIn inputs.now area.now.id area.now.stub network m }
+fn network_metric(area: &AreaConfig, given: Given, network: Prefix) -> Option<u32>
+    ensures { (v : DueInputsValue) → IsNetworkIn v area.now.id network given → (m : ℕ) → (result ≡ Some m) ↔ IsNetworkDueIn v area.now.id area.now.stub network m }
 {
     if let Some(stub) = area.stub {
         if is_default(network) {
@@ -126,7 +166,7 @@ fn network_metric(
             return None;
         }
     }
-    greatest_given(inputs, area.id, candidate, network)
+    given.metric_into(area.id)
 }
 
 fn is_default(network: Prefix) -> bool
@@ -142,34 +182,13 @@ pub(crate) fn default_network() -> Prefix
     Prefix::of_mask(0, 0)
 }
 
-// The greatest metric of what gives a summary for the network.
-fn greatest_given(
-    inputs: &DueInputs<'_>,
-    area: u32,
-    candidate: &Candidate,
-    network: Prefix,
-) -> Option<u32>
-    requires { AreOfNetwork inputs.now network candidate.now }
-    ensures { (m : ℕ) → (result ≡ Some m) ↔ IsGreatest (GivesIn inputs.now area network) m }
+// What gives a summary for the network.
+fn network_given(inputs: &DueInputs<'_>, network: Prefix) -> Given
+    ensures { (area : ℕ) → IsNetworkIn inputs.now area network result }
 {
-    let own = greater(
-        cost_into(candidate.intra, area),
-        cost_into(candidate.other, area),
-    );
-    if !candidate.is_range {
-        return own;
-    }
-    greater(own, range_given(inputs, area, network))
-}
-
-// The cost of the route, where it leads through another area.
-fn cost_into(route: Option<Through>, area: u32) -> Option<u32>
-    ensures { (m : ℕ) → (result ≡ Some m) ↔ CostsInto route area m }
-{
-    match route {
-        Some(through) if through.area != area => Some(through.cost),
-        _ => None,
-    }
+    let intra = Given::none().with(intra_through(inputs, network));
+    let own = intra.with(inter_through(inputs, network));
+    with_ranges(inputs, network, own)
 }
 
 // The intra-area route of a network outside the ranges of its area.
@@ -229,30 +248,30 @@ fn is_in_range(area: &AreaConfig, network: Prefix) -> bool
     false
 }
 
-// The greatest of what the other areas' advertised ranges with the prefix give.
-fn range_given(inputs: &DueInputs<'_>, area: u32, prefix: Prefix) -> Option<u32>
-    ensures { IsMost (RangeGives inputs.now area prefix) result }
+// What is given, and what the areas' advertised ranges with the prefix give besides.
+fn with_ranges(inputs: &DueInputs<'_>, prefix: Prefix, own: Given) -> Given
+    requires { IsOrdered own }
+    ensures { (area : ℕ) → IsMost (λ n. (metric_into own area ≡ Some n) ⊎ RangeGives inputs.now area prefix n) (metric_into result area) }
 {
-    let mut most = None;
-    for other in inputs.areas {
-        most = greater(most, range_given_by(inputs, other, area, prefix));
+    let mut given = own;
+    for area in inputs.areas {
+        given = given.with(range_through(inputs, area, prefix));
     }
-    most
+    given
 }
 
-// What the advertised ranges of this one with the prefix give, where it is another area.
-fn range_given_by(
-    inputs: &DueInputs<'_>,
-    other: &AreaConfig,
-    area: u32,
-    prefix: Prefix,
-) -> Option<u32>
-    ensures { (m : ℕ) → (result ≡ Some m) ↔ RangeGivesBy inputs.now other.now area prefix m }
+// The area, at the greatest cost of its advertised range with the prefix.
+fn range_through(inputs: &DueInputs<'_>, area: &AreaConfig, prefix: Prefix) -> Option<Through>
+    ensures { (t : ThroughValue) → (result ≡ Some t) ↔ IsRangeThrough inputs.now area.now prefix t }
 {
-    if other.id != area && advertises(other, prefix) {
-        return inputs.ranges.costliest(prefix, other.id, LS_INFINITY);
+    if !advertises(area, prefix) {
+        return None;
     }
-    None
+    let cost = inputs.ranges.costliest(prefix, area.id, LS_INFINITY)?;
+    Some(Through {
+        area: area.id,
+        cost,
+    })
 }
 
 // Whether the area has an advertised range with the prefix.
@@ -267,35 +286,42 @@ fn advertises(area: &AreaConfig, prefix: Prefix) -> bool
     false
 }
 
-// The greater of the two, where both are there; else the one that is.
-fn greater(a: Option<u32>, b: Option<u32>) -> Option<u32>
-    ensures { IsMost (λ n. (a ≡ Some n) ⊎ (b ≡ Some n)) result }
+// The costlier of the two.
+fn costlier(a: Through, b: Through) -> Through
+    ensures one { (result ≡ a) ⊎ (result ≡ b) }
+    ensures first { a.cost ≤ result.cost }
+    ensures second { b.cost ≤ result.cost }
 {
-    match b {
-        Some(_) => a.max(b),
-        None => a,
+    if b.cost > a.cost {
+        return b;
     }
+    a
 }
 
-// Whether an area has an advertised range with the prefix.
-fn is_advertised(areas: &[AreaConfig], prefix: Prefix) -> bool
-    ensures { IsFalse result → (a : AreaConfigValue) → Contains areas.now a → Advertises a prefix → ⊥ }
+// The greater of the two, where the first is there; else the second.
+fn greater(a: Option<u32>, b: u32) -> Option<u32>
+    ensures { IsMost (λ n. (a ≡ Some n) ⊎ (Some b ≡ Some n)) result }
 {
-    for area in areas {
-        if advertises(area, prefix) {
-            return true;
-        }
-    }
-    false
+    a.max(Some(b))
 }
 
 // The cost of the preferred route of an AS boundary router, where that leads through another area. A stub area is sent none.
-fn router_metric(stub: Option<Stub>, area: u32, preferred: Option<Through>) -> Option<u32>
-    ensures { (m : ℕ) → (result ≡ Some m) ↔ ((stub ≡ None) × CostsInto preferred area m) }
+fn router_metric(stub: Option<Stub>, area: u32, given: Given) -> Option<u32>
+    ensures { (m : ℕ) → (result ≡ Some m) ↔ ((stub ≡ None) × (metric_into given area ≡ Some m)) }
 {
     match stub {
         Some(_) => None,
-        None => cost_into(preferred, area),
+        None => given.metric_into(area),
+    }
+}
+
+// What gives a summary for the AS boundary router whose preferred route this is.
+fn router_given(preferred: Option<&Preferred>) -> Given
+    ensures { (area m : ℕ) → (metric_into result area ≡ Some m) ↔ PreferredGives (option_copied preferred.entry) area m }
+{
+    Given {
+        most: preferred_through(preferred),
+        next: None,
     }
 }
 

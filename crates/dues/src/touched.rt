@@ -1,11 +1,11 @@
 //! The destinations whose summaries may differ.
-ghost use Rattle.std.specs.Prelude.{◌≡◌, ◌↔◌, ℕ, Contains, IfOk, OnOk};
+ghost use Rattle.std.specs.Prelude.{◌↔◌, ℕ, Contains, IsFalse, IsTrue, IfOk, OnOk};
 ghost use Rattle.std.specs.List.Sorted.{IsStrictlySortedBy};
 ghost use Rattle.ospf_types.specs.declared.config.AreaConfig.{AreaConfig as AreaConfigValue};
 ghost use Rattle.ospf_types.specs.declared.key.Dest.{Dest as DestValue};
 ghost use Rattle.ospf_types.specs.Keys.{dest_cmp};
 ghost use Rattle.dues.specs.Giving.{IsDueIn};
-ghost use Rattle.dues.specs.Touched.{IsTouchedBy, IsOverDest, IsOver, IsOverIn, IsNetOf, IsRouterOf, HasAlso};
+ghost use Rattle.dues.specs.Touched.{IsTouchedBy, IsOver, IsOverIn, IsNetIn, IsNetOf, IsRouterOf, HasAlso};
 
 use crate::giving::default_network;
 use crate::inputs::DueInputs;
@@ -25,8 +25,8 @@ pub(crate) fn touched(
     ensures enough { IfOk result (λ found. (d : DestValue) → IsTouchedBy areas.now dests.now d → Contains found.items d) }
 {
     let mut found = Vec::from_slice(alloc, dests)?;
-    for dest in dests {
-        push_ranges_over(areas, dest, &mut found)?;
+    for area in areas {
+        push_ranges_of(area, dests, &mut found)?;
     }
     ascending(found)
 }
@@ -41,47 +41,47 @@ pub(crate) fn ascending(mut dests: Vec<Dest>) -> Result<Vec<Dest>, Memory>
     Ok(dests)
 }
 
-// Adds the prefixes of the ranges that have the destination, where that is a network.
-fn push_ranges_over(areas: &[AreaConfig], dest: &Dest, found: &mut Vec<Dest>) -> Result<(), Memory>
-    ensures { OnOk result (HasAlso (IsOverDest areas.now dest.now) found.old.items found.new.items) }
-{
-    match *dest {
-        Dest::Net(network) => push_ranges(areas, network, found),
-        Dest::Router(_) => Ok(()),
-    }
-}
-
-// Adds the prefixes of the ranges that have the network.
-fn push_ranges(areas: &[AreaConfig], network: Prefix, found: &mut Vec<Dest>) -> Result<(), Memory>
-    ensures { OnOk result (HasAlso (IsOver areas.now network) found.old.items found.new.items) }
-{
-    for area in areas {
-        push_ranges_of(area, network, found)?;
-    }
-    Ok(())
-}
-
-// Adds those of one area.
-fn push_ranges_of(area: &AreaConfig, network: Prefix, found: &mut Vec<Dest>) -> Result<(), Memory>
-    ensures { OnOk result (HasAlso (IsOverIn area.now.ranges network) found.old.items found.new.items) }
+// Adds the prefixes of the area's ranges that have one of the networks.
+fn push_ranges_of(area: &AreaConfig, dests: &[Dest], found: &mut Vec<Dest>) -> Result<(), Memory>
+    ensures { OnOk result (HasAlso (IsOverIn area.now.ranges dests.now) found.old.items found.new.items) }
 {
     for range in area.ranges.as_slice() {
-        if range.prefix.covers(network) {
-            push_also(Dest::Net(range.prefix), found)?;
-        }
+        push_range(range.prefix, dests, found)?;
     }
     Ok(())
 }
 
-// Adds the destination, unless it is the last.
-fn push_also(dest: Dest, found: &mut Vec<Dest>) -> Result<(), Memory>
-    ensures { OnOk result (HasAlso (λ d. d ≡ dest) found.old.items found.new.items) }
+// Adds the prefix, where it covers one of the networks.
+fn push_range(prefix: Prefix, dests: &[Dest], found: &mut Vec<Dest>) -> Result<(), Memory>
+    ensures { OnOk result (HasAlso (IsOver dests.now prefix) found.old.items found.new.items) }
 {
-    if found.last() == Some(&dest) {
+    if !covers_one(prefix, dests) {
         return Ok(());
     }
-    found.push(dest)?;
+    found.push(Dest::Net(prefix))?;
     Ok(())
+}
+
+// Whether the prefix covers one of the networks.
+fn covers_one(prefix: Prefix, dests: &[Dest]) -> bool
+    ensures { IsFalse result → (d : DestValue) → Contains dests.now d → IsNetIn prefix d → ⊥ }
+{
+    for dest in dests {
+        if is_covered(prefix, dest) {
+            return true;
+        }
+    }
+    false
+}
+
+// Whether the destination is a network that the prefix covers.
+fn is_covered(prefix: Prefix, dest: &Dest) -> bool
+    ensures { IsTrue result ↔ IsNetIn prefix dest.now }
+{
+    match *dest {
+        Dest::Net(network) => prefix.covers(network),
+        Dest::Router(_) => false,
+    }
 }
 
 /// Each destination that is due in an area; and perhaps others.

@@ -1,3 +1,4 @@
+pub mod Opening
 pub mod Rooming
 pub mod Zips
 pub mod Working

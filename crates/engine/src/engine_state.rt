@@ -98,10 +98,7 @@ impl Engine {
         if readers == 0 || readers > MOST_READERS {
             return Err(OpenFault::Readers);
         }
-        match Core::open_sound(alloc, base, Limits::STANDARD, hashing) {
-            Ok(core) => open_over(rt, alloc, core, readers),
-            Err(Memory) => Err(OpenFault::Config(ConfigFault::Memory)),
-        }
+        open_sound(rt, alloc, base, readers, hashing)
     }
 
     /// Takes the event, or refuses it.
@@ -204,6 +201,27 @@ fn of_base(fault: BaseFault) -> OpenFault
         BaseFault::Config(fault) => OpenFault::Config(fault),
         BaseFault::Doubled => OpenFault::Doubled,
         BaseFault::Unfit(unfit) => OpenFault::Unfit(unfit),
+    }
+}
+
+// The engine of a sound base, and so many forwarders.
+fn open_sound<R: Wait>(
+    rt: &R,
+    alloc: Global,
+    base: Base,
+    readers: usize,
+    hashing: RandomState,
+) -> Result<(Engine, Vec<Forwarder>), OpenFault>
+    requires sound { base_fault_of standard_limits base ≡ None }
+    requires readers { AreReaders readers }
+    ensures fault { IfErr result (IsOpenFaultFrom base readers) }
+    ensures base { IfOk result (λ r. r.0.base ≡ base) }
+    ensures count { IfOk result (λ r. length r.1.items ≡ readers) }
+    ensures forwarders { IfOk result (λ r. All (λ f. (f.name ≡ r.0) × (f.known ≡ [])) r.1.items) }
+{
+    match Core::open_sound(alloc, base, Limits::STANDARD, hashing) {
+        Ok(core) => open_over(rt, alloc, core, readers),
+        Err(Memory) => Err(OpenFault::Config(ConfigFault::Memory)),
     }
 }
 

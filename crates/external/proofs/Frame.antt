@@ -2,7 +2,7 @@
 --   entry_same, preferred_same: a result for the offers is one for the same offers
 --   router_stands: the preferred entry of a router that is not named
 --   forward_stands: where an address leads that is not due
---   entry_stands: the entry of a network that is not named nor affected
+--   entry_stands: the entry of a network that is not affected, and not named or that nothing leads to
 --   stands_after: all of them, once the index followed
 --   stands_from_nothing: the same of routes where nothing was advertised
 use Rattle.std.proofs.Common.{◌≡◌, ℕ, List, Option, Some, None, refl, sym, ap, subst, ◌∙◌, inl, inr, arith}
@@ -30,7 +30,7 @@ use Rattle.intra.specs.Intras.{reached_at}
 use Rattle.intra.specs.Reached.{ReachedValue, HandsOut}
 use Rattle.intra.proofs.Frame.{best_same}
 use Rattle.offer_index.specs.Advertised.{AdvertisedValue}
-use Rattle.offer_index.specs.Indexes.{OfferIndexValue, AffectedValue, AreTouched, IsIndexOf, IsForwardedInto, IsForwardedTo}
+use Rattle.offer_index.specs.Indexes.{OfferIndexValue, AffectedValue, AreTouched, IsIndexOf, IsForwardedInto, IsForwardedTo, IsLedTo}
 use Rattle.external.specs.Changes.{InputsDifferAmong}
 use Rattle.external.specs.Externals.{ExternalValue, IsEntryFor, IsExternalOf, IsForwardIn}
 use Rattle.external.specs.Forwards.{ForwardValue, ForwardsByAddress, IsForwardOf, IsMatchOf, LeadsBy, Matches, class_in, internal_entry}
@@ -148,12 +148,12 @@ module _ (keys : List (Scope × Key)) (dests : List Dest) (b v : ExternalInputsV
         (there, leads_stand a f (λ p c has no_shorter. clear p c (there, has) no_shorter) is.1)
 
     module _ (was : IsIndexOf b.root As b.lsas old) (now : IsIndexOf v.root As v.lsas i) (preferred : PreferredByRouter) (forwards : ForwardsByAddress) (p : Prefix)
-        (unaffected : Contains affected.dests (Net p) → ⊥) (unnamed : Contains dests (Net p) → ⊥) where
+        (unaffected : Contains affected.dests (Net p) → ⊥) (unnamed : Contains dests (Net p) → IsLedTo i (Net p) → ⊥) where
       offers_after : (preference : ExternalPreference) (path : Path) → OffersOf b preferred forwards p preference path → OffersOf v preferred forwards p preference path
       offers_after preference path o =
           let listed : get old.routes o.0 ≡ Some o.1 = was o.0 ∙ o.2 in
           elim (touched.each o.0) [
-            | inl e ↦ (o.0, o.1, sym (now o.0) ∙ e ∙ listed, o.3, internal_stands p unnamed ∙ o.4, o.5)
+            | inl e ↦ (o.0, o.1, sym (now o.0) ∙ e ∙ listed, o.3, internal_stands p (λ c. unnamed c (o.0, (o.1, e ∙ listed, o.3))) ∙ o.4, o.5)
             | inr all ↦ absurd (unaffected (all.0 (Net p) (inl (o.1, listed, o.3))))
           ]
 
@@ -161,11 +161,11 @@ module _ (keys : List (Scope × Key)) (dests : List Dest) (b v : ExternalInputsV
       offers_before preference path o =
           let listed : get i.routes o.0 ≡ Some o.1 = now o.0 ∙ o.2 in
           elim (touched.each o.0) [
-            | inl e ↦ (o.0, o.1, sym (was o.0) ∙ sym e ∙ listed, o.3, sym (internal_stands p unnamed) ∙ o.4, o.5)
+            | inl e ↦ (o.0, o.1, sym (was o.0) ∙ sym e ∙ listed, o.3, sym (internal_stands p (λ c. unnamed c (o.0, (o.1, listed, o.3)))) ∙ o.4, o.5)
             | inr all ↦ absurd (unaffected (all.0 (Net p) (inr (o.1, listed, o.3))))
           ]
 
-      -- the entry of a network that is not named nor affected
+      -- the entry of a network that is not affected, and not named or that nothing leads to
       pub entry_stands : (e : Option Entry) → IsEntryFor (OffersOf b preferred forwards p) e → IsEntryFor (OffersOf v preferred forwards p) e
       entry_stands e is = entry_same (OffersOf b preferred forwards p) (OffersOf v preferred forwards p) (λ preference path. (offers_after preference path, offers_before preference path)) e is
 

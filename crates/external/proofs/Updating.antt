@@ -23,7 +23,7 @@ use Rattle.external.specs.Forwards.{ForwardValue, ForwardsByAddress}
 use Rattle.external.specs.Inputs.{ExternalInputsValue}
 use Rattle.external.specs.Offers.{AdvertisedOffers, ForwardLeads, OffersBy, OffersOf}
 use Rattle.external.specs.Preferred.{PreferredByRouter, PreferredValue, IsPreferredFor, RouterOffers}
-use Rattle.external.specs.Renewing.{AreEntriesRenewed, AreForwardsRenewed, AreLed, ArePreferredRenewed, IsListed, StandsBut}
+use Rattle.external.specs.Renewing.{AreEntriesRenewed, AreForwardsRenewed, AreLed, AreNetworksLed, ArePreferredRenewed, IsListed, StandsBut}
 use Rattle.external.specs.contracts.forward.Forward as kept_forward
 use Rattle.external.specs.contracts.preferred.Preferred as kept_entry
 use Rattle.external.proofs.Frame.{entry_same}
@@ -53,11 +53,11 @@ advertised_offers k a was is before after preferred forward preference path o =
     )
 
 module _ (v : ExternalInputsValue) (dests : List Dest) (affected : AffectedValue) (old : ExternalValue) (preferred : PreferredByRouter) (forwards : ForwardsByAddress) (entries : EntriesByPrefix)
-    (routers moved : List ℕ) (by_routers led : List Dest) (stands : StandsBut v dests affected old)
+    (routers moved : List ℕ) (by_routers led all : List Dest) (stands : StandsBut v dests affected old)
     (preferred_renewed : ArePreferredRenewed v dests old.preferred preferred) (changed : (r : ℕ) → Contains routers r ↔ (get preferred r ≢ get old.preferred r))
     (forwards_renewed : AreForwardsRenewed v old.index dests affected.addresses old.forwards forwards) (elsewhere : (a : ℕ) → Contains moved a ↔ (get forwards a ≢ get old.forwards a))
     (first : AreLed old.index By routers affected.dests by_routers) (second : AreLed old.index Forwarded moved by_routers led)
-    (entries_renewed : AreEntriesRenewed v old.index preferred forwards (led ++ dests) old.entries entries) where
+    (third : AreNetworksLed old.index dests led all) (entries_renewed : AreEntriesRenewed v old.index preferred forwards all old.entries entries) where
   preferred_is : (r : ℕ) → IsPreferredFor (RouterOffers v r) (get preferred r)
   preferred_is r = elim (preferred_renewed r) [
     | inl is ↦ is
@@ -72,16 +72,16 @@ module _ (v : ExternalInputsValue) (dests : List Dest) (affected : AffectedValue
 
   -- ---- a network to which nothing leads that differs
 
-  module _ (p : Prefix) (absent : Contains (led ++ dests) (Net p) → ⊥) where
+  module _ (p : Prefix) (absent : Contains all (Net p) → ⊥) where
     same_preferred : (k : Key) (a : AdvertisedValue) → get old.index.routes k ≡ Some a → a.dest ≡ Net p → get preferred k.router ≡ get old.preferred k.router
     same_preferred k a listed dest = same_value preferred_coded (get preferred k.router) (get old.preferred k.router) (λ other.
         let there = first.led k.router ((changed k.router).1 other) (Net p) (k, a, listed, refl, dest) in
-        absent (Contains-append_left led dests (Net p) (second.kept (Net p) there)))
+        absent (third.kept (Net p) (second.kept (Net p) there)))
 
     same_forward : (k : Key) (a : AdvertisedValue) → get old.index.routes k ≡ Some a → a.dest ≡ Net p → 0 < a.forwarding → get forwards a.forwarding ≡ get old.forwards a.forwarding
     same_forward k a listed dest some = same_value forward_coded (get forwards a.forwarding) (get old.forwards a.forwarding) (λ other.
         let there = second.led a.forwarding ((elsewhere a.forwarding).1 other) (Net p) (k, a, listed, (some, refl), dest) in
-        absent (Contains-append_left led dests (Net p) there))
+        absent (third.kept (Net p) there))
 
     offers_after : (preference : ExternalPreference) (path : Path) → OffersOf v old.preferred old.forwards p preference path → OffersOf v preferred forwards p preference path
     offers_after preference path o =
@@ -105,7 +105,7 @@ module _ (v : ExternalInputsValue) (dests : List Dest) (affected : AffectedValue
       λ o. (o.0, o.1, stands.index o.0 ∙ o.2, o.3, o.4, o.5),
     )) (get entries p) is
     | inr kept ↦ subst (IsEntryFor (OffersOf v preferred forwards p)) (sym kept.1) (entry_kept p kept.0 (get old.entries p)
-        (stands.entries p (λ c. kept.0 (Contains-append_left led dests (Net p) (second.kept (Net p) (first.kept (Net p) c)))) (λ c. kept.0 (Contains-append_right led dests (Net p) c))))
+        (stands.entries p (λ c. kept.0 (third.kept (Net p) (second.kept (Net p) (first.kept (Net p) c)))) (λ c leads. kept.0 (third.led p c leads))))
   ]
 
   abbrev pub new : ExternalValue

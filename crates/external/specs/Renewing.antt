@@ -10,7 +10,7 @@ use Rattle.ospf_types.specs.declared.prefix.Prefix.{Prefix}
 use Rattle.intra.specs.Intras.{EntriesByPrefix}
 use Rattle.offer_index.specs.declared.group.Group.{Group}
 use Rattle.offer_index.specs.Advertised.{AdvertisedValue}
-use Rattle.offer_index.specs.Indexes.{OfferIndexValue, AffectedValue, IsIndexOf, IsForwardedInto, GroupLeadsTo}
+use Rattle.offer_index.specs.Indexes.{OfferIndexValue, AffectedValue, IsIndexOf, IsForwardedInto, IsLedTo, GroupLeadsTo}
 use Rattle.external.specs.Inputs.{ExternalInputsValue}
 use Rattle.external.specs.Preferred.{PreferredByRouter, RouterOffers, IsPreferredFor}
 use Rattle.external.specs.Forwards.{ForwardValue, ForwardsByAddress}
@@ -63,12 +63,17 @@ pub record AreLed (i : OfferIndexValue) (group : ℕ → Group) (numbers : List 
   pub kept : (d : Dest) → Contains before d → Contains after d
   pub led : (n : ℕ) → Contains numbers n → (d : Dest) → GroupLeadsTo i (group n) d → Contains after d
 
+-- the list has all of before, and those of the networks among the destinations that something leads to
+pub record AreNetworksLed (i : OfferIndexValue) (dests before after : List Dest) : Type 0 where
+  pub kept : (d : Dest) → Contains before d → Contains after d
+  pub led : (p : Prefix) → Contains dests (Net p) → IsLedTo i (Net p) → Contains after (Net p)
+
 -- ---- the whole
 
--- the index is that of the inputs, and all else that is not due is right as it stands
+-- the index is that of the inputs, and all else that is not due is right as it stands: a named network that nothing leads to has no entry
 pub record StandsBut (v : ExternalInputsValue) (dests : List Dest) (affected : AffectedValue) (w : ExternalValue) : Type 0 where
   pub fresh : w.spent ≡ false
   pub index : IsIndexOf v.root As v.lsas w.index
   pub preferred : (r : ℕ) → (Contains dests (Router r) → ⊥) → IsPreferredFor (RouterOffers v r) (get w.preferred r)
   pub forwards : (a : ℕ) → (IsAddressDue dests affected.addresses w.index w.forwards a → ⊥) → IsForwardIn v w.index a (get w.forwards a)
-  pub entries : (p : Prefix) → (Contains affected.dests (Net p) → ⊥) → (Contains dests (Net p) → ⊥) → IsEntryFor (OffersOf v w.preferred w.forwards p) (get w.entries p)
+  pub entries : (p : Prefix) → (Contains affected.dests (Net p) → ⊥) → (Contains dests (Net p) → IsLedTo w.index (Net p) → ⊥) → IsEntryFor (OffersOf v w.preferred w.forwards p) (get w.entries p)

@@ -20,8 +20,8 @@ use crate::forward::Forward;
 use crate::inputs::ExternalInputs;
 use crate::preferred::Preferred;
 use crate::renew::{
-    Choosing, Forwarding, add_routers, push_by, push_forwarded, push_routers, renew_entries,
-    renew_forwards, renew_preferred,
+    Choosing, Forwarding, add_routers, push_by, push_forwarded, push_led, push_routers,
+    renew_entries, renew_forwards, renew_preferred,
 };
 use intra::Dirty;
 use offer_index::{Affected, OfferIndex};
@@ -248,7 +248,7 @@ impl External {
         let moved = renew_forwards(alloc, &forwarding, dests, addresses, &mut self.forwards)?;
         push_by(index, routers.as_slice(), &mut leading)?;
         push_forwarded(index, moved.as_slice(), &mut leading)?;
-        leading.extend_from_slice(dests)?;
+        push_led(index, dests, &mut leading)?;
         let choosing = Choosing {
             inputs,
             index,

@@ -9,7 +9,8 @@ ghost use Rattle.ospf_types.specs.declared.prefix.Prefix.{Prefix as PrefixValue}
 ghost use Rattle.ospf_types.specs.Keys.{dest_cmp};
 ghost use Rattle.ospf_types.specs.Network.{network_cmp};
 ghost use Rattle.offer_index.specs.declared.group.Group.TheVariants as group_value;
-ghost use Rattle.external.specs.Renewing.{AreEntriesRenewed, AreForwardsRenewed, AreLed, ArePreferredRenewed, IsAddressDue, IsNoShorter, IsNoShorterThan, IsReachedBy};
+ghost use Rattle.offer_index.specs.Indexes.{IsLedTo};
+ghost use Rattle.external.specs.Renewing.{AreEntriesRenewed, AreForwardsRenewed, AreLed, AreNetworksLed, ArePreferredRenewed, IsAddressDue, IsNoShorter, IsNoShorterThan, IsReachedBy};
 
 use crate::choose::choose;
 use crate::forward::{Forward, look_up};
@@ -215,6 +216,9 @@ fn push_reached(
 ) -> Result<(), Memory>
     ensures { OnOk result ((a : ℕ) → IsAddressDue dests.now due.old.items index.now (map.from_entries forwards.now.entries) a → Contains due.new.items a) }
 {
+    if !index.has_addresses() {
+        return Ok(());
+    }
     for dest in dests {
         push_in_dest(alloc, index, forwards, *dest, due)?;
     }
@@ -328,6 +332,47 @@ pub(crate) fn push_forwarded(
 {
     for address in addresses {
         index.push_dests(Group::Forwarded(*address), dests)?;
+    }
+    Ok(())
+}
+
+/// Adds those of the networks among the destinations that something leads to. To the others nothing is offered: they have no
+/// entry.
+pub(crate) fn push_led(
+    index: &OfferIndex,
+    dests: &[Dest],
+    leading: &mut Vec<Dest>,
+) -> Result<(), Memory>
+    ensures { OnOk result (AreNetworksLed index.now dests.now leading.old.items leading.new.items) }
+{
+    for dest in dests {
+        push_if_led(index, *dest, leading)?;
+    }
+    Ok(())
+}
+
+// Adds the destination if it is a network that something leads to.
+fn push_if_led(index: &OfferIndex, dest: Dest, leading: &mut Vec<Dest>) -> Result<(), Memory>
+    ensures kept { OnOk result ((d : DestValue) → Contains leading.old.items d → Contains leading.new.items d) }
+    ensures led { OnOk result ((p : PrefixValue) → dest_value.Net p ≡ dest → IsLedTo index.now (dest_value.Net p) → Contains leading.new.items (dest_value.Net p)) }
+{
+    match dest {
+        Dest::Net(network) => push_network_if_led(index, network, leading),
+        Dest::Router(_) => Ok(()),
+    }
+}
+
+// Adds the network if something leads to it.
+fn push_network_if_led(
+    index: &OfferIndex,
+    network: Prefix,
+    leading: &mut Vec<Dest>,
+) -> Result<(), Memory>
+    ensures kept { OnOk result ((d : DestValue) → Contains leading.old.items d → Contains leading.new.items d) }
+    ensures led { OnOk result (IsLedTo index.now (dest_value.Net network) → Contains leading.new.items (dest_value.Net network)) }
+{
+    if index.leads_to(Dest::Net(network)) {
+        leading.push(Dest::Net(network))?;
     }
     Ok(())
 }

@@ -167,8 +167,8 @@ fn copy(alloc: Global, link: &Link) -> Result<Link, Memory>
         Label::Plain => Label::Plain,
     };
     Ok(Link {
-        from: link.from,
-        to: link.to,
+        from: link.from.copy(),
+        to: link.to.copy(),
         cost: link.cost,
         label,
     })
@@ -247,8 +247,8 @@ fn is_among_first(link: &Link, others: &[Link]) -> bool
 fn is_same(one: &Link, other: &Link) -> bool
     ensures { IsTrue result ↔ (one.now ≡ other.now) }
 {
-    one.from == other.from
-        && one.to == other.to
+    one.from.vertex() == other.from.vertex()
+        && one.to.vertex() == other.to.vertex()
         && one.cost == other.cost
         && is_same_label(&one.label, &other.label)
 }

@@ -44,9 +44,10 @@ fn fresh_row(alloc: Global, side: Side<'_>, vertex: Vertex) -> Result<Option<Row
     requires { IsInOrder (ends_in side) }
     ensures { IfOk result (IsFreshRow (ends_in side.entry) (LinksIn side.entry) vertex) }
 {
-    match side.find(vertex) {
+    let (ends, place) = side.find(vertex);
+    match ends {
         Some(ends) => {
-            let row = row_of(alloc, side, vertex, ends)?;
+            let row = row_of(alloc, side, vertex, place, ends)?;
             Ok(Some(row))
         }
         None => Ok(None),
@@ -54,7 +55,13 @@ fn fresh_row(alloc: Global, side: Side<'_>, vertex: Vertex) -> Result<Option<Row
 }
 
 // The row of a vertex that is there. Its ends are in order, so those at one vertex stand together.
-fn row_of(alloc: Global, side: Side<'_>, vertex: Vertex, ends: &[End]) -> Result<Row, Memory>
+fn row_of(
+    alloc: Global,
+    side: Side<'_>,
+    vertex: Vertex,
+    place: u32,
+    ends: &[End],
+) -> Result<Row, Memory>
     requires in_order { IsInOrder (ends_in side) }
     requires ends { ends.now ≡ ends_or (ends_in side vertex) }
     ensures ends { IfOk result (λ row. row.ends.items ≡ ends.now) }
@@ -68,6 +75,7 @@ fn row_of(alloc: Global, side: Side<'_>, vertex: Vertex, ends: &[End]) -> Result
         let past = past_from(ends, first, to);
         let own = Facing {
             vertex,
+            place,
             ends: &ends[first..past],
         };
         side.push_both(alloc, own, to, &mut out, &mut into)?;

@@ -1,5 +1,5 @@
-use ospf_types::entry::Vertex;
 use ospf_types::label::Label;
+use vertex_map::Placed;
 
 /// An interface of the area that is up.
 #[derive(Clone, Copy, Debug, PartialEq, Eq)]
@@ -12,8 +12,8 @@ pub struct Up {
 /// A link of the graph, with its metric (RFC 2328, 16.1).
 #[derive(Debug)]
 pub struct Link {
-    pub from: Vertex,
-    pub to: Vertex,
+    pub from: Placed,
+    pub to: Placed,
     /// The metric; 0 out of a network.
     pub cost: u16,
     pub label: Label,
@@ -23,8 +23,8 @@ pub struct Link {
 impl Drop for Link {
     fn drop(self) {
         let Link {
-            from: _,
-            to: _,
+            from: _from,
+            to: _to,
             cost: _,
             label: _label,
         } = self;

@@ -13,12 +13,21 @@ use ospf_types::label::Label;
 use ospf_types::listed::Listed;
 use ospf_types::memory::Memory;
 use std::alloc::Global;
+use vertex_map::Placed;
 
-/// A vertex with the ends of its LSA that are at another.
+/// A vertex, the place of its row, and the ends of its LSA that are at another.
 #[derive(Clone, Copy)]
 pub(crate) struct Facing<'a> {
     pub(crate) vertex: Vertex,
+    pub(crate) place: u32,
     pub(crate) ends: &'a [End],
+}
+
+// The places of the rows of a link's two vertices.
+#[derive(Clone, Copy)]
+struct Places {
+    from: u32,
+    to: u32,
 }
 
 /// What the links of a router rest on beside LSAs: the Router ID of the root, and its interfaces.
@@ -40,11 +49,15 @@ pub(crate) fn push_links(
     ensures cheap { OnOk result (AreCheap links.old.items → AreCheap links.new.items) }
     ensures apart { OnOk result (KeepsApart from.entry.vertex to.entry.vertex links.old.items links.new.items) }
 {
+    let places = Places {
+        from: from.place,
+        to: to.place,
+    };
     match from.vertex {
         Vertex::Router(router) => {
-            push_from_router(alloc, local, router, from.ends, to.vertex, links)
+            push_from_router(alloc, local, router, from.ends, to.vertex, places, links)
         }
-        Vertex::Network(network) => push_from_network(alloc, network, to, links),
+        Vertex::Network(network) => push_from_network(alloc, network, to, places, links),
     }
 }
 
@@ -55,22 +68,29 @@ fn push_from_router(
     router: u32,
     ends: &[End],
     to: Vertex,
+    places: Places,
     links: &mut Vec<Link>,
 ) -> Result<(), Memory>
     ensures pushed { OnOk result (AddsOver local.entry.root local.entry.interfaces.now router ends.now to links.old.items links.new.items) }
     ensures cheap { OnOk result (AreCheap links.old.items → AreCheap links.new.items) }
 {
     match ends {
-        [only] if router != local.root => push_over_end(router, to, *only, links),
+        [only] if router != local.root => push_over_end(router, to, places, *only, links),
         _ => {
             let ways = ways_over(alloc, local, router, ends)?;
-            push_ways(router, to, ways.as_slice(), links)
+            push_ways(router, to, places, ways.as_slice(), links)
         }
     }
 }
 
 /// Adds the link of a router other than the root to a vertex that it has this one end at, unless the metric is 0.
-fn push_over_end(router: u32, to: Vertex, end: End, links: &mut Vec<Link>) -> Result<(), Memory>
+fn push_over_end(
+    router: u32,
+    to: Vertex,
+    places: Places,
+    end: End,
+    links: &mut Vec<Link>,
+) -> Result<(), Memory>
     ensures pushed { OnOk result (links.new.items ≡ links.old.items ++ list_map (link_by router to) (plain_ways end)) }
     ensures cheap { OnOk result (AreCheap links.old.items → AreCheap links.new.items) }
 {
@@ -81,23 +101,29 @@ fn push_over_end(router: u32, to: Vertex, end: End, links: &mut Vec<Link>) -> Re
         cost: end.metric,
         interface: None,
     };
-    links.push(link_by(router, to, way))?;
+    links.push(link_by(router, to, places, way))?;
     Ok(())
 }
 
 /// Adds the links of a router to a vertex by these ways.
-fn push_ways(router: u32, to: Vertex, ways: &[Way], links: &mut Vec<Link>) -> Result<(), Memory>
+fn push_ways(
+    router: u32,
+    to: Vertex,
+    places: Places,
+    ways: &[Way],
+    links: &mut Vec<Link>,
+) -> Result<(), Memory>
     ensures pushed { OnOk result (links.new.items ≡ links.old.items ++ list_map (link_by router to) ways.now) }
     ensures cheap { OnOk result (AreCheap links.old.items → AreCheap links.new.items) }
 {
     for way in ways {
-        links.push(link_by(router, to, *way))?;
+        links.push(link_by(router, to, places, *way))?;
     }
     Ok(())
 }
 
 /// The link of a router to a vertex by this way.
-fn link_by(router: u32, to: Vertex, way: Way) -> Link
+fn link_by(router: u32, to: Vertex, places: Places, way: Way) -> Link
     ensures value { result ≡ link_by router to way }
     ensures cheap { result.cost < 65536 }
 {
@@ -105,10 +131,17 @@ fn link_by(router: u32, to: Vertex, way: Way) -> Link
         Some(interface) => Label::Over(interface),
         None => Label::Plain,
     };
+    link(Vertex::Router(router), to, places, way.cost, label)
+}
+
+// A link between two vertices, which have their rows at these places.
+fn link(from: Vertex, to: Vertex, places: Places, cost: u16, label: Label) -> Link
+    ensures { result ≡ record { from = from; to = to; cost = cost; label = label } }
+{
     Link {
-        from: Vertex::Router(router),
-        to,
-        cost: way.cost,
+        from: Placed::new(from, places.from),
+        to: Placed::new(to, places.to),
+        cost,
         label,
     }
 }
@@ -118,6 +151,7 @@ fn push_from_network(
     alloc: Global,
     network: u32,
     to: Facing<'_>,
+    places: Places,
     links: &mut Vec<Link>,
 ) -> Result<(), Memory>
     ensures pushed { (back : List EndValue) → AreAllAt (Vertex.Network network) back to.entry.ends.now → OnOk result (Adds links.old.items links.new.items (IsOnto network to.entry.vertex back)) }
@@ -128,12 +162,8 @@ fn push_from_network(
         return Ok(());
     };
     let addresses = each_once(alloc, to.ends)?;
-    links.push(Link {
-        from: Vertex::Network(network),
-        to: to.vertex,
-        cost: 0,
-        label: Label::At(addresses),
-    })?;
+    let from = Vertex::Network(network);
+    links.push(link(from, to.vertex, places, 0, Label::At(addresses)))?;
     Ok(())
 }
 

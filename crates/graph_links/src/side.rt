@@ -31,6 +31,21 @@ pub fn row_ends<'a>(rows: &'a Rows, vertex: Vertex) -> Option<&'a [End]>
     Some(row.ends.as_slice())
 }
 
+/// The same, with the place of the row, 0 where there is none.
+fn placed_ends<'a>(rows: &'a Rows, vertex: Vertex) -> (Option<&'a [End]>, u32)
+    ensures { option_map (λ ends. ends.now) result.0 ≡ sides.row_ends rows.now.entries vertex }
+{
+    match rows.get_full(&vertex) {
+        Some((place, _, row)) => (Some(row.ends.as_slice()), number(place)),
+        None => (None, 0),
+    }
+}
+
+// A place as a number; past the greatest of them there are no rows.
+fn number(place: usize) -> u32 {
+    u32::try_from(place).unwrap_or(u32::MAX)
+}
+
 /// What is staged of the vertex. Mostly that is one vertex or none, and then nothing is hashed.
 fn find_staged<'a>(staged: &'a StagedEnds, vertex: Vertex) -> Option<&'a Option<Vec<End>>>
     ensures { option_map (λ ends. ends.now) result ≡ find vertex_cmp vertex staged.now.entries }
@@ -63,13 +78,25 @@ pub fn slice_or_none<'a>(ends: Option<&'a [End]>) -> &'a [End]
 }
 
 impl<'a> Side<'a> {
-    /// Where the vertex leads, none where it is not there.
-    pub fn find(self, vertex: Vertex) -> Option<&'a [End]>
-        ensures { option_map (λ ends. ends.now) result ≡ sides.ends_in self.entry vertex }
+    /// Where the vertex leads, none where it is not there, and the place that its row has or will have.
+    pub fn find(self, vertex: Vertex) -> (Option<&'a [End]>, u32)
+        ensures { option_map (λ ends. ends.now) result.0 ≡ sides.ends_in self.entry vertex }
     {
         match find_staged(self.staged, vertex) {
-            Some(ends) => slice_of(ends),
-            None => row_ends(self.rows, vertex),
+            Some(ends) => (slice_of(ends), self.staged_place(vertex)),
+            None => placed_ends(self.rows, vertex),
+        }
+    }
+
+    // The place of the row of a vertex of which something is staged. New ones come behind all that are there, in the order
+    // in which they were staged.
+    fn staged_place(self, vertex: Vertex) -> u32 {
+        match self.rows.get_index_of(&vertex) {
+            Some(place) => number(place),
+            None => {
+                let place = self.staged.get_index_of(&vertex).unwrap_or(0);
+                number(self.rows.len().saturating_add(place))
+            }
         }
     }
 
@@ -99,12 +126,14 @@ impl<'a> Side<'a> {
         ensures out_apart { OnOk result (KeepsApart own.entry.vertex to out.old.items out.new.items) }
         ensures into_apart { OnOk result (KeepsApart to own.entry.vertex into.old.items into.new.items) }
     {
-        let back = ends_at(slice_or_none(self.find(to)), own.vertex);
+        let (ends, place) = self.find(to);
+        let back = ends_at(slice_or_none(ends), own.vertex);
         if back.is_empty() {
             return Ok(());
         }
         let other = Facing {
             vertex: to,
+            place,
             ends: back,
         };
         push_links(alloc, self.local, own, other, out)?;

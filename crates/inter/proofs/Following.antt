@@ -16,7 +16,7 @@ use Rattle.ospf_types.specs.Keys.{key_cmp}
 use Rattle.ospf_types.proofs.Elements.{no_element}
 use Rattle.lsdb.specs.Databases.{Database}
 use Rattle.ospf_types.proofs.Elements.{contains_more}
-use Rattle.offer_index.specs.Indexes.{OfferIndexValue, AffectedValue, AreTouched, IsIndexOf, LsasDifferAmong, HasDest}
+use Rattle.offer_index.specs.Indexes.{OfferIndexValue, AffectedValue, AreTouched, IsIndexOf, LsasDifferAmong, IsLedTo, HasDest}
 use Rattle.inter.specs.Following.{area_of, ExaminedDifferAmong, IsIndexBefore, IsIndexSince, AreLed, IsPushed, ArePushed, IsFollowed}
 use Rattle.inter.specs.Inputs.{ExaminedValue, InterInputsValue}
 use Rattle.inter.specs.Inters.{IsIndexFor}
@@ -77,7 +77,7 @@ module _ (i : OfferIndexValue) where
   pub pushed_none : (named dests : List Dest) → ArePushed i (take 0 named) dests dests
   pushed_none named dests = record {
     kept = λ d c. c;
-    themselves = λ d c. absurd (no_element d c);
+    themselves = λ d c leads. absurd (no_element d c);
     behind = λ router d c leads. absurd (no_element (Router router) c);
   }
 
@@ -88,9 +88,9 @@ module _ (i : OfferIndexValue) where
       let more = λ (d : Dest). contains_more named k dest d lt at in
       record {
         kept = λ d c. step.kept d (first.kept d c);
-        themselves = λ d c. elim ((more d).0 c) [
-          | inl early ↦ step.kept d (first.themselves d early)
-          | inr e ↦ subst (λ (x : Dest). Contains new x) (sym e) step.itself
+        themselves = λ d c leads. elim ((more d).0 c) [
+          | inl early ↦ step.kept d (first.themselves d early leads)
+          | inr e ↦ subst (λ (x : Dest). Contains new x) (sym e) (step.itself (subst (IsLedTo i) e leads))
         ];
         behind = λ router d c leads. elim ((more (Router router)).0 c) [
           | inl early ↦ step.kept d (first.behind router d early leads)
@@ -111,6 +111,6 @@ followed_from named v area old new gathered pushed kept index led all same = rec
     | inl still ↦ inl still
     | inr there ↦ inr (λ d has. (same d).1 (all.kept d (there d has)))
   ];
-  themselves = λ d c. (same d).1 (all.themselves d c);
+  themselves = λ d c leads. (same d).1 (all.themselves d c leads);
   behind = λ router d c leads. (same d).1 (all.behind router d c leads);
 }

@@ -63,14 +63,14 @@ module _ (v : InterInputsValue) (i : OfferIndexValue) (d : Dest) where
 -- of what is offered to the destination nothing differs
 record IsAlike (v w : InterInputsValue) (before after : Option ℕ) (i j : OfferIndexValue) (d : Dest) : Type 0 where
   routes : (k : Key) → HasDest (get i.routes k) d ⊎ HasDest (get j.routes k) d → (after ≡ before) × (get j.routes k ≡ get i.routes k)
-  taken : (area : ℕ) → IsTakenBelow w area d ↔ IsTakenBelow v area d
+  taken : (k : Key) (a : AdvertisedValue) → get j.routes k ≡ Some a → a.dest ≡ d → (area : ℕ) → IsTakenBelow w area d ↔ IsTakenBelow v area d
   borders : (k : Key) (a : AdvertisedValue) → get j.routes k ≡ Some a → a.dest ≡ d → (area : ℕ) → reached_at w.intra.areas area k.router ≡ reached_at v.intra.areas area k.router
 
 -- the other way round
 alike_back : (v w : InterInputsValue) (before after : Option ℕ) (i j : OfferIndexValue) (d : Dest) → IsAlike v w before after i j d → IsAlike w v after before j i d
 alike_back v w before after i j d alike = record {
   routes = λ k has. let same = alike.routes k (elim has [ inl there ↦ inr there | inr here ↦ inl here ]) in (sym same.0, sym same.1);
-  taken = λ area. let both = alike.taken area in (both.1, both.0);
+  taken = λ k a listed dest area. let both = alike.taken k a ((alike.routes k (inl (a, listed, dest))).1 ∙ listed) dest area in (both.1, both.0);
   borders = λ k a listed dest area. sym (alike.borders k a ((alike.routes k (inl (a, listed, dest))).1 ∙ listed) dest area);
 }
 
@@ -82,7 +82,7 @@ offers_after v w area after i j d alike cost path h =
     let listed : get j.routes h.0 ≡ Some h.1 = same.1 ∙ h.2 in
     let o = h.5 in
     let border = sym (alike.borders h.0 h.1 listed h.3 area) in
-    (same.0, (h.0, h.1, listed, h.3, λ taken. h.4 ((alike.taken area).0 taken), (o.0, o.1, subst (λ (r : Option ReachedValue). HandsOut B r o.0 o.1) border o.2, o.3, o.4)))
+    (same.0, (h.0, h.1, listed, h.3, λ taken. h.4 ((alike.taken h.0 h.1 listed h.3 area).0 taken), (o.0, o.1, subst (λ (r : Option ReachedValue). HandsOut B r o.0 o.1) border o.2, o.3, o.4)))
 
 -- the entry stays
 stays : (v w : InterInputsValue) (before after : Option ℕ) (i j : OfferIndexValue) (d : Dest) → IsAlike v w before after i j d → (e : Option Entry) → IsChosenWhere v before i d e → IsChosenWhere w after j d e
@@ -133,7 +133,7 @@ module _ (keys : List (Scope × Key)) (named : List Dest) (v w : InterInputsValu
       | inl same ↦ same
       | inr all ↦ absurd (absent (all d has))
     ];
-    taken = taken_alike d (λ c. absent (followed.themselves d c));
+    taken = λ k a listed dest. taken_alike d (λ c. absent (followed.themselves d c (k, (a, listed, dest))));
     borders = λ k a listed dest area. differ.routers k.router (λ c. absent (followed.behind k.router d c (k, a, listed, refl, dest))) area;
   }
 

@@ -7,7 +7,7 @@ use Rattle.ospf_types.specs.declared.key.Key.{Key}
 use Rattle.ospf_types.specs.declared.key.Scope.{Scope}
 use Rattle.ospf_types.specs.declared.key.Scope.TheVariants.{Area}
 use Rattle.lsdb.specs.Databases.{Database}
-use Rattle.offer_index.specs.Indexes.{OfferIndexValue, IsIndexOf, LsasDifferAmong, GroupLeadsTo, HasDest}
+use Rattle.offer_index.specs.Indexes.{OfferIndexValue, IsIndexOf, LsasDifferAmong, GroupLeadsTo, IsLedTo, HasDest}
 use Rattle.offer_index.specs.declared.group.Group.TheVariants.{By}
 use Rattle.inter.specs.Inputs.{ExaminedValue, InterInputsValue}
 use Rattle.inter.specs.Inters.{IsIndexFor}
@@ -37,21 +37,21 @@ abbrev pub AreLed : Option ℕ → Option ℕ → OfferIndexValue → OfferIndex
 AreLed area_before area_after old new dests = (k : Key) → ((area_after ≡ area_before) × (get new.routes k ≡ get old.routes k))
     ⊎ ((d : Dest) → HasDest (get old.routes k) d ⊎ HasDest (get new.routes k) d → Contains dests d)
 
--- the list has all of before, the destination, and, where that is a router, all that the router's summaries lead to
+-- the list has all of before, the destination if a summary leads to it, and, where it is a router, all that the router's summaries lead to
 pub record IsPushed (i : OfferIndexValue) (dest : Dest) (before after : List Dest) : Type 0 where
   pub kept : (d : Dest) → Contains before d → Contains after d
-  pub itself : Contains after dest
+  pub itself : IsLedTo i dest → Contains after dest
   pub behind : (router : ℕ) (d : Dest) → dest ≡ Router router → GroupLeadsTo i (By router) d → Contains after d
 
 -- the same of each of these destinations
 pub record ArePushed (i : OfferIndexValue) (dests : List Dest) (before after : List Dest) : Type 0 where
   pub kept : (d : Dest) → Contains before d → Contains after d
-  pub themselves : (d : Dest) → Contains dests d → Contains after d
+  pub themselves : (d : Dest) → Contains dests d → IsLedTo i d → Contains after d
   pub behind : (router : ℕ) (d : Dest) → Contains dests (Router router) → GroupLeadsTo i (By router) d → Contains after d
 
--- the index is that of the inputs, and the destinations that may get another entry are among these
+-- the index is that of the inputs, and the destinations that may get another entry are among these: of those that are named just such that a summary leads to
 pub record IsFollowed (named : List Dest) (v : InterInputsValue) (area_before : Option ℕ) (old new : OfferIndexValue) (dests : List Dest) : Type 0 where
   pub index : IsIndexFor v.root v.examined new
   pub led : AreLed area_before (area_of v.examined) old new dests
-  pub themselves : (d : Dest) → Contains named d → Contains dests d
+  pub themselves : (d : Dest) → Contains named d → IsLedTo new d → Contains dests d
   pub behind : (router : ℕ) (d : Dest) → Contains named (Router router) → GroupLeadsTo new (By router) d → Contains dests d

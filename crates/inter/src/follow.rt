@@ -4,7 +4,7 @@ ghost use Rattle.std.specs.FinMap as map;
 ghost use Rattle.ospf_types.specs.declared.key.Dest.{Dest as DestValue};
 ghost use Rattle.ospf_types.specs.declared.key.Dest.TheVariants as dest_value;
 ghost use Rattle.offer_index.specs.declared.group.Group.TheVariants as group_value;
-ghost use Rattle.offer_index.specs.Indexes.{AreTouched, GroupLeadsTo};
+ghost use Rattle.offer_index.specs.Indexes.{AreTouched, GroupLeadsTo, IsLedTo};
 ghost use Rattle.inter.specs.Following.{IsIndexBefore, IsIndexSince, AreLed, IsPushed, ArePushed};
 ghost use Rattle.inter.specs.Inputs.{examined_area};
 ghost use Rattle.inter.specs.Inters.{IsIndexFor};
@@ -72,7 +72,8 @@ fn follow_all(
     }
 }
 
-/// Adds the named destinations, and what the summaries of named routers lead to.
+/// Adds those of the named destinations that summaries lead to, and what the summaries of named routers lead to. To the others
+/// nothing is offered: they have no entry.
 pub(crate) fn push_named(
     index: &OfferIndex,
     named: &[Dest],
@@ -86,12 +87,24 @@ pub(crate) fn push_named(
     Ok(())
 }
 
-// Adds the destination, and what the router's summaries lead to where it is a router.
+// Adds the destination if a summary leads to it, and what the router's summaries lead to where it is a router.
 fn push_dest(index: &OfferIndex, dest: &Dest, dests: &mut Vec<Dest>) -> Result<(), Memory>
     ensures { OnOk result (IsPushed index.now dest.now dests.old.items dests.new.items) }
 {
-    dests.push(*dest)?;
-    push_behind(index, dest, dests)
+    push_led(index, dest, dests)?;
+    push_behind(index, dest, dests)?;
+    Ok(())
+}
+
+// Adds the destination if a summary leads to it.
+fn push_led(index: &OfferIndex, dest: &Dest, dests: &mut Vec<Dest>) -> Result<(), Memory>
+    ensures kept { OnOk result ((d : DestValue) → Contains dests.old.items d → Contains dests.new.items d) }
+    ensures itself { OnOk result (IsLedTo index.now dest.now → Contains dests.new.items dest.now) }
+{
+    if index.leads_to(*dest) {
+        dests.push(*dest)?;
+    }
+    Ok(())
 }
 
 // Adds what the router's summaries lead to, where the destination is a router.

@@ -1,6 +1,6 @@
 -- How steps that follow named LSAs, vertices and routers go together, one after another.
-use Rattle.std.proofs.Common.{◌≡◌, ◌≢◌, ℕ, true, nat_eq, List, [], ◌∷◌, ◌++◌, length, Option, Some, refl, sym, ap, subst, ◌∙◌, ◌⊎◌, inl, inr, arith}
-use Rattle.std.specs.Prelude.{◌↔◌, is_some}
+use Rattle.std.proofs.Common.{◌≡◌, ◌≢◌, ℕ, Bool, true, false, nat_eq, List, [], ◌∷◌, ◌++◌, length, Option, Some, None, refl, sym, ap, subst, ◌∙◌, ◌⊎◌, inl, inr, arith}
+use Rattle.std.specs.Prelude.{◌↔◌, is_some, if◌then◌else◌}
 use Rattle.std.specs.FinMap.{get}
 use Rattle.std.specs.List.{Contains}
 use Rattle.std.proofs.lemmas.Bool.{cases_eq, eqb-true}
@@ -15,10 +15,12 @@ use Rattle.ospf_types.specs.Lsa.{Body}
 use Rattle.lsdb.specs.Databases.{Database}
 use Rattle.spf.specs.HandedOn.{IsOfSome}
 use Rattle.area_trees.specs.Areas.{body_at, vertex_of, router_key, network_key, IsUsed, IsStanding}
-use Rattle.intra.specs.Inputs.{AreaValue}
+use Rattle.ospf_types.specs.declared.hop.NextHop.{NextHop}
+use Rattle.intra.specs.Inputs.{AreaValue, distance_at, hops_at}
+use Rattle.intra.specs.Reached.{ReachedValue, has_bit, has_bits, reached_by}
 use Rattle.intra.specs.Indexes.{IndexValue, IsIndex, IsIndexOf, IsOfferedFor, AreTouched}
 use Rattle.intra.specs.Intras.{AreaIntraValue}
-use Rattle.intra.specs.Following.{LsasDifferAmong, NamesVertex, NamesIn, IsCurrent, IsTaken, HasOffered, IsGathered, IsRenewed, router_now}
+use Rattle.intra.specs.Following.{LsasDifferAmong, NamesVertex, NamesIn, IsCurrent, IsTaken, HasOffered, IsGathered, IsRenewed, IsRouterNamed, flags_in, router_now, with_index_of}
 use Rattle.ospf_types.proofs.VertexOrder.{vertex_total, vertex_exact}
 pub use Rattle.result_map.proofs.KeyedMaps.{one_or_other}
 
@@ -147,6 +149,16 @@ gathered root d vertices interfaces names own old new before first second after 
 
 -- ---- routers
 
+-- of a router without these bits nothing is to be kept
+pub no_bits : (root router : ℕ) (flags distance : Option ℕ) (hops : List NextHop) → has_bits flags ≡ false → reached_by root router flags distance hops ≡ None
+no_bits root router None distance hops plain = refl
+no_bits root router (Some f) None hops plain = refl
+no_bits root router (Some f) (Some d) hops plain =
+    elim (nat_eq router root) as (λ b. ◌≡◌ {A = Option ReachedValue} (if b then None else (if has_bit f then Some (record { flags = f; distance = d; hops = hops }) else None)) None) [
+      | true ↦ refl
+      | false ↦ ap (λ (b : Bool). if b then Some (record { flags = f; distance = d; hops = hops }) else None) plain
+    ]
+
 module _ (root : ℕ) (a : AreaValue) where
   -- nothing was to be renewed
   pub renewed_none : (names : ℕ → Type 0) (i : AreaIntraValue) (rs : List ℕ) → ((r : ℕ) → names r → ⊥) → IsRenewed root a names i i rs rs
@@ -193,6 +205,18 @@ module _ (root : ℕ) (a : AreaValue) where
         ]
       ]),
     );
+  }
+
+  -- a vertex of which nothing is kept, and by its bits nothing is to be
+  pub renewed_out : (v : Vertex) (i : AreaIntraValue) (rs : List ℕ) → has_bits (flags_in i.index v) ≡ false → ((router : ℕ) → v ≡ Router router → get i.reached router ≡ None) → IsRenewed root a (λ r. v ≡ Router r) i i rs rs
+  renewed_out v i rs plain none = record {
+    id = refl;
+    index = refl;
+    each = λ r. elim (one_or_other vertex_total vertex_exact (Router r) v) [
+      | inl e ↦ inl (none r e ∙ sym (no_bits root r (flags_in i.index (Router r)) (distance_at a (Router r)) (hops_at a (Router r)) (subst (λ (w : Vertex). has_bits (flags_in i.index w) ≡ false) e plain)), e)
+      | inr other ↦ inr (refl, other)
+    ];
+    exact = λ r. (λ c. inl c, λ w. elim w [ inl c ↦ c | inr other ↦ absurd (other refl) ]);
   }
 
   -- one after the other
@@ -252,3 +276,41 @@ module _ (root : ℕ) (a : AreaValue) where
     ];
     exact = renewed.exact;
   }
+
+-- ---- all of an area
+
+-- the same of equal lists and numbers
+pub by_keys : (root : ℕ) (a : AreaValue) (keys given : List (Scope × Key)) (area id : ℕ) (old new : AreaIntraValue) (before after : List ℕ) → id ≡ area → given ≡ keys
+    → IsRenewed root a (λ r. IsOfSome given (NamesVertex id) (Router r)) old new before after → IsRenewed root a (λ r. IsOfSome keys (NamesVertex area) (Router r)) old new before after
+by_keys root a keys given area id old new before after same all renewed =
+    subst (λ (n : ℕ). IsRenewed root a (λ r. IsOfSome keys (NamesVertex n) (Router r)) old new before after) same
+    (subst (λ (ks : List (Scope × Key)). IsRenewed root a (λ r. IsOfSome ks (NamesVertex id) (Router r)) old new before after) all renewed)
+
+pub by_vertices : (root : ℕ) (a : AreaValue) (vertices given : List (ℕ × Vertex)) (area id : ℕ) (old new : AreaIntraValue) (before after : List ℕ) → id ≡ area → given ≡ vertices
+    → IsRenewed root a (λ r. IsOfSome given (NamesIn id) (Router r)) old new before after → IsRenewed root a (λ r. IsOfSome vertices (NamesIn area) (Router r)) old new before after
+by_vertices root a vertices given area id old new before after same all renewed =
+    subst (λ (n : ℕ). IsRenewed root a (λ r. IsOfSome vertices (NamesIn n) (Router r)) old new before after) same
+    (subst (λ (vs : List (ℕ × Vertex)). IsRenewed root a (λ r. IsOfSome vs (NamesIn id) (Router r)) old new before after) all renewed)
+
+module _ (root : ℕ) (d : Database) (a : AreaValue) (keys : List (Scope × Key)) (vertices : List (ℕ × Vertex)) (interfaces : List ℕ) (names own : Vertex → Type 0) (old mid by_key new : AreaIntraValue)
+    (before first second after : List Prefix) (r_before r_mid r_after : List ℕ)
+    (taken : IsTaken d names old mid before first) (keyed : IsRenewed root a (λ r. IsOfSome keys (NamesVertex old.id) (Router r)) mid by_key r_before r_mid)
+    (settled : IsRenewed root a (λ r. IsOfSome vertices (NamesIn old.id) (Router r)) by_key new r_mid r_after) where
+  -- what the index makes of the area, before its routers are renewed
+  mid_is : mid ≡ with_index_of old new
+  mid_is = λ i. record { id = taken.id i; index = sym (settled.index ∙ keyed.index) i; reached = taken.reached i }
+
+  pub area_gathered : HasOffered by_key.index (IsOfSome vertices (NamesIn by_key.id)) first second → HasOffered new.index own second after → ((id : ℕ) → Contains interfaces id → own (Router root))
+      → IsGathered root vertices interfaces old (with_index_of old new) before after
+  area_gathered named last touched =
+      let here : IsGathered root vertices interfaces old mid before after =
+      gathered root d vertices interfaces names own old mid before first second after taken
+      (subst (λ (i : IndexValue). HasOffered i (IsOfSome vertices (NamesIn mid.id)) first second) keyed.index (subst (λ (id : ℕ). HasOffered by_key.index (IsOfSome vertices (NamesIn id)) first second) keyed.id named))
+      (subst (λ (i : IndexValue). HasOffered i own second after) (settled.index ∙ keyed.index) last) touched in
+      subst (λ (m : AreaIntraValue). IsGathered root vertices interfaces old m before after) mid_is here
+
+  pub area_renewed : IsRenewed root a (IsRouterNamed keys vertices old.id) (with_index_of old new) new r_before r_after
+  area_renewed =
+      subst (λ (m : AreaIntraValue). IsRenewed root a (IsRouterNamed keys vertices old.id) m new r_before r_after) mid_is
+      (renewed_then root a (λ r. IsOfSome keys (NamesVertex old.id) (Router r)) (λ r. IsOfSome vertices (NamesIn old.id) (Router r)) (IsRouterNamed keys vertices old.id) mid by_key new r_before r_mid r_after
+      (λ r. (λ n. n, λ n. n)) keyed settled)

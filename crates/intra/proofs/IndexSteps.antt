@@ -1,6 +1,6 @@
 -- An index stays one as the offers of a vertex are taken out and put in, one prefix at a time.
-use Rattle.std.proofs.Common.{◌≡◌, ◌≢◌, ℕ, ◌+◌, ◌<◌, ◌≤◌, true, false, List, [], ◌∷◌, ◌++◌, length, take, get_or, None, refl, sym, ap, subst, ◌∙◌, ◌⊎◌, inl, inr, arith}
-use Rattle.std.specs.Prelude.{◌↔◌}
+use Rattle.std.proofs.Common.{◌≡◌, ◌≢◌, ℕ, ◌+◌, ◌-◌, ◌<◌, ◌≤◌, true, false, Bor, List, [], ◌∷◌, ◌++◌, length, take, drop, get_or, Option, Some, None, refl, sym, ap, subst, ◌∙◌, ◌⊎◌, inl, inr, arith}
+use Rattle.std.specs.Prelude.{◌↔◌, option_copied, option_map}
 use Rattle.std.specs.FinMap.{get, insert, remove}
 use Rattle.std.specs.List.{Contains}
 use Rattle.std.proofs.lemmas.Bool.{false≢true}
@@ -8,13 +8,16 @@ use Rattle.std.proofs.lemmas.List.{take_all}
 use Rattle.std.proofs.lemmas.List.Elements.{Contains-append_left, Contains-push, Contains-push_cases}
 use Rattle.ospf_types.specs.declared.entry.Vertex.{Vertex}
 use Rattle.ospf_types.specs.declared.prefix.Prefix.{Prefix}
-use Rattle.ospf_types.proofs.Elements.{no_element}
+use Rattle.ospf_types.proofs.Elements.{no_element, first_element, later_element, first_or_later}
 use Rattle.ospf_types.proofs.Orders.{network_total, network_exact}
+use Rattle.ospf_types.specs.Lsa.{Body, Lsa}
+use Rattle.lsdb.specs.Databases.{Database}
+use Rattle.area_trees.specs.Areas.{IsStanding}
 use Rattle.spf.proofs.OfSome.{contains_more}
 use Rattle.intra.specs.declared.area_index.Source.{Source}
 use Rattle.intra.specs.declared.offered.Offer.{Offer}
-use Rattle.intra.specs.Indexes.{IndexValue, OfferedValue, SourcesByPrefix, IsIndex, IsSource, AreTouched, sources_of, offers_of}
-use Rattle.intra.specs.IndexSteps.{AreGone, HaveCome, IsPrefixOf, IsOfferOf, AreNamed}
+use Rattle.intra.specs.Indexes.{IndexValue, OfferedValue, SourcesByPrefix, IsIndex, IsSource, IsOfferedFor, AreTouched, body_of, sources_of, offers_of}
+use Rattle.intra.specs.IndexSteps.{AreGone, HaveCome, IsPrefixOf, IsOfferOf, AreAlike}
 use Rattle.ospf_types.proofs.VertexOrder.{vertices_equal, vertices_decided, vertex_total, vertex_exact}
 use Rattle.ospf_types.proofs.KeyOrders.{prefixes_equal, prefixes_decided}
 use Rattle.result_map.proofs.KeyedMaps.{set_here, set_elsewhere, gone_here, gone_elsewhere}
@@ -172,17 +175,6 @@ module _ (v : Vertex) (offers : List Offer) where
           ]),
         )
 
-    pub named_more : (before mid after : List Prefix) → AreNamed (take i offers) before mid → after ≡ mid ++ x.prefix ∷ [] → AreNamed (take (i + 1) offers) before after
-    named_more before mid after named pushed =
-        let on : (p : Prefix) → Contains (mid ++ x.prefix ∷ []) p → Contains after p = λ p c. subst (λ (ps : List Prefix). Contains ps p) (sym pushed) c in
-        record {
-          kept = λ p c. on p (Contains-append_left mid (x.prefix ∷ []) p (named.kept p c));
-          named = λ p metric c. elim ((contains_more offers i x (offer_of p metric) lt is).0 c) [
-            | inl was ↦ on p (Contains-append_left mid (x.prefix ∷ []) p (named.named p metric was))
-            | inr same ↦ on p (subst (Contains (mid ++ x.prefix ∷ [])) (ap (λ (o : Offer). o.prefix) (sym same)) (Contains-push mid x.prefix))
-          ];
-        }
-
   module _ (i : ℕ) (past : length offers ≤ i) where
     pub gone_end : (old new : IndexValue) → AreGone (IsPrefixOf v (take i offers)) old new → AreGone (IsPrefixOf v offers) old new
     gone_end old new all = subst (λ (os : List Offer). AreGone (IsPrefixOf v os) old new) (take_all i offers past) all
@@ -231,32 +223,63 @@ module _ (old new : IndexValue) (v : Vertex) where
         λ c. (come w p metric).1 (inl ((index w p metric).1 (subst (λ (os : List Offer). Contains os (offer_of p metric)) stays c))),
       ))
 
-  pub touched_gone : (offers : List Offer) (before after : List Prefix) → AreGone (IsPrefixOf v offers) old new → AreNamed offers before after → AreTouched old new before after
-  touched_gone offers before after gone named = record {
-    kept = named.kept;
-    others = λ p out w metric. (λ c. ((gone w p metric).0 c).0, λ c. (gone w p metric).1 (c, λ g. out (named.named p g.1.0 g.1.1)));
+  -- where each prefix that is not named is offered alike
+  pub touched_by : (before after : List Prefix) → IsIndex old → IsIndex new → ((w : Vertex) → w ≢ v → get new.offered w ≡ get old.offered w) → ((p : Prefix) → Contains before p → Contains after p)
+      → AreAlike after (offers_of (get old.offered v)) (offers_of (get new.offered v)) → AreTouched old new before after
+  touched_by before after was is others kept alike = record {
+    kept = kept;
+    others = λ p out w metric.
+        let same : Contains (offers_of (get old.offered w)) (offer_of p metric) ↔ Contains (offers_of (get new.offered w)) (offer_of p metric) =
+        at_vertex (Contains (offers_of (get old.offered w)) (offer_of p metric) ↔ Contains (offers_of (get new.offered w)) (offer_of p metric)) v w
+        (λ e. subst (λ (x : Vertex). Contains (offers_of (get old.offered x)) (offer_of p metric) ↔ Contains (offers_of (get new.offered x)) (offer_of p metric)) (sym e) (alike p metric out))
+        (λ other. (
+          subst (λ (os : List Offer). Contains os (offer_of p metric)) (sym (ap offers_of (others w other))),
+          subst (λ (os : List Offer). Contains os (offer_of p metric)) (ap offers_of (others w other)),
+        )) in
+        (λ s. (was w p metric).1 (same.1 ((is w p metric).0 s)), λ s. (is w p metric).1 (same.0 ((was w p metric).0 s)));
   }
 
-  pub touched_come : (offers : List Offer) (before after : List Prefix) → HaveCome (IsOfferOf v offers) old new → AreNamed offers before after → AreTouched old new before after
-  touched_come offers before after come named = record {
-    kept = named.kept;
-    others = λ p out w metric. (
-      λ c. elim ((come w p metric).0 c) [ inl was ↦ was | inr one ↦ absurd (out (named.named p metric one.1)) ],
-      λ c. (come w p metric).1 (inl c),
-    );
-  }
+-- ---- two lists, offer by offer
+
+-- the next of each differ, and both are named, or they are equal
+pub alike_next : (named : List Prefix) (one other : Offer) (more rest : List Offer) → ((one ≡ other) ⊎ (Contains named one.prefix × Contains named other.prefix)) → AreAlike named more rest
+    → AreAlike named (one ∷ more) (other ∷ rest)
+alike_next named one other more rest step alike p metric out = (
+  λ c. elim (first_or_later one (offer_of p metric) more c) [
+    | inl e ↦ elim step [
+      | inl same ↦ subst (Contains (other ∷ rest)) (sym (e ∙ same)) (first_element other rest)
+      | inr both ↦ absurd (out (subst (Contains named) (sym (ap (λ (o : Offer). o.prefix) e)) both.0))
+    ]
+    | inr later ↦ later_element other (offer_of p metric) rest ((alike p metric out).0 later)
+  ],
+  λ c. elim (first_or_later other (offer_of p metric) rest c) [
+    | inl e ↦ elim step [
+      | inl same ↦ subst (Contains (one ∷ more)) (sym (e ∙ sym same)) (first_element one more)
+      | inr both ↦ absurd (out (subst (Contains named) (sym (ap (λ (o : Offer). o.prefix) e)) both.1))
+    ]
+    | inr later ↦ later_element one (offer_of p metric) more ((alike p metric out).1 later)
+  ],
+)
+
+rest_is : (x : Offer) (xs : List Offer) → take (length (x ∷ xs) - 1) (drop 1 (x ∷ xs)) ≡ xs
+rest_is x xs = let e : length (x ∷ xs) - 1 ≡ length xs = omega arith in ap (λ (n : ℕ). take n xs) e ∙ take_all (length xs) xs (omega arith)
+
+-- the first of each, and then the rest
+pub alike_turn : (named : List Prefix) (left right : List Offer) (one other : Offer) → 1 ≤ length left → 1 ≤ length right → one ≡ get_or left 0 one → other ≡ get_or right 0 other
+    → ((one ≡ other) ⊎ (Contains named one.prefix × Contains named other.prefix)) → AreAlike named (take (length left - 1) (drop 1 left)) (take (length right - 1) (drop 1 right)) → AreAlike named left right
+alike_turn named [] right one other some any is at step alike = absurd (omega (arith, some))
+alike_turn named (x ∷ xs) [] one other some any is at step alike = absurd (omega (arith, any))
+alike_turn named (x ∷ xs) (y ∷ ys) one other some any is at step alike =
+    let rest : AreAlike named xs ys = subst (λ (os : List Offer). AreAlike named os ys) (rest_is x xs) (subst (λ (os : List Offer). AreAlike named (take (length (x ∷ xs) - 1) (drop 1 (x ∷ xs))) os) (rest_is y ys) alike) in
+    subst (λ (o : Offer). AreAlike named (o ∷ xs) (y ∷ ys)) is (subst (λ (o : Offer). AreAlike named (one ∷ xs) (o ∷ ys)) at (alike_next named one other xs ys step rest))
+
+-- all that is left is named
+pub alike_rest : (named : List Prefix) (left right : List Offer) → ((p : Prefix) (metric : ℕ) → Contains left (offer_of p metric) → Contains named p) → ((p : Prefix) (metric : ℕ) → Contains right (offer_of p metric) → Contains named p)
+    → AreAlike named left right
+alike_rest named left right one other p metric out = (λ c. absurd (out (one p metric c)), λ c. absurd (out (other p metric c)))
 
 pub touched_none : (i : IndexValue) (ps : List Prefix) → AreTouched i i ps ps
 touched_none i ps = record { kept = λ p c. c; others = λ p out w metric. (λ c. c, λ c. c) }
-
-pub touched_twice : (old mid new : IndexValue) (before between after : List Prefix) → AreTouched old mid before between → AreTouched mid new between after → AreTouched old new before after
-touched_twice old mid new before between after first next = record {
-  kept = λ p c. next.kept p (first.kept p c);
-  others = λ p out w metric.
-      let one = first.others p (λ c. out (next.kept p c)) w metric in
-      let two = next.others p out w metric in
-      (λ c. one.0 (two.0 c), λ c. two.1 (one.1 c));
-}
 
 -- ---- where the one is changed otherwise too
 
@@ -267,5 +290,13 @@ module _ (v : Vertex) (offers same : List Offer) (is : offers ≡ same) where
   pub gone_kept : (old mid new : IndexValue) → mid.sources ≡ old.sources → AreGone (IsPrefixOf v offers) mid new → AreGone (IsPrefixOf v same) old new
   gone_kept old mid new kept gone = subst (λ (s : SourcesByPrefix). AreGoneFrom (IsPrefixOf v same) s new.sources) kept (subst (λ (os : List Offer). AreGone (IsPrefixOf v os) mid new) is gone)
 
-  pub named_kept : (before after : List Prefix) → AreNamed offers before after → AreNamed same before after
-  named_kept before after named = subst (λ (os : List Offer). AreNamed os before after) is named
+-- ---- what stands for a vertex
+
+body_is : (o : Option (Bor Lsa)) → option_map (λ (l : Bor Lsa). l.now.body) o ≡ body_of (option_copied o)
+body_is None = refl
+body_is (Some l) = refl
+
+-- what is offered by the LSA that stands for the vertex
+pub taken_from : (d e : Database) (v : Vertex) (lsa : Option (Bor Lsa)) (offered : Option OfferedValue) → e ≡ d → IsStanding e v (option_map (λ (l : Bor Lsa). l.now.body) lsa) → IsOfferedFor v (body_of (option_copied lsa)) offered
+    → (body : Option Body) × IsStanding d v body × IsOfferedFor v body offered
+taken_from d e v lsa offered same stands is = (body_of (option_copied lsa), subst (λ (x : Database). IsStanding x v (body_of (option_copied lsa))) same (subst (IsStanding e v) (body_is lsa) stands), is)

@@ -3,6 +3,7 @@ pub mod Right
 pub mod Sourced
 pub mod Nearest
 pub mod SourceMaps
+pub mod EntryMaps
 pub mod StubOffers
 pub mod OfferTests
 pub mod Often

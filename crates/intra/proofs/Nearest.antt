@@ -3,7 +3,7 @@ use Rattle.std.proofs.Common.{◌≡◌, ℕ, List, [], ◌∷◌, ◌++◌, Opt
 use Rattle.std.specs.Prelude.{IfSome}
 use Rattle.std.specs.List.{Contains}
 use Rattle.std.proofs.lemmas.List.Elements.{Contains-append_left, Contains-push, Contains-push_cases}
-use Rattle.ospf_types.specs.declared.entry.Vertex.TheVariants.{Network}
+use Rattle.ospf_types.specs.declared.entry.Vertex.TheVariants.{Network, Router}
 use Rattle.ospf_types.specs.declared.prefix.Prefix.{Prefix}
 use Rattle.ospf_types.proofs.Elements.{no_element}
 use Rattle.intra.specs.declared.area_index.Source.{Source}
@@ -58,6 +58,10 @@ module _ (a : AreaValue) (p : Prefix) where
             greatest = λ id reached. near.greatest id (back id b.1 reached);
           }
         ] found
+
+    -- the source is a stub link
+    pub passes_router : (best : Option (ℕ × ℕ)) (router : ℕ) → s.vertex ≡ Router router → FindsNearest (AmongSources before) a p best → FindsNearest After a p best
+    passes_router best router is = passed best (λ id d e far. let both : Router router ≡ Network id = sym is ∙ ap (λ (t : Source). t.vertex) e in absurd cc)
 
     pub passes_unreached : (best : Option (ℕ × ℕ)) → distance_at a s.vertex ≡ None → FindsNearest (AmongSources before) a p best → FindsNearest After a p best
     passes_unreached best none = passed best (λ id d e far. let both : Some d ≡ None = sym far ∙ ap (λ (t : Source). distance_at a t.vertex) (sym e) ∙ none in absurd cc)

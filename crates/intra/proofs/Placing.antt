@@ -17,8 +17,8 @@ use Rattle.lsdb.specs.Databases.{Database}
 use Rattle.intra.specs.Indexes.{IsIndexOf}
 use Rattle.intra.specs.Inputs.{AreaValue}
 use Rattle.intra.specs.Intras.{AreaIntraValue}
-use Rattle.intra.specs.Following.{IsGathered, IsRenewed, IsRouterNamed, LsasDifferAmong}
-use Rattle.intra.specs.Updating.{AreFirst, IsFollowed, IsSettled, IsKeptBefore, HasOtherAmong}
+use Rattle.intra.specs.Following.{IsGathered, IsRenewed, IsRouterNamed, LsasDifferAmong, with_index_of}
+use Rattle.intra.specs.Updating.{AreFirst, IsFollowed, IsSettled, IsBroughtTo, IsKeptBefore, HasOtherAmong}
 
 -- nothing is done yet
 pub first_none : (P : AreaValue → AreaIntraValue → AreaIntraValue → Type 0) (areas : List AreaValue) (old : List AreaIntraValue) → AreFirst P areas old old 0
@@ -67,6 +67,10 @@ followed_grown root vertices interfaces ps qs more a i j is =
         own = λ id c p metric s. more p (was.own id c p metric s);
       };
     }
+
+pub brought_grown : (root : ℕ) (keys : List (Scope × Key)) (vertices : List (ℕ × Vertex)) (interfaces : List ℕ) (ps qs : List Prefix) → ((p : Prefix) → Contains ps p → Contains qs p)
+    → (a : AreaValue) (i j : AreaIntraValue) → IsBroughtTo root keys vertices interfaces ps a i j → IsBroughtTo root keys vertices interfaces qs a i j
+brought_grown root keys vertices interfaces ps qs more a i j is = record { followed = followed_grown root vertices interfaces ps qs more a i (with_index_of i j) is.followed; settled = is.settled }
 
 -- those of one more area
 pub other_more : (old now : List AreaIntraValue) (place router : ℕ) (i j : AreaIntraValue) → place < length now → i ≡ get_or now place i → ((k : ℕ) (x : AreaIntraValue) → place ≤ k → get_or now k x ≡ get_or old k x)

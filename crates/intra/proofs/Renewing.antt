@@ -188,14 +188,14 @@ abbrev pub offers_by : InputsValue → List AreaIntraValue → Prefix → AreaCo
 offers_by v areas p = IndexedOffers v (map (λ (a : AreaIntraValue). a.index) areas) v.areas p
 
 -- the entry stays
-pub entry_stays : (v : InputsValue) (old : IntraValue) (areas : List AreaIntraValue) (p : Prefix) (dests : List Dest) (chosen : Option Entry) → areas ≡ old.areas → IsEntryFor (offers_by v areas p) chosen
-    → get old.entries p ≡ chosen → IsRenewed v old old p dests dests
-entry_stays v old areas p dests chosen same is e = record {
-  areas = refl;
-  spent = refl;
-  here = subst (λ (kept : List AreaIntraValue). IsEntryFor (offers_by v kept p) (get old.entries p)) same (subst (IsEntryFor (offers_by v areas p)) (sym e) is);
-  others = λ q other. refl;
-  named = inl (refl, refl);
+pub entry_kept : (v : InputsValue) (old new : IntraValue) (areas : List AreaIntraValue) (p : Prefix) (dests : List Dest) (chosen : Option Entry) → areas ≡ old.areas → IsEntryFor (offers_by v areas p) chosen
+    → get old.entries p ≡ chosen → new.areas ≡ old.areas → new.spent ≡ old.spent → get new.entries p ≡ chosen → ((q : Prefix) → q ≢ p → get new.entries q ≡ get old.entries q) → IsRenewed v old new p dests dests
+entry_kept v old new areas p dests chosen same is stays kept spent here others = record {
+  areas = kept;
+  spent = spent;
+  here = subst (λ (a : List AreaIntraValue). IsEntryFor (offers_by v a p) (get new.entries p)) (same ∙ sym kept) (subst (IsEntryFor (offers_by v areas p)) (sym here) is);
+  others = others;
+  named = inl (refl, here ∙ sym stays);
 }
 
 -- another entry is put

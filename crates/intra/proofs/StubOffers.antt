@@ -1,7 +1,8 @@
 -- The offers that are taken from the LSA of a vertex are those of the definition.
-use Rattle.std.proofs.Common.{◌≡◌, ◌≢◌, ℕ, Bool, true, false, cond, List, [], ◌∷◌, map, Option, Some, None, refl, sym, ap, subst, ◌∙◌, ⊎_elim, arith}
+use Rattle.std.proofs.Common.{◌≡◌, ◌≢◌, ℕ, Bool, true, false, cond, nat_eq, length, List, [], ◌∷◌, map, Option, Some, None, refl, sym, ap, subst, ◌∙◌, ⊎_elim, arith}
 use Rattle.std.specs.Prelude.{◌↔◌, ◌==◌, unwrap_or}
 use Rattle.std.specs.List.{AllPairs, Contains, filter_map, cons_option}
+use Rattle.std.proofs.lemmas.Bool.{eqb-true}
 use Rattle.ospf_types.specs.declared.entry.Vertex.{Vertex}
 use Rattle.ospf_types.specs.declared.entry.Vertex.TheVariants.{Router, Network}
 use Rattle.ospf_types.specs.declared.lsa.LinkKind.{LinkKind}
@@ -90,3 +91,7 @@ has_offers_of_eq v w body given is same equal has = subst (λ (x : Vertex). HasO
 pub bits_are : (flags : Option ℕ) → unwrap_or flags 0 ≡ bits_of flags
 bits_are None = refl
 bits_are (Some flags) = refl
+
+pub empty_of : {X : Type 0} (xs : List X) → nat_eq (length xs) 0 ≡ true → xs ≡ []
+empty_of [] e = refl
+empty_of (x ∷ xs) e = let none : length (x ∷ xs) ≡ 0 = eqb-true (length (x ∷ xs)) 0 e in absurd (omega (arith, none))

@@ -19,14 +19,14 @@ use Rattle.ospf_types.proofs.Orders.{network_total, network_exact}
 use Rattle.lsa_codec.specs.Readers.{flags_of}
 use Rattle.area_trees.specs.Areas.{router_key}
 use Rattle.intra.specs.Changes.{AreasDifferAmong, InputsDifferAmong, HasOtherRouter, DiffersAt}
-use Rattle.intra.specs.Following.{router_now}
+use Rattle.intra.specs.Following.{router_now, with_index_of}
 use Rattle.intra.specs.Indexes.{IndexValue, OfferedValue, IsIndexOf, IsOfferedFor, IsSource, IndexedOffers, bits_of}
 use Rattle.intra.specs.Inputs.{AreaValue, InputsValue, distance_at, hops_at}
 use Rattle.intra.specs.Intras.{AreaIntraValue, IntraValue, IsAreaIntra, AreAreaIntras, IsEntryFor, IsIntraOf}
 use Rattle.intra.specs.Offers.{OffersOf}
 use Rattle.intra.specs.Reached.{ReachedByRouter, ReachedValue, IsReachedOf, reached_by}
 use Rattle.intra.specs.Renewing.{AreRenewed}
-use Rattle.intra.specs.Updating.{IsKeptBefore, AreKeptBefore, AreFirst, IsFollowed, IsSettled, HasOtherAmong}
+use Rattle.intra.specs.Updating.{IsKeptBefore, AreKeptBefore, AreFirst, IsFollowed, IsSettled, IsBroughtTo, HasOtherAmong}
 use Rattle.intra.proofs.Following.{one_or_other}
 use Rattle.intra.proofs.Frame.{IsClean, AreClean, indexes_in, indexes_of, indexed_is, entry_same, entry_kept, router_kept}
 
@@ -162,16 +162,16 @@ listed_or_not p (q ∷ qs) = elim (one_or_other network_total network_exact q p)
   ]
 ]
 
-module _ (keys : List (Scope × Key)) (vertices : List (ℕ × Vertex)) (ids : List ℕ) (b v : InputsValue) (old new : IntraValue) (mids news : List AreaIntraValue) (prefixes : List Prefix) (dests : List Dest)
-    (was : IsIntraOf b old) (differ : InputsDifferAmong keys vertices ids b v)
-    (followed : AreFirst (IsFollowed v.root vertices ids prefixes) v.areas old.areas mids (length v.areas)) (settled : AreFirst (IsSettled v.root keys vertices) v.areas mids news (length v.areas))
+module _ (keys : List (Scope × Key)) (vertices : List (ℕ × Vertex)) (ids : List ℕ) (b v : InputsValue) (old new : IntraValue) (news : List AreaIntraValue) (prefixes : List Prefix) (dests : List Dest)
+    (was : IsIntraOf b old) (differ : InputsDifferAmong keys vertices ids b v) (first : AreFirst (IsBroughtTo v.root keys vertices ids prefixes) v.areas old.areas news (length v.areas))
     (renewed : AreRenewed v (record { areas = news; entries = old.entries; spent = old.spent }) new prefixes dests) where
   before : AreKeptBefore v.root keys vertices v.areas old.areas
   before = are_before v.root keys vertices b.areas v.areas old.areas (subst (λ (root : ℕ). AreAreaIntras root b.areas old.areas) (sym differ.root) was.areas) differ.areas
 
   areas_are : AreAreaIntras v.root v.areas news
-  areas_are = intras_of v.root v.areas news (omega (arith, before.as_many, followed.as_many, settled.as_many)) (λ k a j lt.
-      one_area v.root keys vertices ids prefixes (get_or v.areas k a) (get_or old.areas k j) (get_or mids k j) (get_or news k j) (before.each k a j lt) (followed.each k a j j lt) (settled.each k a j j lt))
+  areas_are = intras_of v.root v.areas news (omega (arith, before.as_many, first.as_many)) (λ k a j lt.
+      let is = first.each k a j j lt in
+      one_area v.root keys vertices ids prefixes (get_or v.areas k a) (get_or old.areas k j) (with_index_of (get_or old.areas k j) (get_or news k j)) (get_or news k j) (before.each k a j lt) is.followed is.settled)
 
   entry_is : (p : Prefix) → IsEntryFor (OffersOf v p) (get new.entries p)
   entry_is p =
@@ -182,8 +182,9 @@ module _ (keys : List (Scope × Key)) (vertices : List (ℕ × Vertex)) (ids : L
             subst (λ (kept : List AreaIntraValue). IsEntryFor (IndexedOffers v (indexes_in kept) v.areas p) (get new.entries p)) renewed.areas (renewed.here p there) in
             entry_same (IndexedOffers v (indexes_in news) v.areas p) (OffersOf v p) (indexed_is v (indexes_in news) indexes p) (get new.entries p) by
         | inr absent ↦
-            let clean = clean_of vertices ids v.root p v.areas old.areas news (sym before.as_many) (omega (arith, before.as_many, followed.as_many, settled.as_many)) (λ k a i j lt.
-            one_clean v.root keys vertices ids prefixes (get_or v.areas k a) (get_or old.areas k i) (get_or mids k j) (get_or news k j) (before.each k a i lt) (followed.each k a i j lt) (settled.each k a j j lt) p absent) in
+            let clean = clean_of vertices ids v.root p v.areas old.areas news (sym before.as_many) (omega (arith, before.as_many, first.as_many)) (λ k a i j lt.
+            let is = first.each k a i j lt in
+            one_clean v.root keys vertices ids prefixes (get_or v.areas k a) (get_or old.areas k i) (with_index_of (get_or old.areas k i) (get_or news k j)) (get_or news k j) (before.each k a i lt) is.followed is.settled p absent) in
             subst (IsEntryFor (OffersOf v p)) (sym (renewed.others p absent))
             (entry_kept keys vertices ids b v differ (indexes_in old.areas) (indexes_in news) (indexes_of b.root b.areas old.areas was.areas) indexes p clean (get old.entries p) (was.entries p))
       ]
@@ -196,25 +197,20 @@ module _ (keys : List (Scope × Key)) (vertices : List (ℕ × Vertex)) (ids : L
     entries = entry_is;
   }
 
-  module _ (routers : List ℕ) (named : (r : ℕ) → Contains routers r ↔ HasOtherAmong (length v.areas) mids news r) where
+  module _ (routers : List ℕ) (named : (r : ℕ) → Contains routers r ↔ HasOtherAmong (length v.areas) old.areas news r) where
     -- the routers are those of which something else is kept
     others : (r : ℕ) → Contains routers r ↔ HasOtherRouter old.areas new.areas r
     others r =
-        let as_many : length news ≡ length old.areas = settled.as_many ∙ followed.as_many in
-        let step = other_router old.areas news r as_many in
-        let length_is : length v.areas ≡ length old.areas = before.as_many in
-        let kept : (k : ℕ) (x : AreaIntraValue) → k < length v.areas → get (get_or mids k x).reached r ≡ get (get_or old.areas k x).reached r =
-        λ k x lt. ap (λ (y : ReachedByRouter). get y r) (followed.each k (some_at v.areas k lt) x x lt).gathered.reached in
-        let to : (is : List AreaIntraValue) → HasOtherRouter old.areas news r → is ≡ news → HasOtherRouter old.areas is r = λ is h e. subst (λ (kept : List AreaIntraValue). HasOtherRouter old.areas kept r) (sym e) h in (
+        let step = other_router old.areas news r first.as_many in
+        let length_is : length v.areas ≡ length old.areas = before.as_many in (
           λ c.
               let w = (named r).0 c in
               let lt : w.0 < length v.areas = w.1 in
-              to new.areas (step.0 (w.0, omega (arith, lt, length_is), λ x same. w.2 x (same ∙ sym (kept w.0 x lt)))) renewed.areas,
+              subst (λ (is : List AreaIntraValue). HasOtherRouter old.areas is r) (sym renewed.areas) (step.0 (w.0, omega (arith, lt, length_is), w.2)),
           λ h.
               let w = step.1 (subst (λ (is : List AreaIntraValue). HasOtherRouter old.areas is r) renewed.areas h) in
               let lt : w.0 < length old.areas = w.1 in
-              let within : w.0 < length v.areas = omega (arith, lt, length_is) in
-              (named r).1 (w.0, within, λ x same. w.2 x (same ∙ kept w.0 x within)),
+              (named r).1 (w.0, omega (arith, lt, length_is), w.2),
         )
 
     -- just the destinations are named whose result differs

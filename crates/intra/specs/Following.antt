@@ -38,6 +38,10 @@ pub record IsTaken (d : Database) (names : Vertex → Type 0) (old new : AreaInt
   pub each : (v : Vertex) → IsCurrent d new.index v ⊎ ((get new.index.offered v ≡ get old.index.offered v) × (names v → ⊥))
   pub touched : AreTouched old.index new.index before after
 
+-- the first, with the index of the second
+abbrev pub with_index_of : AreaIntraValue → AreaIntraValue → AreaIntraValue
+with_index_of old new = record { id = old.id; index = new.index; reached = old.reached }
+
 -- ---- the prefixes that may get another entry
 
 -- the list has all of before, and each prefix that such a vertex offers
@@ -63,10 +67,14 @@ pub record IsGathered (root : ℕ) (vertices : List (ℕ × Vertex)) (interfaces
 abbrev pub IsRouterNamed : List (Scope × Key) → List (ℕ × Vertex) → ℕ → ℕ → Type 0
 IsRouterNamed keys vertices area router = IsOfSome keys (NamesVertex area) (Router router) ⊎ IsOfSome vertices (NamesIn area) (Router router)
 
+-- the bits of the vertex's LSA, none where it has no LSA
+abbrev pub flags_in : IndexValue → Vertex → Option ℕ
+flags_in index v = option_map (λ (o : OfferedValue). o.flags) (get index.offered v)
+
 -- what is to be kept of the router by the index and the tree
 abbrev pub router_now : ℕ → AreaValue → IndexValue → ℕ → Option ReachedValue
 router_now root a index router =
-    reached_by root router (option_map (λ (o : OfferedValue). o.flags) (get index.offered (Router router))) (distance_at a (Router router)) (hops_at a (Router router))
+    reached_by root router (flags_in index (Router router)) (distance_at a (Router router)) (hops_at a (Router router))
 
 -- Only what is kept of routers followed: the named ones are as they are to be, and the others as before. The list has besides those of before just the routers of which something else is kept.
 pub record IsRenewed (root : ℕ) (a : AreaValue) (names : ℕ → Type 0) (old new : AreaIntraValue) (before after : List ℕ) : Type 0 where

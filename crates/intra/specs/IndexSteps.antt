@@ -21,7 +21,6 @@ IsPrefixOf v offers w p = (w ≡ v) × ((metric : ℕ) × Contains offers (recor
 abbrev pub IsOfferOf : Vertex → List Offer → Vertex → Prefix → ℕ → Type 0
 IsOfferOf v offers w p metric = (w ≡ v) × Contains offers (record { prefix = p; metric = metric })
 
--- after it has all prefixes of before, and those of the offers
-pub record AreNamed (offers : List Offer) (before after : List Prefix) : Type 0 where
-  pub kept : (p : Prefix) → Contains before p → Contains after p
-  pub named : (p : Prefix) (metric : ℕ) → Contains offers (record { prefix = p; metric = metric }) → Contains after p
+-- both lists offer each prefix alike that is not named
+abbrev pub AreAlike : List Prefix → List Offer → List Offer → Type 0
+AreAlike named before after = (p : Prefix) (metric : ℕ) → (Contains named p → ⊥) → Contains before (record { prefix = p; metric = metric }) ↔ Contains after (record { prefix = p; metric = metric })

@@ -6,7 +6,7 @@ use Rattle.ospf_types.specs.declared.entry.Vertex.{Vertex}
 use Rattle.ospf_types.specs.declared.hop.Path.{Path}
 use Rattle.ospf_types.specs.declared.prefix.Prefix.{Prefix}
 use Rattle.ospf_types.specs.Intra.{AreaCost}
-use Rattle.ospf_types.specs.Lsa.{Body}
+use Rattle.ospf_types.specs.Lsa.{Body, Lsa}
 use Rattle.ospf_types.specs.Network.{network_cmp}
 use Rattle.ospf_types.specs.Vertices.{vertex_cmp}
 use Rattle.lsa_codec.specs.Readers.{flags_of}
@@ -57,6 +57,11 @@ bits_of (Some flags) = flags
 pub record IsOfferedBy (v : Vertex) (body : Body) (o : OfferedValue) : Type 0 where
   pub flags : o.flags ≡ bits_of (flags_of body)
   pub exact : (p : Prefix) (metric : ℕ) → Contains o.offers (record { prefix = p; metric = metric }) ↔ OffersBy v body p metric
+
+-- the body of the LSA that stands for a vertex, if there is one
+abbrev pub body_of : Option Lsa → Option Body
+body_of None = None
+body_of (Some lsa) = Some lsa.body
 
 abbrev pub IsOfferedFor : Vertex → Option Body → Option OfferedValue → Type 0
 IsOfferedFor v (Some body) (Some o) = IsOfferedBy v body o

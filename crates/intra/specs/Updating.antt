@@ -6,7 +6,7 @@ use Rattle.ospf_types.specs.declared.key.Key.{Key}
 use Rattle.ospf_types.specs.declared.key.Scope.{Scope}
 use Rattle.ospf_types.specs.declared.prefix.Prefix.{Prefix}
 use Rattle.intra.specs.Changes.{DiffersAmong}
-use Rattle.intra.specs.Following.{IsGathered, IsRouterNamed, router_now}
+use Rattle.intra.specs.Following.{IsGathered, IsRouterNamed, router_now, with_index_of}
 use Rattle.intra.specs.Indexes.{IsIndexOf}
 use Rattle.intra.specs.Inputs.{AreaValue}
 use Rattle.intra.specs.Intras.{AreaIntraValue, IsAreaIntra}
@@ -36,6 +36,11 @@ pub record IsSettled (root : ℕ) (keys : List (Scope × Key)) (vertices : List 
   pub id : new.id ≡ old.id
   pub index : new.index ≡ old.index
   pub each : (router : ℕ) → (get new.reached router ≡ router_now root a old.index router) ⊎ ((get new.reached router ≡ get old.reached router) × (IsRouterNamed keys vertices old.id router → ⊥))
+
+-- the index is that of the area, as above, and then what is kept of routers followed
+pub record IsBroughtTo (root : ℕ) (keys : List (Scope × Key)) (vertices : List (ℕ × Vertex)) (interfaces : List ℕ) (prefixes : List Prefix) (a : AreaValue) (old new : AreaIntraValue) : Type 0 where
+  pub followed : IsFollowed root vertices interfaces prefixes a old (with_index_of old new)
+  pub settled : IsSettled root keys vertices a (with_index_of old new) new
 
 -- in one of the first areas, so many, something else is kept of the router
 abbrev pub HasOtherAmong : ℕ → List AreaIntraValue → List AreaIntraValue → ℕ → Type 0

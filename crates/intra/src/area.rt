@@ -1,5 +1,5 @@
 //! What is kept of an area: the index of its LSAs, and the routers that are reached in it.
-ghost use Rattle.std.specs.Prelude.{◌≡◌, ◌≢◌, ◌↔◌, ◌⊎◌, ◌+◌, ◌==◌, ℕ, List, Contains, OnOk, IfOk, IfSome, IfNone, IsSome, is_some, count_by, option_copied, option_map, if◌then◌else◌};
+ghost use Rattle.std.specs.Prelude.{◌≡◌, ◌≢◌, ◌↔◌, ◌⊎◌, ◌+◌, ◌==◌, ℕ, List, Contains, Option, None, OnOk, IfOk, IfSome, IfNone, IsSome, IsTrue, false, is_some, count_by, option_copied, if◌then◌else◌};
 ghost use Rattle.std.specs.FinMap as map;
 ghost use Rattle.ospf_types.specs.declared.entry.Vertex.{Vertex as VertexValue};
 ghost use Rattle.ospf_types.specs.declared.entry.Vertex.TheVariants as vertex_value;
@@ -9,19 +9,23 @@ ghost use Rattle.vertex_graph.specs.Up.{Up as UpValue};
 ghost use Rattle.spf.specs.HandedOn.{IsOfSome};
 ghost use Rattle.area_trees.specs.Areas.{IsAreaTree};
 ghost use Rattle.intra.specs.Indexes.{IsIndex, IsIndexOf};
-ghost use Rattle.intra.specs.Following.{LsasDifferAmong, NamesVertex, NamesIn, IsRouterNamed, IsTaken, HasOffered, IsGathered, IsRenewed, router_now};
+ghost use Rattle.intra.specs.Following.{LsasDifferAmong, NamesVertex, NamesIn, IsRouterNamed, IsTaken, HasOffered, IsGathered, IsRenewed, flags_in, with_index_of};
+ghost use Rattle.intra.specs.Inputs.{distance_at, hops_at};
+ghost use Rattle.intra.specs.Reached.{has_bits};
+ghost use Rattle.path_choice.specs.Reached.{reached_by};
 
 use crate::area_index::AreaIndex;
 use crate::dirty::Dirty;
 use crate::inputs::AreaInputs;
-use crate::offered::Offer;
+use crate::named::Named;
+use crate::offered::push_prefixes;
 use area_trees::vertex_of;
 use indexmap::IndexMap;
 use ospf_types::entry::Vertex;
 use ospf_types::key::{Key, Scope};
 use ospf_types::memory::Memory;
 use ospf_types::prefix::Prefix;
-use path_choice::{Reached, are_same, keep};
+use path_choice::{Reached, are_same, has_bit, keep};
 use std::alloc::Global;
 use std::marker::Model;
 use word_hash::WordHash;
@@ -108,25 +112,29 @@ impl AreaIntra {
 }
 
 impl AreaIntra {
-    /// The index takes what the named LSAs say now. The prefixes that may get another entry are added to those that are
-    /// dirty: those of LSAs that offer something else, those of vertices that are named, and, after a change of an
-    /// interface, those of the root.
+    /// The index takes what the named LSAs say now, and what is kept of the named routers is what they are now. The
+    /// prefixes that may get another entry are added to those that are named: those of LSAs that offer something else,
+    /// those of vertices that are named, and, after a change of an interface, those of the root. So are the routers of
+    /// which something else is kept.
     pub(crate) fn follow(
         &mut self,
+        alloc: Global,
         root: u32,
         area: &AreaInputs<'_>,
         dirty: &Dirty,
-        prefixes: &mut Vec<Prefix>,
+        named: &mut Named,
     ) -> Result<(), Memory>
         requires ready { (center : ℕ) × (ups : List UpValue) × IsAreaTree center area.now.lsas ups area.now.tree }
         requires before { (before : Lsas) × IsIndexOf before self.old.index × LsasDifferAmong dirty.now.keys.items self.old.id before area.now.lsas }
         ensures index { OnOk result (IsIndexOf area.now.lsas self.new.index) }
-        ensures gathered { OnOk result (IsGathered root dirty.now.vertices.items dirty.now.interfaces.items self.old self.new prefixes.old.items prefixes.new.items) }
+        ensures gathered { OnOk result (IsGathered root dirty.now.vertices.items dirty.now.interfaces.items self.old (with_index_of self.old self.new) named.old.prefixes.items named.new.prefixes.items) }
+        ensures renewed { OnOk result (IsRenewed root area.now (IsRouterNamed dirty.now.keys.items dirty.now.vertices.items self.old.id) (with_index_of self.old self.new) self.new named.old.routers.items named.new.routers.items) }
     {
-        self.follow_keys(area, &dirty.keys, prefixes)?;
-        self.name_vertices(&dirty.vertices, prefixes)?;
+        self.follow_keys(area, &dirty.keys, &mut named.prefixes)?;
+        self.renew_by_keys(alloc, root, area, &dirty.keys, &mut named.routers)?;
+        self.follow_vertices(alloc, root, area, &dirty.vertices, named)?;
         if !dirty.interfaces.is_empty() {
-            self.name_prefixes(Vertex::Router(root), prefixes)?;
+            self.name_prefixes(Vertex::Router(root), &mut named.prefixes)?;
         }
         Ok(())
     }
@@ -166,55 +174,63 @@ impl AreaIntra {
         Ok(())
     }
 
-    // Adds what the named vertices of the area offer.
-    fn name_vertices(
-        &self,
-        vertices: &[(u32, Vertex)],
-        prefixes: &mut Vec<Prefix>,
-    ) -> Result<(), Memory>
-        ensures { OnOk result (HasOffered self.now.index (IsOfSome vertices.now (NamesIn self.now.id)) prefixes.old.items prefixes.new.items) }
-    {
-        for named in vertices {
-            self.name_vertex(*named, prefixes)?;
-        }
-        Ok(())
-    }
-
-    // Adds what the vertex offers, where it is one of the area.
-    fn name_vertex(&self, named: (u32, Vertex), prefixes: &mut Vec<Prefix>) -> Result<(), Memory>
-        ensures { OnOk result (HasOffered self.now.index (NamesIn self.now.id named) prefixes.old.items prefixes.new.items) }
-    {
-        let (area, vertex) = named;
-        if area == self.id {
-            return self.name_prefixes(vertex, prefixes);
-        }
-        Ok(())
-    }
-
-    // Adds what the vertex offers.
-    fn name_prefixes(&self, vertex: Vertex, prefixes: &mut Vec<Prefix>) -> Result<(), Memory>
-        ensures { OnOk result (HasOffered self.now.index (λ v. v ≡ vertex) prefixes.old.items prefixes.new.items) }
-    {
-        let Some(offered) = self.index.offered(vertex) else {
-            return Ok(());
-        };
-        push_prefixes(offered.offers(), prefixes)?;
-        Ok(())
-    }
-
-    /// Takes what the named routers are now, and adds those of which something else is kept.
-    pub(crate) fn renew_routers(
+    // Adds what the named vertices of the area offer, and takes what the routers among them are now.
+    fn follow_vertices(
         &mut self,
         alloc: Global,
         root: u32,
         area: &AreaInputs<'_>,
-        dirty: &Dirty,
-        routers: &mut Vec<u32>,
+        vertices: &[(u32, Vertex)],
+        named: &mut Named,
     ) -> Result<(), Memory>
-        ensures { OnOk result (IsRenewed root area.now (IsRouterNamed dirty.now.keys.items dirty.now.vertices.items self.old.id) self.old self.new routers.old.items routers.new.items) }
+        ensures offered { OnOk result (HasOffered self.old.index (IsOfSome vertices.now (NamesIn self.old.id)) named.old.prefixes.items named.new.prefixes.items) }
+        ensures renewed { OnOk result (IsRenewed root area.now (λ r. IsOfSome vertices.now (NamesIn self.old.id) (vertex_value.Router r)) self.old self.new named.old.routers.items named.new.routers.items) }
     {
-        self.renew_by_keys(alloc, root, area, &dirty.keys, routers)?;
-        self.renew_by_vertices(alloc, root, area, &dirty.vertices, routers)
+        for vertex in vertices {
+            self.follow_named(alloc, root, area, *vertex, named)?;
+        }
+        Ok(())
+    }
+
+    // Adds what the vertex offers, and takes what it is now where it is a router, if it is one of the area.
+    fn follow_named(
+        &mut self,
+        alloc: Global,
+        root: u32,
+        area: &AreaInputs<'_>,
+        vertex: (u32, Vertex),
+        named: &mut Named,
+    ) -> Result<(), Memory>
+        ensures offered { OnOk result (HasOffered self.old.index (NamesIn self.old.id vertex) named.old.prefixes.items named.new.prefixes.items) }
+        ensures renewed { OnOk result (IsRenewed root area.now (λ r. NamesIn self.old.id vertex (vertex_value.Router r)) self.old self.new named.old.routers.items named.new.routers.items) }
+    {
+        let (id, vertex) = vertex;
+        if id != self.id {
+            return Ok(());
+        }
+        let flags = self.name_prefixes(vertex, &mut named.prefixes)?;
+        if self.stays_out(vertex, flags) {
+            return Ok(());
+        }
+        self.renew_vertex(alloc, root, area, vertex, flags, &mut named.routers)
+    }
+
+    // Adds what the vertex offers. The answer is the bits of its LSA; none where it has no LSA.
+    fn name_prefixes(
+        &self,
+        vertex: Vertex,
+        prefixes: &mut Vec<Prefix>,
+    ) -> Result<Option<u8>, Memory>
+        ensures offered { OnOk result (HasOffered self.now.index (λ v. v ≡ vertex) prefixes.old.items prefixes.new.items) }
+        ensures flags { IfOk result (λ flags. flags ≡ flags_in self.now.index vertex) }
+    {
+        match self.index.offered(vertex) {
+            Some(offered) => {
+                push_prefixes(offered.offers(), prefixes)?;
+                Ok(Some(offered.flags()))
+            }
+            None => Ok(None),
+        }
     }
 
     // Takes what the routers with a named router-LSA of the area are now.
@@ -245,76 +261,60 @@ impl AreaIntra {
     ) -> Result<(), Memory>
         ensures { OnOk result (IsRenewed root area.now (λ r. NamesVertex self.old.id named (vertex_value.Router r)) self.old self.new routers.old.items routers.new.items) }
     {
-        match vertex_in(self.id, named) {
-            Some(vertex) => self.renew_vertex(alloc, root, area, vertex, routers),
-            None => Ok(()),
-        }
+        let Some(vertex) = vertex_in(self.id, named) else {
+            return Ok(());
+        };
+        let flags = self.flags(vertex);
+        self.renew_vertex(alloc, root, area, vertex, flags, routers)
     }
 
-    // Takes what the named routers of the area are now.
-    fn renew_by_vertices(
-        &mut self,
-        alloc: Global,
-        root: u32,
-        area: &AreaInputs<'_>,
-        vertices: &[(u32, Vertex)],
-        routers: &mut Vec<u32>,
-    ) -> Result<(), Memory>
-        ensures { OnOk result (IsRenewed root area.now (λ r. IsOfSome vertices.now (NamesIn self.old.id) (vertex_value.Router r)) self.old self.new routers.old.items routers.new.items) }
+    // Whether nothing is kept of the vertex, and by its bits nothing is to be, as of most vertices.
+    fn stays_out(&self, vertex: Vertex, flags: Option<u8>) -> bool
+        ensures bits { IsTrue result → has_bits flags ≡ false }
+        ensures none { IsTrue result → (router : ℕ) → vertex ≡ vertex_value.Router router → map.get self.now.reached router ≡ None }
     {
-        for named in vertices {
-            self.renew_named(alloc, root, area, *named, routers)?;
+        if has_bits(flags) {
+            return false;
         }
-        Ok(())
+        match vertex {
+            Vertex::Router(router) => self.router(router).is_none(),
+            Vertex::Network(_) => true,
+        }
     }
 
-    // Takes what the vertex is now, where it is a router of the area.
-    fn renew_named(
-        &mut self,
-        alloc: Global,
-        root: u32,
-        area: &AreaInputs<'_>,
-        named: (u32, Vertex),
-        routers: &mut Vec<u32>,
-    ) -> Result<(), Memory>
-        ensures { OnOk result (IsRenewed root area.now (λ r. NamesIn self.old.id named (vertex_value.Router r)) self.old self.new routers.old.items routers.new.items) }
-    {
-        let (id, vertex) = named;
-        if id == self.id {
-            return self.renew_vertex(alloc, root, area, vertex, routers);
-        }
-        Ok(())
-    }
-
-    // Takes what the vertex is now, where it is a router.
+    // Takes what the vertex with these bits is now, where it is a router.
     fn renew_vertex(
         &mut self,
         alloc: Global,
         root: u32,
         area: &AreaInputs<'_>,
         vertex: Vertex,
+        flags: Option<u8>,
         routers: &mut Vec<u32>,
     ) -> Result<(), Memory>
+        requires { flags ≡ flags_in self.old.index vertex }
         ensures { OnOk result (IsRenewed root area.now (λ r. vertex ≡ vertex_value.Router r) self.old self.new routers.old.items routers.new.items) }
     {
         match vertex {
-            Vertex::Router(router) => self.renew(alloc, root, area, router, routers),
+            Vertex::Router(router) => self.renew(alloc, root, area, router, flags, routers),
             Vertex::Network(_) => Ok(()),
         }
     }
 
-    // Takes what the router is now, and adds it where something else is kept.
+    // Takes what the router with these bits is now, and adds it where something else is kept.
     fn renew(
         &mut self,
         alloc: Global,
         root: u32,
         area: &AreaInputs<'_>,
         router: u32,
+        flags: Option<u8>,
         routers: &mut Vec<u32>,
     ) -> Result<(), Memory>
+        requires { flags ≡ flags_in self.old.index (vertex_value.Router router) }
         ensures { OnOk result (IsRenewed root area.now (λ r. r ≡ router) self.old self.new routers.old.items routers.new.items) }
     {
-        let fresh = self.fresh(alloc, root, area, router)?;
+        let fresh = reached_now(alloc, root, area, router, flags)?;
         if are_same(self.router(router), fresh.as_ref()) {
             return Ok(());
         }
@@ -323,26 +323,11 @@ impl AreaIntra {
         Ok(())
     }
 
-    // What is to be kept of the router.
-    fn fresh(
-        &self,
-        alloc: Global,
-        root: u32,
-        area: &AreaInputs<'_>,
-        router: u32,
-    ) -> Result<Option<Reached>, Memory>
-        ensures { IfOk result (λ kept. kept ≡ router_now root area.now self.now.index router) }
+    // The bits of the vertex's LSA.
+    fn flags(&self, vertex: Vertex) -> Option<u8>
+        ensures { result ≡ flags_in self.now.index vertex }
     {
-        let vertex = Vertex::Router(router);
-        let (distance, hops) = (area.tree.distance(vertex), area.tree.hops(vertex));
-        keep(alloc, root, router, self.flags(router), distance, hops)
-    }
-
-    // The bits of the router's LSA.
-    fn flags(&self, router: u32) -> Option<u8>
-        ensures { result ≡ option_map (λ o. o.flags) (map.get self.now.index.offered (vertex_value.Router router)) }
-    {
-        match self.index.offered(Vertex::Router(router)) {
+        match self.index.offered(vertex) {
             Some(offered) => Some(offered.flags()),
             None => None,
         }
@@ -367,15 +352,32 @@ impl AreaIntra {
     }
 }
 
-// Adds the prefixes of the offers.
-fn push_prefixes(offers: &[Offer], prefixes: &mut Vec<Prefix>) -> Result<(), Memory>
-    ensures kept { OnOk result ((p : PrefixValue) → Contains prefixes.old.items p → Contains prefixes.new.items p) }
-    ensures offered { OnOk result ((p : PrefixValue) (metric : ℕ) → Contains offers.now (record { prefix = p; metric = metric }) → Contains prefixes.new.items p) }
+// What is to be kept of the router with these bits. Most routers have none, and are not looked up in the tree.
+fn reached_now(
+    alloc: Global,
+    root: u32,
+    area: &AreaInputs<'_>,
+    router: u32,
+    flags: Option<u8>,
+) -> Result<Option<Reached>, Memory>
+    ensures { IfOk result (λ kept. kept ≡ reached_by root router flags (distance_at area.now (vertex_value.Router router)) (hops_at area.now (vertex_value.Router router))) }
 {
-    for offer in offers {
-        prefixes.push(offer.prefix)?;
+    if !has_bits(flags) {
+        return Ok(None);
     }
-    Ok(())
+    let vertex = Vertex::Router(router);
+    let (distance, hops) = (area.tree.distance(vertex), area.tree.hops(vertex));
+    keep(alloc, root, router, flags, distance, hops)
+}
+
+// Whether there are bits, and bit B or bit E is among them.
+fn has_bits(flags: Option<u8>) -> bool
+    ensures { result ≡ has_bits flags }
+{
+    match flags {
+        Some(flags) => has_bit(flags),
+        None => false,
+    }
 }
 
 // The vertex that an LSA with this key stands for, where it is one of the area.

@@ -1,18 +1,19 @@
 //! The index of an area: what each vertex offers, and who offers each prefix. It follows the area's LSAs alone.
-ghost use Rattle.std.specs.Prelude.{◌≡◌, ◌≢◌, ◌↔◌, ℕ, List, Option, None, Contains, IfOk, OnOk, option_copied};
+ghost use Rattle.std.specs.Prelude.{◌≡◌, ◌≢◌, ◌↔◌, ◌⊎◌, ℕ, List, Option, Some, None, Contains, IfOk, IfSome, IsTrue, OnOk, option_copied};
 ghost use Rattle.std.specs.FinMap as map;
 ghost use Rattle.std.specs.List.{AllPairs};
 ghost use Rattle.vertex_graph.specs.Up.{Up as UpValue};
 ghost use Rattle.ospf_types.specs.declared.entry.Vertex.{Vertex as VertexValue};
-ghost use Rattle.ospf_types.specs.Lsa.{Body};
-ghost use Rattle.area_trees.specs.Areas.{IsAreaTree, IsStanding};
+ghost use Rattle.ospf_types.specs.Lsa.{Body, key_of};
+ghost use Rattle.area_trees.specs.Areas.{IsAreaTree, IsStanding, vertex_of};
 ghost use Rattle.ospf_types.specs.declared.prefix.Prefix.{Prefix as PrefixValue};
-ghost use Rattle.intra.specs.Indexes.{IsIndex, IsSource, IsOfferedFor, AreTouched, sources_of};
-ghost use Rattle.intra.specs.IndexSteps.{AreGone, HaveCome, IsPrefixOf, IsOfferOf, AreNamed};
+ghost use Rattle.intra.specs.Indexes.{IsIndex, IsSource, IsOfferedFor, AreTouched, body_of, offers_of, sources_of};
+ghost use Rattle.intra.specs.IndexSteps.{AreGone, HaveCome, IsPrefixOf, IsOfferOf, AreAlike};
 
 use crate::inputs::AreaInputs;
-use crate::offered::{Offer, Offered, offers_in};
+use crate::offered::{Offer, Offered, offers_in, push_prefixes};
 use indexmap::IndexMap;
+use lsa_codec::Checked;
 use ospf_types::entry::Vertex;
 use ospf_types::memory::Memory;
 use ospf_types::prefix::Prefix;
@@ -99,8 +100,8 @@ impl AreaIndex {
         }
     }
 
-    /// Takes what the LSA that stands for the vertex offers now in the place of what it offered. Where the two differ,
-    /// the prefixes of both are added to those that are dirty.
+    /// Takes what the LSA that stands for the vertex offers now in the place of what it offered. The prefixes in which
+    /// the two differ are added to those that are dirty.
     pub(crate) fn follow(
         &mut self,
         area: &AreaInputs<'_>,
@@ -114,14 +115,19 @@ impl AreaIndex {
         ensures others { OnOk result ((w : VertexValue) → w ≢ vertex → map.get self.new.offered w ≡ map.get self.old.offered w) }
         ensures touched { OnOk result (AreTouched self.old self.new dirty.old.items dirty.new.items) }
     {
-        let fresh = standing_offers(self.alloc, area, vertex)?;
+        let standing = area.tree.standing(area.database, vertex);
+        if are_as_said(self.offered(vertex), vertex, standing) {
+            return Ok(());
+        }
+        let fresh = standing_offers(self.alloc, vertex, standing)?;
         if are_same(self.offered(vertex), fresh.as_ref()) {
             return Ok(());
         }
-        self.take_out(vertex, dirty)?;
+        let gone = self.take_out(vertex);
+        name_differing(listed(gone.as_ref()), listed(fresh.as_ref()), dirty)?;
         match fresh {
             Some(fresh) => {
-                self.put_in(vertex, fresh, dirty)?;
+                self.put_in(vertex, fresh)?;
                 Ok(())
             }
             None => Ok(()),
@@ -130,38 +136,26 @@ impl AreaIndex {
 }
 
 impl AreaIndex {
-    // Takes out what the vertex offers, and names its prefixes.
-    fn take_out(&mut self, vertex: Vertex, dirty: &mut Vec<Prefix>) -> Result<(), Memory>
+    // Takes out what the vertex offers.
+    fn take_out(&mut self, vertex: Vertex) -> Option<Offered>
         requires { IsIndex self.old }
-        ensures index { OnOk result (IsIndex self.new) }
-        ensures offered { OnOk result (self.new.offered ≡ map.remove self.old.offered vertex) }
-        ensures touched { OnOk result (AreTouched self.old self.new dirty.old.items dirty.new.items) }
+        ensures value { result ≡ map.get self.old.offered vertex }
+        ensures index { IsIndex self.new }
+        ensures offered { self.new.offered ≡ map.remove self.old.offered vertex }
     {
-        match self.offered.swap_remove(&vertex) {
-            Some(gone) => {
-                self.remove_sources(vertex, gone.offers(), dirty)?;
-                Ok(())
-            }
-            None => Ok(()),
-        }
+        let gone = self.offered.swap_remove(&vertex);
+        self.remove_sources(vertex, listed(gone.as_ref()));
+        gone
     }
 
     // The vertex no longer offers the prefixes of these offers.
-    fn remove_sources(
-        &mut self,
-        vertex: Vertex,
-        offers: &[Offer],
-        dirty: &mut Vec<Prefix>,
-    ) -> Result<(), Memory>
-        ensures offered { OnOk result (self.new.offered ≡ self.old.offered) }
-        ensures gone { OnOk result (AreGone (IsPrefixOf vertex offers.now) self.old self.new) }
-        ensures named { OnOk result (AreNamed offers.now dirty.old.items dirty.new.items) }
+    fn remove_sources(&mut self, vertex: Vertex, offers: &[Offer])
+        ensures offered { self.new.offered ≡ self.old.offered }
+        ensures gone { AreGone (IsPrefixOf vertex offers.now) self.old self.new }
     {
         for offer in offers {
             self.remove_source(vertex, offer.prefix);
-            dirty.push(offer.prefix)?;
         }
-        Ok(())
     }
 
     // The vertex no longer offers the prefix.
@@ -178,40 +172,27 @@ impl AreaIndex {
         }
     }
 
-    // Puts in what the vertex offers, of which nothing is there, and names its prefixes.
-    fn put_in(
-        &mut self,
-        vertex: Vertex,
-        fresh: Offered,
-        dirty: &mut Vec<Prefix>,
-    ) -> Result<(), Memory>
+    // Puts in what the vertex offers, of which nothing is there.
+    fn put_in(&mut self, vertex: Vertex, fresh: Offered) -> Result<(), Memory>
         requires index { IsIndex self.old }
         requires absent { map.get self.old.offered vertex ≡ None }
         ensures index { OnOk result (IsIndex self.new) }
         ensures offered { OnOk result (self.new.offered ≡ map.insert self.old.offered vertex fresh) }
-        ensures touched { OnOk result (AreTouched self.old self.new dirty.old.items dirty.new.items) }
     {
-        self.add_sources(vertex, fresh.offers(), dirty)?;
+        self.add_sources(vertex, fresh.offers())?;
         self.offered.insert(vertex, fresh)?;
         Ok(())
     }
 
     // The vertex offers these prefixes too.
-    fn add_sources(
-        &mut self,
-        vertex: Vertex,
-        offers: &[Offer],
-        dirty: &mut Vec<Prefix>,
-    ) -> Result<(), Memory>
+    fn add_sources(&mut self, vertex: Vertex, offers: &[Offer]) -> Result<(), Memory>
         requires absent { (p : PrefixValue) (metric : ℕ) → IsSource self.old vertex p metric → ⊥ }
         requires each_once { AllPairs (λ a b. a ≢ b) offers.now }
         ensures offered { OnOk result (self.new.offered ≡ self.old.offered) }
         ensures come { OnOk result (HaveCome (IsOfferOf vertex offers.now) self.old self.new) }
-        ensures named { OnOk result (AreNamed offers.now dirty.old.items dirty.new.items) }
     {
         for offer in offers {
             self.add_source(vertex, *offer)?;
-            dirty.push(offer.prefix)?;
         }
         Ok(())
     }
@@ -238,19 +219,73 @@ impl AreaIndex {
     }
 }
 
+// Whether the offers are what the LSA that stands for the vertex says.
+fn are_as_said(offered: Option<&Offered>, vertex: Vertex, standing: Option<&Checked>) -> bool
+    requires { IfSome (option_copied standing) (λ lsa. vertex_of (key_of lsa) ≡ Some vertex) }
+    ensures { IsTrue result → IsOfferedFor vertex (body_of (option_copied standing.entry)) (option_copied offered.entry) }
+{
+    match (offered, standing) {
+        (Some(offered), Some(lsa)) => offered.is_said_by(vertex, lsa),
+        (None, None) => true,
+        _ => false,
+    }
+}
+
 // What the LSA that stands for the vertex offers, if there is one.
 fn standing_offers(
     alloc: Global,
-    area: &AreaInputs<'_>,
     vertex: Vertex,
+    standing: Option<&Checked>,
 ) -> Result<Option<Offered>, Memory>
-    requires { (root : ℕ) × (ups : List UpValue) × IsAreaTree root area.now.lsas ups area.now.tree }
-    ensures { IfOk result (λ offered. (body : Option Body) × IsStanding area.now.lsas vertex body × IsOfferedFor vertex body offered) }
+    requires { IfSome (option_copied standing) (λ lsa. vertex_of (key_of lsa) ≡ Some vertex) }
+    ensures { IfOk result (IsOfferedFor vertex (body_of (option_copied standing.entry))) }
 {
-    match area.tree.standing(area.database, vertex) {
+    match standing {
         Some(lsa) => Ok(Some(offers_in(alloc, vertex, lsa)?)),
         None => Ok(None),
     }
+}
+
+// The prefixes with their metrics, none where nothing is offered.
+fn listed(offered: Option<&Offered>) -> &[Offer]
+    ensures { result.now ≡ offers_of (option_copied offered.entry) }
+{
+    match offered {
+        Some(offered) => offered.offers(),
+        None => &[],
+    }
+}
+
+// Adds the prefixes of the offers that do not stand at one place of both lists. All others are offered alike.
+fn name_differing(before: &[Offer], after: &[Offer], dirty: &mut Vec<Prefix>) -> Result<(), Memory>
+    ensures kept { OnOk result ((p : PrefixValue) → Contains dirty.old.items p → Contains dirty.new.items p) }
+    ensures alike { OnOk result (AreAlike dirty.new.items before.now after.now) }
+{
+    let (mut left, mut right) = (before, after);
+    while let [one, more @ ..] = left {
+        let [other, rest @ ..] = right else {
+            break;
+        };
+        name_both(*one, *other, dirty)?;
+        left = more;
+        right = rest;
+    }
+    push_prefixes(left, dirty)?;
+    push_prefixes(right, dirty)?;
+    Ok(())
+}
+
+// Adds the prefixes of the two offers, where they differ.
+fn name_both(one: Offer, other: Offer, dirty: &mut Vec<Prefix>) -> Result<(), Memory>
+    ensures kept { OnOk result ((p : PrefixValue) → Contains dirty.old.items p → Contains dirty.new.items p) }
+    ensures named { OnOk result ((one ≡ other) ⊎ (Contains dirty.new.items one.prefix × Contains dirty.new.items other.prefix)) }
+{
+    if one == other {
+        return Ok(());
+    }
+    dirty.push(one.prefix)?;
+    dirty.push(other.prefix)?;
+    Ok(())
 }
 
 // Leaves out all of the vertex.

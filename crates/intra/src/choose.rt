@@ -97,39 +97,33 @@ fn offer_sources(
 ) -> Result<(), Memory>
     ensures { OnOk result (TakesPaths (KeyedOffers (AmongSources sources.now) inputs.now area.now prefix) best.old best.new) }
 {
-    offer_stubs(best, inputs, area, sources, prefix)?;
-    offer_transit(best, area, sources)
-}
-
-// Offers the stub links among the sources.
-fn offer_stubs(
-    best: &mut Best<AreaCost, Path>,
-    inputs: &Inputs<'_>,
-    area: &AreaInputs<'_>,
-    sources: &[Source],
-    prefix: Prefix,
-) -> Result<(), Memory>
-    ensures { OnOk result (TakesPaths (KeyedStubs (AmongSources sources.now) inputs.now area.now prefix) best.old best.new) }
-{
+    let mut nearest = None;
     for source in sources {
-        offer_source(best, inputs, area, *source, prefix)?;
+        nearest = offer_source(best, inputs, area, nearest, *source, prefix)?;
     }
-    Ok(())
+    offer_transit(best, area, nearest)
 }
 
-// Offers the source, where it is a stub link.
+// Offers the source, where it is a stub link. The answer is the nearest transit network, with this source among others.
 fn offer_source(
     best: &mut Best<AreaCost, Path>,
     inputs: &Inputs<'_>,
     area: &AreaInputs<'_>,
+    nearest: Option<(u32, u32)>,
     source: Source,
     prefix: Prefix,
-) -> Result<(), Memory>
-    ensures { OnOk result (TakesPaths (KeyedStubs (ThisSource source) inputs.now area.now prefix) best.old best.new) }
+) -> Result<Option<(u32, u32)>, Memory>
+    requires { IfSome nearest (λ n. n.1 < most_distance) }
+    ensures offered { OnOk result (TakesPaths (KeyedStubs (ThisSource source) inputs.now area.now prefix) best.old best.new) }
+    ensures found { IfOk result (λ found. (before : List SourceValue) (p : PrefixValue) → FindsNearest (AmongSources before) area.now p nearest → FindsNearest (AmongSources (before ++ source ∷ [])) area.now p found) }
+    ensures bounded { IfOk result (λ found. IfSome found (λ n. n.1 < most_distance)) }
 {
     match source.vertex {
-        Vertex::Router(router) => offer_stub(best, inputs, area, router, source.metric, prefix),
-        Vertex::Network(_) => Ok(()),
+        Vertex::Router(router) => {
+            offer_stub(best, inputs, area, router, source.metric, prefix)?;
+            Ok(nearest)
+        }
+        Vertex::Network(_) => Ok(nearest_with(area, nearest, source)),
     }
 }
 
@@ -207,11 +201,12 @@ fn is_over(area: u32, prefix: Prefix, interface: Interface) -> bool
 fn offer_transit(
     best: &mut Best<AreaCost, Path>,
     area: &AreaInputs<'_>,
-    sources: &[Source],
+    nearest: Option<(u32, u32)>,
 ) -> Result<(), Memory>
-    ensures { (p : PrefixValue) → OnOk result (TakesPaths (KeyedTransit (AmongSources sources.now) area.now p) best.old best.new) }
+    requires { IfSome nearest (λ n. n.1 < most_distance) }
+    ensures { (sources : List SourceValue) (p : PrefixValue) → FindsNearest (AmongSources sources) area.now p nearest → OnOk result (TakesPaths (KeyedTransit (AmongSources sources) area.now p) best.old best.new) }
 {
-    match nearest(area, sources) {
+    match nearest {
         Some((id, distance)) => {
             let key = cost_in(area, distance);
             offer_hops(best, key, hops(area, Vertex::Network(id)))
@@ -220,19 +215,7 @@ fn offer_transit(
     }
 }
 
-// The transit network that stands for the prefix of these sources, and its distance.
-fn nearest(area: &AreaInputs<'_>, sources: &[Source]) -> Option<(u32, u32)>
-    ensures found { (p : PrefixValue) → FindsNearest (AmongSources sources.now) area.now p result }
-    ensures bounded { IfSome result (λ n. n.1 < most_distance) }
-{
-    let mut nearest = None;
-    for source in sources {
-        nearest = nearest_with(area, nearest, *source);
-    }
-    nearest
-}
-
-// The same of one more source.
+// The nearest transit network, with one more source.
 fn nearest_with(
     area: &AreaInputs<'_>,
     nearest: Option<(u32, u32)>,

@@ -10,7 +10,7 @@ ghost use Rattle.ospf_types.specs.declared.key.Scope.{Scope as ScopeValue};
 ghost use Rattle.ospf_types.specs.declared.key.Scope.TheVariants as scope_value;
 ghost use Rattle.ospf_types.specs.declared.prefix.Prefix.{Prefix as PrefixValue};
 ghost use Rattle.ospf_types.specs.Network.{network_cmp};
-ghost use Rattle.intra.specs.Updating.{AreKeptBefore, AreFirst, IsFollowed, IsSettled, HasOtherAmong};
+ghost use Rattle.intra.specs.Updating.{AreKeptBefore, AreFirst, IsBroughtTo, HasOtherAmong};
 ghost use Rattle.intra.specs.Renewing.{IsRenewed, AreRenewed};
 ghost use Rattle.std.specs.List.Sorted.{IsStrictlySortedBy};
 ghost use Rattle.ospf_types.specs.declared.prefix.Prefix.{Prefix as PrefixValue};
@@ -26,6 +26,7 @@ use crate::area::AreaIntra;
 use crate::choose::choose;
 use crate::dirty::Dirty;
 use crate::inputs::{AreaInputs, Inputs};
+use crate::named::Named;
 use indexmap::IndexMap;
 use indexmap::map::Slice;
 use lsdb::Database;
@@ -33,10 +34,11 @@ use ospf_types::entry::Entry;
 use ospf_types::key::{Dest, Key, Scope};
 use ospf_types::memory::Memory;
 use ospf_types::prefix::Prefix;
-use path_choice::{Reached, are_same};
+use path_choice::Reached;
 use std::alloc::Global;
 use std::hash::RandomState;
 use std::marker::Model;
+use std::mem;
 use word_hash::WordHash;
 
 /// The intra-area routes of a router: the entry of each network, and in each area the border routers and AS boundary
@@ -44,6 +46,8 @@ use word_hash::WordHash;
 pub struct Intra {
     areas: Vec<AreaIntra>,
     entries: IndexMap<Prefix, Entry, WordHash>,
+    // Memory for an update.
+    named: Named,
     spent: bool,
 }
 
@@ -53,6 +57,7 @@ impl Drop for Intra {
         let Intra {
             areas: _areas,
             entries: _entries,
+            named: _named,
             spent: _,
         } = self;
     }
@@ -199,6 +204,7 @@ impl Intra {
         Ok(Intra {
             areas: kept,
             entries: IndexMap::with_hasher(alloc, hashing),
+            named: Named::new(alloc),
             spent: false,
         })
     }
@@ -216,60 +222,36 @@ impl Intra {
         ensures in_order { IfOk result (λ dests. IsStrictlySortedBy dest_cmp dests.items) }
         ensures exact { IfOk result (λ dests. (d : DestValue) → Contains dests.items d ↔ DiffersAt self.old self.new d) }
     {
-        let prefixes = self.follow(alloc, inputs, dirty)?;
-        let routers = self.renew_routers(alloc, inputs, dirty)?;
-        let mut dests = Vec::with_capacity(alloc, prefixes.len())?;
-        self.renew_entries(alloc, inputs, prefixes.as_slice(), &mut dests)?;
-        add_routers(routers.as_slice(), &mut dests)?;
+        let named = self.follow(alloc, inputs, dirty)?;
+        let mut dests = Vec::with_capacity(alloc, named.prefixes.len())?;
+        self.renew_entries(alloc, inputs, named.prefixes.as_slice(), &mut dests)?;
+        add_routers(named.routers.as_slice(), &mut dests)?;
+        self.named = named;
         Ok(dests)
     }
 
-    // The prefixes that may get another entry, ascending, each once.
-    fn follow(
-        &mut self,
-        alloc: Global,
-        inputs: &Inputs<'_>,
-        dirty: &Dirty,
-    ) -> Result<Vec<Prefix>, Memory>
+    // The prefixes that may get another entry, and the routers of which something else is kept in some area; both
+    // ascending, each once.
+    fn follow(&mut self, alloc: Global, inputs: &Inputs<'_>, dirty: &Dirty) -> Result<Named, Memory>
         requires ready { AreReady inputs.now }
         requires before { AreKeptBefore inputs.now.root dirty.now.keys.items dirty.now.vertices.items inputs.now.areas self.old.areas }
         ensures entries { OnOk result (self.new.entries ≡ self.old.entries) }
         ensures spent { OnOk result (self.new.spent ≡ self.old.spent) }
-        ensures in_order { IfOk result (λ prefixes. IsStrictlySortedBy network_cmp prefixes.items) }
-        ensures followed { IfOk result (λ prefixes. AreFirst (IsFollowed inputs.now.root dirty.now.vertices.items dirty.now.interfaces.items prefixes.items) inputs.now.areas self.old.areas self.new.areas (length inputs.now.areas)) }
+        ensures prefixes_in_order { IfOk result (λ named. IsStrictlySortedBy network_cmp named.prefixes.items) }
+        ensures routers_in_order { IfOk result (λ named. IsStrictlySortedBy nat_cmp named.routers.items) }
+        ensures followed { IfOk result (λ named. AreFirst (IsBroughtTo inputs.now.root dirty.now.keys.items dirty.now.vertices.items dirty.now.interfaces.items named.prefixes.items) inputs.now.areas self.old.areas self.new.areas (length inputs.now.areas)) }
+        ensures routers { IfOk result (λ named. (router : ℕ) → Contains named.routers.items router ↔ HasOtherAmong (length inputs.now.areas) self.old.areas self.new.areas router) }
     {
-        let mut prefixes = Vec::new(alloc);
-        follow_areas(self.areas.as_mut_slice(), inputs, dirty, &mut prefixes)?;
-        prefixes.sort_unstable();
-        prefixes.dedup();
-        Ok(prefixes)
-    }
-
-    // The routers of which something else is kept in some area, ascending, each once.
-    fn renew_routers(
-        &mut self,
-        alloc: Global,
-        inputs: &Inputs<'_>,
-        dirty: &Dirty,
-    ) -> Result<Vec<u32>, Memory>
-        requires { length inputs.now.areas ≡ length self.old.areas }
-        ensures entries { OnOk result (self.new.entries ≡ self.old.entries) }
-        ensures spent { OnOk result (self.new.spent ≡ self.old.spent) }
-        ensures in_order { IfOk result (λ routers. IsStrictlySortedBy nat_cmp routers.items) }
-        ensures settled { OnOk result (AreFirst (IsSettled inputs.now.root dirty.now.keys.items dirty.now.vertices.items) inputs.now.areas self.old.areas self.new.areas (length inputs.now.areas)) }
-        ensures exact { IfOk result (λ routers. (router : ℕ) → Contains routers.items router ↔ HasOtherAmong (length inputs.now.areas) self.old.areas self.new.areas router) }
-    {
-        let mut routers = Vec::new(alloc);
-        renew_areas(
-            alloc,
-            self.areas.as_mut_slice(),
-            inputs,
-            dirty,
-            &mut routers,
-        )?;
-        routers.sort_unstable();
-        routers.dedup();
-        Ok(routers)
+        let mut named = mem::replace(&mut self.named, Named::new(alloc));
+        named.clear();
+        let areas = self.areas.as_mut_slice();
+        follow_areas(alloc, areas, inputs, dirty, &mut named)?;
+        // Vertices come in their order, and their prefixes mostly stand in it: few runs, which a stable sort only merges.
+        named.prefixes.sort()?;
+        named.prefixes.dedup();
+        named.routers.sort_unstable();
+        named.routers.dedup();
+        Ok(named)
     }
 
     // Chooses the entries of the networks anew, and names those of which it differs.
@@ -301,31 +283,47 @@ impl Intra {
         ensures { OnOk result (IsRenewed inputs.now self.old self.new prefix dests.old.items dests.new.items) }
     {
         let fresh = choose(alloc, inputs, self.areas.as_slice(), prefix)?;
-        if are_same(self.get(prefix), fresh.as_ref()) {
-            return Ok(());
+        if self.put(prefix, fresh)? {
+            dests.push(Dest::Net(prefix))?;
         }
-        self.put(prefix, fresh)?;
-        dests.push(Dest::Net(prefix))?;
         Ok(())
     }
 
-    // This is the entry of the network.
-    fn put(&mut self, network: Prefix, fresh: Option<Entry>) -> Result<(), Memory>
+    // This is the entry of the network. The answer is whether it had another, or none.
+    fn put(&mut self, network: Prefix, fresh: Option<Entry>) -> Result<bool, Memory>
         requires { IfSome fresh (λ e. e.cost < most_cost) }
         ensures areas { OnOk result (self.new.areas ≡ self.old.areas) }
         ensures spent { OnOk result (self.new.spent ≡ self.old.spent) }
         ensures here { OnOk result (map.get self.new.entries network ≡ fresh) }
         ensures others { OnOk result ((p : PrefixValue) → p ≢ network → map.get self.new.entries p ≡ map.get self.old.entries p) }
+        ensures same { IfOk result (λ other. other ≡ false → map.get self.old.entries network ≡ fresh) }
+        ensures other { IfOk result (λ other. other ≡ true → map.get self.old.entries network ≢ fresh) }
     {
         match fresh {
-            Some(entry) => {
-                self.entries.insert(network, entry)?;
-            }
-            None => {
-                self.entries.swap_remove(&network);
-            }
+            Some(entry) => self.set(network, entry),
+            None => Ok(self.entries.swap_remove(&network).is_some()),
         }
-        Ok(())
+    }
+
+    // The network has this entry.
+    fn set(&mut self, network: Prefix, entry: Entry) -> Result<bool, Memory>
+        requires { entry.cost < most_cost }
+        ensures areas { OnOk result (self.new.areas ≡ self.old.areas) }
+        ensures spent { OnOk result (self.new.spent ≡ self.old.spent) }
+        ensures here { OnOk result (map.get self.new.entries network ≡ Some entry) }
+        ensures others { OnOk result ((p : PrefixValue) → p ≢ network → map.get self.new.entries p ≡ map.get self.old.entries p) }
+        ensures same { IfOk result (λ other. other ≡ false → map.get self.old.entries network ≡ Some entry) }
+        ensures other { IfOk result (λ other. other ≡ true → map.get self.old.entries network ≢ Some entry) }
+    {
+        let Some(kept) = self.entries.get_mut(&network) else {
+            self.entries.insert(network, entry)?;
+            return Ok(true);
+        };
+        if kept.is_same(&entry) {
+            return Ok(false);
+        }
+        *kept = entry;
+        Ok(true)
     }
 
     fn spend(&mut self)
@@ -337,40 +335,23 @@ impl Intra {
     }
 }
 
-// The index of each area takes what the LSAs say now.
+// What is kept of each area follows its LSAs, its tree and the interfaces.
 fn follow_areas(
-    areas: &mut [AreaIntra],
-    inputs: &Inputs<'_>,
-    dirty: &Dirty,
-    prefixes: &mut Vec<Prefix>,
-) -> Result<(), Memory>
-    requires ready { AreReady inputs.now }
-    requires before { AreKeptBefore inputs.now.root dirty.now.keys.items dirty.now.vertices.items inputs.now.areas areas.old }
-    ensures { OnOk result (AreFirst (IsFollowed inputs.now.root dirty.now.vertices.items dirty.now.interfaces.items prefixes.new.items) inputs.now.areas areas.old areas.new (length inputs.now.areas)) }
-{
-    let all = inputs.areas;
-    for place in 0..all.len() {
-        areas[place].follow(inputs.root, &all[place], dirty, prefixes)?;
-    }
-    Ok(())
-}
-
-// What is kept of routers in each area follows.
-fn renew_areas(
     alloc: Global,
     areas: &mut [AreaIntra],
     inputs: &Inputs<'_>,
     dirty: &Dirty,
-    routers: &mut Vec<u32>,
+    named: &mut Named,
 ) -> Result<(), Memory>
-    requires as_many { length inputs.now.areas ≡ length areas.old }
-    requires none { routers.old.items ≡ [] }
-    ensures settled { OnOk result (AreFirst (IsSettled inputs.now.root dirty.now.keys.items dirty.now.vertices.items) inputs.now.areas areas.old areas.new (length inputs.now.areas)) }
-    ensures exact { OnOk result ((router : ℕ) → Contains routers.new.items router ↔ HasOtherAmong (length inputs.now.areas) areas.old areas.new router) }
+    requires ready { AreReady inputs.now }
+    requires before { AreKeptBefore inputs.now.root dirty.now.keys.items dirty.now.vertices.items inputs.now.areas areas.old }
+    requires none { named.old.routers.items ≡ [] }
+    ensures followed { OnOk result (AreFirst (IsBroughtTo inputs.now.root dirty.now.keys.items dirty.now.vertices.items dirty.now.interfaces.items named.new.prefixes.items) inputs.now.areas areas.old areas.new (length inputs.now.areas)) }
+    ensures exact { OnOk result ((router : ℕ) → Contains named.new.routers.items router ↔ HasOtherAmong (length inputs.now.areas) areas.old areas.new router) }
 {
     let all = inputs.areas;
     for place in 0..all.len() {
-        areas[place].renew_routers(alloc, inputs.root, &all[place], dirty, routers)?;
+        areas[place].follow(alloc, inputs.root, &all[place], dirty, named)?;
     }
     Ok(())
 }

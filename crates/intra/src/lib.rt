@@ -9,6 +9,7 @@ mod choose;
 mod dirty;
 mod inputs;
 mod intra;
+mod named;
 mod offered;
 
 pub use dirty::Dirty;

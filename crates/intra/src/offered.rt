@@ -1,11 +1,12 @@
 //! What the LSA of a vertex offers: the prefixes of stub links, or that of the transit network.
-ghost use Rattle.std.specs.Prelude.{◌≡◌, ◌≢◌, ◌↔◌, Some, Contains, IfOk};
-ghost use Rattle.std.specs.List.{AllPairs, filter_map};
+ghost use Rattle.std.specs.Prelude.{◌≡◌, ◌≢◌, ◌↔◌, Some, Contains, IfOk, IfSome, IsTrue, OnOk, ℕ};
+ghost use Rattle.std.specs.List.{AllPairs, filter_map, cons_option};
 ghost use Rattle.ospf_types.specs.Lsa.{key_of};
-ghost use Rattle.lsa_codec.specs.Readers.{links_of, prefix_of};
+ghost use Rattle.lsa_codec.specs.Readers.{flags_of, links_of, prefix_of};
 ghost use Rattle.area_trees.specs.Areas.{vertex_of};
+ghost use Rattle.ospf_types.specs.declared.prefix.Prefix.{Prefix as PrefixValue};
 ghost use Rattle.intra.specs.declared.offered.Offer.{Offer as OfferValue};
-ghost use Rattle.intra.specs.Indexes.{IsOfferedBy};
+ghost use Rattle.intra.specs.Indexes.{IsOfferedBy, bits_of};
 ghost use Rattle.intra.specs.Stubs.{offer_of_link, stub_of_link, transit_offers};
 
 use lsa_codec::Checked;
@@ -75,6 +76,64 @@ impl Same for Offered {
     fn is_same(&self, other: &Offered) -> bool {
         self.flags == other.flags && self.offers == other.offers
     }
+}
+
+impl Offered {
+    /// Whether it is what the LSA of this vertex says, and in its order.
+    pub(crate) fn is_said_by(&self, vertex: Vertex, lsa: &Checked) -> bool
+        requires { vertex_of (key_of lsa.now) ≡ Some vertex }
+        ensures { IsTrue result → IsOfferedBy vertex lsa.now.body self.now }
+    {
+        match vertex {
+            Vertex::Router(_) => self.has_flags_of(lsa) && are_stubs(self.offers.as_slice(), lsa),
+            Vertex::Network(_) => false,
+        }
+    }
+
+    // Whether the bits are those of the LSA.
+    fn has_flags_of(&self, lsa: &Checked) -> bool
+        ensures { IsTrue result → self.now.flags ≡ bits_of (flags_of lsa.now.body) }
+    {
+        self.flags == lsa.flags().unwrap_or(0)
+    }
+}
+
+// Whether these are the stub networks of a router-LSA, link by link.
+fn are_stubs(offers: &[Offer], lsa: &Checked) -> bool
+    ensures { IsTrue result → offers.now ≡ filter_map stub_of_link (links_of lsa.now.body) }
+{
+    let mut left = offers;
+    for link in lsa.links() {
+        let Some(rest) = after_link(left, link) else {
+            return false;
+        };
+        left = rest;
+    }
+    left.is_empty()
+}
+
+// What is left of these after what the link offers; none where they begin otherwise.
+fn after_link<'a>(offers: &'a [Offer], link: Link) -> Option<&'a [Offer]>
+    ensures { IfSome result (λ rest. offers.now ≡ cons_option (offer_of_link link) rest.now) }
+{
+    let Some(offer) = stub_offer(link) else {
+        return Some(offers);
+    };
+    match offers {
+        [first, rest @ ..] if *first == offer => Some(rest),
+        _ => None,
+    }
+}
+
+/// Adds the prefixes of the offers.
+pub(crate) fn push_prefixes(offers: &[Offer], prefixes: &mut Vec<Prefix>) -> Result<(), Memory>
+    ensures kept { OnOk result ((p : PrefixValue) → Contains prefixes.old.items p → Contains prefixes.new.items p) }
+    ensures offered { OnOk result ((p : PrefixValue) (metric : ℕ) → Contains offers.now (record { prefix = p; metric = metric }) → Contains prefixes.new.items p) }
+{
+    for offer in offers {
+        prefixes.push(offer.prefix)?;
+    }
+    Ok(())
 }
 
 /// What the LSA that stands for the vertex offers.

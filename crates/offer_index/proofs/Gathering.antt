@@ -1,5 +1,5 @@
 -- What the keys of groups lead to, gathered key by key.
-use Rattle.std.proofs.Common.{◌≡◌, ◌≢◌, ℕ, ◌<◌, List, [], ◌∷◌, ◌++◌, map, length, get_or, sym, ap, subst, ◌∙◌, ◌⊎◌, inl, inr, arith}
+use Rattle.std.proofs.Common.{◌≡◌, ◌≢◌, ℕ, ◌<◌, List, [], ◌∷◌, ◌++◌, map, length, get_or, refl, sym, ap, subst, ◌∙◌, ◌⊎◌, inl, inr, arith}
 use Rattle.std.specs.Prelude.{◌↔◌, Contains, Some, None}
 use Rattle.std.specs.List.{AllPairs}
 use Rattle.std.specs.FinMap.{get, find, from_entries, get-from_entries}
@@ -13,10 +13,10 @@ use Rattle.std.proofs.lemmas.List.Elements.{Contains-append_left, Contains-appen
 use Rattle.ospf_types.proofs.Elements.{no_element, first_element, later_element, first_or_later, mapped_element, mapped_from}
 use Rattle.ospf_types.proofs.Orders.{key_total}
 use Rattle.offer_index.specs.Advertised.{AdvertisedValue}
-use Rattle.offer_index.specs.Indexes.{AdvertisedByKey, OfferIndexValue, IsOfGroup, IsInGroup, GroupLeadsTo, IsForwardedInto}
+use Rattle.offer_index.specs.Indexes.{AdvertisedByKey, OfferIndexValue, IsOfGroup, IsInGroup, GroupLeadsTo, IsForwardedTo, IsForwardedInto}
 use Rattle.offer_index.specs.declared.group.Group.{Group}
-use Rattle.offer_index.specs.declared.group.Group.TheVariants.{Forwarded}
 use Rattle.offer_index.specs.Members.{AreMembersOf}
+use Rattle.offer_index.specs.Noted.{HasKey}
 use Rattle.offer_index.proofs.Groups.{Member}
 
 -- ---- the members of one group
@@ -31,6 +31,10 @@ module _ (routes : AdvertisedByKey) (ms : List Member) (i : OfferIndexValue) (is
   listed_of group m at c =
       let of = (are m).0 c in
       (of.0, ap (λ (j : OfferIndexValue). get j.routes m.1) (sym is) ∙ of.1, subst (λ (g : Group). IsOfGroup g m.1 of.0) at of.2)
+
+  -- some key of a group
+  pub some_listed : (group : Group) → HasKey ms group ↔ ((k : Key) × IsInGroup i group k)
+  some_listed group = (λ has. (has.0, listed_of group (group, has.0) refl has.1), λ w. (w.0, listed_there group w.0 w.1))
 
 -- where there are no routes, none stands anywhere
 pub nothing_listed : (es : List (Key × AdvertisedValue)) (ms : List Member) → es ≡ [] → ms ≡ [] → AreMembersOf (from_entries es) ms
@@ -97,9 +101,6 @@ module _ (i : OfferIndexValue) where
   abbrev pub GivesDest : Key → Dest → Type 0
   GivesDest key dest = (a : AdvertisedValue) × (get i.routes key ≡ Some a) × (a.dest ≡ dest)
 
-  abbrev pub GivesAddress : Prefix → Key → ℕ → Type 0
-  GivesAddress network key address = IsInGroup i (Forwarded address) key × HasAddress network address
-
   -- all members of the group, and no others
   module _ (group : Group) (all : List Member) (there : (k : Key) → IsInGroup i group k → Contains all (group, k)) (only : (m : Member) → Contains all m → IsInGroup i group m.1) where
     abbrev pub keys_in : List Member → List Key
@@ -127,25 +128,36 @@ module _ (i : OfferIndexValue) where
         (w.0.1, w.2.0, w.2.1, subst (λ (a : AdvertisedValue). IsOfGroup group w.0.1 a) same in_group.2, w.2.2))
         (λ d to. ((group, to.0), there to.0 (to.1, to.2, to.3), (to.1, to.2, to.4)))
 
-  -- the forwarding addresses in a range in which each group of an address of the network is
-  pub addresses_given : (network : Prefix) (all : List Member) → ((k : Key) (a : ℕ) → HasAddress network a → IsInGroup i (Forwarded a) k → Contains all (Forwarded a, k)) → (before now : List ℕ) (left : List Member) → left ≡ []
-      → AreGathered (GivesAddress network) before now all left → (a : ℕ) → Contains now a ↔ (Contains before a ⊎ IsForwardedInto i network a)
-  addresses_given network all there before now left none are =
-      all_gathered (GivesAddress network) (IsForwardedInto i network) before now all left none are (λ a w. ((w.0.1, w.2.0), w.2.1)) (λ a to. ((Forwarded a, to.0.0), there to.0.0 a to.1 to.0.1, (to.0.1, to.1)))
+-- ---- the forwarding addresses of a network
 
-  -- the forwarding address of a route, which lies in the network
-  pub address_given : (network : Prefix) (key : Key) (a : AdvertisedValue) (address : ℕ) → Some a ≡ get i.routes key → address ≡ a.forwarding → (address ≡ 0 → ⊥) → HasAddress network address → (before now : List ℕ)
-      → ((n : ℕ) → Contains now n ↔ (Contains before n ⊎ (n ≡ address))) → (n : ℕ) → Contains now n ↔ (Contains before n ⊎ GivesAddress network key n)
-  address_given network key a address stands is some inside before now pushed n = (
-    λ c. elim ((pushed n).0 c) [
-      | inl was ↦ inl was
-      | inr same ↦ inr (subst (GivesAddress network key) (sym same) ((a, sym stands, (omega (arith, some), sym is)), inside))
-    ],
-    λ h. (pushed n).1 (elim h [
-      | inl was ↦ inl was
-      | inr gives ↦
-          let both : Some a ≡ Some gives.0.0 = stands ∙ gives.0.1 in
-          let same : a ≡ gives.0.0 = cc in
-          inr (sym gives.0.2.1 ∙ ap (λ (b : AdvertisedValue). b.forwarding) (sym same) ∙ sym is)
-    ]),
+module _ (network : Prefix) where
+  -- what was there is here, and of all addresses those in the network, but for what is left
+  abbrev pub AreInside : List ℕ → List ℕ → List ℕ → List ℕ → Type 0
+  AreInside before now all left = (a : ℕ) → (Contains now a ⊎ (Contains left a × HasAddress network a)) ↔ (Contains before a ⊎ (Contains all a × HasAddress network a))
+
+  pub one_inside : (before now next all left more : List ℕ) (n : ℕ) → left ≡ n ∷ more → AreInside before now all left → ((a : ℕ) → Contains next a ↔ (Contains now a ⊎ ((a ≡ n) × HasAddress network a))) → AreInside before next all more
+  one_inside before now next all left more n is are step a =
+      let given : Contains (n ∷ more) a → HasAddress network a → Contains before a ⊎ (Contains all a × HasAddress network a) =
+      λ c inside. (are a).0 (inr (subst (λ (ns : List ℕ). Contains ns a) (sym is) c, inside)) in (
+        λ h. elim h [
+          | inl here ↦ elim ((step a).0 here) [ inl was ↦ (are a).0 (inl was) | inr new ↦ given (subst (λ (m : ℕ). Contains (m ∷ more) a) new.0 (first_element a more)) new.1 ]
+          | inr later ↦ given (later_element n a more later.0) later.1
+        ],
+        λ h. elim ((are a).1 h) [
+          | inl was ↦ inl ((step a).1 (inl was))
+          | inr w ↦ elim (first_or_later n a more (subst (λ (ns : List ℕ). Contains ns a) is w.0)) [
+            | inl first ↦ inl ((step a).1 (inr (first, w.1)))
+            | inr later ↦ inr (later, w.1)
+          ]
+        ],
+      )
+
+  pub all_inside : (i : OfferIndexValue) (before now all left : List ℕ) → left ≡ [] → AreInside before now all left → ((a : ℕ) → Contains all a → IsForwardedTo i a) → ((a : ℕ) → IsForwardedInto i network a → Contains all a)
+      → (a : ℕ) → Contains now a ↔ (Contains before a ⊎ IsForwardedInto i network a)
+  all_inside i before now all left none are only there a = (
+    λ c. elim ((are a).0 (inl c)) [ inl was ↦ inl was | inr w ↦ inr (only a w.0, w.1) ],
+    λ h.
+        let back : (Contains before a ⊎ (Contains all a × HasAddress network a)) → Contains now a =
+        λ w. elim ((are a).1 w) [ inl c ↦ c | inr left_over ↦ absurd (no_element a (subst (λ (ns : List ℕ). Contains ns a) none left_over.0)) ] in
+        elim h [ inl was ↦ back (inl was) | inr to ↦ back (inr (there a to, to.1)) ],
   )

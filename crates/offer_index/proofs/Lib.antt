@@ -1,5 +1,8 @@
+pub mod DestOrder
 pub mod Groups
 pub mod MemberLists
+pub mod Sets
+pub mod NotedGroups
 pub mod Listing
 pub mod Effects
 pub mod LastAddresses

@@ -138,7 +138,7 @@ not_past Less p le rest = refl
 not_past Equal p le rest = rest
 not_past Greater p le rest = absurd cc
 
-both : (a b : Bool) → a ≡ true → b ≡ false → a && not b ≡ true
+pub both : (a b : Bool) → a ≡ true → b ≡ false → a && not b ≡ true
 both a b one other = λ i. one i && not (other i)
 
 -- the way back
@@ -153,7 +153,7 @@ from_not_past Less p not_past = refl
 from_not_past Equal p not_past = refl
 from_not_past Greater p not_past = sym not_past
 
-from_both : (a b : Bool) → a && not b ≡ true → (a ≡ true) × (b ≡ false)
+pub from_both : (a b : Bool) → a && not b ≡ true → (a ≡ true) × (b ≡ false)
 from_both true true both = absurd cc
 from_both true false both = (refl, refl)
 from_both false b both = absurd cc

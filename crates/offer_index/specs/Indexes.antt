@@ -41,6 +41,10 @@ IsInGroup i group k = (a : AdvertisedValue) × (get i.routes k ≡ Some a) × Is
 abbrev pub GroupLeadsTo : OfferIndexValue → Group → Dest → Type 0
 GroupLeadsTo i group dest = (k : Key) × (a : AdvertisedValue) × (get i.routes k ≡ Some a) × IsOfGroup group k a × (a.dest ≡ dest)
 
+-- something is advertised to the destination
+abbrev pub IsLedTo : OfferIndexValue → Dest → Type 0
+IsLedTo i dest = (k : Key) × IsInGroup i (To dest) k
+
 -- something is advertised with this forwarding address
 abbrev pub IsForwardedTo : OfferIndexValue → ℕ → Type 0
 IsForwardedTo i address = (k : Key) × IsInGroup i (Forwarded address) k

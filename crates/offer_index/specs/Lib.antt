@@ -2,3 +2,4 @@ pub mod Advertised
 pub mod Indexes
 pub mod Affected
 pub mod Members
+pub mod Noted

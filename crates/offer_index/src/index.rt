@@ -11,12 +11,12 @@ ghost use Rattle.lsdb.specs.Databases.{Database as Lsas};
 ghost use Rattle.offer_index.specs.Advertised.{AdvertisedValue, advertised_at};
 ghost use Rattle.offer_index.specs.declared.group.Group.TheVariants as group_value;
 ghost use Rattle.offer_index.specs.declared.group.Group.{Group as GroupValue};
-ghost use Rattle.offer_index.specs.Indexes.{IsIndexOf, LsasDifferAmong, IsInGroup, GroupLeadsTo, IsForwardedTo, IsForwardedInto, AreTouched};
+ghost use Rattle.offer_index.specs.Indexes.{IsIndexOf, LsasDifferAmong, IsInGroup, IsLedTo, GroupLeadsTo, IsForwardedTo, IsForwardedInto, AreTouched};
 ghost use Rattle.offer_index.specs.Members.{IsMemberBy};
 ghost use Rattle.result_map.specs.Results.{result_at};
 
 use crate::advertised::{Advertised, advertised_under};
-use crate::affected::{Affected, push_new};
+use crate::affected::Affected;
 use crate::group::Group;
 use crate::members::Members;
 use lsdb::Database;
@@ -70,7 +70,7 @@ impl OfferIndex {
     {
         OfferIndex {
             routes: ResultMap::new(alloc, hashing),
-            members: Members::new(alloc),
+            members: Members::new(alloc, hashing),
         }
     }
 
@@ -155,12 +155,27 @@ impl OfferIndex {
     pub fn push_addresses(&self, network: Prefix, addresses: &mut Vec<u32>) -> Result<(), Memory>
         ensures { OnOk result ((a : ℕ) → Contains addresses.new.items a ↔ (Contains addresses.old.items a ⊎ IsForwardedInto self.now network a)) }
     {
-        let first = Group::Forwarded(network.address());
-        let last = Group::Forwarded(last_address(network));
-        for (_, key) in self.members.among(&first, &last) {
-            self.push_address(network, *key, addresses)?;
+        let within = self
+            .members
+            .addresses(network.address(), last_address(network));
+        for address in within {
+            push_inside(network, *address, addresses)?;
         }
         Ok(())
+    }
+
+    /// Whether something is advertised with a forwarding address.
+    pub fn has_addresses(&self) -> bool
+        ensures { IsTrue result ↔ ((a : ℕ) × IsForwardedTo self.now a) }
+    {
+        self.members.has_addresses()
+    }
+
+    /// Whether something is advertised to the destination.
+    pub fn leads_to(&self, dest: Dest) -> bool
+        ensures { IsTrue result ↔ IsLedTo self.now dest }
+    {
+        self.members.has_dest(dest)
     }
 
     /// Whether something is advertised with this forwarding address.
@@ -279,26 +294,6 @@ impl OfferIndex {
         dests.push(route.dest())?;
         Ok(())
     }
-
-    // Adds the forwarding address of what is advertised under the key, if it lies in the network.
-    fn push_address(
-        &self,
-        network: Prefix,
-        key: Key,
-        addresses: &mut Vec<u32>,
-    ) -> Result<(), Memory>
-        ensures { OnOk result ((a : ℕ) → Contains addresses.new.items a ↔ (Contains addresses.old.items a ⊎ (IsInGroup self.now (group_value.Forwarded a) key × HasAddress network a))) }
-    {
-        let Some(route) = self.route(key) else {
-            return Ok(());
-        };
-        let address = route.forwarding();
-        if address == 0 || !network.contains(address) {
-            return Ok(());
-        }
-        push_new(addresses, address)?;
-        Ok(())
-    }
 }
 
 // The route comes to stand under the key, and the key in the groups that it is of, beside those where it was. Where memory
@@ -318,6 +313,16 @@ fn put_in(
 {
     members.list(key, fresh)?;
     routes.renew(key, fresh.copied())?;
+    Ok(())
+}
+
+// Adds the address, if it lies in the network.
+fn push_inside(network: Prefix, address: u32, addresses: &mut Vec<u32>) -> Result<(), Memory>
+    ensures { OnOk result ((a : ℕ) → Contains addresses.new.items a ↔ (Contains addresses.old.items a ⊎ ((a ≡ address) × HasAddress network a))) }
+{
+    if network.contains(address) {
+        addresses.push(address)?;
+    }
     Ok(())
 }
 

@@ -7,6 +7,7 @@ mod affected;
 mod group;
 mod index;
 mod members;
+mod noted;
 
 pub use advertised::Advertised;
 pub use affected::Affected;

@@ -1,17 +1,21 @@
 //! The keys of each group.
-ghost use Rattle.std.specs.Prelude.{◌≡◌, ◌≢◌, ◌↔◌, ◌⊎◌, [], IsTrue, OnOk, Contains, option_copied};
-ghost use Rattle.std.specs.List.{AllPairs};
+ghost use Rattle.std.specs.Prelude.{◌≡◌, ◌≢◌, ◌↔◌, ◌⊎◌, ◌≤◌, ℕ, [], IsTrue, OnOk, Contains, option_copied};
+ghost use Rattle.std.specs.List.{All, AllPairs};
 ghost use Rattle.ospf_types.specs.declared.key.Key.{Key as KeyValue};
 ghost use Rattle.offer_index.specs.declared.group.Group.{Group as GroupValue};
-ghost use Rattle.offer_index.specs.Members.{IsSmall, IsNotAfter, IsOf, IsMemberBy};
+ghost use Rattle.offer_index.specs.declared.group.Group.TheVariants as group_value;
+ghost use Rattle.offer_index.specs.Members.{HasSmallKey, IsSmall, IsNotAfter, IsOf, IsMemberBy};
+ghost use Rattle.offer_index.specs.Noted.{AreNoted, AreNotedBut, HasKey};
 
 use crate::advertised::Advertised;
 use crate::group::Group;
-use ospf_types::key::Key;
+use crate::noted::Noted;
+use ospf_types::key::{Dest, Key};
 use ospf_types::memory::Memory;
 use std::alloc::Global;
 use std::collections::BTreeSet;
 use std::collections::btree_set::Range;
+use std::hash::RandomState;
 use std::marker::Model;
 
 // The first key, and the last.
@@ -33,12 +37,16 @@ pub(crate) type Member = (Group, Key);
 /// The keys of each group, in the order of the groups.
 pub(crate) struct Members {
     members: BTreeSet<Member>,
+    noted: Noted,
 }
 
 // proof: one call drops it, in place of a drop of each part wherever one is held.
 impl Drop for Members {
     fn drop(self) {
-        let Members { members: _members } = self;
+        let Members {
+            members: _members,
+            noted: _noted,
+        } = self;
     }
 }
 
@@ -57,15 +65,19 @@ impl Model for Members {
 
     ghost view = { λ m. m.members.keys };
 
-    ghost invariant = { λ m. All HasSmallKey m.members.keys };
+    ghost use Rattle.offer_index.specs.Noted.{AreNoted};
+
+    // A group is noted just where it has a key, so that no group is noted for ever.
+    ghost invariant = { λ m. All HasSmallKey m.members.keys × AreNoted m.members.keys m.noted };
 }
 
 impl Members {
-    pub(crate) fn new(alloc: Global) -> Members
+    pub(crate) fn new(alloc: Global, hashing: RandomState) -> Members
         ensures { result ≡ [] }
     {
         Members {
             members: BTreeSet::new(alloc),
+            noted: Noted::new(alloc, hashing),
         }
     }
 
@@ -107,6 +119,29 @@ impl Members {
         ensures { self.new ≡ [] }
     {
         self.members.clear();
+        self.noted.clear();
+    }
+
+    /// Whether the group of the destination has a key.
+    pub(crate) fn has_dest(&self, dest: Dest) -> bool
+        ensures { IsTrue result ↔ HasKey self.now (group_value.To dest) }
+    {
+        self.noted.has_dest(dest)
+    }
+
+    /// Whether the group of a forwarding address has a key.
+    pub(crate) fn has_addresses(&self) -> bool
+        ensures { IsTrue result ↔ ((a : ℕ) × HasKey self.now (group_value.Forwarded a)) }
+    {
+        self.noted.has_addresses()
+    }
+
+    /// The forwarding addresses from the first to the last whose groups have a key.
+    pub(crate) fn addresses(&self, first: u32, last: u32) -> Range<'_, u32>
+        requires { first ≤ last }
+        ensures { (a : ℕ) → Contains result a ↔ (HasKey self.now (group_value.Forwarded a) × (first ≤ a) × (a ≤ last)) }
+    {
+        self.noted.addresses(first, last)
     }
 
     /// The keys of the groups from the first to the last.
@@ -116,7 +151,7 @@ impl Members {
         ensures only { (m : GroupValue × KeyValue) → Contains result m → Contains self.now m × IsNotAfter first.now m.0 × IsNotAfter m.0 last.now }
         ensures each_once { AllPairs (λ m n. m ≢ n) result }
     {
-        self.members.range((*first, FIRST)..=(*last, LAST))
+        between(&self.members, first, last)
     }
 }
 
@@ -127,8 +162,14 @@ impl Members {
         ensures only { (m : GroupValue × KeyValue) → Contains self.new m → Contains self.old m ⊎ (m ≡ (group, key)) }
         ensures added { OnOk result (Contains self.new (group, key)) }
     {
-        self.members.insert((group, small(key)))?;
-        Ok(())
+        self.noted.note(&group)?;
+        match self.members.insert((group, small(key))) {
+            Ok(_) => Ok(()),
+            Err(_) => {
+                forget_without_keys(&self.members, &mut self.noted, &group);
+                Err(Memory)
+            }
+        }
     }
 
     // Takes the key out of the group, unless the route is of it.
@@ -140,6 +181,30 @@ impl Members {
             return;
         }
         self.members.remove(&(group, key));
+        forget_without_keys(&self.members, &mut self.noted, &group);
+    }
+}
+
+// The keys of the groups from the first to the last.
+fn between<'a>(members: &'a BTreeSet<Member>, first: &Group, last: &Group) -> Range<'a, Member>
+    requires small { All HasSmallKey members.now.keys }
+    requires in_order { IsNotAfter first.now last.now }
+    ensures all { (m : GroupValue × KeyValue) → Contains members.now.keys m → IsNotAfter first.now m.0 → IsNotAfter m.0 last.now → Contains result m }
+    ensures only { (m : GroupValue × KeyValue) → Contains result m → Contains members.now.keys m × IsNotAfter first.now m.0 × IsNotAfter m.0 last.now }
+    ensures each_once { AllPairs (λ m n. m ≢ n) result }
+{
+    members.range((*first, FIRST)..=(*last, LAST))
+}
+
+// Forgets the group if it has no key.
+fn forget_without_keys(members: &BTreeSet<Member>, noted: &mut Noted, group: &Group)
+    requires small { All HasSmallKey members.now.keys }
+    requires before { AreNotedBut group.now members.now.keys noted.old }
+    ensures { AreNoted members.now.keys noted.new }
+{
+    match between(members, group, group).next() {
+        Some(_) => {}
+        None => noted.forget(group),
     }
 }
 

@@ -116,8 +116,8 @@ pub fn keep(
     }))
 }
 
-// Whether bit B or bit E is set.
-fn has_bit(flags: u8) -> bool
+/// Whether bit B or bit E is set.
+pub fn has_bit(flags: u8) -> bool
     ensures { result ≡ has_bit flags }
 {
     flags & BORDER > 0 || flags & BOUNDARY > 0

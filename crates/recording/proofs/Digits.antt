@@ -1,17 +1,20 @@
 -- Decimal digits and the numbers that they write, and the hexadecimal digits of bytes.
-use Rattle.std.proofs.Common.{ℕ, ◌≡◌, ◌+◌, ◌-◌, ◌*◌, ◌/◌, ◌%◌, ◌^◌, ◌<◌, ◌≤◌, ◌==◌, Bool, true, cond, ltb, List, [], ◌∷◌, All, decimal, length, get_or, take, Option, Some, None, MatchOption, inl, inr, arith, refl, ap, sym, ◌∙◌}
+use Rattle.std.proofs.Common.{ℕ, ◌≡◌, ◌≢◌, ◌+◌, ◌-◌, ◌*◌, ◌/◌, ◌%◌, ◌^◌, ◌<◌, ◌≤◌, ◌==◌, ◌&&◌, ◌↔◌, IsTrue, Bool, true, false, cond, ltb, List, [], ◌∷◌, All, decimal, length, get_or, get_or-take, take, Option, Some, None, MatchOption, inl, inr, arith, refl, ap, sym, subst, ◌∙◌}
 use Rattle.std.proofs.lemmas.Bool.{agree_below_at, cases_eq, cases_lt, eqb-true}
 use Rattle.std.proofs.lemmas.Bool.Decides.{nat_tests}
 use Rattle.std.proofs.lemmas.Int.Digits.{digits_value_more}
 use Rattle.std.proofs.lemmas.Fmt.{decimal_is_IsNumeral, decimal_nonempty, decimal_digit, first_decimal, decimal-digits_value}
 use Rattle.std.proofs.lemmas.Str.Parse.{digits_value-take-le, numerals_by_value, tells_digits}
-use Rattle.std.proofs.lemmas.List.Elements.{All-nil, All-cons, All-head, All-tail}
+use Rattle.std.proofs.lemmas.List.{length-take, take-take}
+use Rattle.std.proofs.lemmas.List.Elements.{All-nil, All-cons, All-head, All-tail, All-more, All-take}
+use Rattle.std.proofs.lemmas.List.Splits.{join_with_byte-slice_split, slice_split_none}
 use Rattle.hex.proofs.HexLemmas.{length-encode_with}
 use Rattle.std.specs.Char.{digit_value, digit_char}
+use Rattle.std.specs.List.{join_with_byte}
 use Rattle.std.specs.Str.Parse.{AllDigits, digits_value}
 use Rattle.hex.specs.Hex.{encode_lower, encode_with, lower_digits}
-use Rattle.recording.specs.Forms.{IsSerial}
-use Rattle.recording.specs.Reading.{AreDigits, IsLowerDigit, IsRead, IsUnpadded}
+use Rattle.recording.specs.Forms.{AreBytes, IsSerial}
+use Rattle.recording.specs.Reading.{cut, AreDigits, IsLowerDigit, IsRead, IsUnpadded}
 
 -- what the first digits write, and one more of them, is no more than what all do
 pub digits_large : (word : List ℕ) (i value : ℕ) → i < length word → value ≡ digits_value 10 (take i word) → value * 10 + digit_value (get_or word i 0) ≤ digits_value 10 word
@@ -138,3 +141,28 @@ digits_lower word h = rw h.2 (encode_digits h.0 h.1)
 
 pub digits_even : (word : List ℕ) → AreDigits word → length word % 2 ≡ 0
 digits_even word h = rw h.2 (encode_even h.0)
+
+-- ---- a test of each
+
+fewer : (P : ℕ → Type 0) (xs : List ℕ) (i : ℕ) → All P (take (i + 1) xs) → All P (take i xs)
+fewer P xs i all = rw (← take-take i (i + 1) xs (omega arith)) (All-take P i (take (i + 1) xs) all)
+
+last : (P : ℕ → Type 0) (xs : List ℕ) (i d : ℕ) → i < length xs → All P (take (i + 1) xs) → P (get_or xs i d)
+last P xs i d lt all = subst P (get_or-take (i + 1) xs i d (omega arith)) (all i d (omega (arith, lt, length-take (i + 1) xs)))
+
+-- all of the first ones and one more
+pub one_tested : (P : ℕ → Type 0) (xs : List ℕ) (i d : ℕ) (before now : Bool) → i < length xs → IsTrue before ↔ All P (take i xs) → IsTrue now ↔ P (get_or xs i d)
+    → IsTrue (before && now) ↔ All P (take (i + 1) xs)
+one_tested P xs i d false now lt so_far this = (λ e. cc e, λ all. so_far.1 (fewer P xs i all))
+one_tested P xs i d true now lt so_far this = (λ e. All-more P xs i d lt (so_far.0 refl) (this.0 e), λ all. this.1 (last P xs i d lt all))
+
+-- ---- digits with no space between
+
+not_space : (b : ℕ) → IsLowerDigit b → (b == 32) ≡ false
+not_space b h = grind (arith, nat_tests)
+
+pub digits_alone : (text : List ℕ) → AreDigits text → cut text ≡ text ∷ []
+digits_alone text h = slice_split_none (λ b. b == 32) text (λ i d below. not_space (get_or text i d) (digits_lower text h i d below))
+
+pub not_digits : (text : List ℕ) → (AreDigits text → ⊥) → (bytes : List ℕ) → AreBytes bytes → cut text ≢ encode_lower bytes ∷ []
+not_digits text none bytes small same = none (bytes, small, sym (join_with_byte-slice_split 32 text) ∙ ap (join_with_byte 32) same)

@@ -2,6 +2,7 @@ pub mod Ascending
 pub mod Pieces
 pub mod Cutting
 pub mod Digits
+pub mod Decoded
 pub mod Fields
 pub mod Forms
 pub mod Saying

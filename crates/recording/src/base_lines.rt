@@ -29,6 +29,8 @@ pub(crate) struct BaseLines {
     pub(crate) base: Base,
     /// How many LSAs have the scope of the last one.
     pub(crate) row: usize,
+    /// For the bytes of an LSA while it is read.
+    pub(crate) room: Vec<u8>,
 }
 
 impl BaseLines {
@@ -85,7 +87,7 @@ impl BaseLines {
         let Some(row) = self.row_under(scope) else {
             return Err(Fault::Order);
         };
-        let lsa = read_lsa(alloc, digits)?;
+        let lsa = read_lsa(alloc, digits, &mut self.room)?;
         let key = lsa.key();
         if !is_past_place(self.base.lsas.as_slice(), scope, key) {
             return Err(Fault::Order);

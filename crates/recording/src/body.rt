@@ -1,5 +1,5 @@
 //! A line of what happened.
-ghost use Rattle.std.specs.Prelude.{◌≡◌, ◌++◌, [], ◌∷◌, OnOk, IfOk, IfErr};
+ghost use Rattle.std.specs.Prelude.{◌≡◌, ◌≤◌, ◌++◌, [], ◌∷◌, length, IsTrue, OnOk, IfOk, IfErr};
 ghost use Rattle.hex.specs.Hex.{decode_of};
 ghost use Rattle.lsa_codec.specs.Spelling.{spelling};
 ghost use Rattle.recording.specs.Progress.{IsLineOf, IsFaultBehind, IsFaultOfBytes};
@@ -7,26 +7,27 @@ ghost use Rattle.recording.specs.Reading.{bytes_of};
 ghost use Rattle.recording.specs.Recordings.{IsWhole};
 ghost use Rattle.recording.specs.declared.line.Line.{Line};
 
+use crate::decoding::decode;
 use crate::fault::Fault;
 use crate::form::{LineForm, read_form};
 use crate::line::Line;
 use crate::version::Version;
 use event_state::Event;
-use hex::FromHexError;
 use lsa_codec::{Checked, WireFault};
 use std::alloc::Global;
 
-/// Adds what the line says.
+/// Adds what the line says. The room is for the bytes of its LSA.
 pub(crate) fn add_line(
     alloc: Global,
     version: Version,
     line: &[u8],
+    room: &mut Vec<u8>,
     lines: &mut Vec<Line>,
 ) -> Result<(), Fault>
     ensures added { OnOk result ((l : Line) × IsLineOf version line.now l × (lines.new.items ≡ lines.old.items ++ l ∷ [])) }
     ensures fault { IfErr result (IsFaultBehind version line.now) }
 {
-    match read_line(alloc, version, line) {
+    match read_line(alloc, version, line, room) {
         Ok(read) => match lines.push(read) {
             Ok(()) => Ok(()),
             Err(_) => Err(Fault::Memory),
@@ -35,7 +36,12 @@ pub(crate) fn add_line(
     }
 }
 
-fn read_line(alloc: Global, version: Version, line: &[u8]) -> Result<Line, Fault>
+fn read_line(
+    alloc: Global,
+    version: Version,
+    line: &[u8],
+    room: &mut Vec<u8>,
+) -> Result<Line, Fault>
     ensures read { IfOk result (IsLineOf version line.now) }
     ensures fault { IfErr result (IsFaultBehind version line.now) }
 {
@@ -64,7 +70,7 @@ fn read_line(alloc: Global, version: Version, line: &[u8]) -> Result<Line, Fault
             peer,
             up,
         })),
-        LineForm::Install { scope, digits } => match read_lsa(alloc, digits) {
+        LineForm::Install { scope, digits } => match read_lsa(alloc, digits, room) {
             Ok(lsa) => Ok(Line::Event(Event::Install { scope, lsa })),
             Err(fault) => Err(fault),
         },
@@ -82,21 +88,29 @@ fn read_line(alloc: Global, version: Version, line: &[u8]) -> Result<Line, Fault
     }
 }
 
-/// The LSA whose bytes the digits write.
-pub(crate) fn read_lsa(alloc: Global, digits: &[u8]) -> Result<Checked, Fault>
+/// The LSA whose bytes the digits write. The room is for the bytes.
+pub(crate) fn read_lsa(alloc: Global, digits: &[u8], room: &mut Vec<u8>) -> Result<Checked, Fault>
     requires { decode_of digits.now ≡ Ok (bytes_of digits.now) }
     ensures spelled { IfOk result (λ lsa. spelling lsa ≡ bytes_of digits.now) }
     ensures whole { IfOk result IsWhole }
     ensures fault { IfErr result (IsFaultOfBytes (bytes_of digits.now)) }
 {
-    let bytes = match hex::decode(alloc, digits) {
-        Ok(bytes) => bytes,
-        Err(FromHexError::OutOfMemory) => return Err(Fault::Memory),
-        Err(_) => unreachable!(),
-    };
-    match lsa_codec::read(alloc, bytes.as_slice()) {
+    let count = digits.len() / 2;
+    if !has_room(room, count) {
+        return Err(Fault::Memory);
+    }
+    let bytes = &mut room[..count];
+    decode(digits, bytes);
+    match lsa_codec::read(alloc, bytes) {
         Ok(lsa) => Ok(lsa),
         Err(WireFault::Memory) => Err(Fault::Memory),
         Err(fault) => Err(Fault::Wire(fault)),
     }
+}
+
+// Makes room for so many bytes. It stays for the LSAs that follow.
+fn has_room(room: &mut Vec<u8>, count: usize) -> bool
+    ensures { IsTrue result → count ≤ length room.new.items }
+{
+    count <= room.len() || room.resize(count, 0).is_ok()
 }

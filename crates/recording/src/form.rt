@@ -343,8 +343,7 @@ fn lsa_fields<'a>(words: &mut Words<'a>) -> Option<(Scope, &'a [u8])>
     ensures digits { IfSome result (λ p. decode_of p.1.now ≡ Ok (bytes_of p.1.now)) }
 {
     let scope = words.scope()?;
-    let digits = words.digits()?;
-    words.end()?;
+    let digits = words.last_digits()?;
     Some((scope, digits))
 }
 

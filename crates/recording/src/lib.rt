@@ -4,6 +4,7 @@
 
 mod base_lines;
 mod body;
+mod decoding;
 mod fault;
 mod form;
 mod header;

@@ -241,7 +241,11 @@ fn read_base(
     ensures text { IfOk result (λ found. found.1.text.now ≡ lines.entry.text.now) }
     ensures fault { IfErr result (IsFaultOf lines.entry.text.now) }
 {
-    let mut held = BaseLines { base, row: 0 };
+    let mut held = BaseLines {
+        base,
+        row: 0,
+        room: Vec::new(alloc),
+    };
     let mut left = lines;
     while let Some(after) = read_base_line(alloc, version, left, &mut held)? {
         left = after;
@@ -291,10 +295,11 @@ fn read_lines(
     ensures text { IfOk result (IsText lines.entry.text.now) }
     ensures fault { IfErr result (IsFaultOf lines.entry.text.now) }
 {
+    let mut room = Vec::new(alloc);
     let mut found = Vec::new(alloc);
     let mut left = lines;
     while let Some((line, after)) = left.next() {
-        if let Err(fault) = add_line(alloc, version, line, &mut found) {
+        if let Err(fault) = add_line(alloc, version, line, &mut room, &mut found) {
             return Err(left.fault(fault));
         }
         left = after;

@@ -99,12 +99,13 @@ impl<'a> Words<'a> {
         Some((id as u8, interface))
     }
 
-    /// Two hexadecimal digits for each byte.
-    pub fn digits(&mut self) -> Option<&'a [u8]>
-        ensures { MatchOption result ((bytes : List ℕ) (rest : List (List ℕ)) → AreBytes bytes → self.old ≢ encode_lower bytes ∷ rest) (λ word. AreDigits word.now × (self.old ≡ word.now ∷ self.new)) }
+    /// The last word, two hexadecimal digits for each byte.
+    pub fn last_digits(&self) -> Option<&'a [u8]>
+        ensures { MatchOption result ((bytes : List ℕ) → AreBytes bytes → self.now ≢ encode_lower bytes ∷ []) (λ word. AreDigits word.now × (self.now ≡ word.now ∷ [])) }
     {
-        let word = self.next()?;
-        if are_digits(word) { Some(word) } else { None }
+        // Where a space is left, it is no digit.
+        let left = self.left?;
+        if are_digits(left) { Some(left) } else { None }
     }
 
     /// An address, a Router ID or an Area ID.
@@ -275,11 +276,21 @@ fn are_digits(word: &[u8]) -> bool
     word.len() % 2 == 0 && all_digits(word)
 }
 
+// It goes on behind a byte that is no digit, so that many are tested at once.
 fn all_digits(word: &[u8]) -> bool
     ensures { IsTrue result ↔ All IsLowerDigit word.now }
 {
-    word.iter()
-        .all(|digit| matches!(*digit, b'0'..=b'9' | b'a'..=b'f'))
+    let mut are_all = true;
+    for digit in word {
+        are_all &= is_lower_digit(*digit);
+    }
+    are_all
+}
+
+fn is_lower_digit(digit: u8) -> bool
+    ensures { IsTrue result ↔ IsLowerDigit digit }
+{
+    digit.is_ascii_digit() | matches!(digit, b'a'..=b'f')
 }
 
 /// Whether the word is the text.

@@ -1,13 +1,13 @@
 -- The area whose summaries are examined, as it is found (RFC 2328, 16.2).
---   all_left, one_left, one_up, none_up: whether one of the interfaces is up in an area, one by one
+--   all_left, one_left, one_up, last_left, left_up, last_up, none_up: whether one of the interfaces is up in an area, one by one
 --   none_found, none_more, first_found: the areas that have an interface that is up, one by one
 --   one_examined, not_examined: what is examined where there is one at most
 --   backbone_examined, no_backbone: and where there is another
-use Rattle.std.proofs.Common.{◌≡◌, ◌≢◌, ℕ, false, ◌+◌, ◌<◌, min, List, [], ◌∷◌, length, get_or, take, drop, Option, Some, None, refl, sym, ap, subst, ◌∙◌, inl, inr, ⊎_elim, arith}
+use Rattle.std.proofs.Common.{◌≡◌, ◌≢◌, ℕ, false, ◌+◌, ◌<◌, min, List, [], ◌∷◌, ◌++◌, length, get_or, take, drop, Option, Some, None, refl, sym, ap, subst, ◌∙◌, inl, inr, ⊎_elim, arith}
 use Rattle.std.specs.Prelude.{IsTrue, is_some, IsSome, IfSome, IfNone}
 use Rattle.std.specs.List.{Contains}
 use Rattle.std.proofs.lemmas.List.{get_or-take, get_or_default, length-take, take-append-drop}
-use Rattle.std.proofs.lemmas.List.Elements.{Contains-append_left}
+use Rattle.std.proofs.lemmas.List.Elements.{Contains-append_left, Contains-push}
 use Rattle.ospf_types.specs.declared.config.AreaConfig.{AreaConfig}
 use Rattle.ospf_types.specs.declared.config.Interface.{Interface}
 use Rattle.ospf_types.specs.Inputs.{Area, IsActive, IsBorder}
@@ -15,14 +15,10 @@ use Rattle.ospf_types.specs.Ranges.{IsExamined}
 use Rattle.ospf_types.proofs.Elements.{no_element, first_element, later_element, first_or_later, mapped_element, mapped_from}
 use Rattle.spf.proofs.OfSome.{contains_at, contains_more}
 use Rattle.event_state.specs.States.{State, AreApart, inputs_of}
-use Rattle.route_layers.specs.Layers.{IsUpIn}
+use Rattle.route_layers.specs.Layers.{IsUpAmong, IsUpIn}
 use Rattle.state_trees.specs.Works.{area_of}
 
 -- ---- an interface that is up
-
--- one of these is up in the area
-abbrev pub IsUpAmong : List (ℕ × Interface) → ℕ → Type 0
-IsUpAmong list area = (id : ℕ) × (i : Interface) × Contains list (id, i) × (i.area ≡ area) × IsTrue i.up
 
 -- those that are left are some of all, and if one of all is up in the area, one that is left is
 pub record IsLeft (all left : List (ℕ × Interface)) (area : ℕ) : Type 0 where
@@ -47,6 +43,18 @@ module _ (all left more : List (ℕ × Interface)) (e : ℕ × Interface) (area 
 
   pub one_up : e.1.area ≡ area → IsTrue e.1.up → IsUpAmong all area
   one_up here up = (e.0, e.1, before.among e (subst (λ (list : List (ℕ × Interface)). Contains list e) (sym is) (first_element e more)), here, up)
+
+-- those that are left after the last was taken, which is not up in the area
+pub last_left : (all left more : List (ℕ × Interface)) (area : ℕ) → IsLeft all left area → ((e : ℕ × Interface) → Contains more e → Contains left e) → (IsUpAmong left area → IsUpAmong more area) → IsLeft all more area
+last_left all left more area before among up = record { among = λ e c. before.among e (among e c); up = λ w. up (before.up w) }
+
+-- one of those that are left is up
+pub left_up : (all left : List (ℕ × Interface)) (area : ℕ) → IsLeft all left area → IsUpAmong left area → IsUpAmong all area
+left_up all left area before w = (w.0, w.1, before.among (w.0, w.1) w.2, w.3, w.4)
+
+-- the last of them is up
+pub last_up : (more : List (ℕ × Interface)) (e : ℕ × Interface) (area : ℕ) → e.1.area ≡ area → IsTrue e.1.up → IsUpAmong (more ++ e ∷ []) area
+last_up more e area here up = (e.0, e.1, Contains-push more e, here, up)
 
 pub none_up : (all left : List (ℕ × Interface)) (area : ℕ) → left ≡ [] → IsLeft all left area → IsUpAmong all area → ⊥
 none_up all left area none before w = let v = before.up w in no_element (v.0, v.1) (subst (λ (list : List (ℕ × Interface)). Contains list (v.0, v.1)) none v.2)

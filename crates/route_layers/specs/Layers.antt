@@ -15,9 +15,13 @@ use Rattle.external.specs.Inputs.{ExternalInputsValue}
 use Rattle.event_state.specs.States.{State, database_of, inputs_of}
 use Rattle.state_trees.specs.Trees.{lsas_in}
 
+-- one of these interfaces is up in the area
+abbrev pub IsUpAmong : List (ℕ × Interface) → ℕ → Type 0
+IsUpAmong list area = (id : ℕ) × (i : Interface) × Contains list (id, i) × (i.area ≡ area) × IsTrue i.up
+
 -- the area has an interface that is up
 abbrev pub IsUpIn : State → ℕ → Type 0
-IsUpIn s area = (id : ℕ) × (i : Interface) × Contains (entries s.interfaces) (id, i) × (i.area ≡ area) × IsTrue i.up
+IsUpIn s area = IsUpAmong (entries s.interfaces) area
 
 -- the area whose summaries are examined, with its LSAs; none where no area is active
 abbrev pub IsExaminedOf : State → Option ExaminedValue → Type 0

@@ -1,7 +1,8 @@
 //! The layers above intra-area routes: inter-area routes, and external ones (RFC 2328, 16.2 and 16.4).
-ghost use Rattle.std.specs.Prelude.{◌≡◌, ◌≢◌, ◌↔◌, Option, Contains, IsTrue, IfOk, IfSome, IfNone, OnOk, map as list_map};
+ghost use Rattle.std.specs.Prelude.{ℕ, ◌≡◌, ◌≢◌, ◌↔◌, ◌≤◌, false, length, Option, Contains, IsTrue, IfOk, IfSome, IfNone, OnOk, map as list_map};
 ghost use Rattle.std.specs.List.Sorted.{IsStrictlySortedBy};
 ghost use Rattle.ospf_types.specs.declared.config.AreaConfig.{AreaConfig};
+ghost use Rattle.ospf_types.specs.declared.config.Interface.{Interface as InterfaceValue};
 ghost use Rattle.ospf_types.specs.declared.key.Dest.{Dest as DestValue};
 ghost use Rattle.ospf_types.specs.declared.key.Scope.TheVariants as scope_value;
 ghost use Rattle.ospf_types.specs.Inputs.{Area};
@@ -20,7 +21,7 @@ ghost use Rattle.external.specs.Inputs.{ExternalInputsValue};
 ghost use Rattle.external.specs.Externals.{IsExternalOf};
 ghost use Rattle.external.specs.Right.{IsRightFor as IsExternalRight};
 ghost use Rattle.route_layers.specs.Layers.{AreActive};
-ghost use Rattle.route_layers.specs.Layers.{IsExaminedOf, IsUpIn, inter_inputs, external_inputs};
+ghost use Rattle.route_layers.specs.Layers.{IsExaminedOf, IsUpAmong, IsUpIn, inter_inputs, external_inputs};
 ghost use Rattle.state_trees.specs.Trees.{lsas_in};
 
 use event_state::State;
@@ -28,10 +29,12 @@ use external::{External, ExternalInputs};
 use inter::{Examined, Inter, InterInputs};
 use intra::{Dirty, Intra};
 use lsdb::Database;
+use ospf_types::config::Interface;
 use ospf_types::key::{Dest, Scope};
 use ospf_types::memory::Memory;
 use state_trees::is_up_in;
 use std::alloc::Global;
+use std::collections::btree_map::Iter;
 use std::hash::RandomState;
 use summaries::ActiveRanges;
 
@@ -220,16 +223,34 @@ fn examined_area(state: &State) -> Option<u32>
     active
 }
 
-// Whether the area has an interface that is up.
+// Whether the area has an interface that is up. The interfaces of an area mostly have ids side by side, so they are looked
+// through from both ends.
 fn is_active(state: &State, area: u32) -> bool
     ensures { IsTrue result ↔ IsUpIn state.now area }
 {
-    for (_, interface) in state.interfaces() {
+    let mut left = state.interfaces();
+    while let Some((_, interface)) = left.next() {
         if is_up_in(interface, area) {
+            return true;
+        }
+        if is_last_up_in(&mut left, area) {
             return true;
         }
     }
     false
+}
+
+// Takes the last of the interfaces that are left. The answer tells whether it is one of the area's, and up.
+fn is_last_up_in(left: &mut Iter<'_, u8, Interface>, area: u32) -> bool
+    ensures up { IsTrue result → IsUpAmong left.old area }
+    ensures among { (e : ℕ × InterfaceValue) → Contains left.new e → Contains left.old e }
+    ensures rest { result ≡ false → IsUpAmong left.old area → IsUpAmong left.new area }
+    ensures fewer { length left.new ≤ length left.old }
+{
+    match left.next_back() {
+        Some((_, interface)) => is_up_in(interface, area),
+        None => false,
+    }
 }
 
 // The backbone, where it is configured.

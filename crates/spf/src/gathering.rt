@@ -3,12 +3,13 @@ ghost use Rattle.std.specs.Prelude.{◌≡◌, ◌↔◌, ℕ, IfSome, IfNone, I
 ghost use Rattle.std.specs.FinMap as map;
 ghost use Rattle.ospf_types.specs.Distances.{FirstOnly};
 ghost use Rattle.ospf_types.specs.declared.hop.NextHop.{NextHop as Hop};
-ghost use Rattle.vertex_graph.specs.Graphs.{LinksOf};
+ghost use Rattle.vertex_graph.specs.Graphs.{LinksOf, AreLinksTo};
 ghost use Rattle.spf.specs.HandedOn.{IsOfSome, IsLeastLink, IsGivenOver, IsHandedOn, IsUnion};
 ghost use Rattle.spf.specs.Parts.{hops_of};
 ghost use Rattle.spf.specs.TreeValues.{listed_hops};
 ghost use Rattle.spf.specs.Trees.{IsGiven, HandsOn, first_hops};
 
+use crate::places::is_at_root;
 use hop_sets::HopSet;
 use ospf_types::entry::Vertex;
 use ospf_types::hop::NextHop;
@@ -18,21 +19,23 @@ use std::alloc::Global;
 use tree_parts::{Distances, HopColumns};
 use vertex_graph::{Graph, Link};
 
-/// The next hops that the least links into a vertex, which is this far, give it.
+/// The next hops that the least links among those into a vertex, which is this far, give it.
 pub(crate) fn gather(
     alloc: Global,
     graph: &Graph,
     distances: &Distances,
     hops: &HopColumns,
     vertex: Vertex,
+    links: &[Link],
     far: u32,
 ) -> Result<HopSet, Memory>
-    requires { map.get distances.now vertex ≡ Some far }
+    requires far { map.get distances.now vertex ≡ Some far }
+    requires links { AreLinksTo graph.now vertex links.now }
     ensures { IfOk result (λ set. (h : Hop) → Contains set h ↔ IsGiven (LinksOf graph.now) graph.now.root (map.get distances.now) (hops_of hops.now) vertex h) }
 {
     let root = graph.root();
     let mut set = HopSet::new(alloc);
-    for link in graph.links_to(vertex) {
+    for link in links {
         add_given(root, distances, hops, link, far, &mut set)?;
     }
     Ok(set)
@@ -45,15 +48,6 @@ pub(crate) fn are_same(before: Option<&HopSet>, after: &HopSet) -> bool
     match before {
         Some(before) => before.as_slice() == after.as_slice(),
         None => after.is_empty(),
-    }
-}
-
-pub(crate) fn is_root(root: u32, vertex: Vertex) -> bool
-    ensures { IsTrue result ↔ (vertex ≡ Vertex.Router root) }
-{
-    match vertex {
-        Vertex::Router(id) => id == root,
-        Vertex::Network(_) => false,
     }
 }
 
@@ -72,10 +66,10 @@ fn add_given(
     if !is_least(distances, link, far) {
         return Ok(());
     }
-    if is_root(root, link.from) {
-        return add_first(link.to, &link.label, set);
+    if is_at_root(root, &link.from) {
+        return add_first(link.to.vertex(), &link.label, set);
     }
-    match hops.get(link.from) {
+    match hops.get(&link.from) {
         Some(tail) => add_handed_on(tail, &link.label, set),
         None => Ok(()),
     }
@@ -86,7 +80,7 @@ fn is_least(distances: &Distances, link: &Link, far: u32) -> bool
     requires { map.get distances.now link.now.to ≡ Some far }
     ensures { IsTrue result ↔ IsLeastLink (map.get distances.now) link.now }
 {
-    match distances.get(link.from) {
+    match distances.get(&link.from) {
         Some(near) => near + u32::from(link.cost) == far,
         None => false,
     }

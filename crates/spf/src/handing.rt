@@ -8,14 +8,16 @@ ghost use Rattle.tree_parts.specs.Maps.{with_hops};
 ghost use Rattle.spf.specs.HandedOn.{IsOfSome, ArePut, IsReachedAt, IsHeadOver, IsLeastHead, IsLeastLink, AreBlanked, IsSettled};
 ghost use Rattle.spf.specs.Parts.{AreUnsettled, AreSettled, hops_of};
 
-use crate::gathering::{are_same, gather, is_root};
+use crate::gathering::{are_same, gather};
 use crate::losing::Losses;
+use crate::places::{head_of, is_at_root, is_root};
 use hop_sets::HopSet;
 use ospf_types::entry::Vertex;
 use ospf_types::memory::Memory;
 use std::alloc::Global;
 use tree_parts::{Distances, HopColumns, Members, Touched};
 use vertex_graph::{Graph, Link};
+use vertex_map::Placed;
 use vertex_queue::Queue;
 use word_hash::WordHash;
 
@@ -84,8 +86,8 @@ fn blank(
 {
     let mut written = Members::new(alloc, hashing);
     for vertex in lost {
-        if distances.get(*vertex).is_none() {
-            write(*vertex, None, hops, touched, &mut written)?;
+        if distances.find(*vertex).is_none() {
+            write(&Placed::nowhere(*vertex), None, hops, touched, &mut written)?;
         }
     }
     Ok(written)
@@ -111,32 +113,34 @@ fn settle(
     ensures taken { OnOk result (touched.new.taken ≡ touched.old.taken) }
     ensures counted { OnOk result (touched.new.hop_sets ≡ length written.new) }
 {
-    let set = gather(alloc, graph, distances, hops, vertex, distance)?;
-    if are_same(hops.get(vertex), &set) {
+    let links = graph.links_to(vertex);
+    let set = gather(alloc, graph, distances, hops, vertex, links, distance)?;
+    let placed = head_of(links, vertex);
+    if are_same(hops.get(&placed), &set) {
         return Ok(());
     }
-    write(vertex, Some(set), hops, touched, written)?;
+    write(&placed, Some(set), hops, touched, written)?;
     put_heads(graph, distances, vertex, distance, queue)
 }
 
 // Writes the next hops of a vertex where none were written yet.
 fn write(
-    vertex: Vertex,
+    vertex: &Placed,
     set: Option<HopSet>,
     hops: &mut HopColumns,
     touched: &mut Touched,
     written: &mut Members,
 ) -> Result<(), Memory>
-    requires fresh { Contains written.old vertex → ⊥ }
+    requires fresh { Contains written.old vertex.now → ⊥ }
     requires counted { touched.old.hop_sets ≡ length written.old }
-    ensures hops { OnOk result (hops.new ≡ with_hops hops.old vertex set) }
-    ensures written { OnOk result (written.new ≡ written.old ++ vertex ∷ []) }
+    ensures hops { OnOk result (hops.new ≡ with_hops hops.old vertex.now set) }
+    ensures written { OnOk result (written.new ≡ written.old ++ vertex.now ∷ []) }
     ensures taken { OnOk result (touched.new.taken ≡ touched.old.taken) }
     ensures counted { OnOk result (touched.new.hop_sets ≡ length written.new) }
 {
     prove!(written.len() < usize::MAX);
     touched.write(hops, vertex, set)?;
-    written.add(vertex)?;
+    written.add(vertex.vertex())?;
     Ok(())
 }
 
@@ -166,7 +170,7 @@ fn put_if_reached(
     if is_root(root, vertex) {
         return Ok(());
     }
-    match distances.get(vertex) {
+    match distances.find(vertex) {
         Some(distance) => queue.put(vertex, distance),
         None => Ok(()),
     }
@@ -201,11 +205,11 @@ fn put_head(
     requires { map.get distances.now link.now.from ≡ Some near }
     ensures { OnOk result (ArePut (map.get distances.now) (IsHeadOver root (map.get distances.now) link.now) (map.get queue.old) (map.get queue.new)) }
 {
-    if is_root(root, link.to) {
+    if is_at_root(root, &link.to) {
         return Ok(());
     }
     match least_distance(distances, link, near) {
-        Some(distance) => queue.put(link.to, distance),
+        Some(distance) => queue.put(link.to.vertex(), distance),
         None => Ok(()),
     }
 }
@@ -218,7 +222,7 @@ fn least_distance(distances: &Distances, link: &Link, near: u32) -> Option<u32>
     ensures head { IfSome result (λ distance. map.get distances.now link.now.to ≡ Some distance) }
     ensures none { IfNone result (IsLeastLink (map.get distances.now) link.now → ⊥) }
 {
-    let far = distances.get(link.to)?;
+    let far = distances.get(&link.to)?;
     if u64::from(near) + u64::from(link.cost) == u64::from(far) {
         Some(far)
     } else {

@@ -7,6 +7,7 @@ mod gathering;
 mod handing;
 mod losing;
 mod nearing;
+mod places;
 mod tree;
 
 pub use tree::Tree;

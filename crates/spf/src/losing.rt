@@ -90,7 +90,7 @@ impl Search {
     {
         for link in gone {
             if was_least(link, root, distances) {
-                self.suspect(link.to)?;
+                self.suspect(link.to.vertex())?;
             }
         }
         Ok(())
@@ -110,7 +110,7 @@ impl Search {
     {
         for link in links {
             if may_support(link, root, distances, distance) {
-                self.suspect(link.to)?;
+                self.suspect(link.to.vertex())?;
             }
         }
         Ok(())
@@ -135,7 +135,7 @@ impl Search {
         if self.losses.lost.has(suspect) {
             return Ok(());
         }
-        let Some(distance) = distances.get(suspect) else {
+        let Some(distance) = distances.find(suspect) else {
             return Ok(());
         };
         if is_supported(
@@ -211,8 +211,8 @@ fn find_support(
 fn supports(link: &Link, lost: &Members, distances: &Distances, distance: u32) -> bool
     ensures { IsTrue result ↔ Supports (map.get distances.now) lost.now distance link.now }
 {
-    match distances.get(link.from) {
-        Some(near) => !lost.has(link.from) && near + u32::from(link.cost) <= distance,
+    match distances.get(&link.from) {
+        Some(near) => !lost.has(link.from.vertex()) && near + u32::from(link.cost) <= distance,
         None => false,
     }
 }
@@ -221,11 +221,11 @@ fn supports(link: &Link, lost: &Members, distances: &Distances, distance: u32) -
 fn was_least(link: &Link, root: u32, distances: &Distances) -> bool
     ensures { IsTrue result ↔ WasLeast root (map.get distances.now) link.now }
 {
-    if link.to == Vertex::Router(root) {
+    if link.to.vertex() == Vertex::Router(root) {
         return false;
     }
-    match distances.get(link.from) {
-        Some(near) => distances.get(link.to) == Some(near + u32::from(link.cost)),
+    match distances.get(&link.from) {
+        Some(near) => distances.get(&link.to) == Some(near + u32::from(link.cost)),
         None => false,
     }
 }
@@ -236,10 +236,10 @@ fn may_support(link: &Link, root: u32, distances: &Distances, distance: u32) -> 
     requires { distance < most_distance }
     ensures { IsTrue result ↔ MaySupport root (map.get distances.now) distance link.now }
 {
-    if link.to == Vertex::Router(root) {
+    if link.to.vertex() == Vertex::Router(root) {
         return false;
     }
-    match distances.get(link.to) {
+    match distances.get(&link.to) {
         Some(far) => distance + u32::from(link.cost) <= far,
         None => false,
     }

@@ -13,11 +13,13 @@ ghost use Rattle.spf.specs.Parts.{AreStarted, AreNeared};
 ghost use Rattle.spf.specs.Repairs.{IsReset};
 
 use crate::losing::Losses;
+use crate::places::{head_of, is_at_root, tail_of};
 use ospf_types::entry::Vertex;
 use ospf_types::memory::Memory;
 use std::alloc::Global;
 use tree_parts::{Distances, Members, Touched};
 use vertex_graph::{Graph, Link};
+use vertex_map::Placed;
 use vertex_queue::Queue;
 use word_hash::WordHash;
 
@@ -70,9 +72,10 @@ fn reset(graph: &Graph, lost: &[Vertex], distances: &mut Distances) -> Result<()
     clear(lost, distances);
     let root = Vertex::Router(graph.root());
     if graph.has_root() {
-        distances.set(root, 0)?;
+        let placed = tail_of(graph.links_from(root), root);
+        distances.set(&placed, 0)?;
     } else {
-        distances.remove(root);
+        distances.remove(&Placed::nowhere(root));
     }
     Ok(())
 }
@@ -81,7 +84,7 @@ fn clear(lost: &[Vertex], distances: &mut Distances)
     ensures { IsCleared (map.get distances.old) lost.now (map.get distances.new) }
 {
     for vertex in lost {
-        distances.remove(*vertex);
+        distances.remove(&Placed::nowhere(*vertex));
     }
 }
 
@@ -98,15 +101,9 @@ fn reach(
     ensures set { OnOk result (distances.new ≡ map.insert distances.old vertex distance) }
     ensures made { OnOk result (AreMade (OutOf (LinksOf graph.now) graph.now.root vertex distance) (map.get distances.new) (map.get queue.old) (map.get queue.new) stale.old stale.new) }
 {
-    distances.set(vertex, distance)?;
-    offer_from(
-        graph.root(),
-        graph.links_from(vertex),
-        distance,
-        distances,
-        queue,
-        stale,
-    )
+    let links = graph.links_from(vertex);
+    distances.set(&tail_of(links, vertex), distance)?;
+    offer_from(graph.root(), links, distance, distances, queue, stale)
 }
 
 // Offers these vertices what they have over links from reached ones.
@@ -121,8 +118,9 @@ fn offer_into(
 {
     let root = graph.root();
     for vertex in vertices {
-        let far = distances.get(*vertex);
-        offer_to(root, graph.links_to(*vertex), far, distances, queue, stale)?;
+        let links = graph.links_to(*vertex);
+        let far = distances.get(&head_of(links, *vertex));
+        offer_to(root, links, far, distances, queue, stale)?;
     }
     Ok(())
 }
@@ -141,7 +139,7 @@ fn offer_to(
     ensures { OnOk result (AreMade (OverReached root (map.get distances.now) links.now) (map.get distances.now) (map.get queue.old) (map.get queue.new) stale.old stale.new) }
 {
     for link in links {
-        if let Some(near) = distances.get(link.from) {
+        if let Some(near) = distances.get(&link.from) {
             offer_over(root, link, near, far, queue, stale)?;
         }
     }
@@ -160,8 +158,8 @@ fn offer_reached(
     ensures { OnOk result (AreMade (OverReached root (map.get distances.now) links.now) (map.get distances.now) (map.get queue.old) (map.get queue.new) stale.old stale.new) }
 {
     for link in links {
-        if let Some(near) = distances.get(link.from) {
-            let far = distances.get(link.to);
+        if let Some(near) = distances.get(&link.from) {
+            let far = distances.get(&link.to);
             offer_over(root, link, near, far, queue, stale)?;
         }
     }
@@ -182,7 +180,7 @@ fn offer_from(
     ensures { OnOk result (AreMade (OverLinks root links.now near) (map.get distances.now) (map.get queue.old) (map.get queue.new) stale.old stale.new) }
 {
     for link in links {
-        let far = distances.get(link.to);
+        let far = distances.get(&link.to);
         offer_over(root, link, near, far, queue, stale)?;
     }
     Ok(())
@@ -201,19 +199,16 @@ fn offer_over(
     requires cheap { link.now.cost < 65536 }
     ensures { OnOk result ((distance : VertexValue → Option ℕ) → distance link.now.to ≡ far → AreMade (OverLink root link.now near) distance (map.get queue.old) (map.get queue.new) stale.old stale.new) }
 {
-    if is_root(root, link.to) {
+    if is_at_root(root, &link.to) {
         return Ok(());
     }
-    offer(link.to, near + u32::from(link.cost), far, queue, stale)
-}
-
-fn is_root(root: u32, vertex: Vertex) -> bool
-    ensures { IsTrue result ↔ (vertex ≡ RouterValue root) }
-{
-    match vertex {
-        Vertex::Router(number) => number == root,
-        Vertex::Network(_) => false,
-    }
+    offer(
+        link.to.vertex(),
+        near + u32::from(link.cost),
+        far,
+        queue,
+        stale,
+    )
 }
 
 // Offers a vertex, which is this far, a distance. If that is nearer the vertex is queued; if it is as near, it is stale.

@@ -133,12 +133,19 @@ impl Tree {
         repaired
     }
 
+    /// Says that no link went or came: no vertex changed.
+    pub fn rest(&mut self)
+        ensures { self.new ≡ record { distances = self.old.distances; hops = self.old.hops; changed = []; spent = self.old.spent } }
+    {
+        self.changed.clear();
+    }
+
     /// The distance of a vertex, a sum of metrics below 2^30; none where it is not reached, or the tree is spent.
     pub fn distance(&self, vertex: Vertex) -> Option<u32>
         ensures value { result ≡ map.get self.now.distances vertex }
         ensures bounded { IfSome result (λ distance. distance < most_distance) }
     {
-        self.distances.get(vertex)
+        self.distances.find(vertex)
     }
 
     /// The next hops of a vertex, ascending, each once; none for the root, where it is not reached, and where the
@@ -147,7 +154,7 @@ impl Tree {
         ensures value { result.now ≡ listed_hops (map.get self.now.hops vertex) }
         ensures in_order { IsStrictlySortedBy hop_cmp result.now }
     {
-        match self.hops.get(vertex) {
+        match self.hops.find(vertex) {
             Some(hops) => hops.as_slice(),
             None => &[],
         }

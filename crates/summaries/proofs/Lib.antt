@@ -9,6 +9,7 @@ pub mod Searching
 mod Activity
 mod Grouped
 mod Kept
+mod Placed
 mod Lists
 mod Standing
 mod Turning

@@ -1,10 +1,10 @@
 -- What tests of prefixes and of maps tell.
-use Rattle.std.proofs.Common.{◌≡◌, ◌≢◌, ℕ, Bool, true, false, not, List, [], ◌∷◌, length, Option, Some, None, Vec, vec_len, ◌==◌, refl, sym, ap, ◌∙◌, arith}
+use Rattle.std.proofs.Common.{◌≡◌, ◌≢◌, ℕ, Bool, true, false, not, List, [], ◌∷◌, length, Option, Some, None, Vec, vec_len, ◌==◌, refl, sym, ap, ◌∙◌}
 use Rattle.std.specs.Prelude.{◌↔◌, Contains, IsTrue, is_some}
-use Rattle.std.specs.BTreeMap.{BTreeMap, btree_map_len}
 use Rattle.ospf_types.specs.declared.prefix.Prefix.{Prefix}
 use Rattle.ospf_types.proofs.Elements.{first_element}
 use Rattle.ospf_types.proofs.KeyOrders.{prefixes_equal, prefixes_decided}
+use Rattle.summaries.specs.Grouped.{Networks}
 
 pub are_apart : (p q : Prefix) (b : Bool) → b ≡ not (prefixes_equal p q) → b ≡ true → p ≢ q
 are_apart p q b is differ same = absurd (let wrong : true ≡ false = sym differ ∙ is ∙ ap not ((prefixes_decided p q).1 same) in cc)
@@ -16,16 +16,12 @@ so_if false is = absurd cc
 pub are_one : (p q : Prefix) (b : Bool) → b ≡ not (prefixes_equal p q) → b ≡ false → p ≡ q
 are_one p q b is alike = (prefixes_decided p q).0 (so_if (prefixes_equal p q) (sym is ∙ alike))
 
-no_elements : {A : Type 0} (xs : List A) → length xs ≡ 0 → xs ≡ []
-no_elements [] none = refl
-no_elements (x ∷ xs) none = absurd (grind (arith, none))
+module _ (networks : Networks) (b : Bool) (tells : IsTrue b ↔ (networks.entries ≡ [])) where
+  pub no_entries : b ≡ true → networks.entries ≡ []
+  no_entries is = tells.0 is
 
-module _ {K X : Type 0} (m : BTreeMap K X) (b : Bool) (tells : IsTrue b ↔ (btree_map_len m ≡ 0)) where
-  pub no_entries : b ≡ true → m.entries ≡ []
-  no_entries is = no_elements m.entries (tells.0 is)
-
-  pub some_entries : b ≡ false → m.entries ≢ []
-  some_entries is none = let t : b ≡ true = tells.1 (ap (λ es. length es) none) in let wrong : true ≡ false = sym t ∙ is in cc
+  pub some_entries : b ≡ false → networks.entries ≢ []
+  some_entries is none = let t : b ≡ true = tells.1 none in let wrong : true ≡ false = sym t ∙ is in cc
 
 -- a look-up that finds nothing
 pub nothing_there : {A : Type 0} (o : Option A) → is_some o ≡ false → o ≡ None

@@ -1,10 +1,11 @@
 -- The members that a range has.
 use Rattle.std.proofs.Common.{◌≡◌, ℕ, Bool, List, [], Option, Some, None, map, refl, sym, ap, subst, ◌∙◌}
 use Rattle.std.specs.Prelude.{◌↔◌, Contains, is_some}
-use Rattle.std.specs.BTreeMap.{is_at, keys}
+use Rattle.std.specs.BTreeMap.{is_at}
 use Rattle.std.specs.FinMap.{get}
-use Rattle.std.specs.Map.{lookup}
-use Rattle.std.proofs.lemmas.Map.Views.{btree_map_contains_key_iff}
+use Rattle.std.specs.Cmp.{eq_by_cmp_equiv}
+use Rattle.std.specs.Map.{keys_of, lookup}
+use Rattle.std.proofs.lemmas.Map.Views.{tells_apart, Contains-keys_from_lookup, IsSome-lookup_from_Contains}
 use Rattle.ospf_types.specs.declared.prefix.Prefix.{Prefix}
 use Rattle.ospf_types.specs.Network.{network_cmp}
 use Rattle.ospf_types.proofs.Elements.{no_element, mapped_element, mapped_from}
@@ -42,21 +43,21 @@ module _ (rs : NetworksByRange) (spent : Bool) (area : ℕ) (range : Prefix) whe
   )
 
   -- or these
-  pub members_there : (networks : Networks) → Some networks ≡ lookup (is_at (range_cmp at_range)) rs → (m : Member) → Contains (map (member_of at_range) (keys networks)) m ↔ IsMemberIn value area range m
+  pub members_there : (networks : Networks) → Some networks ≡ lookup (is_at (range_cmp at_range)) rs → (m : Member) → Contains (map (member_of at_range) (keys_of networks.entries)) m ↔ IsMemberIn value area range m
   members_there networks stands m =
       let of : m.range ≡ range → m.area ≡ area → get value.members m ≡ lookup (is_at (network_cmp m.network)) networks.entries =
       λ prefix id. cost_of m prefix id ∙ ap (λ (o : Option Networks). cost_among o m.network) (sym stands) in (
         λ c.
-            let from = mapped_from (member_of at_range) (keys networks) m c in
+            let from = mapped_from (member_of at_range) (keys_of networks.entries) m c in
             let prefix : m.range ≡ range = ap (λ (x : Member). x.range) (sym from.2) in
             let id : m.area ≡ area = ap (λ (x : Member). x.area) (sym from.2) in
-            let key : Contains (keys networks) m.network = subst (λ (p : Prefix). Contains (keys networks) p) (ap (λ (x : Member). x.network) from.2) from.1 in
-            let some = some_value (lookup (is_at (network_cmp m.network)) networks.entries) ((btree_map_contains_key_iff network_total network_exact networks m.network).1 key) in
+            let key : Contains (keys_of networks.entries) m.network = subst (λ (p : Prefix). Contains (keys_of networks.entries) p) (ap (λ (x : Member). x.network) from.2) from.1 in
+            let some = some_value (lookup (is_at (network_cmp m.network)) networks.entries) (IsSome-lookup_from_Contains (eq_by_cmp_equiv network_total) m.network networks.entries key) in
             (prefix, id, (some.0, of prefix id ∙ some.1)),
         λ w.
-            let key = (btree_map_contains_key_iff network_total network_exact networks m.network).0 (ap is_some (sym (of w.0 w.1) ∙ w.2.1)) in
+            let key = Contains-keys_from_lookup (tells_apart network_exact) m.network networks.entries (ap is_some (sym (of w.0 w.1) ∙ w.2.1)) in
             let same : member_of at_range m.network ≡ m = λ i. record { range = (sym w.0) i; area = (sym w.1) i; network = m.network } in
-            subst (λ (x : Member). Contains (map (member_of at_range) (keys networks)) x) same (mapped_element (member_of at_range) (keys networks) m.network key),
+            subst (λ (x : Member). Contains (map (member_of at_range) (keys_of networks.entries)) x) same (mapped_element (member_of at_range) (keys_of networks.entries) m.network key),
       )
 
 -- ---- a range that has a member has all that it can have

@@ -2,13 +2,12 @@
 --   members_exact: without their costs they are the members within the range
 --   taken_followed, left_followed: so the members follow
 use Rattle.std.proofs.Common.{◌≡◌, ℕ, Bool, cond, List, map, Option, Some, None, refl, sym, ap, subst, ◌∙◌, inl, inr}
-use Rattle.std.specs.Prelude.{◌↔◌, Contains, IfSome}
+use Rattle.std.specs.Prelude.{◌↔◌, Contains}
 use Rattle.std.specs.Cmp.{nat_cmp_total}
 use Rattle.std.specs.Map.{keys_of, lookup}
-use Rattle.std.specs.BTreeMap.{IsFromIterResult, is_at}
+use Rattle.std.specs.BTreeMap.{is_at}
 use Rattle.std.specs.FinMap.{empty, get}
 use Rattle.std.proofs.lemmas.Map.Lookups.{exact_unsigned}
-use Rattle.std.proofs.lemmas.Map.Views.{btree_map_contains_key_from_list, IfSome-btree_map_get_from_list}
 use Rattle.ospf_types.specs.declared.config.AreaConfig.{AreaConfig}
 use Rattle.ospf_types.specs.declared.entry.Entry.{Entry}
 use Rattle.ospf_types.specs.declared.prefix.Prefix.{Prefix}
@@ -19,23 +18,18 @@ use Rattle.intra.specs.Intras.{EntriesByPrefix}
 use Rattle.intra.proofs.Following.{one_or_other}
 use Rattle.summaries.specs.Active.{ActiveValue, AreRangesOf, IsMember, IsMemberWithin, IsWithin}
 use Rattle.summaries.specs.Following.{AreFollowed, AreTakenIn, HasLeft, IsCostIn, IsCostWithin}
-use Rattle.summaries.specs.Grouped.{Networks, NetworksByRange, range_cmp}
+use Rattle.summaries.specs.Grouped.{AreMadeOf, Networks, NetworksByRange, range_cmp}
 use Rattle.summaries.specs.declared.member.AreaRange.{AreaRange}
 use Rattle.summaries.specs.declared.member.Member.{Member}
 use Rattle.summaries.proofs.Following.{left_here}
 use Rattle.summaries.proofs.Grouped.{changed_here, changed_elsewhere, ranges_value}
 use Rattle.summaries.proofs.Inside.{some_number}
 use Rattle.summaries.proofs.Lists.{no_value}
-use Rattle.summaries.proofs.Members.{some_value}
 
 -- ---- the networks of a range that is taken in
 
 some_same : {A : Type 0} {x y : A} → Some x ≡ Some y → x ≡ y
 some_same e = cc
-
-if_some : {A : Type 0} (P : A → Type 0) (o : Option A) → IfSome o P → (x : A) → o ≡ Some x → P x
-if_some P None holds x is = absurd (let wrong : None ≡ Some x = is in cc)
-if_some P (Some y) holds x is = subst P (some_same is) holds
 
 module _ (es fs : NetworksByRange) (was is : Bool) (area : ℕ) (range : Prefix) (costs : List (Member × ℕ)) (within : (m : Member) (cost : ℕ) → Contains costs (m, cost) → (m.range ≡ range) × (m.area ≡ area)) (networks : Networks) where
   abbrev taken : AreaRange
@@ -56,10 +50,7 @@ module _ (es fs : NetworksByRange) (was is : Bool) (area : ℕ) (range : Prefix)
       let same : x ≡ m = λ i. record { range = (own.0 ∙ sym prefix) i; area = (own.1 ∙ sym id) i; network = (from.2 i).0 } in
       subst (λ (y : Member × ℕ). Contains costs y) (λ i. (same i, (from.2 i).1)) from.1
 
-  module _ (made : IsFromIterResult network_cmp pairs networks) (updates : (q : AreaRange) → lookup (is_at (range_cmp q)) fs ≡ cond (is_at (range_cmp taken) q) (Some networks) (lookup (is_at (range_cmp q)) es)) where
-    came : (p : Prefix) (cost : ℕ) → lookup (is_at (network_cmp p)) networks.entries ≡ Some cost → Contains pairs (p, cost)
-    came p cost there = if_some (λ c. Contains pairs (p, c)) (lookup (is_at (network_cmp p)) networks.entries) (IfSome-btree_map_get_from_list network_total network_exact pairs networks made p) cost there
-
+  module _ (made : AreMadeOf pairs networks) (updates : (q : AreaRange) → lookup (is_at (range_cmp q)) fs ≡ cond (is_at (range_cmp taken) q) (Some networks) (lookup (is_at (range_cmp q)) es)) where
     now : (m : Member) → m.range ≡ range → m.area ≡ area → get (ranges_value fs is).members m ≡ lookup (is_at (network_cmp m.network)) networks.entries
     now m prefix id = changed_here es fs was is taken (Some networks) updates m (λ i. record { prefix = prefix i; area = id i })
 
@@ -69,9 +60,9 @@ module _ (es fs : NetworksByRange) (was is : Bool) (area : ℕ) (range : Prefix)
       here = λ m c there.
           let own = within m c there in
           let key : Contains (keys_of pairs) m.network = mapped_element (λ (x : Prefix × ℕ). x.0) pairs (m.network, c) (mapped_element as_network costs (m, c) there) in
-          let some = some_value (lookup (is_at (network_cmp m.network)) networks.entries) ((btree_map_contains_key_from_list network_total network_exact pairs networks made m.network).1 key) in
-          (some.0, now m own.0 own.1 ∙ some.1, member_of m own.0 own.1 some.0 (came m.network some.0 some.1));
-      none = λ m prefix id absent. now m prefix id ∙ no_value (lookup (is_at (network_cmp m.network)) networks.entries) (λ cost there. absent cost (member_of m prefix id cost (came m.network cost there)));
+          let some = made.there m.network key in
+          (some.0, now m own.0 own.1 ∙ some.1, member_of m own.0 own.1 some.0 (made.costs m.network some.0 some.1));
+      none = λ m prefix id absent. now m prefix id ∙ no_value (lookup (is_at (network_cmp m.network)) networks.entries) (λ cost there. absent cost (member_of m prefix id cost (made.costs m.network cost there)));
       others = λ m other. changed_elsewhere es fs was is taken (Some networks) updates m (λ same. other (ap (λ (r : AreaRange). r.prefix) same, ap (λ (r : AreaRange). r.area) same));
     }
 

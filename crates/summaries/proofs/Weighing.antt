@@ -1,10 +1,12 @@
 -- The networks of one range, met one by one, and the greatest of their costs.
-use Rattle.std.proofs.Common.{◌≡◌, ℕ, ◌<◌, Bool, List, [], ◌∷◌, Option, Some, None, refl, sym, subst, ◌∙◌, ap, ◌⊎◌, inl, inr, arith}
+use Rattle.std.proofs.Common.{◌≡◌, ℕ, ◌<◌, Bool, [], ◌∷◌, Option, Some, None, refl, sym, subst, ◌∙◌, ap, ◌⊎◌, inl, inr, arith}
 use Rattle.std.specs.Prelude.{◌↔◌, Contains}
-use Rattle.std.specs.BTreeMap.{IsOrdered, is_at}
+use Rattle.std.specs.BTreeMap.{is_at}
 use Rattle.std.specs.FinMap.{get}
-use Rattle.std.specs.Map.{lookup}
-use Rattle.std.proofs.lemmas.Map.Views.{btree_map_get_iff}
+use Rattle.std.specs.Cmp.{eq_by_cmp_equiv}
+use Rattle.std.specs.Map.{keys_of, lookup}
+use Rattle.std.proofs.lemmas.Map.Keys.{IsDistinct-from_sorted}
+use Rattle.std.proofs.lemmas.Map.Views.{tells_apart, Contains-from_lookup, lookup-from_Contains}
 use Rattle.ospf_types.specs.declared.prefix.Prefix.{Prefix}
 use Rattle.ospf_types.specs.Network.{network_cmp}
 use Rattle.ospf_types.specs.Summaries.{IsGreatest}
@@ -15,9 +17,7 @@ use Rattle.summaries.specs.Grouped.{IsCostOf, Networks, NetworksByRange, range_c
 use Rattle.summaries.specs.declared.member.AreaRange.{AreaRange}
 use Rattle.summaries.proofs.Greatest.{IsReached, is_greatest, greater, greater_one, greater_left, greater_right}
 use Rattle.summaries.proofs.Grouped.{cost_among, found, ranges_value}
-
-abbrev Entries : Type 0
-Entries = List (Prefix × ℕ)
+use Rattle.summaries.proofs.Placed.{AreInOrder, Entries}
 
 some_same : {A : Type 0} {x y : A} → Some x ≡ Some y → x ≡ y
 some_same e = cc
@@ -32,11 +32,11 @@ module _ (networks : Networks) (limit : ℕ) where
     pub reached : (c : ℕ) → IsCost c → IsReached most c ⊎ ((network : Prefix) × Contains left (network, c))
     pub there : (network : Prefix) (c : ℕ) → Contains left (network, c) → IsCostOf networks c
 
-  pub weighed_none : IsOrdered network_cmp networks → (left : Entries) → left ≡ networks.entries → AreWeighed None left
+  pub weighed_none : AreInOrder networks.entries → (left : Entries) → left ≡ networks.entries → AreWeighed None left
   weighed_none ordered left is = subst (AreWeighed None) (sym is) record {
     found = λ c none. absurd (let wrong : None ≡ Some c = none in cc);
-    reached = λ c cost. inr (cost.0.0, (btree_map_get_iff network_total network_exact networks ordered cost.0.0 c).0 cost.0.1);
-    there = λ network c there. (network, (btree_map_get_iff network_total network_exact networks ordered network c).1 there);
+    reached = λ c cost. inr (cost.0.0, Contains-from_lookup (tells_apart network_exact) cost.0.0 c networks.entries cost.0.1);
+    there = λ network c there. (network, lookup-from_Contains (eq_by_cmp_equiv network_total) network c networks.entries (IsDistinct-from_sorted network_cmp (keys_of networks.entries) ordered) there);
   }
 
   module _ (network : Prefix) (c : ℕ) (left : Entries) (most : Option ℕ) (are : AreWeighed most ((network, c) ∷ left)) where

@@ -11,6 +11,7 @@ use Rattle.ospf_types.specs.Address.{Covers}
 use Rattle.intra.specs.Intras.{EntriesByPrefix}
 use Rattle.summaries.specs.Active.{ActiveValue, IsActiveIn, IsConfigured, IsMemberWithin}
 use Rattle.summaries.specs.declared.active.Noted.{Noted}
+use Rattle.summaries.specs.declared.member.AreaRange.{AreaRange}
 use Rattle.summaries.specs.declared.member.Member.{Member}
 
 -- ---- the members that networks may be
@@ -19,13 +20,17 @@ use Rattle.summaries.specs.declared.member.Member.{Member}
 abbrev pub IsNamed : List AreaConfig → List Dest → Member → Type 0
 IsNamed areas dests m = Contains dests (Net m.network) × IsConfigured areas m.area m.range × Covers m.range m.network
 
--- of one destination
-abbrev pub IsNamedBy : List AreaConfig → Dest → Member → Type 0
-IsNamedBy areas dest m = (dest ≡ Net m.network) × IsConfigured areas m.area m.range × Covers m.range m.network
+-- by one area's ranges
+abbrev pub IsNamedIn : AreaConfig → List Dest → Member → Type 0
+IsNamedIn a dests m = Contains dests (Net m.network) × (a.id ≡ m.area) × ((r : Range) × Contains a.ranges r × (r.prefix ≡ m.range)) × Covers m.range m.network
 
--- of one network in one area
-abbrev pub IsNamedIn : AreaConfig → Prefix → Member → Type 0
-IsNamedIn a network m = (network ≡ m.network) × (a.id ≡ m.area) × ((r : Range) × Contains a.ranges r × (r.prefix ≡ m.range)) × Covers m.range m.network
+-- by one range
+abbrev pub IsNamedOf : AreaRange → List Dest → Member → Type 0
+IsNamedOf range dests m = Contains dests (Net m.network) × (range.prefix ≡ m.range) × (range.area ≡ m.area) × Covers range.prefix m.network
+
+-- of one destination
+abbrev pub IsNamedAs : AreaRange → Dest → Member → Type 0
+IsNamedAs range dest m = (dest ≡ Net m.network) × (range.prefix ≡ m.range) × (range.area ≡ m.area) × Covers range.prefix m.network
 
 -- the list has what it had and, beside it, just these
 abbrev pub HasMore : {A : Type 0} → (A → Type 0) → List A → List A → Type 0

@@ -19,7 +19,7 @@ ghost use Rattle.summaries.specs.Right.{AreConfigured, IsRightFor};
 
 use crate::member::{AreaRange, Member};
 use crate::named::named_members;
-use crate::networks::{as_members, costliest_of, networks_of, put_network};
+use crate::networks::Networks;
 use crate::within::{costs_within, is_configured};
 use intra::Intra;
 use ospf_types::config::AreaConfig;
@@ -33,7 +33,7 @@ use std::marker::Model;
 
 /// The ranges of the areas that are active: each with the networks that it has, at the cost of their entries.
 pub struct ActiveRanges {
-    ranges: BTreeMap<AreaRange, BTreeMap<Prefix, u32>>,
+    ranges: BTreeMap<AreaRange, Networks>,
     spent: bool,
 }
 
@@ -154,7 +154,7 @@ impl ActiveRanges {
             area,
         };
         let networks = self.ranges.get(&area_range)?;
-        costliest_of(networks, limit)
+        networks.costliest(limit)
     }
 
     /// The prefixes of active ranges, ascending, each once.
@@ -255,7 +255,7 @@ impl ActiveRanges {
             area,
         };
         match self.ranges.get(&area_range) {
-            Some(networks) => as_members(alloc, area_range, networks),
+            Some(networks) => networks.as_members(alloc, area_range),
             None => Ok(Vec::new(alloc)),
         }
     }
@@ -320,7 +320,7 @@ impl ActiveRanges {
         ensures { OnOk result (AreTakenIn named.0 named.1 costs.now self.old self.new) }
     {
         let (area, prefix) = named;
-        let networks = networks_of(alloc, costs)?;
+        let networks = Networks::of(alloc, costs)?;
         self.ranges.insert(AreaRange { prefix, area }, networks)?;
         Ok(())
     }
@@ -369,7 +369,7 @@ impl ActiveRanges {
         let Some(networks) = self.ranges.get_mut(&range) else {
             unreachable!()
         };
-        put_network(networks, network, cost)
+        networks.put(network, cost)
     }
 
     // Gives the range its first network at this cost, or nothing.
@@ -388,8 +388,8 @@ impl ActiveRanges {
         let Some(cost) = cost else {
             return Ok(());
         };
-        let mut networks = BTreeMap::new(alloc);
-        networks.insert(network, cost)?;
+        let mut networks = Networks::new(alloc);
+        networks.put(network, Some(cost))?;
         self.ranges.insert(range, networks)?;
         Ok(())
     }
@@ -461,7 +461,7 @@ pub(crate) fn cost_in(entry: Option<&Entry>, area: u32) -> Option<u32>
 // Adds the prefix, where the range has a network.
 fn push_active(
     prefix: Prefix,
-    networks: &BTreeMap<Prefix, u32>,
+    networks: &Networks,
     prefixes: &mut Vec<Prefix>,
 ) -> Result<(), Memory>
     ensures { OnOk result (HasMore (λ p. (p ≡ prefix) × (networks.now.entries ≢ [])) prefixes.old.items prefixes.new.items) }

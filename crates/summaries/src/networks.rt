@@ -1,77 +1,113 @@
 //! The networks of one range, each at the cost of its entry.
-ghost use Rattle.std.specs.Prelude.{◌≡◌, ◌↔◌, ◌<◌, ℕ, Some, IfOk, OnOk, map as list_map};
-ghost use Rattle.std.specs.BTreeMap.{IsFromIterResult, Updates, keys};
-ghost use Rattle.ospf_types.specs.Network.{network_cmp};
+ghost use Rattle.std.specs.Prelude.{◌≡◌, ◌↔◌, ◌<◌, ℕ, [], Some, IsTrue, IfOk, IfErr, OnOk, map as list_map};
 ghost use Rattle.ospf_types.specs.Summaries.{IsGreatest};
-ghost use Rattle.summaries.specs.Grouped.{IsCostOf};
+ghost use Rattle.summaries.specs.Grouped.{AreMadeOf, IsAt, IsCostOf, IsGapFor, IsPutIn};
 
 use crate::member::{AreaRange, Member};
 use ospf_types::memory::Memory;
 use ospf_types::prefix::Prefix;
 use std::alloc::Global;
-use std::collections::BTreeMap;
+use std::marker::Model;
 
-/// Gives the network this cost. With none it is taken out.
-pub(crate) fn put_network(
-    networks: &mut BTreeMap<Prefix, u32>,
-    network: Prefix,
-    cost: Option<u32>,
-) -> Result<(), Memory>
-    ensures { OnOk result (Updates network_cmp networks.old networks.new network cost) }
-{
-    match cost {
-        Some(cost) => {
-            networks.insert(network, cost)?;
-        }
-        None => {
-            networks.remove(&network);
-        }
-    }
-    Ok(())
+/// The networks of a range, ascending, each at its cost. They stand side by side, so that going through all costs little.
+#[derive(Drop)]
+pub(crate) struct Networks {
+    list: Vec<(Prefix, u32)>,
 }
 
-/// The networks of members, at their costs.
-pub(crate) fn networks_of(
-    alloc: Global,
-    costs: &[(Member, u32)],
-) -> Result<BTreeMap<Prefix, u32>, Memory>
-    ensures { IfOk result (IsFromIterResult network_cmp (list_map (λ x. (x.0.network, x.1)) costs.now)) }
-{
-    let networks = costs
-        .iter()
-        .map(|(member, cost)| (member.network, *cost))
-        .collect(alloc)?;
-    Ok(networks)
+impl Model for Networks {
+    ghost use Rattle.std.specs.List.Sorted.{IsStrictlySortedBy};
+    ghost use Rattle.std.specs.Map.{keys_of};
+    ghost use Rattle.ospf_types.specs.Network.{network_cmp};
+    ghost use Rattle.summaries.specs.Grouped.{Networks as NetworksValue};
+
+    ghost Value = { NetworksValue };
+
+    ghost view = { λ n. record { entries = n.list.items } };
+
+    ghost invariant = { λ n. IsStrictlySortedBy network_cmp (keys_of n.list.items) };
 }
 
-/// The networks as members of the range.
-pub(crate) fn as_members(
-    alloc: Global,
-    range: AreaRange,
-    networks: &BTreeMap<Prefix, u32>,
-) -> Result<Vec<Member>, Memory>
-    ensures { IfOk result (λ members. members.items ≡ list_map (λ n. record { range = range.prefix; area = range.area; network = n }) (keys networks.now)) }
-{
-    let members = networks
-        .keys()
-        .map(|network| Member {
-            range: range.prefix,
-            area: range.area,
-            network: *network,
-        })
-        .collect(alloc)?;
-    Ok(members)
-}
-
-/// The greatest cost below the limit.
-pub(crate) fn costliest_of(networks: &BTreeMap<Prefix, u32>, limit: u32) -> Option<u32>
-    ensures { (cost : ℕ) → (result ≡ Some cost) ↔ IsGreatest (λ c. IsCostOf networks.now c × (c < limit)) cost }
-{
-    let mut most = None;
-    for (_, cost) in networks.iter() {
-        if *cost < limit {
-            most = most.max(Some(*cost));
+impl Networks {
+    /// No networks.
+    pub(crate) fn new(alloc: Global) -> Networks
+        ensures { result.entries ≡ [] }
+    {
+        Networks {
+            list: Vec::new(alloc),
         }
     }
-    most
+
+    /// The networks of members, at their costs.
+    pub(crate) fn of(alloc: Global, costs: &[(Member, u32)]) -> Result<Networks, Memory>
+        ensures { IfOk result (AreMadeOf (list_map (λ x. (x.0.network, x.1)) costs.now)) }
+    {
+        let mut networks = Networks::new(alloc);
+        for (member, cost) in costs {
+            networks.put(member.network, Some(*cost))?;
+        }
+        Ok(networks)
+    }
+
+    /// Gives the network this cost. With none it is taken out.
+    pub(crate) fn put(&mut self, network: Prefix, cost: Option<u32>) -> Result<(), Memory>
+        ensures { OnOk result (IsPutIn self.old network cost self.new) }
+    {
+        let place = self.place(network);
+        let Some(cost) = cost else {
+            if let Ok(at) = place {
+                self.list.remove(at);
+            }
+            return Ok(());
+        };
+        match place {
+            Ok(at) => self.list[at] = (network, cost),
+            Err(at) => self.list.insert(at, (network, cost))?,
+        }
+        Ok(())
+    }
+
+    /// Whether there are none.
+    pub(crate) fn is_empty(&self) -> bool
+        ensures { IsTrue result ↔ (self.now.entries ≡ []) }
+    {
+        self.list.is_empty()
+    }
+
+    /// The greatest cost below the limit.
+    pub(crate) fn costliest(&self, limit: u32) -> Option<u32>
+        ensures { (cost : ℕ) → (result ≡ Some cost) ↔ IsGreatest (λ c. IsCostOf self.now c × (c < limit)) cost }
+    {
+        let mut most = None;
+        for (_, cost) in &self.list {
+            if *cost < limit {
+                most = most.max(Some(*cost));
+            }
+        }
+        most
+    }
+
+    /// The networks as members of the range.
+    pub(crate) fn as_members(&self, alloc: Global, range: AreaRange) -> Result<Vec<Member>, Memory>
+        ensures { IfOk result (λ members. members.items ≡ list_map (λ e. record { range = range.prefix; area = range.area; network = e.0 }) self.now.entries) }
+    {
+        let members = self
+            .list
+            .iter()
+            .map(|entry| Member {
+                range: range.prefix,
+                area: range.area,
+                network: entry.0,
+            })
+            .collect(alloc)?;
+        Ok(members)
+    }
+
+    // Where the network is, or where it would go.
+    fn place(&self, network: Prefix) -> Result<usize, usize>
+        ensures found { IfOk result (IsAt self.now.entries network) }
+        ensures absent { IfErr result (IsGapFor self.now.entries network) }
+    {
+        self.list.binary_search_by_key(&network, |entry| entry.0)
+    }
 }

@@ -6,7 +6,7 @@ use Rattle.std.specs.Ordering.{eq_by_cmp}
 use Rattle.std.specs.Cmp.{eq_by_cmp_equiv}
 use Rattle.std.specs.List.{All, Contains, AllByRecursion, IsDistinct}
 use Rattle.std.specs.Map.{keys_of, lookup}
-use Rattle.std.specs.FinMap.{FinMap, find, get, keys, entries, len-entries, contains_key-keys, insert, remove, len, contains_key, from_entries, get-from_entries, get-insert, get-remove, len-insert, len-empty, same_map}
+use Rattle.std.specs.FinMap.{FinMap, find, get, keys, entries, len-entries, contains_key-keys, insert, remove, len, contains_key, from_entries, empty, get-empty, get-from_entries, get-insert, get-remove, len-insert, len-empty, same_map}
 use Rattle.std.proofs.lemmas.Map.Keys.{IsDistinct-head, IsDistinct-tail}
 use Rattle.std.proofs.lemmas.Map.Views.{tells_apart, Contains-from_any}
 use Rattle.std.proofs.lemmas.Map.Entries.{length-keys_of}
@@ -92,6 +92,25 @@ module _ {X : Type 0} where
 
   pub gone_elsewhere : (m : FinMap vertex_cmp X) (v w : Vertex) → w ≢ v → get (remove m v) w ≡ get m w
   gone_elsewhere m v w other = get-remove vertex_total m v w ∙ ap (λ b. cond b None (get m w)) (apart_by_order v w other)
+
+-- ---- what holds of each value of a map
+
+module _ {X : Type 0} (P : X → Type 0) where
+  abbrev pub AreAll : FinMap vertex_cmp X → Type 0
+  AreAll m = (v : Vertex) → IfSome (get m v) P
+
+  pub all_none : AreAll empty
+  all_none v = subst (λ (o : Option X). IfSome o P) (sym (get-empty vertex_cmp v)) tt
+
+  pub all_inserted : (m : FinMap vertex_cmp X) (v : Vertex) (x : X) → AreAll m → P x → AreAll (insert m v x)
+  all_inserted m v x all here w =
+      subst (λ (o : Option X). IfSome o P) (sym (get-insert vertex_total m v x w))
+      (elim (eq_by_cmp vertex_cmp w v) as (λ b. IfSome (cond b (Some x) (get m w)) P) [ true ↦ here | false ↦ all w ])
+
+  pub all_removed : (m : FinMap vertex_cmp X) (v : Vertex) → AreAll m → AreAll (remove m v)
+  all_removed m v all w =
+      subst (λ (o : Option X). IfSome o P) (sym (get-remove vertex_total m v w))
+      (elim (eq_by_cmp vertex_cmp w v) as (λ b. IfSome (cond b None (get m w)) P) [ true ↦ tt | false ↦ all w ])
 
 -- ---- what holds of each value, by keys of any type
 

@@ -1,5 +1,5 @@
 -- The maps that a tree keeps: from vertices to distances, and from vertices to next hops.
-use Rattle.std.specs.Prelude.{ℕ, List, Option, Some, None, IfSome}
+use Rattle.std.specs.Prelude.{◌<◌, ℕ, List, Option, Some, None, IfSome}
 use Rattle.std.specs.FinMap.{FinMap, get, insert, remove}
 use Rattle.std.specs.List.Sorted.{IsStrictlySortedBy}
 use Rattle.ospf_types.specs.declared.entry.Vertex.{Vertex}
@@ -16,6 +16,10 @@ HopMap = FinMap vertex_cmp (List NextHop)
 -- distances stay below this
 abbrev pub most_distance : ℕ
 most_distance = 1073741824
+
+-- each distance is below it
+abbrev pub AreBounded : DistanceMap → Type 0
+AreBounded m = (v : Vertex) → IfSome (get m v) (λ distance. distance < most_distance)
 
 -- the next hops with those of a vertex set, or taken out
 abbrev pub with_hops : HopMap → Vertex → Option (List NextHop) → HopMap

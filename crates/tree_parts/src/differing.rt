@@ -22,9 +22,9 @@ pub fn remember(
     ensures { IfOk result (λ remembered. remembered.items ≡ list_map (λ v. (v, map.get distances.now v)) (root ∷ lost.now)) }
 {
     let mut remembered = Vec::with_capacity(alloc, 8)?;
-    remembered.push((root, distances.get(root)))?;
+    remembered.push((root, distances.find(root)))?;
     for vertex in lost {
-        remembered.push((*vertex, distances.get(*vertex)))?;
+        remembered.push((*vertex, distances.find(*vertex)))?;
     }
     Ok(remembered)
 }
@@ -59,7 +59,7 @@ fn add_farther(
     ensures { OnOk result ((v : VertexValue) → Contains changed.new.items v ↔ (Contains changed.old.items v ⊎ IsFarther remembered.now distances.now v)) }
 {
     for (vertex, distance) in remembered {
-        if distances.get(*vertex) != *distance {
+        if distances.find(*vertex) != *distance {
             changed.push(*vertex)?;
         }
     }

@@ -3,40 +3,40 @@ ghost use Rattle.std.specs.Prelude.{◌≡◌, ◌<◌, ◌^◌, IfSome, IfOk, O
 ghost use Rattle.std.specs.FinMap as map;
 ghost use Rattle.tree_parts.specs.Maps.{most_distance};
 
-use indexmap::IndexMap;
 use ospf_types::entry::Vertex;
 use ospf_types::memory::Memory;
 use std::alloc::Global;
 use std::marker::Model;
+use vertex_map::{Placed, VertexMap};
 use word_hash::WordHash;
 
 /// The vertices that are reached, each at its distance: a sum of metrics below 2^30.
 pub struct Distances {
-    entries: IndexMap<Vertex, u32, WordHash>,
+    by_vertex: VertexMap<u32>,
 }
 
 // proof: one call drops it, in place of a drop of each part wherever one is held.
 impl Drop for Distances {
     fn drop(self) {
-        let Distances { entries: _entries } = self;
+        let Distances {
+            by_vertex: _by_vertex,
+        } = self;
     }
 }
 
 impl Model for Distances {
     ghost use Rattle.std.specs.FinMap as map;
     ghost use Rattle.std.specs.Coded.{coded_ℕ};
-    ghost use Rattle.std.specs.Prelude.{◌<◌};
-    ghost use Rattle.std.specs.List.{All};
     ghost use Rattle.ospf_types.specs.Vertices.{vertex_code};
-    ghost use Rattle.tree_parts.specs.Maps.{DistanceMap, most_distance};
+    ghost use Rattle.tree_parts.specs.Maps.{AreBounded, DistanceMap};
 
     ghost Value = { DistanceMap };
 
     ghost coded = { map.code vertex_code coded_ℕ };
 
-    ghost view = { λ d. map.from_entries d.entries.entries };
+    ghost view = { λ d. d.by_vertex };
 
-    ghost invariant = { λ d. All (λ p. p.1 < most_distance) d.entries.entries };
+    ghost invariant = { λ d. AreBounded d.by_vertex };
 }
 
 impl Distances {
@@ -44,16 +44,25 @@ impl Distances {
     pub fn with_room(alloc: Global, hashing: WordHash, room: usize) -> Result<Distances, Memory>
         ensures { IfOk result (λ none. none ≡ map.empty) }
     {
-        let entries = IndexMap::with_capacity_and_hasher(alloc, room, hashing)?;
-        Ok(Distances { entries })
+        let by_vertex = VertexMap::with_room(alloc, hashing, room)?;
+        Ok(Distances { by_vertex })
     }
 
     /// A tree looks up the distance of a vertex; none where it is not reached.
-    pub fn get(&self, vertex: Vertex) -> Option<u32>
+    #[inline]
+    pub fn get(&self, vertex: &Placed) -> Option<u32>
+        ensures value { result ≡ map.get self.now vertex.now }
+        ensures bounded { IfSome result (λ distance. distance < most_distance) }
+    {
+        self.by_vertex.get(vertex).copied()
+    }
+
+    /// The same of a vertex whose place is not known: it is looked up by its hash.
+    pub fn find(&self, vertex: Vertex) -> Option<u32>
         ensures value { result ≡ map.get self.now vertex }
         ensures bounded { IfSome result (λ distance. distance < most_distance) }
     {
-        self.entries.get(&vertex).copied()
+        self.get(&Placed::nowhere(vertex))
     }
 
     /// How many vertices are reached.
@@ -61,30 +70,30 @@ impl Distances {
         ensures value { result ≡ map.len self.now }
         ensures small { result < 2 ^ 63 }
     {
-        self.entries.len()
+        self.by_vertex.len()
     }
 
     /// Gives the vertex this distance.
-    pub fn set(&mut self, vertex: Vertex, distance: u32) -> Result<(), Memory>
+    pub fn set(&mut self, vertex: &Placed, distance: u32) -> Result<(), Memory>
         requires { distance < most_distance }
-        ensures set { OnOk result (self.new ≡ map.insert self.old vertex distance) }
+        ensures set { OnOk result (self.new ≡ map.insert self.old vertex.now distance) }
         ensures unchanged { OnErr result (self.new ≡ self.old) }
     {
-        self.entries.insert(vertex, distance)?;
+        self.by_vertex.insert(vertex, distance)?;
         Ok(())
     }
 
     /// Takes the distance of a vertex out.
-    pub fn remove(&mut self, vertex: Vertex)
-        ensures { self.new ≡ map.remove self.old vertex }
+    pub fn remove(&mut self, vertex: &Placed)
+        ensures { self.new ≡ map.remove self.old vertex.now }
     {
-        self.entries.swap_remove(&vertex);
+        self.by_vertex.remove(vertex);
     }
 
     /// Takes all distances out.
     pub fn clear(&mut self)
         ensures { self.new ≡ map.empty }
     {
-        self.entries.clear();
+        self.by_vertex.clear();
     }
 }

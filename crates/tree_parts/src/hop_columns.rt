@@ -4,41 +4,40 @@ ghost use Rattle.std.specs.FinMap as map;
 ghost use Rattle.tree_parts.specs.Maps.{AreHopsInOrder};
 
 use hop_sets::HopSet;
-use indexmap::IndexMap;
 use ospf_types::entry::Vertex;
 use ospf_types::memory::Memory;
 use std::alloc::Global;
 use std::marker::Model;
+use vertex_map::{Placed, VertexMap};
 use word_hash::WordHash;
 
 /// The next hops of each vertex that has some, ascending, each once.
 pub struct HopColumns {
-    entries: IndexMap<Vertex, HopSet, WordHash>,
+    by_vertex: VertexMap<HopSet>,
 }
 
 // proof: one call drops it, in place of a drop of each part wherever one is held.
 impl Drop for HopColumns {
     fn drop(self) {
-        let HopColumns { entries: _entries } = self;
+        let HopColumns {
+            by_vertex: _by_vertex,
+        } = self;
     }
 }
 
 impl Model for HopColumns {
     ghost use Rattle.std.specs.FinMap as map;
     ghost use Rattle.std.specs.Coded.{codes};
-    ghost use Rattle.std.specs.List.{All};
-    ghost use Rattle.std.specs.List.Sorted.{IsStrictlySortedBy};
-    ghost use Rattle.ospf_types.specs.Hops.{hop_cmp};
     ghost use Rattle.ospf_types.specs.Vertices.{vertex_code};
-    ghost use Rattle.tree_parts.specs.Maps.{HopMap};
+    ghost use Rattle.tree_parts.specs.Maps.{AreHopsInOrder, HopMap};
 
     ghost Value = { HopMap };
 
     ghost coded = { map.code vertex_code (Prim.hlevel codes) };
 
-    ghost view = { λ h. map.from_entries h.entries.entries };
+    ghost view = { λ h. h.by_vertex };
 
-    ghost invariant = { λ h. All (λ p. IsStrictlySortedBy hop_cmp p.1) h.entries.entries };
+    ghost invariant = { λ h. AreHopsInOrder h.by_vertex };
 }
 
 impl HopColumns {
@@ -46,15 +45,23 @@ impl HopColumns {
     pub fn with_room(alloc: Global, hashing: WordHash, room: usize) -> Result<HopColumns, Memory>
         ensures { IfOk result (λ none. none ≡ map.empty) }
     {
-        let entries = IndexMap::with_capacity_and_hasher(alloc, room, hashing)?;
-        Ok(HopColumns { entries })
+        let by_vertex = VertexMap::with_room(alloc, hashing, room)?;
+        Ok(HopColumns { by_vertex })
     }
 
     /// Lends the next hops of a vertex; none where it has none.
-    pub fn get(&self, vertex: Vertex) -> Option<&HopSet>
+    #[inline]
+    pub fn get(&self, vertex: &Placed) -> Option<&HopSet>
+        ensures { option_copied result ≡ map.get self.now vertex.now }
+    {
+        self.by_vertex.get(vertex)
+    }
+
+    /// The same of a vertex whose place is not known: it is looked up by its hash.
+    pub fn find(&self, vertex: Vertex) -> Option<&HopSet>
         ensures { option_copied result ≡ map.get self.now vertex }
     {
-        self.entries.get(&vertex)
+        self.get(&Placed::nowhere(vertex))
     }
 
     /// How many vertices have next hops.
@@ -62,30 +69,30 @@ impl HopColumns {
         ensures value { result ≡ map.len self.now }
         ensures in_order { AreHopsInOrder self.now }
     {
-        self.entries.len()
+        self.by_vertex.len()
     }
 
     /// Gives the vertex these next hops.
-    pub fn set(&mut self, vertex: Vertex, hops: HopSet) -> Result<(), Memory>
-        ensures set { OnOk result (self.new ≡ map.insert self.old vertex hops) }
+    pub fn set(&mut self, vertex: &Placed, hops: HopSet) -> Result<(), Memory>
+        ensures set { OnOk result (self.new ≡ map.insert self.old vertex.now hops) }
         ensures unchanged { OnErr result (self.new ≡ self.old) }
     {
         let _ = hops.as_slice();
-        self.entries.insert(vertex, hops)?;
+        self.by_vertex.insert(vertex, hops)?;
         Ok(())
     }
 
     /// Takes the next hops of a vertex out.
-    pub fn remove(&mut self, vertex: Vertex)
-        ensures { self.new ≡ map.remove self.old vertex }
+    pub fn remove(&mut self, vertex: &Placed)
+        ensures { self.new ≡ map.remove self.old vertex.now }
     {
-        self.entries.swap_remove(&vertex);
+        self.by_vertex.remove(vertex);
     }
 
     /// Takes all next hops out.
     pub fn clear(&mut self)
         ensures { self.new ≡ map.empty }
     {
-        self.entries.clear();
+        self.by_vertex.clear();
     }
 }

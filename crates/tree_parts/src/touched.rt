@@ -8,6 +8,7 @@ use crate::hop_columns::HopColumns;
 use hop_sets::HopSet;
 use ospf_types::entry::Vertex;
 use ospf_types::memory::Memory;
+use vertex_map::Placed;
 use vertex_queue::Queue;
 
 /// The work of building or repairing a tree.
@@ -49,11 +50,11 @@ impl Touched {
     pub fn write(
         &mut self,
         sets: &mut HopColumns,
-        vertex: Vertex,
+        vertex: &Placed,
         hops: Option<HopSet>,
     ) -> Result<(), Memory>
         requires { self.old.hop_sets + 1 < 2 ^ 64 }
-        ensures written { OnOk result (sets.new ≡ with_hops sets.old vertex hops) }
+        ensures written { OnOk result (sets.new ≡ with_hops sets.old vertex.now hops) }
         ensures counted { OnOk result (self.new ≡ record { taken = self.old.taken; hop_sets = self.old.hop_sets + 1 }) }
     {
         match hops {

@@ -17,6 +17,8 @@ mod links;
 #[cfg(test)]
 mod network;
 #[cfg(test)]
+mod places;
+#[cfg(test)]
 mod queue;
 #[cfg(test)]
 mod tests;

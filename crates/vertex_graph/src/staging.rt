@@ -1,5 +1,5 @@
 //! What is handed in, before anything changes.
-ghost use Rattle.std.specs.Prelude.{◌≡◌, ◌⊎◌, None, [], IsTrue, OnOk, IfOk, Contains, option_map};
+ghost use Rattle.std.specs.Prelude.{◌≡◌, ◌↔◌, ◌⊎◌, None, [], IsTrue, OnOk, IfOk, Contains, option_map};
 ghost use Rattle.std.specs.FinMap.{find};
 ghost use Rattle.ospf_types.specs.declared.entry.Vertex.{Vertex as VertexValue};
 ghost use Rattle.ospf_types.specs.declared.entry.Vertex.TheVariants.{Router};
@@ -62,12 +62,35 @@ pub(crate) fn stage(
         (handed_of lsas.now)) }
     ensures touched { IfOk result (λ staging. AreTouched (row_ends rows.now.entries) (ends_after rows.now.entries staging.ends.entries) staging.touched.keys) }
 {
-    let mut staging = Staging::new(alloc, *rows.hasher());
+    let mut staging = begin(alloc, rows, lsas)?;
     for (vertex, lsa) in lsas {
         let ends = given_ends(alloc, *vertex, *lsa)?;
         stage_one(rows, *vertex, ends, &mut staging)?;
     }
     Ok(staging)
+}
+
+// So many vertices that are handed in at one time are mostly new.
+const MANY: usize = 16;
+
+// Nothing handed in yet. Many vertices are touched at once, and so those that are new get their rows in the order in which they
+// are staged.
+fn begin(alloc: Global, rows: &Rows, lsas: &[(Vertex, Option<&Checked>)]) -> Result<Staging, Memory>
+    ensures { IfOk result (λ staging. staging.ends.entries ≡ []) }
+{
+    let mut staging = Staging::new(alloc, *rows.hasher());
+    if lsas.len() >= MANY {
+        touch_all(lsas, &mut staging.touched)?;
+    }
+    Ok(staging)
+}
+
+// Touches all vertices that are handed in.
+fn touch_all(lsas: &[(Vertex, Option<&Checked>)], touched: &mut Touched) -> Result<(), Memory> {
+    for (vertex, _) in lsas {
+        touched.insert(*vertex)?;
+    }
+    Ok(())
 }
 
 // Where the vertex leads by its LSA, none where the LSA goes.
@@ -148,22 +171,39 @@ fn touch(ends: &[End], others: &[End], touched: &mut Touched) -> Result<(), Memo
     ensures kept { OnOk result (IsWithin touched.old.keys touched.new.keys) }
     ensures others { OnOk result (TouchesOthers ends.now others.now touched.new.keys) }
 {
-    for end in ends {
-        touch_end(*end, others, touched)?;
+    for (place, end) in ends.iter().enumerate() {
+        touch_end(*end, place, others, touched)?;
     }
     Ok(())
 }
 
-// Touches the vertex at the end, unless the end is among others.
-fn touch_end(end: End, others: &[End], touched: &mut Touched) -> Result<(), Memory>
+// Touches the vertex at the end, unless the end is among others, where it mostly has the place that it has here.
+fn touch_end(end: End, place: usize, others: &[End], touched: &mut Touched) -> Result<(), Memory>
     ensures kept { OnOk result (IsWithin touched.old.keys touched.new.keys) }
     ensures other { OnOk result (Contains others.now end ⊎ Contains touched.new.keys end.to) }
 {
-    if has_end(others, end) {
+    if has_at(others, place, end) || has_end(others, end) {
         return Ok(());
     }
     touched.insert(end.to)?;
     Ok(())
+}
+
+// Whether the end has this place among ends.
+fn has_at(ends: &[End], place: usize, end: End) -> bool
+    ensures { IsTrue result → Contains ends.now end }
+{
+    match ends.get(place) {
+        Some(other) => is_same_end(*other, end),
+        None => false,
+    }
+}
+
+// Whether two ends are the same.
+fn is_same_end(one: End, other: End) -> bool
+    ensures { IsTrue result ↔ (one ≡ other) }
+{
+    one.to == other.to && one.detail == other.detail && one.metric == other.metric
 }
 
 // Whether the end is among ends that are in order.

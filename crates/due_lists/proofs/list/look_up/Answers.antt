@@ -1,5 +1,5 @@
 -- The list is itself with the metric that is found.
-use Rattle.std.proofs.Common.{◌≡◌, List, Some, None, get_or, sym, ap, subst, ◌∙◌}
+use Rattle.std.proofs.Common.{◌≡◌, List, Some, None, get_or, sym, subst}
 use Rattle.due_lists.specs.declared.due.Due.{Due}
 use Rattle.due_lists.specs.Lists.{IsMetricIn}
 use Rattle.due_lists.specs.Places.{with_metric}

@@ -1,8 +1,7 @@
-use Rattle.std.proofs.Common.{Ordering, length, rules, subst}
+use Rattle.std.proofs.Common.{Ordering, rules, subst}
 use Rattle.std.specs.List.Sorted.{IsBinarySearchResult}
 use Rattle.std.proofs.lemmas.List.Sorted.{answers_always}
 use Rattle.ospf_types.specs.declared.key.Dest.{Dest}
-use Rattle.ospf_types.specs.Keys.{dest_cmp}
 use Rattle.ospf_types.proofs.DerivedOrders.{dest_cmp_is}
 use Rattle.due_lists.specs.declared.due.Due.{Due}
 use Rattle.due_lists.proofs.Placing.{searched}

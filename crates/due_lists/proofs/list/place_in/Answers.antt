@@ -1,7 +1,6 @@
 -- The front of the list is the destination, or comes after it.
-use Rattle.std.proofs.Common.{◌≡◌, Some, sym, ap, ◌∙◌}
+use Rattle.std.proofs.Common.{◌≡◌, sym, ◌∙◌}
 use Rattle.std.specs.declared.cmp.Ordering.TheVariants.{Equal, Greater}
-use Rattle.std.specs.List.{slice_get}
 use Rattle.ospf_types.specs.Keys.{dest_cmp}
 use Rattle.ospf_types.proofs.DerivedOrders.{dest_cmp_is}
 use Rattle.due_lists.proofs.Placing.{is_first, is_past}

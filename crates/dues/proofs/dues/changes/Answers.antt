@@ -2,7 +2,7 @@
 use Rattle.std.proofs.Common.{◌≡◌, ℕ, ◌+◌, ◌<◌, ◌≤◌, List, ◌∷◌, length, drop, get_or, sym, ap, subst, ◌∙◌}
 use Rattle.std.specs.Prelude.{◌↔◌, IsTrue}
 use Rattle.std.proofs.lemmas.List.{length-map, get_or-map}
-use Rattle.ospf_types.proofs.Elements.{first_element}
+use Rattle.ospf_types.proofs.Elements.{first_element, contains_at}
 use Rattle.due_lists.specs.declared.due.Due.{Due}
 use Rattle.due_lists.specs.Lists.{Metrics, IsMetricIn, due_for}
 use Rattle.due_lists.proofs.Parts.{IsLeft, all_left, left_after}
@@ -19,10 +19,6 @@ look_up-had-requires-clause-in_order c = c.loop-candidate.invariant.1.in_order
 
 pub look_up-had-requires-clause-of_kind : goal.look_up-had-requires-clause-of_kind
 look_up-had-requires-clause-of_kind c = c.loop-candidate.invariant.1.of_kind
-
-pub metric-metric-requires-clause-served : goal.metric-metric-requires-clause-served
-metric-metric-requires-clause-served c =
-    subst (λ (w : DueInputsValue). IsTrue c.is_served-served.result ↔ IsServed w.active c.args.area.now.id) c.inputs.view_is c.is_served-served.ensures
 
 pub loop-candidate-init : goal.loop-candidate-init
 loop-candidate-init c =
@@ -48,8 +44,11 @@ loop-candidate-preserved c =
     let had : IsMetricIn list d c.look_up-had.result.0 = λ m.
     let same = left.same d (first_element d (drop (i + 1) dests)) (due_for d m) (λ k. d) in
     let is = c.look_up-had.ensures.metric m in
-    (λ h. same.0 (is.0 h), λ h. is.1 (same.1 h)) in (
-      compared_more c.args.inputs.now c.args.area.now list dests c.loop-candidate.metrics.items i d c.metric-metric.result lt at c.metric-metric.ensures was.0 c.push_change.new.metrics.items (c.in_ok-push_change.ensures list had),
+    (λ h. same.0 (is.0 h), λ h. is.1 (same.1 h)) in
+    let v = c.args.inputs.now in
+    let serves = subst (λ (w : DueInputsValue). IsTrue c.is_served-served.result ↔ IsServed w.active c.args.area.now.id) c.inputs.view_is c.is_served-served.ensures in
+    let right = c.requires.right x (contains_at cands i x c.loop-candidate-test.true c.candidate-item.is) in (
+      compared_more c.args.inputs.now c.args.area.now list dests c.loop-candidate.metrics.items i d c.metric-metric.result lt at (c.metric-metric.ensures v serves right) was.0 c.push_change.new.metrics.items (c.in_ok-moves.ensures list had),
       subst (λ (ds : List Due). IsLeft list ds (drop (i + 1) dests)) (sym c.look_up-had.ensures.after) (left_after list rest d (drop (i + 1) dests) (later_dests dests i d lt at c.requires.in_order) left),
     )
 

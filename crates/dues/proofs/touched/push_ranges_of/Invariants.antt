@@ -4,4 +4,4 @@ use Rattle.dues.specs.Touched.{HasAlso, IsOverIn}
 use Rattle.dues.proofs.touched.push_ranges_of.Given as goal
 
 abbrev pub invariant-loop-range : goal.invariant-loop-range
-invariant-loop-range l = HasAlso (IsOverIn (take l.range-index l.range-items) l.network) l.initial.found.items l.found.items
+invariant-loop-range l = HasAlso (IsOverIn (take l.range-index l.range-items) l.dests) l.initial.found.items l.found.items

@@ -1,5 +1,5 @@
 -- One destination more.
-use Rattle.std.proofs.Common.{List, sym, subst, inl, inr}
+use Rattle.std.proofs.Common.{◌≡◌, true, false, List, sym, subst, inl, inr, ◌∙◌}
 use Rattle.std.specs.FinMap.{from_entries}
 use Rattle.std.proofs.lemmas.List.{take_all}
 use Rattle.ospf_types.specs.declared.key.Dest.{Dest}
@@ -26,3 +26,10 @@ pub returns : goal.returns
 returns c = λ a due.
     c.loop-dest.invariant a
     (subst (λ (ds : List Dest). IsAddressDue ds c.args.due.now.items c.args.index.now (from_entries c.args.forwards.now.entries) a) (sym (take_all c.loop-dest.dest-index c.args.dests.now c.loop-dest-test.false)) due)
+
+-- where there is no forwarding address, none lies in a network
+pub returns-then-not-has_addresses : goal.returns-then-not-has_addresses
+returns-then-not-has_addresses c = λ a due. elim due [
+  | inl there ↦ there
+  | inr w ↦ absurd (let yes : true ≡ false = sym (c.has_addresses.ensures.1 (a, w.2.0.0)) ∙ c.if-not-has_addresses.true in cc)
+]

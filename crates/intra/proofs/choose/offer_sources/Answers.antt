@@ -1,8 +1,36 @@
+-- One source more, and then the transit network.
+use Rattle.std.proofs.Common.{List, sym, subst, take}
+use Rattle.std.proofs.lemmas.List.{take_more, take_all}
 use Rattle.std.proofs.lemmas.Result.{on_ok_weaker}
-use Rattle.intra.specs.Choosing.{AmongSources}
-use Rattle.intra.proofs.Sourced.{takes_area}
+use Rattle.intra.specs.declared.area_index.Source.{Source}
+use Rattle.intra.specs.Choosing.{AmongSources, ThisSource, KeyedStubs, FindsNearest}
+use Rattle.intra.proofs.Nearest.{nearest_of_none}
+use Rattle.intra.proofs.Sourced.{takes_area, takes_sources}
+use Rattle.path_choice.proofs.Taking.{takes_at, takes_past}
 use Rattle.intra.proofs.choose.offer_sources.Goals as goal
+
+pub loop-source-init : goal.loop-source-init
+loop-source-init c = record { offered = λ new takes. takes; found = λ p. nearest_of_none c.args.area.now p; bounded = tt }
+
+pub loop-source-preserved : goal.loop-source-preserved
+loop-source-preserved c =
+    let xs = c.args.sources.now in
+    let i = c.loop-source.source-index in
+    let source = c.in_ok-nearest.ensures in
+    record {
+      offered = λ new rest.
+          c.loop-source.invariant.offered new (takes_at (λ (s : Source). KeyedStubs (ThisSource s) c.args.inputs.now c.args.area.now c.args.prefix) xs i _ c.loop-source.best c.offer_source.new.best new c.loop-source-test.true source.offered rest);
+      found = λ p. subst (λ (past : List Source). FindsNearest (AmongSources past) c.args.area.now p c.in_ok-nearest.nearest) (sym (take_more xs i _ c.loop-source-test.true)) (source.found (take i xs) p (c.loop-source.invariant.found p));
+      bounded = source.bounded;
+    }
 
 pub returns : goal.returns
 returns c =
-    on_ok_weaker c.offer_transit.result (takes_area c.args.area.now c.args.prefix (AmongSources c.args.sources.now) c.args.inputs.now c.args.best.now c.offer_stubs.new.best c.offer_transit.new.best c.in_ok-offer_stubs.ensures) (c.offer_transit.ensures c.args.prefix)
+    let v = c.args.inputs.now in
+    let a = c.args.area.now in
+    let p = c.args.prefix in
+    let sources = c.args.sources.now in
+    let all = c.loop-source.invariant.offered c.loop-source.best (takes_past (λ (s : Source). KeyedStubs (ThisSource s) v a p) sources c.loop-source.source-index c.loop-source.best c.loop-source-test.false) in
+    let stubs = takes_sources v a p sources c.args.best.now c.loop-source.best all in
+    let found = subst (λ (past : List Source). FindsNearest (AmongSources past) a p c.loop-source.nearest) (take_all c.loop-source.source-index sources c.loop-source-test.false) (c.loop-source.invariant.found p) in
+    on_ok_weaker c.offer_transit.result (takes_area a p (AmongSources sources) v c.args.best.now c.loop-source.best c.offer_transit.new.best stubs) (c.offer_transit.ensures sources p found)

@@ -8,5 +8,5 @@ returns c =
     let scope = c.in_ok-scope.ensures in
     let digits = c.in_ok-digits.ensures in
     let again = digits_again c.in_ok-digits.digits.now digits.0 in
-    let words = scope.1 ∙ ap (λ ws. scope_text c.in_ok-scope.scope ∷ ws) (digits.1 ∙ ap (λ ws. c.in_ok-digits.digits.now ∷ ws) c.in_ok-end.ensures) in
+    let words = scope.1 ∙ ap (λ ws. scope_text c.in_ok-scope.scope ∷ ws) digits.1 in
     record { says = (scope.0, again.0, lsa_said _ c.in_ok-scope.scope c.in_ok-digits.digits.now words digits.0); digits = again.2 }

@@ -6,4 +6,4 @@ use Rattle.spf.proofs.gathering.gather.Given as goal
 
 -- what the links so far give is added
 abbrev pub invariant-loop-link : goal.invariant-loop-link
-invariant-loop-link l = IsUnion l.initial.set l.set (IsOfSome (take l.link-index l.link-items) (IsGivenOver l.root (get l.distances) (hops_of l.hops)))
+invariant-loop-link l = IsUnion l.initial.set l.set (IsOfSome (take l.link-index l.links) (IsGivenOver l.root (get l.distances) (hops_of l.hops)))

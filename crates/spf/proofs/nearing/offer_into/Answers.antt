@@ -9,15 +9,15 @@ use Rattle.spf.proofs.Offering.{into_more}
 use Rattle.spf.proofs.nearing.offer_into.Goals as goal
 
 pub offer_to-requires-clause-head : goal.offer_to-requires-clause-head
-offer_to-requires-clause-head c = λ l within. ap (get c.args.distances.now) ((c.links_to.ensures.exact l).0 within).0 ∙ sym c.get-far.ensures.value
+offer_to-requires-clause-head c = λ l within. ap (get c.args.distances.now) ((c.links_to-links.ensures.exact l).0 within).0 ∙ sym (c.get-far.ensures.value ∙ ap (get c.args.distances.now) c.head_of.ensures)
 
 pub loop-vertex-preserved : goal.loop-vertex-preserved
 loop-vertex-preserved c =
     let distance = get c.args.distances.now in
-    let made : AreMade (OverReached c.args.graph.now.root distance c.links_to.result.now) distance (get c.loop-vertex.queue) (get c.offer_to.new.queue) c.loop-vertex.stale c.offer_to.new.stale =
-    subst (λ (r : ℕ). AreMade (OverReached r distance c.links_to.result.now) distance (get c.loop-vertex.queue) (get c.offer_to.new.queue) c.loop-vertex.stale c.offer_to.new.stale)
+    let made : AreMade (OverReached c.args.graph.now.root distance c.links_to-links.result.now) distance (get c.loop-vertex.queue) (get c.offer_to.new.queue) c.loop-vertex.stale c.offer_to.new.stale =
+    subst (λ (r : ℕ). AreMade (OverReached r distance c.links_to-links.result.now) distance (get c.loop-vertex.queue) (get c.offer_to.new.queue) c.loop-vertex.stale c.offer_to.new.stale)
     c.root-root.ensures.value c.in_ok-offer_to.ensures in
-    into_more (LinksOf c.args.graph.now) c.args.graph.now.root c.args.vertices.now c.loop-vertex.vertex-index (Router 0) c.links_to.result.now c.loop-vertex-test.true c.links_to.ensures.exact c.loop-vertex.invariant made
+    into_more (LinksOf c.args.graph.now) c.args.graph.now.root c.args.vertices.now c.loop-vertex.vertex-index (Router 0) c.links_to-links.result.now c.loop-vertex-test.true c.links_to-links.ensures.exact c.loop-vertex.invariant made
 
 pub returns : goal.returns
 returns c =

@@ -1,15 +1,16 @@
 -- The member is added, or it is not covered.
-use Rattle.std.proofs.Common.{true≢false, subst, sym, ◌∙◌}
-use Rattle.ospf_types.specs.Address.{Covers}
+use Rattle.std.proofs.Common.{true≢false, sym, ◌∙◌}
+use Rattle.summaries.specs.Following.{IsNamedAs}
 use Rattle.summaries.specs.declared.member.Member.{Member}
-use Rattle.summaries.proofs.Naming.{IsCovered, more_none, more_one}
+use Rattle.summaries.proofs.Naming.{more_none, more_one, covered, not_covered}
 use Rattle.summaries.proofs.named.push_covered.Goals as goal
 
 pub returns-then-not-covers : goal.returns-then-not-covers
 returns-then-not-covers c =
-    more_none (IsCovered c.args.member) c.args.members.now.items (λ m n. true≢false (sym (c.covers.ensures.1 (subst (λ (x : Member). Covers x.range x.network) n.0 n.1)) ∙ c.if-not-covers.true))
+    more_none (IsNamedAs c.args.range.now c.args.dest) c.args.members.now.items (not_covered c.args.range.now c.args.dest c.in-Net.network c.in-Net.is (λ covers. true≢false (sym (c.covers.ensures.1 covers) ∙ c.if-not-covers.true)))
 
 pub returns : goal.returns
 returns c =
-    let covers = c.covers.ensures.0 c.if-not-covers.false in
-    more_one (IsCovered c.args.member) c.args.members.now.items c.push.new.self.items c.args.member c.in_ok-push.ensures.items (λ m. (λ n. n.0, λ e. (e, subst (λ (x : Member). Covers x.range x.network) (sym e) covers)))
+    let range = c.args.range.now in
+    let one : Member = record { range = range.prefix; area = range.area; network = c.in-Net.network } in
+    more_one (IsNamedAs range c.args.dest) c.args.members.now.items c.push.new.self.items one c.in_ok-push.ensures.items (covered range c.args.dest c.in-Net.network c.in-Net.is (c.covers.ensures.0 c.if-not-covers.false))

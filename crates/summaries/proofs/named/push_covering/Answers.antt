@@ -1,21 +1,18 @@
--- The members of one range more.
-use Rattle.std.proofs.Common.{List, subst}
-use Rattle.ospf_types.specs.declared.config.Range.{Range}
+-- One destination more.
 use Rattle.spf.specs.HandedOn.{IsOfSome}
-use Rattle.summaries.specs.Following.{HasMore, IsNamedIn}
-use Rattle.summaries.proofs.Naming.{IsOfRange, more_as, more_next, more_all, named_in}
+use Rattle.summaries.specs.Following.{IsNamedAs, IsNamedOf}
+use Rattle.summaries.proofs.Naming.{more_as, more_next, more_all, named_of}
 use Rattle.summaries.proofs.named.push_covering.Goals as goal
 
-pub loop-range-preserved : goal.loop-range-preserved
-loop-range-preserved c =
-    more_next (IsOfRange c.args.area.now.id c.args.network) c.as_slice-range-items.result.now c.loop-range.range-index c.range-item.result c.args.members.now.items c.loop-range.members.items c.push_covered.new.members.items
-    c.loop-range-test.true c.range-item.is c.loop-range.invariant c.in_ok-push_covered.ensures
+pub loop-dest-preserved : goal.loop-dest-preserved
+loop-dest-preserved c =
+    more_next (IsNamedAs c.args.range.now) c.args.dests.now c.loop-dest.dest-index c.dest-item.result c.args.members.now.items c.loop-dest.members.items c.push_covered.new.members.items
+    c.loop-dest-test.true c.dest-item.is c.loop-dest.invariant c.in_ok-push_covered.ensures
 
 pub returns : goal.returns
 returns c =
-    let a = c.args.area.now in
-    let P = IsOfRange a.id c.args.network in
+    let dests = c.args.dests.now in
+    let P = IsNamedAs c.args.range.now in
     let before = c.args.members.now.items in
-    let after = c.loop-range.members.items in
-    let all = more_all P c.as_slice-range-items.result.now c.loop-range.range-index before after c.loop-range-test.false c.loop-range.invariant in
-    more_as (IsOfSome a.ranges P) (IsNamedIn a c.args.network) before after (named_in a c.args.network) (subst (λ (rs : List Range). HasMore (IsOfSome rs P) before after) c.as_slice-range-items.ensures all)
+    let after = c.loop-dest.members.items in
+    more_as (IsOfSome dests P) (IsNamedOf c.args.range.now dests) before after (named_of c.args.range.now dests) (more_all P dests c.loop-dest.dest-index before after c.loop-dest-test.false c.loop-dest.invariant)

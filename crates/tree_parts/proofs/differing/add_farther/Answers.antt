@@ -18,12 +18,12 @@ loop-vertex-preserved c =
     elim c.if-ne.branch [
       | then-ne+in_ok-push w ↦
           let items : c.if-ne.changed.items ≡ was ++ p.0 ∷ [] = ap (λ (l : _). l.items) w.changed-is ∙ w.in_ok-push.ensures.items in
-          let other : get c.args.distances.now p.0 ≢ p.1 = other_if (get c.args.distances.now p.0) c.get.result p.1 c.ne.result c.get.ensures.value c.ne.ensures w.if-ne.true in
+          let other : get c.args.distances.now p.0 ≢ p.1 = other_if (get c.args.distances.now p.0) c.find.result p.1 c.ne.result c.find.ensures.value c.ne.ensures w.if-ne.true in
           subst (λ (vs : List Vertex). IsGrown vs start (IsFarther (take (i + 1) before) c.args.distances.now)) (sym items)
           (grown_next (was ++ p.0 ∷ []) start (λ ps. IsFarther ps c.args.distances.now) before i none c.loop-vertex-test.true (farther_added was start (take i before) p c.args.distances.now c.loop-vertex.invariant other))
       | else-ne w ↦
           let items : c.if-ne.changed.items ≡ was = ap (λ (l : _). l.items) w.changed-is in
-          let same : get c.args.distances.now p.0 ≡ p.1 = same_unless (get c.args.distances.now p.0) c.get.result p.1 c.ne.result c.get.ensures.value c.ne.ensures w.if-ne.false in
+          let same : get c.args.distances.now p.0 ≡ p.1 = same_unless (get c.args.distances.now p.0) c.find.result p.1 c.ne.result c.find.ensures.value c.ne.ensures w.if-ne.false in
           subst (λ (vs : List Vertex). IsGrown vs start (IsFarther (take (i + 1) before) c.args.distances.now)) (sym items)
           (grown_next was start (λ ps. IsFarther ps c.args.distances.now) before i none c.loop-vertex-test.true (farther_passed was start (take i before) p c.args.distances.now c.loop-vertex.invariant same))
     ]

@@ -6,7 +6,7 @@ use Rattle.tree_parts.proofs.Grown.{remembered_next, remembered_all}
 use Rattle.tree_parts.proofs.differing.remember.Goals as goal
 
 pub loop-vertex-init : goal.loop-vertex-init
-loop-vertex-init c = c.in_ok-push.ensures.items ∙ (λ i. c.in_ok-remembered.ensures.items i ++ (c.args.root, c.get.ensures.value i) ∷ [])
+loop-vertex-init c = c.in_ok-push.ensures.items ∙ (λ i. c.in_ok-remembered.ensures.items i ++ (c.args.root, c.find.ensures.value i) ∷ [])
 
 pub loop-vertex-preserved : goal.loop-vertex-preserved
 loop-vertex-preserved c =
@@ -14,7 +14,7 @@ loop-vertex-preserved c =
     let i = c.loop-vertex.vertex-index in
     let w : Vertex = get_or c.args.lost.now i (Router 0) in
     remembered_next at c.args.root c.args.lost.now i (Router 0) c.loop-vertex.remembered.items _ c.loop-vertex-test.true c.loop-vertex.invariant
-    (c.in_ok-push-2.ensures.items ∙ ap (λ (d : Option ℕ). c.loop-vertex.remembered.items ++ (w, d) ∷ []) c.get-in-loop-vertex.ensures.value)
+    (c.in_ok-push-2.ensures.items ∙ ap (λ (d : Option ℕ). c.loop-vertex.remembered.items ++ (w, d) ∷ []) c.find-in-loop-vertex.ensures.value)
 
 pub returns : goal.returns
 returns c =

@@ -3,7 +3,7 @@ use Rattle.vertex_graph.proofs.staging.stage.Goals as goal
 
 pub loop-vertex-init : goal.loop-vertex-init
 loop-vertex-init c =
-    let none = slice_none c.args.rows.now.entries c.new-staging.result.ends.entries c.new-staging.result.touched.keys c.new-staging.ensures.ends in
+    let none = slice_none c.args.rows.now.entries c.in_ok-staging.staging.ends.entries c.in_ok-staging.staging.touched.keys c.in_ok-staging.ensures in
     record { staged = none.0; touched = none.1 }
 
 pub stage_one-requires-clause-new : goal.stage_one-requires-clause-new

@@ -2,8 +2,8 @@ use Rattle.std.proofs.Common.{take}
 use Rattle.vertex_graph.specs.Stagings.{IsWithin, TouchesOthers}
 use Rattle.vertex_graph.proofs.staging.touch.Given as goal
 
-abbrev pub invariant-loop-end : goal.invariant-loop-end
-invariant-loop-end l = record {
+abbrev pub invariant-loop-place : goal.invariant-loop-place
+invariant-loop-place l = record {
   kept : IsWithin l.fn.touched.keys l.touched.keys;
-  others : TouchesOthers (take l.end-index l.ends) l.others l.touched.keys;
+  others : TouchesOthers (take l.place l.ends) l.others l.touched.keys;
 }

@@ -13,10 +13,10 @@ returns-in-Ok-clause-list c =
     let same = ap (λ (w : AreaDuesValue). w.list) c.self.view_is in
     (removed _ _ same c.self.invariant c.args.dest _ c.in_default.is c.in-Ok.at c.in-Ok.ensures.found _ c.remove.ensures.items).put
 
-pub returns-in_default-place-clause-list : goal.returns-in_default-place-clause-list
-returns-in_default-place-clause-list c =
+pub returns-in-Err-clause-list : goal.returns-in-Err-clause-list
+returns-in-Err-clause-list c =
     let same = ap (λ (w : AreaDuesValue). w.list) c.self.view_is in
-    (stayed _ _ same c.self.invariant c.args.dest _ c.in_default.is c.in_default-place.field-0 c.in_default-place.ensures.absent).put
+    (stayed _ _ same c.self.invariant c.args.dest _ c.in_default.is c.in-Err.at c.in-Err.ensures.absent).put
 
 pub invariant_of-self-in-Ok-place : goal.invariant_of-self-in-Ok-place
 invariant_of-self-in-Ok-place c =
@@ -28,12 +28,12 @@ returns-in-Ok-place-clause-list c =
     let same = ap (λ (w : AreaDuesValue). w.list) c.self.view_is in
     (written _ _ same c.self.invariant c.args.dest _ c.in-Some.metric c.in-Some.is c.of-due.result c.of-due.ensures c.in-Ok-place.at c.in-Ok-place.ensures.found).put
 
-pub invariant_of-self-in-Ok-insert : goal.invariant_of-self-in-Ok-insert
-invariant_of-self-in-Ok-insert c =
+pub invariant_of-self-in-Err-place : goal.invariant_of-self-in-Err-place
+invariant_of-self-in-Err-place c =
     let same = ap (λ (w : AreaDuesValue). w.list) c.self.view_is in
-    (inserted _ _ same c.self.invariant c.args.dest _ c.in-Some.metric c.in-Some.is c.of-due.result c.of-due.ensures c.in-Err.at c.in-Err.ensures.absent _ c.in-Ok-insert.ensures.items).invariant
+    (inserted _ _ same c.self.invariant c.args.dest _ c.in-Some.metric c.in-Some.is c.of-due.result c.of-due.ensures c.in-Err-place.at c.in-Err-place.ensures.absent _ c.in-Ok-insert.ensures.items).invariant
 
 pub returns-in-Ok-insert-clause-list : goal.returns-in-Ok-insert-clause-list
 returns-in-Ok-insert-clause-list c =
     let same = ap (λ (w : AreaDuesValue). w.list) c.self.view_is in
-    (inserted _ _ same c.self.invariant c.args.dest _ c.in-Some.metric c.in-Some.is c.of-due.result c.of-due.ensures c.in-Err.at c.in-Err.ensures.absent _ c.in-Ok-insert.ensures.items).put
+    (inserted _ _ same c.self.invariant c.args.dest _ c.in-Some.metric c.in-Some.is c.of-due.result c.of-due.ensures c.in-Err-place.at c.in-Err-place.ensures.absent _ c.in-Ok-insert.ensures.items).put

@@ -4,7 +4,7 @@ use Rattle.due_lists.proofs.list.AreaDues.put_all.Goals as goal
 
 pub loop-dest-preserved : goal.loop-dest-preserved
 loop-dest-preserved c = record {
-  area = c.put.ensures.area ∙ c.loop-dest.invariant.area;
-  changes = next_left_at _ _ _ _ c.loop-dest.dest-index c.loop-dest-item.result c.loop-dest-test.true c.loop-dest-item.is c.put.ensures.list c.loop-dest.invariant.changes;
+  area = c.put-near.ensures.area ∙ c.loop-dest.invariant.area;
+  changes = next_left_at _ _ _ _ c.loop-dest.dest-index c.loop-dest-item.result c.loop-dest-test.true c.loop-dest-item.is c.put-near.ensures.list c.loop-dest.invariant.changes;
   room = omega arith;
 }

@@ -36,14 +36,15 @@ returns c =
     let stands : StandsBut v dests affected old = subst (λ (w : ExternalValue). StandsBut v dests affected w) (sym c.self.view_is) (subst (λ (a : AffectedValue). StandsBut v dests a c.args.self.now) (sym c.affected.view_is) c.requires) in
     let first = subst (λ (ns : List ℕ). AreLed old.index By ns affected.dests by_routers) c.as_slice.ensures.value c.in_ok-push_by.ensures in
     let second = subst (λ (ns : List ℕ). AreLed old.index Forwarded ns by_routers led) c.as_slice-2.ensures.value c.in_ok-push_forwarded.ensures in
-    let leading : c.as_slice-3.result.now ≡ led ++ dests = c.as_slice-3.ensures.value ∙ c.in_ok-extend_from_slice.ensures.items in
-    let chosen = subst (λ (ds : List Dest). AreEntriesRenewed v old.index preferred forwards ds old.entries entries) leading c.in_ok-named.ensures.renewed in
+    let leading = c.push_led.new.leading.items in
+    let third = c.in_ok-push_led.ensures in
+    let chosen = subst (λ (ds : List Dest). AreEntriesRenewed v old.index preferred forwards ds old.entries entries) c.as_slice-3.ensures.value c.in_ok-named.ensures.renewed in
     let all : c.add_routers.new.dests.items ≡ named ++ map Router routers = c.in_ok-add_routers.ensures ∙ ap (λ (rs : List ℕ). named ++ map Router rs) c.as_slice-4.ensures.value in
     record {
-      kept = renewed v dests affected old preferred forwards entries routers moved by_routers led stands c.in_ok-routers.ensures.renewed c.in_ok-routers.ensures.exact c.in_ok-moved.ensures.renewed c.in_ok-moved.ensures.exact first second chosen;
+      kept = renewed v dests affected old preferred forwards entries routers moved by_routers led leading stands c.in_ok-routers.ensures.renewed c.in_ok-routers.ensures.exact c.in_ok-moved.ensures.renewed c.in_ok-moved.ensures.exact first second third chosen;
       in_order = subst (IsStrictlySortedBy dest_cmp) (sym all) (c.in_ok-named.ensures.in_order routers c.in_ok-routers.ensures.in_order);
       exact = λ d.
-          let is = exactly v dests affected old preferred forwards entries routers moved by_routers led stands c.in_ok-routers.ensures.renewed c.in_ok-routers.ensures.exact c.in_ok-moved.ensures.renewed c.in_ok-moved.ensures.exact first second chosen named c.in_ok-named.ensures.exact d in
+          let is = exactly v dests affected old preferred forwards entries routers moved by_routers led leading stands c.in_ok-routers.ensures.renewed c.in_ok-routers.ensures.exact c.in_ok-moved.ensures.renewed c.in_ok-moved.ensures.exact first second third chosen named c.in_ok-named.ensures.exact d in
           subst (λ (ds : List Dest). Contains ds d ↔ DiffersAt c.args.self.now (the_view (record c.self.inside { preferred = c.renew_preferred.new.preferred; forwards = c.renew_forwards.new.forwards; entries = c.renew_entries.new.entries })) d) (sym all)
           (subst (λ (w : ExternalValue). Contains (named ++ map Router routers) d ↔ DiffersAt w (the_view (record c.self.inside { preferred = c.renew_preferred.new.preferred; forwards = c.renew_forwards.new.forwards; entries = c.renew_entries.new.entries })) d) c.self.view_is is);
     }

@@ -10,4 +10,4 @@ returns-in-Some c =
 pub returns-in-None : goal.returns-in-None
 returns-in-None c =
     let side = c.args.self in
-    c.row_ends.ensures ∙ ap (λ o. staged_or o (row_ends side.rows.now.entries c.args.vertex)) c.in-None.ensures
+    c.placed_ends.ensures ∙ ap (λ o. staged_or o (row_ends side.rows.now.entries c.args.vertex)) c.in-None.ensures

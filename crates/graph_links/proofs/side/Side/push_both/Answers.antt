@@ -29,7 +29,7 @@ returns-then-is_empty-clause-out c =
     let back : List End = c.ends_at-back.result.now in
     none_pushed c.args.out.now.items (λ l. IsOutTo (LinksIn side) v l to)
     (none_out side.local.root side.local.interfaces.now (ends_in side) v to back (none back c.is_empty.result c.is_empty.ensures c.if-is_empty.true)
-    (found v back c.slice_or_none.result.now (ends_or (ends_in side to)) (c.slice_or_none.ensures ∙ ap ends_or c.find.ensures) c.ends_at-back.ensures.exact))
+    (found v back c.slice_or_none.result.now (ends_or (ends_in side to)) (c.slice_or_none.ensures ∙ ap ends_or c.find-place.ensures) c.ends_at-back.ensures.exact))
 
 pub returns-then-is_empty-clause-into : goal.returns-then-is_empty-clause-into
 returns-then-is_empty-clause-into c =
@@ -39,14 +39,14 @@ returns-then-is_empty-clause-into c =
     let back : List End = c.ends_at-back.result.now in
     none_pushed c.args.into.now.items (λ l. IsIntoFrom (LinksIn side) v l to)
     (none_into side.local.root side.local.interfaces.now (ends_in side) v to back (none back c.is_empty.result c.is_empty.ensures c.if-is_empty.true)
-    (found v back c.slice_or_none.result.now (ends_or (ends_in side to)) (c.slice_or_none.ensures ∙ ap ends_or c.find.ensures) c.ends_at-back.ensures.exact))
+    (found v back c.slice_or_none.result.now (ends_or (ends_in side to)) (c.slice_or_none.ensures ∙ ap ends_or c.find-place.ensures) c.ends_at-back.ensures.exact))
 
 there : (c : In_ok-push_links-2) → AreAllAt c.args.own.vertex (ends_or (ends_in c.args.self c.args.to)) c.ends_at-back.result.now
 there c =
     let v = c.args.own.vertex in
     let back : List End = c.ends_at-back.result.now in
     let all : List End = ends_or (ends_in c.args.self c.args.to) in
-    some_at v all back c.ends_at-back.ensures.in_order (found v back c.slice_or_none.result.now all (c.slice_or_none.ensures ∙ ap ends_or c.find.ensures) c.ends_at-back.ensures.exact)
+    some_at v all back c.ends_at-back.ensures.in_order (found v back c.slice_or_none.result.now all (c.slice_or_none.ensures ∙ ap ends_or c.find-place.ensures) c.ends_at-back.ensures.exact)
     (some back c.is_empty.result c.is_empty.ensures c.if-is_empty.false)
 
 pub returns-clause-out : goal.returns-clause-out

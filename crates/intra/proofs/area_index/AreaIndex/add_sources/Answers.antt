@@ -1,6 +1,6 @@
 use Rattle.std.proofs.Common.{◌∙◌, inl, inr}
 use Rattle.intra.proofs.KeptSources.{not_before}
-use Rattle.intra.proofs.IndexSteps.{come_more, come_end, named_more}
+use Rattle.intra.proofs.IndexSteps.{come_more, come_end}
 use Rattle.intra.proofs.area_index.AreaIndex.add_sources.Goals as goal
 
 -- the vertex offers none of the offers that are left
@@ -22,7 +22,6 @@ loop-offer-preserved c =
     let so_far = c.loop-offer.invariant in (
       c.in_ok-add_source.ensures.offered ∙ so_far.0,
       come_more v os i offer c.loop-offer-test.true c.offer-item.is c.args.self.now c.loop-offer.self c.add_source.new.self so_far.1 c.in_ok-add_source.ensures.come,
-      named_more v os i offer c.loop-offer-test.true c.offer-item.is c.args.dirty.now.items c.loop-offer.dirty.items c.push.new.self.items so_far.2 c.in_ok-push.ensures.items,
     )
 
 pub returns-clause-come : goal.returns-clause-come

@@ -8,7 +8,7 @@ use Rattle.intra.specs.Indexes.{IndexValue, OfferedByVertex, offers_of}
 use Rattle.ospf_types.proofs.VertexOrder.{vertex_total, vertex_exact, vertices_order}
 use Rattle.result_map.proofs.KeyedMaps.{inserted}
 use Rattle.intra.proofs.SourceMaps.{sources_map}
-use Rattle.intra.proofs.IndexSteps.{put_there, touched_come, come_kept, named_kept}
+use Rattle.intra.proofs.IndexSteps.{put_there, come_kept}
 use Rattle.intra.proofs.area_index.AreaIndex.put_in.Goals as goal
 
 pub add_sources-requires-clause-absent : goal.add_sources-requires-clause-absent
@@ -30,10 +30,3 @@ returns-clause-index c =
     let new : IndexValue = record { offered = from_entries {R = vertex_cmp} c.insert.new.self.entries; sources = sources_map c.self.inside.sources.entries } in
     put_there c.args.self.now new c.args.vertex c.args.fresh c.requires.absent c.requires.index (returns-clause-offered c)
     (come_kept c.args.vertex c.offers.result.now c.args.fresh.offers c.offers.ensures.value c.args.self.now c.add_sources.new.self new (sym (ap (λ (i : IndexValue). i.sources) c.self.view_is)) c.in_ok-add_sources.ensures.come)
-
-pub returns-clause-touched : goal.returns-clause-touched
-returns-clause-touched c =
-    let new : IndexValue = record { offered = from_entries {R = vertex_cmp} c.insert.new.self.entries; sources = sources_map c.self.inside.sources.entries } in
-    touched_come c.args.self.now new c.args.vertex c.args.fresh.offers c.args.dirty.now.items c.add_sources.new.dirty.items
-    (come_kept c.args.vertex c.offers.result.now c.args.fresh.offers c.offers.ensures.value c.args.self.now c.add_sources.new.self new (sym (ap (λ (i : IndexValue). i.sources) c.self.view_is)) c.in_ok-add_sources.ensures.come)
-    (named_kept c.args.vertex c.offers.result.now c.args.fresh.offers c.offers.ensures.value c.args.dirty.now.items c.add_sources.new.dirty.items c.in_ok-add_sources.ensures.named)

@@ -1,5 +1,5 @@
 use Rattle.std.proofs.Common.{◌∙◌}
-use Rattle.intra.proofs.IndexSteps.{gone_more, gone_end, named_more}
+use Rattle.intra.proofs.IndexSteps.{gone_more, gone_end}
 use Rattle.intra.proofs.area_index.AreaIndex.remove_sources.Goals as goal
 
 pub loop-offer-preserved : goal.loop-offer-preserved
@@ -11,7 +11,6 @@ loop-offer-preserved c =
     let so_far = c.loop-offer.invariant in (
       c.remove_source.ensures.offered ∙ so_far.0,
       gone_more v os i offer c.loop-offer-test.true c.offer-item.is c.args.self.now c.loop-offer.self c.remove_source.new.self so_far.1 c.remove_source.ensures.gone,
-      named_more v os i offer c.loop-offer-test.true c.offer-item.is c.args.dirty.now.items c.loop-offer.dirty.items c.push.new.self.items so_far.2 c.in_ok-push.ensures.items,
     )
 
 pub returns-clause-gone : goal.returns-clause-gone

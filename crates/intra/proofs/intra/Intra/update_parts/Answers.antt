@@ -8,7 +8,7 @@ use Rattle.ospf_types.specs.declared.key.Dest.TheVariants.{Net, Router}
 use Rattle.ospf_types.specs.declared.prefix.Prefix.{Prefix}
 use Rattle.intra.specs.Changes.{DiffersAt}
 use Rattle.ospf_types.specs.Keys.{dest_cmp}
-use Rattle.intra.specs.Intras.{AreAreaIntras}
+use Rattle.intra.specs.Intras.{AreAreaIntras, IntraValue, IsIntraOf}
 use Rattle.intra.proofs.Updating.{updated, exactly, are_before, renewed_from}
 use Rattle.intra.proofs.Renewing.{dests_sorted}
 use Rattle.intra.proofs.intra.Intra.update_parts.Goals as goal
@@ -19,49 +19,40 @@ follow-requires-clause-before c =
     are_before c.args.inputs.now.root c.args.dirty.now.keys.items c.args.dirty.now.vertices.items b.0.areas c.args.inputs.now.areas c.args.self.now.areas
     (subst (λ (root : ℕ). AreAreaIntras root b.0.areas c.args.self.now.areas) (sym b.2.root) b.1.areas) b.2.areas
 
-pub renew_routers-requires : goal.renew_routers-requires
-renew_routers-requires c =
-    let b = c.requires.before in
-    let before = are_before c.args.inputs.now.root c.args.dirty.now.keys.items c.args.dirty.now.vertices.items b.0.areas c.args.inputs.now.areas c.args.self.now.areas
-    (subst (λ (root : ℕ). AreAreaIntras root b.0.areas c.args.self.now.areas) (sym b.2.root) b.1.areas) b.2.areas in
-    before.as_many ∙ sym c.in_ok-prefixes.ensures.followed.as_many
-
 pub returns-clause-kept : goal.returns-clause-kept
 returns-clause-kept c =
     let b = c.requires.before in
-    let first = c.in_ok-prefixes.ensures in
-    let second = c.in_ok-routers.ensures in
+    let first = c.in_ok-named.ensures in
     let dirty = c.args.dirty.now in
     let old = c.args.self.now in
-    let mid = c.renew_routers.new.self in
+    let mid = c.follow.new.self in
     let new = c.renew_entries.new.self in
-    let prefixes = c.in_ok-prefixes.prefixes.items in
+    let prefixes = c.in_ok-named.named.prefixes.items in
     let dests = c.renew_entries.new.dests.items in
-    let renewed = renewed_from c.args.inputs.now old mid new c.as_slice.result.now prefixes dests c.as_slice.ensures.value (second.entries ∙ first.entries) (second.spent ∙ first.spent) c.in_ok-renew_entries.ensures in
-    updated dirty.keys.items dirty.vertices.items dirty.interfaces.items b.0 c.args.inputs.now old new c.follow.new.self.areas mid.areas prefixes dests b.1 b.2 first.followed second.settled renewed
+    let renewed = renewed_from c.args.inputs.now old mid new c.as_slice.result.now prefixes dests c.as_slice.ensures.value first.entries first.spent c.in_ok-renew_entries.ensures in
+    subst (IsIntraOf c.args.inputs.now) (sym c.self.view_is) (updated dirty.keys.items dirty.vertices.items dirty.interfaces.items b.0 c.args.inputs.now old new mid.areas prefixes dests b.1 b.2 first.followed renewed)
 
 pub returns-clause-in_order : goal.returns-clause-in_order
 returns-clause-in_order c =
-    let prefixes = c.in_ok-prefixes.prefixes.items in
-    let routers = c.in_ok-routers.routers.items in
+    let prefixes = c.in_ok-named.named.prefixes.items in
+    let routers = c.in_ok-named.named.routers.items in
     let all = c.in_ok-add_routers.ensures ∙ ap (λ (rs : List ℕ). c.renew_entries.new.dests.items ++ map Router rs) c.as_slice-2.ensures.value in
-    let sorted = dests_sorted prefixes routers c.in_ok-prefixes.ensures.in_order c.in_ok-routers.ensures.in_order in
+    let sorted = dests_sorted prefixes routers c.in_ok-named.ensures.prefixes_in_order c.in_ok-named.ensures.routers_in_order in
     subst (IsStrictlySortedBy dest_cmp) (sym all)
     (c.in_ok-renew_entries.ensures.in_order (map Router routers) (subst (λ (ps : List Prefix). IsStrictlySortedBy dest_cmp (map Net ps ++ map Router routers)) (sym c.as_slice.ensures.value) sorted))
 
 pub returns-clause-exact : goal.returns-clause-exact
 returns-clause-exact c = λ d.
     let b = c.requires.before in
-    let first = c.in_ok-prefixes.ensures in
-    let second = c.in_ok-routers.ensures in
+    let first = c.in_ok-named.ensures in
     let dirty = c.args.dirty.now in
     let old = c.args.self.now in
-    let mid = c.renew_routers.new.self in
+    let mid = c.follow.new.self in
     let new = c.renew_entries.new.self in
-    let prefixes = c.in_ok-prefixes.prefixes.items in
-    let routers = c.in_ok-routers.routers.items in
+    let prefixes = c.in_ok-named.named.prefixes.items in
+    let routers = c.in_ok-named.named.routers.items in
     let dests = c.renew_entries.new.dests.items in
-    let renewed = renewed_from c.args.inputs.now old mid new c.as_slice.result.now prefixes dests c.as_slice.ensures.value (second.entries ∙ first.entries) (second.spent ∙ first.spent) c.in_ok-renew_entries.ensures in
+    let renewed = renewed_from c.args.inputs.now old mid new c.as_slice.result.now prefixes dests c.as_slice.ensures.value first.entries first.spent c.in_ok-renew_entries.ensures in
     let all = c.in_ok-add_routers.ensures ∙ ap (λ (rs : List ℕ). dests ++ map Router rs) c.as_slice-2.ensures.value in
-    subst (λ (ds : List Dest). Contains ds d ↔ DiffersAt old new d) (sym all)
-    (exactly dirty.keys.items dirty.vertices.items dirty.interfaces.items b.0 c.args.inputs.now old new c.follow.new.self.areas mid.areas prefixes dests b.1 b.2 first.followed second.settled renewed routers second.exact d)
+    subst (λ (w : IntraValue). Contains c.add_routers.new.dests.items d ↔ DiffersAt old w d) (sym c.self.view_is) (subst (λ (ds : List Dest). Contains ds d ↔ DiffersAt old new d) (sym all)
+    (exactly dirty.keys.items dirty.vertices.items dirty.interfaces.items b.0 c.args.inputs.now old new mid.areas prefixes dests b.1 b.2 first.followed renewed routers first.routers d))

@@ -4,28 +4,56 @@ use Rattle.std.specs.List.{All}
 use Rattle.std.proofs.lemmas.Map.Views.{All-insert_key}
 use Rattle.ospf_types.specs.declared.key.Key.{Key}
 use Rattle.offer_index.specs.Members.{HasSmallKey}
+use Rattle.offer_index.specs.Noted.{AreNotedBut}
 use Rattle.offer_index.proofs.Groups.{Member, derived_cmp, derived_exact}
 use Rattle.offer_index.proofs.MemberLists.{stays_with, is_put_in, came_or_was}
+use Rattle.offer_index.proofs.NotedGroups.{noted_ahead, noted_with, same_noted}
 use Rattle.offer_index.proofs.members.Members.add.Goals as goal
 
-pub invariant_of-self-2 : goal.invariant_of-self-2
-invariant_of-self-2 c =
-    subst (λ (ms : List Member). All HasSmallKey ms) (sym c.in_ok-insert.ensures.keys)
-    (All-insert_key derived_cmp (c.args.group, c.small.result) HasSmallKey c.self.inside.members.keys c.self.invariant c.small.ensures.small)
+-- memory was refused before the key was put in: nothing more is noted
+pub invariant_of-self : goal.invariant_of-self
+invariant_of-self c =
+    (c.self.invariant.0, same_noted c.self.inside.members.keys c.self.inside.noted c.note.new.self c.self.invariant.1 c.note.ensures.kept c.in_err-note.ensures.unchanged)
 
-pub returns-clause-kept : goal.returns-clause-kept
-returns-clause-kept c =
-    λ m there. subst (λ (ms : List Member). Contains ms m) (sym c.in_ok-insert.ensures.keys)
+pub invariant_of-self-in-Ok : goal.invariant_of-self-in-Ok
+invariant_of-self-in-Ok c =
+    let old = c.self.inside.members.keys in
+    let new = c.insert.new.self.keys in
+    let key = c.small.result in
+    let is = c.in-Ok.ensures.keys in (
+      subst (λ (ms : List Member). All HasSmallKey ms) (sym is) (All-insert_key derived_cmp (c.args.group, key) HasSmallKey old c.self.invariant.0 c.small.ensures.small),
+      noted_with old new c.self.inside.noted c.note.new.self c.args.group key c.self.invariant.1 c.note.ensures.kept c.note.ensures.only c.in_ok-note.ensures.noted
+          (λ m there. subst (λ (ms : List Member). Contains ms m) (sym is) (stays_with derived_cmp old (c.args.group, key) m there))
+          (λ m has. came_or_was derived_cmp old (c.args.group, key) m (subst (λ (ms : List Member). Contains ms m) is has))
+          (subst (λ (ms : List Member). Contains ms (c.args.group, key)) (sym is) (is_put_in derived_cmp derived_exact old (c.args.group, key))),
+    )
+
+pub returns-in-Ok-clause-kept : goal.returns-in-Ok-clause-kept
+returns-in-Ok-clause-kept c =
+    λ m there. subst (λ (ms : List Member). Contains ms m) (sym c.in-Ok.ensures.keys)
     (stays_with derived_cmp c.self.inside.members.keys (c.args.group, c.small.result) m (subst (λ (ms : List Member). Contains ms m) (sym c.self.view_is) there))
 
-pub returns-clause-only : goal.returns-clause-only
-returns-clause-only c =
-    λ m has. elim (came_or_was derived_cmp c.self.inside.members.keys (c.args.group, c.small.result) m (subst (λ (ms : List Member). Contains ms m) c.in_ok-insert.ensures.keys has)) [
+pub returns-in-Ok-clause-only : goal.returns-in-Ok-clause-only
+returns-in-Ok-clause-only c =
+    λ m has. elim (came_or_was derived_cmp c.self.inside.members.keys (c.args.group, c.small.result) m (subst (λ (ms : List Member). Contains ms m) c.in-Ok.ensures.keys has)) [
       | inl was ↦ inl (subst (λ (ms : List Member). Contains ms m) c.self.view_is was)
       | inr is ↦ inr (is ∙ (λ i. (c.args.group, c.small.ensures.value i)))
     ]
 
-pub returns-clause-added : goal.returns-clause-added
-returns-clause-added c =
+pub returns-in-Ok-clause-added : goal.returns-in-Ok-clause-added
+returns-in-Ok-clause-added c =
     subst (λ (k : Key). Contains c.insert.new.self.keys (c.args.group, k)) c.small.ensures.value
-    (subst (λ (ms : List Member). Contains ms (c.args.group, c.small.result)) (sym c.in_ok-insert.ensures.keys) (is_put_in derived_cmp derived_exact c.self.inside.members.keys (c.args.group, c.small.result)))
+    (subst (λ (ms : List Member). Contains ms (c.args.group, c.small.result)) (sym c.in-Ok.ensures.keys) (is_put_in derived_cmp derived_exact c.self.inside.members.keys (c.args.group, c.small.result)))
+
+-- memory was refused for the key: its group is noted only if another key is in it
+
+pub forget_without_keys-requires-clause-small : goal.forget_without_keys-requires-clause-small
+forget_without_keys-requires-clause-small c = subst (λ (ms : List Member). All HasSmallKey ms) (sym c.in-Err.ensures.err) c.self.invariant.0
+
+pub forget_without_keys-requires-clause-before : goal.forget_without_keys-requires-clause-before
+forget_without_keys-requires-clause-before c =
+    subst (λ (ms : List Member). AreNotedBut c.args.group ms c.note.new.self) (sym c.in-Err.ensures.err)
+    (noted_ahead c.self.inside.members.keys c.self.inside.members.keys c.self.inside.noted c.note.new.self c.args.group c.args.key c.self.invariant.1 c.note.ensures.kept c.note.ensures.only)
+
+pub invariant_of-self-in-Err : goal.invariant_of-self-in-Err
+invariant_of-self-in-Err c = (subst (λ (ms : List Member). All HasSmallKey ms) (sym c.in-Err.ensures.err) c.self.invariant.0, c.forget_without_keys.ensures)

@@ -1,26 +1,15 @@
-use Rattle.std.proofs.Common.{◌≢◌, List, sym, subst, rules}
+use Rattle.std.proofs.Common.{List, sym, subst}
 use Rattle.std.specs.Prelude.{Contains}
-use Rattle.std.specs.List.{AllPairs}
-use Rattle.std.proofs.lemmas.List.Kept.{AllPairs-filter}
-use Rattle.offer_index.proofs.Groups.{Member, derived_cmp, derived_exact, derived_ties}
-use Rattle.offer_index.proofs.MemberLists.{ranged, ranged_from, within, apart_in_order}
+use Rattle.offer_index.proofs.Groups.{Member}
 use Rattle.offer_index.proofs.members.Members.among.Goals as goal
 
+pub between-requires-clause-small : goal.between-requires-clause-small
+between-requires-clause-small c = c.self.invariant.0
+
 pub returns-clause-all : goal.returns-clause-all
-returns-clause-all c =
-    let ends = c.new.result in
-    λ m there after before. subst (λ (ms : List Member). Contains ms m) (sym (c.range.ensures.between (search rules)))
-    (ranged c.self.inside.members.keys c.self.invariant c.args.first.now c.args.last.now ends.start ends.end c.new.ensures.start c.new.ensures.end m (subst (λ (ms : List Member). Contains ms m) (sym c.self.view_is) there) after before)
+returns-clause-all c = λ m there. c.between.ensures.all m (subst (λ (ms : List Member). Contains ms m) (sym c.self.view_is) there)
 
 pub returns-clause-only : goal.returns-clause-only
-returns-clause-only c =
-    let ends = c.new.result in
-    λ m there.
-    let found = ranged_from c.self.inside.members.keys c.args.first.now c.args.last.now ends.start ends.end c.new.ensures.start c.new.ensures.end m (subst (λ (ms : List Member). Contains ms m) (c.range.ensures.between (search rules)) there) in
+returns-clause-only c = λ m has.
+    let found = c.between.ensures.only m has in
     (subst (λ (ms : List Member). Contains ms m) c.self.view_is found.0, found.1, found.2)
-
-pub returns-clause-each_once : goal.returns-clause-each_once
-returns-clause-each_once c =
-    let ends = c.new.result in
-    subst (λ (ms : List Member). AllPairs (λ m n. m ≢ n) ms) (sym (c.range.ensures.between (search rules)))
-    (AllPairs-filter (λ m n. m ≢ n) (within ends.start ends.end) c.self.inside.members.keys (apart_in_order derived_cmp derived_exact derived_ties c.self.inside.members.keys c.range.ensures.ordered))

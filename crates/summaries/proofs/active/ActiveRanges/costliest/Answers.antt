@@ -21,6 +21,6 @@ returns c = λ cost.
     let range = c.args.range in
     let area = c.args.area in
     let limit = c.args.limit in
-    let most = c.costliest_of.result in
-    let there = costliest_there c.self.inside.ranges.entries c.self.inside.spent range area limit c.in_ok-networks.networks.now c.in_ok-networks.ensures.value most c.costliest_of.ensures cost in
+    let most = c.costliest.result in
+    let there = costliest_there c.self.inside.ranges.entries c.self.inside.spent range area limit c.in_ok-networks.networks.now c.in_ok-networks.ensures.value most c.costliest.ensures cost in
     subst (λ (v : ActiveValue). (most ≡ Some cost) ↔ IsGreatest (λ c. HasCost v range area c × (c < limit)) cost) c.self.view_is there

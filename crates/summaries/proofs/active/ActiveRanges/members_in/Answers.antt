@@ -1,13 +1,15 @@
 -- The networks of the range, as members.
-use Rattle.std.proofs.Common.{◌≡◌, List, [], map, sym, subst}
+use Rattle.std.proofs.Common.{◌≡◌, ℕ, List, [], map, sym, subst, ◌∙◌}
 use Rattle.std.specs.Prelude.{◌↔◌, Contains}
-use Rattle.std.specs.BTreeMap.{keys}
+use Rattle.std.specs.Map.{keys_of}
 use Rattle.std.proofs.lemmas.Result.{IfOk-weaker}
 use Rattle.summaries.specs.Active.{ActiveValue}
 use Rattle.summaries.specs.Following.{IsMemberIn}
 use Rattle.summaries.specs.Grouped.{member_of}
 use Rattle.summaries.specs.declared.member.AreaRange.{AreaRange}
 use Rattle.summaries.specs.declared.member.Member.{Member}
+use Rattle.ospf_types.specs.declared.prefix.Prefix.{Prefix}
+use Rattle.summaries.proofs.Placed.{map_keys}
 use Rattle.summaries.proofs.Standing.{members_there, members_none}
 use Rattle.summaries.proofs.active.ActiveRanges.members_in.Goals as goal
 
@@ -15,10 +17,10 @@ pub returns-in-Some : goal.returns-in-Some
 returns-in-Some c =
     let range : AreaRange = record { prefix = c.args.range; area = c.args.area } in
     let networks = c.in-Some.networks.now in
-    let there = subst (λ (v : ActiveValue). (m : Member) → Contains (map (member_of range) (keys networks)) m ↔ IsMemberIn v c.args.area c.args.range m) c.self.view_is
+    let there = subst (λ (v : ActiveValue). (m : Member) → Contains (map (member_of range) (keys_of networks.entries)) m ↔ IsMemberIn v c.args.area c.args.range m) c.self.view_is
     (members_there c.self.inside.ranges.entries c.self.inside.spent c.args.area c.args.range networks c.in-Some.ensures.value) in
-    IfOk-weaker c.as_members.result (λ made. made.items ≡ map (member_of range) (keys networks)) (λ made. (m : Member) → Contains made.items m ↔ IsMemberIn c.args.self.now c.args.area c.args.range m)
-    (λ made are. subst (λ (ms : List Member). (m : Member) → Contains ms m ↔ IsMemberIn c.args.self.now c.args.area c.args.range m) (sym are) there) c.as_members.ensures
+    IfOk-weaker c.as_members.result (λ made. made.items ≡ map (λ (e : Prefix × ℕ). member_of range e.0) networks.entries) (λ made. (m : Member) → Contains made.items m ↔ IsMemberIn c.args.self.now c.args.area c.args.range m)
+    (λ made are. subst (λ (ms : List Member). (m : Member) → Contains ms m ↔ IsMemberIn c.args.self.now c.args.area c.args.range m) (sym (are ∙ map_keys (member_of range) networks.entries)) there) c.as_members.ensures
 
 pub returns-in-None : goal.returns-in-None
 returns-in-None c = λ m.

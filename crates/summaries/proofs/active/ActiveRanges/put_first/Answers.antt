@@ -9,12 +9,12 @@ use Rattle.summaries.proofs.active.ActiveRanges.put_first.Goals as goal
 
 pub returns-clause-here : goal.returns-clause-here
 returns-clause-here c =
-    first_here c.self.inside.ranges.entries c.insert-2.new.self.entries c.self.inside.spent c.self.inside.spent c.args.range c.args.network c.in-Some.cost c.new-networks.result c.insert.new.self c.new-networks.ensures.empty c.in_ok-insert.ensures.updates.0 c.in_ok-insert-2.ensures.updates.0
+    first_here c.self.inside.ranges.entries c.insert.new.self.entries c.self.inside.spent c.self.inside.spent c.args.range c.args.network c.in-Some.cost c.new-networks.result c.put.new.self c.new-networks.ensures c.in_ok-put.ensures c.in_ok-insert.ensures.updates.0
     ∙ sym c.in-Some.is
 
 pub returns-clause-others : goal.returns-clause-others
 returns-clause-others c = λ m other.
     let old = c.self.inside.ranges.entries in
     let none = λ (p : Prefix). ap (λ (v : ActiveValue). get v.members (member_of c.args.range p)) c.self.view_is ∙ c.requires.none p in
-    first_elsewhere old c.insert-2.new.self.entries c.self.inside.spent c.self.inside.spent c.args.range c.args.network c.in-Some.cost c.new-networks.result c.insert.new.self c.new-networks.ensures.empty c.in_ok-insert.ensures.updates.0 c.in_ok-insert-2.ensures.updates.0 none m other
+    first_elsewhere old c.insert.new.self.entries c.self.inside.spent c.self.inside.spent c.args.range c.args.network c.in-Some.cost c.new-networks.result c.put.new.self c.new-networks.ensures c.in_ok-put.ensures c.in_ok-insert.ensures.updates.0 none m other
     ∙ ap (λ (v : ActiveValue). get v.members m) c.self.view_is

@@ -1,8 +1,7 @@
 use Rattle.std.proofs.Common.{ap, ◌∙◌}
 use Rattle.std.specs.FinMap.{get}
 use Rattle.tree_parts.specs.Maps.{HopMap}
-use Rattle.tree_parts.proofs.VertexMaps.{looked_up}
 use Rattle.tree_parts.proofs.hop_columns.HopColumns.get.Goals as goal
 
 pub returns : goal.returns
-returns c = c.get.ensures.value ∙ looked_up c.self.inside.entries.entries c.args.vertex ∙ ap (λ (m : HopMap). get m c.args.vertex) c.self.view_is
+returns c = c.get.ensures ∙ ap (λ (m : HopMap). get m c.args.vertex.now) c.self.view_is

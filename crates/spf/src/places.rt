@@ -1,0 +1,43 @@
+//! The places of vertices, as their links tell them.
+ghost use Rattle.std.specs.Prelude.{◌≡◌, ◌↔◌, IsTrue};
+
+use ospf_types::entry::Vertex;
+use vertex_graph::Link;
+use vertex_map::Placed;
+
+/// The vertex that these links lead out of, at the place that the first of them tells.
+pub(crate) fn tail_of(links: &[Link], vertex: Vertex) -> Placed
+    ensures { result ≡ vertex }
+{
+    match links.first() {
+        Some(link) => link.from.with_vertex(vertex),
+        None => Placed::nowhere(vertex),
+    }
+}
+
+/// The vertex that these links lead into, at the place that the first of them tells.
+pub(crate) fn head_of(links: &[Link], vertex: Vertex) -> Placed
+    ensures { result ≡ vertex }
+{
+    match links.first() {
+        Some(link) => link.to.with_vertex(vertex),
+        None => Placed::nowhere(vertex),
+    }
+}
+
+/// Whether the vertex is the root.
+pub(crate) fn is_root(root: u32, vertex: Vertex) -> bool
+    ensures { IsTrue result ↔ (vertex ≡ Vertex.Router root) }
+{
+    match vertex {
+        Vertex::Router(id) => id == root,
+        Vertex::Network(_) => false,
+    }
+}
+
+/// The same of a vertex with its place.
+pub(crate) fn is_at_root(root: u32, vertex: &Placed) -> bool
+    ensures { IsTrue result ↔ (vertex.now ≡ Vertex.Router root) }
+{
+    is_root(root, vertex.vertex())
+}

@@ -1,0 +1,77 @@
+//! Values by vertex, looked for at places that are right and at others.
+use ospf_types::entry::Vertex;
+use ospf_types::memory::Memory;
+use std::hash::RandomState;
+use std::test::Fail;
+use vertex_map::{Placed, VertexMap};
+use word_hash::WordHash;
+
+// The places of a hundred vertices, the last first.
+fn place_of(number: u32) -> u32 {
+    99u32.saturating_sub(number)
+}
+
+// A hundred vertices at their places.
+fn fill(map: &mut VertexMap<u32>) -> Result<(), Memory> {
+    for number in 0..100u32 {
+        map.insert(
+            &Placed::new(Vertex::Router(number), place_of(number)),
+            number,
+        )?;
+    }
+    Ok(())
+}
+
+fn at(map: &VertexMap<u32>, vertex: &Placed) -> Option<u32> {
+    map.get(vertex).copied()
+}
+
+// Whether the vertex has its number, wherever it is looked for.
+fn is_there(map: &VertexMap<u32>, number: u32) -> bool {
+    let vertex = Vertex::Router(number);
+    at(map, &Placed::new(vertex, place_of(number))) == Some(number)
+        && at(map, &Placed::new(vertex, number)) == Some(number)
+        && at(map, &Placed::nowhere(vertex)) == Some(number)
+        && at(map, &Placed::new(Vertex::Network(number), place_of(number))).is_none()
+}
+
+fn finds_all(map: &mut VertexMap<u32>) -> Result<bool, Memory> {
+    fill(map)?;
+    let mut found = map.len() == 100;
+    for number in 0..100u32 {
+        found = found & is_there(map, number);
+    }
+    Ok(found)
+}
+
+#[test]
+fn a_vertex_is_found_wherever_it_is_looked_for(rt: HostRuntime) -> Result<(), Fail> {
+    let mut map = VertexMap::new(rt.alloc(), WordHash::new(RandomState::new(&rt)?));
+    assert!(rt; finds_all(&mut map)?);
+    Ok(())
+}
+
+// Whether only the first ten and a new vertex are left, once ninety went and it came.
+fn most_go(map: &mut VertexMap<u32>) -> Result<bool, Memory> {
+    fill(map)?;
+    for number in 10..100u32 {
+        map.remove(&Placed::new(Vertex::Router(number), number));
+    }
+    let left = map.len() == 10 && at(map, &Placed::new(Vertex::Router(10), 89)).is_none();
+    map.insert(&Placed::new(Vertex::Network(200), 0), 7)?;
+    map.insert(&Placed::new(Vertex::Network(200), 3), 8)?;
+    let came = map.len() == 11 && at(map, &Placed::new(Vertex::Network(200), 0)) == Some(8);
+    let mut stayed = true;
+    for number in 0..10u32 {
+        stayed = stayed & is_there(map, number);
+    }
+    map.clear();
+    Ok(left && came && stayed && map.is_empty())
+}
+
+#[test]
+fn vertices_that_are_left_stay_where_most_go(rt: HostRuntime) -> Result<(), Fail> {
+    let mut map = VertexMap::new(rt.alloc(), WordHash::new(RandomState::new(&rt)?));
+    assert!(rt; most_go(&mut map)?);
+    Ok(())
+}

@@ -1,0 +1,6 @@
+use Rattle.std.proofs.Common.{◌≡◌, length}
+use Rattle.vertex_map.specs.Values.{values_of}
+use Rattle.vertex_map.proofs.vertex_map.settle.Given as goal
+
+abbrev pub invariant-loop : goal.invariant-loop
+invariant-loop g l = (values_of l.entries.entries ≡ values_of l.fn.entries.entries) × (length l.entries.entries ≡ length l.fn.entries.entries)
