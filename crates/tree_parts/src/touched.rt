@@ -32,7 +32,7 @@ impl Touched {
     }
 
     /// Takes the first vertex from the queue. Nothing else takes one.
-    pub fn take(&mut self, queue: &mut Queue) -> Option<(Vertex, u32)>
+    pub fn take(&mut self, queue: &mut Queue) -> Option<(Placed, u32)>
         requires { self.old.taken + 1 < 2 ^ 64 }
         ensures none { IfNone result (queue.old ≡ map.empty) }
         ensures still_none { IfNone result (queue.new ≡ map.empty) }

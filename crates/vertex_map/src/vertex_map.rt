@@ -1,5 +1,5 @@
 //! The map.
-ghost use Rattle.std.specs.Prelude.{◌≡◌, ◌↔◌, ◌<◌, ◌+◌, ◌^◌, cond, length, is_some, IfOk, IfSome, OnOk, OnErr, IsTrue, option_copied};
+ghost use Rattle.std.specs.Prelude.{◌≡◌, ◌↔◌, ◌<◌, ◌+◌, ◌^◌, cond, length, is_some, IfOk, IfSome, OnOk, OnErr, IsTrue, option_copied, option_map};
 ghost use Rattle.std.specs.FinMap as map;
 ghost use Rattle.vertex_map.specs.Values.{values_of, with_value, inner, IsAt};
 ghost use Rattle.ospf_types.specs.declared.entry.Vertex.{Vertex};
@@ -79,6 +79,20 @@ impl<V> VertexMap<V> {
             Some((at, kept)) if *at == vertex.vertex() => kept.1.as_ref(),
             _ => self.find(vertex.vertex()),
         }
+    }
+
+    /// The vertex with the place of its entry, and its value. It is looked up by its hash.
+    pub fn locate(&self, vertex: Vertex) -> Option<(Placed, &V)>
+        ensures vertex { IfSome result (λ p. p.0 ≡ vertex) }
+        ensures value { option_map (λ p. p.1.now) result ≡ map.get self.now vertex }
+    {
+        let Some(kept) = self.entries.get(&vertex) else {
+            return None;
+        };
+        let Some(value) = kept.1.as_ref() else {
+            return None;
+        };
+        Some((Placed::new(vertex, kept.0), value))
     }
 
     // The vertex's value, looked up by its hash.

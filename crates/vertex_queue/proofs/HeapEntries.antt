@@ -1,8 +1,8 @@
 -- What the heap of a queue holds, and what comes out of it first.
-use Rattle.std.proofs.Common.{◌≡◌, ◌≢◌, ◌⊎◌, inl, inr, ℕ, zero, suc, Bool, true, false, cond, List, [], ◌∷◌, Some, None, refl, sym, ap, subst, ◌∙◌, arith}
+use Rattle.std.proofs.Common.{◌≡◌, ◌≢◌, ◌⊎◌, inl, inr, ℕ, zero, suc, Bool, true, false, cond, List, [], ◌∷◌, Option, Some, None, refl, sym, ap, subst, ◌∙◌, arith}
 use Rattle.std.specs.BinaryHeap.{IsHeap, IsUpperBound}
 use Rattle.std.specs.Cmp.{eq_by_cmp_equiv}
-use Rattle.std.specs.FinMap.{find}
+use Rattle.std.specs.FinMap.{empty, get, get-empty, same_map}
 use Rattle.std.specs.List.{Contains}
 use Rattle.std.specs.List.Sorted.{IsPermutation}
 use Rattle.std.specs.Ordering.{eq_by_cmp, is_lt, ordering_reverse}
@@ -15,11 +15,10 @@ use Rattle.ospf_types.specs.declared.entry.Vertex.{Vertex}
 use Rattle.ospf_types.specs.declared.entry.Vertex.TheVariants.{Router, Network}
 use Rattle.ospf_types.specs.Vertices.{vertex_cmp}
 use Rattle.vertex_queue.specs.declared.waiting.Waiting.{Waiting}
-use Rattle.vertex_queue.specs.Queues.{queue_cmp, IsFirst}
+use Rattle.vertex_queue.specs.Queues.{Queue, queue_cmp, IsFirst}
 use Rattle.vertex_queue.specs.Heaps.{waiting, vertex_of_kind, waiting_vertex, heap_cmp, Waits, AreQueue, IsNext, HoldsOthers}
 use Rattle.ospf_types.proofs.VertexOrder.{vertex_total, vertex_exact}
 use Rattle.vertex_queue.proofs.QueueOrder.{queue_total}
-use Rattle.vertex_queue.proofs.Distances.{Entries, queue_of, get_is, first_found}
 
 abbrev pub Heap : Type 0
 Heap = List (Reverse Waiting)
@@ -43,8 +42,8 @@ distance_again : (v : Vertex) (d : ℕ) → (waiting v d).distance ≡ d
 distance_again (Router r) d = refl
 distance_again (Network n) d = refl
 
-pub waits_at : (es : Entries) (v : Vertex) (d : ℕ) → find vertex_cmp v es ≡ Some d → Waits es (waiting v d)
-waits_at es v d is = ap (λ (v : Vertex). find vertex_cmp v es) (vertex_again v d) ∙ is ∙ ap Some (sym (distance_again v d))
+pub waits_at : (q : Queue) (v : Vertex) (d : ℕ) → get q v ≡ Some d → Waits q (waiting v d)
+waits_at q v d is = ap (λ (v : Vertex). get q v) (vertex_again v d) ∙ is ∙ ap Some (sym (distance_again v d))
 
 -- ---- what goes in
 
@@ -55,16 +54,16 @@ pushed : (hs ks : Heap) (x w : Reverse Waiting) → IsPermutation (x ∷ hs) ks 
 pushed hs ks x w moved there = Contains-permutation (x ∷ hs) ks w moved (Contains-append_right (x ∷ []) hs w there)
 
 -- where the heap has grown
-pub grown : (es : Entries) (hs ks : Heap) (x : Reverse Waiting) → AreQueue es hs → IsPermutation (x ∷ hs) ks → IsHeap heap_cmp ks → AreQueue es ks
-grown es hs ks x before moved ordered = record { in_order = ordered; held = λ w waits. pushed hs ks x (placed w) moved (before.held w waits) }
+pub grown : (q : Queue) (hs ks : Heap) (x : Reverse Waiting) → AreQueue q hs → IsPermutation (x ∷ hs) ks → IsHeap heap_cmp ks → AreQueue q ks
+grown q hs ks x before moved ordered = record { in_order = ordered; held = λ w waits. pushed hs ks x (placed w) moved (before.held w waits) }
 
 -- where a vertex also waits at another distance
-pub put_there : (es fs : Entries) (hs ks : Heap) (v : Vertex) (d : ℕ) → AreQueue es hs → IsPermutation (placed (waiting v d) ∷ hs) ks → IsHeap heap_cmp ks
-    → ((q : Vertex) → find vertex_cmp q fs ≡ cond (eq_by_cmp vertex_cmp q v) (Some d) (find vertex_cmp q es)) → AreQueue fs ks
-put_there es fs hs ks v d before moved ordered after = record {
+pub put_there : (q r : Queue) (hs ks : Heap) (v : Vertex) (d : ℕ) → AreQueue q hs → IsPermutation (placed (waiting v d) ∷ hs) ks → IsHeap heap_cmp ks
+    → ((u : Vertex) → get r u ≡ cond (eq_by_cmp vertex_cmp u v) (Some d) (get q u)) → AreQueue r ks
+put_there q r hs ks v d before moved ordered after = record {
   in_order = ordered;
   held = λ w waits.
-      elim (eq_by_cmp vertex_cmp (waiting_vertex w) v) as (λ b. eq_by_cmp vertex_cmp (waiting_vertex w) v ≡ b → Some w.distance ≡ cond b (Some d) (find vertex_cmp (waiting_vertex w) es) → Contains ks (placed w)) [
+      elim (eq_by_cmp vertex_cmp (waiting_vertex w) v) as (λ b. eq_by_cmp vertex_cmp (waiting_vertex w) v ≡ b → Some w.distance ≡ cond b (Some d) (get q (waiting_vertex w)) → Contains ks (placed w)) [
         | true ↦ λ here is.
             let there : w.distance ≡ d = cc in
             let same : waiting v d ≡ w = (λ i. waiting (sym (tells_apart vertex_exact (waiting_vertex w) v here) i) (sym there i)) ∙ waiting_again w in
@@ -83,18 +82,18 @@ only x w (zero, lt, is) = ap (λ (r : Reverse Waiting). r.0) is
 only x w (suc k, lt, is) = absurd (omega arith)
 
 -- what no longer waits is no loss
-pub dropped : (es : Entries) (hs ks : Heap) (x : Waiting) → AreQueue es hs → IsPermutation hs (placed x ∷ ks) → IsHeap heap_cmp ks → (Waits es x → ⊥) → AreQueue es ks
-dropped es hs ks x before moved ordered stale = record {
+pub dropped : (q : Queue) (hs ks : Heap) (x : Waiting) → AreQueue q hs → IsPermutation hs (placed x ∷ ks) → IsHeap heap_cmp ks → (Waits q x → ⊥) → AreQueue q ks
+dropped q hs ks x before moved ordered stale = record {
   in_order = ordered;
   held = λ w waits. elim (popped hs ks (placed x) (placed w) moved (before.held w waits)) [
-    | inl here ↦ absurd (stale (subst (Waits es) (sym (only (placed x) (placed w) here)) waits))
+    | inl here ↦ absurd (stale (subst (Waits q) (sym (only (placed x) (placed w) here)) waits))
     | inr there ↦ there
   ];
 }
 
 -- what is left when one comes out
-pub others : (es : Entries) (hs ks : Heap) (x : Waiting) → AreQueue es hs → IsPermutation hs (placed x ∷ ks) → IsHeap heap_cmp ks → HoldsOthers es x ks
-others es hs ks x before moved ordered = record {
+pub others : (q : Queue) (hs ks : Heap) (x : Waiting) → AreQueue q hs → IsPermutation hs (placed x ∷ ks) → IsHeap heap_cmp ks → HoldsOthers q x ks
+others q hs ks x before moved ordered = record {
   in_order = ordered;
   held = λ w waits other. elim (popped hs ks (placed x) (placed w) moved (before.held w waits)) [
     | inl here ↦ absurd (other (ap waiting_vertex (sym (only (placed x) (placed w) here))))
@@ -113,8 +112,8 @@ heap_order : (x w : Waiting) → heap_cmp (placed x) (placed w) ≡ queue_cmp (w
 heap_order x w = by_kinds x.is_router w.is_router x.distance w.distance x.number w.number
 
 -- the greatest of the heap is first, if it waits
-pub next : (es : Entries) (hs : Heap) (x : Waiting) → AreQueue es hs → IsUpperBound heap_cmp (placed x) hs → Waits es x → IsNext es x
-next es hs x before greatest waits = record {
+pub next : (q : Queue) (hs : Heap) (x : Waiting) → AreQueue q hs → IsUpperBound heap_cmp (placed x) hs → Waits q x → IsNext q x
+next q hs x before greatest waits = record {
   waits = waits;
   none_before = λ w there after.
       let not_less : is_lt (heap_cmp (placed x) (placed w)) ≡ false = All-contains (λ y. is_lt (heap_cmp (placed x) y) ≡ false) hs (placed w) (All-from_recursion (λ y. is_lt (heap_cmp (placed x) y) ≡ false) hs greatest) (before.held w there) in
@@ -124,29 +123,35 @@ next es hs x before greatest waits = record {
 }
 
 -- where the heap is empty, nothing waits
-pub none_waits : (es : Entries) → AreQueue es [] → es ≡ []
-none_waits [] are = refl
-none_waits (e ∷ es) are = absurd (nothing (placed (waiting e.0 e.1)) (are.held (waiting e.0 e.1) (waits_at (e ∷ es) e.0 e.1 (first_found e es))))
+pub none_waits : (q : Queue) → AreQueue q [] → q ≡ empty
+none_waits q are = same_map vertex_total vertex_exact q empty (λ v. absent v (get q v) refl ∙ sym (get-empty vertex_cmp v))
   where
     nothing : (w : Reverse Waiting) → Contains [] w → ⊥
     nothing w (k, lt, is) = omega arith
 
-pub nothing_waits : (hs : Heap) → IsHeap heap_cmp hs → AreQueue [] hs
-nothing_waits hs ordered = record { in_order = ordered; held = λ w waits. absurd cc }
+    absent : (v : Vertex) (o : Option ℕ) → get q v ≡ o → get q v ≡ None
+    absent v None is = is
+    absent v (Some d) is = absurd (nothing (placed (waiting v d)) (are.held (waiting v d) (waits_at q v d is)))
+
+pub nothing_waits : (hs : Heap) → IsHeap heap_cmp hs → AreQueue empty hs
+nothing_waits hs ordered = record {
+  in_order = ordered;
+  held = λ w waits. let none : None ≡ Some w.distance = sym (get-empty vertex_cmp (waiting_vertex w)) ∙ waits in absurd cc;
+}
 
 -- ---- one is taken
 
-pub first_of : (es : Entries) (x : Waiting) → IsNext es x → IsFirst (queue_of es) (waiting_vertex x) x.distance
-first_of es x is = record {
-  waits = get_is es (waiting_vertex x) ∙ is.waits;
-  none_before = λ w e there. subst (λ (p : ℕ × Vertex). queue_cmp (x.distance, waiting_vertex x) p ≢ Greater) (λ i. (distance_again w e i, vertex_again w e i)) (is.none_before (waiting w e) (waits_at es w e (sym (get_is es w) ∙ there)));
+pub first_of : (q : Queue) (x : Waiting) → IsNext q x → IsFirst (q) (waiting_vertex x) x.distance
+first_of q x is = record {
+  waits = is.waits;
+  none_before = λ w e there. subst (λ (p : ℕ × Vertex). queue_cmp (x.distance, waiting_vertex x) p ≢ Greater) (λ i. (distance_again w e i, vertex_again w e i)) (is.none_before (waiting w e) (waits_at q w e there));
 }
 
-pub taken : (es fs : Entries) (x : Waiting) (ks : Heap) → HoldsOthers es x ks → ((q : Vertex) → find vertex_cmp q fs ≡ cond (eq_by_cmp vertex_cmp q (waiting_vertex x)) None (find vertex_cmp q es)) → AreQueue fs ks
-taken es fs x ks left after = record {
+pub taken : (q r : Queue) (x : Waiting) (ks : Heap) → HoldsOthers q x ks → ((u : Vertex) → get r u ≡ cond (eq_by_cmp vertex_cmp u (waiting_vertex x)) None (get q u)) → AreQueue r ks
+taken q r x ks left after = record {
   in_order = left.in_order;
   held = λ w waits.
-      elim (eq_by_cmp vertex_cmp (waiting_vertex w) (waiting_vertex x)) as (λ b. eq_by_cmp vertex_cmp (waiting_vertex w) (waiting_vertex x) ≡ b → Some w.distance ≡ cond b None (find vertex_cmp (waiting_vertex w) es) → Contains ks (placed w)) [
+      elim (eq_by_cmp vertex_cmp (waiting_vertex w) (waiting_vertex x)) as (λ b. eq_by_cmp vertex_cmp (waiting_vertex w) (waiting_vertex x) ≡ b → Some w.distance ≡ cond b None (get q (waiting_vertex w)) → Contains ks (placed w)) [
         | true ↦ λ here is. absurd cc
         | false ↦ λ here is. left.held w (sym is) (λ same. apart (waiting_vertex w) (waiting_vertex x) here same)
       ] refl (sym waits ∙ after (waiting_vertex w));

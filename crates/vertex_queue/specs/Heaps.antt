@@ -1,7 +1,7 @@
--- The parts of a queue: entries of vertex and distance, and beside them a heap of what was put there.
-use Rattle.std.specs.Prelude.{ℕ, ◌≡◌, ◌≢◌, Bool, true, false, List, Some, slice_get}
+-- The parts of a queue: the distance at which each vertex waits, and beside them a heap of what was put there.
+use Rattle.std.specs.Prelude.{ℕ, ◌≡◌, ◌≢◌, Bool, true, false, List, Some}
 use Rattle.std.specs.BinaryHeap.{IsHeap}
-use Rattle.std.specs.FinMap.{find}
+use Rattle.std.specs.FinMap.{get}
 use Rattle.std.specs.List.{Contains}
 use Rattle.std.specs.Ordering.{nat_cmp, bool_cmp, ordering_then}
 use Rattle.std.specs.declared.cmp.Ordering.{Ordering}
@@ -9,9 +9,8 @@ use Rattle.std.specs.declared.cmp.Ordering.TheVariants.{Greater}
 use Rattle.std.specs.declared.cmp.Reverse.{Reverse}
 use Rattle.ospf_types.specs.declared.entry.Vertex.{Vertex}
 use Rattle.ospf_types.specs.declared.entry.Vertex.TheVariants.{Router, Network}
-use Rattle.ospf_types.specs.Vertices.{vertex_cmp}
 use Rattle.vertex_queue.specs.declared.waiting.Waiting.{Waiting}
-use Rattle.vertex_queue.specs.Queues.{queue_cmp}
+use Rattle.vertex_queue.specs.Queues.{Queue, queue_cmp}
 
 -- a vertex at a distance
 abbrev pub waiting : Vertex → ℕ → Waiting
@@ -31,24 +30,20 @@ abbrev pub heap_cmp : Reverse Waiting → Reverse Waiting → Ordering
 heap_cmp x y = ordering_then (nat_cmp y.0.distance x.0.distance) (ordering_then (bool_cmp y.0.is_router x.0.is_router) (nat_cmp y.0.number x.0.number))
 
 -- the vertex waits at the distance
-abbrev pub Waits : List (Vertex × ℕ) → Waiting → Type 0
-Waits entries w = find vertex_cmp (waiting_vertex w) entries ≡ Some w.distance
+abbrev pub Waits : Queue → Waiting → Type 0
+Waits q w = get q (waiting_vertex w) ≡ Some w.distance
 
--- it stands at the place
-abbrev pub IsAt : List (Vertex × ℕ) → Waiting → ℕ → Type 0
-IsAt entries w place = slice_get entries place ≡ Some (waiting_vertex w, w.distance)
-
--- what the entries and the heap have to do with each other
-pub record AreQueue (entries : List (Vertex × ℕ)) (heap : List (Reverse Waiting)) : Type 0 where
+-- what the distances and the heap have to do with each other
+pub record AreQueue (q : Queue) (heap : List (Reverse Waiting)) : Type 0 where
   pub in_order : IsHeap heap_cmp heap
-  pub held : (w : Waiting) → Waits entries w → Contains heap (record { 0 = w })
+  pub held : (w : Waiting) → Waits q w → Contains heap (record { 0 = w })
 
 -- it waits, and nothing that waits comes before it
-pub record IsNext (entries : List (Vertex × ℕ)) (first : Waiting) : Type 0 where
-  pub waits : Waits entries first
-  pub none_before : (w : Waiting) → Waits entries w → queue_cmp (first.distance, waiting_vertex first) (w.distance, waiting_vertex w) ≢ Greater
+pub record IsNext (q : Queue) (first : Waiting) : Type 0 where
+  pub waits : Waits q first
+  pub none_before : (w : Waiting) → Waits q w → queue_cmp (first.distance, waiting_vertex first) (w.distance, waiting_vertex w) ≢ Greater
 
 -- the heap is in order, and has what waits but for one vertex
-pub record HoldsOthers (entries : List (Vertex × ℕ)) (first : Waiting) (heap : List (Reverse Waiting)) : Type 0 where
+pub record HoldsOthers (q : Queue) (first : Waiting) (heap : List (Reverse Waiting)) : Type 0 where
   pub in_order : IsHeap heap_cmp heap
-  pub held : (w : Waiting) → Waits entries w → waiting_vertex w ≢ waiting_vertex first → Contains heap (record { 0 = w })
+  pub held : (w : Waiting) → Waits q w → waiting_vertex w ≢ waiting_vertex first → Contains heap (record { 0 = w })

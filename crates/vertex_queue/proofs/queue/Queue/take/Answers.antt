@@ -1,36 +1,23 @@
-use Rattle.std.proofs.Common.{Option, ℕ, None, IfSome, sym, subst, ◌∙◌}
+use Rattle.std.proofs.Common.{sym, subst, ap, ◌∙◌}
 use Rattle.std.specs.BinaryHeap.{heap_items}
-use Rattle.std.specs.FinMap.{remove}
-use Rattle.indexmap.specs.IndexMap.{Updates}
+use Rattle.std.specs.FinMap.{get-remove, remove}
 use Rattle.ospf_types.specs.declared.entry.Vertex.{Vertex}
-use Rattle.vertex_queue.specs.Queues.{Queue, IsFirst}
-use Rattle.vertex_queue.specs.Heaps.{waiting_vertex}
-use Rattle.ospf_types.proofs.VertexOrder.{vertices_equal}
-use Rattle.vertex_queue.proofs.Distances.{found_after, removed}
+use Rattle.ospf_types.proofs.VertexOrder.{vertex_total}
+use Rattle.vertex_queue.specs.Heaps.{AreQueue, waiting_vertex}
+use Rattle.vertex_queue.specs.Queues.{IsFirst, Queue}
 use Rattle.vertex_queue.proofs.HeapEntries.{first_of, taken}
 use Rattle.vertex_queue.proofs.queue.Queue.take.Goals as goal
 
 pub invariant_of-self-2 : goal.invariant_of-self-2
 invariant_of-self-2 c =
-    let i = c.self.inside in
-    let left = c.swap_remove_index.new.self in
-    let v = waiting_vertex c.in_ok-place.first in
-    let updates : Updates vertices_equal i.distances left v None =
-    subst (λ (o : Option (Vertex × ℕ)). IfSome o (λ p. Updates vertices_equal i.distances left p.0 None)) (c.swap_remove_index.ensures.entry ∙ c.in_ok-place.ensures.place) c.swap_remove_index.ensures.updates in
-    taken i.distances.entries left.entries c.in_ok-place.first (heap_items c.pop_waiting.new.order) c.in_ok-place.ensures.others (found_after i.distances.entries left.entries v None updates.0)
+    let q = c.self.inside.distances in
+    let first = c.in_ok-placed.first in
+    let ks = heap_items c.pop_waiting.new.order in
+    subst (λ (m : Queue). AreQueue m ks) (sym (c.remove.ensures ∙ ap (λ (v : Vertex). remove q v) c.in_ok-placed.ensures.vertex))
+    (taken q (remove q (waiting_vertex first)) first ks c.in_ok-placed.ensures.others (get-remove vertex_total q (waiting_vertex first)))
 
 pub returns-clause-first : goal.returns-clause-first
 returns-clause-first c =
-    subst (λ (v : Vertex). IsFirst c.args.self.now v c.in_ok-place.first.distance) (sym c.vertex-vertex.ensures)
-    (subst (λ (q : Queue). IsFirst q (waiting_vertex c.in_ok-place.first) c.in_ok-place.first.distance) c.self.view_is
-    (first_of c.self.inside.distances.entries c.in_ok-place.first c.in_ok-place.ensures.next))
-
-pub returns-clause-rest : goal.returns-clause-rest
-returns-clause-rest c =
-    let i = c.self.inside in
-    let left = c.swap_remove_index.new.self in
-    let v = waiting_vertex c.in_ok-place.first in
-    let updates : Updates vertices_equal i.distances left v None =
-    subst (λ (o : Option (Vertex × ℕ)). IfSome o (λ p. Updates vertices_equal i.distances left p.0 None)) (c.swap_remove_index.ensures.entry ∙ c.in_ok-place.ensures.place) c.swap_remove_index.ensures.updates in
-    removed i.distances.entries left.entries v (found_after i.distances.entries left.entries v None updates.0)
-    ∙ (λ i. remove (c.self.view_is i) (sym c.vertex-vertex.ensures i))
+    let first = c.in_ok-placed.first in
+    subst (λ (v : Vertex). IsFirst c.args.self.now v first.distance) (sym c.in_ok-placed.ensures.vertex)
+    (subst (λ (q : Queue). IsFirst q (waiting_vertex first) first.distance) c.self.view_is (first_of c.self.inside.distances first c.in_ok-placed.ensures.next))
