@@ -4,7 +4,7 @@ ghost use Rattle.std.specs.FinMap as map;
 ghost use Rattle.vertex_map.specs.Values.{values_of, with_value, inner, IsAt};
 ghost use Rattle.ospf_types.specs.declared.entry.Vertex.{Vertex};
 
-use crate::placed::Placed;
+use crate::placed::{NOWHERE, Placed};
 use indexmap::IndexMap;
 use ospf_types::entry::Vertex;
 use ospf_types::memory::Memory;
@@ -168,10 +168,26 @@ impl<V: Drop> VertexMap<V> {
     {
         let len = self.len();
         make_room(&mut self.entries, vertex, len);
+        let number = known_number(&self.entries, vertex, number);
         let (index, was) = self.entries.insert_full(vertex, (number, Some(value)))?;
         self.len = counted(len, is_value(&was));
         settle(&mut self.entries, index, number as usize);
         Ok(())
+    }
+}
+
+// The number, or where it is that of no place the one that the vertex's entry has.
+fn known_number<V>(
+    entries: &IndexMap<Vertex, (u32, Option<V>), WordHash>,
+    vertex: Vertex,
+    number: u32,
+) -> u32 {
+    if number != NOWHERE {
+        return number;
+    }
+    match entries.get(&vertex) {
+        Some(kept) => kept.0,
+        None => NOWHERE,
     }
 }
 

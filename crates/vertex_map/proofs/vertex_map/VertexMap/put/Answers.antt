@@ -8,7 +8,7 @@ use Rattle.vertex_map.proofs.vertex_map.VertexMap.put.Goals as goal
 abbrev after : goal.returns-clause-ok
 after g c =
     c.settle.ensures.same
-    ∙ updated c.make_room.new.entries.entries c.insert_full.new.self.entries c.args.vertex (c.args.number, Some c.args.value) c.in_ok-index.ensures.updates.0
+    ∙ updated c.make_room.new.entries.entries c.insert_full.new.self.entries c.args.vertex (c.known_number-number.result, Some c.args.value) c.in_ok-index.ensures.updates.0
     ∙ ap (λ (m : FinMap vertex_cmp g.row.V.Denot). insert m c.args.vertex c.args.value) (c.make_room.ensures ∙ c.self.view_is)
 
 pub returns-clause-ok : goal.returns-clause-ok
