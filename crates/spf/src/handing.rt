@@ -10,7 +10,7 @@ ghost use Rattle.spf.specs.Parts.{AreUnsettled, AreSettled, hops_of};
 
 use crate::gathering::{are_same, gather};
 use crate::losing::Losses;
-use crate::places::{head_of, is_at_root, is_root};
+use crate::places::{is_at_root, is_root};
 use hop_sets::HopSet;
 use ospf_types::entry::Vertex;
 use ospf_types::memory::Memory;
@@ -58,7 +58,7 @@ pub(crate) fn hand(
             alloc,
             graph,
             distances,
-            vertex,
+            &vertex,
             distance,
             hops,
             touched,
@@ -99,27 +99,26 @@ fn settle(
     alloc: Global,
     graph: &Graph,
     distances: &Distances,
-    vertex: Vertex,
+    vertex: &Placed,
     distance: u32,
     hops: &mut HopColumns,
     touched: &mut Touched,
     queue: &mut Queue,
     written: &mut Members,
 ) -> Result<(), Memory>
-    requires at { map.get distances.now vertex ≡ Some distance }
-    requires fresh { Contains written.old vertex → ⊥ }
+    requires at { map.get distances.now vertex.now ≡ Some distance }
+    requires fresh { Contains written.old vertex.now → ⊥ }
     requires counted { touched.old.hop_sets ≡ length written.old }
-    ensures settled { OnOk result (IsSettled (LinksOf graph.now) graph.now.root (map.get distances.now) queue.old queue.new (hops_of hops.old) (hops_of hops.new) written.old written.new vertex) }
+    ensures settled { OnOk result (IsSettled (LinksOf graph.now) graph.now.root (map.get distances.now) queue.old queue.new (hops_of hops.old) (hops_of hops.new) written.old written.new vertex.now) }
     ensures taken { OnOk result (touched.new.taken ≡ touched.old.taken) }
     ensures counted { OnOk result (touched.new.hop_sets ≡ length written.new) }
 {
-    let links = graph.links_to(vertex);
+    let links = graph.links_into(vertex);
     let set = gather(alloc, graph, distances, hops, vertex, links, distance)?;
-    let placed = head_of(links, vertex);
-    if are_same(hops.get(&placed), &set) {
+    if are_same(hops.get(vertex), &set) {
         return Ok(());
     }
-    write(&placed, Some(set), hops, touched, written)?;
+    write(vertex, Some(set), hops, touched, written)?;
     put_heads(graph, distances, vertex, distance, queue)
 }
 
@@ -171,7 +170,7 @@ fn put_if_reached(
         return Ok(());
     }
     match distances.find(vertex) {
-        Some(distance) => queue.put(vertex, distance),
+        Some(distance) => queue.put(&Placed::nowhere(vertex), distance),
         None => Ok(()),
     }
 }
@@ -180,15 +179,15 @@ fn put_if_reached(
 fn put_heads(
     graph: &Graph,
     distances: &Distances,
-    vertex: Vertex,
+    vertex: &Placed,
     near: u32,
     queue: &mut Queue,
 ) -> Result<(), Memory>
-    requires { map.get distances.now vertex ≡ Some near }
-    ensures { OnOk result (ArePut (map.get distances.now) (IsLeastHead (LinksOf graph.now) graph.now.root (map.get distances.now) vertex) (map.get queue.old) (map.get queue.new)) }
+    requires { map.get distances.now vertex.now ≡ Some near }
+    ensures { OnOk result (ArePut (map.get distances.now) (IsLeastHead (LinksOf graph.now) graph.now.root (map.get distances.now) vertex.now) (map.get queue.old) (map.get queue.new)) }
 {
     let root = graph.root();
-    for link in graph.links_from(vertex) {
+    for link in graph.links_out_of(vertex) {
         put_head(root, distances, link, near, queue)?;
     }
     Ok(())
@@ -209,7 +208,7 @@ fn put_head(
         return Ok(());
     }
     match least_distance(distances, link, near) {
-        Some(distance) => queue.put(link.to.vertex(), distance),
+        Some(distance) => queue.put(&link.to, distance),
         None => Ok(()),
     }
 }

@@ -57,8 +57,15 @@ pub(crate) fn near(
     offer_reached(root, came, distances, queue, &mut losses.stale)?;
     let mut moved = Members::new(alloc, hashing);
     while let Some((vertex, distance)) = touched.take(queue) {
-        reach(graph, vertex, distance, distances, queue, &mut losses.stale)?;
-        moved.add(vertex)?;
+        reach(
+            graph,
+            &vertex,
+            distance,
+            distances,
+            queue,
+            &mut losses.stale,
+        )?;
+        moved.add(vertex.vertex())?;
         prove!(moved.len() < usize::MAX);
     }
     Ok(moved)
@@ -91,18 +98,18 @@ fn clear(lost: &[Vertex], distances: &mut Distances)
 // Gives the vertex its distance, and offers the heads of its links what they have over it.
 fn reach(
     graph: &Graph,
-    vertex: Vertex,
+    vertex: &Placed,
     distance: u32,
     distances: &mut Distances,
     queue: &mut Queue,
     stale: &mut Members,
 ) -> Result<(), Memory>
     requires { distance < most_distance }
-    ensures set { OnOk result (distances.new ≡ map.insert distances.old vertex distance) }
-    ensures made { OnOk result (AreMade (OutOf (LinksOf graph.now) graph.now.root vertex distance) (map.get distances.new) (map.get queue.old) (map.get queue.new) stale.old stale.new) }
+    ensures set { OnOk result (distances.new ≡ map.insert distances.old vertex.now distance) }
+    ensures made { OnOk result (AreMade (OutOf (LinksOf graph.now) graph.now.root vertex.now distance) (map.get distances.new) (map.get queue.old) (map.get queue.new) stale.old stale.new) }
 {
-    let links = graph.links_from(vertex);
-    distances.set(&tail_of(links, vertex), distance)?;
+    let links = graph.links_out_of(vertex);
+    distances.set(vertex, distance)?;
     offer_from(graph.root(), links, distance, distances, queue, stale)
 }
 
@@ -202,24 +209,18 @@ fn offer_over(
     if is_at_root(root, &link.to) {
         return Ok(());
     }
-    offer(
-        link.to.vertex(),
-        near + u32::from(link.cost),
-        far,
-        queue,
-        stale,
-    )
+    offer(&link.to, near + u32::from(link.cost), far, queue, stale)
 }
 
 // Offers a vertex, which is this far, a distance. If that is nearer the vertex is queued; if it is as near, it is stale.
 fn offer(
-    vertex: Vertex,
+    vertex: &Placed,
     distance: u32,
     far: Option<u32>,
     queue: &mut Queue,
     stale: &mut Members,
 ) -> Result<(), Memory>
-    ensures { OnOk result ((at : VertexValue → Option ℕ) → at vertex ≡ far → AreMade (OneOffer vertex distance) at (map.get queue.old) (map.get queue.new) stale.old stale.new) }
+    ensures { OnOk result ((at : VertexValue → Option ℕ) → at vertex.now ≡ far → AreMade (OneOffer vertex.now distance) at (map.get queue.old) (map.get queue.new) stale.old stale.new) }
 {
     let Some(least) = far else {
         return queue.put(vertex, distance);
@@ -228,7 +229,7 @@ fn offer(
         return queue.put(vertex, distance);
     }
     if distance == least {
-        stale.add(vertex)?;
+        stale.add(vertex.vertex())?;
     }
     Ok(())
 }
