@@ -10,9 +10,8 @@ ghost use Rattle.spf.specs.Parts.{AreUnsettled, AreSettled, hops_of};
 
 use crate::gathering::{are_same, gather};
 use crate::losing::Losses;
-use crate::places::{is_at_root, is_root};
+use crate::places::is_at_root;
 use hop_sets::HopSet;
-use ospf_types::entry::Vertex;
 use ospf_types::memory::Memory;
 use std::alloc::Global;
 use tree_parts::{Distances, HopColumns, Members, Touched};
@@ -74,7 +73,7 @@ fn blank(
     alloc: Global,
     hashing: WordHash,
     distances: &Distances,
-    lost: &[Vertex],
+    lost: &[Placed],
     hops: &mut HopColumns,
     touched: &mut Touched,
 ) -> Result<Members, Memory>
@@ -86,8 +85,8 @@ fn blank(
 {
     let mut written = Members::new(alloc, hashing);
     for vertex in lost {
-        if distances.find(*vertex).is_none() {
-            write(&Placed::nowhere(*vertex), None, hops, touched, &mut written)?;
+        if distances.get(vertex).is_none() {
+            write(vertex, None, hops, touched, &mut written)?;
         }
     }
     Ok(written)
@@ -139,7 +138,7 @@ fn write(
 {
     prove!(written.len() < usize::MAX);
     touched.write(hops, vertex, set)?;
-    written.add(vertex.vertex())?;
+    written.add(vertex)?;
     Ok(())
 }
 
@@ -147,13 +146,13 @@ fn write(
 fn put_reached(
     root: u32,
     distances: &Distances,
-    vertices: &[Vertex],
+    vertices: &[Placed],
     queue: &mut Queue,
 ) -> Result<(), Memory>
     ensures { OnOk result (ArePut (map.get distances.now) (IsOfSome vertices.now (IsReachedAt root (map.get distances.now))) (map.get queue.old) (map.get queue.new)) }
 {
     for vertex in vertices {
-        put_if_reached(root, distances, *vertex, queue)?;
+        put_if_reached(root, distances, vertex, queue)?;
     }
     Ok(())
 }
@@ -161,16 +160,16 @@ fn put_reached(
 fn put_if_reached(
     root: u32,
     distances: &Distances,
-    vertex: Vertex,
+    vertex: &Placed,
     queue: &mut Queue,
 ) -> Result<(), Memory>
-    ensures { OnOk result (ArePut (map.get distances.now) (IsReachedAt root (map.get distances.now) vertex) (map.get queue.old) (map.get queue.new)) }
+    ensures { OnOk result (ArePut (map.get distances.now) (IsReachedAt root (map.get distances.now) vertex.now) (map.get queue.old) (map.get queue.new)) }
 {
-    if is_root(root, vertex) {
+    if is_at_root(root, vertex) {
         return Ok(());
     }
-    match distances.find(vertex) {
-        Some(distance) => queue.put(&Placed::nowhere(vertex), distance),
+    match distances.get(vertex) {
+        Some(distance) => queue.put(vertex, distance),
         None => Ok(()),
     }
 }

@@ -16,6 +16,7 @@ use ospf_types::memory::Memory;
 use std::alloc::Global;
 use tree_parts::{Distances, Members};
 use vertex_graph::{Graph, Link, LinkChanges};
+use vertex_map::Placed;
 use word_hash::WordHash;
 
 /// The vertices that lose their distance, and those whose least links changed by that.
@@ -48,7 +49,7 @@ pub(crate) fn lose(
     let mut search = Search::new(alloc, hashing);
     search.suspect_heads(changes.gone.as_slice(), graph.root(), distances)?;
     while let Some(suspect) = search.suspects.pop() {
-        search.judge(graph, distances, suspect)?;
+        search.judge(graph, distances, &suspect)?;
     }
     Ok(search.losses)
 }
@@ -90,7 +91,7 @@ impl Search {
     {
         for link in gone {
             if was_least(link, root, distances) {
-                self.suspect(link.to.vertex())?;
+                self.suspect(&link.to)?;
             }
         }
         Ok(())
@@ -110,15 +111,15 @@ impl Search {
     {
         for link in links {
             if may_support(link, root, distances, distance) {
-                self.suspect(link.to.vertex())?;
+                self.suspect(&link.to)?;
             }
         }
         Ok(())
     }
 
     // The vertex is stale, and suspected unless it is lost.
-    fn suspect(&mut self, vertex: Vertex) -> Result<(), Memory>
-        ensures told { OnOk result (AreToldOf (λ v. vertex ≡ v) self.old.losses.lost self.old.losses.stale self.new.losses.stale self.old.suspects self.new.suspects) }
+    fn suspect(&mut self, vertex: &Placed) -> Result<(), Memory>
+        ensures told { OnOk result (AreToldOf (λ v. vertex.now ≡ v) self.old.losses.lost self.old.losses.stale self.new.losses.stale self.old.suspects self.new.suspects) }
         ensures lost { OnOk result (self.new.losses.lost ≡ self.old.losses.lost) }
     {
         self.losses.stale.add(vertex)?;
@@ -129,13 +130,18 @@ impl Search {
     }
 
     // Finds whether a suspect is lost.
-    fn judge(&mut self, graph: &Graph, distances: &Distances, suspect: Vertex) -> Result<(), Memory>
-        ensures { OnOk result (IsJudged graph.now (map.get distances.now) self.old.losses.lost self.new.losses.lost self.old.suspects self.new.suspects self.old.losses.stale self.new.losses.stale suspect) }
+    fn judge(
+        &mut self,
+        graph: &Graph,
+        distances: &Distances,
+        suspect: &Placed,
+    ) -> Result<(), Memory>
+        ensures { OnOk result (IsJudged graph.now (map.get distances.now) self.old.losses.lost self.new.losses.lost self.old.suspects self.new.suspects self.old.losses.stale self.new.losses.stale suspect.now) }
     {
         if self.losses.lost.has(suspect) {
             return Ok(());
         }
-        let Some(distance) = distances.find(suspect) else {
+        let Some(distance) = distances.get(suspect) else {
             return Ok(());
         };
         if is_supported(
@@ -149,7 +155,12 @@ impl Search {
             return Ok(());
         }
         self.losses.lost.add(suspect)?;
-        self.suspect_beyond(graph.links_from(suspect), graph.root(), distances, distance)
+        self.suspect_beyond(
+            graph.links_out_of(suspect),
+            graph.root(),
+            distances,
+            distance,
+        )
     }
 }
 
@@ -160,16 +171,20 @@ fn is_supported(
     graph: &Graph,
     lost: &Members,
     distances: &Distances,
-    vertex: Vertex,
+    vertex: &Placed,
     distance: u32,
 ) -> Result<bool, Memory>
-    ensures { IfOk result (λ supported. IsTrue supported ↔ IsSupported (LinksOf graph.now) (map.get distances.now) lost.now vertex distance) }
+    ensures { IfOk result (λ supported. IsTrue supported ↔ IsSupported (LinksOf graph.now) (map.get distances.now) lost.now vertex.now distance) }
 {
-    let links = graph.links_to(vertex);
-    let start = stops.get(&vertex).copied().unwrap_or(0).min(links.len());
+    let links = graph.links_into(vertex);
+    let start = stops
+        .get(&vertex.vertex())
+        .copied()
+        .unwrap_or(0)
+        .min(links.len());
     let (passed, open) = links.split_at(start);
     if let Some(place) = find_support(open, lost, distances, distance) {
-        note_stop(stops, vertex, start + place, place)?;
+        note_stop(stops, vertex.vertex(), start + place, place)?;
         return Ok(true);
     }
     Ok(find_support(passed, lost, distances, distance).is_some())
@@ -212,7 +227,7 @@ fn supports(link: &Link, lost: &Members, distances: &Distances, distance: u32) -
     ensures { IsTrue result ↔ Supports (map.get distances.now) lost.now distance link.now }
 {
     match distances.get(&link.from) {
-        Some(near) => !lost.has(link.from.vertex()) && near + u32::from(link.cost) <= distance,
+        Some(near) => !lost.has(&link.from) && near + u32::from(link.cost) <= distance,
         None => false,
     }
 }

@@ -13,7 +13,7 @@ ghost use Rattle.spf.specs.Parts.{AreStarted, AreNeared};
 ghost use Rattle.spf.specs.Repairs.{IsReset};
 
 use crate::losing::Losses;
-use crate::places::{head_of, is_at_root, tail_of};
+use crate::places::{is_at_root, tail_of};
 use ospf_types::entry::Vertex;
 use ospf_types::memory::Memory;
 use std::alloc::Global;
@@ -65,7 +65,7 @@ pub(crate) fn near(
             queue,
             &mut losses.stale,
         )?;
-        moved.add(vertex.vertex())?;
+        moved.add(&vertex)?;
         prove!(moved.len() < usize::MAX);
     }
     Ok(moved)
@@ -73,7 +73,7 @@ pub(crate) fn near(
 
 // The distances from which those after are sought: none of what is lost, and of the root by whether it
 // is a vertex.
-fn reset(graph: &Graph, lost: &[Vertex], distances: &mut Distances) -> Result<(), Memory>
+fn reset(graph: &Graph, lost: &[Placed], distances: &mut Distances) -> Result<(), Memory>
     ensures { OnOk result (IsReset graph.now.root (HasRoot graph.now) (map.get distances.old) lost.now (map.get distances.new)) }
 {
     clear(lost, distances);
@@ -87,11 +87,11 @@ fn reset(graph: &Graph, lost: &[Vertex], distances: &mut Distances) -> Result<()
     Ok(())
 }
 
-fn clear(lost: &[Vertex], distances: &mut Distances)
+fn clear(lost: &[Placed], distances: &mut Distances)
     ensures { IsCleared (map.get distances.old) lost.now (map.get distances.new) }
 {
     for vertex in lost {
-        distances.remove(&Placed::nowhere(*vertex));
+        distances.remove(vertex);
     }
 }
 
@@ -116,7 +116,7 @@ fn reach(
 // Offers these vertices what they have over links from reached ones.
 fn offer_into(
     graph: &Graph,
-    vertices: &[Vertex],
+    vertices: &[Placed],
     distances: &Distances,
     queue: &mut Queue,
     stale: &mut Members,
@@ -125,8 +125,8 @@ fn offer_into(
 {
     let root = graph.root();
     for vertex in vertices {
-        let links = graph.links_to(*vertex);
-        let far = distances.get(&head_of(links, *vertex));
+        let links = graph.links_into(vertex);
+        let far = distances.get(vertex);
         offer_to(root, links, far, distances, queue, stale)?;
     }
     Ok(())
@@ -229,7 +229,7 @@ fn offer(
         return queue.put(vertex, distance);
     }
     if distance == least {
-        stale.add(vertex.vertex())?;
+        stale.add(vertex)?;
     }
     Ok(())
 }

@@ -9,6 +9,7 @@ ghost use Rattle.spf.specs.TreeValues.{IsTreeOf, IsTreeBefore, IsBegun, IsRenewe
 use crate::handing::hand;
 use crate::losing::{Losses, lose};
 use crate::nearing::near;
+use crate::places::tail_of;
 use ospf_types::entry::Vertex;
 use ospf_types::hop::NextHop;
 use ospf_types::memory::Memory;
@@ -194,7 +195,8 @@ impl Tree {
     {
         let mut losses = lose(alloc, self.hashing, graph, changes, &self.distances)?;
         let root = Vertex::Router(graph.root());
-        let remembered = remember(alloc, &self.distances, root, losses.lost.as_slice())?;
+        let placed = tail_of(graph.links_from(root), root);
+        let remembered = remember(alloc, &self.distances, &placed, losses.lost.as_slice())?;
         let renewed = self.renew(alloc, graph, changes.came.as_slice(), &mut losses)?;
         self.changed = differing(
             alloc,

@@ -2,5 +2,6 @@ pub mod Counting
 pub mod Elements
 pub mod VertexMaps
 pub mod VertexSets
+pub mod Marking
 pub mod Grown
 pub mod SortedOnce

@@ -1,4 +1,4 @@
 pub mod Maps
 pub mod Members
 pub mod Differing
-pub mod Listed
+pub mod Marks

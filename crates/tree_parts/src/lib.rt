@@ -4,7 +4,6 @@
 
 pub mod differing;
 mod distances;
-mod few;
 mod hop_columns;
 mod members;
 mod touched;

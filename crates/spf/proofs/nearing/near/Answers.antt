@@ -1,10 +1,8 @@
-use Rattle.std.proofs.Common.{◌≡◌, ◌+◌, [], ◌∷◌, ◌++◌, length, get_or, refl, sym, ap, subst, ◌∙◌, arith}
+use Rattle.std.proofs.Common.{◌≡◌, ◌+◌, [], ◌∷◌, ◌++◌, length, get_or, refl, sym, ap, ◌∙◌, arith}
 use Rattle.std.specs.FinMap.{len}
 use Rattle.std.proofs.lemmas.List.{length_push}
 use Rattle.std.proofs.lemmas.List.Elements.{Contains-get_or}
-use Rattle.ospf_types.specs.declared.entry.Vertex.{Vertex}
 use Rattle.vertex_graph.specs.Link.{Link}
-use Rattle.tree_parts.specs.Members.{IsWithMember}
 use Rattle.spf.proofs.GraphVertices.{fits}
 use Rattle.spf.proofs.Nearest.{AreSought, sought_at_start, sought_more, moved_added, neared_at_end, moved_most, taken_right, fewer_left}
 use Rattle.spf.proofs.nearing.near.Goals as goal
@@ -31,7 +29,7 @@ reach-requires c =
 -- what was added stands at the end
 at_end : (c : goal.Else-prove) → c.add.new.self ≡ c.loop-vertex.moved ++ c.in-Some.vertex ∷ []
 at_end c =
-    moved_added c.args.graph.now c.args.came.now c.loop-vertex.invariant.sought c.in-Some.vertex c.in-Some.distance c.in-Some.ensures.first c.add.new.self c.in_ok-add.field-0 (subst (λ (v : Vertex). IsWithMember c.loop-vertex.moved c.add.new.self v c.in_ok-add.field-0) c.vertex.ensures c.in_ok-add.ensures.end)
+    moved_added c.args.graph.now c.args.came.now c.loop-vertex.invariant.sought c.in-Some.vertex c.in-Some.distance c.in-Some.ensures.first c.add.new.self c.in_ok-add.field-0 c.in_ok-add.ensures.end
 
 -- the round
 one_more : (c : goal.Else-prove) → AreSought c.args.graph.now c.args.came.now c.reset.new.distances c.args.losses.now.stale c.reach.new.distances c.reach.new.queue c.add.new.self c.reach.new.stale

@@ -1,8 +1,6 @@
-use Rattle.std.proofs.Common.{◌≡◌, Some, None, sym, ap, subst, ◌∙◌, arith}
+use Rattle.std.proofs.Common.{◌≡◌, Some, None, sym, ap, ◌∙◌, arith}
 use Rattle.std.specs.FinMap.{get}
 use Rattle.std.proofs.lemmas.Result.{on_ok_weaker}
-use Rattle.ospf_types.specs.declared.entry.Vertex.{Vertex}
-use Rattle.tree_parts.specs.Members.{IsAdded}
 use Rattle.spf.proofs.Offering.{queued, offer_told}
 use Rattle.spf.proofs.nearing.offer.Goals as goal
 
@@ -25,4 +23,4 @@ returns-then-distance-least c =
 pub returns-in_ok-add : goal.returns-in_ok-add
 returns-in_ok-add c = λ at here.
     offer_told at c.args.vertex.now c.args.distance (get c.args.queue.now) c.args.stale.now c.add.new.self
-    (here ∙ c.in-Some.is ∙ ap Some (sym c.if-distance-least-2.true)) (subst (λ (v : Vertex). IsAdded c.args.stale.now c.add.new.self v) c.vertex.ensures c.in_ok-add.ensures.added)
+    (here ∙ c.in-Some.is ∙ ap Some (sym c.if-distance-least-2.true)) c.in_ok-add.ensures.added

@@ -15,6 +15,6 @@ returns-clause-exact c =
     let kept = c.dedup.new.self.items in
     let lost = c.args.lost.now in
     grown_twice c.args.written.now once twice kept (IsFarther c.args.remembered.now c.args.distances.now) (IsNearer c.args.moved.now lost)
-    (subst (λ (vs : List Vertex). IsGrown once vs (IsFarther c.args.remembered.now c.args.distances.now)) (c.in_ok-changed.ensures.items ∙ c.as_slice.ensures.value) c.in_ok-add_farther.ensures)
+    (subst (λ (vs : List Vertex). IsGrown once vs (IsFarther c.args.remembered.now c.args.distances.now)) (c.in_ok-changed.ensures ∙ c.as_slice.ensures.value) c.in_ok-add_farther.ensures)
     (subst (λ (vs : List Vertex). IsGrown twice once (IsNearer vs lost)) c.as_slice-2.ensures.value c.in_ok-add_nearer.ensures)
     (same_vertices twice c.sort_unstable.new.self.items kept c.sort_unstable.ensures.permutation c.sort_unstable.ensures.sorted c.dedup.ensures.filtered)

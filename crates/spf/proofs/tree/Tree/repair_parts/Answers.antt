@@ -1,8 +1,9 @@
-use Rattle.std.proofs.Common.{List, refl, sym, subst}
+use Rattle.std.proofs.Common.{List, ◌∷◌, map, refl, sym, ap, subst, ◌∙◌}
+use Rattle.ospf_types.specs.declared.entry.Vertex.{Vertex}
 use Rattle.vertex_graph.specs.Link.{Link}
 use Rattle.spf.specs.contracts.tree.Tree.{the_view}
 use Rattle.spf.specs.TreeValues.{TreeValue, IsTreeBefore, IsBegun}
-use Rattle.spf.proofs.Finished.{begun, renewed_at, listed_tree, listed_work, changed_list}
+use Rattle.spf.proofs.Finished.{begun, renewed_at, listed_tree, listed_work, changed_list, with_distance}
 use Rattle.spf.proofs.Kept.{others_listed}
 use Rattle.spf.proofs.Renewed.{distances_before}
 use Rattle.spf.proofs.tree.Tree.repair_parts.Goals as goal
@@ -22,7 +23,7 @@ pub returns-clause-changed : goal.returns-clause-changed
 returns-clause-changed c =
     changed_list _ c.args.self.now (the_view c.self-2.inside) c.args.graph.now.root c.root.result c.in_ok-losses.losses.lost c.as_slice.result.now c.renew.new.losses.lost c.in_ok-renewed.renewed.moved c.in_ok-renewed.renewed.written
     c.in_ok-self-inside.field-0.items c.in_ok-remembered.remembered.items c.as_slice-3.result.now c.self.view_is c.root.ensures.value c.as_slice.ensures.value c.in_ok-renewed.ensures.lost c.as_slice-3.ensures.value
-    c.in_ok-remembered.ensures c.in_ok-self-inside.ensures.in_order c.in_ok-self-inside.ensures.exact (renewed_at _ _ c.self-2.view_is c.as_slice-2.ensures.value c.in_ok-renewed.ensures.renewed).differ
+    (c.in_ok-remembered.ensures ∙ ap (λ (v : Vertex). map (with_distance c.self.inside.distances) (v ∷ c.as_slice.result.now)) c.tail_of-placed.ensures) c.in_ok-self-inside.ensures.in_order c.in_ok-self-inside.ensures.exact (renewed_at _ _ c.self-2.view_is c.as_slice-2.ensures.value c.in_ok-renewed.ensures.renewed).differ
 
 pub returns-clause-bounded : goal.returns-clause-bounded
 returns-clause-bounded c =

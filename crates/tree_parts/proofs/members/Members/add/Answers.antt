@@ -1,25 +1,33 @@
-use Rattle.std.proofs.Common.{List, sym, ap, subst, ◌∙◌}
+use Rattle.std.proofs.Common.{◌≡◌, ◌++◌, ◌∷◌, [], List, sym, ap, subst, ◌∙◌}
+use Rattle.std.specs.List.{Contains}
 use Rattle.ospf_types.specs.declared.entry.Vertex.{Vertex}
-use Rattle.tree_parts.specs.Members.{IsWithMember}
-use Rattle.tree_parts.specs.Listed.{listed}
-use Rattle.tree_parts.proofs.VertexSets.{with_member, member_added, member_pushed}
+use Rattle.tree_parts.specs.Members.{HasNoDoubles}
+use Rattle.tree_parts.specs.Marks.{AreFound}
+use Rattle.tree_parts.proofs.Marking.{apart_pushed}
+use Rattle.tree_parts.proofs.VertexSets.{member_pushed}
 use Rattle.tree_parts.proofs.members.Members.add.Goals as goal
 
-pub returns-then-has_room-clause-added : goal.returns-then-has_room-clause-added
-returns-then-has_room-clause-added c =
-    member_pushed c.in-Few.few c.args.self.now c.push.new.self c.args.vertex (ap listed (sym c.in-Few.is) ∙ c.self.view_is) c.push.ensures
+pub mark-requires-clause-found : goal.mark-requires-clause-found
+mark-requires-clause-found c = subst (λ (vs : List Vertex). AreFound c.self.inside.marks vs) (sym c.as_slice.ensures) c.self.invariant.1
 
-pub returns-in_ok-many-in-Few-clause-added : goal.returns-in_ok-many-in-Few-clause-added
-returns-in_ok-many-in-Few-clause-added c =
-    member_pushed c.as_slice.result.now c.args.self.now c.in_ok-many-in-Few.many.keys c.args.vertex (c.as_slice.ensures.value ∙ ap listed (sym c.in-Few.is) ∙ c.self.view_is)
-    c.in_ok-many-in-Few.ensures
+pub invariant_of-self : goal.invariant_of-self
+invariant_of-self c = (c.self.invariant.0, subst (λ (vs : List Vertex). AreFound c.mark.new.marks vs) c.as_slice.ensures c.in_err-mark.ensures.still)
 
-pub returns-in_ok-insert-in-Many-clause-end : goal.returns-in_ok-insert-in-Many-clause-end
-returns-in_ok-insert-in-Many-clause-end c =
-    subst (λ (vs : List Vertex). IsWithMember vs c.insert.new.self.keys c.args.vertex c.in_ok-insert-in-Many.field-0) (ap listed (sym c.in-Many.is) ∙ c.self.view_is)
-    (subst (λ (vs : List Vertex). IsWithMember c.in-Many.many.keys vs c.args.vertex c.in_ok-insert-in-Many.field-0) (sym c.in_ok-insert-in-Many.ensures.keys)
-    (with_member c.in-Many.many.keys c.args.vertex c.in_ok-insert-in-Many.field-0 c.in_ok-insert-in-Many.ensures.added))
+pub invariant_of-self-in_err-push : goal.invariant_of-self-in_err-push
+invariant_of-self-in_err-push c =
+    subst (λ (vs : List Vertex). HasNoDoubles vs × AreFound c.mark.new.marks vs) (sym (ap (λ (l : _). l.items) c.in_err-push.ensures.err))
+    (c.self.invariant.0, subst (λ (vs : List Vertex). AreFound c.mark.new.marks vs) c.as_slice.ensures c.in_ok-mark.ensures.still)
 
-pub returns-in_ok-insert-in-Many-clause-added : goal.returns-in_ok-insert-in-Many-clause-added
-returns-in_ok-insert-in-Many-clause-added c =
-    member_added c.args.self.now c.insert.new.self.keys c.args.vertex c.in_ok-insert-in-Many.field-0 (returns-in_ok-insert-in-Many-clause-end c)
+pub invariant_of-self-2 : goal.invariant_of-self-2
+invariant_of-self-2 c =
+    let items = c.self.inside.list.items in
+    let v = c.args.vertex.now in
+    let fresh : Contains items v → ⊥ = λ there. let yes = c.has.ensures.1 (subst (λ (vs : List Vertex). Contains vs v) c.self.view_is there) in let no = c.if-has.false in absurd cc in
+    let is : c.push.new.self.items ≡ items ++ v ∷ [] = c.in_ok-push.ensures.ok ∙ ap (λ (w : Vertex). items ++ w ∷ []) c.copy.ensures in
+    subst (λ (vs : List Vertex). HasNoDoubles vs × AreFound c.mark.new.marks vs) (sym is)
+    (apart_pushed items v c.self.invariant.0 fresh, subst (λ (vs : List Vertex). AreFound c.mark.new.marks (vs ++ v ∷ [])) c.as_slice.ensures c.in_ok-mark.ensures.grown)
+
+pub returns-clause-added : goal.returns-clause-added
+returns-clause-added c =
+    let items = c.self.inside.list.items in
+    member_pushed items c.args.self.now c.push.new.self.items c.args.vertex.now c.self.view_is (c.in_ok-push.ensures.ok ∙ ap (λ (w : Vertex). items ++ w ∷ []) c.copy.ensures)
