@@ -2,3 +2,4 @@ pub mod Maps
 pub mod Members
 pub mod Differing
 pub mod Marks
+pub mod Keys

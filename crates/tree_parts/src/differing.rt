@@ -6,6 +6,7 @@ ghost use Rattle.ospf_types.specs.declared.entry.Vertex.{Vertex as VertexValue};
 ghost use Rattle.ospf_types.specs.Vertices.{vertex_cmp};
 ghost use Rattle.tree_parts.specs.Differing.{IsFarther, IsNearer};
 
+use crate::ascending::put_in_order;
 use crate::distances::Distances;
 use crate::members::Members;
 use ospf_types::entry::Vertex;
@@ -46,8 +47,7 @@ pub fn differing(
     let mut changed = vertices_of(alloc, written.as_slice())?;
     add_farther(&mut changed, remembered, distances)?;
     add_nearer(&mut changed, moved.as_slice(), lost)?;
-    changed.sort_unstable();
-    changed.dedup();
+    put_in_order(alloc, &mut changed)?;
     Ok(changed)
 }
 

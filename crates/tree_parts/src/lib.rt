@@ -2,6 +2,7 @@
 //! next hops, sets of vertices, its work counted, and which vertices a repair changed.
 #![tactic(auto)]
 
+mod ascending;
 pub mod differing;
 mod distances;
 mod hop_columns;
