@@ -1,4 +1,6 @@
 //! Values by vertex, looked for at places that are right and at others.
+ghost use Rattle.std.specs.Prelude.{◌<◌};
+
 use ospf_types::entry::Vertex;
 use ospf_types::memory::Memory;
 use std::hash::RandomState;
@@ -19,7 +21,9 @@ fn at(map: &VertexMap<u32>, vertex: &Placed) -> Option<u32> {
 }
 
 // Whether the vertex has its number, wherever it is looked for.
-fn is_there(map: &VertexMap<u32>, number: u32) -> bool {
+fn is_there(map: &VertexMap<u32>, number: u32) -> bool
+    requires { number < 100 }
+{
     let vertex = Vertex::Router(number);
     at(map, &Placed::new(vertex, 99 - number)) == Some(number)
         && at(map, &Placed::new(vertex, number)) == Some(number)
