@@ -7,7 +7,7 @@ ghost use Rattle.vertex_graph.specs.Graphs.{AreExact, HasEnds, most_routers};
 ghost use Rattle.area_trees.specs.Areas.{IsGraphOf, IsStanding, DifferAmong, vertex_of};
 
 use crate::networks::Networks;
-use crate::vertices::{lsa_of, standing, vertices_of};
+use crate::vertices::{list_vertices, lsa_of, standing};
 use lsa_codec::Checked;
 use lsdb::Database;
 use ospf_types::entry::Vertex;
@@ -22,6 +22,8 @@ use vertex_graph::{Graph, LinkChanges, Up};
 pub(crate) struct AreaGraph {
     graph: Graph,
     networks: Networks,
+    // Those of the last change, for the next to use their memory.
+    vertices: Vec<Vertex>,
 }
 
 // proof: one call drops it, in place of a drop of each part wherever one is held.
@@ -30,6 +32,7 @@ impl Drop for AreaGraph {
         let AreaGraph {
             graph: _graph,
             networks: _networks,
+            vertices: _vertices,
         } = self;
     }
 }
@@ -57,6 +60,7 @@ impl AreaGraph {
         AreaGraph {
             graph: Graph::new(alloc, root, hashing),
             networks: Networks::new(alloc),
+            vertices: Vec::new(alloc),
         }
     }
 
@@ -87,8 +91,8 @@ impl AreaGraph {
         // By these calls it is known that the routers are few and which links a vertex has.
         let _ = (database.len(), self.graph.root());
         self.networks.follow(database, keys)?;
-        let vertices = vertices_of(alloc, keys)?;
-        let lsas = standing(alloc, database, &self.networks, vertices.as_slice())?;
+        list_vertices(keys, &mut self.vertices)?;
+        let lsas = standing(alloc, database, &self.networks, self.vertices.as_slice())?;
         self.graph.replace_all(lsas.as_slice())
     }
 

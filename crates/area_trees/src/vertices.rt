@@ -21,26 +21,26 @@ use std::alloc::Global;
 /// An LSA with the vertex that it stands for, or a vertex without one.
 pub(crate) type Handed<'a> = (Vertex, Option<&'a Checked>);
 
-/// The vertices that LSAs under these keys stand for, ascending, each once.
-pub(crate) fn vertices_of(alloc: Global, keys: &[Key]) -> Result<Vec<Vertex>, Memory>
-    ensures in_order { IfOk result (λ vertices. IsStrictlySortedBy vertex_cmp vertices.items) }
-    ensures exact { IfOk result (λ vertices. (v : VertexValue) → Contains vertices.items v ↔ ((k : KeyValue) × Contains keys.now k × (vertex_of_key k ≡ Some v))) }
+/// Makes the list that of the vertices that LSAs under these keys stand for, ascending, each once.
+pub(crate) fn list_vertices(keys: &[Key], vertices: &mut Vec<Vertex>) -> Result<(), Memory>
+    ensures in_order { OnOk result (IsStrictlySortedBy vertex_cmp vertices.new.items) }
+    ensures exact { OnOk result ((v : VertexValue) → Contains vertices.new.items v ↔ ((k : KeyValue) × Contains keys.now k × (vertex_of_key k ≡ Some v))) }
 {
-    let mut vertices = named(alloc, keys)?;
+    list_named(keys, vertices)?;
     vertices.sort_unstable();
     vertices.dedup();
-    Ok(vertices)
+    Ok(())
 }
 
-// The vertices in the order of the keys.
-fn named(alloc: Global, keys: &[Key]) -> Result<Vec<Vertex>, Memory>
-    ensures { IfOk result (λ vertices. vertices.items ≡ filter_map vertex_of_key keys.now) }
+// Makes the list that of the vertices in the order of the keys.
+fn list_named(keys: &[Key], vertices: &mut Vec<Vertex>) -> Result<(), Memory>
+    ensures { OnOk result (vertices.new.items ≡ filter_map vertex_of_key keys.now) }
 {
-    let mut vertices = Vec::new(alloc);
+    vertices.clear();
     for key in keys {
-        push_named(*key, &mut vertices)?;
+        push_named(*key, vertices)?;
     }
-    Ok(vertices)
+    Ok(())
 }
 
 // Adds the vertex of the key, if it has one.

@@ -40,7 +40,7 @@ use ospf_types::prefix::Prefix;
 use route_layers::{active_areas, build_external, build_inter, follow_external, follow_inter};
 use route_table::{Item, Table};
 use spf::Touched;
-use state_trees::{area_inputs, build_trees, follow_trees, interfaces};
+use state_trees::{area_inputs, build_trees, follow_trees};
 use std::alloc::Global;
 use std::hash::RandomState;
 use std::marker::Model;
@@ -325,11 +325,10 @@ fn follow_intra(
     ensures exact { IfOk result (λ dests. (d : DestValue) → Contains dests.items d ↔ DiffersAt intra.old intra.new d) }
 {
     let areas = area_inputs(alloc, state, trees)?;
-    let interfaces = interfaces(alloc, state)?;
     let inputs = Inputs {
         root: state.config().router,
         areas: &areas,
-        interfaces: &interfaces,
+        interfaces: state.interfaces(),
     };
     intra.update(alloc, &inputs, dirty)
 }
@@ -367,11 +366,10 @@ fn build_intra(
     ensures fit { IfOk result (λ intra. AreFit state.now.config.areas state.now.databases) }
 {
     let areas = area_inputs(alloc, state, trees)?;
-    let interfaces = interfaces(alloc, state)?;
     let inputs = Inputs {
         root: state.config().router,
         areas: &areas,
-        interfaces: &interfaces,
+        interfaces: state.interfaces(),
     };
     Intra::build(alloc, &inputs, hashing)
 }

@@ -1,5 +1,5 @@
 -- Plans are carried out one by one.
-use Rattle.std.proofs.Common.{◌≡◌, ℕ, ◌+◌, ◌<◌, List, [], ◌∷◌, ◌++◌, length, get_or, set, take, drop, sym, ap, subst, ◌∙◌, inl, inr, arith, append_assoc}
+use Rattle.std.proofs.Common.{◌≡◌, ℕ, ◌+◌, ◌<◌, List, [], ◌∷◌, ◌++◌, length, get_or, set, take, drop, refl, sym, ap, subst, ◌∙◌, inl, inr, arith, append_assoc}
 use Rattle.std.proofs.lemmas.Bool.{cases_lt}
 use Rattle.std.proofs.lemmas.List.{drop_all, take_more_set, drop-set-lt, take-append-drop}
 use Rattle.due_lists.specs.declared.plan.AreaPlan.{AreaPlan}
@@ -18,10 +18,6 @@ none_carried plans old fits = record { fits = fits; leads = λ after h. h }
 
 fits_first : (p : AreaPlan) (left : List AreaPlan) (lists : List AreaDuesValue) → AllFit (p ∷ left) lists → lists ≡ [] → ⊥
 fits_first p left lists fits none = subst (AllFit (p ∷ left)) none fits
-
-lead_none : (lists : List AreaDuesValue) → AllFit [] lists → AllLead [] lists lists
-lead_none [] fits = tt
-lead_none (w ∷ lists) fits = absurd fits
 
 module _ (plans : List AreaPlan) (old : List AreaDuesValue) (now : List AreaDuesValue) (i : ℕ) where
   module _ (p : AreaPlan) (left : List AreaPlan) (carried : IsCarriedTo plans old (p ∷ left) now i) where
@@ -51,4 +47,4 @@ module _ (plans : List AreaPlan) (old : List AreaDuesValue) (now : List AreaDues
           }
 
   pub carried_all : IsCarriedTo plans old [] now i → AllLead plans old now
-  carried_all carried = subst (AllLead plans old) (take-append-drop i now) (carried.leads (drop i now) (lead_none (drop i now) carried.fits))
+  carried_all carried = subst (AllLead plans old) (take-append-drop i now) (carried.leads (drop i now) refl)

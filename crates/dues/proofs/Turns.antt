@@ -157,7 +157,7 @@ module _ (v : DueInputsValue) (dests : List Dest) where
       → AllLead (map (λ (x : Turn). x.plan) turns) (map (λ (x : Turn). x.new) turns) after
       → AreListsOf v (map (λ (x : Turn). x.area) turns) after
   lists_after before [] [] are alike was lead = tt
-  lists_after before [] (w ∷ after) are alike was lead = absurd lead
+  lists_after before [] (w ∷ after) are alike was lead = let wrong : w ∷ after ≡ [] = lead in absurd cc
   lists_after before (x ∷ turns) [] are alike was lead = absurd lead
   lists_after before (x ∷ turns) (w ∷ after) are alike was lead =
       let areas = map (λ (x : Turn). x.area) turns in (

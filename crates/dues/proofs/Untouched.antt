@@ -2,6 +2,7 @@
 --   alike_touched: where the same areas are active as before
 --   alike_few: where fewer than two are, and nothing is due
 --   alike_all: where all that is due and all that was due is touched
+--   lists_rest: where nothing is due otherwise
 --   lists_now: the lists of before are those of the areas now, of which the ranges may differ
 use Rattle.std.proofs.Common.{◌≡◌, ◌<◌, ℕ, List, [], ◌∷◌, ◌++◌, Ordering, arith, length, refl, sym, ap, subst, ◌∙◌, inl, inr}
 use Rattle.std.specs.Prelude.{◌↔◌}
@@ -12,7 +13,7 @@ use Rattle.ospf_types.specs.declared.config.AreaConfig.{AreaConfig}
 use Rattle.ospf_types.specs.declared.key.Dest.{Dest}
 use Rattle.ospf_types.specs.declared.key.Dest.TheVariants.{Net, Router}
 use Rattle.ospf_types.specs.RangeChanges.{with_others, areas_without_ranges}
-use Rattle.ospf_types.proofs.Elements.{no_element, first_or_later, mapped_element}
+use Rattle.ospf_types.proofs.Elements.{no_element, first_element, first_or_later, later_element, mapped_element}
 use Rattle.due_lists.specs.declared.due.Due.{Due}
 use Rattle.dues.specs.Inputs.{DueInputsValue}
 use Rattle.dues.specs.Giving.{IsDueIn, IsServed}
@@ -50,6 +51,25 @@ alike_few touched before now w few active were a d there absent m = (
 pub none_in_order : {A : Type 0} (cmp : A → A → Ordering) → IsStrictlySortedBy cmp []
 unfolding IsStrictlySortedBy
 none_in_order cmp = tt
+
+-- where nothing is due otherwise, the lists are those of the inputs now
+pub lists_rest : (before now : DueInputsValue) (areas : List AreaConfig) (lists : List AreaDuesValue) → ((a : AreaConfig) (d : Dest) → Contains areas a → (m : ℕ) → IsDueIn before a d m ↔ IsDueIn now a d m)
+    → AreListsOf before areas lists → AreListsOf now areas lists
+lists_rest before now [] [] alike are = tt
+lists_rest before now [] (w ∷ lists) alike are = absurd are
+lists_rest before now (a ∷ areas) [] alike are = absurd are
+lists_rest before now (a ∷ areas) (w ∷ lists) alike are =
+    let same = λ (d : Dest) (m : ℕ). alike a d (first_element a areas) m in (
+      record {
+        area = are.0.area;
+        in_order = are.0.in_order;
+        exact = λ due. let was = are.0.exact due in (
+          λ c. let h = was.0 c in ((same due.dest due.metric).0 h.0, h.1),
+          λ h. was.1 ((same due.dest due.metric).1 h.0, h.1),
+        );
+      },
+      lists_rest before now areas lists (λ b d c. alike b d (later_element a b areas c)) are.1,
+    )
 
 -- what was due in an area is in its list
 listed_dest : (v : DueInputsValue) (areas : List AreaConfig) (lists : List AreaDuesValue) → AreListsOf v areas lists → (a : AreaConfig) (d : Dest) (m : ℕ) → Contains areas a → IsDueIn v a d m → Contains (flat_map dests_of lists) d

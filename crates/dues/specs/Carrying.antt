@@ -5,17 +5,16 @@ use Rattle.due_lists.specs.Lists.{AreaDuesValue}
 use Rattle.dues.specs.Dues.{DuesValue}
 use Rattle.due_lists.specs.Plans.{Fits, Leads}
 
+-- each has its list, from the first on
 abbrev pub AllFit : List AreaPlan → List AreaDuesValue → Type 0
-AllFit [] [] = Unit {0}
+AllFit [] areas = Unit {0}
 AllFit (p ∷ plans) (w ∷ areas) = Fits p w × AllFit plans areas
-AllFit [] (w ∷ areas) = ⊥
 AllFit (p ∷ plans) [] = ⊥
 
+-- the lists that have no plan stay as they were
 abbrev pub AllLead : List AreaPlan → List AreaDuesValue → List AreaDuesValue → Type 0
-AllLead [] [] [] = Unit {0}
+AllLead [] old new = new ≡ old
 AllLead (p ∷ plans) (w ∷ old) (x ∷ new) = Leads p w x × AllLead plans old new
-AllLead [] [] (x ∷ new) = ⊥
-AllLead [] (w ∷ old) new = ⊥
 AllLead (p ∷ plans) [] new = ⊥
 AllLead (p ∷ plans) (w ∷ old) [] = ⊥
 

@@ -21,14 +21,16 @@ use due_lists::{AreaDues, AreaPlan, Due, look_up};
 use ospf_types::config::AreaConfig;
 use ospf_types::key::Dest;
 use ospf_types::memory::Memory;
+use smallvec::SmallVec;
 use std::alloc::Global;
 use std::marker::Model;
 
 /// What is to change in due summaries, with room for it.
 #[derive(Drop)]
 pub struct Plan {
+    // One an area, or none at all where nothing changes.
     areas: Vec<AreaPlan>,
-    active: Vec<u32>,
+    active: SmallVec<u32, 4>,
 }
 
 impl Model for Plan {
@@ -46,7 +48,9 @@ impl Model for Plan {
 /// The summaries that an area border router is to send into its areas (RFC 2328, 12.4.3).
 pub struct Dues {
     areas: Vec<AreaDues>,
-    active: Vec<u32>,
+    active: SmallVec<u32, 4>,
+    // What a plan looks up; kept for its memory.
+    candidates: Vec<Candidate>,
 }
 
 // proof: one call drops it, in place of a drop of each part wherever one is held.
@@ -55,6 +59,7 @@ impl Drop for Dues {
         let Dues {
             areas: _areas,
             active: _active,
+            candidates: _candidates,
         } = self;
     }
 }
@@ -98,9 +103,13 @@ impl Dues {
         ensures kept { IfOk result (λ plan. (after : DuesValue) → IsCarriedOut plan self.new after → AreDuesOf inputs.now after) }
     {
         let touched = self.touched(alloc, inputs, dests)?;
-        let candidates = find_candidates(alloc, inputs, &touched)?;
-        let areas = plan_areas(alloc, inputs, &mut self.areas, &candidates)?;
-        let active = Vec::from_slice(alloc, inputs.active)?;
+        let active = SmallVec::from_slice(alloc, inputs.active)?;
+        if touched.is_empty() {
+            let areas = Vec::new(alloc);
+            return Ok(Plan { areas, active });
+        }
+        find_candidates(inputs, &touched, &mut self.candidates)?;
+        let areas = plan_areas(alloc, inputs, &mut self.areas, &self.candidates)?;
         Ok(Plan { areas, active })
     }
 
@@ -145,7 +154,8 @@ impl Dues {
         }
         Ok(Dues {
             areas: lists,
-            active: Vec::new(alloc),
+            active: SmallVec::new(alloc),
+            candidates: Vec::new(alloc),
         })
     }
 
@@ -201,20 +211,20 @@ fn push_dests(list: &[Due], dests: &mut Vec<Dest>) -> Result<(), Memory>
     Ok(())
 }
 
-// The destinations, each with what may give a summary for it.
+// The destinations, each with what may give a summary for it, in the place of those that were found before.
 fn find_candidates(
-    alloc: Global,
     inputs: &DueInputs<'_>,
     dests: &[Dest],
-) -> Result<Vec<Candidate>, Memory>
-    ensures dests { IfOk result (λ found. dests_in found.items ≡ dests.now) }
-    ensures right { IfOk result (λ found. AreCandidates inputs.now found.items) }
+    found: &mut Vec<Candidate>,
+) -> Result<(), Memory>
+    ensures dests { OnOk result (dests_in found.new.items ≡ dests.now) }
+    ensures right { OnOk result (AreCandidates inputs.now found.new.items) }
 {
-    let mut found = Vec::with_capacity(alloc, dests.len())?;
+    found.clear();
     for dest in dests {
         found.push(find_candidate(inputs, *dest))?;
     }
-    Ok(found)
+    Ok(())
 }
 
 // What is to change in each of the lists, to these destinations.
@@ -284,7 +294,7 @@ fn changes(
     ensures { IfOk result (λ found. AreChangesIn inputs.now area.now list.now (dests_in candidates.now) found.0.items) }
 {
     let served = is_served(inputs.active, area.id);
-    let mut metrics = Vec::with_capacity(alloc, candidates.len())?;
+    let mut metrics = Vec::new(alloc);
     let mut moves = false;
     let mut rest = list;
     for candidate in candidates {

@@ -277,7 +277,7 @@ fn other_items(
     requires { IsStrictlySortedBy network_cmp networks.now }
     ensures { IfOk result (λ items. AreOtherItems calculation.now table.now.items networks.now items.items) }
 {
-    let mut items = Vec::new(alloc);
+    let mut items = Vec::with_capacity(alloc, networks.len())?;
     for network in networks {
         push_other(alloc, calculation, table, *network, &mut items)?;
     }

@@ -4,11 +4,11 @@ use Rattle.std.specs.Prelude.{Contains}
 use Rattle.std.specs.FinMap.{find}
 use Rattle.std.specs.List.{All}
 use Rattle.std.proofs.lemmas.List.{take_more, take_all, map-append}
-use Rattle.std.proofs.lemmas.List.Elements.{All-push, All-nil, All-contains}
+use Rattle.std.proofs.lemmas.List.Elements.{All-push, All-nil, All-contains, Contains-append_left, Contains-append_right, Contains-append_cases}
 use Rattle.ospf_types.specs.declared.entry.Vertex.{Vertex}
 use Rattle.ospf_types.specs.Distances.{Links}
 use Rattle.ospf_types.specs.Vertices.{vertex_cmp}
-use Rattle.ospf_types.proofs.Elements.{no_element, first_element, later_element, first_or_later, mapped_element, mapped_from}
+use Rattle.ospf_types.proofs.Elements.{no_element, first_element, first_or_later, mapped_element, mapped_from}
 use Rattle.graph_links.specs.declared.fresh.Fresh.{Fresh}
 use Rattle.graph_links.specs.declared.row.Row.{Row}
 use Rattle.graph_links.specs.Sides.{Leading, RowList, IsFreshRow, AreFresh, IsPlaced}
@@ -50,13 +50,14 @@ module _ (f : Fresh) (fs : List Fresh) (old mid new : RowList) where
   abbrev Lacks : List Fresh → Vertex → Type 0
   Lacks gs v = (g : Fresh) → Contains gs g → g.vertex ≢ v
 
-  pub place_cons : IsPlaced (f ∷ []) old mid → IsPlaced fs mid new → IsPlaced (f ∷ fs) old new
-  place_cons one rest v =
-      ⊎_elim (λ (h : Has fs new v). inl (h.0, later_element f h.0 fs h.1, h.2, h.3))
+  -- the last first, and then those before it
+  pub place_last : IsPlaced (f ∷ []) old mid → IsPlaced fs mid new → IsPlaced (fs ++ f ∷ []) old new
+  place_last one rest v =
+      ⊎_elim (λ (h : Has fs new v). inl (h.0, Contains-append_left fs (f ∷ []) h.0 h.1, h.2, h.3))
       (λ (n : Lacks fs v × (find vertex_cmp v new ≡ find vertex_cmp v mid)).
-      ⊎_elim (λ (h : Has (f ∷ []) mid v). inl (h.0, ⊎_elim (λ (e : h.0 ≡ f). subst (Contains (f ∷ fs)) (sym e) (first_element f fs)) (λ (c : Contains [] h.0). absurd (no_element h.0 c)) (first_or_later f h.0 [] h.1), h.2, n.1 ∙ h.3))
+      ⊎_elim (λ (h : Has (f ∷ []) mid v). inl (h.0, Contains-append_right fs (f ∷ []) h.0 h.1, h.2, n.1 ∙ h.3))
       (λ (m : Lacks (f ∷ []) v × (find vertex_cmp v mid ≡ find vertex_cmp v old)).
-      inr (λ g there. ⊎_elim (λ (e : g ≡ f). m.0 g (subst (Contains (f ∷ [])) (sym e) (first_element f []))) (λ (c : Contains fs g). n.0 g c) (first_or_later f g fs there), n.1 ∙ m.1)) (one v)) (rest v)
+      inr (λ g there. ⊎_elim (n.0 g) (m.0 g) (Contains-append_cases fs (f ∷ []) g there), n.1 ∙ m.1)) (one v)) (rest v)
 
 -- ---- the whole change
 

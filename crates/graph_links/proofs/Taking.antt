@@ -1,10 +1,11 @@
 -- The links that went and came, from the lists before and after.
 --   behind_same: behind a front that two lists share, the links of one that are not in the other
+--   before_same: and before a back that they share
 --   of_none, of_more, of_all: a list that grows with each fresh row
 --   kept_apart: and has no link twice
-use Rattle.std.proofs.Common.{◌≡◌, ◌↔◌, ◌⊎◌, inl, inr, ⊎_elim, ℕ, zero, suc, ◌+◌, ◌-◌, ◌<◌, ◌≤◌, List, [], ◌∷◌, ◌++◌, length, get_or, take, drop, map, refl, sym, ap, subst, ◌∙◌, arith}
+use Rattle.std.proofs.Common.{◌≡◌, ◌↔◌, ◌⊎◌, inl, inr, ⊎_elim, ℕ, zero, suc, ◌+◌, ◌-◌, ◌<◌, ◌≤◌, List, [], ◌∷◌, ◌++◌, length, get_or, take, drop, map, append_assoc, refl, sym, ap, subst, ◌∙◌, arith}
 use Rattle.std.specs.Prelude.{Contains}
-use Rattle.std.proofs.lemmas.List.{take_all, take_more, get_or-map, length-drop, length-map}
+use Rattle.std.proofs.lemmas.List.{drop_all, drop_more, take_all, take_more, get_or-map, length-drop, length-map}
 use Rattle.std.proofs.lemmas.List.Elements.{Contains-append_left, Contains-append_right, Contains-append_cases}
 use Rattle.ospf_types.specs.declared.entry.Vertex.{Vertex}
 use Rattle.ospf_types.proofs.Elements.{no_element, first_or_later, mapped_element}
@@ -12,7 +13,7 @@ use Rattle.graph_links.specs.declared.fresh.Fresh.{Fresh}
 use Rattle.graph_links.specs.declared.link.Link.{Link}
 use Rattle.graph_links.specs.Pairs.{AreApart}
 use Rattle.graph_links.specs.Sides.{AreLinksOut, AreOfFresh}
-use Rattle.graph_links.proofs.Apart.{Apart, apart_append, apart_first, apart_rest, apart_without, not_among_earlier}
+use Rattle.graph_links.proofs.Apart.{Apart, apart_append, apart_cons, apart_first, apart_nil, apart_rest, apart_without, not_among_earlier}
 use Rattle.graph_links.proofs.Growing.{more_at}
 
 module _ {X : Type 0} where
@@ -62,6 +63,44 @@ module _ {X : Type 0} where
       λ c. h.1 (behind n ys x c),
     ),
   )
+
+  -- before a back that two lists share
+  pub before_same : (n m : ℕ) (xs ys : List X) → drop n xs ≡ drop m ys → Apart xs → (x : X) → (Contains (take n xs) x × (Contains (take m ys) x → ⊥)) ↔ (Contains xs x × (Contains ys x → ⊥))
+  before_same n m xs ys same apart x = (
+    λ h. (
+      in_front n xs x h.0,
+      λ c. ⊎_elim h.1
+          (λ (back : Contains (drop m ys) x).
+          apart_parts (take n xs) (drop n xs) x (subst (λ (zs : List X). Apart zs) (sym (parts n xs)) apart) h.0 (subst (λ (zs : List X). Contains zs x) (sym same) back))
+          (either m ys x c),
+    ),
+    λ h. (
+      ⊎_elim
+          (λ (c : Contains (take n xs) x). c)
+          (λ (back : Contains (drop n xs) x). absurd (h.1 (behind m ys x (subst (λ (zs : List X). Contains zs x) same back)))) (either n xs x h.0),
+      λ c. h.1 (in_front m ys x c),
+    ),
+  )
+
+  -- the front of a list in which nothing stands twice
+  apart_left : (xs ys : List X) → Apart (xs ++ ys) → Apart xs
+  apart_left [] ys apart = apart_nil
+  apart_left (x ∷ xs) ys apart = apart_cons x xs (λ c. apart_first x x (xs ++ ys) apart (Contains-append_left xs ys x c) refl) (apart_left xs ys (apart_rest x (xs ++ ys) apart))
+
+  -- the second part may lose its back
+  pub apart_take : (n : ℕ) (old xs : List X) → Apart (old ++ xs) → Apart (old ++ take n xs)
+  apart_take n old xs apart =
+      apart_left (old ++ take n xs) (drop n xs)
+      (subst (λ (zs : List X). Apart zs) (ap (λ (ys : List X). old ++ ys) (sym (parts n xs)) ∙ sym (append_assoc old (take n xs) (drop n xs))) apart)
+
+-- a list that grows by what is before a back
+pub grown_before : (n m : ℕ) (xs ys old new : List Link) → drop n xs ≡ drop m ys → AreApart xs → ((l : Link) → Contains new l ↔ (Contains old l ⊎ (Contains (take n xs) l × (Contains (take m ys) l → ⊥))))
+    → (l : Link) → Contains new l ↔ (Contains old l ⊎ (Contains xs l × (Contains ys l → ⊥)))
+grown_before n m xs ys old new same apart grown l =
+    let both = before_same n m xs ys same apart l in (
+      λ c. ⊎_elim (λ (was : Contains old l). inl was) (λ (h : Contains (take n xs) l × (Contains (take m ys) l → ⊥)). inr (both.0 h)) ((grown l).0 c),
+      λ h. (grown l).1 (⊎_elim (λ (was : Contains old l). inl was) (λ (w : Contains xs l × (Contains ys l → ⊥)). inr (both.1 w)) h),
+    )
 
 -- a list that grows by what is behind
 pub grown_behind : (n : ℕ) (xs ys old new : List Link) → take n xs ≡ take n ys → AreApart xs → ((l : Link) → Contains new l ↔ (Contains old l ⊎ (Contains (drop n xs) l × (Contains (drop n ys) l → ⊥))))
@@ -160,7 +199,28 @@ same_whole xs ys i past within same =
     let all : i ≡ length xs = omega (arith, past, within) in
     subst (λ (n : ℕ). take n xs ≡ take n ys) all same
 
+-- ---- backs that are the same
+
+pub same_none : (xs ys : List Link) → drop (length xs - 0) xs ≡ drop (length ys - 0) ys
+same_none xs ys = drop_all (length xs - 0) xs (omega arith) ∙ sym (drop_all (length ys - 0) ys (omega arith))
+
+-- one more in front of a back
+one_more : (xs : List Link) (i : ℕ) (d : Link) → i < length xs → drop (length xs - (i + 1)) xs ≡ get_or xs (length xs - 1 - i) d ∷ drop (length xs - i) xs
+one_more xs i d lt =
+    let here : length xs - (i + 1) ≡ length xs - 1 - i = omega arith in
+    let next : length xs - 1 - i + 1 ≡ length xs - i = omega (arith, lt) in
+    ap (λ (n : ℕ). drop n xs) here ∙ drop_more xs (length xs - 1 - i) d (omega (arith, lt)) ∙ ap (λ (n : ℕ). get_or xs (length xs - 1 - i) d ∷ drop n xs) next
+
+pub same_back_more : (xs ys : List Link) (i : ℕ) (d e : Link) → i < length xs → i < length ys → drop (length xs - i) xs ≡ drop (length ys - i) ys → get_or xs (length xs - 1 - i) d ≡ get_or ys (length ys - 1 - i) e
+    → drop (length xs - (i + 1)) xs ≡ drop (length ys - (i + 1)) ys
+same_back_more xs ys i d e lt within same is =
+    one_more xs i d lt ∙ ap (λ (ls : List Link). get_or xs (length xs - 1 - i) d ∷ ls) same ∙ ap (λ (l : Link). l ∷ drop (length ys - i) ys) is ∙ sym (one_more ys i e within)
+
 -- ---- what stands behind a front
 
 pub rest_is : (n : ℕ) (links : List Link) → take (length links - n) (drop n links) ≡ drop n links
 rest_is n links = take_all (length links - n) (drop n links) (let long = length-drop n links in omega (arith, long))
+
+-- and nothing stands twice there
+pub apart_rests : (n : ℕ) (links : List Link) → AreApart links → AreApart (take (length links - n) (drop n links))
+apart_rests n links apart = subst AreApart (sym (rest_is n links)) (apart_drop n [] links apart)

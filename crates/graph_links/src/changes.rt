@@ -1,5 +1,5 @@
 //! The links that a change takes and brings, by the rows of vertices before it and after it.
-ghost use Rattle.std.specs.Prelude.{◌≡◌, ◌≢◌, ◌↔◌, ◌⊎◌, ◌≤◌, ◌<◌, ◌++◌, ◌∷◌, [], length, take, IsTrue, IfOk, OnOk, Contains, option_copied, map as list_map};
+ghost use Rattle.std.specs.Prelude.{◌≡◌, ◌≢◌, ◌↔◌, ◌⊎◌, ◌≤◌, ◌<◌, ◌++◌, ◌∷◌, ◌-◌, [], length, take, drop, IsTrue, IfOk, OnOk, Contains, option_copied, map as list_map};
 ghost use Rattle.std.specs.List.{AllPairs};
 ghost use Rattle.std.specs.List.Sorted.{IsPartitionPoint};
 ghost use Rattle.graph_links.specs.Pairs.{AreApart};
@@ -49,7 +49,27 @@ fn push_changes(
     ensures came_once { OnOk result (AreApart (came.old.items ++ after.now) → AreApart came.new.items) }
 {
     let same = same_front(before, after);
-    let (before, after) = (&before[same..], &after[same..]);
+    push_behind(alloc, &before[same..], &after[same..], gone, came)
+}
+
+// The same of links that differ at the front: what is the same at the back is left out.
+fn push_behind(
+    alloc: Global,
+    before: &[Link],
+    after: &[Link],
+    gone: &mut Vec<Link>,
+    came: &mut Vec<Link>,
+) -> Result<(), Memory>
+    requires before { AreApart before.now }
+    requires after { AreApart after.now }
+    ensures gone { OnOk result ((l : LinkValue) → Contains gone.new.items l ↔ (Contains gone.old.items l ⊎ (Contains before.now l × (Contains after.now l → ⊥)))) }
+    ensures came { OnOk result ((l : LinkValue) → Contains came.new.items l ↔ (Contains came.old.items l ⊎ (Contains after.now l × (Contains before.now l → ⊥)))) }
+    ensures gone_once { OnOk result (AreApart (gone.old.items ++ before.now) → AreApart gone.new.items) }
+    ensures came_once { OnOk result (AreApart (came.old.items ++ after.now) → AreApart came.new.items) }
+{
+    let same = same_back(before, after);
+    let before = &before[..before.len() - same];
+    let after = &after[..after.len() - same];
     push_missing(alloc, before, after, gone)?;
     push_missing(alloc, after, before, came)?;
     Ok(())
@@ -78,6 +98,23 @@ fn same_front(one: &[Link], other: &[Link]) -> usize
         }
     }
     one.len()
+}
+
+// How many links at the back are the same in both.
+fn same_back(one: &[Link], other: &[Link]) -> usize
+    ensures within_one { result ≤ length one.now }
+    ensures within_other { result ≤ length other.now }
+    ensures same { drop (length one.now - result) one.now ≡ drop (length other.now - result) other.now }
+{
+    let mut same = 0;
+    while same < one.len() && same < other.len() {
+        let link = &one[one.len() - 1 - same];
+        if !is_same(link, &other[other.len() - 1 - same]) {
+            return same;
+        }
+        same += 1;
+    }
+    same
 }
 
 // So many links are compared one by one, where they stand.

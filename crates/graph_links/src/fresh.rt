@@ -1,5 +1,5 @@
 //! The rows of vertices after a change.
-ghost use Rattle.std.specs.Prelude.{◌≡◌, ◌+◌, ◌≤◌, ◌<◌, [], ◌∷◌, Some, IfOk, length, if◌then◌else◌};
+ghost use Rattle.std.specs.Prelude.{◌≡◌, ◌+◌, ◌≤◌, ◌<◌, [], ◌∷◌, Some, IfOk, OnOk, length, if◌then◌else◌};
 ghost use Rattle.std.specs.FinMap.{find};
 ghost use Rattle.std.specs.Ordering.{eq_by_cmp};
 ghost use Rattle.ospf_types.specs.Vertices.{vertex_cmp};
@@ -23,101 +23,186 @@ pub struct Fresh {
     pub row: Option<Row>,
 }
 
-/// The rows of the vertices.
-pub fn fresh_rows(alloc: Global, side: Side<'_>, vertices: &[Vertex]) -> Result<Vec<Fresh>, Memory>
+/// The fresh rows of a change, and rows that are no longer needed, whose memory the next fresh ones take.
+pub struct Room {
+    pub fresh: Vec<Fresh>,
+    used: Vec<Row>,
+}
+
+// proof: one call drops it, in place of a drop of each part wherever one is held.
+impl Drop for Room {
+    fn drop(self) {
+        let Room {
+            fresh: _fresh,
+            used: _used,
+        } = self;
+    }
+}
+
+impl Room {
+    /// No fresh row, and no memory.
+    pub fn new(alloc: Global) -> Room
+        ensures { result.fresh.items ≡ [] }
+    {
+        Room {
+            fresh: Vec::new(alloc),
+            used: Vec::new(alloc),
+        }
+    }
+}
+
+/// Makes the rows of the vertices the fresh ones.
+pub fn fresh_rows(
+    alloc: Global,
+    side: Side<'_>,
+    vertices: &[Vertex],
+    room: &mut Room,
+) -> Result<(), Memory>
     requires { IsInOrder (ends_in side) }
-    ensures { IfOk result (λ fresh. AreFresh (ends_in side.entry) (LinksIn side.entry) vertices.now fresh.items) }
+    ensures { OnOk result (AreFresh (ends_in side.entry) (LinksIn side.entry) vertices.now room.new.fresh.items) }
 {
-    let mut fresh = Vec::with_capacity(alloc, vertices.len())?;
+    room.fresh.clear();
     for vertex in vertices {
-        let row = fresh_row(alloc, side, *vertex)?;
-        fresh.push(Fresh {
+        let row = fresh_row(alloc, side, *vertex, &mut room.used)?;
+        room.fresh.push(Fresh {
             vertex: *vertex,
             row,
         })?;
     }
-    Ok(fresh)
+    Ok(())
 }
 
 // The row of a vertex, where it is there.
-fn fresh_row(alloc: Global, side: Side<'_>, vertex: Vertex) -> Result<Option<Row>, Memory>
+fn fresh_row(
+    alloc: Global,
+    side: Side<'_>,
+    vertex: Vertex,
+    used: &mut Vec<Row>,
+) -> Result<Option<Row>, Memory>
     requires { IsInOrder (ends_in side) }
     ensures { IfOk result (IsFreshRow (ends_in side.entry) (LinksIn side.entry) vertex) }
 {
     let (ends, place) = side.find(vertex);
     match ends {
         Some(ends) => {
-            let row = row_of(alloc, side, vertex, place, ends)?;
+            let own = Facing {
+                vertex,
+                place,
+                ends,
+            };
+            let row = row_of(alloc, side, own, used_row(alloc, used))?;
             Ok(Some(row))
         }
         None => Ok(None),
     }
 }
 
-// The row of a vertex that is there. Its ends are in order, so those at one vertex stand together.
-fn row_of(
-    alloc: Global,
-    side: Side<'_>,
-    vertex: Vertex,
-    place: u32,
-    ends: &[End],
-) -> Result<Row, Memory>
-    requires in_order { IsInOrder (ends_in side) }
-    requires ends { ends.now ≡ ends_or (ends_in side vertex) }
-    ensures ends { IfOk result (λ row. row.ends.items ≡ ends.now) }
-    ensures links { IfOk result (IsRow (LinksIn side.entry) vertex) }
+// A row that is no longer needed, or one without memory. What it has does not count.
+fn used_row(alloc: Global, used: &mut Vec<Row>) -> Row {
+    match used.pop() {
+        Some(row) => row,
+        None => Row {
+            ends: Vec::new(alloc),
+            out: Vec::new(alloc),
+            into: Vec::new(alloc),
+        },
+    }
+}
+
+// Takes the items out, and makes room for so many, unless there is far too much.
+fn empty<T: Drop>(alloc: Global, list: &mut Vec<T>, room: usize) -> Result<(), Memory>
+    ensures items { OnOk result (list.new.items ≡ []) }
 {
-    let mut out = Vec::with_capacity(alloc, ends.len())?;
-    let mut into = Vec::with_capacity(alloc, ends.len())?;
+    let capacity = list.capacity();
+    if capacity < room || capacity / 2 > room.saturating_add(4) {
+        *list = Vec::with_capacity(alloc, room)?;
+    } else {
+        list.clear();
+    }
+    Ok(())
+}
+
+// Puts a copy of the ends in the place of what the list has.
+fn copy_ends(alloc: Global, ends: &[End], list: &mut Vec<End>) -> Result<(), Memory>
+    ensures { OnOk result (list.new.items ≡ ends.now) }
+{
+    empty(alloc, list, ends.len())?;
+    list.extend_from_slice(ends)?;
+    Ok(())
+}
+
+// The row of a vertex that is there. Its ends are in order, so those at one vertex stand together.
+fn row_of(alloc: Global, side: Side<'_>, all: Facing<'_>, used: Row) -> Result<Row, Memory>
+    requires in_order { IsInOrder (ends_in side) }
+    requires ends { all.ends.now ≡ ends_or (ends_in side all.vertex) }
+    ensures ends { IfOk result (λ row. row.ends.items ≡ all.entry.ends.now) }
+    ensures links { IfOk result (IsRow (LinksIn side.entry) all.entry.vertex) }
+{
+    let ends = all.ends;
+    let mut row = used;
+    copy_ends(alloc, ends, &mut row.ends)?;
+    empty(alloc, &mut row.out, ends.len())?;
+    empty(alloc, &mut row.into, ends.len())?;
     let mut first = 0;
     while first < ends.len() {
         let to = ends[first].to;
         let past = past_from(ends, first, to);
         let own = Facing {
-            vertex,
-            place,
+            vertex: all.vertex,
+            place: all.place,
             ends: &ends[first..past],
         };
-        side.push_both(alloc, own, to, &mut out, &mut into)?;
+        side.push_both(alloc, own, to, &mut row.out, &mut row.into)?;
         first = past;
     }
-    let ends = Vec::from_slice(alloc, ends)?;
-    Ok(Row { ends, out, into })
+    Ok(row)
 }
 
-/// Puts each row in the place of what its vertex had, and takes out the vertices that are not there.
-pub fn place(rows: &mut Rows, fresh: Vec<Fresh>)
-    requires room { length fresh.items ≤ spare rows.old }
-    ensures { IsPlaced fresh.items rows.old.entries rows.new.entries }
+/// Puts each fresh row in the place of what its vertex had, the last first, and takes out the vertices that are not there.
+pub fn place(rows: &mut Rows, room: &mut Room)
+    requires room { length room.old.fresh.items ≤ spare rows.old }
+    ensures { IsPlaced room.old.fresh.items rows.old.entries rows.new.entries }
 {
-    for one in fresh {
-        place_one(rows, one);
+    while let Some(one) = room.fresh.pop() {
+        place_one(rows, one, &mut room.used);
     }
 }
 
 // The same for one vertex.
-fn place_one(rows: &mut Rows, fresh: Fresh)
+fn place_one(rows: &mut Rows, fresh: Fresh, used: &mut Vec<Row>)
     requires room { 0 < spare rows.old }
     ensures placed { IsPlaced (fresh ∷ []) rows.old.entries rows.new.entries }
     ensures room { spare rows.old ≤ spare rows.new + 1 }
 {
     let Fresh { vertex, row } = fresh;
     match row {
-        Some(row) => put_in_room(rows, vertex, row),
+        Some(row) => put_in_room(rows, vertex, row, used),
         None => {
             rows.swap_remove(&vertex);
         }
     }
 }
 
-// Puts the row in the place of what its vertex had.
-fn put_in_room(rows: &mut Rows, vertex: Vertex, row: Row)
+// Puts the row in the place of what its vertex had, whose memory may be used again.
+fn put_in_room(rows: &mut Rows, vertex: Vertex, row: Row, used: &mut Vec<Row>)
     requires { 0 < spare rows.old }
     ensures placed { (v : VertexValue) → find vertex_cmp v rows.new.entries ≡ (if eq_by_cmp vertex_cmp v vertex then Some row else find vertex_cmp v rows.old.entries) }
     ensures room { spare rows.old ≤ spare rows.new + 1 }
 {
     match rows.insert(vertex, row) {
-        Ok(_) => {}
+        Ok(before) => keep(before, used),
         Err(_) => unreachable!(),
+    }
+}
+
+// So many rows that are no longer needed are kept for their memory.
+const KEPT: usize = 8;
+
+// Keeps the row for its memory, unless enough are kept, or memory for one more is refused.
+fn keep(row: Option<Row>, used: &mut Vec<Row>) {
+    if let Some(row) = row
+        && used.len() < KEPT
+    {
+        let _ = used.push(row);
     }
 }

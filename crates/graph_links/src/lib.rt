@@ -14,7 +14,7 @@ mod ways;
 
 pub use changes::changed_links;
 pub use end::End;
-pub use fresh::{Fresh, fresh_rows, place};
+pub use fresh::{Fresh, Room, fresh_rows, place};
 pub use link::{Link, LinkChanges, Up};
 pub use pair::Local;
 pub use row::{Row, Rows, StagedEnds};

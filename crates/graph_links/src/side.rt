@@ -88,14 +88,15 @@ impl<'a> Side<'a> {
         }
     }
 
-    // The place of the row of a vertex of which something is staged. New ones come behind all that are there, in the order
-    // in which they were staged.
+    // The place of the row of a vertex of which something is staged. New ones come behind all that are there, the last staged
+    // first.
     fn staged_place(self, vertex: Vertex) -> u32 {
         match self.rows.get_index_of(&vertex) {
             Some(place) => number(place),
             None => {
                 let place = self.staged.get_index_of(&vertex).unwrap_or(0);
-                number(self.rows.len().saturating_add(place))
+                let later = self.staged.len().saturating_sub(place).saturating_sub(1);
+                number(self.rows.len().saturating_add(later))
             }
         }
     }

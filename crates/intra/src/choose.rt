@@ -24,6 +24,7 @@ use ospf_types::memory::Memory;
 use ospf_types::prefix::Prefix;
 use path_choice::{AreaCost, Best, Choice};
 use std::alloc::Global;
+use std::collections::btree_map::Iter;
 
 /// The entry of the network, by the indexes of the areas; none where nothing is offered.
 pub(crate) fn choose(
@@ -139,12 +140,8 @@ fn offer_stub(
     ensures { OnOk result (TakesPaths (KeyedStubs (ThisSource (record { vertex = Vertex.Router router; metric = metric })) inputs.now area.now prefix) best.old best.new) }
 {
     if router == inputs.root {
-        return offer_own(
-            best,
-            inputs.interfaces,
-            cost_in(area, u32::from(metric)),
-            prefix,
-        );
+        let key = cost_in(area, u32::from(metric));
+        return offer_own(best, inputs.interfaces.clone()?, key, prefix);
     }
     match distance(area, Vertex::Router(router)) {
         Some(distance) => {
@@ -158,11 +155,11 @@ fn offer_stub(
 // Offers a stub link of the root over each interface of the area that is up and lies in the network.
 fn offer_own(
     best: &mut Best<AreaCost, Path>,
-    interfaces: &[(u8, Interface)],
+    interfaces: Iter<'_, u8, Interface>,
     key: AreaCost,
     prefix: Prefix,
 ) -> Result<(), Memory>
-    ensures { OnOk result (TakesPaths (OfferedBySome interfaces.now (InterfaceOffers prefix key)) best.old best.new) }
+    ensures { OnOk result (TakesPaths (OfferedBySome interfaces.entry (InterfaceOffers prefix key)) best.old best.new) }
 {
     for (id, interface) in interfaces {
         offer_over(best, *id, *interface, key, prefix)?;

@@ -1,6 +1,7 @@
 use area_trees::AreaTree;
 use lsdb::Database;
 use ospf_types::config::Interface;
+use std::collections::btree_map::Iter;
 use std::marker::Model;
 
 /// An area, as intra-area routes are calculated from it.
@@ -42,7 +43,7 @@ pub struct Inputs<'a> {
     /// Its areas, always in one order.
     pub areas: &'a [AreaInputs<'a>],
     /// Its interfaces with their ids.
-    pub interfaces: &'a [(u8, Interface)],
+    pub interfaces: Iter<'a, u8, Interface>,
 }
 
 impl<'a> Model for Inputs<'a> {
@@ -63,5 +64,5 @@ impl<'a> Model for Inputs<'a> {
         let hops : Coded HopMap = map.code vertex_code (Prim.hlevel codes) in
         Prim.hlevel (codes, lsas, ends, distances, hops) };
 
-    ghost view = { λ i. record { root = i.root; areas = i.areas.now; interfaces = i.interfaces.now } };
+    ghost view = { λ i. record { root = i.root; areas = i.areas.now; interfaces = i.interfaces } };
 }

@@ -151,9 +151,8 @@ impl Database {
         ensures limit { OnOk result (self.new.limit ≡ self.old.limit) }
         ensures changed { IfOk result (λ changed. (changed ≡ false) ↔ IsUsedAlike self.old.lsas lsa) }
     {
-        let key = lsa.key();
-        let changed = is_used_otherwise(self.get(key), &lsa);
-        match self.row_of(key) {
+        let (row, changed) = self.compared(&lsa);
+        match row {
             Some(row) => self.replace(row, lsa),
             None => self.append(lsa)?,
         }
@@ -282,6 +281,27 @@ impl Database {
         ensures found { is_some result ≡ is_some (map.get self.now.lsas key) }
     {
         self.rows.get_index_of(&key)
+    }
+
+    // The row of the LSA's key, and whether what is used of the LSA differs from what is used of the one in that row.
+    fn compared(&self, lsa: &Checked) -> (Option<usize>, bool)
+        ensures row { result.0 ≡ position (is_key (key_of lsa.now)) self.now.order }
+        ensures found { is_some result.0 ≡ is_some (map.get self.now.lsas (key_of lsa.now)) }
+        ensures changed { (result.1 ≡ false) ↔ IsUsedAlike self.now.lsas lsa.now }
+    {
+        match self.in_row(lsa.key()) {
+            Some((row, held, age)) => (Some(row), is_used_otherwise(Some((held, age)), lsa)),
+            None => (None, is_used_otherwise(None, lsa)),
+        }
+    }
+
+    // The row of the key, and the LSA there with its present age.
+    fn in_row(&self, key: Key) -> Option<(usize, &Checked, u16)>
+        ensures value { option_map (λ found. with_age found.1.now found.2) result ≡ map.get self.now.lsas key }
+        ensures row { option_map (λ found. found.0) result ≡ position (is_key key) self.now.order }
+    {
+        let (row, _, lsa) = self.rows.get_full(&key)?;
+        Some((row, lsa, self.ages[row]))
     }
 
     // The header of the LSA under the key, with its present age.

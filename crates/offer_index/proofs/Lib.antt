@@ -9,3 +9,5 @@ pub mod LastAddresses
 pub mod Gathering
 pub mod Following
 pub mod Clearing
+pub mod Marking
+pub mod Covering

@@ -155,10 +155,11 @@ impl OfferIndex {
     pub fn push_addresses(&self, network: Prefix, addresses: &mut Vec<u32>) -> Result<(), Memory>
         ensures { OnOk result ((a : ℕ) → Contains addresses.new.items a ↔ (Contains addresses.old.items a ⊎ IsForwardedInto self.now network a)) }
     {
-        let within = self
-            .members
-            .addresses(network.address(), last_address(network));
-        for address in within {
+        let (first, last) = (network.address(), last_address(network));
+        if !self.members.may_have_addresses(first, last) {
+            return Ok(());
+        }
+        for address in self.members.addresses(first, last) {
             push_inside(network, *address, addresses)?;
         }
         Ok(())

@@ -4,8 +4,10 @@
 
 mod advertised;
 mod affected;
+mod coarse;
 mod group;
 mod index;
+mod marks;
 mod members;
 mod noted;
 

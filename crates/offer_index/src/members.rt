@@ -1,5 +1,5 @@
 //! The keys of each group.
-ghost use Rattle.std.specs.Prelude.{◌≡◌, ◌≢◌, ◌↔◌, ◌⊎◌, ◌≤◌, ℕ, [], IsTrue, OnOk, Contains, option_copied};
+ghost use Rattle.std.specs.Prelude.{◌≡◌, ◌≢◌, ◌↔◌, ◌⊎◌, ◌≤◌, ℕ, [], false, IsTrue, OnOk, Contains, option_copied};
 ghost use Rattle.std.specs.List.{All, AllPairs};
 ghost use Rattle.ospf_types.specs.declared.key.Key.{Key as KeyValue};
 ghost use Rattle.offer_index.specs.declared.group.Group.{Group as GroupValue};
@@ -8,6 +8,7 @@ ghost use Rattle.offer_index.specs.Members.{HasSmallKey, IsSmall, IsNotAfter, Is
 ghost use Rattle.offer_index.specs.Noted.{AreNoted, AreNotedBut, HasKey};
 
 use crate::advertised::Advertised;
+use crate::coarse::Coarse;
 use crate::group::Group;
 use crate::noted::Noted;
 use ospf_types::key::{Dest, Key};
@@ -38,6 +39,7 @@ pub(crate) type Member = (Group, Key);
 pub(crate) struct Members {
     members: BTreeSet<Member>,
     noted: Noted,
+    coarse: Coarse,
 }
 
 // proof: one call drops it, in place of a drop of each part wherever one is held.
@@ -46,6 +48,7 @@ impl Drop for Members {
         let Members {
             members: _members,
             noted: _noted,
+            coarse: _coarse,
         } = self;
     }
 }
@@ -66,9 +69,10 @@ impl Model for Members {
     ghost view = { λ m. m.members.keys };
 
     ghost use Rattle.offer_index.specs.Noted.{AreNoted};
+    ghost use Rattle.offer_index.specs.Coarse.{AreAmong};
 
     // A group is noted just where it has a key, so that no group is noted for ever.
-    ghost invariant = { λ m. All HasSmallKey m.members.keys × AreNoted m.members.keys m.noted };
+    ghost invariant = { λ m. All HasSmallKey m.members.keys × AreNoted m.members.keys m.noted × AreAmong m.members.keys m.coarse };
 }
 
 impl Members {
@@ -78,6 +82,7 @@ impl Members {
         Members {
             members: BTreeSet::new(alloc),
             noted: Noted::new(alloc, hashing),
+            coarse: Coarse::new(alloc, hashing),
         }
     }
 
@@ -120,12 +125,17 @@ impl Members {
     {
         self.members.clear();
         self.noted.clear();
+        self.coarse.clear();
     }
 
     /// Whether the group of the destination has a key.
     pub(crate) fn has_dest(&self, dest: Dest) -> bool
         ensures { IsTrue result ↔ HasKey self.now (group_value.To dest) }
     {
+        // The exact answer takes more.
+        if !self.coarse.may_have_dest(&dest) {
+            return false;
+        }
         self.noted.has_dest(dest)
     }
 
@@ -134,6 +144,13 @@ impl Members {
         ensures { IsTrue result ↔ ((a : ℕ) × HasKey self.now (group_value.Forwarded a)) }
     {
         self.noted.has_addresses()
+    }
+
+    /// Whether the group of a forwarding address from the first to the last may have a key. If not, none has.
+    pub(crate) fn may_have_addresses(&self, first: u32, last: u32) -> bool
+        ensures { result ≡ false → (a : ℕ) → first ≤ a → a ≤ last → HasKey self.now (group_value.Forwarded a) → ⊥ }
+    {
+        self.coarse.may_have_addresses(first, last)
     }
 
     /// The forwarding addresses from the first to the last whose groups have a key.
@@ -162,6 +179,7 @@ impl Members {
         ensures only { (m : GroupValue × KeyValue) → Contains self.new m → Contains self.old m ⊎ (m ≡ (group, key)) }
         ensures added { OnOk result (Contains self.new (group, key)) }
     {
+        self.coarse.note(&group)?;
         self.noted.note(&group)?;
         match self.members.insert((group, small(key))) {
             Ok(_) => Ok(()),

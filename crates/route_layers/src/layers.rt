@@ -32,6 +32,7 @@ use lsdb::Database;
 use ospf_types::config::Interface;
 use ospf_types::key::{Dest, Scope};
 use ospf_types::memory::Memory;
+use smallvec::SmallVec;
 use state_trees::is_up_in;
 use std::alloc::Global;
 use std::collections::btree_map::Iter;
@@ -168,22 +169,21 @@ fn externals(state: &State) -> &Database
 }
 
 // The Area IDs, in the order of the configuration.
-fn area_ids(alloc: Global, state: &State) -> Result<Vec<u32>, Memory>
+fn area_ids(alloc: Global, state: &State) -> Result<SmallVec<u32, 4>, Memory>
     ensures { IfOk result (λ ids. ids.items ≡ list_map (λ a. a.id) state.now.config.areas) }
 {
-    let areas = state.config().areas.as_slice();
-    let mut ids = Vec::with_capacity(alloc, areas.len())?;
-    for area in areas {
+    let mut ids = SmallVec::new(alloc);
+    for area in state.config().areas.as_slice() {
         ids.push(area.id)?;
     }
     Ok(ids)
 }
 
-/// The Area IDs of the active areas, in the order of the configuration.
-pub fn active_areas(alloc: Global, state: &State) -> Result<Vec<u32>, Memory>
+/// The Area IDs of the active areas, in the order of the configuration. Up to four stand in the value; more take memory.
+pub fn active_areas(alloc: Global, state: &State) -> Result<SmallVec<u32, 4>, Memory>
     ensures { IfOk result (λ active. AreActive state.now active.items) }
 {
-    let mut active = Vec::new(alloc);
+    let mut active = SmallVec::new(alloc);
     for area in state.config().areas.as_slice() {
         if is_active(state, area.id) {
             active.push(area.id)?;

@@ -6,6 +6,7 @@ use intra::{AreaInputs, Inputs, Intra};
 use lsdb::Database;
 use ospf_types::config::Interface;
 use std::alloc::Global;
+use std::collections::BTreeMap;
 use std::hash::RandomState;
 use std::test::Fail;
 use vertex_graph::Up;
@@ -43,10 +44,13 @@ pub(crate) fn inside(
         peer,
         up: true,
     };
+    let mut held = BTreeMap::new(alloc);
+    held.insert(1, interface)?;
+    let interfaces = held.iter();
     let inputs = Inputs {
         root: ROOT,
         areas: &areas,
-        interfaces: &[(1, interface)],
+        interfaces,
     };
     Ok(Intra::build(alloc, &inputs, hashing)?)
 }

@@ -1,5 +1,5 @@
 -- What the second and the third part of a repair come to.
-use Rattle.std.proofs.Common.{◌≡◌, ◌≢◌, ℕ, ◌+◌, ◌-◌, ◌≤◌, List, [], ◌∷◌, length, map, Option, refl, sym, ap, subst, ◌∙◌, ◌⊎◌, inl, inr, arith}
+use Rattle.std.proofs.Common.{◌≡◌, ◌≢◌, ℕ, ◌+◌, ◌-◌, ◌≤◌, List, [], ◌∷◌, false, length, map, Option, refl, sym, ap, subst, ◌∙◌, ◌⊎◌, inl, inr, arith}
 use Rattle.std.specs.Prelude.{◌↔◌}
 use Rattle.std.specs.FinMap.{get}
 use Rattle.std.specs.List.{Contains}
@@ -13,7 +13,7 @@ use Rattle.vertex_graph.specs.Graphs.{GraphValue}
 use Rattle.tree_parts.specs.Maps.{DistanceMap}
 use Rattle.tree_parts.specs.Differing.{IsFarther, IsNearer}
 use Rattle.spf.specs.Parts.{AreLost, AreNeared, AreSettled, hops_of}
-use Rattle.spf.specs.TreeValues.{TreeValue, IsTreeOf, IsTreeBefore, IsBegun, Differs, IsChangedBy, AreChanged, IsBounded, IsWorkDone, IsRenewed}
+use Rattle.spf.specs.TreeValues.{TreeValue, IsTreeOf, IsTreeBefore, IsBegun, Differs, IsChangedBy, AreChanged, IsBounded, IsWorkDone, IsRenewed, tree_of}
 use Rattle.spf.proofs.Idle.{idle}
 use Rattle.spf.proofs.Renewed.{tree_after, bounded, work_done, changed_by}
 
@@ -89,11 +89,33 @@ listed_work u changed work = record {
   sets_are = work.sets_are;
 }
 
+-- a repair is begun of the distances and the next hops of a tree
+pub bare_begun : {g : GraphValue} {gone come : List Link} (t : TreeValue) {lost stale : List Vertex} → IsBegun g gone come t lost stale → IsBegun g gone come (tree_of t.distances t.hops) lost stale
+bare_begun t b = record { before = record { fresh = refl; links = b.before.links; tree = b.before.tree; came = b.before.came }; losses = b.losses }
+
+-- what it comes to is what it comes to of the tree
+renewed_of : {g : GraphValue} {come : List Link} (t u : TreeValue) {lost stale moved written : List Vertex} {taken hop_sets : ℕ} → u.spent ≡ false
+    → IsRenewed g come (tree_of t.distances t.hops) (tree_of u.distances u.hops) lost stale moved written taken hop_sets → IsRenewed g come t u lost stale moved written taken hop_sets
+renewed_of t u fresh r = record {
+  tree = record { fresh = fresh; tree = r.tree.tree };
+  bounded = λ gone b. let is = r.bounded gone (bare_begun t b) in record { taken_most = is.taken_most; sets_most = is.sets_most };
+  idle = λ b none. r.idle (bare_begun t b) none;
+  work = record {
+    taken_least = r.work.taken_least;
+    taken_twice_most = r.work.taken_twice_most;
+    written = r.work.written;
+    written_apart = r.work.written_apart;
+    written_exact = r.work.written_exact;
+    sets_are = r.work.sets_are;
+  };
+  differ = r.differ;
+}
+
 -- what the tree is seen as, and the links that came, given another way
-pub renewed_at : {g : GraphValue} {slice come : List Link} {t : TreeValue} (u new : TreeValue) {lost stale moved written : List Vertex} {taken hop_sets : ℕ} → u ≡ new → slice ≡ come → IsRenewed g slice t new lost stale moved written taken hop_sets
-    → IsRenewed g come t u lost stale moved written taken hop_sets
-renewed_at {g} {slice} {come} {t} u new {lost} {stale} {moved} {written} {taken} {hop_sets} view same r =
-    subst (λ (links : List Link). IsRenewed g links t u lost stale moved written taken hop_sets) same (subst (λ (w : TreeValue). IsRenewed g slice t w lost stale moved written taken hop_sets) (sym view) r)
+pub renewed_at : {g : GraphValue} {slice come : List Link} (i t u : TreeValue) {lost stale moved written : List Vertex} {taken hop_sets : ℕ} → i ≡ t → slice ≡ come → u.spent ≡ false
+    → IsRenewed g slice (tree_of i.distances i.hops) (tree_of u.distances u.hops) lost stale moved written taken hop_sets → IsRenewed g come t u lost stale moved written taken hop_sets
+renewed_at {g} {slice} {come} i t u {lost} {stale} {moved} {written} {taken} {hop_sets} view same fresh r =
+    subst (λ (links : List Link). IsRenewed g links t u lost stale moved written taken hop_sets) same (subst (λ (w : TreeValue). IsRenewed g slice w u lost stale moved written taken hop_sets) view (renewed_of i u fresh r))
 
 -- The list is that of what differs, where the root and what was lost were remembered as the tree was.
 pub changed_list : (i t u : TreeValue) (root at_root : ℕ) (lost at_lost left moved written changed : List Vertex) (remembered slice : List (Vertex × Option ℕ)) → i ≡ t → at_root ≡ root → at_lost ≡ lost → left ≡ lost → slice ≡ remembered

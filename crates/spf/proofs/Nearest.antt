@@ -11,7 +11,7 @@ use Rattle.vertex_graph.specs.Link.{Link}
 use Rattle.vertex_graph.specs.Graphs.{GraphValue, graph_view, LinksOf, HasRoot}
 use Rattle.vertex_queue.specs.Queues.{Queue, IsFirst, rank as queue_rank}
 use Rattle.vertex_queue.proofs.Ranks.{first_has_least_rank}
-use Rattle.tree_parts.specs.Members.{HasNoDoubles, IsWithMember}
+use Rattle.tree_parts.specs.Members.{HasNoDoubles}
 use Rattle.tree_parts.specs.Maps.{DistanceMap}
 use Rattle.tree_parts.proofs.Counting.{no_doubles_nil, no_doubles_push}
 use Rattle.tree_parts.proofs.Elements.{added_end, cases_vertex}
@@ -174,11 +174,6 @@ module _ (g : GraphValue) (came : List Link) where
       -- and is queued at its distance
       pub taken_right : IsDistance (LinksOf g) g.root (HasRoot g) v k
       taken_right = queued_distance s.nearing v k first.waits (least_first queue v k first)
-
-      -- where it is added to what moved, it stands at the end
-      pub moved_added : (all : List Vertex) (fresh : Bool) → IsWithMember moved all v fresh → all ≡ moved ++ v ∷ []
-      moved_added all fresh (inl one) = one.1
-      moved_added all fresh (inr same) = absurd (unmoved same.2)
 
       -- a round
       pub sought_more : (new : DistanceMap) (rest more : Queue) (all : List Vertex) {wider : List Vertex} → all ≡ moved ++ v ∷ [] → rest ≡ remove queue v → new ≡ insert distances v k → AreMade (OutOf (LinksOf g) g.root v k) (get new) (get rest) (get more) wide wider → AreSought g came start stale new more all wider

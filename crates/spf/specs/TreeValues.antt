@@ -114,6 +114,10 @@ pub record IsRenewed (g : GraphValue) (come : List Link) (old new : TreeValue) (
   pub work : IsWorkDone g old new taken hop_sets
   pub differ : (v : Vertex) → IsChangedBy g.root old new lost moved written v ↔ Differs old new v
 
+-- the tree of these distances and next hops
+abbrev pub tree_of : DistanceMap → HopMap → TreeValue
+tree_of distances hops = record { distances = distances; hops = hops; changed = []; spent = false }
+
 -- the tree of no links
 abbrev pub blank_value : TreeValue
 blank_value = record { distances = empty; hops = empty; changed = []; spent = false }

@@ -18,6 +18,7 @@ use ospf_types::memory::Memory;
 use std::alloc::Global;
 use tree_parts::{Distances, HopColumns};
 use vertex_graph::{Graph, Link};
+use vertex_map::Placed;
 
 /// The next hops that the least links among those into a vertex, which is this far, give it.
 pub(crate) fn gather(
@@ -25,13 +26,13 @@ pub(crate) fn gather(
     graph: &Graph,
     distances: &Distances,
     hops: &HopColumns,
-    vertex: Vertex,
+    vertex: &Placed,
     links: &[Link],
     far: u32,
 ) -> Result<HopSet, Memory>
-    requires far { map.get distances.now vertex ≡ Some far }
-    requires links { AreLinksTo graph.now vertex links.now }
-    ensures { IfOk result (λ set. (h : Hop) → Contains set h ↔ IsGiven (LinksOf graph.now) graph.now.root (map.get distances.now) (hops_of hops.now) vertex h) }
+    requires far { map.get distances.now vertex.now ≡ Some far }
+    requires links { AreLinksTo graph.now vertex.now links.now }
+    ensures { IfOk result (λ set. (h : Hop) → Contains set h ↔ IsGiven (LinksOf graph.now) graph.now.root (map.get distances.now) (hops_of hops.now) vertex.now h) }
 {
     let root = graph.root();
     let mut set = HopSet::new(alloc);

@@ -1,6 +1,6 @@
 //! The third part of a repair: the next hops after, handed on over least links, the nearest vertex
 //! first.
-ghost use Rattle.std.specs.Prelude.{◌≡◌, ◌-◌, ◌^◌, ◌<◌, ◌≤◌, ◌++◌, ◌∷◌, [], Some, IfSome, IfNone, IfOk, OnOk, Contains, length};
+ghost use Rattle.std.specs.Prelude.{◌≡◌, ◌-◌, ◌^◌, ◌<◌, ◌≤◌, ◌++◌, ◌∷◌, [], Some, IfSome, IfNone, OnOk, Contains, length};
 ghost use Rattle.std.specs.FinMap as map;
 ghost use Rattle.vertex_graph.specs.Graphs.{LinksOf};
 ghost use Rattle.tree_parts.specs.Members.{HasNoDoubles};
@@ -10,87 +10,70 @@ ghost use Rattle.spf.specs.Parts.{AreUnsettled, AreSettled, hops_of};
 
 use crate::gathering::{are_same, gather};
 use crate::losing::Losses;
-use crate::places::{head_of, is_at_root, is_root};
+use crate::places::is_at_root;
 use hop_sets::HopSet;
-use ospf_types::entry::Vertex;
 use ospf_types::memory::Memory;
 use std::alloc::Global;
 use tree_parts::{Distances, HopColumns, Members, Touched};
 use vertex_graph::{Graph, Link};
 use vertex_map::Placed;
 use vertex_queue::Queue;
-use word_hash::WordHash;
 
-/// Brings the next hops to those after. The answer is the vertices whose next hops were written.
+/// Brings the next hops to those after, and finds the vertices whose next hops are written.
 pub(crate) fn hand(
     alloc: Global,
-    hashing: WordHash,
     graph: &Graph,
     distances: &Distances,
     losses: &Losses,
     moved: &Members,
     hops: &mut HopColumns,
     queue: &mut Queue,
+    written: &mut Members,
     touched: &mut Touched,
-) -> Result<Members, Memory>
+) -> Result<(), Memory>
     requires none_wait { queue.old ≡ map.empty }
     requires unsettled { AreUnsettled graph.now (map.get distances.now) (hops_of hops.old) losses.now.lost moved.now losses.now.stale }
     requires fits { touched.old.taken < 2 ^ 63 }
     requires none_written { touched.old.hop_sets ≡ 0 }
-    ensures settled { IfOk result (λ written. AreSettled graph.now (map.get distances.now) (hops_of hops.old) (hops_of hops.new) losses.now.lost moved.now losses.now.stale written (touched.new.taken - touched.old.taken)) }
+    ensures settled { OnOk result (AreSettled graph.now (map.get distances.now) (hops_of hops.old) (hops_of hops.new) losses.now.lost moved.now losses.now.stale written.new (touched.new.taken - touched.old.taken)) }
     ensures taken { OnOk result (touched.old.taken ≤ touched.new.taken) }
-    ensures written { IfOk result (λ written. touched.new.hop_sets ≡ length written) }
+    ensures written { OnOk result (touched.new.hop_sets ≡ length written.new) }
 {
-    let mut written = blank(
-        alloc,
-        hashing,
-        distances,
-        losses.lost.as_slice(),
-        hops,
-        touched,
-    )?;
+    written.clear(graph.len());
+    blank(distances, losses.lost.as_slice(), hops, written, touched)?;
     let root = graph.root();
     put_reached(root, distances, moved.as_slice(), queue)?;
     put_reached(root, distances, losses.stale.as_slice(), queue)?;
     prove!(distances.len() <= usize::MAX / 2);
     while let Some((vertex, distance)) = touched.take(queue) {
         settle(
-            alloc,
-            graph,
-            distances,
-            vertex,
-            distance,
-            hops,
-            touched,
-            queue,
-            &mut written,
+            alloc, graph, distances, &vertex, distance, hops, touched, queue, written,
         )?;
     }
-    Ok(written)
+    Ok(())
 }
 
-// Takes the next hops of what is lost and is not reached again. The answer is those vertices.
+// Takes the next hops of what is lost and is not reached again. Those vertices are written.
 fn blank(
-    alloc: Global,
-    hashing: WordHash,
     distances: &Distances,
-    lost: &[Vertex],
+    lost: &[Placed],
     hops: &mut HopColumns,
+    written: &mut Members,
     touched: &mut Touched,
-) -> Result<Members, Memory>
+) -> Result<(), Memory>
     requires apart { HasNoDoubles lost.now }
+    requires none { written.old ≡ [] }
     requires none_written { touched.old.hop_sets ≡ 0 }
-    ensures blanked { IfOk result (λ written. AreBlanked (map.get distances.now) lost.now hops.old hops.new written) }
+    ensures blanked { OnOk result (AreBlanked (map.get distances.now) lost.now hops.old hops.new written.new) }
     ensures taken { OnOk result (touched.new.taken ≡ touched.old.taken) }
-    ensures counted { IfOk result (λ written. touched.new.hop_sets ≡ length written) }
+    ensures counted { OnOk result (touched.new.hop_sets ≡ length written.new) }
 {
-    let mut written = Members::new(alloc, hashing);
     for vertex in lost {
-        if distances.find(*vertex).is_none() {
-            write(&Placed::nowhere(*vertex), None, hops, touched, &mut written)?;
+        if distances.get(vertex).is_none() {
+            write(vertex, None, hops, touched, written)?;
         }
     }
-    Ok(written)
+    Ok(())
 }
 
 // Brings the next hops of a vertex, which is at this distance, to those that its least links give it. If they
@@ -99,27 +82,26 @@ fn settle(
     alloc: Global,
     graph: &Graph,
     distances: &Distances,
-    vertex: Vertex,
+    vertex: &Placed,
     distance: u32,
     hops: &mut HopColumns,
     touched: &mut Touched,
     queue: &mut Queue,
     written: &mut Members,
 ) -> Result<(), Memory>
-    requires at { map.get distances.now vertex ≡ Some distance }
-    requires fresh { Contains written.old vertex → ⊥ }
+    requires at { map.get distances.now vertex.now ≡ Some distance }
+    requires fresh { Contains written.old vertex.now → ⊥ }
     requires counted { touched.old.hop_sets ≡ length written.old }
-    ensures settled { OnOk result (IsSettled (LinksOf graph.now) graph.now.root (map.get distances.now) queue.old queue.new (hops_of hops.old) (hops_of hops.new) written.old written.new vertex) }
+    ensures settled { OnOk result (IsSettled (LinksOf graph.now) graph.now.root (map.get distances.now) queue.old queue.new (hops_of hops.old) (hops_of hops.new) written.old written.new vertex.now) }
     ensures taken { OnOk result (touched.new.taken ≡ touched.old.taken) }
     ensures counted { OnOk result (touched.new.hop_sets ≡ length written.new) }
 {
-    let links = graph.links_to(vertex);
+    let links = graph.links_into(vertex);
     let set = gather(alloc, graph, distances, hops, vertex, links, distance)?;
-    let placed = head_of(links, vertex);
-    if are_same(hops.get(&placed), &set) {
+    if are_same(hops.get(vertex), &set) {
         return Ok(());
     }
-    write(&placed, Some(set), hops, touched, written)?;
+    write(vertex, Some(set), hops, touched, written)?;
     put_heads(graph, distances, vertex, distance, queue)
 }
 
@@ -140,21 +122,20 @@ fn write(
 {
     prove!(written.len() < usize::MAX);
     touched.write(hops, vertex, set)?;
-    written.add(vertex.vertex())?;
-    Ok(())
+    written.push(vertex)
 }
 
 // Lets those of the vertices wait that are reached, but not the root.
 fn put_reached(
     root: u32,
     distances: &Distances,
-    vertices: &[Vertex],
+    vertices: &[Placed],
     queue: &mut Queue,
 ) -> Result<(), Memory>
     ensures { OnOk result (ArePut (map.get distances.now) (IsOfSome vertices.now (IsReachedAt root (map.get distances.now))) (map.get queue.old) (map.get queue.new)) }
 {
     for vertex in vertices {
-        put_if_reached(root, distances, *vertex, queue)?;
+        put_if_reached(root, distances, vertex, queue)?;
     }
     Ok(())
 }
@@ -162,15 +143,15 @@ fn put_reached(
 fn put_if_reached(
     root: u32,
     distances: &Distances,
-    vertex: Vertex,
+    vertex: &Placed,
     queue: &mut Queue,
 ) -> Result<(), Memory>
-    ensures { OnOk result (ArePut (map.get distances.now) (IsReachedAt root (map.get distances.now) vertex) (map.get queue.old) (map.get queue.new)) }
+    ensures { OnOk result (ArePut (map.get distances.now) (IsReachedAt root (map.get distances.now) vertex.now) (map.get queue.old) (map.get queue.new)) }
 {
-    if is_root(root, vertex) {
+    if is_at_root(root, vertex) {
         return Ok(());
     }
-    match distances.find(vertex) {
+    match distances.get(vertex) {
         Some(distance) => queue.put(vertex, distance),
         None => Ok(()),
     }
@@ -180,15 +161,15 @@ fn put_if_reached(
 fn put_heads(
     graph: &Graph,
     distances: &Distances,
-    vertex: Vertex,
+    vertex: &Placed,
     near: u32,
     queue: &mut Queue,
 ) -> Result<(), Memory>
-    requires { map.get distances.now vertex ≡ Some near }
-    ensures { OnOk result (ArePut (map.get distances.now) (IsLeastHead (LinksOf graph.now) graph.now.root (map.get distances.now) vertex) (map.get queue.old) (map.get queue.new)) }
+    requires { map.get distances.now vertex.now ≡ Some near }
+    ensures { OnOk result (ArePut (map.get distances.now) (IsLeastHead (LinksOf graph.now) graph.now.root (map.get distances.now) vertex.now) (map.get queue.old) (map.get queue.new)) }
 {
     let root = graph.root();
-    for link in graph.links_from(vertex) {
+    for link in graph.links_out_of(vertex) {
         put_head(root, distances, link, near, queue)?;
     }
     Ok(())
@@ -209,7 +190,7 @@ fn put_head(
         return Ok(());
     }
     match least_distance(distances, link, near) {
-        Some(distance) => queue.put(link.to.vertex(), distance),
+        Some(distance) => queue.put(&link.to, distance),
         None => Ok(()),
     }
 }

@@ -9,6 +9,7 @@ mod losing;
 mod nearing;
 mod places;
 mod tree;
+mod workspace;
 
 pub use tree::Tree;
 pub use tree_parts::Touched;

@@ -10,12 +10,12 @@ ghost use Rattle.spf.specs.Parts.{IsBefore, AreLost};
 ghost use Rattle.spf.specs.Repairs.{IsSupported};
 ghost use Rattle.spf.specs.Suspects.{Supports, WasLeast, MaySupport, IsHead, AreToldOf, IsJudged};
 
-use indexmap::IndexMap;
 use ospf_types::entry::Vertex;
 use ospf_types::memory::Memory;
 use std::alloc::Global;
 use tree_parts::{Distances, Members};
 use vertex_graph::{Graph, Link, LinkChanges};
+use vertex_map::{Placed, VertexMap};
 use word_hash::WordHash;
 
 /// The vertices that lose their distance, and those whose least links changed by that.
@@ -34,36 +34,45 @@ impl Drop for Losses {
     }
 }
 
-/// What is lost by the links that went.
+/// Finds what is lost by the links that went.
 pub(crate) fn lose(
-    alloc: Global,
-    hashing: WordHash,
     graph: &Graph,
     changes: &LinkChanges,
     distances: &Distances,
-) -> Result<Losses, Memory>
+    search: &mut Search,
+) -> Result<(), Memory>
     requires { IsBefore graph.now changes.now.gone.items changes.now.came.items (map.get distances.now) }
-    ensures { IfOk result (λ losses. AreLost graph.now changes.now.gone.items changes.now.came.items (map.get distances.now) losses.lost losses.stale) }
+    ensures { OnOk result (AreLost graph.now changes.now.gone.items changes.now.came.items (map.get distances.now) search.new.losses.lost search.new.losses.stale) }
 {
-    let mut search = Search::new(alloc, hashing);
+    search.clear(graph.len());
     search.suspect_heads(changes.gone.as_slice(), graph.root(), distances)?;
     while let Some(suspect) = search.suspects.pop() {
-        search.judge(graph, distances, suspect)?;
+        search.judge(graph, distances, &suspect)?;
     }
-    Ok(search.losses)
+    Ok(())
 }
 
-// What is found while vertices are suspected to have lost all that supported them.
-#[derive(Drop)]
-struct Search {
-    losses: Losses,
+/// What is found while vertices are suspected to have lost all that supported them. It is kept for its memory.
+pub(crate) struct Search {
+    pub(crate) losses: Losses,
     suspects: Members,
     // At which of the links into a vertex a search for support stopped, if it passed over many.
-    stops: IndexMap<Vertex, usize, WordHash>,
+    stops: VertexMap<usize>,
+}
+
+// proof: one call drops it, in place of a drop of each part wherever one is held.
+impl Drop for Search {
+    fn drop(self) {
+        let Search {
+            losses: _losses,
+            suspects: _suspects,
+            stops: _stops,
+        } = self;
+    }
 }
 
 impl Search {
-    fn new(alloc: Global, hashing: WordHash) -> Search
+    pub(crate) fn new(alloc: Global, hashing: WordHash) -> Search
         ensures lost { result.losses.lost ≡ [] }
         ensures stale { result.losses.stale ≡ [] }
         ensures suspects { result.suspects ≡ [] }
@@ -74,8 +83,20 @@ impl Search {
                 stale: Members::new(alloc, hashing),
             },
             suspects: Members::new(alloc, hashing),
-            stops: IndexMap::with_hasher(alloc, hashing),
+            stops: VertexMap::new(alloc, hashing),
         }
+    }
+
+    // Takes out what the last search found. No more marks stay than so many.
+    fn clear(&mut self, most: usize)
+        ensures lost { self.new.losses.lost ≡ [] }
+        ensures stale { self.new.losses.stale ≡ [] }
+        ensures suspects { self.new.suspects ≡ [] }
+    {
+        self.losses.lost.clear(most);
+        self.losses.stale.clear(most);
+        self.suspects.clear(most);
+        self.stops.clear();
     }
 
     // Suspects the heads of the least links among those that went.
@@ -90,7 +111,7 @@ impl Search {
     {
         for link in gone {
             if was_least(link, root, distances) {
-                self.suspect(link.to.vertex())?;
+                self.suspect(&link.to)?;
             }
         }
         Ok(())
@@ -110,15 +131,15 @@ impl Search {
     {
         for link in links {
             if may_support(link, root, distances, distance) {
-                self.suspect(link.to.vertex())?;
+                self.suspect(&link.to)?;
             }
         }
         Ok(())
     }
 
     // The vertex is stale, and suspected unless it is lost.
-    fn suspect(&mut self, vertex: Vertex) -> Result<(), Memory>
-        ensures told { OnOk result (AreToldOf (λ v. vertex ≡ v) self.old.losses.lost self.old.losses.stale self.new.losses.stale self.old.suspects self.new.suspects) }
+    fn suspect(&mut self, vertex: &Placed) -> Result<(), Memory>
+        ensures told { OnOk result (AreToldOf (λ v. vertex.now ≡ v) self.old.losses.lost self.old.losses.stale self.new.losses.stale self.old.suspects self.new.suspects) }
         ensures lost { OnOk result (self.new.losses.lost ≡ self.old.losses.lost) }
     {
         self.losses.stale.add(vertex)?;
@@ -129,13 +150,18 @@ impl Search {
     }
 
     // Finds whether a suspect is lost.
-    fn judge(&mut self, graph: &Graph, distances: &Distances, suspect: Vertex) -> Result<(), Memory>
-        ensures { OnOk result (IsJudged graph.now (map.get distances.now) self.old.losses.lost self.new.losses.lost self.old.suspects self.new.suspects self.old.losses.stale self.new.losses.stale suspect) }
+    fn judge(
+        &mut self,
+        graph: &Graph,
+        distances: &Distances,
+        suspect: &Placed,
+    ) -> Result<(), Memory>
+        ensures { OnOk result (IsJudged graph.now (map.get distances.now) self.old.losses.lost self.new.losses.lost self.old.suspects self.new.suspects self.old.losses.stale self.new.losses.stale suspect.now) }
     {
         if self.losses.lost.has(suspect) {
             return Ok(());
         }
-        let Some(distance) = distances.find(suspect) else {
+        let Some(distance) = distances.get(suspect) else {
             return Ok(());
         };
         if is_supported(
@@ -149,24 +175,29 @@ impl Search {
             return Ok(());
         }
         self.losses.lost.add(suspect)?;
-        self.suspect_beyond(graph.links_from(suspect), graph.root(), distances, distance)
+        self.suspect_beyond(
+            graph.links_out_of(suspect),
+            graph.root(),
+            distances,
+            distance,
+        )
     }
 }
 
 // Whether a link into the vertex supports it at its distance. The search goes on where one for the vertex stopped, if
 // that passed over eight links or more. What that one passed over is read again only before the vertex is lost.
 fn is_supported(
-    stops: &mut IndexMap<Vertex, usize, WordHash>,
+    stops: &mut VertexMap<usize>,
     graph: &Graph,
     lost: &Members,
     distances: &Distances,
-    vertex: Vertex,
+    vertex: &Placed,
     distance: u32,
 ) -> Result<bool, Memory>
-    ensures { IfOk result (λ supported. IsTrue supported ↔ IsSupported (LinksOf graph.now) (map.get distances.now) lost.now vertex distance) }
+    ensures { IfOk result (λ supported. IsTrue supported ↔ IsSupported (LinksOf graph.now) (map.get distances.now) lost.now vertex.now distance) }
 {
-    let links = graph.links_to(vertex);
-    let start = stops.get(&vertex).copied().unwrap_or(0).min(links.len());
+    let links = graph.links_into(vertex);
+    let start = start_of(stops, vertex).min(links.len());
     let (passed, open) = links.split_at(start);
     if let Some(place) = find_support(open, lost, distances, distance) {
         note_stop(stops, vertex, start + place, place)?;
@@ -175,10 +206,18 @@ fn is_supported(
     Ok(find_support(passed, lost, distances, distance).is_some())
 }
 
+// Where the search for the vertex's support goes on.
+fn start_of(stops: &VertexMap<usize>, vertex: &Placed) -> usize {
+    if stops.is_empty() {
+        return 0;
+    }
+    stops.get(vertex).copied().unwrap_or(0)
+}
+
 // Notes where a search for support stopped that passed over many links. A few are soon read again, and take no memory.
 fn note_stop(
-    stops: &mut IndexMap<Vertex, usize, WordHash>,
-    vertex: Vertex,
+    stops: &mut VertexMap<usize>,
+    vertex: &Placed,
     stop: usize,
     passed: usize,
 ) -> Result<(), Memory> {
@@ -212,7 +251,7 @@ fn supports(link: &Link, lost: &Members, distances: &Distances, distance: u32) -
     ensures { IsTrue result ↔ Supports (map.get distances.now) lost.now distance link.now }
 {
     match distances.get(&link.from) {
-        Some(near) => !lost.has(link.from.vertex()) && near + u32::from(link.cost) <= distance,
+        Some(near) => !lost.has(&link.from) && near + u32::from(link.cost) <= distance,
         None => false,
     }
 }

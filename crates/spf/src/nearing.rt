@@ -1,5 +1,5 @@
 //! The second part of a repair: the distances after, from those that are kept and the links that came.
-ghost use Rattle.std.specs.Prelude.{◌≡◌, ◌↔◌, ◌^◌, ◌<◌, ℕ, Option, IfOk, OnOk, IsTrue, Contains, length};
+ghost use Rattle.std.specs.Prelude.{◌≡◌, ◌↔◌, ◌^◌, ◌<◌, ℕ, Option, OnOk, IsTrue, Contains, length};
 ghost use Rattle.std.specs.FinMap as map;
 ghost use Rattle.ospf_types.specs.declared.entry.Vertex.{Vertex as VertexValue};
 ghost use Rattle.ospf_types.specs.declared.entry.Vertex.TheVariants.{Router as RouterValue};
@@ -13,36 +13,32 @@ ghost use Rattle.spf.specs.Parts.{AreStarted, AreNeared};
 ghost use Rattle.spf.specs.Repairs.{IsReset};
 
 use crate::losing::Losses;
-use crate::places::{head_of, is_at_root, tail_of};
+use crate::places::{is_at_root, tail_of};
 use ospf_types::entry::Vertex;
 use ospf_types::memory::Memory;
-use std::alloc::Global;
 use tree_parts::{Distances, Members, Touched};
 use vertex_graph::{Graph, Link};
 use vertex_map::Placed;
 use vertex_queue::Queue;
-use word_hash::WordHash;
 
-/// Finds the distances after. Vertices whose least links changed by them become stale. The answer is
-/// the vertices that moved.
+/// Finds the distances after, and the vertices that moved. Vertices whose least links changed by them become stale.
 pub(crate) fn near(
-    alloc: Global,
-    hashing: WordHash,
     graph: &Graph,
     came: &[Link],
     losses: &mut Losses,
     distances: &mut Distances,
     queue: &mut Queue,
+    moved: &mut Members,
     touched: &mut Touched,
-) -> Result<Members, Memory>
+) -> Result<(), Memory>
     requires started { AreStarted (LinksOf graph.now) (Among came.now) graph.now.root (HasRoot graph.now) (map.get distances.old) losses.old.lost }
     requires links { (l : LinkValue) → Contains came.now l → LinksOf graph.now l.from l.to l.cost l.label }
     requires none_wait { queue.old ≡ map.empty }
     requires fits { touched.old.taken ≡ 0 }
-    ensures neared { IfOk result (λ moved. AreNeared graph.now came.now (map.get distances.old) (map.get distances.new) losses.old.lost losses.old.stale losses.new.stale moved) }
+    ensures neared { OnOk result (AreNeared graph.now came.now (map.get distances.old) (map.get distances.new) losses.old.lost losses.old.stale losses.new.stale moved.new) }
     ensures lost { OnOk result (losses.new.lost ≡ losses.old.lost) }
     ensures none_wait { OnOk result (queue.new ≡ map.empty) }
-    ensures counted { IfOk result (λ moved. touched.new ≡ record { taken = length moved; hop_sets = touched.old.hop_sets }) }
+    ensures counted { OnOk result (touched.new ≡ record { taken = length moved.new; hop_sets = touched.old.hop_sets }) }
     ensures small { OnOk result (touched.new.taken < 2 ^ 63) }
 {
     let root = graph.root();
@@ -55,18 +51,25 @@ pub(crate) fn near(
         &mut losses.stale,
     )?;
     offer_reached(root, came, distances, queue, &mut losses.stale)?;
-    let mut moved = Members::new(alloc, hashing);
+    moved.clear(graph.len());
     while let Some((vertex, distance)) = touched.take(queue) {
-        reach(graph, vertex, distance, distances, queue, &mut losses.stale)?;
-        moved.add(vertex)?;
+        reach(
+            graph,
+            &vertex,
+            distance,
+            distances,
+            queue,
+            &mut losses.stale,
+        )?;
+        moved.push(&vertex)?;
         prove!(moved.len() < usize::MAX);
     }
-    Ok(moved)
+    Ok(())
 }
 
 // The distances from which those after are sought: none of what is lost, and of the root by whether it
 // is a vertex.
-fn reset(graph: &Graph, lost: &[Vertex], distances: &mut Distances) -> Result<(), Memory>
+fn reset(graph: &Graph, lost: &[Placed], distances: &mut Distances) -> Result<(), Memory>
     ensures { OnOk result (IsReset graph.now.root (HasRoot graph.now) (map.get distances.old) lost.now (map.get distances.new)) }
 {
     clear(lost, distances);
@@ -80,36 +83,36 @@ fn reset(graph: &Graph, lost: &[Vertex], distances: &mut Distances) -> Result<()
     Ok(())
 }
 
-fn clear(lost: &[Vertex], distances: &mut Distances)
+fn clear(lost: &[Placed], distances: &mut Distances)
     ensures { IsCleared (map.get distances.old) lost.now (map.get distances.new) }
 {
     for vertex in lost {
-        distances.remove(&Placed::nowhere(*vertex));
+        distances.remove(vertex);
     }
 }
 
 // Gives the vertex its distance, and offers the heads of its links what they have over it.
 fn reach(
     graph: &Graph,
-    vertex: Vertex,
+    vertex: &Placed,
     distance: u32,
     distances: &mut Distances,
     queue: &mut Queue,
     stale: &mut Members,
 ) -> Result<(), Memory>
     requires { distance < most_distance }
-    ensures set { OnOk result (distances.new ≡ map.insert distances.old vertex distance) }
-    ensures made { OnOk result (AreMade (OutOf (LinksOf graph.now) graph.now.root vertex distance) (map.get distances.new) (map.get queue.old) (map.get queue.new) stale.old stale.new) }
+    ensures set { OnOk result (distances.new ≡ map.insert distances.old vertex.now distance) }
+    ensures made { OnOk result (AreMade (OutOf (LinksOf graph.now) graph.now.root vertex.now distance) (map.get distances.new) (map.get queue.old) (map.get queue.new) stale.old stale.new) }
 {
-    let links = graph.links_from(vertex);
-    distances.set(&tail_of(links, vertex), distance)?;
+    let links = graph.links_out_of(vertex);
+    distances.set(vertex, distance)?;
     offer_from(graph.root(), links, distance, distances, queue, stale)
 }
 
 // Offers these vertices what they have over links from reached ones.
 fn offer_into(
     graph: &Graph,
-    vertices: &[Vertex],
+    vertices: &[Placed],
     distances: &Distances,
     queue: &mut Queue,
     stale: &mut Members,
@@ -118,8 +121,8 @@ fn offer_into(
 {
     let root = graph.root();
     for vertex in vertices {
-        let links = graph.links_to(*vertex);
-        let far = distances.get(&head_of(links, *vertex));
+        let links = graph.links_into(vertex);
+        let far = distances.get(vertex);
         offer_to(root, links, far, distances, queue, stale)?;
     }
     Ok(())
@@ -202,24 +205,18 @@ fn offer_over(
     if is_at_root(root, &link.to) {
         return Ok(());
     }
-    offer(
-        link.to.vertex(),
-        near + u32::from(link.cost),
-        far,
-        queue,
-        stale,
-    )
+    offer(&link.to, near + u32::from(link.cost), far, queue, stale)
 }
 
 // Offers a vertex, which is this far, a distance. If that is nearer the vertex is queued; if it is as near, it is stale.
 fn offer(
-    vertex: Vertex,
+    vertex: &Placed,
     distance: u32,
     far: Option<u32>,
     queue: &mut Queue,
     stale: &mut Members,
 ) -> Result<(), Memory>
-    ensures { OnOk result ((at : VertexValue → Option ℕ) → at vertex ≡ far → AreMade (OneOffer vertex distance) at (map.get queue.old) (map.get queue.new) stale.old stale.new) }
+    ensures { OnOk result ((at : VertexValue → Option ℕ) → at vertex.now ≡ far → AreMade (OneOffer vertex.now distance) at (map.get queue.old) (map.get queue.new) stale.old stale.new) }
 {
     let Some(least) = far else {
         return queue.put(vertex, distance);

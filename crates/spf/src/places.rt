@@ -15,29 +15,18 @@ pub(crate) fn tail_of(links: &[Link], vertex: Vertex) -> Placed
     }
 }
 
-/// The vertex that these links lead into, at the place that the first of them tells.
-pub(crate) fn head_of(links: &[Link], vertex: Vertex) -> Placed
-    ensures { result ≡ vertex }
+/// Whether the vertex is the root.
+pub(crate) fn is_at_root(root: u32, vertex: &Placed) -> bool
+    ensures { IsTrue result ↔ (vertex.now ≡ Vertex.Router root) }
 {
-    match links.first() {
-        Some(link) => link.to.with_vertex(vertex),
-        None => Placed::nowhere(vertex),
-    }
+    is_root(root, vertex.vertex())
 }
 
-/// Whether the vertex is the root.
-pub(crate) fn is_root(root: u32, vertex: Vertex) -> bool
+fn is_root(root: u32, vertex: Vertex) -> bool
     ensures { IsTrue result ↔ (vertex ≡ Vertex.Router root) }
 {
     match vertex {
         Vertex::Router(id) => id == root,
         Vertex::Network(_) => false,
     }
-}
-
-/// The same of a vertex with its place.
-pub(crate) fn is_at_root(root: u32, vertex: &Placed) -> bool
-    ensures { IsTrue result ↔ (vertex.now ≡ Vertex.Router root) }
-{
-    is_root(root, vertex.vertex())
 }

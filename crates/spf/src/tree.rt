@@ -1,43 +1,23 @@
-ghost use Rattle.std.specs.Prelude.{◌≡◌, ◌<◌, List, [], true, OnOk, OnErr, IfOk, IfSome};
+ghost use Rattle.std.specs.Prelude.{◌≡◌, ◌<◌, [], true, OnOk, OnErr, IfOk, IfSome};
 ghost use Rattle.std.specs.FinMap as map;
 ghost use Rattle.std.specs.List.Sorted.{IsStrictlySortedBy};
 ghost use Rattle.ospf_types.specs.Hops.{hop_cmp};
-ghost use Rattle.vertex_graph.specs.Link.{Link as LinkValue};
-ghost use Rattle.tree_parts.specs.Maps.{AreHopsInOrder, most_distance};
-ghost use Rattle.spf.specs.TreeValues.{IsTreeOf, IsTreeBefore, IsBegun, IsRenewed, AreChanged, AreOthersKept, IsBounded, IsWorkDone, IsWorkForAll, listed_hops};
+ghost use Rattle.tree_parts.specs.Maps.{most_distance};
+ghost use Rattle.spf.specs.TreeValues.{IsTreeOf, IsTreeBefore, AreChanged, AreOthersKept, IsBounded, IsWorkDone, IsWorkForAll, listed_hops};
 
-use crate::handing::hand;
-use crate::losing::{Losses, lose};
-use crate::nearing::near;
+use crate::losing::lose;
+use crate::places::tail_of;
+use crate::workspace::Workspace;
 use ospf_types::entry::Vertex;
 use ospf_types::hop::NextHop;
 use ospf_types::memory::Memory;
 use std::alloc::Global;
 use std::hash::RandomState;
 use std::marker::Model;
-use tree_parts::differing::{differing, remember};
-use tree_parts::{Distances, HopColumns, Members, Touched};
-use vertex_graph::{Graph, Link, LinkChanges};
-use vertex_queue::Queue;
+use tree_parts::differing::{list_differing, remember};
+use tree_parts::{Distances, HopColumns, Touched};
+use vertex_graph::{Graph, LinkChanges};
 use word_hash::WordHash;
-
-// What the second and the third part of a repair did.
-struct Renewed {
-    moved: Members,
-    written: Members,
-    touched: Touched,
-}
-
-// proof: one call drops it, in place of a drop of each part wherever one is held.
-impl Drop for Renewed {
-    fn drop(self) {
-        let Renewed {
-            moved: _moved,
-            written: _written,
-            touched: _,
-        } = self;
-    }
-}
 
 /// The shortest-path tree of an area.
 pub struct Tree {
@@ -45,9 +25,7 @@ pub struct Tree {
     hops: HopColumns,
     changed: Vec<Vertex>,
     spent: bool,
-    // Kept for its memory: nothing waits between two repairs.
-    queue: Queue,
-    hashing: WordHash,
+    workspace: Workspace,
 }
 
 // proof: one call drops it, in place of a drop of each part wherever one is held.
@@ -58,8 +36,7 @@ impl Drop for Tree {
             hops: _hops,
             changed: _changed,
             spent: _,
-            queue: _queue,
-            hashing: _,
+            workspace: _workspace,
         } = self;
     }
 }
@@ -92,21 +69,20 @@ impl Tree {
         ensures work { IfOk result (λ built. IsWorkForAll graph.now built.0 built.1.taken built.1.hop_sets) }
     {
         let hashing = WordHash::new(hashing);
-        let mut tree = Tree {
-            distances: Distances::with_room(alloc, hashing, graph.len())?,
-            hops: HopColumns::with_room(alloc, hashing, graph.len())?,
+        let mut distances = Distances::with_room(alloc, hashing, graph.len())?;
+        let mut hops = HopColumns::with_room(alloc, hashing, graph.len())?;
+        let mut workspace = Workspace::new(alloc, hashing);
+        let came = graph.links_from(Vertex::Router(graph.root()));
+        let touched = workspace.renew(alloc, graph, came, &mut distances, &mut hops)?;
+        let tree = Tree {
+            distances,
+            hops,
             changed: Vec::new(alloc),
             spent: false,
-            queue: Queue::new(alloc, hashing),
-            hashing,
+            // That of the build is dropped: few repairs find as much.
+            workspace: Workspace::new(alloc, hashing),
         };
-        let mut losses = Losses {
-            lost: Members::new(alloc, hashing),
-            stale: Members::new(alloc, hashing),
-        };
-        let came = graph.links_from(Vertex::Router(graph.root()));
-        let renewed = tree.renew(alloc, graph, came, &mut losses)?;
-        Ok((tree, renewed.touched))
+        Ok((tree, touched))
     }
 
     /// Brings a tree that is right for the links before to those of the graph, and answers the work. Where memory
@@ -126,6 +102,7 @@ impl Tree {
         ensures work { IfOk result (λ touched. IsWorkDone graph.now self.old self.new touched.taken touched.hop_sets) }
         ensures spent { OnErr result (self.new ≡ record { distances = map.empty; hops = map.empty; changed = []; spent = true }) }
     {
+        self.trim(graph);
         let repaired = self.repair_parts(alloc, graph, changes);
         if repaired.is_err() {
             self.spend();
@@ -192,67 +169,41 @@ impl Tree {
         ensures idle { IfOk result (λ touched. changes.now.gone.items ≡ [] → changes.now.came.items ≡ [] → touched ≡ record { taken = 0; hop_sets = 0 }) }
         ensures work { IfOk result (λ touched. IsWorkDone graph.now self.old self.new touched.taken touched.hop_sets) }
     {
-        let mut losses = lose(alloc, self.hashing, graph, changes, &self.distances)?;
+        lose(graph, changes, &self.distances, &mut self.workspace.search)?;
         let root = Vertex::Router(graph.root());
-        let remembered = remember(alloc, &self.distances, root, losses.lost.as_slice())?;
-        let renewed = self.renew(alloc, graph, changes.came.as_slice(), &mut losses)?;
-        self.changed = differing(
-            alloc,
-            remembered.as_slice(),
+        remember(
             &self.distances,
-            &losses.lost,
-            &renewed.moved,
-            &renewed.written,
+            &tail_of(graph.links_from(root), root),
+            self.workspace.search.losses.lost.as_slice(),
+            &mut self.workspace.remembered,
         )?;
-        Ok(renewed.touched)
+        let touched = self.workspace.renew(
+            alloc,
+            graph,
+            changes.came.as_slice(),
+            &mut self.distances,
+            &mut self.hops,
+        )?;
+        list_differing(
+            self.workspace.remembered.as_slice(),
+            &self.distances,
+            &self.workspace.search.losses.lost,
+            &self.workspace.moved,
+            &self.workspace.written,
+            &mut self.workspace.listing,
+            &mut self.changed,
+        )?;
+        Ok(touched)
     }
 
-    // The second and the third part of a repair, once it is known what is lost.
-    fn renew(
-        &mut self,
-        alloc: Global,
-        graph: &Graph,
-        came: &[Link],
-        losses: &mut Losses,
-    ) -> Result<Renewed, Memory>
-        requires begun { (gone : List LinkValue) × IsBegun graph.now gone came.now self.old losses.old.lost losses.old.stale }
-        ensures renewed { IfOk result (λ renewed. IsRenewed graph.now came.now self.old self.new losses.old.lost losses.old.stale renewed.moved renewed.written renewed.touched.taken renewed.touched.hop_sets) }
-        ensures lost { OnOk result (losses.new.lost ≡ losses.old.lost) }
-        ensures changed { self.new.changed ≡ self.old.changed }
-        ensures were_in_order { AreHopsInOrder self.old.hops }
-        ensures in_order { OnOk result (AreHopsInOrder self.new.hops) }
+    // Gives up places of vertices that are gone, where there are many.
+    fn trim(&mut self, graph: &Graph)
+        ensures { self.new ≡ self.old }
     {
-        let _ = self.hops.len();
-        let mut touched = Touched::none();
-        // proof: nothing waits, as a tree is not repaired once it was refused memory.
-        empty(&mut self.queue);
-        let moved = near(
-            alloc,
-            self.hashing,
-            graph,
-            came,
-            losses,
-            &mut self.distances,
-            &mut self.queue,
-            &mut touched,
-        )?;
-        let written = hand(
-            alloc,
-            self.hashing,
-            graph,
-            &self.distances,
-            losses,
-            &moved,
-            &mut self.hops,
-            &mut self.queue,
-            &mut touched,
-        )?;
-        let _ = self.hops.len();
-        Ok(Renewed {
-            moved,
-            written,
-            touched,
-        })
+        let most = graph.len().saturating_mul(2).saturating_add(64);
+        self.distances.trim(most);
+        self.hops.trim(most);
+        self.workspace.trim(most);
     }
 
     // Takes all out of the tree.
@@ -263,14 +214,5 @@ impl Tree {
         self.hops.clear();
         self.changed.clear();
         self.spent = true;
-    }
-}
-
-// Takes out all that waits.
-fn empty(queue: &mut Queue)
-    ensures { queue.new ≡ map.empty }
-{
-    if !queue.is_empty() {
-        queue.clear();
     }
 }

@@ -1,6 +1,5 @@
 //! What routes are calculated from, as the state and the trees have it.
 ghost use Rattle.std.specs.Prelude.{◌≡◌, ◌↔◌, IsTrue, length, IfOk};
-ghost use Rattle.std.specs.FinMap as map;
 ghost use Rattle.state_trees.specs.Trees.{areas_with, AreUpsOf};
 
 use area_trees::AreaTree;
@@ -30,18 +29,6 @@ pub fn area_inputs<'a>(
         areas.push(AreaInputs { id, database, tree })?;
     }
     Ok(areas)
-}
-
-/// The interfaces with their ids, ascending by these.
-pub fn interfaces(alloc: Global, state: &State) -> Result<Vec<(u8, Interface)>, Memory>
-    ensures { IfOk result (λ interfaces. interfaces.items ≡ map.entries state.now.interfaces) }
-{
-    let all = state.interfaces();
-    let mut interfaces = Vec::with_capacity(alloc, all.len())?;
-    for (id, interface) in all {
-        interfaces.push((*id, *interface))?;
-    }
-    Ok(interfaces)
 }
 
 /// The interfaces of the area that are up.

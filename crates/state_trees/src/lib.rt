@@ -5,5 +5,5 @@
 mod inputs;
 mod trees;
 
-pub use inputs::{area_inputs, interfaces, is_up_in};
+pub use inputs::{area_inputs, is_up_in};
 pub use trees::{build_trees, follow_trees};

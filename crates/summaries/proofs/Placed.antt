@@ -1,7 +1,7 @@
 -- The networks of a range in their order: where one is, and what is left of them where it has another cost.
 --   put_changed: by what stands before and after it
 --   was_set, was_removed, was_inserted: by the place of the edit
-use Rattle.std.proofs.Common.{◌≡◌, ℕ, zero, suc, ◌+◌, ◌<◌, Bool, cond, true, false, List, [], ◌∷◌, ◌++◌, map, length, take, drop, get_or, set, Option, Some, None, Ordering, Result, Ok, Err, IfOk, IfErr, refl, sym, ap, subst, ◌∙◌, inl, inr, add-one, arith}
+use Rattle.std.proofs.Common.{◌≡◌, ℕ, zero, suc, ◌+◌, ◌-◌, ◌<◌, Bool, cond, true, false, List, [], ◌∷◌, ◌++◌, map, length, take, drop, get_or, set, Option, Some, None, Ordering, Result, Ok, Err, IfOk, IfErr, refl, sym, ap, subst, ◌∙◌, inl, inr, add-one, arith}
 use Rattle.std.specs.declared.cmp.Ordering.TheVariants.{Less, Greater}
 use Rattle.std.specs.Ordering.{is_eq, is_lt, ordering_reverse, ordering_index}
 use Rattle.std.specs.Cmp.{eq_by_cmp_equiv}
@@ -10,7 +10,8 @@ use Rattle.std.specs.List.{All, AllByRecursion, Contains, insert, remove}
 use Rattle.std.specs.List.Sorted.{IsStrictlySortedBy, IsSearchInRange, IsBinarySearchResult, IsNonDecreasingBy}
 use Rattle.std.specs.Map.{keys_of, lookup}
 use Rattle.std.specs.Option.{option_or}
-use Rattle.std.proofs.lemmas.List.{get_or-map, length-map, get_or-take, get_or-drop, length-take, length-drop, take-append-drop, drop_more, set_split}
+use Rattle.std.proofs.lemmas.Bool.{cases_lt}
+use Rattle.std.proofs.lemmas.List.{get_or-map, get_or_default, length-map, get_or-take, get_or-drop, length-take, length-drop, take-append-drop, drop_more, set_split}
 use Rattle.std.proofs.lemmas.List.Elements.{All-head, All-tail, Contains-append_left, Contains-append_right, Contains-append_cases}
 use Rattle.std.proofs.lemmas.List.Sorted.{searchable_from_sorted}
 use Rattle.std.proofs.lemmas.Map.Keys.{Less-from_sorted}
@@ -192,6 +193,30 @@ module _ (es : Entries) (ordered : AreInOrder es) (k : Prefix) where
       put = λ q. ap (cost_at q) all ∙ put_changed k before after none_before none_after None None q ∙ ap (λ (xs : Entries). cond (is_at (network_cmp k) q) None (cost_at q xs)) (sym all);
       in_order = ordered;
     }
+
+  -- ---- at the end
+
+  -- all of them come before it
+  pub gap_behind : (last : Prefix × ℕ) → 0 < length es → last ≡ get_or es (length es - 1) last → network_cmp last.0 k ≡ Less → IsGapFor es k (length es)
+  gap_behind last some at less = record {
+    in_range = omega arith;
+    apart = (
+      λ j e within low. elim (cases_lt j (length es - 1)) [
+        | inl before ↦ network_total.trans (get_or es j e).0 (get_or es (length es - 1) e).0 k (less_at es ordered j (length es - 1) e before (omega (arith, some))) (ending e)
+        | inr same ↦ subst (λ (n : ℕ). network_cmp (get_or es n e).0 k ≡ Less) (omega (arith, same, within, some)) (ending e)
+      ],
+      λ j e high within. absurd (omega (arith, high, within)),
+    );
+  }
+    where
+      ending : (e : Prefix × ℕ) → network_cmp (get_or es (length es - 1) e).0 k ≡ Less
+      ending e = subst (λ (x : Prefix × ℕ). network_cmp x.0 k ≡ Less) (at ∙ get_or_default es (length es - 1) last e (omega (arith, some))) less
+
+  pub gap_of_none : length es ≡ 0 → IsGapFor es k (length es)
+  gap_of_none none = record {
+    in_range = omega arith;
+    apart = (λ j e within low. absurd (omega (arith, none, within)), λ j e high within. absurd (omega (arith, high, within)));
+  }
 
   -- ---- a search
 

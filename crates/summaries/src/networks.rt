@@ -1,5 +1,8 @@
 //! The networks of one range, each at the cost of its entry.
-ghost use Rattle.std.specs.Prelude.{◌≡◌, ◌↔◌, ◌<◌, ℕ, [], Some, IsTrue, IfOk, IfErr, OnOk, map as list_map};
+ghost use Rattle.std.specs.Prelude.{◌≡◌, ◌↔◌, ◌<◌, ℕ, [], Some, IsTrue, IfOk, IfErr, OnOk, length, map as list_map};
+ghost use Rattle.std.specs.List.Sorted.{IsStrictlySortedBy};
+ghost use Rattle.std.specs.Map.{keys_of};
+ghost use Rattle.ospf_types.specs.Network.{network_cmp};
 ghost use Rattle.ospf_types.specs.Summaries.{IsGreatest};
 ghost use Rattle.summaries.specs.Grouped.{AreMadeOf, IsAt, IsCostOf, IsGapFor, IsPutIn};
 
@@ -42,7 +45,9 @@ impl Networks {
     pub(crate) fn of(alloc: Global, costs: &[(Member, u32)]) -> Result<Networks, Memory>
         ensures { IfOk result (AreMadeOf (list_map (λ x. (x.0.network, x.1)) costs.now)) }
     {
-        let mut networks = Networks::new(alloc);
+        let mut networks = Networks {
+            list: Vec::with_capacity(alloc, costs.len())?,
+        };
         for (member, cost) in costs {
             networks.put(member.network, Some(*cost))?;
         }
@@ -103,11 +108,26 @@ impl Networks {
         Ok(members)
     }
 
-    // Where the network is, or where it would go.
+    // Where the network is, or where it would go. Networks that come in their order go to the end, which is tried first.
     fn place(&self, network: Prefix) -> Result<usize, usize>
         ensures found { IfOk result (IsAt self.now.entries network) }
         ensures absent { IfErr result (IsGapFor self.now.entries network) }
     {
-        self.list.binary_search_by_key(&network, |entry| entry.0)
+        let list = self.list.as_slice();
+        if ends_before(list, network) {
+            return Err(list.len());
+        }
+        list.binary_search_by_key(&network, |entry| entry.0)
+    }
+}
+
+// Whether all networks of the list, which stand in their order, come before this one.
+fn ends_before(list: &[(Prefix, u32)], network: Prefix) -> bool
+    requires { IsStrictlySortedBy network_cmp (keys_of list.now) }
+    ensures { IsTrue result → IsGapFor list.now network (length list.now) }
+{
+    match list.last() {
+        Some((last, _)) => last.cmp(&network).is_lt(),
+        None => true,
     }
 }

@@ -123,8 +123,8 @@ pub grown_all : {X : Type 0} (now start : List Vertex) (Holds : List X → Verte
 grown_all now start Holds xs i all grown = subst (λ ys. IsGrown now start (Holds ys)) (take_all i xs all) grown
 
 -- a list of which one more was looked at
-pub grown_next : {X : Type 0} (now start : List Vertex) (Holds : List X → Vertex → Type 0) (xs : List X) (i : ℕ) (d : X) → i < length xs → IsGrown now start (Holds (take i xs ++ get_or xs i d ∷ [])) → IsGrown now start (Holds (take (i + 1) xs))
-grown_next now start Holds xs i d within grown = subst (λ ys. IsGrown now start (Holds ys)) (sym (take_more xs i d within)) grown
+pub grown_at : {X : Type 0} (now start : List Vertex) (Holds : List X → Vertex → Type 0) (xs : List X) (i : ℕ) (x : X) → i < length xs → x ≡ get_or xs i x → IsGrown now start (Holds (take i xs ++ x ∷ [])) → IsGrown now start (Holds (take (i + 1) xs))
+grown_at {X} now start Holds xs i x within is grown = subst (λ ys. IsGrown now start (Holds ys)) (sym (take_more xs i x within ∙ ap (λ (y : X). take i xs ++ y ∷ []) (sym is))) grown
 
 -- one more that is remembered
 pub remembered_next : {X Y : Type 0} (f : X → Y) (first : X) (xs : List X) (i : ℕ) (d : X) (before now : List Y) → i < length xs → before ≡ map f (first ∷ take i xs) → now ≡ before ++ f (get_or xs i d) ∷ [] → now ≡ map f (first ∷ take (i + 1) xs)

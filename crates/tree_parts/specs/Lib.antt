@@ -1,4 +1,5 @@
 pub mod Maps
 pub mod Members
 pub mod Differing
-pub mod Listed
+pub mod Marks
+pub mod Keys

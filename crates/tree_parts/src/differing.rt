@@ -1,5 +1,5 @@
 //! Which vertices a repair changed.
-ghost use Rattle.std.specs.Prelude.{◌≡◌, ◌↔◌, ◌⊎◌, ◌∷◌, IfOk, OnOk, Contains, map as list_map};
+ghost use Rattle.std.specs.Prelude.{◌≡◌, ◌↔◌, ◌⊎◌, ◌++◌, ◌∷◌, OnOk, Contains, map as list_map};
 ghost use Rattle.std.specs.FinMap as map;
 ghost use Rattle.std.specs.List.Sorted.{IsStrictlySortedBy};
 ghost use Rattle.ospf_types.specs.declared.entry.Vertex.{Vertex as VertexValue};
@@ -7,72 +7,84 @@ ghost use Rattle.ospf_types.specs.Vertices.{vertex_cmp};
 ghost use Rattle.tree_parts.specs.Differing.{IsFarther, IsNearer};
 
 use crate::distances::Distances;
+use crate::listing::Listing;
 use crate::members::Members;
 use ospf_types::entry::Vertex;
 use ospf_types::memory::Memory;
-use std::alloc::Global;
+use vertex_map::Placed;
 
-/// The root and what is lost, each with its distance, to be compared once the distances after are known.
+/// The root and what is lost, each with its distance, to be compared once the distances after are known. They
+/// take the place of what was remembered.
 pub fn remember(
-    alloc: Global,
     distances: &Distances,
-    root: Vertex,
-    lost: &[Vertex],
-) -> Result<Vec<(Vertex, Option<u32>)>, Memory>
-    ensures { IfOk result (λ remembered. remembered.items ≡ list_map (λ v. (v, map.get distances.now v)) (root ∷ lost.now)) }
+    root: &Placed,
+    lost: &[Placed],
+    remembered: &mut Vec<(Placed, Option<u32>)>,
+) -> Result<(), Memory>
+    ensures { OnOk result (remembered.new.items ≡ list_map (λ v. (v, map.get distances.now v)) (root.now ∷ lost.now)) }
 {
-    let mut remembered = Vec::with_capacity(alloc, 8)?;
-    remembered.push((root, distances.find(root)))?;
+    remembered.clear();
+    remembered.push((root.copy(), distances.get(root)))?;
     for vertex in lost {
-        remembered.push((*vertex, distances.find(*vertex)))?;
+        remembered.push((vertex.copy(), distances.get(vertex)))?;
     }
-    Ok(remembered)
+    Ok(())
 }
 
-/// The vertices that a repair changed, ascending, each once: those remembered that have another distance now, those
-/// that moved and were not lost, and those whose next hops were written.
-pub fn differing(
-    alloc: Global,
-    remembered: &[(Vertex, Option<u32>)],
+/// Lists the vertices that a repair changed, ascending, each once: those remembered that have another distance now,
+/// those that moved and were not lost, and those whose next hops were written.
+pub fn list_differing(
+    remembered: &[(Placed, Option<u32>)],
     distances: &Distances,
     lost: &Members,
     moved: &Members,
     written: &Members,
-) -> Result<Vec<Vertex>, Memory>
-    ensures in_order { IfOk result (λ changed. IsStrictlySortedBy vertex_cmp changed.items) }
-    ensures exact { IfOk result (λ changed. (v : VertexValue) → Contains changed.items v ↔ (IsFarther remembered.now distances.now v ⊎ (IsNearer moved.now lost.now v ⊎ Contains written.now v))) }
+    listing: &mut Listing,
+    changed: &mut Vec<Vertex>,
+) -> Result<(), Memory>
+    ensures in_order { OnOk result (IsStrictlySortedBy vertex_cmp changed.new.items) }
+    ensures exact { OnOk result ((v : VertexValue) → Contains changed.new.items v ↔ (IsFarther remembered.now distances.now v ⊎ (IsNearer moved.now lost.now v ⊎ Contains written.now v))) }
 {
-    let mut changed = Vec::from_slice(alloc, written.as_slice())?;
-    add_farther(&mut changed, remembered, distances)?;
-    add_nearer(&mut changed, moved.as_slice(), lost)?;
-    changed.sort_unstable();
-    changed.dedup();
-    Ok(changed)
+    listing.clear();
+    add_all(listing, written.as_slice())?;
+    add_farther(listing, remembered, distances)?;
+    add_nearer(listing, moved.as_slice(), lost)?;
+    listing.list(changed)
+}
+
+// Adds all of these.
+fn add_all(listing: &mut Listing, vertices: &[Placed]) -> Result<(), Memory>
+    ensures { OnOk result (listing.new ≡ listing.old ++ vertices.now) }
+{
+    for vertex in vertices {
+        listing.push(vertex.vertex())?;
+    }
+    Ok(())
 }
 
 // Adds those remembered that have another distance now.
 fn add_farther(
-    changed: &mut Vec<Vertex>,
-    remembered: &[(Vertex, Option<u32>)],
+    listing: &mut Listing,
+    remembered: &[(Placed, Option<u32>)],
     distances: &Distances,
 ) -> Result<(), Memory>
-    ensures { OnOk result ((v : VertexValue) → Contains changed.new.items v ↔ (Contains changed.old.items v ⊎ IsFarther remembered.now distances.now v)) }
+    ensures { OnOk result ((v : VertexValue) → Contains listing.new v ↔ (Contains listing.old v ⊎ IsFarther remembered.now distances.now v)) }
 {
     for (vertex, distance) in remembered {
-        if distances.find(*vertex) != *distance {
-            changed.push(*vertex)?;
+        if distances.get(vertex) != *distance {
+            listing.push(vertex.vertex())?;
         }
     }
     Ok(())
 }
 
 // Adds those that moved and were not lost.
-fn add_nearer(changed: &mut Vec<Vertex>, moved: &[Vertex], lost: &Members) -> Result<(), Memory>
-    ensures { OnOk result ((v : VertexValue) → Contains changed.new.items v ↔ (Contains changed.old.items v ⊎ IsNearer moved.now lost.now v)) }
+fn add_nearer(listing: &mut Listing, moved: &[Placed], lost: &Members) -> Result<(), Memory>
+    ensures { OnOk result ((v : VertexValue) → Contains listing.new v ↔ (Contains listing.old v ⊎ IsNearer moved.now lost.now v)) }
 {
     for vertex in moved {
-        if !lost.has(*vertex) {
-            changed.push(*vertex)?;
+        if !lost.has(vertex) {
+            listing.push(vertex.vertex())?;
         }
     }
     Ok(())

@@ -96,4 +96,11 @@ impl Distances {
     {
         self.by_vertex.clear();
     }
+
+    /// Gives up the places of vertices that have no distance, where there are more than so many.
+    pub fn trim(&mut self, most: usize)
+        ensures { self.new ≡ self.old }
+    {
+        self.by_vertex.trim(most);
+    }
 }

@@ -95,4 +95,11 @@ impl HopColumns {
     {
         self.by_vertex.clear();
     }
+
+    /// Gives up the places of vertices that have no next hops, where there are more than so many.
+    pub fn trim(&mut self, most: usize)
+        ensures { self.new ≡ self.old }
+    {
+        self.by_vertex.trim(most);
+    }
 }

@@ -1,36 +1,29 @@
 //! Vertices, each once, in the order in which they were added.
-ghost use Rattle.std.specs.Prelude.{◌≡◌, ◌↔◌, ◌<◌, ◌^◌, ◌++◌, ◌∷◌, [], IfNone, IfSome, IsTrue, OnOk, OnErr, IfOk, Contains, length};
+ghost use Rattle.std.specs.Prelude.{◌≡◌, ◌↔◌, ◌<◌, ◌≤◌, ◌^◌, ◌++◌, ◌∷◌, [], IfNone, IfSome, IsTrue, OnOk, OnErr, IfOk, Contains, Some, length, slice_get};
 ghost use Rattle.tree_parts.specs.Members.{HasNoDoubles, IsAdded, IsWithMember};
+ghost use Rattle.tree_parts.specs.Marks.{IsMarked, AreMarked, AreFound};
 
-use crate::few::Few;
-use indexmap::IndexSet;
-use ospf_types::entry::Vertex;
 use ospf_types::memory::Memory;
+use smallvec::SmallVec;
 use std::alloc::Global;
 use std::marker::Model;
+use vertex_map::{Placed, VertexMap};
 use word_hash::WordHash;
 
 /// A list of vertices has each vertex once, in the order in which they were added. Up to eight take no memory.
 pub struct Members {
-    vertices: Vertices,
-    alloc: Global,
-    hashing: WordHash,
-}
-
-// Few are compared in turn, many are looked up by their hash.
-#[derive(Drop)]
-enum Vertices {
-    Few(Few),
-    Many(IndexSet<Vertex, WordHash>),
+    list: SmallVec<Placed, 8>,
+    // Of more than eight vertices, at which index of the list each stands. Others may be marked too, and one that is
+    // marked at an index where the list has another is not there. So the list is cleared, and no mark.
+    marks: VertexMap<usize>,
 }
 
 // proof: one call drops it, in place of a drop of each part wherever one is held.
 impl Drop for Members {
     fn drop(self) {
         let Members {
-            vertices: _vertices,
-            alloc: _,
-            hashing: _,
+            list: _list,
+            marks: _marks,
         } = self;
     }
 }
@@ -38,12 +31,14 @@ impl Drop for Members {
 impl Model for Members {
     ghost use Rattle.std.specs.Prelude.{List};
     ghost use Rattle.ospf_types.specs.declared.entry.Vertex.{Vertex};
+    ghost use Rattle.tree_parts.specs.Members.{HasNoDoubles};
+    ghost use Rattle.tree_parts.specs.Marks.{AreFound};
 
     ghost Value = { List Vertex };
 
-    ghost use Rattle.tree_parts.specs.Listed.{listed};
+    ghost view = { λ m. m.list.items };
 
-    ghost view = { λ m. listed m.vertices };
+    ghost invariant = { λ m. HasNoDoubles m.list.items × AreFound m.marks m.list.items };
 }
 
 impl Members {
@@ -52,20 +47,20 @@ impl Members {
         ensures { result ≡ [] }
     {
         Members {
-            vertices: Vertices::Few(Few::new()),
-            alloc,
-            hashing,
+            list: SmallVec::new(alloc),
+            marks: VertexMap::new(alloc, hashing),
         }
     }
 
     /// Whether the vertex is there.
-    pub fn has(&self, vertex: Vertex) -> bool
-        ensures { IsTrue result ↔ Contains self.now vertex }
+    pub fn has(&self, vertex: &Placed) -> bool
+        ensures { IsTrue result ↔ Contains self.now vertex.now }
     {
-        match &self.vertices {
-            Vertices::Few(few) => few.has(vertex),
-            Vertices::Many(many) => many.contains(&vertex),
+        let list = self.list.as_slice();
+        if list.len() > 8 {
+            return is_marked(&self.marks, list, vertex);
         }
+        is_among(list, vertex)
     }
 
     /// How many vertices are there.
@@ -73,74 +68,137 @@ impl Members {
         ensures value { result ≡ length self.now }
         ensures small { result < 2 ^ 63 }
     {
-        match &self.vertices {
-            Vertices::Few(few) => few.len(),
-            Vertices::Many(many) => many.len(),
-        }
+        // proof: of more than eight each has its mark.
+        let _ = self.marks.len();
+        self.list.len()
     }
 
     /// Lends the vertices, in the order in which they were added.
-    pub fn as_slice(&self) -> &[Vertex]
+    pub fn as_slice(&self) -> &[Placed]
         ensures value { result.now ≡ self.now }
         ensures apart { HasNoDoubles self.now }
     {
-        match &self.vertices {
-            Vertices::Few(few) => few.as_slice(),
-            Vertices::Many(many) => many.as_slice(),
-        }
+        self.list.as_slice()
     }
 
     /// Adds the vertex at the end, unless it is there. The answer is whether it was not.
-    pub fn add(&mut self, vertex: Vertex) -> Result<bool, Memory>
-        ensures end { IfOk result (λ fresh. IsWithMember self.old self.new vertex fresh) }
-        ensures added { OnOk result (IsAdded self.old self.new vertex) }
+    pub fn add(&mut self, vertex: &Placed) -> Result<bool, Memory>
+        ensures end { IfOk result (λ fresh. IsWithMember self.old self.new vertex.now fresh) }
+        ensures added { OnOk result (IsAdded self.old self.new vertex.now) }
         ensures unchanged { OnErr result (self.new ≡ self.old) }
     {
-        match &mut self.vertices {
-            Vertices::Few(few) => {
-                if few.has(vertex) {
-                    return Ok(false);
-                }
-                if few.has_room() {
-                    few.push(vertex);
-                    return Ok(true);
-                }
-                let many = with_vertex(self.alloc, self.hashing, few.as_slice(), vertex)?;
-                self.vertices = Vertices::Many(many);
-                Ok(true)
-            }
-            Vertices::Many(many) => Ok(many.insert(vertex)?),
+        if self.has(vertex) {
+            return Ok(false);
         }
+        self.push(vertex)?;
+        Ok(true)
+    }
+
+    /// Adds a vertex that is not there at the end.
+    pub fn push(&mut self, vertex: &Placed) -> Result<(), Memory>
+        requires { Contains self.old vertex.now → ⊥ }
+        ensures pushed { OnOk result (self.new ≡ self.old ++ vertex.now ∷ []) }
+        ensures unchanged { OnErr result (self.new ≡ self.old) }
+    {
+        mark(&mut self.marks, self.list.as_slice(), vertex)?;
+        self.list.push(vertex.copy())?;
+        Ok(())
     }
 
     /// Takes the last vertex out.
-    pub fn pop(&mut self) -> Option<Vertex>
+    pub fn pop(&mut self) -> Option<Placed>
         ensures none { IfNone result (self.old ≡ []) }
         ensures still_none { IfNone result (self.new ≡ []) }
         ensures last { IfSome result (λ vertex. self.old ≡ self.new ++ vertex ∷ []) }
     {
-        match &mut self.vertices {
-            Vertices::Few(few) => few.pop(),
-            Vertices::Many(many) => many.pop(),
+        self.list.pop()
+    }
+
+    /// Takes all vertices out. What memory they have taken stays. Marks stay too, unless there are more than so many.
+    pub fn clear(&mut self, most: usize)
+        ensures { self.new ≡ [] }
+    {
+        self.list.clear();
+        if self.marks.len() > most {
+            self.marks.clear();
         }
     }
 }
 
-// These vertices and one more, looked up by their hash.
-fn with_vertex(
-    alloc: Global,
-    hashing: WordHash,
-    vertices: &[Vertex],
-    vertex: Vertex,
-) -> Result<IndexSet<Vertex, WordHash>, Memory>
-    requires apart { HasNoDoubles vertices.now }
-    requires fresh { Contains vertices.now vertex → ⊥ }
-    ensures { IfOk result (λ many. many.keys ≡ vertices.now ++ vertex ∷ []) }
+// Whether the vertex is one of these. All are compared.
+fn is_among(list: &[Placed], vertex: &Placed) -> bool
+    ensures { IsTrue result ↔ Contains list.now vertex.now }
 {
-    let mut many = IndexSet::with_capacity_and_hasher(alloc, 16, hashing)?;
-    for vertex in vertices {
-        many.insert(*vertex)?;
+    for other in list {
+        if is_same(other, vertex) {
+            return true;
+        }
     }
-    many.insert(vertex)?;
-    Ok(many)
+    false
+}
+
+// Whether the list has the vertex where it is marked.
+fn is_marked(marks: &VertexMap<usize>, list: &[Placed], vertex: &Placed) -> bool
+    ensures { IsTrue result ↔ IsMarked marks.now list.now vertex.now }
+{
+    match marks.get(vertex) {
+        Some(index) => stands_at(list, *index, vertex),
+        None => false,
+    }
+}
+
+fn stands_at(list: &[Placed], index: usize, vertex: &Placed) -> bool
+    ensures { IsTrue result ↔ (slice_get list.now index ≡ Some vertex.now) }
+{
+    match list.get(index) {
+        Some(other) => is_same(other, vertex),
+        None => false,
+    }
+}
+
+// Whether both are one vertex, whatever their places are.
+fn is_same(one: &Placed, other: &Placed) -> bool
+    ensures { IsTrue result ↔ (one.now ≡ other.now) }
+{
+    one.vertex() == other.vertex()
+}
+
+// Marks a vertex that is to follow these, if they are eight or more, and with the ninth the eight before it.
+fn mark(marks: &mut VertexMap<usize>, list: &[Placed], vertex: &Placed) -> Result<(), Memory>
+    requires apart { HasNoDoubles list.now }
+    requires fresh { Contains list.now vertex.now → ⊥ }
+    requires found { AreFound marks.old list.now }
+    ensures grown { OnOk result (AreFound marks.new (list.now ++ vertex.now ∷ [])) }
+    ensures still { AreFound marks.new list.now }
+{
+    if list.len() < 8 {
+        return Ok(());
+    }
+    if list.len() > 8 {
+        return mark_next(marks, list, vertex);
+    }
+    mark_all(marks, list)?;
+    mark_next(marks, list, vertex)
+}
+
+// Marks a vertex that is to follow these.
+fn mark_next(marks: &mut VertexMap<usize>, list: &[Placed], vertex: &Placed) -> Result<(), Memory>
+    requires fresh { Contains list.now vertex.now → ⊥ }
+    requires marked { AreMarked marks.old list.now }
+    ensures grown { OnOk result (AreMarked marks.new (list.now ++ vertex.now ∷ [])) }
+    ensures still { AreMarked marks.new list.now }
+{
+    marks.insert(vertex, list.len())?;
+    Ok(())
+}
+
+// Marks each of these with its index.
+fn mark_all(marks: &mut VertexMap<usize>, list: &[Placed]) -> Result<(), Memory>
+    requires { HasNoDoubles list.now }
+    ensures { OnOk result (AreMarked marks.new list.now) }
+{
+    for (index, vertex) in list.iter().enumerate() {
+        marks.insert(vertex, index)?;
+    }
+    Ok(())
 }

@@ -6,7 +6,6 @@ ghost use Rattle.vertex_queue.specs.Queues.{IsFirst};
 
 use crate::hop_columns::HopColumns;
 use hop_sets::HopSet;
-use ospf_types::entry::Vertex;
 use ospf_types::memory::Memory;
 use vertex_map::Placed;
 use vertex_queue::Queue;
@@ -32,7 +31,7 @@ impl Touched {
     }
 
     /// Takes the first vertex from the queue. Nothing else takes one.
-    pub fn take(&mut self, queue: &mut Queue) -> Option<(Vertex, u32)>
+    pub fn take(&mut self, queue: &mut Queue) -> Option<(Placed, u32)>
         requires { self.old.taken + 1 < 2 ^ 64 }
         ensures none { IfNone result (queue.old ≡ map.empty) }
         ensures still_none { IfNone result (queue.new ≡ map.empty) }

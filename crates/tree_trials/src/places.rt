@@ -1,4 +1,6 @@
 //! Values by vertex, looked for at places that are right and at others.
+ghost use Rattle.std.specs.Prelude.{◌<◌};
+
 use ospf_types::entry::Vertex;
 use ospf_types::memory::Memory;
 use std::hash::RandomState;
@@ -6,18 +8,10 @@ use std::test::Fail;
 use vertex_map::{Placed, VertexMap};
 use word_hash::WordHash;
 
-// The places of a hundred vertices, the last first.
-fn place_of(number: u32) -> u32 {
-    99u32.saturating_sub(number)
-}
-
-// A hundred vertices at their places.
+// A hundred vertices, the last place first.
 fn fill(map: &mut VertexMap<u32>) -> Result<(), Memory> {
     for number in 0..100u32 {
-        map.insert(
-            &Placed::new(Vertex::Router(number), place_of(number)),
-            number,
-        )?;
+        map.insert(&Placed::new(Vertex::Router(number), 99 - number), number)?;
     }
     Ok(())
 }
@@ -27,12 +21,14 @@ fn at(map: &VertexMap<u32>, vertex: &Placed) -> Option<u32> {
 }
 
 // Whether the vertex has its number, wherever it is looked for.
-fn is_there(map: &VertexMap<u32>, number: u32) -> bool {
+fn is_there(map: &VertexMap<u32>, number: u32) -> bool
+    requires { number < 100 }
+{
     let vertex = Vertex::Router(number);
-    at(map, &Placed::new(vertex, place_of(number))) == Some(number)
+    at(map, &Placed::new(vertex, 99 - number)) == Some(number)
         && at(map, &Placed::new(vertex, number)) == Some(number)
         && at(map, &Placed::nowhere(vertex)) == Some(number)
-        && at(map, &Placed::new(Vertex::Network(number), place_of(number))).is_none()
+        && at(map, &Placed::new(Vertex::Network(number), 99 - number)).is_none()
 }
 
 fn finds_all(map: &mut VertexMap<u32>) -> Result<bool, Memory> {
@@ -51,13 +47,15 @@ fn a_vertex_is_found_wherever_it_is_looked_for(rt: HostRuntime) -> Result<(), Fa
     Ok(())
 }
 
-// Whether only the first ten and a new vertex are left, once ninety went and it came.
+// Whether only the first ten and a new vertex are left, once ninety went, their places were given up,
+// and it came.
 fn most_go(map: &mut VertexMap<u32>) -> Result<bool, Memory> {
     fill(map)?;
     for number in 10..100u32 {
         map.remove(&Placed::new(Vertex::Router(number), number));
     }
     let left = map.len() == 10 && at(map, &Placed::new(Vertex::Router(10), 89)).is_none();
+    map.trim(20);
     map.insert(&Placed::new(Vertex::Network(200), 0), 7)?;
     map.insert(&Placed::new(Vertex::Network(200), 3), 8)?;
     let came = map.len() == 11 && at(map, &Placed::new(Vertex::Network(200), 0)) == Some(8);

@@ -3,30 +3,42 @@ use ospf_types::entry::Vertex;
 use ospf_types::memory::Memory;
 use std::hash::RandomState;
 use std::test::Fail;
+use vertex_map::Placed;
 use vertex_queue::Queue;
 use word_hash::WordHash;
 
+fn put(queue: &mut Queue, vertex: Vertex, distance: u32) -> Result<(), Memory> {
+    queue.put(&Placed::nowhere(vertex), distance)
+}
+
+// Whether the vertex leaves next, at the distance.
+fn leaves(queue: &mut Queue, vertex: Vertex, distance: u32) -> bool {
+    match queue.take() {
+        Some((first, at)) => first.vertex() == vertex && at == distance,
+        None => false,
+    }
+}
+
 fn fill(queue: &mut Queue) -> Result<(), Memory> {
-    queue.put(Vertex::Router(1), 10)?;
-    queue.put(Vertex::Network(9), 10)?;
-    queue.put(Vertex::Router(2), 30)?;
-    queue.put(Vertex::Router(2), 5)?;
-    queue.put(Vertex::Network(9), 20)?;
-    queue.put(Vertex::Network(7), 10)
+    put(queue, Vertex::Router(1), 10)?;
+    put(queue, Vertex::Network(9), 10)?;
+    put(queue, Vertex::Router(2), 30)?;
+    put(queue, Vertex::Router(2), 5)?;
+    put(queue, Vertex::Network(9), 20)?;
+    put(queue, Vertex::Network(7), 10)
 }
 
 // Whether they leave in turn.
 fn leave(queue: &mut Queue) -> bool {
-    let nearest = queue.take() == Some((Vertex::Router(2), 5));
-    let networks = queue.take() == Some((Vertex::Network(7), 10))
-        && queue.take() == Some((Vertex::Network(9), 10));
-    let last = queue.take() == Some((Vertex::Router(1), 10)) && queue.take().is_none();
+    let nearest = leaves(queue, Vertex::Router(2), 5);
+    let networks = leaves(queue, Vertex::Network(7), 10) && leaves(queue, Vertex::Network(9), 10);
+    let last = leaves(queue, Vertex::Router(1), 10) && queue.take().is_none();
     nearest && networks && last
 }
 
 fn enter_and_leave(queue: &mut Queue) -> Result<bool, Memory> {
     fill(queue)?;
-    let put = queue.len() == 4 && queue.get(Vertex::Router(2)) == Some(5);
+    let put = queue.len() == 4 && queue.get(&Placed::nowhere(Vertex::Router(2))) == Some(5);
     Ok(leave(queue) && put)
 }
 
@@ -38,11 +50,11 @@ fn the_nearest_leaves_first_and_networks_before_routers(rt: HostRuntime) -> Resu
 }
 
 fn clears(queue: &mut Queue) -> Result<bool, Memory> {
-    queue.put(Vertex::Router(1), 1)?;
+    put(queue, Vertex::Router(1), 1)?;
     queue.clear();
     let cleared = queue.is_empty() && queue.take().is_none();
-    queue.put(Vertex::Router(1), 2)?;
-    Ok(cleared && queue.take() == Some((Vertex::Router(1), 2)))
+    put(queue, Vertex::Router(1), 2)?;
+    Ok(cleared && leaves(queue, Vertex::Router(1), 2))
 }
 
 #[test]

@@ -183,6 +183,13 @@ module _ (rows : RowList) (v : Vertex) (ends : Option (List End)) (old new : Sta
         (λ (other : w ≢ v). subst (λ (o : Option (List End)). Contains (ends_or (row_ends rows w)) e ↔ Contains (ends_or o) e) (sym (other_ends w other)) (before.named u w (λ t. apart (within u t)) e at)) (one_or_other w v);
   }
 
+-- another list of the same vertices
+pub touched_alike : (before after : Leading) (touched touched_new : List Vertex) → AreTouched before after touched → ((v : Vertex) → Contains touched_new v ↔ Contains touched v) → AreTouched before after touched_new
+touched_alike before after touched touched_new are same = record {
+  own = λ v apart. are.own v (λ t. apart ((same v).1 t));
+  named = λ v w apart. are.named v w (λ t. apart ((same v).1 t));
+}
+
 pub touched_none : (rows : RowList) (touched : List Vertex) → AreTouched (row_ends rows) (ends_after rows []) touched
 touched_none rows touched = record {
   own = λ v apart. refl;

@@ -5,6 +5,7 @@ pub mod Changed
 pub mod Metrics
 pub mod Outcomes
 pub mod Gathered
+pub mod VerticesOnce
 pub mod Deciding
 pub mod GraphViews
 pub use Rattle.graph_links.proofs.VertexTests

@@ -16,6 +16,9 @@ use ospf_types::memory::Memory;
 use std::alloc::Global;
 use std::cmp::Ordering;
 
+// So many links of an LSA, or routers, are usual.
+const USUAL: usize = 16;
+
 /// Where the links of the vertex's LSA lead, in order, each once.
 pub(crate) fn ends_of(alloc: Global, vertex: Vertex, lsa: &Checked) -> Result<Vec<End>, Memory>
     ensures { IfOk result (λ ends. AreEnds vertex lsa.now.body ends.items) }
@@ -33,7 +36,7 @@ pub(crate) fn ends_of(alloc: Global, vertex: Vertex, lsa: &Checked) -> Result<Ve
 fn router_ends(alloc: Global, lsa: &Checked) -> Result<Vec<End>, Memory>
     ensures { IfOk result (λ ends. ends.items ≡ filter_map end_of_listed (links_of lsa.now.body)) }
 {
-    let mut ends = Vec::new(alloc);
+    let mut ends = Vec::with_capacity(alloc, USUAL)?;
     for link in lsa.links() {
         if let Some(end) = end_of(link) {
             ends.push(end)?;
@@ -62,7 +65,7 @@ fn end_of(link: Link) -> Option<End>
 fn network_ends(alloc: Global, lsa: &Checked) -> Result<Vec<End>, Memory>
     ensures { IfOk result (λ ends. ends.items ≡ list_map listed_end (routers_of lsa.now.body)) }
 {
-    let mut ends = Vec::new(alloc);
+    let mut ends = Vec::with_capacity(alloc, USUAL)?;
     for router in lsa.routers() {
         ends.push(End {
             to: Vertex::Router(router),

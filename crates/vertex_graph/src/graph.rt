@@ -1,13 +1,14 @@
 //! The graph of an area: the vertices that are there, and their links.
-ghost use Rattle.std.specs.Prelude.{◌≡◌, ◌≢◌, ◌↔◌, [], ◌∷◌, IsTrue, OnOk, OnErr, IfOk, option_map};
+ghost use Rattle.std.specs.Prelude.{◌≡◌, ◌≢◌, ◌↔◌, [], ◌∷◌, IsTrue, OnOk, OnErr, IfOk, option_copied, option_map};
 ghost use Rattle.std.specs.List.{AllPairs};
 ghost use Rattle.std.specs.FinMap as map;
+ghost use Rattle.ospf_types.specs.Vertices.{vertex_cmp};
 ghost use Rattle.vertex_graph.specs.Graphs.{HasRoot, AreLinksFrom, AreLinksTo, HasFewRouters, HasCheapLinks, handed_of, AreApartHanded, AreFewAfter, IsReplaced, AreExact, HasEnds};
 ghost use Rattle.graph_links.specs.Pairs.{AreCheap};
 
 use crate::change::change;
-use crate::staging::{stage, stage_root};
-use graph_links::{Link, LinkChanges, Local, Rows, Up};
+use crate::staging::{Staging, stage, stage_root};
+use graph_links::{Link, LinkChanges, Local, Room, Row, Rows, Up};
 use indexmap::IndexMap;
 use lsa_codec::Checked;
 use ospf_types::entry::Vertex;
@@ -15,13 +16,16 @@ use ospf_types::memory::Memory;
 use std::alloc::Global;
 use std::hash::RandomState;
 use std::marker::Model;
+use vertex_map::Placed;
 use word_hash::WordHash;
 
-/// The graph of an area, as far as LSAs and interfaces were handed in.
+/// The graph of an area, as far as LSAs and interfaces were handed in, with memory that one change leaves to the next.
 pub struct Graph {
     root: u32,
     rows: Rows,
     interfaces: Vec<Up>,
+    staging: Staging,
+    room: Room,
 }
 
 // proof: one call drops it, in place of a drop of each part wherever one is held.
@@ -31,6 +35,8 @@ impl Drop for Graph {
             root: _,
             rows: _rows,
             interfaces: _interfaces,
+            staging: _staging,
+            room: _room,
         } = self;
     }
 }
@@ -57,10 +63,13 @@ impl Graph {
     pub fn new(alloc: Global, root: u32, hashing: RandomState) -> Graph
         ensures { result ≡ record { root = root; ends = map.empty; interfaces = [] } }
     {
+        let hashing = WordHash::new(hashing);
         Graph {
             root,
-            rows: IndexMap::with_hasher(alloc, WordHash::new(hashing)),
+            rows: IndexMap::with_hasher(alloc, hashing),
             interfaces: Vec::new(alloc),
+            staging: Staging::new(alloc, hashing),
+            room: Room::new(alloc),
         }
     }
 
@@ -112,6 +121,30 @@ impl Graph {
         }
     }
 
+    /// The same as `links_from` of a vertex that is looked for at its place first.
+    pub fn links_out_of(&self, vertex: &Placed) -> &[Link]
+        ensures exact { AreLinksFrom self.now vertex.now result.now }
+        ensures each_once { AllPairs (λ k l. k ≢ l) result.now }
+        ensures cheap { AreCheap result.now }
+    {
+        match row_at(&self.rows, vertex) {
+            Some(row) => &row.out,
+            None => &[],
+        }
+    }
+
+    /// The same as `links_to` of a vertex that is looked for at its place first.
+    pub fn links_into(&self, vertex: &Placed) -> &[Link]
+        ensures exact { AreLinksTo self.now vertex.now result.now }
+        ensures each_once { AllPairs (λ k l. k ≢ l) result.now }
+        ensures cheap { AreCheap result.now }
+    {
+        match row_at(&self.rows, vertex) {
+            Some(row) => &row.into,
+            None => &[],
+        }
+    }
+
     /// Puts the LSA of each vertex in the place of what it had, and takes out the vertices without one.
     /// Answers the links that went and came. They are usable LSAs (below MaxAge), and for a network that of the
     /// greatest Advertising Router. Where memory is refused, the graph stays as it was.
@@ -126,12 +159,12 @@ impl Graph {
         ensures unchanged { OnErr result (self.new ≡ self.old) }
     {
         let alloc = *self.interfaces.allocator();
-        let staging = stage(alloc, &self.rows, lsas)?;
+        stage(alloc, &self.rows, lsas, &mut self.staging)?;
         let local = Local {
             root: self.root,
             interfaces: &self.interfaces,
         };
-        let changes = change(alloc, &mut self.rows, local, &staging)?;
+        let changes = change(alloc, &mut self.rows, local, &self.staging, &mut self.room)?;
         Ok(changes)
     }
 
@@ -156,13 +189,23 @@ impl Graph {
     {
         let alloc = *self.interfaces.allocator();
         let ups = Vec::from_slice(alloc, interfaces)?;
-        let staging = stage_root(alloc, &self.rows, self.root)?;
+        stage_root(alloc, &self.rows, self.root, &mut self.staging)?;
         let local = Local {
             root: self.root,
             interfaces: &ups,
         };
-        let changes = change(alloc, &mut self.rows, local, &staging)?;
+        let changes = change(alloc, &mut self.rows, local, &self.staging, &mut self.room)?;
         self.interfaces = ups;
         Ok(changes)
+    }
+}
+
+// The vertex's row. Where another's is at the vertex's place, it is looked up by its hash.
+fn row_at<'a>(rows: &'a Rows, vertex: &Placed) -> Option<&'a Row>
+    ensures { option_copied result ≡ map.find vertex_cmp vertex.now rows.now.entries }
+{
+    match rows.get_index(vertex.place()) {
+        Some((at, row)) if *at == vertex.vertex() => Some(row),
+        _ => rows.get(&vertex.vertex()),
     }
 }

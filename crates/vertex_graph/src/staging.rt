@@ -1,5 +1,6 @@
 //! What is handed in, before anything changes.
-ghost use Rattle.std.specs.Prelude.{◌≡◌, ◌↔◌, ◌⊎◌, None, [], IsTrue, OnOk, IfOk, Contains, option_map};
+ghost use Rattle.std.specs.Prelude.{◌≡◌, ◌≢◌, ◌↔◌, ◌⊎◌, None, [], IsTrue, OnOk, IfOk, Contains, option_map};
+ghost use Rattle.std.specs.List.{AllPairs};
 ghost use Rattle.std.specs.FinMap.{find};
 ghost use Rattle.ospf_types.specs.declared.entry.Vertex.{Vertex as VertexValue};
 ghost use Rattle.ospf_types.specs.declared.entry.Vertex.TheVariants.{Router};
@@ -11,21 +12,19 @@ ghost use Rattle.vertex_graph.specs.Stagings.{IsHandedIn, IsGivenEnds, IsStaged,
 
 use crate::ends::ends_of;
 use graph_links::{End, Rows, StagedEnds, row_ends, slice_of, slice_or_none};
-use indexmap::{IndexMap, IndexSet};
+use indexmap::IndexMap;
 use lsa_codec::Checked;
 use ospf_types::entry::Vertex;
 use ospf_types::memory::Memory;
 use std::alloc::Global;
 use word_hash::WordHash;
 
-/// The vertices whose rows may change.
-pub(crate) type Touched = IndexSet<Vertex, WordHash>;
-
 /// Where the vertices lead that are handed in and lead elsewhere than before, and the vertices whose rows may
-/// change by that: those, and what they cease or begin to lead to, or lead to otherwise.
+/// change by that: those, and what they cease or begin to lead to, or lead to otherwise. It is filled anew by each
+/// change.
 pub(crate) struct Staging {
     pub(crate) ends: StagedEnds,
-    pub(crate) touched: Touched,
+    pub(crate) touched: Vec<Vertex>,
 }
 
 // proof: one call drops it, in place of a drop of each part wherever one is held.
@@ -33,64 +32,69 @@ impl Drop for Staging {
     fn drop(self) {
         let Staging {
             ends: _ends,
-            touched: _,
+            touched: _touched,
         } = self;
     }
 }
+
+// So many vertices are searched one by one, and the memory for them is kept.
+const FEW: usize = 8;
 
 impl Staging {
     /// Nothing handed in.
     pub(crate) fn new(alloc: Global, hashing: WordHash) -> Staging
         ensures ends { result.ends.entries ≡ [] }
-        ensures touched { result.touched.keys ≡ [] }
+        ensures touched { result.touched.items ≡ [] }
     {
         Staging {
             ends: IndexMap::with_hasher(alloc, hashing),
-            touched: IndexSet::with_hasher(alloc, hashing),
+            touched: Vec::new(alloc),
+        }
+    }
+
+    // Takes out what was handed in before, and gives back the memory of many.
+    fn clear(&mut self, alloc: Global)
+        ensures ends { self.new.ends.entries ≡ [] }
+        ensures touched { self.new.touched.items ≡ [] }
+    {
+        if self.ends.len() > FEW {
+            *self = Staging::new(alloc, *self.ends.hasher());
+        } else {
+            self.ends.clear();
+            self.touched.clear();
         }
     }
 }
 
-/// Where the vertices lead that are handed in, each with its LSA or with none, and what that touches.
+/// Stages where the vertices lead that are handed in, each with its LSA or with none, and what that touches, each once.
 pub(crate) fn stage(
     alloc: Global,
     rows: &Rows,
     lsas: &[(Vertex, Option<&Checked>)],
-) -> Result<Staging, Memory>
+    staging: &mut Staging,
+) -> Result<(), Memory>
     requires apart { AreApartHanded (handed_of lsas.now) }
-    ensures handed { IfOk result (λ staging. IsHandedIn (row_ends rows.now.entries) (ends_after rows.now.entries staging.ends.entries)
+    ensures handed { OnOk result (IsHandedIn (row_ends rows.now.entries) (ends_after rows.now.entries staging.new.ends.entries)
         (handed_of lsas.now)) }
-    ensures touched { IfOk result (λ staging. AreTouched (row_ends rows.now.entries) (ends_after rows.now.entries staging.ends.entries) staging.touched.keys) }
+    ensures touched { OnOk result (AreTouched (row_ends rows.now.entries) (ends_after rows.now.entries staging.new.ends.entries) staging.new.touched.items) }
+    ensures once { OnOk result (AllPairs (λ v w. v ≢ w) staging.new.touched.items) }
 {
-    let mut staging = begin(alloc, rows, lsas)?;
+    staging.clear(alloc);
     for (vertex, lsa) in lsas {
         let ends = given_ends(alloc, *vertex, *lsa)?;
-        stage_one(rows, *vertex, ends, &mut staging)?;
+        stage_one(rows, *vertex, ends, staging)?;
     }
-    Ok(staging)
-}
-
-// So many vertices that are handed in at one time are mostly new.
-const MANY: usize = 16;
-
-// Nothing handed in yet. Many vertices are touched at once, and so those that are new get their rows in the order in which they
-// are staged.
-fn begin(alloc: Global, rows: &Rows, lsas: &[(Vertex, Option<&Checked>)]) -> Result<Staging, Memory>
-    ensures { IfOk result (λ staging. staging.ends.entries ≡ []) }
-{
-    let mut staging = Staging::new(alloc, *rows.hasher());
-    if lsas.len() >= MANY {
-        touch_all(lsas, &mut staging.touched)?;
-    }
-    Ok(staging)
-}
-
-// Touches all vertices that are handed in.
-fn touch_all(lsas: &[(Vertex, Option<&Checked>)], touched: &mut Touched) -> Result<(), Memory> {
-    for (vertex, _) in lsas {
-        touched.insert(*vertex)?;
-    }
+    keep_once(&mut staging.touched);
     Ok(())
+}
+
+// Keeps each vertex once.
+fn keep_once(touched: &mut Vec<Vertex>)
+    ensures same { (v : VertexValue) → Contains touched.new.items v ↔ Contains touched.old.items v }
+    ensures once { AllPairs (λ v w. v ≢ w) touched.new.items }
+{
+    touched.sort_unstable();
+    touched.dedup();
 }
 
 // Where the vertex leads by its LSA, none where the LSA goes.
@@ -118,9 +122,9 @@ fn stage_one(
     staging: &mut Staging,
 ) -> Result<(), Memory>
     requires new { find vertex_cmp vertex staging.old.ends.entries ≡ None }
-    requires touched { AreTouched (row_ends rows.now.entries) (ends_after rows.now.entries staging.old.ends.entries) staging.old.touched.keys }
+    requires touched { AreTouched (row_ends rows.now.entries) (ends_after rows.now.entries staging.old.ends.entries) staging.old.touched.items }
     ensures ends { OnOk result (IsStaged rows.now.entries vertex (option_map (λ e. e.items) ends) staging.old.ends.entries staging.new.ends.entries) }
-    ensures touched { OnOk result (AreTouched (row_ends rows.now.entries) (ends_after rows.now.entries staging.new.ends.entries) staging.new.touched.keys) }
+    ensures touched { OnOk result (AreTouched (row_ends rows.now.entries) (ends_after rows.now.entries staging.new.ends.entries) staging.new.touched.items) }
 {
     let before = row_ends(rows, vertex);
     let after = slice_of(&ends);
@@ -153,23 +157,23 @@ fn touch_both(
     vertex: Vertex,
     before: &[End],
     after: &[End],
-    touched: &mut Touched,
+    touched: &mut Vec<Vertex>,
 ) -> Result<(), Memory>
-    ensures own { OnOk result (Contains touched.new.keys vertex) }
-    ensures kept { OnOk result (IsWithin touched.old.keys touched.new.keys) }
-    ensures gone { OnOk result (TouchesOthers before.now after.now touched.new.keys) }
-    ensures came { OnOk result (TouchesOthers after.now before.now touched.new.keys) }
+    ensures own { OnOk result (Contains touched.new.items vertex) }
+    ensures kept { OnOk result (IsWithin touched.old.items touched.new.items) }
+    ensures gone { OnOk result (TouchesOthers before.now after.now touched.new.items) }
+    ensures came { OnOk result (TouchesOthers after.now before.now touched.new.items) }
 {
-    touched.insert(vertex)?;
+    touch_vertex(vertex, touched)?;
     touch(before, after, touched)?;
     touch(after, before, touched)?;
     Ok(())
 }
 
 // Touches the vertices at those ends that are not among others.
-fn touch(ends: &[End], others: &[End], touched: &mut Touched) -> Result<(), Memory>
-    ensures kept { OnOk result (IsWithin touched.old.keys touched.new.keys) }
-    ensures others { OnOk result (TouchesOthers ends.now others.now touched.new.keys) }
+fn touch(ends: &[End], others: &[End], touched: &mut Vec<Vertex>) -> Result<(), Memory>
+    ensures kept { OnOk result (IsWithin touched.old.items touched.new.items) }
+    ensures others { OnOk result (TouchesOthers ends.now others.now touched.new.items) }
 {
     for (place, end) in ends.iter().enumerate() {
         touch_end(*end, place, others, touched)?;
@@ -178,15 +182,43 @@ fn touch(ends: &[End], others: &[End], touched: &mut Touched) -> Result<(), Memo
 }
 
 // Touches the vertex at the end, unless the end is among others, where it mostly has the place that it has here.
-fn touch_end(end: End, place: usize, others: &[End], touched: &mut Touched) -> Result<(), Memory>
-    ensures kept { OnOk result (IsWithin touched.old.keys touched.new.keys) }
-    ensures other { OnOk result (Contains others.now end ⊎ Contains touched.new.keys end.to) }
+fn touch_end(
+    end: End,
+    place: usize,
+    others: &[End],
+    touched: &mut Vec<Vertex>,
+) -> Result<(), Memory>
+    ensures kept { OnOk result (IsWithin touched.old.items touched.new.items) }
+    ensures other { OnOk result (Contains others.now end ⊎ Contains touched.new.items end.to) }
 {
     if has_at(others, place, end) || has_end(others, end) {
         return Ok(());
     }
-    touched.insert(end.to)?;
+    touch_vertex(end.to, touched)
+}
+
+// Touches the vertex. Of many some may be touched again, and are left out in the end.
+fn touch_vertex(vertex: Vertex, touched: &mut Vec<Vertex>) -> Result<(), Memory>
+    ensures own { OnOk result (Contains touched.new.items vertex) }
+    ensures kept { OnOk result (IsWithin touched.old.items touched.new.items) }
+{
+    if touched.len() <= FEW && is_touched(vertex, touched) {
+        return Ok(());
+    }
+    touched.push(vertex)?;
     Ok(())
+}
+
+// Whether the vertex is touched.
+fn is_touched(vertex: Vertex, touched: &[Vertex]) -> bool
+    ensures { IsTrue result → Contains touched.now vertex }
+{
+    for other in touched {
+        if *other == vertex {
+            return true;
+        }
+    }
+    false
 }
 
 // Whether the end has this place among ends.
@@ -213,15 +245,22 @@ fn has_end(ends: &[End], end: End) -> bool
     ends.binary_search(&end).is_ok()
 }
 
-/// The root and what it leads to: what the area's interfaces touch.
-pub(crate) fn stage_root(alloc: Global, rows: &Rows, root: u32) -> Result<Staging, Memory>
-    ensures ends { IfOk result (λ staging. staging.ends.entries ≡ []) }
-    ensures root { IfOk result (λ staging. Contains staging.touched.keys (Router root)) }
-    ensures neighbours { IfOk result (λ staging. (v : VertexValue) → Names (ends_or (row_ends rows.now.entries (Router root))) v → Contains staging.touched.keys v) }
+/// Stages nothing but the root and what it leads to as touched: what the area's interfaces touch.
+pub(crate) fn stage_root(
+    alloc: Global,
+    rows: &Rows,
+    root: u32,
+    staging: &mut Staging,
+) -> Result<(), Memory>
+    ensures ends { OnOk result (staging.new.ends.entries ≡ []) }
+    ensures root { OnOk result (Contains staging.new.touched.items (Router root)) }
+    ensures neighbours { OnOk result ((v : VertexValue) → Names (ends_or (row_ends rows.now.entries (Router root))) v → Contains staging.new.touched.items v) }
+    ensures once { OnOk result (AllPairs (λ v w. v ≢ w) staging.new.touched.items) }
 {
-    let mut staging = Staging::new(alloc, *rows.hasher());
+    staging.clear(alloc);
     let vertex = Vertex::Router(root);
     let ends = slice_or_none(row_ends(rows, vertex));
     touch_both(vertex, ends, &[], &mut staging.touched)?;
-    Ok(staging)
+    keep_once(&mut staging.touched);
+    Ok(())
 }

@@ -2,12 +2,13 @@
 ghost use Rattle.std.specs.Prelude.{◌≡◌};
 
 use ospf_types::entry::Vertex;
+use std::default::MadeWith;
 use std::fmt;
 use std::fmt::{Debug, Formatter};
 use std::marker::Model;
 
-// Where no entry stands.
-const NOWHERE: u32 = u32::MAX;
+/// Where no entry stands.
+pub(crate) const NOWHERE: u32 = u32::MAX;
 
 /// A vertex, and the place where it is looked for first.
 #[derive(Drop)]
@@ -77,9 +78,9 @@ impl Placed {
         self.vertex
     }
 
-    // The same as the number that it was made with.
+    /// The number of its place, which it was made with.
     #[inline]
-    pub(crate) fn number(&self) -> u32 {
+    pub fn number(&self) -> u32 {
         self.place
     }
 
@@ -87,6 +88,13 @@ impl Placed {
     #[inline]
     pub fn place(&self) -> usize {
         self.place as usize
+    }
+}
+
+/// Fills the places of a collection that hold no vertex.
+impl<A: Drop> MadeWith<A> for Placed {
+    fn made_with(_alloc: A) -> Placed {
+        Placed::nowhere(Vertex::Router(0))
     }
 }
 

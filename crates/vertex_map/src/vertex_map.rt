@@ -4,16 +4,13 @@ ghost use Rattle.std.specs.FinMap as map;
 ghost use Rattle.vertex_map.specs.Values.{values_of, with_value, inner, IsAt};
 ghost use Rattle.ospf_types.specs.declared.entry.Vertex.{Vertex};
 
-use crate::placed::Placed;
+use crate::placed::{NOWHERE, Placed};
 use indexmap::IndexMap;
 use ospf_types::entry::Vertex;
 use ospf_types::memory::Memory;
 use std::alloc::Global;
 use std::marker::Model;
 use word_hash::WordHash;
-
-// Of fewer entries, those without a value are kept.
-const MANY: usize = 64;
 
 /// Values by vertex. A look-up reads the entry at the vertex's place. Where that is another's, the
 /// vertex is looked up by its hash.
@@ -146,6 +143,19 @@ impl<V: Drop> VertexMap<V> {
         self.len = 0;
     }
 
+    /// Gives up the entries that have no value, where there are more than so many entries. They are kept
+    /// for their places, so whoever owns the map calls this now and then with the number of vertices
+    /// that there may be.
+    pub fn trim(&mut self, most: usize)
+        ensures { self.new ≡ self.old }
+    {
+        // Where all have a value there is nothing to give up.
+        if self.entries.len() > most.max(self.len) {
+            tidy(&mut self.entries);
+            settle_all(&mut self.entries);
+        }
+    }
+
     // The same as `insert`, by the vertex's hash. Its entry has the place from then on, or waits for it
     // where it is beyond all entries.
     fn put(&mut self, vertex: Vertex, number: u32, value: V) -> Result<(), Memory>
@@ -153,11 +163,26 @@ impl<V: Drop> VertexMap<V> {
         ensures err { OnErr result (self.new ≡ self.old) }
     {
         let len = self.len();
-        make_room(&mut self.entries, vertex, len);
+        let number = known_number(&self.entries, vertex, number);
         let (index, was) = self.entries.insert_full(vertex, (number, Some(value)))?;
         self.len = counted(len, is_value(&was));
         settle(&mut self.entries, index, number as usize);
         Ok(())
+    }
+}
+
+// The number, or where it is that of no place the one that the vertex's entry has.
+fn known_number<V>(
+    entries: &IndexMap<Vertex, (u32, Option<V>), WordHash>,
+    vertex: Vertex,
+    number: u32,
+) -> u32 {
+    if number != NOWHERE {
+        return number;
+    }
+    match entries.get(&vertex) {
+        Some(kept) => kept.0,
+        None => NOWHERE,
     }
 }
 
@@ -280,20 +305,6 @@ fn is_home<V>(entries: &IndexMap<Vertex, (u32, Option<V>), WordHash>, place: usi
     }
 }
 
-// Gives up the entries that have no value, where they are most of many and the vertex has no entry.
-fn make_room<V: Drop>(
-    entries: &mut IndexMap<Vertex, (u32, Option<V>), WordHash>,
-    vertex: Vertex,
-    values: usize,
-)
-    ensures { values_of entries.new.entries ≡ values_of entries.old.entries }
-{
-    if is_sparse(values, entries.len()) && !entries.contains_key(&vertex) {
-        tidy(entries);
-        settle_all(entries);
-    }
-}
-
 // Each entry goes to its place.
 fn settle_all<V>(entries: &mut IndexMap<Vertex, (u32, Option<V>), WordHash>)
     ensures { values_of entries.new.entries ≡ values_of entries.old.entries }
@@ -311,11 +322,6 @@ fn tidy<V: Drop>(entries: &mut IndexMap<Vertex, (u32, Option<V>), WordHash>)
     // proof: no vertex has two entries.
     let _ = entries.len();
     entries.retain(|_, kept| kept.1.is_some());
-}
-
-// Whether of many entries fewer than half have a value.
-fn is_sparse(values: usize, entries: usize) -> bool {
-    entries >= MANY && values < entries / 2
 }
 
 fn is_value<V>(was: &Option<(u32, Option<V>)>) -> bool

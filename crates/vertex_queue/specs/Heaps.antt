@@ -1,54 +1,47 @@
--- The parts of a queue: entries of vertex and distance, and beside them a heap of what was put there.
-use Rattle.std.specs.Prelude.{ℕ, ◌≡◌, ◌≢◌, Bool, true, false, List, Some, slice_get}
+-- The parts of a queue: the distance at which each vertex waits, and beside them a heap of what was put there.
+use Rattle.std.specs.Prelude.{ℕ, ◌%◌, ◌≡◌, ◌≢◌, Bool, true, false, nat_eq, List, Some}
 use Rattle.std.specs.BinaryHeap.{IsHeap}
-use Rattle.std.specs.FinMap.{find}
+use Rattle.std.specs.FinMap.{get}
 use Rattle.std.specs.List.{Contains}
-use Rattle.std.specs.Ordering.{nat_cmp, bool_cmp, ordering_then}
+use Rattle.std.specs.Ordering.{nat_cmp, ordering_then}
 use Rattle.std.specs.declared.cmp.Ordering.{Ordering}
-use Rattle.std.specs.declared.cmp.Ordering.TheVariants.{Greater}
 use Rattle.std.specs.declared.cmp.Reverse.{Reverse}
 use Rattle.ospf_types.specs.declared.entry.Vertex.{Vertex}
 use Rattle.ospf_types.specs.declared.entry.Vertex.TheVariants.{Router, Network}
-use Rattle.ospf_types.specs.Vertices.{vertex_cmp}
 use Rattle.vertex_queue.specs.declared.waiting.Waiting.{Waiting}
-use Rattle.vertex_queue.specs.Queues.{queue_cmp}
+use Rattle.vertex_queue.specs.Queues.{Queue, kind_and_number, rank}
 
--- a vertex at a distance
-abbrev pub waiting : Vertex → ℕ → Waiting
-waiting (Router r) d = record { distance = d; is_router = true; number = r }
-waiting (Network n) d = record { distance = d; is_router = false; number = n }
+-- an entry of the heap is of the vertex at the distance, whatever its place
+abbrev pub IsAt : Waiting → Vertex → ℕ → Type 0
+IsAt w v d = (w.rank ≡ rank v d) × (w.number ≡ (kind_and_number v).1)
 
+-- networks have even ranks
 abbrev pub vertex_of_kind : Bool → ℕ → Vertex
-vertex_of_kind true number = Router number
-vertex_of_kind false number = Network number
+vertex_of_kind true number = Network number
+vertex_of_kind false number = Router number
 
--- the vertex of it
+-- the vertex of an entry
 abbrev pub waiting_vertex : Waiting → Vertex
-waiting_vertex w = vertex_of_kind w.is_router w.number
+waiting_vertex w = vertex_of_kind (nat_eq (w.rank % 2) 0) w.number
 
 -- the order of the heap, whose greatest element comes first
 abbrev pub heap_cmp : Reverse Waiting → Reverse Waiting → Ordering
-heap_cmp x y = ordering_then (nat_cmp y.0.distance x.0.distance) (ordering_then (bool_cmp y.0.is_router x.0.is_router) (nat_cmp y.0.number x.0.number))
+heap_cmp x y = ordering_then (nat_cmp y.0.rank x.0.rank) (ordering_then (nat_cmp y.0.number x.0.number) (nat_cmp y.0.place x.0.place))
 
--- the vertex waits at the distance
-abbrev pub Waits : List (Vertex × ℕ) → Waiting → Type 0
-Waits entries w = find vertex_cmp (waiting_vertex w) entries ≡ Some w.distance
+-- the heap has the vertex at the distance
+abbrev pub Has : List (Reverse Waiting) → Vertex → ℕ → Type 0
+Has heap v d = (w : Waiting) × IsAt w v d × Contains heap (record { 0 = w })
 
--- it stands at the place
-abbrev pub IsAt : List (Vertex × ℕ) → Waiting → ℕ → Type 0
-IsAt entries w place = slice_get entries place ≡ Some (waiting_vertex w, w.distance)
-
--- what the entries and the heap have to do with each other
-pub record AreQueue (entries : List (Vertex × ℕ)) (heap : List (Reverse Waiting)) : Type 0 where
+-- what the distances and the heap have to do with each other
+pub record AreQueue (q : Queue) (heap : List (Reverse Waiting)) : Type 0 where
   pub in_order : IsHeap heap_cmp heap
-  pub held : (w : Waiting) → Waits entries w → Contains heap (record { 0 = w })
+  pub held : (v : Vertex) (d : ℕ) → get q v ≡ Some d → Has heap v d
 
--- it waits, and nothing that waits comes before it
-pub record IsNext (entries : List (Vertex × ℕ)) (first : Waiting) : Type 0 where
-  pub waits : Waits entries first
-  pub none_before : (w : Waiting) → Waits entries w → queue_cmp (first.distance, waiting_vertex first) (w.distance, waiting_vertex w) ≢ Greater
+-- the vertex of the entry does not wait at the distance of the entry
+abbrev pub IsStale : Queue → Waiting → Type 0
+IsStale q w = (v : Vertex) (d : ℕ) → IsAt w v d → get q v ≢ Some d
 
 -- the heap is in order, and has what waits but for one vertex
-pub record HoldsOthers (entries : List (Vertex × ℕ)) (first : Waiting) (heap : List (Reverse Waiting)) : Type 0 where
+pub record HoldsOthers (q : Queue) (first : Vertex) (heap : List (Reverse Waiting)) : Type 0 where
   pub in_order : IsHeap heap_cmp heap
-  pub held : (w : Waiting) → Waits entries w → waiting_vertex w ≢ waiting_vertex first → Contains heap (record { 0 = w })
+  pub held : (v : Vertex) (d : ℕ) → get q v ≡ Some d → v ≢ first → Has heap v d

@@ -1,23 +1,22 @@
-ghost use Rattle.std.specs.Prelude.{◌≡◌, ◌↔◌, [], IfNone, IfSome, OnErr, OnOk, IsTrue};
+ghost use Rattle.std.specs.Prelude.{◌≡◌, ◌↔◌, Some, IfNone, IfSome, OnErr, OnOk, IsTrue, option_copied};
 ghost use Rattle.std.specs.FinMap as map;
 ghost use Rattle.std.specs.BinaryHeap.{heap_items};
-ghost use Rattle.vertex_queue.specs.Heaps.{AreQueue, IsNext, HoldsOthers, Waits, IsAt};
-ghost use Rattle.vertex_queue.specs.Queues.{lessened, IsFirst};
+ghost use Rattle.vertex_queue.specs.Heaps.{AreQueue, HoldsOthers, IsAt, IsStale};
+ghost use Rattle.vertex_queue.specs.Queues.{lessened, waits_within, IsFirst};
 
 use crate::waiting::Waiting;
-use indexmap::IndexMap;
-use indexmap::map::Entry;
 use ospf_types::entry::Vertex;
 use ospf_types::memory::Memory;
 use std::alloc::Global;
 use std::cmp::Reverse;
 use std::collections::BinaryHeap;
 use std::marker::Model;
+use vertex_map::{Placed, VertexMap};
 use word_hash::WordHash;
 
 /// The vertices that wait, each at its distance, a sum of metrics.
 pub struct Queue {
-    distances: IndexMap<Vertex, u32, WordHash>,
+    distances: VertexMap<u32>,
     // Each vertex that waits, at its distance, and others that no longer do.
     order: BinaryHeap<Reverse<Waiting>>,
 }
@@ -45,9 +44,9 @@ impl Model for Queue {
     ghost use Rattle.std.specs.BinaryHeap.{heap_items};
     ghost use Rattle.vertex_queue.specs.Heaps.{AreQueue};
 
-    ghost view = { λ q. map.from_entries q.distances.entries };
+    ghost view = { λ q. q.distances };
 
-    ghost invariant = { λ q. AreQueue q.distances.entries (heap_items q.order) };
+    ghost invariant = { λ q. AreQueue q.distances (heap_items q.order) };
 }
 
 impl Queue {
@@ -56,7 +55,7 @@ impl Queue {
         ensures { result ≡ map.empty }
     {
         Queue {
-            distances: IndexMap::with_hasher(alloc, hashing),
+            distances: VertexMap::new(alloc, hashing),
             order: BinaryHeap::new(alloc),
         }
     }
@@ -76,47 +75,36 @@ impl Queue {
     }
 
     /// At what distance the vertex waits, if it does.
-    pub fn get(&self, vertex: Vertex) -> Option<u32>
-        ensures { result ≡ map.get self.now vertex }
+    pub fn get(&self, vertex: &Placed) -> Option<u32>
+        ensures { result ≡ map.get self.now vertex.now }
     {
-        self.distances.get(&vertex).copied()
+        self.distances.get(vertex).copied()
     }
 
     /// Lets the vertex wait at the distance, unless it waits at that or less already.
-    pub fn put(&mut self, vertex: Vertex, distance: u32) -> Result<(), Memory>
-        ensures put { OnOk result (self.new ≡ lessened self.old vertex distance) }
+    pub fn put(&mut self, vertex: &Placed, distance: u32) -> Result<(), Memory>
+        ensures put { OnOk result (self.new ≡ lessened self.old vertex.now distance) }
         ensures unchanged { OnErr result (self.new ≡ self.old) }
     {
-        match self.distances.entry(vertex)? {
-            Entry::Occupied(mut waits) => {
-                let least = *waits.get();
-                if least <= distance {
-                    return Ok(());
-                }
-                self.order.push(Reverse(Waiting::new(vertex, distance)))?;
-                waits.insert(distance);
-                Ok(())
-            }
-            Entry::Vacant(room) => {
-                self.order.push(Reverse(Waiting::new(vertex, distance)))?;
-                room.insert_entry(distance);
-                Ok(())
-            }
+        if is_within(self.distances.get(vertex), distance) {
+            return Ok(());
         }
+        self.order.push(Reverse(Waiting::new(vertex, distance)))?;
+        self.distances.insert(vertex, distance)?;
+        Ok(())
     }
 
     /// Takes out the vertex that is first: the nearest, of equal distances networks before routers,
-    /// each kind by number. The answer is the vertex and its distance.
-    pub fn take(&mut self) -> Option<(Vertex, u32)>
+    /// each kind by number. The answer is the vertex, with its place, and its distance.
+    pub fn take(&mut self) -> Option<(Placed, u32)>
         ensures none { IfNone result (self.old ≡ map.empty) }
         ensures first { IfSome result (λ p. IsFirst self.old p.0 p.1) }
         ensures rest { IfSome result (λ p. self.new ≡ map.remove self.old p.0) }
         ensures still_none { IfNone result (self.new ≡ map.empty) }
     {
-        let (place, first) = pop_waiting(&mut self.order, &self.distances)?;
-        let vertex = first.vertex();
-        self.distances.swap_remove_index(place);
-        Some((vertex, first.distance))
+        let (vertex, distance) = pop_waiting(&mut self.order, &self.distances)?;
+        self.distances.remove(&vertex);
+        Some((vertex, distance))
     }
 
     /// Takes all vertices out.
@@ -126,42 +114,60 @@ impl Queue {
         self.distances.clear();
         self.order.clear();
     }
+
+    /// Forgets the places of vertices that wait no longer, where there are more than so many. Whoever
+    /// owns the queue calls this now and then with the number of vertices that there may be.
+    pub fn trim(&mut self, most: usize)
+        ensures { self.new ≡ self.old }
+    {
+        self.distances.trim(most);
+    }
+}
+
+// Whether a vertex that waits at this distance, or at none, waits within another.
+fn is_within(least: Option<&u32>, distance: u32) -> bool
+    ensures { result ≡ waits_within (option_copied least.entry) distance }
+{
+    match least {
+        Some(least) => *least <= distance,
+        None => false,
+    }
 }
 
 // Takes the first vertex that waits off the heap, and what comes before it, which waits no longer.
-// The answer begins with its place in the map.
+// The answer is the vertex and its distance.
 fn pop_waiting(
     order: &mut BinaryHeap<Reverse<Waiting>>,
-    distances: &IndexMap<Vertex, u32, WordHash>,
-) -> Option<(usize, Waiting)>
-    requires { AreQueue distances.now.entries (heap_items order.old) }
-    ensures none { IfNone result (distances.now.entries ≡ []) }
-    ensures place { IfSome result (λ p. IsAt distances.now.entries p.1 p.0) }
-    ensures next { IfSome result (λ p. IsNext distances.now.entries p.1) }
-    ensures others { IfSome result (λ p. HoldsOthers distances.now.entries p.1 (heap_items order.new)) }
-    ensures none_kept { IfNone result (AreQueue distances.now.entries (heap_items order.new)) }
+    distances: &VertexMap<u32>,
+) -> Option<(Placed, u32)>
+    requires { AreQueue distances.now (heap_items order.old) }
+    ensures none { IfNone result (distances.now ≡ map.empty) }
+    ensures first { IfSome result (λ p. IsFirst distances.now p.0 p.1) }
+    ensures others { IfSome result (λ p. HoldsOthers distances.now p.0 (heap_items order.new)) }
+    ensures none_kept { IfNone result (AreQueue distances.now (heap_items order.new)) }
 {
     if distances.is_empty() {
         order.clear();
         return None;
     }
     while let Some(Reverse(first)) = order.pop() {
-        if let Some(place) = place_of(distances, first) {
-            return Some((place, first));
+        if let Some(found) = waits(distances, first) {
+            return Some(found);
         }
     }
     None
 }
 
-// The vertex's place in the map, if it waits at the distance.
-fn place_of(distances: &IndexMap<Vertex, u32, WordHash>, entry: Waiting) -> Option<usize>
-    ensures place { IfSome result (λ place. IsAt distances.now.entries entry place) }
-    ensures waits { IfSome result (λ _. Waits distances.now.entries entry) }
-    ensures none { IfNone result (¬ Waits distances.now.entries entry) }
+// The vertex of the entry and its distance, if it waits at that of the entry.
+fn waits(distances: &VertexMap<u32>, entry: Waiting) -> Option<(Placed, u32)>
+    ensures at { IfSome result (λ p. IsAt entry p.0 p.1) }
+    ensures waits { IfSome result (λ p. map.get distances.now p.0 ≡ Some p.1) }
+    ensures none { IfNone result (IsStale distances.now entry) }
 {
-    let (place, _, least) = distances.get_full(&entry.vertex())?;
-    if *least == entry.distance {
-        Some(place)
+    let vertex = entry.vertex();
+    let distance = *distances.get(&vertex)?;
+    if entry.is_at(distance) {
+        Some((vertex, distance))
     } else {
         None
     }

@@ -1,41 +1,52 @@
-ghost use Rattle.std.specs.Prelude.{◌≡◌};
-ghost use Rattle.vertex_queue.specs.Heaps.{waiting, waiting_vertex};
+ghost use Rattle.std.specs.Prelude.{◌≡◌, ◌↔◌, IsTrue};
+ghost use Rattle.vertex_queue.specs.Heaps.{IsAt, waiting_vertex};
+ghost use Rattle.vertex_queue.specs.Queues.{rank};
 
 use ospf_types::entry::Vertex;
+use vertex_map::Placed;
 
-// A vertex at a distance. The derived order is that of the queue.
+// A vertex at a distance, with its place. The derived order is that of the queue.
 #[derive(Clone, Copy, PartialEq, Eq, PartialOrd, Ord)]
 pub(crate) struct Waiting {
-    pub(crate) distance: u32,
-    is_router: bool,
+    // It rises with the distance, and of equal distances from networks to routers.
+    rank: u64,
     number: u32,
+    // Where the vertex is looked for first. It decides nothing, so it is compared last.
+    place: u32,
 }
 
 impl Waiting {
-    pub(crate) fn new(vertex: Vertex, distance: u32) -> Waiting
-        ensures { result ≡ waiting vertex distance }
+    pub(crate) fn new(vertex: &Placed, distance: u32) -> Waiting
+        ensures { IsAt result vertex.now distance }
     {
-        match vertex {
-            Vertex::Router(number) => Waiting {
-                distance,
-                is_router: true,
-                number,
-            },
-            Vertex::Network(number) => Waiting {
-                distance,
-                is_router: false,
-                number,
-            },
+        let place = vertex.number();
+        let (rank, number) = match vertex.vertex() {
+            Vertex::Router(number) => (u64::from(distance) * 2 + 1, number),
+            Vertex::Network(number) => (u64::from(distance) * 2, number),
+        };
+        Waiting {
+            rank,
+            number,
+            place,
         }
     }
 
-    pub(crate) fn vertex(self) -> Vertex
-        ensures { result ≡ waiting_vertex self }
+    // The vertex, with its place.
+    pub(crate) fn vertex(&self) -> Placed
+        ensures { result ≡ waiting_vertex self.now }
     {
-        if self.is_router {
-            Vertex::Router(self.number)
-        } else {
+        let vertex = if self.rank % 2 == 0 {
             Vertex::Network(self.number)
-        }
+        } else {
+            Vertex::Router(self.number)
+        };
+        Placed::new(vertex, self.place)
+    }
+
+    // Whether the distance is that at which the vertex was put there.
+    pub(crate) fn is_at(&self, distance: u32) -> bool
+        ensures { IsTrue result ↔ (self.now.rank ≡ rank (waiting_vertex self.now) distance) }
+    {
+        self.rank / 2 == u64::from(distance)
     }
 }

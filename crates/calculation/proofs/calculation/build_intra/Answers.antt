@@ -14,14 +14,14 @@ area_inputs-requires c = trees_long c.args.state.now c.args.state.now.config.are
 
 pub build-requires : goal.build-requires
 build-requires c =
-    let v : InputsValue = record { root = c.config.result.now.router; areas = c.deref.result.now; interfaces = c.deref-2.result.now } in
+    let v : InputsValue = record { root = c.config.result.now.router; areas = c.deref.result.now; interfaces = c.interfaces.result } in
     let is : v ≡ inputs_with c.args.state.now c.args.trees.now =
-    inputs_made c.args.state.now c.args.trees.now v (ap (λ (k : Config). k.router) c.config.ensures.value) (c.deref.ensures.value ∙ c.in_ok-areas.ensures) (c.deref-2.ensures.value ∙ c.in_ok-interfaces.ensures) in
+    inputs_made c.args.state.now c.args.trees.now v (ap (λ (k : Config). k.router) c.config.ensures.value) (c.deref.ensures.value ∙ c.in_ok-areas.ensures) c.interfaces.ensures in
     subst AreReady (sym is) (ready_of c.args.state.now c.args.trees.now c.requires.trees)
 
 pub returns-clause-routed : goal.returns-clause-routed
 returns-clause-routed c =
-    let v : InputsValue = record { root = c.config.result.now.router; areas = c.deref.result.now; interfaces = c.deref-2.result.now } in
+    let v : InputsValue = record { root = c.config.result.now.router; areas = c.deref.result.now; interfaces = c.interfaces.result } in
     let is : v ≡ inputs_with c.args.state.now c.args.trees.now =
-    inputs_made c.args.state.now c.args.trees.now v (ap (λ (k : Config). k.router) c.config.ensures.value) (c.deref.ensures.value ∙ c.in_ok-areas.ensures) (c.deref-2.ensures.value ∙ c.in_ok-interfaces.ensures) in
+    inputs_made c.args.state.now c.args.trees.now v (ap (λ (k : Config). k.router) c.config.ensures.value) (c.deref.ensures.value ∙ c.in_ok-areas.ensures) c.interfaces.ensures in
     IfOk-weaker c.build.result _ _ (λ intra right. right (inputs_of c.args.state.now) (subst (AreInputsOf (inputs_of c.args.state.now)) (sym is) (inputs_are c.args.state.now c.args.trees.now (c.config.ensures.fit c.requires.apart) c.requires.trees))) c.build.ensures.right

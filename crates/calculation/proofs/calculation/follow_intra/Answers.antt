@@ -15,22 +15,22 @@ area_inputs-requires c = trees_long c.args.state.now c.args.state.now.config.are
 
 pub update-requires-clause-ready : goal.update-requires-clause-ready
 update-requires-clause-ready c =
-    let v : InputsValue = record { root = c.config.result.now.router; areas = c.deref.result.now; interfaces = c.deref-2.result.now } in
+    let v : InputsValue = record { root = c.config.result.now.router; areas = c.deref.result.now; interfaces = c.interfaces.result } in
     let is : v ≡ inputs_with c.args.state.now c.args.trees.now =
-    inputs_made c.args.state.now c.args.trees.now v (ap (λ (k : Config). k.router) c.config.ensures.value) (c.deref.ensures.value ∙ c.in_ok-areas.ensures) (c.deref-2.ensures.value ∙ c.in_ok-interfaces.ensures) in
+    inputs_made c.args.state.now c.args.trees.now v (ap (λ (k : Config). k.router) c.config.ensures.value) (c.deref.ensures.value ∙ c.in_ok-areas.ensures) c.interfaces.ensures in
     subst AreReady (sym is) (ready_of c.args.state.now c.args.trees.now c.requires.trees)
 
 pub update-requires-clause-before : goal.update-requires-clause-before
 update-requires-clause-before c =
-    let v : InputsValue = record { root = c.config.result.now.router; areas = c.deref.result.now; interfaces = c.deref-2.result.now } in
+    let v : InputsValue = record { root = c.config.result.now.router; areas = c.deref.result.now; interfaces = c.interfaces.result } in
     let is : v ≡ inputs_with c.args.state.now c.args.trees.now =
-    inputs_made c.args.state.now c.args.trees.now v (ap (λ (k : Config). k.router) c.config.ensures.value) (c.deref.ensures.value ∙ c.in_ok-areas.ensures) (c.deref-2.ensures.value ∙ c.in_ok-interfaces.ensures) in
+    inputs_made c.args.state.now c.args.trees.now v (ap (λ (k : Config). k.router) c.config.ensures.value) (c.deref.ensures.value ∙ c.in_ok-areas.ensures) c.interfaces.ensures in
     let b = c.requires.before in
     (b.0, b.1, subst (InputsDifferAmong c.args.dirty.now.keys.items c.args.dirty.now.vertices.items c.args.dirty.now.interfaces.items b.0) (sym is) b.2)
 
 pub returns-clause-routed : goal.returns-clause-routed
 returns-clause-routed c =
-    let v : InputsValue = record { root = c.config.result.now.router; areas = c.deref.result.now; interfaces = c.deref-2.result.now } in
+    let v : InputsValue = record { root = c.config.result.now.router; areas = c.deref.result.now; interfaces = c.interfaces.result } in
     let is : v ≡ inputs_with c.args.state.now c.args.trees.now =
-    inputs_made c.args.state.now c.args.trees.now v (ap (λ (k : Config). k.router) c.config.ensures.value) (c.deref.ensures.value ∙ c.in_ok-areas.ensures) (c.deref-2.ensures.value ∙ c.in_ok-interfaces.ensures) in
+    inputs_made c.args.state.now c.args.trees.now v (ap (λ (k : Config). k.router) c.config.ensures.value) (c.deref.ensures.value ∙ c.in_ok-areas.ensures) c.interfaces.ensures in
     on_ok_weaker c.update.result (λ right. right (inputs_of c.args.state.now) (subst (AreInputsOf (inputs_of c.args.state.now)) (sym is) (inputs_are c.args.state.now c.args.trees.now (c.config.ensures.fit c.requires.apart) c.requires.trees))) c.update.ensures.right

@@ -23,7 +23,7 @@ look_up-had-requires-clause-of_kind c = c.loop-candidate.invariant.1.of_kind
 pub loop-candidate-init : goal.loop-candidate-init
 loop-candidate-init c =
     let dests = dests_in c.args.candidates.now in (
-      subst (λ (ms : Metrics). AreComparedTo c.args.inputs.now c.args.area.now c.args.list.now dests ms 0) (sym c.in_ok-metrics.ensures.items)
+      subst (λ (ms : Metrics). AreComparedTo c.args.inputs.now c.args.area.now c.args.list.now dests ms 0) (sym c.new-metrics.ensures.items)
           (none_compared c.args.inputs.now c.args.area.now c.args.list.now dests c.requires.in_order),
       all_left c.args.list.now dests c.requires.list c.requires.kinds,
     )

@@ -4,10 +4,14 @@ use Rattle.std.specs.Prelude.{Contains}
 use Rattle.std.proofs.lemmas.List.{map-append, take_more}
 use Rattle.std.proofs.lemmas.List.Elements.{Contains-append_cases}
 use Rattle.ospf_types.specs.declared.key.Dest.{Dest}
+use Rattle.ospf_types.proofs.Elements.{no_element}
 use Rattle.ospf_types.proofs.InOrder.{only_item}
 use Rattle.dues.specs.declared.giving.Candidate.{Candidate}
 use Rattle.dues.specs.Candidates.{IsCandidateOf, dests_in}
 use Rattle.dues.proofs.dues.find_candidates.Goals as goal
+
+pub loop-dest-init : goal.loop-dest-init
+loop-dest-init c = (ap dests_in c.clear.ensures.items, λ x there. absurd (no_element x (subst (λ (xs : List Candidate). Contains xs x) c.clear.ensures.items there)))
 
 pub loop-dest-preserved : goal.loop-dest-preserved
 loop-dest-preserved c =

@@ -8,7 +8,7 @@ use Rattle.event_core.proofs.routes.other_items.Goals as goal
 pub loop-network-init : goal.loop-network-init
 loop-network-init c =
     let first = others_none c.args.calculation.now c.args.table.now.items c.args.networks.now c.requires in
-    subst (λ (items : List (Prefix × Option Item)). AreOthersTo c.args.calculation.now c.args.table.now.items c.args.networks.now 0 items) (sym c.new-items.ensures.items) first
+    subst (λ (items : List (Prefix × Option Item)). AreOthersTo c.args.calculation.now c.args.table.now.items c.args.networks.now 0 items) (sym c.in_ok-items.ensures.items) first
 
 pub loop-network-preserved : goal.loop-network-preserved
 loop-network-preserved c =

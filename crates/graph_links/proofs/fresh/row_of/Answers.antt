@@ -16,43 +16,44 @@ use Rattle.graph_links.proofs.fresh.row_of.Goals as goal
 pub loop-first-init : goal.loop-first-init
 loop-first-init c =
     let L = LinksIn c.args.side in
-    let v = c.args.vertex in
+    let v = c.args.all.vertex in
     record {
+      ends = c.in_ok-copy_ends.ensures;
       within = omega arith;
-      cut = cut_none c.args.ends.now;
-      out = walked_none (IsLinkOut L v) (λ (k : Link). k.to) c.args.ends.now c.in_ok-out.out.items c.in_ok-out.ensures.items;
-      into = walked_none (IsLinkInto L v) (λ (k : Link). k.from) c.args.ends.now c.in_ok-into.into.items c.in_ok-into.ensures.items;
-      out_cheap = subst AreCheap (sym c.in_ok-out.ensures.items) (All-nil (λ (l : Link). l.cost < 65536));
-      into_cheap = subst AreCheap (sym c.in_ok-into.ensures.items) (All-nil (λ (l : Link). l.cost < 65536));
-      out_once = subst AreApart (sym c.in_ok-out.ensures.items) apart_nil;
-      into_once = subst AreApart (sym c.in_ok-into.ensures.items) apart_nil;
+      cut = cut_none c.args.all.ends.now;
+      out = walked_none (IsLinkOut L v) (λ (k : Link). k.to) c.args.all.ends.now c.empty.new.list.items c.in_ok-empty.ensures.items;
+      into = walked_none (IsLinkInto L v) (λ (k : Link). k.from) c.args.all.ends.now c.empty-2.new.list.items c.in_ok-empty-2.ensures.items;
+      out_cheap = subst AreCheap (sym c.in_ok-empty.ensures.items) (All-nil (λ (l : Link). l.cost < 65536));
+      into_cheap = subst AreCheap (sym c.in_ok-empty-2.ensures.items) (All-nil (λ (l : Link). l.cost < 65536));
+      out_once = subst AreApart (sym c.in_ok-empty.ensures.items) apart_nil;
+      into_once = subst AreApart (sym c.in_ok-empty-2.ensures.items) apart_nil;
     }
 
 pub past_from-past-requires-clause-split : goal.past_from-past-requires-clause-split
 past_from-past-requires-clause-split c =
-    let ends : List End = c.args.ends.now in
+    let ends : List End = c.args.all.ends.now in
     let i = c.loop-first.first in
-    let sorted : IsStrictlySortedBy end_cmp ends = subst (IsStrictlySortedBy end_cmp) (sym c.requires.ends) (c.requires.in_order c.args.vertex) in
+    let sorted : IsStrictlySortedBy end_cmp ends = subst (IsStrictlySortedBy end_cmp) (sym c.requires.ends) (c.requires.in_order c.args.all.vertex) in
     cut_first ends i (listed_end 0) (get_or ends i (listed_end 0)).to sorted c.loop-first.invariant.cut c.loop-first-test.true refl
 
 pub push_both-requires-clause-own : goal.push_both-requires-clause-own
 push_both-requires-clause-own c =
-    let ends : List End = c.args.ends.now in
+    let ends : List End = c.args.all.ends.now in
     let i = c.loop-first.first in
     let to : Vertex = (get_or ends i (listed_end 0)).to in
     let past = c.past_from-past.result in
-    let sorted : IsStrictlySortedBy end_cmp ends = subst (IsStrictlySortedBy end_cmp) (sym c.requires.ends) (c.requires.in_order c.args.vertex) in
+    let sorted : IsStrictlySortedBy end_cmp ends = subst (IsStrictlySortedBy end_cmp) (sym c.requires.ends) (c.requires.in_order c.args.all.vertex) in
     let low : IsFirst to ends i = cut_first ends i (listed_end 0) to sorted c.loop-first.invariant.cut c.loop-first-test.true refl in
     let all : AreAllAt to ends (slice_range ends i past) = all_at to ends i past (listed_end 0) c.loop-first-test.true refl c.past_from-past.ensures.within low c.past_from-past.ensures.split sorted in
     subst (λ (es : List End). AreAllAt to es (slice_range ends i past)) c.requires.ends all
 
 pub loop-first-smaller : goal.loop-first-smaller
 loop-first-smaller c =
-    let ends : List End = c.args.ends.now in
+    let ends : List End = c.args.all.ends.now in
     let i = c.loop-first.first in
     let to : Vertex = (get_or ends i (listed_end 0)).to in
     let past = c.past_from-past.result in
-    let sorted : IsStrictlySortedBy end_cmp ends = subst (IsStrictlySortedBy end_cmp) (sym c.requires.ends) (c.requires.in_order c.args.vertex) in
+    let sorted : IsStrictlySortedBy end_cmp ends = subst (IsStrictlySortedBy end_cmp) (sym c.requires.ends) (c.requires.in_order c.args.all.vertex) in
     let low : IsFirst to ends i = cut_first ends i (listed_end 0) to sorted c.loop-first.invariant.cut c.loop-first-test.true refl in
     let on : i < past = goes_on to ends i past (listed_end 0) c.loop-first-test.true refl c.past_from-past.ensures.within low c.past_from-past.ensures.split in
     let lt : i < length ends = c.loop-first-test.true in
@@ -63,8 +64,8 @@ loop-first-smaller c =
 pub loop-first-preserved : goal.loop-first-preserved
 loop-first-preserved c =
     let L = LinksIn c.args.side in
-    let v = c.args.vertex in
-    let ends : List End = c.args.ends.now in
+    let v = c.args.all.vertex in
+    let ends : List End = c.args.all.ends.now in
     let i = c.loop-first.first in
     let to : Vertex = (get_or ends i (listed_end 0)).to in
     let past = c.past_from-past.result in
@@ -72,10 +73,11 @@ loop-first-preserved c =
     let low : IsFirst to ends i = cut_first ends i (listed_end 0) to sorted c.loop-first.invariant.cut c.loop-first-test.true refl in
     let within = c.past_from-past.ensures.within in
     let names = names_more to ends i past (listed_end 0) c.loop-first-test.true refl within low c.past_from-past.ensures.split in
-    let out : List Link = c.loop-first.out.items in
-    let into : List Link = c.loop-first.into.items in
+    let out : List Link = c.loop-first.row.out.items in
+    let into : List Link = c.loop-first.row.into.items in
     let pushed = c.in_ok-push_both.ensures in
     record {
+      ends = c.loop-first.invariant.ends;
       within = within;
       cut = cut_past to ends past c.past_from-past.ensures.split;
       out = walked_more (IsLinkOut L v) (λ (k : Link). k.to) ends to i past out c.push_both.new.out.items (λ (l : Link). IsOutTo L v l to) names (λ l. (λ h. ((h.0, h.2), h.1), λ h. (h.0.0, h.1, h.0.1))) pushed.out c.loop-first.invariant.out;
@@ -90,13 +92,13 @@ pub returns-clause-links : goal.returns-clause-links
 returns-clause-links c =
     let side = c.args.side in
     let L = LinksIn side in
-    let v = c.args.vertex in
-    let ends : List End = c.args.ends.now in
+    let v = c.args.all.vertex in
+    let ends : List End = c.args.all.ends.now in
     let i = c.loop-first.first in
     let past = c.loop-first-test.false in
     record {
-      out = walked_all (IsLinkOut L v) (λ (k : Link). k.to) ends i c.loop-first.out.items past (out_named side.local.root side.local.interfaces.now (ends_in side) v ends c.requires.ends) c.loop-first.invariant.out;
-      into = walked_all (IsLinkInto L v) (λ (k : Link). k.from) ends i c.loop-first.into.items past (into_named side.local.root side.local.interfaces.now (ends_in side) v ends c.requires.ends) c.loop-first.invariant.into;
+      out = walked_all (IsLinkOut L v) (λ (k : Link). k.to) ends i c.loop-first.row.out.items past (out_named side.local.root side.local.interfaces.now (ends_in side) v ends c.requires.ends) c.loop-first.invariant.out;
+      into = walked_all (IsLinkInto L v) (λ (k : Link). k.from) ends i c.loop-first.row.into.items past (into_named side.local.root side.local.interfaces.now (ends_in side) v ends c.requires.ends) c.loop-first.invariant.into;
       out_cheap = c.loop-first.invariant.out_cheap;
       into_cheap = c.loop-first.invariant.into_cheap;
       out_once = c.loop-first.invariant.out_once;

@@ -1,11 +1,18 @@
-use Rattle.intra.specs.Choosing.{InterfaceOffers}
-use Rattle.path_choice.proofs.Taking.{takes_at, takes_past}
+use Rattle.std.proofs.Common.{ℕ, List, [], sym, subst}
+use Rattle.ospf_types.specs.declared.config.Interface.{Interface}
+use Rattle.intra.specs.Choosing.{TakesPaths, InterfaceOffers}
+use Rattle.path_choice.specs.Takes.{OfferedBySome}
+use Rattle.path_choice.proofs.Taking.{takes_cons, takes_nil}
 use Rattle.intra.proofs.choose.offer_own.Goals as goal
 
 pub loop-id-preserved : goal.loop-id-preserved
 loop-id-preserved c = λ new rest.
-    c.loop-id.invariant new (takes_at (InterfaceOffers c.args.prefix c.args.key) c.args.interfaces.now c.loop-id.id-index _ c.loop-id.best c.offer_over.new.best new c.loop-id-test.true c.in_ok-offer_over.ensures rest)
+    let offers = InterfaceOffers c.args.prefix c.args.key in
+    let e : ℕ × Interface = (c.in-Some.id.now, c.in-Some.interface.now) in
+    c.loop-id.invariant new (subst (λ (list : List (ℕ × Interface)). TakesPaths (OfferedBySome list offers) c.loop-id.best new) (sym c.in-Some.ensures.steps)
+    (takes_cons offers e c.next.new.self c.loop-id.best c.offer_over.new.best new c.in_ok-offer_over.ensures rest))
 
 pub returns : goal.returns
 returns c =
-    c.loop-id.invariant c.loop-id.best (takes_past (InterfaceOffers c.args.prefix c.args.key) c.args.interfaces.now c.loop-id.id-index c.loop-id.best c.loop-id-test.false)
+    let offers = InterfaceOffers c.args.prefix c.args.key in
+    c.loop-id.invariant c.loop-id.best (subst (λ (list : List (ℕ × Interface)). TakesPaths (OfferedBySome list offers) c.loop-id.best c.loop-id.best) (sym c.in-None.ensures.steps.0) (takes_nil offers c.loop-id.best))

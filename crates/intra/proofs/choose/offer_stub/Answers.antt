@@ -12,18 +12,18 @@ use Rattle.intra.proofs.choose.offer_stub.Goals as goal
 pub returns-then-router-inputs : goal.returns-then-router-inputs
 returns-then-router-inputs c =
     let a = c.args.area.now in
-    let key : c.cost_in.result ≡ (c.args.metric, a.id) = c.cost_in.ensures ∙ (λ i. (c.from.ensures i, a.id)) in
-    let interfaces = ap (λ (w : InputsValue). w.interfaces) c.inputs.view_is in
+    let key : c.cost_in-key.result ≡ (c.args.metric, a.id) = c.cost_in-key.ensures ∙ (λ i. (c.from.ensures i, a.id)) in
+    let interfaces : c.in_ok-clone.field-0 ≡ c.args.inputs.now.interfaces = c.in_ok-clone.ensures.cases ∙ ap (λ (w : InputsValue). w.interfaces) c.inputs.view_is in
     on_ok_weaker c.offer_own.result
     (λ takes. takes_own c.args.inputs.now a c.args.prefix c.args.router c.args.metric c.args.best.now c.offer_own.new.best (c.if-router-inputs.true ∙ ap (λ (w : InputsValue). w.root) c.inputs.view_is)
     (subst (λ (xs : List (ℕ × Interface)). TakesPaths (OfferedBySome xs (InterfaceOffers c.args.prefix (c.args.metric, a.id))) c.args.best.now c.offer_own.new.best) interfaces
-    (subst (λ (k : AreaCost). TakesPaths (OfferedBySome c.inputs.inside.interfaces.now (InterfaceOffers c.args.prefix k)) c.args.best.now c.offer_own.new.best) key takes)))
+    (subst (λ (k : AreaCost). TakesPaths (OfferedBySome c.in_ok-clone.field-0 (InterfaceOffers c.args.prefix k)) c.args.best.now c.offer_own.new.best) key takes)))
     c.offer_own.ensures
 
 pub returns-in-Some : goal.returns-in-Some
 returns-in-Some c =
     let a = c.args.area.now in
-    let key : c.cost_in-key.result ≡ (c.in-Some.distance + c.args.metric, a.id) = c.cost_in-key.ensures ∙ (λ i. (c.in-Some.distance + c.from-in-Some.ensures i, a.id)) in
+    let key : c.cost_in-key-in-Some.result ≡ (c.in-Some.distance + c.args.metric, a.id) = c.cost_in-key-in-Some.ensures ∙ (λ i. (c.in-Some.distance + c.from-in-Some.ensures i, a.id)) in
     on_ok_weaker c.offer_hops.result
     (λ takes. takes_reached c.args.inputs.now a c.args.prefix c.args.router c.args.metric (λ is. c.if-router-inputs.false (is ∙ sym (ap (λ (w : InputsValue). w.root) c.inputs.view_is))) c.in-Some.distance c.args.best.now c.offer_hops.new.best (sym c.in-Some.ensures.value)
     (subst (λ (hops : List NextHop). TakesPaths (HopsOffer hops (c.in-Some.distance + c.args.metric, a.id)) c.args.best.now c.offer_hops.new.best) c.hops.ensures

@@ -21,7 +21,7 @@ loop-area-preserved c =
     let here : a ≡ get_or areas i a = c.area-item.is ∙ ap (λ (list : List AreaConfig). get_or list i a) listed in
     elim c.if-is_active.branch [
       | then-is_active+in_ok-push w ↦
-          subst (λ (ids : List ℕ). AreActiveIn s (take (i + 1) areas) ids) (sym (ap (λ v. v.items) w.active-is ∙ w.in_ok-push.ensures.items))
+          subst (λ (ids : List ℕ). AreActiveIn s (take (i + 1) areas) ids) (sym (ap (λ v. v.items) w.active-is ∙ w.in_ok-push.ensures.ok))
           (one_active s areas i a lt here c.loop-area.active.items c.loop-area.invariant (c.is_active.ensures.0 w.if-is_active.true))
       | else-is_active w ↦
           subst (λ (ids : List ℕ). AreActiveIn s (take (i + 1) areas) ids) (sym (ap (λ v. v.items) w.active-is))

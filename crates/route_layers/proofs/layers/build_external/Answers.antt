@@ -13,5 +13,5 @@ returns-clause-right c =
     let v : ExternalInputsValue = record { root = c.config-config.result.now.router; compat = c.config-config.result.now.compat; areas = c.deref.result.now; lsas = c.externals.result.now.lsas; intra = c.args.intra.now; active = c.args.active.now; inter = c.args.inter.now } in
     let is : v ≡ external_inputs c.args.state.now c.args.intra.now c.args.active.now c.args.inter.now =
     external_made c.args.state.now c.args.intra.now c.args.active.now c.args.inter.now c.config-config.result.now.router c.config-config.result.now.compat c.deref.result.now c.externals.result.now.lsas
-    (ap (λ (k : Config). k.router) c.config-config.ensures.value) (ap (λ (k : Config). k.compat) c.config-config.ensures.value) (c.deref.ensures.value ∙ c.in_ok-areas.ensures) c.externals.ensures in
+    (ap (λ (k : Config). k.router) c.config-config.ensures.value) (ap (λ (k : Config). k.compat) c.config-config.ensures.value) (c.deref.ensures ∙ c.in_ok-areas.ensures) c.externals.ensures in
     IfOk-weaker c.build.result _ _ (λ external right. right (inputs_of c.args.state.now) (subst (AreInputsOf (inputs_of c.args.state.now)) (sym is) (external_are c.args.state.now c.requires.fit c.args.intra.now c.args.active.now c.requires.routed c.requires.ranged c.args.inter.now c.requires.between))) c.build.ensures.right

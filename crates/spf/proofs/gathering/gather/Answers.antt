@@ -24,6 +24,6 @@ loop-link-preserved c =
 pub returns : goal.returns
 returns c =
     let Given : ℕ → List NextHop → List NextHop → Type 0 = λ root old new. IsUnion old new (IsOfSome c.args.links.now (IsGivenOver root (get c.args.distances.now) (hops_of c.args.hops.now))) in
-    union_is_given (LinksOf c.args.graph.now) c.args.graph.now.root (get c.args.distances.now) (hops_of c.args.hops.now) c.args.vertex c.args.links.now c.loop-link.set c.requires.links
+    union_is_given (LinksOf c.args.graph.now) c.args.graph.now.root (get c.args.distances.now) (hops_of c.args.hops.now) c.args.vertex.now c.args.links.now c.loop-link.set c.requires.links
     (subst (λ (root : ℕ). Given root [] c.loop-link.set) c.root-root.ensures.value (subst (λ (old : List NextHop). Given c.root-root.result old c.loop-link.set) c.new-set.ensures
     (union_end (IsGivenOver c.root-root.result (get c.args.distances.now) (hops_of c.args.hops.now)) c.args.links.now c.loop-link.link-index c.new-set.result c.loop-link.set c.loop-link-test.false c.loop-link.invariant)))

@@ -9,5 +9,5 @@ use Rattle.spf.proofs.handing.put_if_reached.Goals as goal
 
 pub returns-in-Some : goal.returns-in-Some
 returns-in-Some c =
-    let put = put_reached (get c.args.distances.now) c.args.root c.args.queue.now c.args.vertex c.in-Some.distance (sym c.in-Some.ensures.value) (λ is. let wrong : false ≡ true = c.if-is_root.ensures.1 is in cc) in
-    on_ok_weaker c.put.result (λ is. subst (λ (q : Queue). ArePut (get c.args.distances.now) (IsReachedAt c.args.root (get c.args.distances.now) c.args.vertex) (get c.args.queue.now) (get q)) (sym is) put) c.put.ensures.put
+    let put = put_reached (get c.args.distances.now) c.args.root c.args.queue.now c.args.vertex.now c.in-Some.distance (sym c.in-Some.ensures.value) (λ is. let wrong : false ≡ true = c.if-is_at_root.ensures.1 is in cc) in
+    on_ok_weaker c.put.result (λ is. subst (λ (q : Queue). ArePut (get c.args.distances.now) (IsReachedAt c.args.root (get c.args.distances.now) c.args.vertex.now) (get c.args.queue.now) (get q)) (sym is) put) c.put.ensures.put

@@ -1,6 +1,4 @@
-use Rattle.std.proofs.Common.{true, false, refl, ap, Some, ◌∙◌, ◌++◌, ◌∷◌, []}
-use Rattle.ospf_types.specs.declared.entry.Vertex.{Vertex}
-use Rattle.tree_parts.specs.Maps.{with_hops}
+use Rattle.std.proofs.Common.{true, false, refl}
 use Rattle.std.specs.Prelude.{◌≡◌, option_copied}
 use Rattle.std.specs.FinMap.{get}
 use Rattle.std.proofs.lemmas.Result.{on_ok_weaker}
@@ -10,8 +8,8 @@ use Rattle.spf.proofs.handing.settle.Goals as goal
 
 pub returns-then-are_same : goal.returns-then-are_same
 returns-then-are_same c = record {
-  settled = settled_same (LinksOf c.args.graph.now) c.args.graph.now.root (get c.args.distances.now) c.args.hops.now c.args.vertex c.in_ok-set.set c.in_ok-set.ensures c.args.queue.now c.args.written.now
-      (option_copied c.get.result) (c.get.ensures ∙ ap (get c.args.hops.now) c.head_of-placed.ensures) (c.if-are_same.ensures.0 refl);
+  settled = settled_same (LinksOf c.args.graph.now) c.args.graph.now.root (get c.args.distances.now) c.args.hops.now c.args.vertex.now c.in_ok-set.set c.in_ok-set.ensures c.args.queue.now c.args.written.now
+      (option_copied c.get.result) c.get.ensures (c.if-are_same.ensures.0 refl);
   taken = refl;
   counted = c.requires.counted;
 }
@@ -19,8 +17,8 @@ returns-then-are_same c = record {
 pub returns : goal.returns
 returns c = record {
   settled = on_ok_weaker c.put_heads.result (λ heads.
-      settled_written (LinksOf c.args.graph.now) c.args.graph.now.root (get c.args.distances.now) c.args.hops.now c.args.vertex c.in_ok-set.set c.in_ok-set.ensures c.args.queue.now c.put_heads.new.queue c.args.written.now c.write.new.written c.write.new.hops
-      (option_copied c.get.result) (c.get.ensures ∙ ap (get c.args.hops.now) c.head_of-placed.ensures) (λ same. let wrong : false ≡ true = c.if-are_same.ensures.1 same in cc) (c.in_ok-write.ensures.hops ∙ ap (λ (v : Vertex). with_hops c.args.hops.now v (Some c.in_ok-set.set)) c.head_of-placed.ensures) (c.in_ok-write.ensures.written ∙ ap (λ (v : Vertex). c.args.written.now ++ v ∷ []) c.head_of-placed.ensures) heads) c.put_heads.ensures;
+      settled_written (LinksOf c.args.graph.now) c.args.graph.now.root (get c.args.distances.now) c.args.hops.now c.args.vertex.now c.in_ok-set.set c.in_ok-set.ensures c.args.queue.now c.put_heads.new.queue c.args.written.now c.write.new.written c.write.new.hops
+      (option_copied c.get.result) c.get.ensures (λ same. let wrong : false ≡ true = c.if-are_same.ensures.1 same in cc) c.in_ok-write.ensures.hops c.in_ok-write.ensures.written heads) c.put_heads.ensures;
   taken = on_ok_weaker c.put_heads.result (λ heads. c.in_ok-write.ensures.taken) c.put_heads.ensures;
   counted = on_ok_weaker c.put_heads.result (λ heads. c.in_ok-write.ensures.counted) c.put_heads.ensures;
 }

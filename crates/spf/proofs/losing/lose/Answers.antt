@@ -12,14 +12,14 @@ loop-suspect-init c =
     let gone = c.args.changes.now.gone.items in
     let come = c.args.changes.now.came.items in
     let old = get c.args.distances.now in
-    let first = c.new-search.result in
+    let first = c.clear.new.self in
     let new = c.suspect_heads.new.self in
     let told = c.in_ok-suspect_heads.ensures.told in
-    subst (λ (vs : List Vertex). AreSuspected g gone come old vs new.suspects new.losses.stale) (sym (c.in_ok-suspect_heads.ensures.lost ∙ c.new-search.ensures.lost))
+    subst (λ (vs : List Vertex). AreSuspected g gone come old vs new.suspects new.losses.stale) (sym (c.in_ok-suspect_heads.ensures.lost ∙ c.clear.ensures.lost))
     (suspected_at_start g gone come old c.requires new.suspects new.losses.stale
-    (subst (λ (vs : List Vertex). AreToldOf (IsHead (WasLeast g.root old) gone) vs [] new.losses.stale [] new.suspects) c.new-search.ensures.lost
-    (subst (λ (vs : List Vertex). AreToldOf (IsHead (WasLeast g.root old) gone) first.losses.lost vs new.losses.stale [] new.suspects) c.new-search.ensures.stale
-    (subst (λ (vs : List Vertex). AreToldOf (IsHead (WasLeast g.root old) gone) first.losses.lost first.losses.stale new.losses.stale vs new.suspects) c.new-search.ensures.suspects
+    (subst (λ (vs : List Vertex). AreToldOf (IsHead (WasLeast g.root old) gone) vs [] new.losses.stale [] new.suspects) c.clear.ensures.lost
+    (subst (λ (vs : List Vertex). AreToldOf (IsHead (WasLeast g.root old) gone) first.losses.lost vs new.losses.stale [] new.suspects) c.clear.ensures.stale
+    (subst (λ (vs : List Vertex). AreToldOf (IsHead (WasLeast g.root old) gone) first.losses.lost first.losses.stale new.losses.stale vs new.suspects) c.clear.ensures.suspects
     (subst (λ (ls : List Link). AreToldOf (IsHead (WasLeast g.root old) ls) first.losses.lost first.losses.stale new.losses.stale first.suspects new.suspects) c.as_slice.ensures.value
     (subst (λ (r : ℕ). AreToldOf (IsHead (WasLeast r old) c.as_slice.result.now) first.losses.lost first.losses.stale new.losses.stale first.suspects new.suspects) c.root.ensures.value told))))))
 

@@ -4,4 +4,4 @@ use Rattle.tree_parts.proofs.Grown.{IsGrown}
 use Rattle.tree_parts.proofs.differing.add_farther.Given as goal
 
 abbrev pub invariant-loop-vertex : goal.invariant-loop-vertex
-invariant-loop-vertex l = IsGrown l.changed.items l.initial.changed.items (IsFarther (take l.vertex-index l.remembered) l.distances)
+invariant-loop-vertex l = IsGrown l.listing l.initial.listing (IsFarther (take l.vertex-index l.remembered) l.distances)

@@ -4,4 +4,4 @@ use Rattle.tree_parts.proofs.Grown.{IsGrown}
 use Rattle.tree_parts.proofs.differing.add_nearer.Given as goal
 
 abbrev pub invariant-loop-vertex : goal.invariant-loop-vertex
-invariant-loop-vertex l = IsGrown l.changed.items l.initial.changed.items (IsNearer (take l.vertex-index l.moved) l.lost)
+invariant-loop-vertex l = IsGrown l.listing l.initial.listing (IsNearer (take l.vertex-index l.moved) l.lost)

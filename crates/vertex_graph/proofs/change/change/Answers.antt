@@ -1,7 +1,5 @@
 use Rattle.std.proofs.Common.{◌≡◌, ◌≢◌, List, map, sym, subst}
-use Rattle.std.specs.List.{AllPairs, IsDistinct}
-use Rattle.std.proofs.lemmas.Map.Made.{AllPairs-from_IsDistinct}
-use Rattle.ospf_types.proofs.VertexOrder.{vertices_equal, vertices_decided}
+use Rattle.std.specs.List.{AllPairs}
 use Rattle.ospf_types.specs.declared.entry.Vertex.{Vertex}
 use Rattle.graph_links.specs.declared.fresh.Fresh.{Fresh}
 use Rattle.graph_links.specs.Sides.{AreFresh, AreOfFresh, AreOwn, IsBrought, IsTaken, LinksBy, ends_after}
@@ -14,40 +12,40 @@ changed_links-requires c =
     let b = c.requires.before in
     let rows = c.args.rows.now.entries in
     let after = ends_after rows c.args.staging.now.ends.entries in
-    let fresh : List Fresh = c.in_ok-fresh.fresh.items in
-    subst (AreOwn rows) (sym c.deref.ensures.value) (own_links b.0 c.args.is.root b.1 c.args.is.interfaces.now rows after c.as_slice.result.now fresh b.2 c.in_ok-fresh.ensures)
+    let fresh : List Fresh = c.fresh_rows.new.room.fresh.items in
+    subst (AreOwn rows) (sym c.as_slice-2.ensures.value) (own_links b.0 c.args.is.root b.1 c.args.is.interfaces.now rows after c.as_slice.result.now fresh b.2 c.in_ok-fresh_rows.ensures)
 
 pub returns-clause-changed : goal.returns-clause-changed
 returns-clause-changed c =
     let after = ends_after c.args.rows.now.entries c.args.staging.now.ends.entries in
     let Is = LinksBy c.args.is.root c.args.is.interfaces.now after in
-    let fresh : List Fresh = c.in_ok-fresh.fresh.items in
-    placed_changed after Is c.args.staging.now.touched.keys fresh c.args.rows.now.entries c.commit.new.rows.entries
-    (subst (λ (vs : List Vertex). AreFresh after Is vs fresh) c.as_slice.ensures.keys c.in_ok-fresh.ensures) c.in_ok-commit.ensures.placed
+    let fresh : List Fresh = c.fresh_rows.new.room.fresh.items in
+    placed_changed after Is c.args.staging.now.touched.items fresh c.args.rows.now.entries c.commit.new.rows.entries
+    (subst (λ (vs : List Vertex). AreFresh after Is vs fresh) c.as_slice.ensures.value c.in_ok-fresh_rows.ensures) c.in_ok-commit.ensures.placed
 
 pub returns-clause-gone : goal.returns-clause-gone
 returns-clause-gone c root ups right =
     let rows = c.args.rows.now.entries in
     let after = ends_after rows c.args.staging.now.ends.entries in
-    let fresh : List Fresh = c.in_ok-fresh.fresh.items in
+    let fresh : List Fresh = c.fresh_rows.new.room.fresh.items in
     let Is = LinksBy c.args.is.root c.args.is.interfaces.now after in
-    let are = subst (λ (vs : List Vertex). AreFresh after Is vs fresh) c.as_slice.ensures.keys c.in_ok-fresh.ensures in
+    let are = subst (λ (vs : List Vertex). AreFresh after Is vs fresh) c.as_slice.ensures.value c.in_ok-fresh_rows.ensures in
     let gone = c.in_ok-changes.changes.gone.items in
-    taken_missing root c.args.is.root ups c.args.is.interfaces.now rows after c.args.staging.now.touched.keys fresh right are gone (subst (λ (fs : List Fresh). AreOfFresh (IsTaken rows) fs gone) c.deref.ensures.value c.in_ok-changes.ensures.gone)
+    taken_missing root c.args.is.root ups c.args.is.interfaces.now rows after c.args.staging.now.touched.items fresh right are gone (subst (λ (fs : List Fresh). AreOfFresh (IsTaken rows) fs gone) c.as_slice-2.ensures.value c.in_ok-changes.ensures.gone)
 
 pub returns-clause-came : goal.returns-clause-came
 returns-clause-came c root ups right =
     let rows = c.args.rows.now.entries in
     let after = ends_after rows c.args.staging.now.ends.entries in
-    let fresh : List Fresh = c.in_ok-fresh.fresh.items in
+    let fresh : List Fresh = c.fresh_rows.new.room.fresh.items in
     let Is = LinksBy c.args.is.root c.args.is.interfaces.now after in
-    let are = subst (λ (vs : List Vertex). AreFresh after Is vs fresh) c.as_slice.ensures.keys c.in_ok-fresh.ensures in
+    let are = subst (λ (vs : List Vertex). AreFresh after Is vs fresh) c.as_slice.ensures.value c.in_ok-fresh_rows.ensures in
     let came = c.in_ok-changes.changes.came.items in
-    brought_missing root c.args.is.root ups c.args.is.interfaces.now rows after c.args.staging.now.touched.keys fresh right are came (subst (λ (fs : List Fresh). AreOfFresh (IsBrought rows) fs came) c.deref.ensures.value c.in_ok-changes.ensures.came)
+    brought_missing root c.args.is.root ups c.args.is.interfaces.now rows after c.args.staging.now.touched.items fresh right are came (subst (λ (fs : List Fresh). AreOfFresh (IsBrought rows) fs came) c.as_slice-2.ensures.value c.in_ok-changes.ensures.came)
 
 -- no vertex is touched twice
-touched_once : (keys touched : List Vertex) → touched ≡ keys → IsDistinct vertices_equal keys → AllPairs (λ v w. v ≢ w) touched
-touched_once keys touched same unique = subst (λ (vs : List Vertex). AllPairs (λ v w. v ≢ w) vs) (sym same) (AllPairs-from_IsDistinct vertices_decided keys unique)
+touched_once : (touched lent : List Vertex) → lent ≡ touched → AllPairs (λ v w. v ≢ w) touched → AllPairs (λ v w. v ≢ w) lent
+touched_once touched lent same once = subst (λ (vs : List Vertex). AllPairs (λ v w. v ≢ w) vs) (sym same) once
 
 -- nor has one two fresh rows
 rows_once : (fresh lent : List Fresh) → lent ≡ fresh → AllPairs (λ v w. v ≢ w) (map (λ (f : Fresh). f.vertex) fresh) → AllPairs (λ v w. v ≢ w) (map (λ (f : Fresh). f.vertex) lent)
@@ -58,15 +56,15 @@ returns-clause-gone_once c =
     let b = c.requires.before in
     let rows = c.args.rows.now.entries in
     let after = ends_after rows c.args.staging.now.ends.entries in
-    let fresh : List Fresh = c.in_ok-fresh.fresh.items in
-    c.in_ok-changes.ensures.gone_once (rows_once fresh c.deref.result.now c.deref.ensures.value
-    (fresh_once b.0 c.args.is.root b.1 c.args.is.interfaces.now rows after c.as_slice.result.now fresh b.2 c.in_ok-fresh.ensures (touched_once c.args.staging.now.touched.keys c.as_slice.result.now c.as_slice.ensures.keys c.as_slice.ensures.unique)))
+    let fresh : List Fresh = c.fresh_rows.new.room.fresh.items in
+    c.in_ok-changes.ensures.gone_once (rows_once fresh c.as_slice-2.result.now c.as_slice-2.ensures.value
+    (fresh_once b.0 c.args.is.root b.1 c.args.is.interfaces.now rows after c.as_slice.result.now fresh b.2 c.in_ok-fresh_rows.ensures (touched_once c.args.staging.now.touched.items c.as_slice.result.now c.as_slice.ensures.value c.requires.once)))
 
 pub returns-clause-came_once : goal.returns-clause-came_once
 returns-clause-came_once c =
     let b = c.requires.before in
     let rows = c.args.rows.now.entries in
     let after = ends_after rows c.args.staging.now.ends.entries in
-    let fresh : List Fresh = c.in_ok-fresh.fresh.items in
-    c.in_ok-changes.ensures.came_once (rows_once fresh c.deref.result.now c.deref.ensures.value
-    (fresh_once b.0 c.args.is.root b.1 c.args.is.interfaces.now rows after c.as_slice.result.now fresh b.2 c.in_ok-fresh.ensures (touched_once c.args.staging.now.touched.keys c.as_slice.result.now c.as_slice.ensures.keys c.as_slice.ensures.unique)))
+    let fresh : List Fresh = c.fresh_rows.new.room.fresh.items in
+    c.in_ok-changes.ensures.came_once (rows_once fresh c.as_slice-2.result.now c.as_slice-2.ensures.value
+    (fresh_once b.0 c.args.is.root b.1 c.args.is.interfaces.now rows after c.as_slice.result.now fresh b.2 c.in_ok-fresh_rows.ensures (touched_once c.args.staging.now.touched.items c.as_slice.result.now c.as_slice.ensures.value c.requires.once)))

@@ -8,5 +8,5 @@ use Rattle.vertex_graph.proofs.staging.stage.Given as goal
 abbrev pub invariant-loop-vertex : goal.invariant-loop-vertex
 invariant-loop-vertex l = record {
   staged : IsStagedUpTo l.rows.entries l.staging.ends.entries (take l.vertex-index (handed_of l.lsas));
-  touched : AreTouched (row_ends l.rows.entries) (ends_after l.rows.entries l.staging.ends.entries) l.staging.touched.keys;
+  touched : AreTouched (row_ends l.rows.entries) (ends_after l.rows.entries l.staging.ends.entries) l.staging.touched.items;
 }

@@ -13,9 +13,9 @@ pub returns-clause-touched : goal.returns-clause-touched
 returns-clause-touched c =
     let rows = c.args.rows.now.entries in
     let ends = option_map (λ (es : Vec End). es.items) c.args.ends in
-    let touched = c.touch_both.new.touched.keys in
+    let touched = c.touch_both.new.touched.items in
     let before : c.slice_or_none.result.now ≡ ends_or (row_ends rows c.args.vertex) = c.slice_or_none.ensures ∙ ap ends_or c.row_ends-before.ensures in
     let after : c.slice_or_none-2.result.now ≡ ends_or ends = c.slice_or_none-2.ensures ∙ ap ends_or c.slice_of-after.ensures in
     let all = c.in_ok-touch_both.ensures in
-    touched_more rows c.args.vertex ends c.args.staging.now.ends.entries c.insert.new.self.entries c.args.staging.now.touched.keys touched (returns-clause-ends c) c.requires.touched all.own all.kept
+    touched_more rows c.args.vertex ends c.args.staging.now.ends.entries c.insert.new.self.entries c.args.staging.now.touched.items touched (returns-clause-ends c) c.requires.touched all.own all.kept
     (touches_as _ _ _ _ touched before after all.gone) (touches_as _ _ _ _ touched after before all.came)

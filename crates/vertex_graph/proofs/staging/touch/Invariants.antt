@@ -4,6 +4,6 @@ use Rattle.vertex_graph.proofs.staging.touch.Given as goal
 
 abbrev pub invariant-loop-place : goal.invariant-loop-place
 invariant-loop-place l = record {
-  kept : IsWithin l.fn.touched.keys l.touched.keys;
-  others : TouchesOthers (take l.place l.ends) l.others l.touched.keys;
+  kept : IsWithin l.fn.touched.items l.touched.items;
+  others : TouchesOthers (take l.place l.ends) l.others l.touched.items;
 }

@@ -8,5 +8,5 @@ use Rattle.calculation.proofs.calculation.Calculation.dues.Goals as goal
 -- what is calculated from has the active areas
 pub returns : goal.returns
 returns c =
-    let active = subst (AreActive c.args.state.now) (sym c.deref.ensures.value) c.in_ok-active.ensures in
+    let active = subst (AreActive c.args.state.now) (sym c.deref.ensures) c.in_ok-active.ensures in
     IfOk-weaker c.build.result _ _ (λ dues kept. (c.deref.result.now, active, subst (λ (v : DueInputsValue). AreDuesOf v dues) c.due_inputs.ensures kept)) c.build.ensures.kept

@@ -18,4 +18,4 @@ pub returns-clause-kept : goal.returns-clause-kept
 returns-clause-kept c after carried =
     let s = c.args.state.now in
     let due = subst (λ (v : DueInputsValue). AreDuesOf v after) c.due_inputs.ensures (c.in_ok-plan.ensures.kept after carried) in
-    (c.deref.result.now, subst (AreActive s) (sym c.deref.ensures.value) c.in_ok-active.ensures, due)
+    (c.deref.result.now, subst (AreActive s) (sym c.deref.ensures) c.in_ok-active.ensures, due)

@@ -23,7 +23,7 @@ pub returns-then-inputs-lt2-clause-enough : goal.returns-then-inputs-lt2-clause-
 returns-then-inputs-lt2-clause-enough c before were differ =
     let v = c.args.inputs.now in
     let equal : c.as_slice.result.now ≡ c.inputs.inside.active.now = (slice_eq-Decides Decides-eqb c.as_slice.result.now c.inputs.inside.active.now true c.if-not-are_same.ensures).0 refl in
-    let own : c.as_slice.result.now ≡ c.args.self.now.active = c.as_slice.ensures.value ∙ ap (λ (w : DuesValue). w.active) c.self.view_is in
+    let own : c.as_slice.result.now ≡ c.args.self.now.active = c.as_slice.ensures ∙ ap (λ (w : DuesValue). w.active) c.self.view_is in
     let view : c.inputs.inside.active.now ≡ v.active = ap (λ (w : DueInputsValue). w.active) c.inputs.view_is in
     let few : length c.inputs.inside.active.now < 2 = c.if-inputs-lt2.true in
     alike_few c.new.result.items before v c.args.self.now (subst (λ (xs : List ℕ). length xs < 2) view few) (sym own ∙ equal ∙ view) were
@@ -33,7 +33,7 @@ returns-clause-enough c =
     let v = c.args.inputs.now in
     let dests : List Dest = c.args.dests.now in
     let equal : c.as_slice.result.now ≡ c.inputs.inside.active.now = (slice_eq-Decides Decides-eqb c.as_slice.result.now c.inputs.inside.active.now true c.if-not-are_same.ensures).0 refl in
-    let own : c.as_slice.result.now ≡ c.args.self.now.active = c.as_slice.ensures.value ∙ ap (λ (w : DuesValue). w.active) c.self.view_is in
+    let own : c.as_slice.result.now ≡ c.args.self.now.active = c.as_slice.ensures ∙ ap (λ (w : DuesValue). w.active) c.self.view_is in
     let active : c.args.self.now.active ≡ v.active = sym own ∙ equal ∙ ap (λ (w : DueInputsValue). w.active) c.inputs.view_is in
     let areas : c.inputs.inside.areas.now ≡ v.areas = ap (λ (w : DueInputsValue). w.areas) c.inputs.view_is in
     IfOk-weaker c.touched.result _ _ (λ found enough before were differ.

@@ -4,7 +4,9 @@ use Rattle.std.specs.List.{All}
 use Rattle.std.proofs.lemmas.Map.Views.{All-insert_key}
 use Rattle.ospf_types.specs.declared.key.Key.{Key}
 use Rattle.offer_index.specs.Members.{HasSmallKey}
+use Rattle.offer_index.specs.Coarse.{AreAmong}
 use Rattle.offer_index.specs.Noted.{AreNotedBut}
+use Rattle.offer_index.proofs.Covering.{still_among, among_with}
 use Rattle.offer_index.proofs.Groups.{Member, derived_cmp, derived_exact}
 use Rattle.offer_index.proofs.MemberLists.{stays_with, is_put_in, came_or_was}
 use Rattle.offer_index.proofs.NotedGroups.{noted_ahead, noted_with, same_noted}
@@ -12,8 +14,14 @@ use Rattle.offer_index.proofs.members.Members.add.Goals as goal
 
 -- memory was refused before the key was put in: nothing more is noted
 pub invariant_of-self : goal.invariant_of-self
-invariant_of-self c =
-    (c.self.invariant.0, same_noted c.self.inside.members.keys c.self.inside.noted c.note.new.self c.self.invariant.1 c.note.ensures.kept c.in_err-note.ensures.unchanged)
+invariant_of-self c = (c.self.invariant.0, c.self.invariant.1, still_among c.self.inside.members.keys c.self.inside.coarse c.note.new.self c.self.invariant.2 c.note.ensures.kept)
+
+pub invariant_of-self-in_err-note-2 : goal.invariant_of-self-in_err-note-2
+invariant_of-self-in_err-note-2 c = (
+  c.self.invariant.0,
+  same_noted c.self.inside.members.keys c.self.inside.noted c.note-2.new.self c.self.invariant.1 c.note-2.ensures.kept c.in_err-note-2.ensures.unchanged,
+  still_among c.self.inside.members.keys c.self.inside.coarse c.note.new.self c.self.invariant.2 c.note.ensures.kept,
+)
 
 pub invariant_of-self-in-Ok : goal.invariant_of-self-in-Ok
 invariant_of-self-in-Ok c =
@@ -22,10 +30,12 @@ invariant_of-self-in-Ok c =
     let key = c.small.result in
     let is = c.in-Ok.ensures.keys in (
       subst (λ (ms : List Member). All HasSmallKey ms) (sym is) (All-insert_key derived_cmp (c.args.group, key) HasSmallKey old c.self.invariant.0 c.small.ensures.small),
-      noted_with old new c.self.inside.noted c.note.new.self c.args.group key c.self.invariant.1 c.note.ensures.kept c.note.ensures.only c.in_ok-note.ensures.noted
+      noted_with old new c.self.inside.noted c.note-2.new.self c.args.group key c.self.invariant.1 c.note-2.ensures.kept c.note-2.ensures.only c.in_ok-note-2.ensures.noted
           (λ m there. subst (λ (ms : List Member). Contains ms m) (sym is) (stays_with derived_cmp old (c.args.group, key) m there))
           (λ m has. came_or_was derived_cmp old (c.args.group, key) m (subst (λ (ms : List Member). Contains ms m) is has))
           (subst (λ (ms : List Member). Contains ms (c.args.group, key)) (sym is) (is_put_in derived_cmp derived_exact old (c.args.group, key))),
+      among_with old new c.note.new.self c.args.group key (still_among old c.self.inside.coarse c.note.new.self c.self.invariant.2 c.note.ensures.kept)
+          (λ m has. came_or_was derived_cmp old (c.args.group, key) m (subst (λ (ms : List Member). Contains ms m) is has)) c.in_ok-note.ensures.noted,
     )
 
 pub returns-in-Ok-clause-kept : goal.returns-in-Ok-clause-kept
@@ -52,8 +62,12 @@ forget_without_keys-requires-clause-small c = subst (λ (ms : List Member). All 
 
 pub forget_without_keys-requires-clause-before : goal.forget_without_keys-requires-clause-before
 forget_without_keys-requires-clause-before c =
-    subst (λ (ms : List Member). AreNotedBut c.args.group ms c.note.new.self) (sym c.in-Err.ensures.err)
-    (noted_ahead c.self.inside.members.keys c.self.inside.members.keys c.self.inside.noted c.note.new.self c.args.group c.args.key c.self.invariant.1 c.note.ensures.kept c.note.ensures.only)
+    subst (λ (ms : List Member). AreNotedBut c.args.group ms c.note-2.new.self) (sym c.in-Err.ensures.err)
+    (noted_ahead c.self.inside.members.keys c.self.inside.members.keys c.self.inside.noted c.note-2.new.self c.args.group c.args.key c.self.invariant.1 c.note-2.ensures.kept c.note-2.ensures.only)
 
 pub invariant_of-self-in-Err : goal.invariant_of-self-in-Err
-invariant_of-self-in-Err c = (subst (λ (ms : List Member). All HasSmallKey ms) (sym c.in-Err.ensures.err) c.self.invariant.0, c.forget_without_keys.ensures)
+invariant_of-self-in-Err c = (
+  subst (λ (ms : List Member). All HasSmallKey ms) (sym c.in-Err.ensures.err) c.self.invariant.0,
+  c.forget_without_keys.ensures,
+  subst (λ (ms : List Member). AreAmong ms c.note.new.self) (sym c.in-Err.ensures.err) (still_among c.self.inside.members.keys c.self.inside.coarse c.note.new.self c.self.invariant.2 c.note.ensures.kept),
+)

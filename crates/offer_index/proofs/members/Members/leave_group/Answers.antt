@@ -6,6 +6,7 @@ use Rattle.std.proofs.lemmas.Map.Views.{All-remove_key}
 use Rattle.offer_index.specs.Members.{HasSmallKey}
 use Rattle.offer_index.proofs.Groups.{Member, derived_cmp, derived_exact, derived_ties}
 use Rattle.offer_index.proofs.MemberLists.{stays_without, was_there, none_passes}
+use Rattle.offer_index.proofs.Covering.{among_without}
 use Rattle.offer_index.proofs.NotedGroups.{noted_without}
 use Rattle.offer_index.proofs.members.Members.leave_group.Goals as goal
 
@@ -19,7 +20,12 @@ forget_without_keys-requires-clause-before c =
     (λ m left. was_there _ c.self.inside.members.keys m (subst (λ (ms : List Member). Contains ms m) c.remove.ensures.keys left))
 
 pub invariant_of-self : goal.invariant_of-self
-invariant_of-self c = (subst (λ (ms : List Member). All HasSmallKey ms) (sym c.remove.ensures.keys) (All-remove_key _ HasSmallKey c.self.inside.members.keys c.self.invariant.0), c.forget_without_keys.ensures)
+invariant_of-self c = (
+  subst (λ (ms : List Member). All HasSmallKey ms) (sym c.remove.ensures.keys) (All-remove_key _ HasSmallKey c.self.inside.members.keys c.self.invariant.0),
+  c.forget_without_keys.ensures,
+  among_without c.self.inside.members.keys c.remove.new.self.keys c.self.inside.coarse c.self.invariant.2
+      (λ m left. was_there _ c.self.inside.members.keys m (subst (λ (ms : List Member). Contains ms m) c.remove.ensures.keys left)),
+)
 
 pub returns-clause-kept : goal.returns-clause-kept
 returns-clause-kept c =

@@ -19,10 +19,10 @@ returns c =
     let lost = s.losses.lost in
     on_both c.suspect_beyond.result c.suspect_beyond.ensures.told c.suspect_beyond.ensures.lost
     (λ told same.
-    subst (λ (vs : List Vertex). IsJudged c.args.graph.now old lost vs s.suspects new.suspects s.losses.stale new.losses.stale c.args.suspect) (sym same)
-    (judged_lost c.args.graph.now old lost s.suspects s.losses.stale c.args.suspect c.add.new.self new.suspects new.losses.stale c.in_ok-add.field-0 c.in-Some.distance c.links_from.result.now
+    subst (λ (vs : List Vertex). IsJudged c.args.graph.now old lost vs s.suspects new.suspects s.losses.stale new.losses.stale c.args.suspect.now) (sym same)
+    (judged_lost c.args.graph.now old lost s.suspects s.losses.stale c.args.suspect.now c.add.new.self new.suspects new.losses.stale c.in_ok-add.field-0 c.in-Some.distance c.links_out_of.result.now
     (λ there. let yes = c.has.ensures.1 there in let no = c.if-has.false in absurd cc)
     (sym c.in-Some.ensures.value)
     (λ supported. let yes = c.in_ok-is_supported.ensures.1 supported in let no = c.if-branch.false in absurd cc)
-    c.links_from.ensures.exact c.in_ok-add.ensures.end
-    (subst (λ (r : ℕ). AreToldOf (IsHead (MaySupport r old c.in-Some.distance) c.links_from.result.now) c.add.new.self s.losses.stale new.losses.stale s.suspects new.suspects) c.root.ensures.value told)))
+    c.links_out_of.ensures.exact c.in_ok-add.ensures.end
+    (subst (λ (r : ℕ). AreToldOf (IsHead (MaySupport r old c.in-Some.distance) c.links_out_of.result.now) c.add.new.self s.losses.stale new.losses.stale s.suspects new.suspects) c.root.ensures.value told)))

@@ -18,8 +18,7 @@ loop-link-preserved c =
         told = subst (λ (x : Search). AreToldOf (IsHead Passes (take (i + 1) c.args.links.now)) s.losses.lost s.losses.stale x.losses.stale s.suspects x.suspects) (sym w.self-is)
             (told_next Passes c.args.links.now i c.link-item.result c.loop-link-test.true (sym c.link-item.is) s.losses.lost s.losses.stale now.losses.stale w.suspect.new.self.losses.stale s.suspects now.suspects w.suspect.new.self.suspects
             c.loop-link.invariant.told (c.may_support.ensures.0 w.if-may_support.true)
-            (subst (λ (lost : List Vertex). AreToldOf (λ v. c.link-item.result.to ≡ v) lost now.losses.stale w.suspect.new.self.losses.stale now.suspects w.suspect.new.self.suspects) c.loop-link.invariant.lost
-            (subst (λ (u : Vertex). AreToldOf (λ v. u ≡ v) now.losses.lost now.losses.stale w.suspect.new.self.losses.stale now.suspects w.suspect.new.self.suspects) w.vertex.ensures w.in_ok-suspect.ensures.told)));
+            (subst (λ (lost : List Vertex). AreToldOf (λ v. c.link-item.result.to ≡ v) lost now.losses.stale w.suspect.new.self.losses.stale now.suspects w.suspect.new.self.suspects) c.loop-link.invariant.lost w.in_ok-suspect.ensures.told));
         lost = ap (λ (x : Search). x.losses.lost) w.self-is ∙ w.in_ok-suspect.ensures.lost ∙ c.loop-link.invariant.lost;
       }
       | else-may_support w ↦ record {

@@ -4,8 +4,11 @@ use Rattle.std.proofs.lemmas.List.{map-append, take_more}
 use Rattle.ospf_types.specs.declared.prefix.Prefix.{Prefix}
 use Rattle.summaries.specs.Grouped.{AreMadeOf}
 use Rattle.summaries.specs.declared.member.Member.{Member}
-use Rattle.summaries.proofs.Placed.{made_more}
+use Rattle.summaries.proofs.Placed.{AreInOrder, made_more, none_in_order}
 use Rattle.summaries.proofs.networks.Networks.of.Goals as goal
+
+pub invariant_of-networks : goal.invariant_of-networks
+invariant_of-networks c = subst AreInOrder (sym c.in_ok-with_capacity.ensures.items) none_in_order
 
 pub loop-member-preserved : goal.loop-member-preserved
 loop-member-preserved c =

@@ -1,11 +1,7 @@
-use Rattle.std.proofs.Common.{List, sym, ap, subst, ◌∙◌}
-use Rattle.std.specs.Prelude.{◌↔◌, IsTrue, Contains}
-use Rattle.ospf_types.specs.declared.entry.Vertex.{Vertex}
-use Rattle.tree_parts.specs.Listed.{listed}
-use Rattle.tree_parts.proofs.VertexSets.{found}
+use Rattle.tree_parts.proofs.Marking.{found_by_mark}
 use Rattle.tree_parts.proofs.members.Members.has.Goals as goal
 
-pub returns-in-Many : goal.returns-in-Many
-returns-in-Many c =
-    subst (λ (vs : List Vertex). IsTrue c.contains.result ↔ Contains vs c.args.vertex) (ap listed (sym c.in-Many.is) ∙ c.self.view_is)
-    (subst (λ b. IsTrue b ↔ Contains c.in-Many.many.keys c.args.vertex) (sym c.contains.ensures) (found c.in-Many.many.keys c.args.vertex))
+pub returns-then-list-gt8 : goal.returns-then-list-gt8
+returns-then-list-gt8 c =
+    let i = c.self.inside in
+    found_by_mark i.marks c.as_slice-list.result.now i.list.items c.args.self.now c.args.vertex.now c.is_marked.result c.as_slice-list.ensures c.self.view_is c.if-list-gt8.true c.self.invariant.1 c.is_marked.ensures

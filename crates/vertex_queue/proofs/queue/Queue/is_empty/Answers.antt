@@ -1,8 +1,8 @@
-use Rattle.std.proofs.Common.{sym, ap, ◌∙◌}
-use Rattle.vertex_queue.proofs.Distances.{queue_of, no_items, empty_none}
+use Rattle.std.proofs.Common.{sym, ◌∙◌}
+use Rattle.vertex_queue.proofs.Distances.{none_in, as_many_as_none}
 use Rattle.vertex_queue.proofs.queue.Queue.is_empty.Goals as goal
 
 pub returns : goal.returns
 returns c =
-    let es = c.self.inside.distances.entries in
-    (λ none. sym c.self.view_is ∙ ap queue_of (no_items es (c.is_empty.ensures.0 none)), λ is. c.is_empty.ensures.1 (empty_none es (c.self.view_is ∙ is)))
+    let q = c.self.inside.distances in
+    (λ none. sym c.self.view_is ∙ none_in q (c.is_empty.ensures.0 none), λ is. c.is_empty.ensures.1 (as_many_as_none q (c.self.view_is ∙ is)))

@@ -1,0 +1,117 @@
+//! What a repair finds on its way.
+ghost use Rattle.std.specs.Prelude.{◌≡◌, [], List, OnOk, IfOk};
+ghost use Rattle.std.specs.FinMap as map;
+ghost use Rattle.vertex_graph.specs.Link.{Link as LinkValue};
+ghost use Rattle.tree_parts.specs.Maps.{AreHopsInOrder};
+ghost use Rattle.spf.specs.TreeValues.{IsBegun, IsRenewed, tree_of};
+
+use crate::handing::hand;
+use crate::losing::Search;
+use crate::nearing::near;
+use ospf_types::memory::Memory;
+use std::alloc::Global;
+use tree_parts::{Distances, HopColumns, Listing, Members, Touched};
+use vertex_graph::{Graph, Link};
+use vertex_map::Placed;
+use vertex_queue::Queue;
+use word_hash::WordHash;
+
+/// What a repair finds on its way. It is kept for its memory: each repair begins with none of it.
+pub(crate) struct Workspace {
+    pub(crate) search: Search,
+    // The root and what was lost, each with its distance before.
+    pub(crate) remembered: Vec<(Placed, Option<u32>)>,
+    queue: Queue,
+    pub(crate) moved: Members,
+    pub(crate) written: Members,
+    pub(crate) listing: Listing,
+}
+
+// proof: one call drops it, in place of a drop of each part wherever one is held.
+impl Drop for Workspace {
+    fn drop(self) {
+        let Workspace {
+            search: _search,
+            remembered: _remembered,
+            queue: _queue,
+            moved: _moved,
+            written: _written,
+            listing: _listing,
+        } = self;
+    }
+}
+
+impl Workspace {
+    /// Nothing is found yet.
+    pub(crate) fn new(alloc: Global, hashing: WordHash) -> Workspace
+        ensures lost { result.search.losses.lost ≡ [] }
+        ensures stale { result.search.losses.stale ≡ [] }
+    {
+        Workspace {
+            search: Search::new(alloc, hashing),
+            remembered: Vec::new(alloc),
+            queue: Queue::new(alloc, hashing),
+            moved: Members::new(alloc, hashing),
+            written: Members::new(alloc, hashing),
+            listing: Listing::new(alloc),
+        }
+    }
+
+    /// The second and the third part of a repair, once it is known what is lost.
+    pub(crate) fn renew(
+        &mut self,
+        alloc: Global,
+        graph: &Graph,
+        came: &[Link],
+        distances: &mut Distances,
+        hops: &mut HopColumns,
+    ) -> Result<Touched, Memory>
+        requires begun { (gone : List LinkValue) × IsBegun graph.now gone came.now (tree_of distances.old hops.old) self.old.search.losses.lost self.old.search.losses.stale }
+        ensures renewed { IfOk result (λ touched. IsRenewed graph.now came.now (tree_of distances.old hops.old) (tree_of distances.new hops.new) self.old.search.losses.lost self.old.search.losses.stale self.new.moved self.new.written touched.taken touched.hop_sets) }
+        ensures lost { OnOk result (self.new.search.losses.lost ≡ self.old.search.losses.lost) }
+        ensures remembered { self.new.remembered ≡ self.old.remembered }
+        ensures were_in_order { AreHopsInOrder hops.old }
+        ensures in_order { OnOk result (AreHopsInOrder hops.new) }
+    {
+        let _ = hops.len();
+        let mut touched = Touched::none();
+        // proof: nothing waits, as a tree is not repaired once it was refused memory.
+        empty(&mut self.queue);
+        near(
+            graph,
+            came,
+            &mut self.search.losses,
+            distances,
+            &mut self.queue,
+            &mut self.moved,
+            &mut touched,
+        )?;
+        hand(
+            alloc,
+            graph,
+            distances,
+            &self.search.losses,
+            &self.moved,
+            hops,
+            &mut self.queue,
+            &mut self.written,
+            &mut touched,
+        )?;
+        let _ = hops.len();
+        Ok(touched)
+    }
+
+    /// Gives up the places of vertices that do not wait, where there are more than so many.
+    pub(crate) fn trim(&mut self, most: usize) {
+        self.queue.trim(most);
+    }
+}
+
+// Takes out all that waits.
+fn empty(queue: &mut Queue)
+    ensures { queue.new ≡ map.empty }
+{
+    if !queue.is_empty() {
+        queue.clear();
+    }
+}
