@@ -23,6 +23,7 @@ use std::alloc::Global;
 use std::hash::RandomState;
 use std::marker::Model;
 use vertex_graph::{LinkChanges, Up};
+use vertex_map::Placed;
 
 /// The graph of an area and its shortest-path tree.
 pub struct AreaTree {
@@ -127,6 +128,13 @@ impl AreaTree {
         ensures own { IfSome result (λ l. vertex_of (key_of l.now) ≡ Some vertex) }
     {
         self.area.standing(database, vertex)
+    }
+
+    /// The vertex with the place that it has in the area's graph. Layers above keep it, and look it up without a hash.
+    pub fn placed(&self, vertex: Vertex) -> Placed
+        ensures { result ≡ vertex }
+    {
+        self.area.graph().placed(vertex)
     }
 
     /// The distance of a vertex, a sum of metrics; none where it is not reached.

@@ -145,6 +145,16 @@ impl Graph {
         }
     }
 
+    /// The vertex with the place of its row. Then `links_out_of` and `links_into` find it without a hash.
+    pub fn placed(&self, vertex: Vertex) -> Placed
+        ensures { result ≡ vertex }
+    {
+        match self.rows.get_index_of(&vertex) {
+            Some(place) => Placed::new(vertex, u32::try_from(place).unwrap_or(u32::MAX)),
+            None => Placed::nowhere(vertex),
+        }
+    }
+
     /// Puts the LSA of each vertex in the place of what it had, and takes out the vertices without one.
     /// Answers the links that went and came. They are usable LSAs (below MaxAge), and for a network that of the
     /// greatest Advertising Router. Where memory is refused, the graph stays as it was.
