@@ -153,6 +153,22 @@ impl AreaTree {
         self.tree.hops(vertex)
     }
 
+    /// The distance of a vertex that comes with its place, as `placed` gives it. Mostly nothing is hashed.
+    pub fn distance_at(&self, vertex: &Placed) -> Option<u32>
+        ensures value { result ≡ map.get self.now.tree.distances vertex.now }
+        ensures bounded { IfSome result (λ distance. distance < most_distance) }
+    {
+        self.tree.distance_at(vertex)
+    }
+
+    /// The next hops of a vertex that comes with its place, ascending, each once.
+    pub fn hops_at(&self, vertex: &Placed) -> &[NextHop]
+        ensures value { result.now ≡ listed_hops (map.get self.now.tree.hops vertex.now) }
+        ensures in_order { IsStrictlySortedBy hop_cmp result.now }
+    {
+        self.tree.hops_at(vertex)
+    }
+
     /// The vertices whose distance or next hops the last change changed, ascending, each once.
     pub fn changed(&self) -> &[Vertex]
         ensures { result.now ≡ self.now.tree.changed }

@@ -17,6 +17,7 @@ use std::marker::Model;
 use tree_parts::differing::{list_differing, remember};
 use tree_parts::{Distances, HopColumns, Touched};
 use vertex_graph::{Graph, LinkChanges};
+use vertex_map::Placed;
 use word_hash::WordHash;
 
 /// The shortest-path tree of an area.
@@ -132,6 +133,25 @@ impl Tree {
         ensures in_order { IsStrictlySortedBy hop_cmp result.now }
     {
         match self.hops.find(vertex) {
+            Some(hops) => hops.as_slice(),
+            None => &[],
+        }
+    }
+
+    /// The distance of a vertex that comes with the place of its row in the graph. Mostly nothing is hashed.
+    pub fn distance_at(&self, vertex: &Placed) -> Option<u32>
+        ensures value { result ≡ map.get self.now.distances vertex.now }
+        ensures bounded { IfSome result (λ distance. distance < most_distance) }
+    {
+        self.distances.get(vertex)
+    }
+
+    /// The next hops of a vertex that comes with the place of its row in the graph. Mostly nothing is hashed.
+    pub fn hops_at(&self, vertex: &Placed) -> &[NextHop]
+        ensures value { result.now ≡ listed_hops (map.get self.now.hops vertex.now) }
+        ensures in_order { IsStrictlySortedBy hop_cmp result.now }
+    {
+        match self.hops.get(vertex) {
             Some(hops) => hops.as_slice(),
             None => &[],
         }
