@@ -1,5 +1,5 @@
 //! The index of an area: what each vertex offers, and who offers each prefix. It follows the area's LSAs alone.
-ghost use Rattle.std.specs.Prelude.{◌≡◌, ◌≢◌, ◌↔◌, ◌⊎◌, ℕ, List, Option, Some, None, Contains, IfOk, IfSome, IsTrue, OnOk, option_copied};
+ghost use Rattle.std.specs.Prelude.{◌≡◌, ◌≢◌, ◌↔◌, ◌⊎◌, ◌∷◌, ℕ, [], List, Option, Some, None, Contains, IfOk, IfSome, IsTrue, OnOk, option_copied};
 ghost use Rattle.std.specs.FinMap as map;
 ghost use Rattle.std.specs.List.{AllPairs};
 ghost use Rattle.vertex_graph.specs.Up.{Up as UpValue};
@@ -12,6 +12,7 @@ ghost use Rattle.intra.specs.IndexSteps.{AreGone, HaveCome, IsPrefixOf, IsOfferO
 
 use crate::inputs::AreaInputs;
 use crate::offered::{Offer, Offered, offers_in, push_prefixes};
+use area_trees::AreaTree;
 use indexmap::IndexMap;
 use lsa_codec::Checked;
 use ospf_types::entry::Vertex;
@@ -20,12 +21,14 @@ use ospf_types::prefix::Prefix;
 use path_choice::are_same;
 use std::alloc::Global;
 use std::marker::Model;
+use vertex_map::Placed;
 use word_hash::WordHash;
 
 /// A vertex that offers a prefix, at a metric beside its distance.
-#[derive(Clone, Copy, PartialEq, Eq)]
+#[derive(Drop)]
 pub(crate) struct Source {
-    pub(crate) vertex: Vertex,
+    /// It has the place of its row in the area's graph.
+    pub(crate) vertex: Placed,
     pub(crate) metric: u16,
 }
 
@@ -127,7 +130,7 @@ impl AreaIndex {
         name_differing(listed(gone.as_ref()), listed(fresh.as_ref()), dirty)?;
         match fresh {
             Some(fresh) => {
-                self.put_in(vertex, fresh)?;
+                self.put_in(area.tree, vertex, fresh)?;
                 Ok(())
             }
             None => Ok(()),
@@ -173,23 +176,23 @@ impl AreaIndex {
     }
 
     // Puts in what the vertex offers, of which nothing is there.
-    fn put_in(&mut self, vertex: Vertex, fresh: Offered) -> Result<(), Memory>
+    fn put_in(&mut self, tree: &AreaTree, vertex: Vertex, fresh: Offered) -> Result<(), Memory>
         requires index { IsIndex self.old }
         requires absent { map.get self.old.offered vertex ≡ None }
         ensures index { OnOk result (IsIndex self.new) }
         ensures offered { OnOk result (self.new.offered ≡ map.insert self.old.offered vertex fresh) }
     {
-        self.add_sources(vertex, fresh.offers())?;
+        self.add_sources(&tree.placed(vertex), fresh.offers())?;
         self.offered.insert(vertex, fresh)?;
         Ok(())
     }
 
     // The vertex offers these prefixes too.
-    fn add_sources(&mut self, vertex: Vertex, offers: &[Offer]) -> Result<(), Memory>
-        requires absent { (p : PrefixValue) (metric : ℕ) → IsSource self.old vertex p metric → ⊥ }
+    fn add_sources(&mut self, vertex: &Placed, offers: &[Offer]) -> Result<(), Memory>
+        requires absent { (p : PrefixValue) (metric : ℕ) → IsSource self.old vertex.now p metric → ⊥ }
         requires each_once { AllPairs (λ a b. a ≢ b) offers.now }
         ensures offered { OnOk result (self.new.offered ≡ self.old.offered) }
-        ensures come { OnOk result (HaveCome (IsOfferOf vertex offers.now) self.old self.new) }
+        ensures come { OnOk result (HaveCome (IsOfferOf vertex.now offers.now) self.old self.new) }
     {
         for offer in offers {
             self.add_source(vertex, *offer)?;
@@ -198,25 +201,36 @@ impl AreaIndex {
     }
 
     // The vertex offers the prefix too.
-    fn add_source(&mut self, vertex: Vertex, offer: Offer) -> Result<(), Memory>
-        requires { IsSource self.old vertex offer.prefix offer.metric → ⊥ }
+    fn add_source(&mut self, vertex: &Placed, offer: Offer) -> Result<(), Memory>
+        requires { IsSource self.old vertex.now offer.prefix offer.metric → ⊥ }
         ensures offered { OnOk result (self.new.offered ≡ self.old.offered) }
-        ensures come { OnOk result (HaveCome (λ w p metric. (w ≡ vertex) × (p ≡ offer.prefix) × (metric ≡ offer.metric)) self.old self.new) }
+        ensures come { OnOk result (HaveCome (λ w p metric. (w ≡ vertex.now) × (p ≡ offer.prefix) × (metric ≡ offer.metric)) self.old self.new) }
     {
-        let metric = offer.metric;
-        let source = Source { vertex, metric };
+        let source = Source {
+            vertex: vertex.copy(),
+            metric: offer.metric,
+        };
         match self.sources.get_mut(&offer.prefix) {
             Some(sources) => {
                 sources.push(source)?;
                 Ok(())
             }
             None => {
-                let first = Vec::from_slice(self.alloc, &[source])?;
+                let first = list_of(self.alloc, source)?;
                 self.sources.insert(offer.prefix, first)?;
                 Ok(())
             }
         }
     }
+}
+
+// A list of one source.
+fn list_of(alloc: Global, source: Source) -> Result<Vec<Source>, Memory>
+    ensures { IfOk result (λ list. list.items ≡ source ∷ []) }
+{
+    let mut list = Vec::with_capacity(alloc, 1)?;
+    list.push(source)?;
+    Ok(list)
 }
 
 // Whether the offers are what the LSA that stands for the vertex says.
@@ -293,5 +307,5 @@ fn leave_out(sources: &mut Vec<Source>, vertex: Vertex)
     ensures each_once { AllPairs (λ a b. a ≢ b) sources.old.items → AllPairs (λ a b. a ≢ b) sources.new.items }
     ensures left { (w : VertexValue) (metric : ℕ) → Contains sources.new.items (record { vertex = w; metric = metric }) ↔ (Contains sources.old.items (record { vertex = w; metric = metric }) × (w ≢ vertex)) }
 {
-    sources.retain(|source| source.vertex != vertex);
+    sources.retain(|source| source.vertex.vertex() != vertex);
 }

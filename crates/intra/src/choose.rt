@@ -1,6 +1,7 @@
 //! The entry of a network: the best of what the areas offer (RFC 2328, 16.1 and 16.8).
 ghost use Rattle.std.specs.Prelude.{◌≡◌, ◌↔◌, ◌⊎◌, ◌++◌, ◌∷◌, ◌<◌, [], List, Some, IfOk, OnOk, IfSome, IsTrue, map as list_map};
 ghost use Rattle.std.specs.List.Sorted.{IsStrictlySortedBy};
+ghost use Rattle.ospf_types.specs.declared.entry.Vertex.TheVariants as vertex_value;
 ghost use Rattle.ospf_types.specs.declared.prefix.Prefix.{Prefix as PrefixValue};
 ghost use Rattle.ospf_types.specs.Hops.{path_cmp};
 ghost use Rattle.ospf_types.specs.Intra.{inside_area as path_inside};
@@ -25,6 +26,7 @@ use ospf_types::prefix::Prefix;
 use path_choice::{AreaCost, Best, Choice};
 use std::alloc::Global;
 use std::collections::btree_map::Iter;
+use vertex_map::Placed;
 
 /// The entry of the network, by the indexes of the areas; none where nothing is offered.
 pub(crate) fn choose(
@@ -100,9 +102,9 @@ fn offer_sources(
 {
     let mut nearest = None;
     for source in sources {
-        nearest = offer_source(best, inputs, area, nearest, *source, prefix)?;
+        nearest = offer_source(best, inputs, area, nearest, source, prefix)?;
     }
-    offer_transit(best, area, nearest)
+    offer_transit(best, area, sources, nearest)
 }
 
 // Offers the source, where it is a stub link. The answer is the nearest transit network, with this source among others.
@@ -111,17 +113,17 @@ fn offer_source(
     inputs: &Inputs<'_>,
     area: &AreaInputs<'_>,
     nearest: Option<(u32, u32)>,
-    source: Source,
+    source: &Source,
     prefix: Prefix,
 ) -> Result<Option<(u32, u32)>, Memory>
     requires { IfSome nearest (λ n. n.1 < most_distance) }
-    ensures offered { OnOk result (TakesPaths (KeyedStubs (ThisSource source) inputs.now area.now prefix) best.old best.new) }
-    ensures found { IfOk result (λ found. (before : List SourceValue) (p : PrefixValue) → FindsNearest (AmongSources before) area.now p nearest → FindsNearest (AmongSources (before ++ source ∷ [])) area.now p found) }
+    ensures offered { OnOk result (TakesPaths (KeyedStubs (ThisSource source.now) inputs.now area.now prefix) best.old best.new) }
+    ensures found { IfOk result (λ found. (before : List SourceValue) (p : PrefixValue) → FindsNearest (AmongSources before) area.now p nearest → FindsNearest (AmongSources (before ++ source.now ∷ [])) area.now p found) }
     ensures bounded { IfOk result (λ found. IfSome found (λ n. n.1 < most_distance)) }
 {
-    match source.vertex {
+    match source.vertex.vertex() {
         Vertex::Router(router) => {
-            offer_stub(best, inputs, area, router, source.metric, prefix)?;
+            offer_stub(best, inputs, area, router, source, prefix)?;
             Ok(nearest)
         }
         Vertex::Network(_) => Ok(nearest_with(area, nearest, source)),
@@ -134,19 +136,20 @@ fn offer_stub(
     inputs: &Inputs<'_>,
     area: &AreaInputs<'_>,
     router: u32,
-    metric: u16,
+    stub: &Source,
     prefix: Prefix,
 ) -> Result<(), Memory>
-    ensures { OnOk result (TakesPaths (KeyedStubs (ThisSource (record { vertex = Vertex.Router router; metric = metric })) inputs.now area.now prefix) best.old best.new) }
+    requires { stub.now.vertex ≡ vertex_value.Router router }
+    ensures { OnOk result (TakesPaths (KeyedStubs (ThisSource (record { vertex = vertex_value.Router router; metric = stub.now.metric })) inputs.now area.now prefix) best.old best.new) }
 {
     if router == inputs.root {
-        let key = cost_in(area, u32::from(metric));
+        let key = cost_in(area, u32::from(stub.metric));
         return offer_own(best, inputs.interfaces.clone()?, key, prefix);
     }
-    match distance(area, Vertex::Router(router)) {
+    match distance(area, &stub.vertex) {
         Some(distance) => {
-            let key = cost_in(area, distance + u32::from(metric));
-            offer_hops(best, key, hops(area, Vertex::Router(router)))
+            let key = cost_in(area, distance + u32::from(stub.metric));
+            offer_hops(best, key, hops(area, &stub.vertex))
         }
         None => Ok(()),
     }
@@ -198,6 +201,7 @@ fn is_over(area: u32, prefix: Prefix, interface: Interface) -> bool
 fn offer_transit(
     best: &mut Best<AreaCost, Path>,
     area: &AreaInputs<'_>,
+    sources: &[Source],
     nearest: Option<(u32, u32)>,
 ) -> Result<(), Memory>
     requires { IfSome nearest (λ n. n.1 < most_distance) }
@@ -206,29 +210,42 @@ fn offer_transit(
     match nearest {
         Some((id, distance)) => {
             let key = cost_in(area, distance);
-            offer_hops(best, key, hops(area, Vertex::Network(id)))
+            offer_hops(best, key, hops(area, &network_of(sources, id)))
         }
         None => Ok(()),
     }
+}
+
+// The transit network, with the place that its source has.
+fn network_of(sources: &[Source], id: u32) -> Placed
+    ensures { result ≡ vertex_value.Network id }
+{
+    let network = Vertex::Network(id);
+    for source in sources {
+        if source.vertex.vertex() == network {
+            return source.vertex.with_vertex(network);
+        }
+    }
+    Placed::nowhere(network)
 }
 
 // The nearest transit network, with one more source.
 fn nearest_with(
     area: &AreaInputs<'_>,
     nearest: Option<(u32, u32)>,
-    source: Source,
+    source: &Source,
 ) -> Option<(u32, u32)>
     requires { IfSome nearest (λ n. n.1 < most_distance) }
-    ensures found { (before : List SourceValue) (p : PrefixValue) → FindsNearest (AmongSources before) area.now p nearest → FindsNearest (AmongSources (before ++ source ∷ [])) area.now p result }
+    ensures found { (before : List SourceValue) (p : PrefixValue) → FindsNearest (AmongSources before) area.now p nearest → FindsNearest (AmongSources (before ++ source.now ∷ [])) area.now p result }
     ensures bounded { IfSome result (λ n. n.1 < most_distance) }
 {
     if source.metric > 0 {
         return nearest;
     }
-    let Vertex::Network(id) = source.vertex else {
+    let Vertex::Network(id) = source.vertex.vertex() else {
         return nearest;
     };
-    match distance(area, source.vertex) {
+    match distance(area, &source.vertex) {
         Some(distance) => Some(nearer(nearest, (id, distance))),
         None => nearest,
     }
@@ -247,18 +264,18 @@ fn nearer(nearest: Option<(u32, u32)>, other: (u32, u32)) -> (u32, u32)
 }
 
 // The distance of a vertex of the area.
-fn distance(area: &AreaInputs<'_>, vertex: Vertex) -> Option<u32>
-    ensures value { result ≡ distance_at area.now vertex }
+fn distance(area: &AreaInputs<'_>, vertex: &Placed) -> Option<u32>
+    ensures value { result ≡ distance_at area.now vertex.now }
     ensures bounded { IfSome result (λ distance. distance < most_distance) }
 {
-    area.tree.distance(vertex)
+    area.tree.distance_at(vertex)
 }
 
 // Its next hops.
-fn hops<'a>(area: &AreaInputs<'a>, vertex: Vertex) -> &'a [NextHop]
-    ensures { result.now ≡ hops_at area.now vertex }
+fn hops<'a>(area: &AreaInputs<'a>, vertex: &Placed) -> &'a [NextHop]
+    ensures { result.now ≡ hops_at area.now vertex.now }
 {
-    area.tree.hops(vertex)
+    area.tree.hops_at(vertex)
 }
 
 // This cost in the area.

@@ -1,9 +1,9 @@
 -- One source more, and then the transit network.
-use Rattle.std.proofs.Common.{List, sym, subst, take}
+use Rattle.std.proofs.Common.{◌++◌, ◌∷◌, [], List, sym, subst, take}
 use Rattle.std.proofs.lemmas.List.{take_more, take_all}
 use Rattle.std.proofs.lemmas.Result.{on_ok_weaker}
 use Rattle.intra.specs.declared.area_index.Source.{Source}
-use Rattle.intra.specs.Choosing.{AmongSources, ThisSource, KeyedStubs, FindsNearest}
+use Rattle.intra.specs.Choosing.{AmongSources, TakesPaths, ThisSource, KeyedStubs, FindsNearest}
 use Rattle.intra.proofs.Nearest.{nearest_of_none}
 use Rattle.intra.proofs.Sourced.{takes_area, takes_sources}
 use Rattle.path_choice.proofs.Taking.{takes_at, takes_past}
@@ -14,13 +14,18 @@ loop-source-init c = record { offered = λ new takes. takes; found = λ p. neare
 
 pub loop-source-preserved : goal.loop-source-preserved
 loop-source-preserved c =
+    let v = c.args.inputs.now in
+    let a = c.args.area.now in
+    let p = c.args.prefix in
     let xs = c.args.sources.now in
     let i = c.loop-source.source-index in
+    let x = c.source-item.result in
     let source = c.in_ok-nearest.ensures in
+    let offered = subst (λ (s : Source). TakesPaths (KeyedStubs (ThisSource s) v a p) c.loop-source.best c.offer_source.new.best) c.source-item.is source.offered in
     record {
-      offered = λ new rest.
-          c.loop-source.invariant.offered new (takes_at (λ (s : Source). KeyedStubs (ThisSource s) c.args.inputs.now c.args.area.now c.args.prefix) xs i _ c.loop-source.best c.offer_source.new.best new c.loop-source-test.true source.offered rest);
-      found = λ p. subst (λ (past : List Source). FindsNearest (AmongSources past) c.args.area.now p c.in_ok-nearest.nearest) (sym (take_more xs i _ c.loop-source-test.true)) (source.found (take i xs) p (c.loop-source.invariant.found p));
+      offered = λ new rest. c.loop-source.invariant.offered new (takes_at (λ (s : Source). KeyedStubs (ThisSource s) v a p) xs i x c.loop-source.best c.offer_source.new.best new c.loop-source-test.true offered rest);
+      found = λ q. subst (λ (past : List Source). FindsNearest (AmongSources past) a q c.in_ok-nearest.nearest) (sym (take_more xs i x c.loop-source-test.true))
+          (subst (λ (s : Source). FindsNearest (AmongSources (take i xs ++ s ∷ [])) a q c.in_ok-nearest.nearest) c.source-item.is (source.found (take i xs) q (c.loop-source.invariant.found q)));
       bounded = source.bounded;
     }
 

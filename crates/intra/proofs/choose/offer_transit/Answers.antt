@@ -1,7 +1,8 @@
-use Rattle.std.proofs.Common.{List, subst}
+use Rattle.std.proofs.Common.{List, ap, subst, ◌∙◌}
 use Rattle.std.proofs.lemmas.Result.{on_ok_weaker}
 use Rattle.ospf_types.specs.declared.hop.NextHop.{NextHop}
 use Rattle.ospf_types.specs.Intra.{AreaCost}
+use Rattle.intra.specs.Inputs.{hops_at}
 use Rattle.intra.specs.Choosing.{TakesPaths, AmongSources, HopsOffer, FindsNearest}
 use Rattle.intra.proofs.Sourced.{takes_transit, takes_no_transit}
 use Rattle.intra.proofs.choose.offer_transit.Goals as goal
@@ -12,7 +13,7 @@ returns-in-Some c = λ sources p found.
     let near = subst (FindsNearest (AmongSources sources) a p) c.in-Some.is found in
     on_ok_weaker c.offer_hops.result
     (λ takes. takes_transit a p (AmongSources sources) c.in-Some.id c.in-Some.distance c.args.best.now c.offer_hops.new.best near
-    (subst (λ (hops : List NextHop). TakesPaths (HopsOffer hops (c.in-Some.distance, a.id)) c.args.best.now c.offer_hops.new.best) c.hops.ensures
+    (subst (λ (hops : List NextHop). TakesPaths (HopsOffer hops (c.in-Some.distance, a.id)) c.args.best.now c.offer_hops.new.best) (c.hops.ensures ∙ ap (hops_at a) c.network_of.ensures)
     (subst (λ (k : AreaCost). TakesPaths (HopsOffer c.hops.result.now k) c.args.best.now c.offer_hops.new.best) c.cost_in-key.ensures takes)))
     c.offer_hops.ensures
 

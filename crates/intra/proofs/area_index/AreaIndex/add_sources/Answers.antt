@@ -8,14 +8,14 @@ pub add_source-requires : goal.add_source-requires
 add_source-requires c = λ there.
     let offer = c.offer-item.result in
     let os = c.args.offers.now in
-    elim ((c.loop-offer.invariant.1 c.args.vertex offer.prefix offer.metric).0 there) [
+    elim ((c.loop-offer.invariant.1 c.args.vertex.now offer.prefix offer.metric).0 there) [
       | inl was ↦ c.requires.absent offer.prefix offer.metric was
       | inr before ↦ not_before os c.requires.each_once c.loop-offer.offer-index offer c.loop-offer-test.true c.offer-item.is before.1
     ]
 
 pub loop-offer-preserved : goal.loop-offer-preserved
 loop-offer-preserved c =
-    let v = c.args.vertex in
+    let v = c.args.vertex.now in
     let os = c.args.offers.now in
     let i = c.loop-offer.offer-index in
     let offer = c.offer-item.result in
@@ -25,4 +25,4 @@ loop-offer-preserved c =
     )
 
 pub returns-clause-come : goal.returns-clause-come
-returns-clause-come c = come_end c.args.vertex c.args.offers.now c.loop-offer.offer-index c.loop-offer-test.false c.args.self.now c.loop-offer.self c.loop-offer.invariant.1
+returns-clause-come c = come_end c.args.vertex.now c.args.offers.now c.loop-offer.offer-index c.loop-offer-test.false c.args.self.now c.loop-offer.self c.loop-offer.invariant.1
