@@ -1,11 +1,15 @@
 -- What the distances are once those of lost vertices were taken out, and that of the root set.
-use Rattle.std.proofs.Common.{◌≡◌, ℕ, ◌+◌, ◌<◌, List, [], length, take, get_or, Option, refl, sym, ap, subst, ◌∙◌, inl, inr}
+use Rattle.std.proofs.Common.{◌≡◌, ℕ, ◌+◌, ◌<◌, ◌==◌, Bool, true, not, List, [], ◌∷◌, length, take, get_or, Option, refl, sym, ap, subst, ◌∙◌, inl, inr}
 use Rattle.std.specs.List.{Contains}
 use Rattle.std.specs.FinMap.{get, insert, remove}
 use Rattle.std.proofs.lemmas.List.{get_or_default}
 use Rattle.ospf_types.specs.declared.entry.Vertex.{Vertex}
-use Rattle.ospf_types.specs.declared.entry.Vertex.TheVariants.{Router}
-use Rattle.ospf_types.proofs.Elements.{no_element}
+use Rattle.ospf_types.specs.declared.entry.Vertex.TheVariants.{Router, Network}
+use Rattle.ospf_types.specs.declared.label.Label.{Label}
+use Rattle.ospf_types.specs.Links.{IsVertexOf}
+use Rattle.ospf_types.proofs.Elements.{no_element, first_element}
+use Rattle.vertex_graph.specs.Link.{Link}
+use Rattle.vertex_graph.specs.Graphs.{GraphValue, graph_view, LinksOf, HasRoot, AreLinksFrom}
 use Rattle.tree_parts.specs.Maps.{DistanceMap}
 use Rattle.tree_parts.proofs.Elements.{cases_vertex}
 use Rattle.tree_parts.proofs.VertexMaps.{set_here, set_elsewhere, gone_here, gone_elsewhere}
@@ -57,3 +61,15 @@ module _ {root : ℕ} {has_root : Type 0} {old : Vertex → Option ℕ} {lost : 
     blank = λ v other gone. gone_elsewhere cleared (Router root) v other ∙ c.blank v gone;
     kept = λ v other kept. gone_elsewhere cleared (Router root) v other ∙ c.kept v kept;
   })
+
+-- a router that links lead out of is a vertex
+router_there : (g : GraphValue) (r : ℕ) (to : Vertex) (cost : ℕ) (label : Label) → LinksOf g (Router r) to cost label → IsVertexOf (graph_view g) (Router r)
+router_there g r (Router to) cost label is = (is.0, is.1, is.3)
+router_there g r (Network to) cost label is = (is.0, is.1, is.3)
+
+-- so the root is one where links lead out of it
+pub rooted_by : (g : GraphValue) (links : List Link) (v : Vertex) (none : Bool) → v ≡ Router g.root → AreLinksFrom g v links → none ≡ (length links == 0) → not none ≡ true → HasRoot g
+rooted_by g [] v none is exact test some = absurd cc
+rooted_by g (l ∷ links) v none is exact test some =
+    let at = (exact l).0 (first_element l links) in
+    router_there g g.root l.to l.cost l.label (subst (λ (u : Vertex). LinksOf g u l.to l.cost l.label) (at.0 ∙ is) at.1)

@@ -1,5 +1,5 @@
 //! What the least links into a vertex give it, of the next hops of their tails (RFC 2328, 16.1.1).
-ghost use Rattle.std.specs.Prelude.{◌≡◌, ◌↔◌, ℕ, IfSome, IfNone, IsTrue, IfOk, OnOk, Contains, Some, option_copied, option_to_list};
+ghost use Rattle.std.specs.Prelude.{◌≡◌, ◌↔◌, ◌⊎◌, ℕ, IfSome, IfNone, IsTrue, IfOk, OnOk, Contains, Some, option_copied, option_to_list};
 ghost use Rattle.std.specs.FinMap as map;
 ghost use Rattle.ospf_types.specs.Distances.{FirstOnly};
 ghost use Rattle.ospf_types.specs.declared.hop.NextHop.{NextHop as Hop};
@@ -116,12 +116,23 @@ fn add_handed_on(tail: &HopSet, label: &Label, set: &mut HopSet) -> Result<(), M
     ensures { OnOk result (IsUnion set.old set.new (IsOfSome tail.now (IsHandedOn label.now))) }
 {
     if !has_direct(tail.as_slice()) {
-        return set.unite(tail);
+        return unite(tail, set);
     }
     for hop in tail.as_slice() {
         add_handed(*hop, label, set)?;
     }
     Ok(())
+}
+
+// Adds all of these next hops. Most often they are the first.
+fn unite(tail: &HopSet, set: &mut HopSet) -> Result<(), Memory>
+    ensures { OnOk result ((h : Hop) → Contains set.new h ↔ (Contains set.old h ⊎ Contains tail.now h)) }
+{
+    if set.is_empty() {
+        *set = tail.copy()?;
+        return Ok(());
+    }
+    set.unite(tail)
 }
 
 fn has_direct(hops: &[NextHop]) -> bool

@@ -14,7 +14,7 @@ use crate::places::is_at_root;
 use hop_sets::HopSet;
 use ospf_types::memory::Memory;
 use std::alloc::Global;
-use tree_parts::{Distances, HopColumns, Members, Touched};
+use tree_parts::{Distances, HopColumns, Touched, VertexList};
 use vertex_graph::{Graph, Link};
 use vertex_map::Placed;
 use vertex_queue::Queue;
@@ -25,10 +25,10 @@ pub(crate) fn hand(
     graph: &Graph,
     distances: &Distances,
     losses: &Losses,
-    moved: &Members,
+    moved: &VertexList,
     hops: &mut HopColumns,
     queue: &mut Queue,
-    written: &mut Members,
+    written: &mut VertexList,
     touched: &mut Touched,
 ) -> Result<(), Memory>
     requires none_wait { queue.old ≡ map.empty }
@@ -39,7 +39,7 @@ pub(crate) fn hand(
     ensures taken { OnOk result (touched.old.taken ≤ touched.new.taken) }
     ensures written { OnOk result (touched.new.hop_sets ≡ length written.new) }
 {
-    written.clear(graph.len());
+    written.clear();
     blank(distances, losses.lost.as_slice(), hops, written, touched)?;
     let root = graph.root();
     put_reached(root, distances, moved.as_slice(), queue)?;
@@ -58,7 +58,7 @@ fn blank(
     distances: &Distances,
     lost: &[Placed],
     hops: &mut HopColumns,
-    written: &mut Members,
+    written: &mut VertexList,
     touched: &mut Touched,
 ) -> Result<(), Memory>
     requires apart { HasNoDoubles lost.now }
@@ -87,7 +87,7 @@ fn settle(
     hops: &mut HopColumns,
     touched: &mut Touched,
     queue: &mut Queue,
-    written: &mut Members,
+    written: &mut VertexList,
 ) -> Result<(), Memory>
     requires at { map.get distances.now vertex.now ≡ Some distance }
     requires fresh { Contains written.old vertex.now → ⊥ }
@@ -111,7 +111,7 @@ fn write(
     set: Option<HopSet>,
     hops: &mut HopColumns,
     touched: &mut Touched,
-    written: &mut Members,
+    written: &mut VertexList,
 ) -> Result<(), Memory>
     requires fresh { Contains written.old vertex.now → ⊥ }
     requires counted { touched.old.hop_sets ≡ length written.old }

@@ -10,6 +10,7 @@ ghost use Rattle.spf.specs.Parts.{IsBefore, AreLost};
 ghost use Rattle.spf.specs.Repairs.{IsSupported};
 ghost use Rattle.spf.specs.Suspects.{Supports, WasLeast, MaySupport, IsHead, AreToldOf, IsJudged};
 
+use crate::workspace::MOST_KEPT;
 use ospf_types::entry::Vertex;
 use ospf_types::memory::Memory;
 use std::alloc::Global;
@@ -44,7 +45,7 @@ pub(crate) fn lose(
     requires { IsBefore graph.now changes.now.gone.items changes.now.came.items (map.get distances.now) }
     ensures { OnOk result (AreLost graph.now changes.now.gone.items changes.now.came.items (map.get distances.now) search.new.losses.lost search.new.losses.stale) }
 {
-    search.clear(graph.len());
+    search.clear(MOST_KEPT);
     search.suspect_heads(changes.gone.as_slice(), graph.root(), distances)?;
     while let Some(suspect) = search.suspects.pop() {
         search.judge(graph, distances, &suspect)?;
@@ -174,7 +175,7 @@ impl Search {
         )? {
             return Ok(());
         }
-        self.losses.lost.add(suspect)?;
+        self.losses.lost.push(suspect)?;
         self.suspect_beyond(
             graph.links_out_of(suspect),
             graph.root(),

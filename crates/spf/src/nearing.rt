@@ -13,22 +13,24 @@ ghost use Rattle.spf.specs.Parts.{AreStarted, AreNeared};
 ghost use Rattle.spf.specs.Repairs.{IsReset};
 
 use crate::losing::Losses;
-use crate::places::{is_at_root, tail_of};
+use crate::places::is_at_root;
 use ospf_types::entry::Vertex;
 use ospf_types::memory::Memory;
-use tree_parts::{Distances, Members, Touched};
+use tree_parts::{Distances, Members, Touched, VertexList};
 use vertex_graph::{Graph, Link};
 use vertex_map::Placed;
 use vertex_queue::Queue;
 
 /// Finds the distances after, and the vertices that moved. Vertices whose least links changed by them become stale.
+/// The root is looked for at the place.
 pub(crate) fn near(
     graph: &Graph,
+    place: &Placed,
     came: &[Link],
     losses: &mut Losses,
     distances: &mut Distances,
     queue: &mut Queue,
-    moved: &mut Members,
+    moved: &mut VertexList,
     touched: &mut Touched,
 ) -> Result<(), Memory>
     requires started { AreStarted (LinksOf graph.now) (Among came.now) graph.now.root (HasRoot graph.now) (map.get distances.old) losses.old.lost }
@@ -42,7 +44,7 @@ pub(crate) fn near(
     ensures small { OnOk result (touched.new.taken < 2 ^ 63) }
 {
     let root = graph.root();
-    reset(graph, losses.lost.as_slice(), distances)?;
+    reset(graph, place, losses.lost.as_slice(), distances)?;
     offer_into(
         graph,
         losses.lost.as_slice(),
@@ -51,7 +53,7 @@ pub(crate) fn near(
         &mut losses.stale,
     )?;
     offer_reached(root, came, distances, queue, &mut losses.stale)?;
-    moved.clear(graph.len());
+    moved.clear();
     while let Some((vertex, distance)) = touched.take(queue) {
         reach(
             graph,
@@ -69,18 +71,30 @@ pub(crate) fn near(
 
 // The distances from which those after are sought: none of what is lost, and of the root by whether it
 // is a vertex.
-fn reset(graph: &Graph, lost: &[Placed], distances: &mut Distances) -> Result<(), Memory>
+fn reset(
+    graph: &Graph,
+    place: &Placed,
+    lost: &[Placed],
+    distances: &mut Distances,
+) -> Result<(), Memory>
     ensures { OnOk result (IsReset graph.now.root (HasRoot graph.now) (map.get distances.old) lost.now (map.get distances.new)) }
 {
     clear(lost, distances);
-    let root = Vertex::Router(graph.root());
-    if graph.has_root() {
-        let placed = tail_of(graph.links_from(root), root);
-        distances.set(&placed, 0)?;
+    let root = place.with_vertex(Vertex::Router(graph.root()));
+    if has_root(graph, &root) {
+        distances.set(&root, 0)?;
     } else {
-        distances.remove(&Placed::nowhere(root));
+        distances.remove(&root);
     }
     Ok(())
+}
+
+// Whether the root is a vertex. It is one where links lead out of it, and they are found at its place.
+fn has_root(graph: &Graph, root: &Placed) -> bool
+    requires { root.now ≡ RouterValue graph.now.root }
+    ensures { IsTrue result ↔ HasRoot graph.now }
+{
+    !graph.links_out_of(root).is_empty() || graph.has_root()
 }
 
 fn clear(lost: &[Placed], distances: &mut Distances)

@@ -2,7 +2,7 @@
 ghost use Rattle.std.specs.Prelude.{◌≡◌, ◌↔◌, IsTrue};
 
 use ospf_types::entry::Vertex;
-use vertex_graph::Link;
+use vertex_graph::{Graph, Link};
 use vertex_map::Placed;
 
 /// The vertex that these links lead out of, at the place that the first of them tells.
@@ -13,6 +13,14 @@ pub(crate) fn tail_of(links: &[Link], vertex: Vertex) -> Placed
         Some(link) => link.from.with_vertex(vertex),
         None => Placed::nowhere(vertex),
     }
+}
+
+/// The root of the graph, at the place that its links tell. They are looked for at the place that it had.
+pub(crate) fn root_of(graph: &Graph, before: &Placed) -> Placed
+    ensures { result ≡ Vertex.Router graph.now.root }
+{
+    let root = Vertex::Router(graph.root());
+    tail_of(graph.links_out_of(&before.with_vertex(root)), root)
 }
 
 /// Whether the vertex is the root.

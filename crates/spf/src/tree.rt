@@ -6,7 +6,7 @@ ghost use Rattle.tree_parts.specs.Maps.{most_distance};
 ghost use Rattle.spf.specs.TreeValues.{IsTreeOf, IsTreeBefore, AreChanged, AreOthersKept, IsBounded, IsWorkDone, IsWorkForAll, listed_hops};
 
 use crate::losing::lose;
-use crate::places::tail_of;
+use crate::places::{root_of, tail_of};
 use crate::workspace::Workspace;
 use ospf_types::entry::Vertex;
 use ospf_types::hop::NextHop;
@@ -26,6 +26,8 @@ pub struct Tree {
     hops: HopColumns,
     changed: Vec<Vertex>,
     spent: bool,
+    // The root, with its place.
+    root: Placed,
     workspace: Workspace,
 }
 
@@ -37,6 +39,7 @@ impl Drop for Tree {
             hops: _hops,
             changed: _changed,
             spent: _,
+            root: _root,
             workspace: _workspace,
         } = self;
     }
@@ -73,13 +76,16 @@ impl Tree {
         let mut distances = Distances::with_room(alloc, hashing, graph.len())?;
         let mut hops = HopColumns::with_room(alloc, hashing, graph.len())?;
         let mut workspace = Workspace::new(alloc, hashing);
-        let came = graph.links_from(Vertex::Router(graph.root()));
-        let touched = workspace.renew(alloc, graph, came, &mut distances, &mut hops)?;
+        let root = Vertex::Router(graph.root());
+        let came = graph.links_from(root);
+        let root = tail_of(came, root);
+        let touched = workspace.renew(alloc, graph, &root, came, &mut distances, &mut hops)?;
         let tree = Tree {
             distances,
             hops,
             changed: Vec::new(alloc),
             spent: false,
+            root,
             // That of the build is dropped: few repairs find as much.
             workspace: Workspace::new(alloc, hashing),
         };
@@ -105,8 +111,9 @@ impl Tree {
     {
         self.trim(graph);
         let repaired = self.repair_parts(alloc, graph, changes);
-        if repaired.is_err() {
-            self.spend();
+        match &repaired {
+            Ok(_) => self.workspace.give_back(alloc),
+            Err(_) => self.spend(),
         }
         repaired
     }
@@ -190,16 +197,17 @@ impl Tree {
         ensures work { IfOk result (λ touched. IsWorkDone graph.now self.old self.new touched.taken touched.hop_sets) }
     {
         lose(graph, changes, &self.distances, &mut self.workspace.search)?;
-        let root = Vertex::Router(graph.root());
+        self.root = root_of(graph, &self.root);
         remember(
             &self.distances,
-            &tail_of(graph.links_from(root), root),
+            &self.root,
             self.workspace.search.losses.lost.as_slice(),
             &mut self.workspace.remembered,
         )?;
         let touched = self.workspace.renew(
             alloc,
             graph,
+            &self.root,
             changes.came.as_slice(),
             &mut self.distances,
             &mut self.hops,

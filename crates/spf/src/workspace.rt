@@ -10,11 +10,14 @@ use crate::losing::Search;
 use crate::nearing::near;
 use ospf_types::memory::Memory;
 use std::alloc::Global;
-use tree_parts::{Distances, HopColumns, Listing, Members, Touched};
+use tree_parts::{Distances, HopColumns, Listing, Touched, VertexList};
 use vertex_graph::{Graph, Link};
 use vertex_map::Placed;
 use vertex_queue::Queue;
 use word_hash::WordHash;
+
+/// The most vertices for which memory is kept from repair to repair.
+pub(crate) const MOST_KEPT: usize = 512;
 
 /// What a repair finds on its way. It is kept for its memory: each repair begins with none of it.
 pub(crate) struct Workspace {
@@ -22,9 +25,10 @@ pub(crate) struct Workspace {
     // The root and what was lost, each with its distance before.
     pub(crate) remembered: Vec<(Placed, Option<u32>)>,
     queue: Queue,
-    pub(crate) moved: Members,
-    pub(crate) written: Members,
+    pub(crate) moved: VertexList,
+    pub(crate) written: VertexList,
     pub(crate) listing: Listing,
+    hashing: WordHash,
 }
 
 // proof: one call drops it, in place of a drop of each part wherever one is held.
@@ -37,6 +41,7 @@ impl Drop for Workspace {
             moved: _moved,
             written: _written,
             listing: _listing,
+            hashing: _,
         } = self;
     }
 }
@@ -51,17 +56,19 @@ impl Workspace {
             search: Search::new(alloc, hashing),
             remembered: Vec::new(alloc),
             queue: Queue::new(alloc, hashing),
-            moved: Members::new(alloc, hashing),
-            written: Members::new(alloc, hashing),
+            moved: VertexList::new(alloc),
+            written: VertexList::new(alloc),
             listing: Listing::new(alloc),
+            hashing,
         }
     }
 
-    /// The second and the third part of a repair, once it is known what is lost.
+    /// The second and the third part of a repair, once it is known what is lost. The root is looked for at the place.
     pub(crate) fn renew(
         &mut self,
         alloc: Global,
         graph: &Graph,
+        place: &Placed,
         came: &[Link],
         distances: &mut Distances,
         hops: &mut HopColumns,
@@ -79,6 +86,7 @@ impl Workspace {
         empty(&mut self.queue);
         near(
             graph,
+            place,
             came,
             &mut self.search.losses,
             distances,
@@ -104,6 +112,19 @@ impl Workspace {
     /// Gives up the places of vertices that do not wait, where there are more than so many.
     pub(crate) fn trim(&mut self, most: usize) {
         self.queue.trim(most);
+    }
+
+    /// Gives back the memory that only a large repair needs.
+    pub(crate) fn give_back(&mut self, alloc: Global) {
+        if self.search.losses.stale.len() > MOST_KEPT {
+            self.search = Search::new(alloc, self.hashing);
+            self.remembered = Vec::new(alloc);
+        }
+        if self.moved.len().max(self.written.len()) > MOST_KEPT {
+            self.moved = VertexList::new(alloc);
+            self.written = VertexList::new(alloc);
+            self.listing = Listing::new(alloc);
+        }
     }
 }
 

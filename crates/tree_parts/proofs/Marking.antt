@@ -55,13 +55,13 @@ pub marked_there : (marks : Marks) (vs : List Vertex) (v : Vertex) → IsMarked 
 marked_there marks vs v at = (at.0, slice_get_within vs at.0 v at.2, get_or_from_slice_get vs at.0 v v at.2)
 
 -- where the vertices are many, a mark tells whether one is there
-many_marked : (marks : Marks) (vs : List Vertex) → 8 < length vs → AreFound marks vs → AreMarked marks vs
+many_marked : (marks : Marks) (vs : List Vertex) → 16 < length vs → AreFound marks vs → AreMarked marks vs
 many_marked marks vs many (inl few) = absurd (omega (arith, many, few))
 many_marked marks vs many (inr all) = all
 
-pub found_by_mark : (marks : Marks) (list vs now : List Vertex) (v : Vertex) (b : Bool) → list ≡ vs → vs ≡ now → 8 < length list → AreFound marks vs → (IsTrue b ↔ IsMarked marks list v) → IsTrue b ↔ Contains now v
+pub found_by_mark : (marks : Marks) (list vs now : List Vertex) (v : Vertex) (b : Bool) → list ≡ vs → vs ≡ now → 16 < length list → AreFound marks vs → (IsTrue b ↔ IsMarked marks list v) → IsTrue b ↔ Contains now v
 found_by_mark marks list vs now v b was is many found test =
-    let all : AreMarked marks vs = many_marked marks vs (subst (λ (ws : List Vertex). 8 < length ws) was many) found in (
+    let all : AreMarked marks vs = many_marked marks vs (subst (λ (ws : List Vertex). 16 < length ws) was many) found in (
       λ t. subst (λ (ws : List Vertex). Contains ws v) (was ∙ is) (marked_there marks list v (test.0 t)),
       λ there. test.1 (subst (λ (ws : List Vertex). IsMarked marks ws v) (sym was) (all v (subst (λ (ws : List Vertex). Contains ws v) (sym is) there))),
     )

@@ -17,4 +17,4 @@ AreMarked marks list = (v : Vertex) → Contains list v → IsMarked marks list 
 
 -- the vertices are few, or each has its mark
 abbrev pub AreFound : Marks → List Vertex → Type 0
-AreFound marks list = (length list ≤ 8) ⊎ AreMarked marks list
+AreFound marks list = (length list ≤ 16) ⊎ AreMarked marks list

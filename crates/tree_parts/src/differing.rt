@@ -9,6 +9,7 @@ ghost use Rattle.tree_parts.specs.Differing.{IsFarther, IsNearer};
 use crate::distances::Distances;
 use crate::listing::Listing;
 use crate::members::Members;
+use crate::vertex_list::VertexList;
 use ospf_types::entry::Vertex;
 use ospf_types::memory::Memory;
 use vertex_map::Placed;
@@ -37,8 +38,8 @@ pub fn list_differing(
     remembered: &[(Placed, Option<u32>)],
     distances: &Distances,
     lost: &Members,
-    moved: &Members,
-    written: &Members,
+    moved: &VertexList,
+    written: &VertexList,
     listing: &mut Listing,
     changed: &mut Vec<Vertex>,
 ) -> Result<(), Memory>

@@ -8,9 +8,11 @@ mod hop_columns;
 mod listing;
 mod members;
 mod touched;
+mod vertex_list;
 
 pub use distances::Distances;
 pub use hop_columns::HopColumns;
 pub use listing::Listing;
 pub use members::Members;
 pub use touched::Touched;
+pub use vertex_list::VertexList;

@@ -10,10 +10,10 @@ use std::marker::Model;
 use vertex_map::{Placed, VertexMap};
 use word_hash::WordHash;
 
-/// A list of vertices has each vertex once, in the order in which they were added. Up to eight take no memory.
+/// A list of vertices has each vertex once, in the order in which they were added. Up to sixteen take no memory.
 pub struct Members {
-    list: SmallVec<Placed, 8>,
-    // Of more than eight vertices, at which index of the list each stands. Others may be marked too, and one that is
+    list: SmallVec<Placed, 16>,
+    // Of more than sixteen vertices, at which index of the list each stands. Others may be marked too, and one that is
     // marked at an index where the list has another is not there. So the list is cleared, and no mark.
     marks: VertexMap<usize>,
 }
@@ -57,7 +57,7 @@ impl Members {
         ensures { IsTrue result ↔ Contains self.now vertex.now }
     {
         let list = self.list.as_slice();
-        if list.len() > 8 {
+        if list.len() > 16 {
             return is_marked(&self.marks, list, vertex);
         }
         is_among(list, vertex)
@@ -68,7 +68,7 @@ impl Members {
         ensures value { result ≡ length self.now }
         ensures small { result < 2 ^ 63 }
     {
-        // proof: of more than eight each has its mark.
+        // proof: of more than sixteen each has its mark.
         let _ = self.marks.len();
         self.list.len()
     }
@@ -163,7 +163,7 @@ fn is_same(one: &Placed, other: &Placed) -> bool
     one.vertex() == other.vertex()
 }
 
-// Marks a vertex that is to follow these, if they are eight or more, and with the ninth the eight before it.
+// Marks a vertex that is to follow these, if they are sixteen or more, and with the next one the sixteen before it.
 fn mark(marks: &mut VertexMap<usize>, list: &[Placed], vertex: &Placed) -> Result<(), Memory>
     requires apart { HasNoDoubles list.now }
     requires fresh { Contains list.now vertex.now → ⊥ }
@@ -171,10 +171,10 @@ fn mark(marks: &mut VertexMap<usize>, list: &[Placed], vertex: &Placed) -> Resul
     ensures grown { OnOk result (AreFound marks.new (list.now ++ vertex.now ∷ [])) }
     ensures still { AreFound marks.new list.now }
 {
-    if list.len() < 8 {
+    if list.len() < 16 {
         return Ok(());
     }
-    if list.len() > 8 {
+    if list.len() > 16 {
         return mark_next(marks, list, vertex);
     }
     mark_all(marks, list)?;

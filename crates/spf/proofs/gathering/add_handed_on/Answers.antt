@@ -9,8 +9,8 @@ use Rattle.spf.proofs.gathering.add_handed_on.Goals as goal
 
 pub returns-then-not-has_direct : goal.returns-then-not-has_direct
 returns-then-not-has_direct c =
-    on_ok_weaker c.unite.result (union_whole c.args.tail.now c.args.label.now c.args.set.now c.unite.new.self (λ i has.
-    let wrong : false ≡ true = c.if-not-has_direct.ensures.1 (i, subst (λ (hops : List NextHop). Contains hops (hop.Direct i)) (sym c.as_slice.ensures.value) has) in absurd cc)) c.unite.ensures.united
+    on_ok_weaker c.unite.result (union_whole c.args.tail.now c.args.label.now c.args.set.now c.unite.new.set (λ i has.
+    let wrong : false ≡ true = c.if-not-has_direct.ensures.1 (i, subst (λ (hops : List NextHop). Contains hops (hop.Direct i)) (sym c.as_slice.ensures.value) has) in absurd cc)) c.unite.ensures
 
 pub loop-hop-init : goal.loop-hop-init
 loop-hop-init c = union_start (IsHandedOn c.args.label.now) c.as_slice-hop-items.result.now c.args.set.now

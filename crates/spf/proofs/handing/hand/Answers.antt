@@ -18,7 +18,7 @@ loop-vertex-init c =
     amidst_start c.requires.unsettled blanked c.args.queue.now c.put_reached.new.queue c.put_reached-2.new.queue c.blank.new.touched.taken c.blank.new.touched.hop_sets c.requires.none_wait c.in_ok-blank.ensures.counted first second
 
 pub take-requires : goal.take-requires
-take-requires c = omega (arith, taken_few c.args.distances.now c.loop-vertex.invariant, c.len-2.ensures.small, c.len-2.ensures.value, c.requires.fits, c.in_ok-blank.ensures.taken)
+take-requires c = omega (arith, taken_few c.args.distances.now c.loop-vertex.invariant, c.len.ensures.small, c.len.ensures.value, c.requires.fits, c.in_ok-blank.ensures.taken)
 
 pub settle-requires-clause-at : goal.settle-requires-clause-at
 settle-requires-clause-at c = (c.loop-vertex.invariant.handing.queued c.in-Some.vertex c.in-Some.distance c.in-Some.ensures.first.waits).0

@@ -52,7 +52,7 @@ loop-vertex-preserved c = record {
   counted =
       c.in-Some.ensures.counted ∙ (λ i. record { taken = (c.loop-vertex.invariant.counted i).taken + 1; hop_sets = (c.loop-vertex.invariant.counted i).hop_sets })
       ∙ (λ i. record { taken = sym (one_longer c) i; hop_sets = c.args.touched.now.hop_sets });
-  small = omega (arith, c.len-in-Some.ensures.value, c.len-in-Some.ensures.small);
+  small = omega (arith, c.len.ensures.value, c.len.ensures.small);
 }
 
 pub returns-clause-neared : goal.returns-clause-neared

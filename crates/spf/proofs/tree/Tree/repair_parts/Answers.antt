@@ -33,10 +33,10 @@ returns-clause-changed c =
     let items = c.list_differing.new.changed.items in
     let is = renewed_at i c.args.self.now u c.self.view_is c.as_slice-2.ensures.value (ap (λ (t : TreeValue). t.spent) c.self.view_is ∙ c.requires.fresh) c.in_ok-touched.ensures.renewed in
     let lost = c.lose.new.search.losses.lost in
-    changed_list i c.args.self.now u c.args.graph.now.root c.root.result lost c.as_slice.result.now c.renew.new.self.search.losses.lost c.renew.new.self.moved c.renew.new.self.written
-    items c.remember.new.remembered.items c.as_slice-3.result.now c.self.view_is c.root.ensures.value c.as_slice.ensures.value c.in_ok-touched.ensures.lost
+    changed_list i c.args.self.now u c.args.graph.now.root c.args.graph.now.root lost c.as_slice.result.now c.renew.new.self.search.losses.lost c.renew.new.self.moved c.renew.new.self.written
+    items c.remember.new.remembered.items c.as_slice-3.result.now c.self.view_is refl c.as_slice.ensures.value c.in_ok-touched.ensures.lost
     (c.as_slice-3.ensures.value ∙ ap (λ (r : _). r.items) c.in_ok-touched.ensures.remembered)
-    (c.in_ok-remember.ensures ∙ ap (λ (v : Vertex). map (with_distance c.self.inside.distances) (v ∷ c.as_slice.result.now)) c.tail_of.ensures) c.in_ok-list_differing.ensures.in_order c.in_ok-list_differing.ensures.exact is.differ
+    (c.in_ok-remember.ensures ∙ ap (λ (v : Vertex). map (with_distance c.self.inside.distances) (v ∷ c.as_slice.result.now)) c.root_of-self-inside.ensures) c.in_ok-list_differing.ensures.in_order c.in_ok-list_differing.ensures.exact is.differ
 
 pub returns-clause-bounded : goal.returns-clause-bounded
 returns-clause-bounded c =
