@@ -1,10 +1,10 @@
 //! The map.
-ghost use Rattle.std.specs.Prelude.{◌≡◌, ◌≢◌, ◌<◌, ◌^◌, true, None, IfNone, IfSome, IsSome, OnOk, OnErr, is_some, option_copied};
+ghost use Rattle.std.specs.Prelude.{◌≡◌, ◌≢◌, ◌<◌, ◌^◌, true, None, IfNone, IfSome, IsSome, OnOk, OnErr, is_some, option_copied, option_map, IsTrue};
 ghost use Rattle.std.specs.FinMap as map;
 ghost use Rattle.std.specs.List.{AllPairs};
 ghost use Rattle.ospf_types.specs.Network.{network_cmp};
 
-use crate::slots::{Slots, make_room};
+use crate::slots::{Slots, make_room, stands_at};
 use ospf_types::memory::Memory;
 use ospf_types::prefix::Prefix;
 use std::alloc::Global;
@@ -70,6 +70,29 @@ impl<V> NetworkMap<V> {
         }
     }
 
+    /// The network's value, with the place where it stands: a hint for `has_at` and `replace_at`. It takes no
+    /// memory.
+    #[inline]
+    pub fn find(&self, network: Prefix) -> Option<(usize, &V)>
+        ensures { option_map (λ found. found.1.now) result ≡ map.get self.now network }
+    {
+        match self
+            .slots
+            .find(self.entries.as_slice(), self.hashing, network)
+        {
+            Some(place) => Some((place, &self.entries[place].1)),
+            None => None,
+        }
+    }
+
+    /// Whether the network's value stands at the place. Nothing is looked up.
+    #[inline]
+    pub fn has_at(&self, place: usize, network: Prefix) -> bool
+        ensures { IsTrue result → IsSome (map.get self.now network) }
+    {
+        stands_at(self.entries.as_slice(), place, network)
+    }
+
     /// Whether the network has a value.
     #[inline]
     pub fn contains(&self, network: Prefix) -> bool
@@ -132,6 +155,22 @@ impl<V: Drop> NetworkMap<V> {
             }
             None => Some(value),
         }
+    }
+
+    /// What `replace` does, with no look-up where the network's value stands at the place.
+    #[inline]
+    pub fn replace_at(&mut self, place: usize, network: Prefix, value: V) -> Option<V>
+        ensures replaced { IfNone result (self.new ≡ map.insert self.old network value) }
+        ensures stood { IfNone result (IsSome (map.get self.old network)) }
+        ensures returned { IfSome result (λ v. v ≡ value) }
+        ensures unchanged { is_some result ≡ true → self.new ≡ self.old }
+        ensures absent { is_some result ≡ true → map.get self.old network ≡ None }
+    {
+        if stands_at(self.entries.as_slice(), place, network) {
+            self.entries[place] = (network, value);
+            return None;
+        }
+        self.replace(network, value)
     }
 
     /// Gives a network that has no value the value. Where memory is refused, nothing changes.

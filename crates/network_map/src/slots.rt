@@ -1,5 +1,5 @@
 //! Slots that tell where a network's entry is.
-ghost use Rattle.std.specs.Prelude.{◌≡◌, ◌≢◌, ℕ, ◌+◌, ◌^◌, ◌<◌, ◌≤◌, false, [], None, IfSome, IfOk, OnOk, OnErr, length, slice_index};
+ghost use Rattle.std.specs.Prelude.{◌≡◌, ◌≢◌, ℕ, ◌+◌, ◌^◌, ◌<◌, ◌≤◌, false, [], None, IfSome, IfOk, IsTrue, OnOk, OnErr, length, slice_index};
 ghost use Rattle.std.specs.List.{slice_get};
 ghost use Rattle.ospf_types.specs.Network.{network_word};
 ghost use Rattle.network_map.specs.Slots.{base_of, home_of, AreFew, AreSlotted, HasNetwork, IsFree, IsMore, IsPlaced, IsReady, IsTaken};
@@ -316,6 +316,14 @@ fn named<V>(entries: &[(Prefix, V)], number: u32, base: usize, network: Prefix) 
         return Some(place);
     }
     None
+}
+
+// Whether the entry at the place is the network's.
+#[inline]
+pub(crate) fn stands_at<V>(entries: &[(Prefix, V)], place: usize, network: Prefix) -> bool
+    ensures { IsTrue result → HasNetwork entries.now place network }
+{
+    place < entries.len() && entries[place].0 == network
 }
 
 // The first slot from the home on that is free, or the end.
