@@ -3,8 +3,6 @@ ghost use Rattle.std.specs.Prelude.{◌≡◌, ◌*◌, ◌<◌, ℕ, length};
 ghost use Rattle.hex.specs.Hex.{decode_of, pair_value, value_at};
 ghost use Rattle.recording.specs.Reading.{bytes_of};
 
-use hex::FromHex;
-
 /// Puts the bytes that the digits write.
 pub(crate) fn decode(digits: &[u8], bytes: &mut [u8])
     requires digits { decode_of digits.now ≡ Ok (bytes_of digits.now) }
@@ -23,14 +21,11 @@ fn byte_of(high: u8, low: u8) -> u8
     digit_value(high) * 16 + digit_value(low)
 }
 
-// The value of a digit, which is that of the byte with a zero in front. What is no digit has the value 0 and ends nothing, so that
-// many digits are read at once.
+// The value of a digit. A letter has a value 9 above that of its last four bits. Of what is no digit only the bound is said, so that
+// nothing ends here and many digits are read at once.
 fn digit_value(digit: u8) -> u8
     ensures value { (place value : ℕ) → value_at digit place ≡ Ok value → result ≡ value }
     ensures small { result < 16 }
 {
-    match <[u8; 1]>::from_hex([b'0', digit]) {
-        Ok(bytes) => bytes[0],
-        Err(_) => 0,
-    }
+    (digit % 16 + digit / 64 * 9) % 16
 }
