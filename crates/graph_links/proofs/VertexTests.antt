@@ -59,6 +59,10 @@ module _ {X : Type 0} where
   found v [] = refl
   found v (e ∷ es) = λ i. cond (equals_is v e.0 i) (Some e.1) (found v es i)
 
+  -- what the entry of a vertex has that goes by another name
+  pub found_at : (es : List (Vertex × X)) (k v : Vertex) (x : X) → k ≡ v → Some x ≡ lookup (equals k) es → Some x ≡ find vertex_cmp v es
+  found_at es k v x same is = subst (λ (w : Vertex). Some x ≡ find vertex_cmp w es) same (is ∙ found k es)
+
   -- what the one entry says that is there at most
   pub found_only : (es : List (Vertex × X)) (v k : Vertex) (x : X) (n : ℕ) (t : Bool) → n ≤ 1 → n ≡ length es → Some (k, x) ≡ slice_get es 0 → t ≡ equals k v → cond t (Some x) None ≡ find vertex_cmp v es
   found_only [] v k x n t few len first is = let none : Option (Vertex × X) = None in let same : Some (k, x) ≡ none = first in absurd cc

@@ -1,3 +1,4 @@
 pub mod EndOrder
 pub mod Pairs
+pub mod Places
 pub mod Sides

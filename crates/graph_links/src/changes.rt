@@ -9,6 +9,7 @@ ghost use Rattle.graph_links.specs.declared.link.Link.{Link as LinkValue};
 use crate::fresh::Fresh;
 use crate::link::{Link, LinkChanges};
 use crate::row::{Row, Rows};
+use crate::side::find_row;
 use ospf_types::label::Label;
 use ospf_types::listed::Listed;
 use ospf_types::memory::Memory;
@@ -26,7 +27,7 @@ pub fn changed_links(alloc: Global, rows: &Rows, fresh: &[Fresh]) -> Result<Link
     let mut gone = Vec::new(alloc);
     let mut came = Vec::new(alloc);
     for one in fresh {
-        let before = out_links(rows.get(&one.vertex));
+        let before = out_links(find_row(rows, &one.vertex).0);
         let after = out_links(one.row.as_ref());
         push_changes(alloc, before, after, &mut gone, &mut came)?;
     }
@@ -75,8 +76,8 @@ fn push_behind(
     Ok(())
 }
 
-// The links out of a vertex by its row; none where it has no row.
-fn out_links(row: Option<&Row>) -> &[Link]
+/// The links out of a vertex by its row; none where it has no row.
+pub fn out_links(row: Option<&Row>) -> &[Link]
     ensures { result.now ≡ out_of (option_copied row.entry) }
 {
     match row {

@@ -1,25 +1,29 @@
 //! The rows of vertices after a change.
-ghost use Rattle.std.specs.Prelude.{◌≡◌, ◌+◌, ◌≤◌, ◌<◌, [], ◌∷◌, Some, IfOk, OnOk, length, if◌then◌else◌};
+ghost use Rattle.std.specs.Prelude.{◌≡◌, ◌+◌, ◌≤◌, ◌<◌, [], ◌∷◌, Some, IfOk, IfSome, OnOk, length, if◌then◌else◌};
 ghost use Rattle.std.specs.FinMap.{find};
 ghost use Rattle.std.specs.Ordering.{eq_by_cmp};
 ghost use Rattle.ospf_types.specs.Vertices.{vertex_cmp};
 ghost use Rattle.ospf_types.specs.declared.entry.Vertex.{Vertex as VertexValue};
 ghost use Rattle.std.specs.HashMap.{spare};
+ghost use Rattle.graph_links.specs.Places.{IsAt};
 ghost use Rattle.graph_links.specs.Sides.{ends_in, ends_or, LinksIn, IsInOrder, IsRow, IsFreshRow, AreFresh, IsPlaced};
 
 use crate::at_vertex::past_from;
 use crate::end::End;
 use crate::pair::Facing;
+use crate::places::next_placed;
 use crate::row::{Row, Rows};
-use crate::side::Side;
+use crate::side::{Side, links_at};
 use ospf_types::entry::Vertex;
 use ospf_types::memory::Memory;
 use std::alloc::Global;
+use std::mem::replace;
+use vertex_map::Placed;
 
-/// What a vertex has after a change: a row, where it is there.
+/// What a vertex has after a change: a row, where it is there. The vertex knows the place of the row that it had or will have.
 #[derive(Drop)]
 pub struct Fresh {
-    pub vertex: Vertex,
+    pub vertex: Placed,
     pub row: Option<Row>,
 }
 
@@ -55,7 +59,7 @@ impl Room {
 pub fn fresh_rows(
     alloc: Global,
     side: Side<'_>,
-    vertices: &[Vertex],
+    vertices: &[Placed],
     room: &mut Room,
 ) -> Result<(), Memory>
     requires { IsInOrder (ends_in side) }
@@ -63,38 +67,37 @@ pub fn fresh_rows(
 {
     room.fresh.clear();
     for vertex in vertices {
-        let row = fresh_row(alloc, side, *vertex, &mut room.used)?;
-        room.fresh.push(Fresh {
-            vertex: *vertex,
-            row,
-        })?;
+        let one = fresh_row(alloc, side, vertex, &mut room.used)?;
+        room.fresh.push(one)?;
     }
     Ok(())
 }
 
-// The row of a vertex, where it is there.
+// The row of a vertex, where it is there. The vertex has its place from then on.
 fn fresh_row(
     alloc: Global,
     side: Side<'_>,
-    vertex: Vertex,
+    vertex: &Placed,
     used: &mut Vec<Row>,
-) -> Result<Option<Row>, Memory>
+) -> Result<Fresh, Memory>
     requires { IsInOrder (ends_in side) }
-    ensures { IfOk result (IsFreshRow (ends_in side.entry) (LinksIn side.entry) vertex) }
+    ensures vertex { IfOk result (λ fresh. fresh.vertex ≡ vertex.now) }
+    ensures row { IfOk result (λ fresh. IsFreshRow (ends_in side.entry) (LinksIn side.entry) vertex.now fresh.row) }
 {
     let (ends, place) = side.find(vertex);
-    match ends {
+    let row = match ends {
         Some(ends) => {
             let own = Facing {
-                vertex,
+                vertex: vertex.vertex(),
                 place,
                 ends,
             };
-            let row = row_of(alloc, side, own, used_row(alloc, used))?;
-            Ok(Some(row))
+            Some(row_of(alloc, side, own, used_row(alloc, used))?)
         }
-        None => Ok(None),
-    }
+        None => None,
+    };
+    let vertex = Placed::new(vertex.vertex(), place);
+    Ok(Fresh { vertex, row })
 }
 
 // A row that is no longer needed, or one without memory. What it has does not count.
@@ -143,6 +146,8 @@ fn row_of(alloc: Global, side: Side<'_>, all: Facing<'_>, used: Row) -> Result<R
     copy_ends(alloc, ends, &mut row.ends)?;
     empty(alloc, &mut row.out, ends.len())?;
     empty(alloc, &mut row.into, ends.len())?;
+    let known = links_at(side.rows, all.place);
+    let mut passed = 0;
     let mut first = 0;
     while first < ends.len() {
         let to = ends[first].to;
@@ -152,7 +157,8 @@ fn row_of(alloc: Global, side: Side<'_>, all: Facing<'_>, used: Row) -> Result<R
             place: all.place,
             ends: &ends[first..past],
         };
-        side.push_both(alloc, own, to, &mut row.out, &mut row.into)?;
+        let other = next_placed(known, &mut passed, to);
+        side.push_both(alloc, own, &other, &mut row.out, &mut row.into)?;
         first = past;
     }
     Ok(row)
@@ -176,15 +182,49 @@ fn place_one(rows: &mut Rows, fresh: Fresh, used: &mut Vec<Row>)
 {
     let Fresh { vertex, row } = fresh;
     match row {
-        Some(row) => put_in_room(rows, vertex, row, used),
+        Some(row) => put_in_room(rows, &vertex, row, used),
         None => {
-            rows.swap_remove(&vertex);
+            rows.swap_remove(&vertex.vertex());
         }
     }
 }
 
 // Puts the row in the place of what its vertex had, whose memory may be used again.
-fn put_in_room(rows: &mut Rows, vertex: Vertex, row: Row, used: &mut Vec<Row>)
+fn put_in_room(rows: &mut Rows, vertex: &Placed, row: Row, used: &mut Vec<Row>)
+    requires { 0 < spare rows.old }
+    ensures placed { (v : VertexValue) → find vertex_cmp v rows.new.entries ≡ (if eq_by_cmp vertex_cmp v vertex.now then Some row else find vertex_cmp v rows.old.entries) }
+    ensures room { spare rows.old ≤ spare rows.new + 1 }
+{
+    match standing(rows, vertex) {
+        Some(place) => keep(Some(exchange(rows, place, row)), used),
+        None => insert_in_room(rows, vertex.vertex(), row, used),
+    }
+}
+
+// Where the vertex has its row, if that is at the vertex's place.
+fn standing(rows: &Rows, vertex: &Placed) -> Option<usize>
+    ensures { IfSome result (λ place. IsAt rows.now.entries vertex.now place) }
+{
+    let place = vertex.place();
+    match rows.get_index(place) {
+        Some((at, _)) if *at == vertex.vertex() => Some(place),
+        _ => None,
+    }
+}
+
+// Puts the row in the place of the one that is there, and gives that back.
+fn exchange(rows: &mut Rows, place: usize, row: Row) -> Row
+    requires { place < length rows.old.entries }
+    ensures placed { (v : VertexValue) → IsAt rows.old.entries v place → (w : VertexValue) → find vertex_cmp w rows.new.entries ≡ (if eq_by_cmp vertex_cmp w v then Some row else find vertex_cmp w rows.old.entries) }
+    ensures room { spare rows.old ≤ spare rows.new + 1 }
+{
+    // proof: no vertex has two rows.
+    let _ = rows.len();
+    replace(&mut rows[place], row)
+}
+
+// Puts the row in the place of what its vertex had, which is looked up by its hash.
+fn insert_in_room(rows: &mut Rows, vertex: Vertex, row: Row, used: &mut Vec<Row>)
     requires { 0 < spare rows.old }
     ensures placed { (v : VertexValue) → find vertex_cmp v rows.new.entries ≡ (if eq_by_cmp vertex_cmp v vertex then Some row else find vertex_cmp v rows.old.entries) }
     ensures room { spare rows.old ≤ spare rows.new + 1 }

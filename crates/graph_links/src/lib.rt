@@ -8,14 +8,16 @@ mod end;
 mod fresh;
 mod link;
 mod pair;
+mod places;
 mod row;
 mod side;
 mod ways;
 
-pub use changes::changed_links;
+pub use changes::{changed_links, out_links};
 pub use end::End;
 pub use fresh::{Fresh, Room, fresh_rows, place};
 pub use link::{Link, LinkChanges, Up};
 pub use pair::Local;
+pub use places::placed_by;
 pub use row::{Row, Rows, StagedEnds};
-pub use side::{Side, row_ends, slice_of, slice_or_none};
+pub use side::{Side, ends_of_row, find_row, slice_of, slice_or_none};

@@ -76,11 +76,26 @@ fn push_from_router(
 {
     match ends {
         [only] if router != local.root => push_over_end(router, to, places, *only, links),
-        _ => {
-            let ways = ways_over(alloc, local, router, ends)?;
-            push_ways(router, to, places, ways.as_slice(), links)
-        }
+        _ => push_over_ends(alloc, local, router, ends, to, places, links),
     }
+}
+
+/// Adds the links of any router to a vertex by its ways over any ends there.
+#[inline(never)]
+fn push_over_ends(
+    alloc: Global,
+    local: Local<'_>,
+    router: u32,
+    ends: &[End],
+    to: Vertex,
+    places: Places,
+    links: &mut Vec<Link>,
+) -> Result<(), Memory>
+    ensures pushed { OnOk result (AddsOver local.entry.root local.entry.interfaces.now router ends.now to links.old.items links.new.items) }
+    ensures cheap { OnOk result (AreCheap links.old.items → AreCheap links.new.items) }
+{
+    let ways = ways_over(alloc, local, router, ends)?;
+    push_ways(router, to, places, ways.as_slice(), links)
 }
 
 /// Adds the link of a router other than the root to a vertex that it has this one end at, unless the metric is 0.
@@ -147,6 +162,7 @@ fn link(from: Vertex, to: Vertex, places: Places, cost: u16, label: Label) -> Li
 }
 
 /// Adds the link of a network to a vertex, if that is a router.
+#[inline(never)]
 fn push_from_network(
     alloc: Global,
     network: u32,

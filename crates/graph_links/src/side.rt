@@ -1,8 +1,9 @@
 //! The graph before or after a change.
-ghost use Rattle.std.specs.Prelude.{◌≡◌, ◌↔◌, ◌⊎◌, OnOk, Contains, option_map, is_some};
+ghost use Rattle.std.specs.Prelude.{◌≡◌, ◌↔◌, ◌⊎◌, OnOk, Contains, option_copied, option_map, is_some};
 ghost use Rattle.std.specs.FinMap.{find};
 ghost use Rattle.ospf_types.specs.Vertices.{vertex_cmp};
 ghost use Rattle.graph_links.specs.declared.link.Link.{Link as LinkValue};
+ghost use Rattle.graph_links.specs.declared.row.Row.{Row as RowValue};
 ghost use Rattle.graph_links.specs.Pairs.{AreAllAt, AreCheap, KeepsApart};
 ghost use Rattle.graph_links.specs.Sides as sides;
 
@@ -10,10 +11,11 @@ use crate::at_vertex::ends_at;
 use crate::end::End;
 use crate::link::Link;
 use crate::pair::{Facing, Local, push_links};
-use crate::row::{Rows, StagedEnds};
+use crate::row::{Row, Rows, StagedEnds};
 use ospf_types::entry::Vertex;
 use ospf_types::memory::Memory;
 use std::alloc::Global;
+use vertex_map::Placed;
 
 /// The graph with what is staged in the place of what its rows have.
 #[derive(Clone, Copy)]
@@ -23,21 +25,56 @@ pub struct Side<'a> {
     pub staged: &'a StagedEnds,
 }
 
-/// Where the vertex of a row leads, none where there is no row.
-pub fn row_ends<'a>(rows: &'a Rows, vertex: Vertex) -> Option<&'a [End]>
-    ensures { option_map (λ ends. ends.now) result ≡ sides.row_ends rows.now.entries vertex }
+/// The vertex's row and its place. Where another's is at the vertex's place, it is looked up by its hash.
+#[inline]
+pub fn find_row<'a>(rows: &'a Rows, vertex: &Placed) -> (Option<&'a Row>, u32)
+    ensures { option_copied result.0 ≡ find vertex_cmp vertex.now rows.now.entries }
 {
-    let row = rows.get(&vertex)?;
-    Some(row.ends.as_slice())
+    match rows.get_index(vertex.place()) {
+        Some((at, row)) if *at == vertex.vertex() => (Some(row), vertex.number()),
+        _ => hashed_row(rows, vertex.vertex()),
+    }
 }
 
-/// The same, with the place of the row, 0 where there is none.
-fn placed_ends<'a>(rows: &'a Rows, vertex: Vertex) -> (Option<&'a [End]>, u32)
-    ensures { option_map (λ ends. ends.now) result.0 ≡ sides.row_ends rows.now.entries vertex }
+// The vertex's row and its place, by its hash; the place past all where it has no row.
+#[inline(never)]
+fn hashed_row<'a>(rows: &'a Rows, vertex: Vertex) -> (Option<&'a Row>, u32)
+    ensures { option_copied result.0 ≡ find vertex_cmp vertex rows.now.entries }
 {
     match rows.get_full(&vertex) {
-        Some((place, _, row)) => (Some(row.ends.as_slice()), number(place)),
-        None => (None, 0),
+        Some((place, _, row)) => (Some(row), number(place)),
+        None => (None, u32::MAX),
+    }
+}
+
+// Where the vertex of a row leads, none where there is no row, and the place of the row.
+fn placed_ends<'a>(rows: &'a Rows, vertex: &Placed) -> (Option<&'a [End]>, u32)
+    ensures { option_map (λ ends. ends.now) result.0 ≡ sides.row_ends rows.now.entries vertex.now }
+{
+    match rows.get_index(vertex.place()) {
+        Some((at, row)) if *at == vertex.vertex() => (Some(row.ends.as_slice()), vertex.number()),
+        _ => {
+            let (row, place) = hashed_row(rows, vertex.vertex());
+            (ends_of_row(row), place)
+        }
+    }
+}
+
+/// Where the vertex of a row leads, none where there is no row.
+pub fn ends_of_row<'a>(row: Option<&'a Row>) -> Option<&'a [End]>
+    ensures { option_map (λ ends. ends.now) result ≡ option_map (λ (r : RowValue). r.ends.items) (option_copied row.entry) }
+{
+    match row {
+        Some(row) => Some(row.ends.as_slice()),
+        None => None,
+    }
+}
+
+/// The links of the row that is at the place, whichever it is: they know the places of the vertices that they lead to.
+pub(crate) fn links_at(rows: &Rows, place: u32) -> &[Link] {
+    match rows.get_index(place as usize) {
+        Some((_, row)) => row.out.as_slice(),
+        None => &[],
     }
 }
 
@@ -79,26 +116,30 @@ pub fn slice_or_none<'a>(ends: Option<&'a [End]>) -> &'a [End]
 
 impl<'a> Side<'a> {
     /// Where the vertex leads, none where it is not there, and the place that its row has or will have.
-    pub fn find(self, vertex: Vertex) -> (Option<&'a [End]>, u32)
-        ensures { option_map (λ ends. ends.now) result.0 ≡ sides.ends_in self.entry vertex }
+    pub fn find(self, vertex: &Placed) -> (Option<&'a [End]>, u32)
+        ensures { option_map (λ ends. ends.now) result.0 ≡ sides.ends_in self.entry vertex.now }
     {
-        match find_staged(self.staged, vertex) {
+        match find_staged(self.staged, vertex.vertex()) {
             Some(ends) => (slice_of(ends), self.staged_place(vertex)),
             None => placed_ends(self.rows, vertex),
         }
     }
 
-    // The place of the row of a vertex of which something is staged. New ones come behind all that are there, the last staged
-    // first.
-    fn staged_place(self, vertex: Vertex) -> u32 {
-        match self.rows.get_index_of(&vertex) {
-            Some(place) => number(place),
-            None => {
-                let place = self.staged.get_index_of(&vertex).unwrap_or(0);
-                let later = self.staged.len().saturating_sub(place).saturating_sub(1);
-                number(self.rows.len().saturating_add(later))
-            }
+    // The place of the row of a vertex of which something is staged.
+    fn staged_place(self, vertex: &Placed) -> u32 {
+        match find_row(self.rows, vertex) {
+            (Some(_), place) => place,
+            _ => self.new_place(vertex.vertex()),
         }
+    }
+
+    // The place that the row of a vertex will have that has none now. New ones come behind all that are there, the last
+    // staged first.
+    #[inline(never)]
+    fn new_place(self, vertex: Vertex) -> u32 {
+        let place = self.staged.get_index_of(&vertex).unwrap_or(0);
+        let later = self.staged.len().saturating_sub(place).saturating_sub(1);
+        number(self.rows.len().saturating_add(later))
     }
 
     /// Whether something is staged of the vertex.
@@ -114,18 +155,18 @@ impl<'a> Side<'a> {
         self,
         alloc: Global,
         own: Facing<'_>,
-        to: Vertex,
+        to: &Placed,
         out: &mut Vec<Link>,
         into: &mut Vec<Link>,
     ) -> Result<(), Memory>
         requires in_order { sides.IsInOrder (sides.ends_in self) }
-        requires own { AreAllAt to (sides.ends_or (sides.ends_in self own.vertex)) own.ends.now }
-        ensures out { OnOk result ((l : LinkValue) → Contains out.new.items l ↔ (Contains out.old.items l ⊎ sides.IsOutTo (sides.LinksIn self.entry) own.entry.vertex l to)) }
-        ensures into { OnOk result ((l : LinkValue) → Contains into.new.items l ↔ (Contains into.old.items l ⊎ sides.IsIntoFrom (sides.LinksIn self.entry) own.entry.vertex l to)) }
+        requires own { AreAllAt to.now (sides.ends_or (sides.ends_in self own.vertex)) own.ends.now }
+        ensures out { OnOk result ((l : LinkValue) → Contains out.new.items l ↔ (Contains out.old.items l ⊎ sides.IsOutTo (sides.LinksIn self.entry) own.entry.vertex l to.now)) }
+        ensures into { OnOk result ((l : LinkValue) → Contains into.new.items l ↔ (Contains into.old.items l ⊎ sides.IsIntoFrom (sides.LinksIn self.entry) own.entry.vertex l to.now)) }
         ensures out_cheap { OnOk result (AreCheap out.old.items → AreCheap out.new.items) }
         ensures into_cheap { OnOk result (AreCheap into.old.items → AreCheap into.new.items) }
-        ensures out_apart { OnOk result (KeepsApart own.entry.vertex to out.old.items out.new.items) }
-        ensures into_apart { OnOk result (KeepsApart to own.entry.vertex into.old.items into.new.items) }
+        ensures out_apart { OnOk result (KeepsApart own.entry.vertex to.now out.old.items out.new.items) }
+        ensures into_apart { OnOk result (KeepsApart to.now own.entry.vertex into.old.items into.new.items) }
     {
         let (ends, place) = self.find(to);
         let back = ends_at(slice_or_none(ends), own.vertex);
@@ -133,7 +174,7 @@ impl<'a> Side<'a> {
             return Ok(());
         }
         let other = Facing {
-            vertex: to,
+            vertex: to.vertex(),
             place,
             ends: back,
         };

@@ -1,13 +1,11 @@
 -- Vertices that were sorted, and of which each is kept once.
-use Rattle.std.proofs.Common.{◌≡◌, Bool, List, [], Ordering, refl, sym, ap, subst, ◌∙◌}
+use Rattle.std.proofs.Common.{◌≡◌, Bool, List, Ordering, refl, sym, ap, subst, ◌∙◌}
 use Rattle.std.specs.Prelude.{◌↔◌}
 use Rattle.std.specs.declared.cmp.Ordering.TheVariants.{Less, Equal, Greater}
 use Rattle.std.specs.Ordering.{ordering_then, eq_by_cmp}
 use Rattle.std.specs.Cmp.{eq_by_cmp_equiv}
 use Rattle.std.specs.List.{Contains, dedup}
-use Rattle.std.specs.List.Retain.{IsFiltered, DiffersFromLast}
 use Rattle.std.specs.List.Sorted.{IsSorted, IsStrictlySortedBy, IsPermutation}
-use Rattle.std.proofs.lemmas.List.Filters.{dedup_is}
 use Rattle.std.proofs.lemmas.List.Kept.{IsStrictlySortedBy-dedup, Contains-dedup, Contains-from_dedup}
 use Rattle.std.proofs.lemmas.List.Sorted.{Contains-permutation, IsPermutation-sym}
 use Rattle.std.proofs.lemmas.Map.Views.{tells_apart}
@@ -34,10 +32,10 @@ order_at (Network a) (Network b) = refl
 pub order_is : derived_order.ghosts.cmp ≡ vertex_cmp
 order_is i v w = order_at v w i
 
-module _ (all sorted kept : List Vertex) (moved : IsPermutation all sorted) (in_order : IsSorted derived_order.ghosts.cmp sorted) (filtered : IsFiltered (DiffersFromLast vertices_equal) [] sorted kept) where
+module _ (all sorted kept : List Vertex) (moved : IsPermutation all sorted) (in_order : IsSorted derived_order.ghosts.cmp sorted) (each : kept ≡ dedup vertices_equal sorted) where
   -- what is kept
   kept_is : kept ≡ dedup (eq_by_cmp vertex_cmp) sorted
-  kept_is = dedup_is vertices_equal sorted kept filtered ∙ ap (λ (same : Vertex → Vertex → Bool). dedup same sorted) vertices_order
+  kept_is = each ∙ ap (λ (same : Vertex → Vertex → Bool). dedup same sorted) vertices_order
 
   -- is ascending, and each once
   pub strictly : IsStrictlySortedBy vertex_cmp kept

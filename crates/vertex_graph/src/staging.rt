@@ -1,22 +1,27 @@
 //! What is handed in, before anything changes.
-ghost use Rattle.std.specs.Prelude.{◌≡◌, ◌≢◌, ◌↔◌, ◌⊎◌, None, [], IsTrue, OnOk, IfOk, Contains, option_map};
+ghost use Rattle.std.specs.Prelude.{◌≡◌, ◌≢◌, ◌↔◌, ◌⊎◌, None, [], IsTrue, OnOk, IfOk, Contains, option_copied, option_map};
 ghost use Rattle.std.specs.List.{AllPairs};
 ghost use Rattle.std.specs.FinMap.{find};
 ghost use Rattle.ospf_types.specs.declared.entry.Vertex.{Vertex as VertexValue};
 ghost use Rattle.ospf_types.specs.declared.entry.Vertex.TheVariants.{Router};
 ghost use Rattle.ospf_types.specs.Vertices.{vertex_cmp};
+ghost use Rattle.graph_links.specs.declared.row.Row.{Row as RowValue};
 ghost use Rattle.vertex_graph.specs.Graphs.{handed_of, AreApartHanded};
 ghost use Rattle.graph_links.specs.Pairs.{Names};
 ghost use Rattle.graph_links.specs.Sides.{row_ends, ends_after, ends_or};
 ghost use Rattle.vertex_graph.specs.Stagings.{IsHandedIn, IsGivenEnds, IsStaged, AreTouched, IsWithin, TouchesOthers};
 
 use crate::ends::ends_of;
-use graph_links::{End, Rows, StagedEnds, row_ends, slice_of, slice_or_none};
+use graph_links::{
+    End, Link, Row, Rows, StagedEnds, ends_of_row, find_row, out_links, placed_by, slice_of,
+    slice_or_none,
+};
 use indexmap::IndexMap;
 use lsa_codec::Checked;
 use ospf_types::entry::Vertex;
 use ospf_types::memory::Memory;
 use std::alloc::Global;
+use vertex_map::Placed;
 use word_hash::WordHash;
 
 /// Where the vertices lead that are handed in and lead elsewhere than before, and the vertices whose rows may
@@ -24,7 +29,7 @@ use word_hash::WordHash;
 /// change.
 pub(crate) struct Staging {
     pub(crate) ends: StagedEnds,
-    pub(crate) touched: Vec<Vertex>,
+    pub(crate) touched: Vec<Placed>,
 }
 
 // proof: one call drops it, in place of a drop of each part wherever one is held.
@@ -89,12 +94,12 @@ pub(crate) fn stage(
 }
 
 // Keeps each vertex once.
-fn keep_once(touched: &mut Vec<Vertex>)
+fn keep_once(touched: &mut Vec<Placed>)
     ensures same { (v : VertexValue) → Contains touched.new.items v ↔ Contains touched.old.items v }
     ensures once { AllPairs (λ v w. v ≢ w) touched.new.items }
 {
-    touched.sort_unstable();
-    touched.dedup();
+    touched.sort_unstable_by_key(|one| one.vertex());
+    touched.dedup_by_key(|one| one.vertex());
 }
 
 // Where the vertex leads by its LSA, none where the LSA goes.
@@ -126,17 +131,13 @@ fn stage_one(
     ensures ends { OnOk result (IsStaged rows.now.entries vertex (option_map (λ e. e.items) ends) staging.old.ends.entries staging.new.ends.entries) }
     ensures touched { OnOk result (AreTouched (row_ends rows.now.entries) (ends_after rows.now.entries staging.new.ends.entries) staging.new.touched.items) }
 {
-    let before = row_ends(rows, vertex);
+    let (row, place) = find_row(rows, &Placed::nowhere(vertex));
     let after = slice_of(&ends);
-    if is_same(before, after) {
+    if is_same(ends_of_row(row), after) {
         return Ok(());
     }
-    touch_both(
-        vertex,
-        slice_or_none(before),
-        slice_or_none(after),
-        &mut staging.touched,
-    )?;
+    let placed = Placed::new(vertex, place);
+    touch_both(&placed, row, slice_or_none(after), &mut staging.touched)?;
     staging.ends.insert(vertex, ends)?;
     Ok(())
 }
@@ -152,28 +153,37 @@ fn is_same(before: Option<&[End]>, after: Option<&[End]>) -> bool
     }
 }
 
-// Touches a vertex, and what it leads to either before or after.
+// Ends that a vertex leads to as well, and the links out of it, which know places.
+#[derive(Clone, Copy)]
+struct Others<'a> {
+    ends: &'a [End],
+    links: &'a [Link],
+}
+
+// Touches a vertex, and what it leads to either before, by its row, or after.
 fn touch_both(
-    vertex: Vertex,
-    before: &[End],
+    vertex: &Placed,
+    before: Option<&Row>,
     after: &[End],
-    touched: &mut Vec<Vertex>,
+    touched: &mut Vec<Placed>,
 ) -> Result<(), Memory>
-    ensures own { OnOk result (Contains touched.new.items vertex) }
+    ensures own { OnOk result (Contains touched.new.items vertex.now) }
     ensures kept { OnOk result (IsWithin touched.old.items touched.new.items) }
-    ensures gone { OnOk result (TouchesOthers before.now after.now touched.new.items) }
-    ensures came { OnOk result (TouchesOthers after.now before.now touched.new.items) }
+    ensures gone { OnOk result (TouchesOthers (ends_or (option_map (λ (r : RowValue). r.ends.items) (option_copied before.entry))) after.now touched.new.items) }
+    ensures came { OnOk result (TouchesOthers after.now (ends_or (option_map (λ (r : RowValue). r.ends.items) (option_copied before.entry))) touched.new.items) }
 {
+    let ends = slice_or_none(ends_of_row(before));
+    let links = out_links(before);
     touch_vertex(vertex, touched)?;
-    touch(before, after, touched)?;
-    touch(after, before, touched)?;
+    touch(ends, Others { ends: after, links }, touched)?;
+    touch(after, Others { ends, links }, touched)?;
     Ok(())
 }
 
 // Touches the vertices at those ends that are not among others.
-fn touch(ends: &[End], others: &[End], touched: &mut Vec<Vertex>) -> Result<(), Memory>
+fn touch(ends: &[End], others: Others<'_>, touched: &mut Vec<Placed>) -> Result<(), Memory>
     ensures kept { OnOk result (IsWithin touched.old.items touched.new.items) }
-    ensures others { OnOk result (TouchesOthers ends.now others.now touched.new.items) }
+    ensures others { OnOk result (TouchesOthers ends.now others.entry.ends.now touched.new.items) }
 {
     for (place, end) in ends.iter().enumerate() {
         touch_end(*end, place, others, touched)?;
@@ -185,36 +195,36 @@ fn touch(ends: &[End], others: &[End], touched: &mut Vec<Vertex>) -> Result<(), 
 fn touch_end(
     end: End,
     place: usize,
-    others: &[End],
-    touched: &mut Vec<Vertex>,
+    others: Others<'_>,
+    touched: &mut Vec<Placed>,
 ) -> Result<(), Memory>
     ensures kept { OnOk result (IsWithin touched.old.items touched.new.items) }
-    ensures other { OnOk result (Contains others.now end ⊎ Contains touched.new.items end.to) }
+    ensures other { OnOk result (Contains others.entry.ends.now end ⊎ Contains touched.new.items end.to) }
 {
-    if has_at(others, place, end) || has_end(others, end) {
+    if has_at(others.ends, place, end) || has_end(others.ends, end) {
         return Ok(());
     }
-    touch_vertex(end.to, touched)
+    touch_vertex(&placed_by(others.links, place, end.to), touched)
 }
 
 // Touches the vertex. Of many some may be touched again, and are left out in the end.
-fn touch_vertex(vertex: Vertex, touched: &mut Vec<Vertex>) -> Result<(), Memory>
-    ensures own { OnOk result (Contains touched.new.items vertex) }
+fn touch_vertex(vertex: &Placed, touched: &mut Vec<Placed>) -> Result<(), Memory>
+    ensures own { OnOk result (Contains touched.new.items vertex.now) }
     ensures kept { OnOk result (IsWithin touched.old.items touched.new.items) }
 {
     if touched.len() <= FEW && is_touched(vertex, touched) {
         return Ok(());
     }
-    touched.push(vertex)?;
+    touched.push(vertex.copy())?;
     Ok(())
 }
 
 // Whether the vertex is touched.
-fn is_touched(vertex: Vertex, touched: &[Vertex]) -> bool
-    ensures { IsTrue result → Contains touched.now vertex }
+fn is_touched(vertex: &Placed, touched: &[Placed]) -> bool
+    ensures { IsTrue result → Contains touched.now vertex.now }
 {
     for other in touched {
-        if *other == vertex {
+        if other.vertex() == vertex.vertex() {
             return true;
         }
     }
@@ -259,8 +269,8 @@ pub(crate) fn stage_root(
 {
     staging.clear(alloc);
     let vertex = Vertex::Router(root);
-    let ends = slice_or_none(row_ends(rows, vertex));
-    touch_both(vertex, ends, &[], &mut staging.touched)?;
+    let (row, place) = find_row(rows, &Placed::nowhere(vertex));
+    touch_both(&Placed::new(vertex, place), row, &[], &mut staging.touched)?;
     keep_once(&mut staging.touched);
     Ok(())
 }

@@ -8,7 +8,6 @@ use Rattle.graph_links.specs.Pairs.{AreApart}
 use Rattle.graph_links.specs.Sides.{AreLinksOut, IsBrought, IsTaken, out_of}
 use Rattle.graph_links.proofs.Apart.{apart_nil}
 use Rattle.graph_links.proofs.Taking.{kept_apart, of_all, of_more, of_none}
-use Rattle.graph_links.proofs.VertexTests.{found}
 use Rattle.graph_links.proofs.changes.changed_links.Goals as goal
 
 pub loop-one-init : goal.loop-one-init
@@ -22,7 +21,7 @@ loop-one-init c = record {
 pub push_changes-requires-clause-before : goal.push_changes-requires-clause-before
 push_changes-requires-clause-before c =
     let f : Fresh = c.one-item.result in
-    let is : c.out_links-before.result.now ≡ out_of (find vertex_cmp f.vertex c.args.rows.now.entries) = c.out_links-before.ensures ∙ ap out_of (c.get.ensures.value ∙ found f.vertex c.args.rows.now.entries) in
+    let is : c.out_links-before.result.now ≡ out_of (find vertex_cmp f.vertex c.args.rows.now.entries) = c.out_links-before.ensures ∙ ap out_of c.find_row.ensures in
     subst AreApart (sym is) (c.requires f (c.loop-one.one-index, c.loop-one-test.true, sym c.one-item.is)).0.0
 
 pub push_changes-requires-clause-after : goal.push_changes-requires-clause-after
@@ -39,7 +38,7 @@ loop-one-preserved c =
     let lt : i < length fresh = c.loop-one-test.true in
     let f : Fresh = c.one-item.result in
     let own = c.requires f (i, lt, sym c.one-item.is) in
-    let before : c.out_links-before.result.now ≡ out_of (find vertex_cmp f.vertex rows) = c.out_links-before.ensures ∙ ap out_of (c.get.ensures.value ∙ found f.vertex rows) in
+    let before : c.out_links-before.result.now ≡ out_of (find vertex_cmp f.vertex rows) = c.out_links-before.ensures ∙ ap out_of c.find_row.ensures in
     let after : c.out_links-after.result.now ≡ out_of f.row = c.out_links-after.ensures ∙ ap out_of c.as_ref.ensures.value in
     let gone : List Link = c.loop-one.gone.items in
     let came : List Link = c.loop-one.came.items in

@@ -1,5 +1,8 @@
-use Rattle.std.proofs.Common.{Some, None}
-use Rattle.graph_links.proofs.VertexTests.{found_after}
+use Rattle.std.proofs.Common.{Some, None, cond, ap, ◌∙◌}
+use Rattle.std.specs.FinMap.{find}
+use Rattle.ospf_types.specs.declared.entry.Vertex.{Vertex}
+use Rattle.ospf_types.specs.Vertices.{vertex_cmp}
+use Rattle.graph_links.proofs.VertexTests.{found_after, is_vertex}
 use Rattle.graph_links.proofs.Placing.{one_placed}
 use Rattle.graph_links.proofs.fresh.place_one.Goals as goal
 
@@ -10,4 +13,5 @@ pub returns-in-None-clause-placed : goal.returns-in-None-clause-placed
 returns-in-None-clause-placed c =
     let before = c.args.rows.now.entries in
     let after = c.swap_remove.new.self.entries in
-    one_placed c.args.fresh None before after c.in-None.is (found_after before after c.args.fresh.vertex None c.swap_remove.ensures.updates.0)
+    one_placed c.args.fresh None before after c.in-None.is
+    (λ v. found_after before after c.vertex.result None c.swap_remove.ensures.updates.0 v ∙ ap (λ (w : Vertex). cond (is_vertex v w) None (find vertex_cmp v before)) c.vertex.ensures)

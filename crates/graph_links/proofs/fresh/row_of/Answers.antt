@@ -1,4 +1,5 @@
-use Rattle.std.proofs.Common.{◌<◌, ◌-◌, List, get_or, length, refl, sym, subst, arith}
+use Rattle.std.proofs.Common.{◌≡◌, ◌⊎◌, ◌<◌, ◌-◌, List, get_or, length, refl, sym, subst, arith}
+use Rattle.std.specs.Prelude.{◌↔◌, Contains}
 use Rattle.std.specs.List.{slice_range}
 use Rattle.std.specs.List.Sorted.{IsStrictlySortedBy}
 use Rattle.std.proofs.lemmas.List.Elements.{All-nil}
@@ -6,7 +7,7 @@ use Rattle.ospf_types.specs.declared.entry.Vertex.{Vertex}
 use Rattle.graph_links.specs.declared.end.End.{End}
 use Rattle.graph_links.specs.declared.link.Link.{Link}
 use Rattle.graph_links.specs.EndOrder.{end_cmp, listed_end}
-use Rattle.graph_links.specs.Pairs.{AreAllAt, AreApart, AreCheap}
+use Rattle.graph_links.specs.Pairs.{AreAllAt, AreApart, AreCheap, KeepsApart}
 use Rattle.graph_links.specs.Sides.{ends_in, LinksIn, IsOutTo, IsIntoFrom}
 use Rattle.graph_links.proofs.Apart.{apart_nil}
 use Rattle.graph_links.proofs.AtVertex.{IsFirst}
@@ -45,7 +46,8 @@ push_both-requires-clause-own c =
     let sorted : IsStrictlySortedBy end_cmp ends = subst (IsStrictlySortedBy end_cmp) (sym c.requires.ends) (c.requires.in_order c.args.all.vertex) in
     let low : IsFirst to ends i = cut_first ends i (listed_end 0) to sorted c.loop-first.invariant.cut c.loop-first-test.true refl in
     let all : AreAllAt to ends (slice_range ends i past) = all_at to ends i past (listed_end 0) c.loop-first-test.true refl c.past_from-past.ensures.within low c.past_from-past.ensures.split sorted in
-    subst (λ (es : List End). AreAllAt to es (slice_range ends i past)) c.requires.ends all
+    let named : AreAllAt c.next_placed-other.result ends (slice_range ends i past) = subst (λ (w : Vertex). AreAllAt w ends (slice_range ends i past)) (sym c.next_placed-other.ensures) all in
+    subst (λ (es : List End). AreAllAt c.next_placed-other.result es (slice_range ends i past)) c.requires.ends named
 
 pub loop-first-smaller : goal.loop-first-smaller
 loop-first-smaller c =
@@ -76,16 +78,23 @@ loop-first-preserved c =
     let out : List Link = c.loop-first.row.out.items in
     let into : List Link = c.loop-first.row.into.items in
     let pushed = c.in_ok-push_both.ensures in
+    let is : c.next_placed-other.result ≡ to = c.next_placed-other.ensures in
+    let out_new : List Link = c.push_both.new.out.items in
+    let into_new : List Link = c.push_both.new.into.items in
+    let more_out = subst (λ (w : Vertex). (l : Link) → Contains out_new l ↔ (Contains out l ⊎ IsOutTo L v l w)) is pushed.out in
+    let more_into = subst (λ (w : Vertex). (l : Link) → Contains into_new l ↔ (Contains into l ⊎ IsIntoFrom L v l w)) is pushed.into in
+    let out_apart = subst (λ (w : Vertex). KeepsApart v w out out_new) is pushed.out_apart in
+    let into_apart = subst (λ (w : Vertex). KeepsApart w v into into_new) is pushed.into_apart in
     record {
       ends = c.loop-first.invariant.ends;
       within = within;
       cut = cut_past to ends past c.past_from-past.ensures.split;
-      out = walked_more (IsLinkOut L v) (λ (k : Link). k.to) ends to i past out c.push_both.new.out.items (λ (l : Link). IsOutTo L v l to) names (λ l. (λ h. ((h.0, h.2), h.1), λ h. (h.0.0, h.1, h.0.1))) pushed.out c.loop-first.invariant.out;
-      into = walked_more (IsLinkInto L v) (λ (k : Link). k.from) ends to i past into c.push_both.new.into.items (λ (l : Link). IsIntoFrom L v l to) names (λ l. (λ h. ((h.1, h.2), h.0), λ h. (h.1, h.0.0, h.0.1))) pushed.into c.loop-first.invariant.into;
+      out = walked_more (IsLinkOut L v) (λ (k : Link). k.to) ends to i past out out_new (λ (l : Link). IsOutTo L v l to) names (λ l. (λ h. ((h.0, h.2), h.1), λ h. (h.0.0, h.1, h.0.1))) more_out c.loop-first.invariant.out;
+      into = walked_more (IsLinkInto L v) (λ (k : Link). k.from) ends to i past into into_new (λ (l : Link). IsIntoFrom L v l to) names (λ l. (λ h. ((h.1, h.2), h.0), λ h. (h.1, h.0.0, h.0.1))) more_into c.loop-first.invariant.into;
       out_cheap = pushed.out_cheap c.loop-first.invariant.out_cheap;
       into_cheap = pushed.into_cheap c.loop-first.invariant.into_cheap;
-      out_once = pushed.out_apart c.loop-first.invariant.out_once (λ l early from at. walked_others (IsLinkOut L v) (λ (k : Link). k.to) ends to i out c.loop-first.invariant.within low c.loop-first.invariant.out l early at);
-      into_once = pushed.into_apart c.loop-first.invariant.into_once (λ l early from at. walked_others (IsLinkInto L v) (λ (k : Link). k.from) ends to i into c.loop-first.invariant.within low c.loop-first.invariant.into l early from);
+      out_once = out_apart c.loop-first.invariant.out_once (λ l early from at. walked_others (IsLinkOut L v) (λ (k : Link). k.to) ends to i out c.loop-first.invariant.within low c.loop-first.invariant.out l early at);
+      into_once = into_apart c.loop-first.invariant.into_once (λ l early from at. walked_others (IsLinkInto L v) (λ (k : Link). k.from) ends to i into c.loop-first.invariant.within low c.loop-first.invariant.into l early from);
     }
 
 pub returns-clause-links : goal.returns-clause-links

@@ -1,24 +1,11 @@
 use Rattle.std.proofs.Common.{◌≡◌, ◌++◌, List, get_or, map, subst}
 use Rattle.std.proofs.lemmas.Result.{on_ok_weaker}
 use Rattle.graph_links.specs.declared.end.End.{End}
-use Rattle.graph_links.specs.declared.ways.Way.{Way}
 use Rattle.graph_links.specs.EndOrder.{listed_end}
 use Rattle.graph_links.specs.Pairs.{link_by, plain_ways}
 use Rattle.graph_links.proofs.Adding.{AreWays}
 use Rattle.graph_links.proofs.WaysOnce.{one_end, plain_are, plain_once}
 use Rattle.graph_links.proofs.pair.push_from_router.Goals as goal
-
-pub returns-in_ok-ways-in_default-clause-pushed : goal.returns-in_ok-ways-in_default-clause-pushed
-returns-in_ok-ways-in_default-clause-pushed c =
-    let a = c.args in
-    let ways : List Way = c.in_ok-ways-in_default.ways.items in
-    on_ok_weaker c.push_ways.result
-    (λ pushed. record {
-      ways = ways;
-      exact = c.in_ok-ways-in_default.ensures.exact;
-      each_once = c.in_ok-ways-in_default.ensures.each_once;
-      added = subst (λ (ws : List Way). c.push_ways.new.links.items ≡ a.links.now.items ++ map (link_by a.router a.to) ws) c.as_slice.ensures pushed;
-    }) c.push_ways.ensures.pushed
 
 pub returns-in-len1-clause-pushed : goal.returns-in-len1-clause-pushed
 returns-in-len1-clause-pushed c =

@@ -5,5 +5,5 @@ use Rattle.vertex_graph.proofs.staging.touch.Given as goal
 abbrev pub invariant-loop-place : goal.invariant-loop-place
 invariant-loop-place l = record {
   kept : IsWithin l.fn.touched.items l.touched.items;
-  others : TouchesOthers (take l.place l.ends) l.others l.touched.items;
+  others : TouchesOthers (take l.place l.ends) l.others.ends.now l.touched.items;
 }
