@@ -1,5 +1,5 @@
 -- The search for what is lost, piece by piece: who is told over a list of links, what comes of one suspect, and that the suspects run out.
-use Rattle.std.proofs.Common.{◌≡◌, ℕ, Bool, ◌+◌, ◌-◌, ◌*◌, ◌<◌, ◌≤◌, List, [], ◌∷◌, ◌++◌, Option, Some, length, get_or, take, refl, sym, ap, subst, ◌∙◌, ◌⊎◌, inl, inr, arith, length-append}
+use Rattle.std.proofs.Common.{◌≡◌, ℕ, Bool, true, ◌+◌, ◌-◌, ◌*◌, ◌<◌, ◌≤◌, List, [], ◌∷◌, ◌++◌, Option, Some, length, get_or, take, refl, sym, ap, subst, ◌∙◌, ◌⊎◌, inl, inr, arith, length-append}
 use Rattle.std.specs.List.{All, Contains}
 use Rattle.std.specs.FinMap.{get, len}
 use Rattle.std.proofs.Math.ListN.{get_or-append}
@@ -19,7 +19,7 @@ use Rattle.spf.specs.Changes.{link_value, Among}
 use Rattle.spf.specs.Loops.{IsReached}
 use Rattle.spf.specs.Parts.{IsBefore, AreLost}
 use Rattle.spf.specs.Repairs.{IsSupported}
-use Rattle.spf.specs.Suspects.{Supports, WasLeast, MaySupport, IsHead, AreToldOf, IsJudged, AreSuspected}
+use Rattle.spf.specs.Suspects.{Supports, WasLeast, MaySupport, IsHead, AreToldOf, AreWithin, IsJudged, AreSuspected}
 use Rattle.spf.proofs.Before.{earlier_changes}
 use Rattle.spf.proofs.Falling.{losing_falls}
 use Rattle.spf.proofs.LosingLoop.{losing_start, losing_passed, losing_lost}
@@ -30,6 +30,36 @@ use Rattle.spf.proofs.LosingLoop.{losing_start, losing_passed, losing_lost}
 pub member_apart : (old new : List Vertex) (v : Vertex) (fresh : Bool) → IsWithMember old new v fresh → HasNoDoubles old → HasNoDoubles new
 member_apart old new v fresh (inl one) apart = subst (λ (vs : List Vertex). HasNoDoubles vs) (sym one.1) (no_doubles_push old v apart one.2)
 member_apart old new v fresh (inr same) apart = subst (λ (vs : List Vertex). HasNoDoubles vs) (sym same.1) apart
+
+-- what was pushed was not there
+pub member_fresh : (old new : List Vertex) (v : Vertex) (fresh : Bool) → IsWithMember old new v fresh → fresh ≡ true → Contains old v → ⊥
+member_fresh old new v fresh (inl one) is = one.2
+member_fresh old new v fresh (inr same) is = λ there. let no = same.0 in absurd cc
+
+-- what is lost or suspected is still stale after more were told
+pub within_told : {Told : Vertex → Type 0} (lost stale wider suspects more : List Vertex) → AreWithin lost suspects stale → AreToldOf Told lost stale wider suspects more → AreWithin lost more wider
+within_told lost stale wider suspects more within told v (inl gone) = told.widens v (within v (inl gone))
+within_told lost stale wider suspects more within told v (inr waits) = elim (told.suspects_only v waits) [ inl was ↦ told.widens v (within v (inr was)) | inr is ↦ (told.told v is).0 ]
+
+-- and after one that is stale was lost
+pub within_lost : (lost more suspects stale : List Vertex) (v : Vertex) → AreWithin lost suspects stale → Contains stale v → more ≡ lost ++ v ∷ [] → AreWithin more suspects stale
+within_lost lost more suspects stale v within there pushed w (inr waits) = within w (inr waits)
+within_lost lost more suspects stale v within there pushed w (inl gone) = elim (Contains-push_cases lost v w (subst (λ (vs : List Vertex). Contains vs w) pushed gone)) [
+  | inl was ↦ within w (inl was)
+  | inr same ↦ subst (λ (u : Vertex). Contains stale u) same there
+]
+
+-- none is lost or suspected
+pub within_none : (stale : List Vertex) → AreWithin [] [] stale
+within_none stale v (inl none) = absurd (no_element v none)
+within_none stale v (inr none) = absurd (no_element v none)
+
+-- the last suspect taken out
+pub within_popped : (lost suspects rest stale : List Vertex) (v : Vertex) → suspects ≡ rest ++ v ∷ [] → AreWithin lost suspects stale → AreWithin lost rest stale × Contains stale v
+within_popped lost suspects rest stale v popped within = (
+  λ w c. elim c [ inl gone ↦ within w (inl gone) | inr waits ↦ within w (inr (subst (λ (vs : List Vertex). Contains vs w) (sym popped) (Contains-append_left rest (v ∷ []) w waits))) ],
+  within v (inr (subst (λ (vs : List Vertex). Contains vs v) (sym popped) (Contains-push rest v))),
+)
 
 -- nobody
 pub told_none : (Told : Vertex → Type 0) (lost stale suspects : List Vertex) → ((v : Vertex) → Told v → ⊥) → AreToldOf Told lost stale stale suspects suspects
@@ -167,8 +197,8 @@ module _ (g : GraphValue) (old : Vertex → Option ℕ) (lost : List Vertex) (v 
 module _ (g : GraphValue) (old : Vertex → Option ℕ) (lost suspects stale : List Vertex) (v : Vertex) where
   -- one that was not lost, and is not supported, is lost
   pub judged_lost : (more again wider : List Vertex) (fresh : Bool) (d : ℕ) (links : List Link) → (Contains lost v → ⊥) → old v ≡ Some d → (IsSupported (LinksOf g) old lost v d → ⊥) → AreLinksFrom g v links
-      → IsWithMember lost more v fresh → AreToldOf (IsHead (MaySupport g.root old d) links) more stale wider suspects again → IsJudged g old lost more suspects again stale wider v
-  judged_lost more again wider fresh d links new at not_supported exact with told = inr (record {
+      → IsWithMember lost more v fresh → AreWithin more suspects stale → AreToldOf (IsHead (MaySupport g.root old d) links) more stale wider suspects again → IsJudged g old lost more suspects again stale wider v
+  judged_lost more again wider fresh d links new at not_supported exact with within told = inr (record {
     losing = record {
       unsupported = λ e is supported. not_supported (subst (λ n. IsSupported (LinksOf g) old lost v n) (sym (same_distance e is)) supported);
       adds = member_added lost more v fresh with;
@@ -188,6 +218,7 @@ module _ (g : GraphValue) (old : Vertex → Option ℕ) (lost suspects stale : L
           inr (head.0.cost, head.0.label, subst (λ (x : Vertex). LinksOf g v x head.0.cost head.0.label) head.3 (subst (λ (x : Vertex). LinksOf g x head.0.to head.0.cost head.0.label) out.0 out.1))
     ];
     fresh = new;
+    within = within_told more stale wider suspects again within told;
     end = elim with [ inl one ↦ one.1 | inr same ↦ absurd (new same.2) ];
     apart = told.apart;
   })
@@ -213,6 +244,7 @@ module _ (g : GraphValue) (gone come : List Link) (old : Vertex → Option ℕ) 
       | inl none ↦ absurd (no_element v none)
       | inr head ↦ inl (head.0.from, head.0.cost, head.0.label, subst (λ (x : Vertex). Among gone head.0.from x head.0.cost head.0.label) head.3 head.1)
     ];
+    within = within_told [] [] stale [] suspects (within_none []) told;
     lost_apart = no_doubles_nil;
     suspects_apart = told.apart no_doubles_nil;
   }
@@ -236,6 +268,7 @@ module _ (g : GraphValue) (gone come : List Link) (old : Vertex → Option ℕ) 
         (subst (λ (vs : List Vertex). AreSuspected g gone come old lost rest vs) (sym p.stale_same) (record {
           losing = losing_passed is.distances lost rest suspects stale v s.losing one_out p.passed;
           why = s.why;
+          within = (within_popped lost suspects rest stale v popped s.within).0;
           lost_apart = s.lost_apart;
           suspects_apart = rest_apart s.suspects_apart;
         })))
@@ -248,6 +281,7 @@ module _ (g : GraphValue) (gone come : List Link) (old : Vertex → Option ℕ) 
           | inr out ↦ inr (out.0, out.1, out.2, out.3, n.losing.adds.grows out.0 out.4)
         ]
       ];
+      within = n.within;
       lost_apart = subst (λ (vs : List Vertex). HasNoDoubles vs) (sym n.end) (no_doubles_push lost v s.lost_apart n.fresh);
       suspects_apart = n.apart (rest_apart s.suspects_apart);
     }

@@ -36,6 +36,10 @@ pub record AreToldOf (Told : Vertex → Type 0) (lost stale wider suspects more 
   pub suspects_only : (v : Vertex) → Contains more v → Contains suspects v ⊎ Told v
   pub apart : HasNoDoubles suspects → HasNoDoubles more
 
+-- what is lost or suspected is stale
+abbrev pub AreWithin : List Vertex → List Vertex → List Vertex → Type 0
+AreWithin lost suspects stale = (v : Vertex) → Contains lost v ⊎ Contains suspects v → Contains stale v
+
 -- a suspect that is lost already, or supported, changes nothing
 pub record IsPassed (g : GraphValue) (old : Vertex → Option ℕ) (lost more suspects again stale wider : List Vertex) (v : Vertex) : Type 0 where
   pub lost_same : more ≡ lost
@@ -49,6 +53,7 @@ pub record IsLostNow (g : GraphValue) (old : Vertex → Option ℕ) (lost more s
   pub why : (w : Vertex) → Contains wider w → Contains stale w ⊎ ((cost : ℕ) × (label : Label) × LinksOf g v w cost label)
   pub fresh : Contains lost v → ⊥
   pub end : more ≡ lost ++ v ∷ []
+  pub within : AreWithin more again wider
   pub apart : HasNoDoubles suspects → HasNoDoubles again
 
 -- what comes of a suspect
@@ -59,5 +64,6 @@ IsJudged g old lost more suspects again stale wider v = IsPassed g old lost more
 pub record AreSuspected (g : GraphValue) (gone come : List Link) (old : Vertex → Option ℕ) (lost suspects stale : List Vertex) : Type 0 where
   pub losing : AreLosing (LinksBefore g gone come) (LinksOf g) (Among gone) g.root (HadRoot g.root old) (HasRoot g) old lost suspects stale
   pub why : (v : Vertex) → Contains stale v → IsStaleBy g gone lost v
+  pub within : AreWithin lost suspects stale
   pub lost_apart : HasNoDoubles lost
   pub suspects_apart : HasNoDoubles suspects

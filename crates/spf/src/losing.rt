@@ -8,7 +8,7 @@ ghost use Rattle.vertex_graph.specs.Link.{Link as LinkValue};
 ghost use Rattle.tree_parts.specs.Maps.{most_distance};
 ghost use Rattle.spf.specs.Parts.{IsBefore, AreLost};
 ghost use Rattle.spf.specs.Repairs.{IsSupported};
-ghost use Rattle.spf.specs.Suspects.{Supports, WasLeast, MaySupport, IsHead, AreToldOf, IsJudged};
+ghost use Rattle.spf.specs.Suspects.{Supports, WasLeast, MaySupport, IsHead, AreToldOf, AreWithin, IsJudged};
 
 use crate::workspace::MOST_KEPT;
 use ospf_types::entry::Vertex;
@@ -107,6 +107,7 @@ impl Search {
         root: u32,
         distances: &Distances,
     ) -> Result<(), Memory>
+        requires within { AreWithin self.old.losses.lost self.old.suspects self.old.losses.stale }
         ensures told { OnOk result (AreToldOf (IsHead (WasLeast root (map.get distances.now)) gone.now) self.old.losses.lost self.old.losses.stale self.new.losses.stale self.old.suspects self.new.suspects) }
         ensures lost { OnOk result (self.new.losses.lost ≡ self.old.losses.lost) }
     {
@@ -126,7 +127,8 @@ impl Search {
         distances: &Distances,
         distance: u32,
     ) -> Result<(), Memory>
-        requires { distance < most_distance }
+        requires near { distance < most_distance }
+        requires within { AreWithin self.old.losses.lost self.old.suspects self.old.losses.stale }
         ensures told { OnOk result (AreToldOf (IsHead (MaySupport root (map.get distances.now) distance) links.now) self.old.losses.lost self.old.losses.stale self.new.losses.stale self.old.suspects self.new.suspects) }
         ensures lost { OnOk result (self.new.losses.lost ≡ self.old.losses.lost) }
     {
@@ -140,10 +142,14 @@ impl Search {
 
     // The vertex is stale, and suspected unless it is lost.
     fn suspect(&mut self, vertex: &Placed) -> Result<(), Memory>
+        requires within { AreWithin self.old.losses.lost self.old.suspects self.old.losses.stale }
         ensures told { OnOk result (AreToldOf (λ v. vertex.now ≡ v) self.old.losses.lost self.old.losses.stale self.new.losses.stale self.old.suspects self.new.suspects) }
         ensures lost { OnOk result (self.new.losses.lost ≡ self.old.losses.lost) }
     {
-        self.losses.stale.add(vertex)?;
+        // One that was not stale is neither lost nor suspected.
+        if self.losses.stale.add(vertex)? {
+            return self.suspects.push(vertex);
+        }
         if !self.losses.lost.has(vertex) {
             self.suspects.add(vertex)?;
         }
@@ -157,6 +163,8 @@ impl Search {
         distances: &Distances,
         suspect: &Placed,
     ) -> Result<(), Memory>
+        requires within { AreWithin self.old.losses.lost self.old.suspects self.old.losses.stale }
+        requires stale { Contains self.old.losses.stale suspect.now }
         ensures { OnOk result (IsJudged graph.now (map.get distances.now) self.old.losses.lost self.new.losses.lost self.old.suspects self.new.suspects self.old.losses.stale self.new.losses.stale suspect.now) }
     {
         if self.losses.lost.has(suspect) {
@@ -252,7 +260,7 @@ fn supports(link: &Link, lost: &Members, distances: &Distances, distance: u32) -
     ensures { IsTrue result ↔ Supports (map.get distances.now) lost.now distance link.now }
 {
     match distances.get(&link.from) {
-        Some(near) => !lost.has(&link.from) && near + u32::from(link.cost) <= distance,
+        Some(near) => near + u32::from(link.cost) <= distance && !lost.has(&link.from),
         None => false,
     }
 }

@@ -59,7 +59,6 @@ impl VertexList {
     }
 
     /// Adds a vertex that is not there at the end.
-    #[inline]
     pub fn push(&mut self, vertex: &Placed) -> Result<(), Memory>
         requires { Contains self.old vertex.now → ⊥ }
         ensures pushed { OnOk result (self.new ≡ self.old ++ vertex.now ∷ []) }

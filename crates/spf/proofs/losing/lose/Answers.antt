@@ -2,9 +2,23 @@ use Rattle.std.proofs.Common.{ℕ, List, [], sym, subst, ◌∙◌}
 use Rattle.std.specs.FinMap.{get}
 use Rattle.ospf_types.specs.declared.entry.Vertex.{Vertex}
 use Rattle.vertex_graph.specs.Link.{Link}
-use Rattle.spf.specs.Suspects.{WasLeast, IsHead, AreToldOf, AreSuspected}
-use Rattle.spf.proofs.Suspecting.{suspected_at_start, suspected_next, suspects_fall, lost_at_end}
+use Rattle.spf.specs.Suspects.{WasLeast, IsHead, AreToldOf, AreWithin, AreSuspected}
+use Rattle.spf.proofs.Suspecting.{within_none, within_popped, suspected_at_start, suspected_next, suspects_fall, lost_at_end}
 use Rattle.spf.proofs.losing.lose.Goals as goal
+
+pub suspect_heads-requires : goal.suspect_heads-requires
+suspect_heads-requires c =
+    let first = c.clear.new.self in
+    record {
+      within = subst (λ (vs : List Vertex). AreWithin vs first.suspects first.losses.stale) (sym c.clear.ensures.lost)
+          (subst (λ (vs : List Vertex). AreWithin [] vs first.losses.stale) (sym c.clear.ensures.suspects) (within_none first.losses.stale));
+    }
+
+pub judge-requires : goal.judge-requires
+judge-requires c =
+    let s = c.loop-suspect.search in
+    let popped = within_popped s.losses.lost s.suspects c.pop.new.self s.losses.stale c.in-Some.suspect c.in-Some.ensures.last c.loop-suspect.invariant.within in
+    record { within = popped.0; stale = popped.1 }
 
 pub loop-suspect-init : goal.loop-suspect-init
 loop-suspect-init c =

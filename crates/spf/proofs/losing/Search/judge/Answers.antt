@@ -4,7 +4,7 @@ use Rattle.std.specs.List.{Contains}
 use Rattle.std.specs.Prelude.{Result, Ok, Err, OnOk}
 use Rattle.ospf_types.specs.declared.entry.Vertex.{Vertex}
 use Rattle.spf.specs.Suspects.{MaySupport, IsHead, AreToldOf, IsJudged}
-use Rattle.spf.proofs.Suspecting.{judged_lost}
+use Rattle.spf.proofs.Suspecting.{judged_lost, within_lost}
 use Rattle.spf.proofs.losing.Search.judge.Goals as goal
 
 -- what two facts of the same success show of it
@@ -26,5 +26,5 @@ returns c =
     not_yet
     (sym c.in-Some.ensures.value)
     (λ supported. let yes = c.in_ok-is_supported.ensures.1 supported in let no = c.if-branch.false in absurd cc)
-    c.links_out_of.ensures.exact (inl (refl, c.in_ok-push.ensures.pushed, not_yet))
+    c.links_out_of.ensures.exact (inl (refl, c.in_ok-push.ensures.pushed, not_yet)) (within_lost lost c.push.new.self s.suspects s.losses.stale c.args.suspect.now c.requires.within c.requires.stale c.in_ok-push.ensures.pushed)
     (subst (λ (r : ℕ). AreToldOf (IsHead (MaySupport r old c.in-Some.distance) c.links_out_of.result.now) c.push.new.self s.losses.stale new.losses.stale s.suspects new.suspects) c.root.ensures.value told)))

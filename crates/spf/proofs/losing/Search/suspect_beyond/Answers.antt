@@ -2,10 +2,19 @@ use Rattle.std.proofs.Common.{◌≡◌, ◌+◌, List, take, sym, subst, ◌∙
 use Rattle.std.specs.FinMap.{get}
 use Rattle.ospf_types.specs.declared.entry.Vertex.{Vertex}
 use Rattle.spf.specs.declared.losing.Search.{Search}
-use Rattle.spf.specs.Suspects.{MaySupport, IsHead, AreToldOf}
-use Rattle.spf.proofs.Suspecting.{told_next, told_skipped}
+use Rattle.spf.specs.Suspects.{MaySupport, IsHead, AreToldOf, AreWithin}
+use Rattle.spf.proofs.Suspecting.{within_told, told_next, told_skipped}
 use Rattle.spf.proofs.losing.Search.suspect_beyond.Goals as goal
 use Rattle.spf.proofs.losing.Search.suspect_beyond.Goals.{then-may_support+in_ok-suspect, else-may_support}
+
+pub suspect-requires : goal.suspect-requires
+suspect-requires c =
+    let s = c.args.self.now in
+    let now = c.loop-link.self in
+    record {
+      within = subst (λ (lost : List Vertex). AreWithin lost now.suspects now.losses.stale) (sym c.loop-link.invariant.lost)
+          (within_told s.losses.lost s.losses.stale now.losses.stale s.suspects now.suspects c.requires.within c.loop-link.invariant.told);
+    }
 
 pub loop-link-preserved : goal.loop-link-preserved
 loop-link-preserved c =
