@@ -1,6 +1,6 @@
 -- Intra-area routes as their callers see them.
-use Rattle.std.specs.Prelude.{ℕ, ◌==◌, ◌≡◌, Bool, false, List, [], ◌∷◌, Contains, Option, Some, None, IsSome, if◌then◌else◌}
-use Rattle.std.specs.FinMap.{FinMap, get}
+use Rattle.std.specs.Prelude.{ℕ, ◌==◌, ◌≡◌, Bool, false, List, [], ◌∷◌, Contains, Option, Some, None, IsSome, slice_get, if◌then◌else◌}
+use Rattle.std.specs.FinMap.{FinMap, from_entries, get}
 use Rattle.std.specs.List.Sorted.{IsStrictlySortedBy}
 use Rattle.ospf_types.specs.declared.entry.Entry.{Entry}
 use Rattle.ospf_types.specs.declared.entry.PathType.TheVariants.{Intra}
@@ -19,6 +19,14 @@ use Rattle.intra.specs.Reached.{ReachedByRouter, ReachedValue, IsReachedOf}
 
 abbrev pub EntriesByPrefix : Type 0
 EntriesByPrefix = FinMap network_cmp Entry
+
+-- each network with its entry
+abbrev pub entries_of : List (Prefix × Entry) → EntriesByPrefix
+entries_of es = from_entries {K = Prefix} {R = network_cmp} es
+
+-- the entry of the network stands there
+abbrev pub IsEntryAt : List (Prefix × Entry) → Prefix → ℕ → Type 0
+IsEntryAt es p i = (e : Entry) × (slice_get es i ≡ Some (p, e))
 
 pub record AreaIntraValue : Type 0 where
   pub id : ℕ

@@ -1,6 +1,6 @@
-ghost use Rattle.std.specs.Prelude.{◌≡◌, ◌≢◌, ◌↔◌, ◌<◌, ◌++◌, ◌==◌, ℕ, [], Some, true, false, length, map as list_map, IfOk, OnOk, OnErr, IfSome, IsSome, is_some, count_by, Contains, option_copied};
+ghost use Rattle.std.specs.Prelude.{◌≡◌, ◌≢◌, ◌↔◌, ◌<◌, ◌++◌, ◌==◌, ℕ, [], Some, None, true, false, length, map as list_map, IfOk, OnOk, OnErr, IfNone, IfSome, IsSome, IsTrue, is_some, count_by, Contains, option_copied};
 ghost use Rattle.std.specs.FinMap as map;
-ghost use Rattle.std.specs.List.{AllPairs};
+ghost use Rattle.std.specs.List.{All, AllPairs};
 ghost use Rattle.std.specs.Ordering.{nat_cmp};
 ghost use Rattle.std.specs.Map.{keys_of};
 ghost use Rattle.ospf_types.specs.declared.entry.Entry.{Entry as EntryValue};
@@ -17,7 +17,7 @@ ghost use Rattle.ospf_types.specs.declared.prefix.Prefix.{Prefix as PrefixValue}
 ghost use Rattle.ospf_types.specs.declared.key.Dest.{Dest as DestValue};
 ghost use Rattle.ospf_types.specs.Inputs.{Inputs as Definitions};
 ghost use Rattle.intra.specs.Inputs.{AreReady, AreaValue, InputsValue};
-ghost use Rattle.intra.specs.Intras.{IsIntraOf, IsKeptIn, most_cost, reached_at};
+ghost use Rattle.intra.specs.Intras.{IsEntryAt, IsIntraOf, IsKeptIn, entries_of, most_cost, reached_at};
 ghost use Rattle.intra.specs.Changes.{InputsDifferAmong, DiffersAt};
 ghost use Rattle.ospf_types.specs.Keys.{dest_cmp};
 ghost use Rattle.intra.specs.Right.{AreInputsOf, IsRightFor};
@@ -41,6 +41,9 @@ use std::marker::Model;
 use std::mem;
 use word_hash::WordHash;
 
+// Where no entry is.
+const NOWHERE: u32 = u32::MAX;
+
 /// The intra-area routes of a router: the entry of each network, and in each area the border routers and AS boundary
 /// routers that are reached.
 pub struct Intra {
@@ -48,6 +51,8 @@ pub struct Intra {
     entries: IndexMap<Prefix, Entry, WordHash>,
     // Memory for an update.
     named: Named,
+    // Where the last update left the entries of the networks that it answered, one after another.
+    places: Vec<u32>,
     spent: bool,
 }
 
@@ -58,6 +63,7 @@ impl Drop for Intra {
             areas: _areas,
             entries: _entries,
             named: _named,
+            places: _places,
             spent: _,
         } = self;
     }
@@ -141,6 +147,26 @@ impl Intra {
         self.entries.get(&network)
     }
 
+    /// The entry of a network, for a caller that asks for networks in ascending order: it keeps `next` from one to the
+    /// next, 0 at first. What the last update answered is read where it was left, and nothing is hashed.
+    pub fn get_next(&self, network: Prefix, next: &mut usize) -> Option<&Entry>
+        ensures value { option_copied result ≡ map.get self.now.entries network }
+        ensures bounded { IfSome result (λ e. e.now.cost < most_cost) }
+    {
+        match self.entries.get_index(self.left_at(*next)) {
+            Some((kept, entry)) if *kept == network => {
+                *next = next.saturating_add(1);
+                Some(entry)
+            }
+            // Another has moved there since.
+            Some((kept, _)) if *kept < network => {
+                *next = next.saturating_add(1);
+                self.get(network)
+            }
+            _ => self.get(network),
+        }
+    }
+
     /// The networks that have an entry, in no stated order.
     pub fn networks(&self, alloc: Global) -> Result<Vec<Prefix>, Memory>
         ensures exact { IfOk result (λ networks. (p : PrefixValue) → Contains networks.items p ↔ IsSome (map.get self.now.entries p)) }
@@ -205,6 +231,7 @@ impl Intra {
             areas: kept,
             entries: IndexMap::with_hasher(alloc, hashing),
             named: Named::new(alloc),
+            places: Vec::new(alloc),
             spent: false,
         })
     }
@@ -244,6 +271,7 @@ impl Intra {
     {
         let mut named = mem::replace(&mut self.named, Named::new(alloc));
         named.clear();
+        self.places.clear();
         let areas = self.areas.as_mut_slice();
         follow_areas(alloc, areas, inputs, dirty, &mut named)?;
         // Vertices come in their order, and their prefixes mostly stand in it: few runs, which a stable sort only merges.
@@ -315,15 +343,34 @@ impl Intra {
         ensures same { IfOk result (λ other. other ≡ false → map.get self.old.entries network ≡ Some entry) }
         ensures other { IfOk result (λ other. other ≡ true → map.get self.old.entries network ≢ Some entry) }
     {
-        let Some(kept) = self.entries.get_mut(&network) else {
-            self.entries.insert(network, entry)?;
+        let Some((place, same)) = standing(&self.entries, network, &entry) else {
+            self.add(network, entry)?;
             return Ok(true);
         };
-        if kept.is_same(&entry) {
+        if same {
             return Ok(false);
         }
-        *kept = entry;
+        self.places.push(number(place))?;
+        write_at(&mut self.entries, place, entry);
         Ok(true)
+    }
+
+    // The network, which has none, has this entry.
+    fn add(&mut self, network: Prefix, entry: Entry) -> Result<(), Memory>
+        requires { entry.cost < most_cost }
+        ensures areas { OnOk result (self.new.areas ≡ self.old.areas) }
+        ensures spent { OnOk result (self.new.spent ≡ self.old.spent) }
+        ensures here { OnOk result (map.get self.new.entries network ≡ Some entry) }
+        ensures others { OnOk result ((p : PrefixValue) → p ≢ network → map.get self.new.entries p ≡ map.get self.old.entries p) }
+    {
+        self.places.push(number(self.entries.len()))?;
+        self.entries.insert(network, entry)?;
+        Ok(())
+    }
+
+    // Where the last update left the entry of this network of those that it answered.
+    fn left_at(&self, next: usize) -> usize {
+        self.places.get(next).copied().unwrap_or(NOWHERE) as usize
     }
 
     fn spend(&mut self)
@@ -333,6 +380,38 @@ impl Intra {
         self.entries.clear();
         self.spent = true;
     }
+}
+
+// Where the entry of the network stands, and whether it is this one.
+fn standing(
+    entries: &IndexMap<Prefix, Entry, WordHash>,
+    network: Prefix,
+    entry: &Entry,
+) -> Option<(usize, bool)>
+    ensures at { IfSome result (λ p. IsEntryAt entries.now.entries network p.0) }
+    ensures same { IfSome result (λ p. IsTrue p.1 ↔ (map.get (entries_of entries.now.entries) network ≡ Some entry.now)) }
+    ensures none { IfNone result (map.get (entries_of entries.now.entries) network ≡ None) }
+{
+    match entries.get_full(&network) {
+        Some((place, _, value)) => Some((place, value.is_same(entry))),
+        None => None,
+    }
+}
+
+// The entry at the place is this from now on.
+fn write_at(entries: &mut IndexMap<Prefix, Entry, WordHash>, place: usize, entry: Entry)
+    requires { place < length entries.old.entries }
+    ensures written { (p : PrefixValue) → IsEntryAt entries.old.entries p place → entries_of entries.new.entries ≡ map.insert (entries_of entries.old.entries) p entry }
+    ensures below { All (λ e. e.1.cost < most_cost) entries.old.entries → entry.cost < most_cost → All (λ e. e.1.cost < most_cost) entries.new.entries }
+{
+    // proof: no network has two entries.
+    let _ = entries.len();
+    entries[place] = entry;
+}
+
+// A place as a number; past the greatest of them there are no entries.
+fn number(place: usize) -> u32 {
+    u32::try_from(place).unwrap_or(NOWHERE)
 }
 
 // What is kept of each area follows its LSAs, its tree and the interfaces.
