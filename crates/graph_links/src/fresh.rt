@@ -195,10 +195,11 @@ fn put_in_room(rows: &mut Rows, vertex: &Placed, row: Row, used: &mut Vec<Row>)
     ensures placed { (v : VertexValue) → find vertex_cmp v rows.new.entries ≡ (if eq_by_cmp vertex_cmp v vertex.now then Some row else find vertex_cmp v rows.old.entries) }
     ensures room { spare rows.old ≤ spare rows.new + 1 }
 {
-    match standing(rows, vertex) {
-        Some(place) => keep(Some(exchange(rows, place, row)), used),
-        None => insert_in_room(rows, vertex.vertex(), row, used),
-    }
+    let before = match standing(rows, vertex) {
+        Some(place) => Some(exchange(rows, place, row)),
+        None => insert_in_room(rows, vertex.vertex(), row),
+    };
+    keep(before, used);
 }
 
 // Where the vertex has its row, if that is at the vertex's place.
@@ -223,14 +224,14 @@ fn exchange(rows: &mut Rows, place: usize, row: Row) -> Row
     replace(&mut rows[place], row)
 }
 
-// Puts the row in the place of what its vertex had, which is looked up by its hash.
-fn insert_in_room(rows: &mut Rows, vertex: Vertex, row: Row, used: &mut Vec<Row>)
+// Puts the row in the place of what its vertex had, which is looked up by its hash, and gives that back.
+fn insert_in_room(rows: &mut Rows, vertex: Vertex, row: Row) -> Option<Row>
     requires { 0 < spare rows.old }
     ensures placed { (v : VertexValue) → find vertex_cmp v rows.new.entries ≡ (if eq_by_cmp vertex_cmp v vertex then Some row else find vertex_cmp v rows.old.entries) }
     ensures room { spare rows.old ≤ spare rows.new + 1 }
 {
     match rows.insert(vertex, row) {
-        Ok(before) => keep(before, used),
+        Ok(before) => before,
         Err(_) => unreachable!(),
     }
 }
