@@ -6,5 +6,6 @@ pub mod Alike
 pub mod Following
 pub mod Due
 pub mod Named
+pub mod NewItems
 pub use Rattle.state_trees.proofs.InputsAre
 pub use Rattle.state_trees.proofs.OtherRanges

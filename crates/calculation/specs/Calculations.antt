@@ -1,5 +1,5 @@
 -- What is kept of a state from event to event: the trees of its areas, and its routes, layer by layer.
-use Rattle.std.specs.Prelude.{◌≡◌, List, Contains, Option, Some, None}
+use Rattle.std.specs.Prelude.{◌≡◌, ◌≢◌, List, Contains, Option, Some, None}
 use Rattle.std.specs.FinMap as map
 use Rattle.std.specs.FinMap.{get}
 use Rattle.ospf_types.specs.declared.key.Dest.TheVariants.{Net}
@@ -66,6 +66,11 @@ IsItem entry active (Some Discard) = (entry ≡ None) × active
 
 abbrev pub IsItemOf : CalculationValue → Prefix → Option Item → Type 0
 IsItemOf c p item = IsItem (entry_at c p) (IsActiveIn c.active p) item
+
+-- what the table is to have for the network, with which it has something else; nothing where it has just that
+abbrev pub IsNewItemOf : CalculationValue → map.FinMap network_cmp Item → Prefix → Option (Prefix × Option Item) → Type 0
+IsNewItemOf c items p None = IsItemOf c p (get items p)
+IsNewItemOf c items p (Some new) = (new.0 ≡ p) × IsItemOf c p new.1 × (get items p ≢ new.1)
 
 -- what the one has for a network, the other has too, but for the networks that are named
 abbrev pub AreItemsKept : List Prefix → CalculationValue → CalculationValue → Type 0

@@ -1,4 +1,5 @@
 ghost use Rattle.std.specs.Prelude.{◌≡◌, ◌≤◌, ◌↔◌, ◌++◌, ℕ, List, Option, Some, None, Contains, OnOk, IfOk, is_some, option_copied, map as list_map};
+ghost use Rattle.std.specs.FinMap as map;
 ghost use Rattle.std.specs.List.Sorted.{IsStrictlySortedBy};
 ghost use Rattle.ospf_types.specs.declared.config.AreaConfig.{AreaConfig as AreaConfigValue};
 ghost use Rattle.ospf_types.specs.declared.key.Dest.{Dest as DestValue};
@@ -20,7 +21,7 @@ ghost use Rattle.dues.specs.Dues.{DuesValue, lists_of};
 ghost use Rattle.route_table.specs.declared.table.Item.{Item as ItemValue};
 ghost use Rattle.event_state.specs.Held.{AreFit};
 ghost use Rattle.event_state.specs.States.{AreApart, State as StateValue, inputs_of};
-ghost use Rattle.calculation.specs.Calculations.{CalculationValue, IsCalculationOf, IsItemOf, IsTableOf, AreItemsKept, entry_at};
+ghost use Rattle.calculation.specs.Calculations.{CalculationValue, IsCalculationOf, IsItemOf, IsNewItemOf, IsTableOf, AreItemsKept, entry_at, entry_else};
 ghost use Rattle.state_trees.specs.Trees.{StatesDifferAmong, AreTreesOf, inputs_with};
 ghost use Rattle.calculation.specs.Due.{AreDuesFor, DuesDifferAmong, RoutesDifferAmong, due_inputs};
 ghost use Rattle.calculation.specs.Followed.{AreLayersBehind, range_dests, routers_in};
@@ -38,7 +39,7 @@ use ospf_types::key::{Dest, Key, Scope};
 use ospf_types::memory::Memory;
 use ospf_types::prefix::Prefix;
 use route_layers::{active_areas, build_external, build_inter, follow_external, follow_inter};
-use route_table::{Item, Table};
+use route_table::{Item, NewItem, Table};
 use spf::Touched;
 use state_trees::{area_inputs, build_trees, follow_trees};
 use std::alloc::Global;
@@ -209,6 +210,26 @@ impl Calculation {
         Ok(None)
     }
 
+    /// What the table is to have for the network, where it has something else. Networks that are asked for in ascending
+    /// order hand the same `next` on, 0 at first: those that the last event changed are read where they are.
+    pub fn new_item(
+        &self,
+        alloc: Global,
+        table: &Table,
+        network: Prefix,
+        next: &mut usize,
+    ) -> Result<Option<NewItem>, Memory>
+        ensures { IfOk result (IsNewItemOf self.now table.now.items network) }
+    {
+        if let Some(entry) = self.entry_next(network, next) {
+            return table.new_route(alloc, network, entry);
+        }
+        if self.active.contains(network) {
+            return Ok(table.new_item(network, Some(Item::Discard)));
+        }
+        Ok(table.new_item(network, None))
+    }
+
     /// The routing table, which follows so many events. Networks are hashed under keys that the random state
     /// gives.
     pub fn table(&self, alloc: Global, serial: u64, hashing: RandomState) -> Result<Table, Memory>
@@ -287,6 +308,23 @@ impl Calculation {
         if let Some(entry) = self.intra.get(network) {
             return Some(entry);
         }
+        self.outer_entry(network)
+    }
+
+    // The network's entry, read where the last event left it if `next` tells where.
+    fn entry_next(&self, network: Prefix, next: &mut usize) -> Option<&Entry>
+        ensures { option_copied result ≡ entry_at self.now network }
+    {
+        if let Some(entry) = self.intra.get_next(network, next) {
+            return Some(entry);
+        }
+        self.outer_entry(network)
+    }
+
+    // The network's entry of another area or from outside: inter-area, else external.
+    fn outer_entry(&self, network: Prefix) -> Option<&Entry>
+        ensures { option_copied result ≡ entry_else (map.get self.now.inter.entries (dest_value.Net network)) (map.get self.now.external.entries network) }
+    {
         if let Some(entry) = self.inter.get(Dest::Net(network)) {
             return Some(entry);
         }

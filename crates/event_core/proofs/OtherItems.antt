@@ -1,5 +1,5 @@
 -- The items that the table is to have, gathered network by network.
-use Rattle.std.proofs.Common.{◌≡◌, ◌≢◌, ℕ, suc, ◌+◌, ◌<◌, ◌≤◌, List, [], ◌∷◌, ◌++◌, append_assoc, length, get_or, take, drop, Option, sym, ap, subst, ◌∙◌, ◌⊎◌, inl, inr, refl, add-one, drop-cons}
+use Rattle.std.proofs.Common.{◌≡◌, ◌≢◌, ℕ, suc, ◌+◌, ◌<◌, ◌≤◌, List, [], ◌∷◌, ◌++◌, append_assoc, length, get_or, take, drop, Option, Some, sym, ap, subst, ◌∙◌, ◌⊎◌, inl, inr, refl, add-one, drop-cons}
 use Rattle.std.specs.FinMap.{FinMap, get}
 use Rattle.std.specs.List.{Contains}
 use Rattle.std.specs.List.Sorted.{IsStrictlySortedBy}
@@ -11,7 +11,7 @@ use Rattle.ospf_types.specs.Network.{network_cmp}
 use Rattle.ospf_types.proofs.Elements.{no_element, contains_more}
 use Rattle.result_map.proofs.Renewing.{sorted_without}
 use Rattle.route_table.specs.declared.table.Item.{Item}
-use Rattle.calculation.specs.Calculations.{CalculationValue, IsItemOf}
+use Rattle.calculation.specs.Calculations.{CalculationValue, IsItemOf, IsNewItemOf}
 use Rattle.event_core.specs.Following.{AreOtherItems, IsOneMore}
 
 -- the first networks, so many, are gone through
@@ -91,3 +91,7 @@ module _ (c : CalculationValue) (table : FinMap network_cmp Item) (networks : Li
     -- one network more
     pub others_more : IsOneMore c table p before after → AreOthersTo c table networks (i + 1) after
     others_more step = elim step [ inl same ↦ stays same.0 same.1 | inr new ↦ joins new.0 new.1 new.2 new.3 ]
+
+-- a new item is one more
+pub one_more : (c : CalculationValue) (table : FinMap network_cmp Item) (p : Prefix) (before after : List (Prefix × Option Item)) (new : Prefix × Option Item) → after ≡ before ++ new ∷ [] → IsNewItemOf c table p (Some new) → IsOneMore c table p before after
+one_more c table p before after new pushed is = inr (new.1, pushed ∙ ap (λ (q : Prefix). before ++ (q, new.1) ∷ []) is.0, is.1, is.2)

@@ -1,5 +1,5 @@
 //! The routing table and due summaries, and what is kept to follow events (RFC 2328, 16 and 12.4.3).
-ghost use Rattle.std.specs.Prelude.{◌≡◌, ◌↔◌, ◌≤◌, [], false, IfOk, IsTrue, OnOk, OnErr, is_some, option_copied};
+ghost use Rattle.std.specs.Prelude.{◌≡◌, ◌≤◌, [], false, IfOk, OnOk, OnErr, is_some};
 ghost use Rattle.std.specs.List.Sorted.{IsStrictlySortedBy};
 ghost use Rattle.std.specs.Map.{keys_of};
 ghost use Rattle.ospf_types.specs.Network.{network_cmp};
@@ -21,7 +21,7 @@ use dues::Dues;
 use event_state::State;
 use ospf_types::memory::Memory;
 use ospf_types::prefix::Prefix;
-use route_table::{Item, Table};
+use route_table::{NewItem, Table};
 use spf::Touched;
 use std::alloc::Global;
 use std::hash::RandomState;
@@ -273,13 +273,14 @@ fn other_items(
     calculation: &Calculation,
     table: &Table,
     networks: &[Prefix],
-) -> Result<Vec<(Prefix, Option<Item>)>, Memory>
+) -> Result<Vec<NewItem>, Memory>
     requires { IsStrictlySortedBy network_cmp networks.now }
     ensures { IfOk result (λ items. AreOtherItems calculation.now table.now.items networks.now items.items) }
 {
     let mut items = Vec::with_capacity(alloc, networks.len())?;
+    let mut next = 0;
     for network in networks {
-        push_other(alloc, calculation, table, *network, &mut items)?;
+        push_other(alloc, calculation, table, *network, &mut next, &mut items)?;
     }
     Ok(items)
 }
@@ -290,33 +291,25 @@ fn push_other(
     calculation: &Calculation,
     table: &Table,
     network: Prefix,
-    items: &mut Vec<(Prefix, Option<Item>)>,
+    next: &mut usize,
+    items: &mut Vec<NewItem>,
 ) -> Result<(), Memory>
     ensures { OnOk result (IsOneMore calculation.now table.now.items network items.old.items items.new.items) }
 {
-    let item = calculation.item(alloc, network)?;
-    if are_same(table.get(network), item.as_ref()) {
+    let Some(item) = calculation.new_item(alloc, table, network, next)? else {
         return Ok(());
-    }
-    items.push((network, item))?;
+    };
+    items.push(item)?;
     Ok(())
 }
 
-// Whether the two items are equal, or both are absent.
-fn are_same(a: Option<&Item>, b: Option<&Item>) -> bool
-    ensures { IsTrue result ↔ (option_copied a.entry ≡ option_copied b.entry) }
-{
-    match (a, b) {
-        (Some(Item::Route(a)), Some(Item::Route(b))) => a.is_same(b),
-        (Some(Item::Discard), Some(Item::Discard)) | (None, None) => true,
-        _ => false,
-    }
-}
-
 // The networks of the items.
-fn networks_of<V>(alloc: Global, items: &[(Prefix, V)]) -> Result<Vec<Prefix>, Memory>
+fn networks_of(alloc: Global, items: &[NewItem]) -> Result<Vec<Prefix>, Memory>
     ensures { IfOk result (λ networks. networks.items ≡ keys_of items.now) }
 {
-    let networks = items.iter().map(|item| item.0).collect(alloc)?;
+    let mut networks = Vec::with_capacity(alloc, items.len())?;
+    for item in items {
+        networks.push(item.network())?;
+    }
     Ok(networks)
 }

@@ -1,5 +1,5 @@
 //! The items of the networks, and how they are found.
-ghost use Rattle.std.specs.Prelude.{◌≡◌, ◌<◌, ◌^◌, OnOk, OnErr, None, length, option_copied};
+ghost use Rattle.std.specs.Prelude.{◌≡◌, ◌<◌, ◌^◌, OnOk, OnErr, None, length, option_copied, option_map, IsSome, IsTrue};
 ghost use Rattle.std.specs.FinMap as map;
 ghost use Rattle.std.specs.List.Sorted.{IsStrictlySortedBy};
 ghost use Rattle.std.specs.Map.{keys_of};
@@ -172,6 +172,29 @@ impl Table {
         ensures absent { OnErr result (map.get self.old.items prefix ≡ None) }
     {
         self.items.insert(prefix, item)
+    }
+
+    // What `set` does, with no look-up where the network's item stands at the place.
+    pub(crate) fn set_at(&mut self, place: usize, prefix: Prefix, item: Item) -> Result<(), Memory>
+        ensures ok { OnOk result (self.new ≡ record self.old { items = map.insert self.old.items prefix item }) }
+        ensures err { OnErr result (self.new ≡ self.old) }
+        ensures absent { OnErr result (map.get self.old.items prefix ≡ None) }
+    {
+        self.items.insert_at(place, prefix, item)
+    }
+
+    // The network's item, with the place where it stands.
+    pub(crate) fn find(&self, prefix: Prefix) -> Option<(usize, &Item)>
+        ensures { option_map (λ found. found.1.now) result ≡ map.get self.now.items prefix }
+    {
+        self.items.find(prefix)
+    }
+
+    // Whether the network's item stands at the place.
+    pub(crate) fn has_at(&self, place: usize, prefix: Prefix) -> bool
+        ensures { IsTrue result → IsSome (map.get self.now.items prefix) }
+    {
+        self.items.has_at(place, prefix)
     }
 
     /// Sets how many events the table follows.

@@ -6,7 +6,7 @@ use ospf_types::entry::{Entry, PathType, Paths};
 use ospf_types::hop::{NextHop, Path};
 use ospf_types::memory::Memory;
 use ospf_types::prefix::Prefix;
-use route_table::{Item, Match, Table};
+use route_table::{Item, Match, NewItem, Table};
 use smallvec::SmallVec;
 use std::alloc::Global;
 use std::hash::RandomState;
@@ -182,9 +182,9 @@ fn a_change_adds_replaces_and_removes(rt: HostRuntime) -> Result<(), Fail> {
     ];
     let mut table = table_of(&rt, &rows)?;
     let changes = vec![in rt.alloc();
-        (network(0x0a00_0000, 16)?, Some(item(rt.alloc(), Some(4))?)),
-        (network(0x0b00_0000, 8)?, Some(item(rt.alloc(), None)?)),
-        (network(0x0c00_0000, 8)?, None),
+        NewItem::new(network(0x0a00_0000, 16)?, Some(item(rt.alloc(), Some(4))?)),
+        NewItem::new(network(0x0b00_0000, 8)?, Some(item(rt.alloc(), None)?)),
+        NewItem::new(network(0x0c00_0000, 8)?, None),
     ]?;
     table.change(rt.alloc(), changes)?;
     assert!(rt;
