@@ -57,10 +57,12 @@ impl Trial {
 
     pub fn print(&self, rt: &impl Print) -> io::Result<()> {
         let areas = self.areas.len();
-        let changed = if self.changes > ENOUGH { "more" } else { "no more" };
-        println!(rt;
-            "areas {areas}: events {EVENTS}, {changed} than {ENOUGH} items changed"
-        )?;
+        let changed = if self.changes > ENOUGH {
+            "more"
+        } else {
+            "no more"
+        };
+        println!(rt; "areas {areas}: events {EVENTS}, {changed} than {ENOUGH} items changed")?;
         println!(rt; "events after which something differs: {}", self.differ)
     }
 
