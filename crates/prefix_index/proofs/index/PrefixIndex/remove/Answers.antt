@@ -24,6 +24,7 @@ pub invariant_of-self-2 : goal.invariant_of-self-2
 invariant_of-self-2 g c =
     let s = c.self.inside in
     record {
+      paged = c.self.invariant.paged;
       noted = subst (λ (m : FinMap network_cmp g.row.V.Denot). AreNoted s.lengths m) (sym c.remove.ensures.removed) (of_each_left (IsNoted s.lengths) s.items c.args.network c.self.invariant.noted);
       ordered = c.drop_others.ensures.ordered;
       few = c.drop_others.ensures.few;
