@@ -181,11 +181,10 @@ fn a_change_adds_replaces_and_removes(rt: HostRuntime) -> Result<(), Fail> {
         (0x0c00_0000, 8, Some(3)),
     ];
     let mut table = table_of(&rt, &rows)?;
-    let changes = vec![in rt.alloc();
-        NewItem::new(network(0x0a00_0000, 16)?, Some(item(rt.alloc(), Some(4))?)),
-        NewItem::new(network(0x0b00_0000, 8)?, Some(item(rt.alloc(), None)?)),
-        NewItem::new(network(0x0c00_0000, 8)?, None),
-    ]?;
+    let longer = NewItem::new(network(0x0a00_0000, 16)?, Some(item(rt.alloc(), Some(4))?));
+    let discarded = NewItem::new(network(0x0b00_0000, 8)?, Some(item(rt.alloc(), None)?));
+    let gone = NewItem::new(network(0x0c00_0000, 8)?, None);
+    let changes = vec![in rt.alloc(); longer, discarded, gone]?;
     table.change(rt.alloc(), changes)?;
     assert!(rt;
         prints(
