@@ -1,4 +1,5 @@
 pub mod EndOrder
+pub mod Labels
 pub mod Pairs
 pub mod Places
 pub mod Sides

@@ -10,8 +10,6 @@ use crate::fresh::Fresh;
 use crate::link::{Link, LinkChanges};
 use crate::row::{Row, Rows};
 use crate::side::find_row;
-use ospf_types::label::Label;
-use ospf_types::listed::Listed;
 use ospf_types::memory::Memory;
 use std::alloc::Global;
 
@@ -199,16 +197,11 @@ fn copies(alloc: Global, links: &[Link]) -> Result<Vec<Link>, Memory>
 fn copy(alloc: Global, link: &Link) -> Result<Link, Memory>
     ensures { IfOk result (λ made. made ≡ link.now) }
 {
-    let label = match &link.label {
-        Label::Over(interface) => Label::Over(*interface),
-        Label::At(addresses) => Label::At(Listed::from_slice(alloc, addresses.as_slice())?),
-        Label::Plain => Label::Plain,
-    };
     Ok(Link {
         from: link.from.copy(),
         to: link.to.copy(),
         cost: link.cost,
-        label,
+        label: link.label.copy(alloc)?,
     })
 }
 
@@ -288,17 +281,5 @@ fn is_same(one: &Link, other: &Link) -> bool
     one.from.vertex() == other.from.vertex()
         && one.to.vertex() == other.to.vertex()
         && one.cost == other.cost
-        && is_same_label(&one.label, &other.label)
-}
-
-// Whether two labels are the same.
-fn is_same_label(one: &Label, other: &Label) -> bool
-    ensures { IsTrue result ↔ (one.now ≡ other.now) }
-{
-    match (one, other) {
-        (Label::Over(a), Label::Over(b)) => a == b,
-        (Label::At(a), Label::At(b)) => a.as_slice() == b.as_slice(),
-        (Label::Plain, Label::Plain) => true,
-        _ => false,
-    }
+        && one.label.is_same(&other.label)
 }

@@ -1,4 +1,4 @@
-use ospf_types::label::Label;
+use crate::label::LinkLabel;
 use vertex_map::Placed;
 
 /// An interface of the area that is up.
@@ -16,7 +16,7 @@ pub struct Link {
     pub to: Placed,
     /// The metric; 0 out of a network.
     pub cost: u16,
-    pub label: Label,
+    pub label: LinkLabel,
 }
 
 // proof: one call drops it, in place of a drop of each part wherever one is held.

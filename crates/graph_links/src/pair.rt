@@ -1,15 +1,16 @@
 //! The links from one vertex to another.
 ghost use Rattle.std.specs.Prelude.{◌≡◌, ◌<◌, ◌++◌, ◌∷◌, [], if◌then◌else◌, eqb, map as list_map, List, OnOk, IfOk};
 ghost use Rattle.std.specs.List.{dedup};
+ghost use Rattle.ospf_types.specs.declared.label.Label.TheVariants.{At};
 ghost use Rattle.graph_links.specs.Pairs.{Adds, AddsOver, AreAllAt, AreCheap, IsOnto, IsPairLink, KeepsApart, is_last, link_by, plain_ways};
 ghost use Rattle.graph_links.specs.declared.end.End.{End as EndValue};
 ghost use Rattle.graph_links.specs.declared.link.Link.{Link as LinkValue};
 
 use crate::end::End;
+use crate::label::LinkLabel;
 use crate::link::{Link, Up};
 use crate::ways::{Way, ways_over};
 use ospf_types::entry::Vertex;
-use ospf_types::label::Label;
 use ospf_types::listed::Listed;
 use ospf_types::memory::Memory;
 use std::alloc::Global;
@@ -142,15 +143,12 @@ fn link_by(router: u32, to: Vertex, places: Places, way: Way) -> Link
     ensures value { result ≡ link_by router to way }
     ensures cheap { result.cost < 65536 }
 {
-    let label = match way.interface {
-        Some(interface) => Label::Over(interface),
-        None => Label::Plain,
-    };
+    let label = LinkLabel::over(way.interface);
     link(Vertex::Router(router), to, places, way.cost, label)
 }
 
 // A link between two vertices, which have their rows at these places.
-fn link(from: Vertex, to: Vertex, places: Places, cost: u16, label: Label) -> Link
+fn link(from: Vertex, to: Vertex, places: Places, cost: u16, label: LinkLabel) -> Link
     ensures { result ≡ record { from = from; to = to; cost = cost; label = label } }
 {
     Link {
@@ -177,10 +175,20 @@ fn push_from_network(
     let Vertex::Router(_) = to.vertex else {
         return Ok(());
     };
-    let addresses = each_once(alloc, to.ends)?;
+    let label = label_onto(alloc, to.ends)?;
     let from = Vertex::Network(network);
-    links.push(link(from, to.vertex, places, 0, Label::At(addresses)))?;
+    links.push(link(from, to.vertex, places, 0, label))?;
     Ok(())
+}
+
+/// The label of a link of a network to a router that has these ends there. Mostly it has one.
+fn label_onto(alloc: Global, ends: &[End]) -> Result<LinkLabel, Memory>
+    ensures { IfOk result (λ label. label ≡ At (dedup eqb (list_map (λ (e : EndValue). e.detail) ends.now))) }
+{
+    match ends {
+        [only] => Ok(LinkLabel::at_one(only.detail)),
+        _ => LinkLabel::at(alloc, each_once(alloc, ends)?),
+    }
 }
 
 /// The Link Data of the ends, without what equals the one before it.

@@ -7,6 +7,7 @@ use Rattle.ospf_types.specs.declared.entry.Vertex.{Vertex}
 use Rattle.ospf_types.specs.declared.hop.NextHop.{NextHop}
 use Rattle.ospf_types.specs.declared.hop.NextHop.TheVariants as hop
 use Rattle.ospf_types.specs.declared.label.Label.{Label}
+use Rattle.ospf_types.specs.declared.label.Label.TheVariants.{Over, At, Plain}
 use Rattle.ospf_types.specs.Distances.{FirstOnly}
 use Rattle.std.specs.FinMap.{get}
 use Rattle.std.specs.List.Sorted.{IsStrictlySortedBy}
@@ -16,6 +17,7 @@ use Rattle.ospf_types.specs.Hops.{hop_cmp}
 use Rattle.ospf_types.proofs.Elements.{no_element, first_element}
 use Rattle.ospf_types.proofs.OneBest.{same_list}
 use Rattle.ospf_types.proofs.Orders.{hop_total, hop_exact}
+use Rattle.vertex_graph.specs.Labels.{addresses_of}
 use Rattle.vertex_graph.specs.Link.{Link}
 use Rattle.tree_parts.specs.Maps.{HopMap}
 use Rattle.spf.specs.Changes.{link_value}
@@ -168,3 +170,15 @@ same_sets xs ys in_order_x in_order_y = (
 pub same_as_none : (xs : List NextHop) → (xs ≡ []) ↔ ((h : NextHop) → Contains {X = NextHop} [] h ↔ Contains xs h)
 same_as_none [] = (λ e h. (λ c. c, λ c. c), λ same. refl)
 same_as_none (x ∷ xs) = (λ e. absurd (let n : length (x ∷ xs) ≡ 0 = ap length e in omega (arith, n)), λ same. absurd (no_element x ((same x).1 (first_element x xs))))
+
+-- no addresses give nothing
+union_unaddressed : (i : ℕ) (Given : NextHop → Type 0) → ((h : NextHop) → Given h → ⊥) → (old new : List NextHop) → IsUnion old new (IsOfSome [] (λ (a : ℕ) (h : NextHop). h ≡ hop.Router i a)) → IsUnion old new Given
+union_unaddressed i Given none old new u =
+    let IsHop : ℕ → NextHop → Type 0 = λ a h. h ≡ hop.Router i a in
+    union_same old new (IsOfSome [] IsHop) Given (λ h. (λ some. absurd (of_none IsHop h some), λ given. absurd (none h given))) u
+
+-- what a link out of a network that is attached to the root hands on, by the addresses of its label
+pub union_addresses : (i : ℕ) (label : Label) (old new : List NextHop) → IsUnion old new (IsOfSome (addresses_of label) (λ (a : ℕ) (h : NextHop). h ≡ hop.Router i a)) → IsUnion old new (HandsOn (hop.Direct i) label)
+union_addresses i (At addresses) old new u = u
+union_addresses i (Over other) old new u = union_unaddressed i (HandsOn (hop.Direct i) (Over other)) (λ h given. given) old new u
+union_addresses i Plain old new u = union_unaddressed i (HandsOn (hop.Direct i) Plain) (λ h given. given) old new u

@@ -13,11 +13,10 @@ use crate::places::is_at_root;
 use hop_sets::HopSet;
 use ospf_types::entry::Vertex;
 use ospf_types::hop::NextHop;
-use ospf_types::label::Label;
 use ospf_types::memory::Memory;
 use std::alloc::Global;
 use tree_parts::{Distances, HopColumns};
-use vertex_graph::{Graph, Link};
+use vertex_graph::{Graph, Link, LinkLabel};
 use vertex_map::Placed;
 
 /// The next hops that the least links among those into a vertex, which is this far, give it.
@@ -88,7 +87,7 @@ fn is_least(distances: &Distances, link: &Link, far: u32) -> bool
 }
 
 // Adds the next hop of a path that is one link, to this vertex.
-fn add_first(to: Vertex, label: &Label, set: &mut HopSet) -> Result<(), Memory>
+fn add_first(to: Vertex, label: &LinkLabel, set: &mut HopSet) -> Result<(), Memory>
     ensures { OnOk result (IsUnion set.old set.new (FirstOnly to label.now)) }
 {
     match first_hop(to, label) {
@@ -98,21 +97,19 @@ fn add_first(to: Vertex, label: &Label, set: &mut HopSet) -> Result<(), Memory>
 }
 
 // The next hop of a path that is one link.
-fn first_hop(to: Vertex, label: &Label) -> Option<NextHop>
+fn first_hop(to: Vertex, label: &LinkLabel) -> Option<NextHop>
     ensures { option_to_list result ≡ first_hops to label.now }
 {
-    let Label::Over(interface) = label else {
-        return None;
-    };
+    let interface = label.interface()?;
     match to {
-        Vertex::Router(_) => Some(NextHop::Peer(*interface)),
-        Vertex::Network(_) => Some(NextHop::Direct(*interface)),
+        Vertex::Router(_) => Some(NextHop::Peer(interface)),
+        Vertex::Network(_) => Some(NextHop::Direct(interface)),
     }
 }
 
 // Adds what a link hands on of the next hops of its tail. Only of a network that is attached to the
 // root are they others than those.
-fn add_handed_on(tail: &HopSet, label: &Label, set: &mut HopSet) -> Result<(), Memory>
+fn add_handed_on(tail: &HopSet, label: &LinkLabel, set: &mut HopSet) -> Result<(), Memory>
     ensures { OnOk result (IsUnion set.old set.new (IsOfSome tail.now (IsHandedOn label.now))) }
 {
     if !has_direct(tail.as_slice()) {
@@ -142,7 +139,7 @@ fn has_direct(hops: &[NextHop]) -> bool
 }
 
 // Adds what a link hands on of one next hop.
-fn add_handed(hop: NextHop, label: &Label, set: &mut HopSet) -> Result<(), Memory>
+fn add_handed(hop: NextHop, label: &LinkLabel, set: &mut HopSet) -> Result<(), Memory>
     ensures { OnOk result (IsUnion set.old set.new (HandsOn hop label.now)) }
 {
     match hop {
@@ -152,13 +149,10 @@ fn add_handed(hop: NextHop, label: &Label, set: &mut HopSet) -> Result<(), Memor
 }
 
 // Adds the addresses on a network that is attached to this interface.
-fn add_addresses(interface: u8, label: &Label, set: &mut HopSet) -> Result<(), Memory>
+fn add_addresses(interface: u8, label: &LinkLabel, set: &mut HopSet) -> Result<(), Memory>
     ensures { OnOk result (IsUnion set.old set.new (HandsOn (NextHop.Direct interface) label.now)) }
 {
-    let Label::At(addresses) = label else {
-        return Ok(());
-    };
-    for address in addresses.as_slice() {
+    for address in label.addresses() {
         set.put(NextHop::Router(interface, *address))?;
     }
     Ok(())

@@ -2,7 +2,6 @@
 use crate::network::{network, router};
 use crate::trial::{hand_in, test_size};
 use ospf_types::entry::Vertex;
-use ospf_types::label::Label;
 use std::alloc::Global;
 use std::hash::RandomState;
 use std::test::Fail;
@@ -19,10 +18,9 @@ const N: Vertex = Vertex::Network(ADDRESS);
 // Whether there is one link, and it leads over that interface or to those addresses.
 fn is_one(links: &[Link], interface: u8, addresses: &[u32]) -> bool {
     match links {
-        [link] => match &link.label {
-            Label::Over(id) => *id == interface,
-            Label::At(at) => at.as_slice() == addresses,
-            Label::Plain => false,
+        [link] => match link.label.interface() {
+            Some(id) => id == interface,
+            None => !addresses.is_empty() && link.label.addresses() == addresses,
         },
         _ => false,
     }

@@ -3,6 +3,7 @@ pub mod Graphs
 pub mod Rows
 pub mod Stagings
 pub use Rattle.graph_links.specs.EndOrder
+pub use Rattle.graph_links.specs.Labels
 pub use Rattle.graph_links.specs.Pairs
 pub use Rattle.graph_links.specs.declared.end.End
 pub use Rattle.graph_links.specs.declared.link.Link

@@ -1,0 +1,123 @@
+//! What links tell of the next hop.
+ghost use Rattle.std.specs.Prelude.{◌≡◌, ◌↔◌, [], ◌∷◌, IsTrue, IfOk};
+ghost use Rattle.ospf_types.specs.declared.label.Label.TheVariants.{At};
+ghost use Rattle.graph_links.specs.Labels.{addresses_of, interface_of};
+ghost use Rattle.graph_links.specs.Pairs.{label_over};
+
+use ospf_types::listed::Listed;
+use ospf_types::memory::Memory;
+use std::alloc::Global;
+use std::marker::Model;
+use std::slice::from_ref;
+
+/// What a link tells of the next hop (RFC 2328, 16.1.1). Contracts see it as a `Label`. One address takes no memory of
+/// its own.
+#[derive(Debug)]
+pub struct LinkLabel {
+    kept: Kept,
+}
+
+// What a label has. Several addresses are boxed, so that every link takes less memory.
+#[derive(Debug, Drop)]
+enum Kept {
+    Over(u8),
+    Single(u32),
+    Several(Box<Listed<u32>>),
+    Plain,
+}
+
+// proof: one call drops it, in place of a drop of each part wherever one is held.
+impl Drop for LinkLabel {
+    fn drop(self) {
+        let LinkLabel { kept: _kept } = self;
+    }
+}
+
+impl Model for LinkLabel {
+    ghost use Rattle.ospf_types.specs.declared.label.Label.{Label};
+    ghost use Rattle.graph_links.specs.Labels.{label_of};
+
+    ghost Value = { Label };
+
+    ghost view = { λ l. label_of l.kept };
+}
+
+impl LinkLabel {
+    /// The label of a link out of a router: over this interface at the root, plain elsewhere.
+    pub(crate) fn over(interface: Option<u8>) -> LinkLabel
+        ensures { result ≡ label_over interface }
+    {
+        let kept = match interface {
+            Some(interface) => Kept::Over(interface),
+            None => Kept::Plain,
+        };
+        LinkLabel { kept }
+    }
+
+    /// The label of a link out of a network, to a router with one address there. It takes no memory of its own.
+    pub(crate) fn at_one(address: u32) -> LinkLabel
+        ensures { result ≡ At (address ∷ []) }
+    {
+        LinkLabel {
+            kept: Kept::Single(address),
+        }
+    }
+
+    /// The label of a link out of a network, to a router with these addresses there.
+    pub(crate) fn at(alloc: Global, addresses: Listed<u32>) -> Result<LinkLabel, Memory>
+        ensures { IfOk result (λ label. label ≡ At addresses) }
+    {
+        let addresses = Box::new(alloc, addresses)?;
+        Ok(LinkLabel {
+            kept: Kept::Several(addresses),
+        })
+    }
+
+    /// The interface that the link leads over; none unless it is out of the root.
+    pub fn interface(&self) -> Option<u8>
+        ensures { result ≡ interface_of self.now }
+    {
+        match &self.kept {
+            Kept::Over(interface) => Some(*interface),
+            Kept::Single(_) | Kept::Several(_) | Kept::Plain => None,
+        }
+    }
+
+    /// The addresses on the network that the link is out of; none if it is out of a router.
+    pub fn addresses(&self) -> &[u32]
+        ensures { result.now ≡ addresses_of self.now }
+    {
+        match &self.kept {
+            Kept::Single(address) => from_ref(address),
+            Kept::Several(addresses) => addresses.as_slice(),
+            Kept::Over(_) | Kept::Plain => &[],
+        }
+    }
+
+    /// A label that tells what this one does.
+    pub(crate) fn copy(&self, alloc: Global) -> Result<LinkLabel, Memory>
+        ensures { IfOk result (λ label. label ≡ self.now) }
+    {
+        let kept = match &self.kept {
+            Kept::Over(interface) => Kept::Over(*interface),
+            Kept::Single(address) => Kept::Single(*address),
+            Kept::Several(addresses) => {
+                return LinkLabel::at(alloc, Listed::from_slice(alloc, addresses.as_slice())?);
+            }
+            Kept::Plain => Kept::Plain,
+        };
+        Ok(LinkLabel { kept })
+    }
+
+    /// Whether both labels tell one thing.
+    pub(crate) fn is_same(&self, other: &LinkLabel) -> bool
+        ensures { IsTrue result ↔ (self.now ≡ other.now) }
+    {
+        match (&self.kept, &other.kept) {
+            (Kept::Over(a), Kept::Over(b)) => a == b,
+            (Kept::Plain, Kept::Plain) => true,
+            (Kept::Over(_) | Kept::Plain, _) | (_, Kept::Over(_) | Kept::Plain) => false,
+            _ => self.addresses() == other.addresses(),
+        }
+    }
+}
