@@ -11,6 +11,8 @@ const ROUTER: u32 = 0x0a00_0001;
 
 const ADDRESS: u32 = 0xc000_0201;
 
+const SECOND: u32 = 0xc000_0209;
+
 const ROOT: Vertex = Vertex::Router(ROUTER);
 
 const N: Vertex = Vertex::Network(ADDRESS);
@@ -32,6 +34,15 @@ fn comes(alloc: Global, graph: &mut Graph) -> Result<bool, Fail> {
     let other = network(alloc, ADDRESS, &[ROUTER])?;
     let changes = hand_in(graph, &[(ROOT, Some(&own)), (N, Some(&other))])?;
     Ok(changes.gone.is_empty() && is_one(&changes.came, 0, &[ADDRESS]))
+}
+
+// Whether the link back leads to both addresses, of which 192.0.2.9 comes.
+fn comes_at_two(alloc: Global, graph: &mut Graph) -> Result<bool, Fail> {
+    let own = router(alloc, ROUTER, &[(N, ADDRESS, 10), (N, SECOND, 10)])?;
+    let changes = hand_in(graph, &[(ROOT, Some(&own))])?;
+    let back = is_one(graph.links_to(ROOT), 0, &[ADDRESS, SECOND]);
+    let came = is_one(&changes.came, 0, &[ADDRESS, SECOND]);
+    Ok(back && came && is_one(&changes.gone, 0, &[ADDRESS]))
 }
 
 // Whether the link to the network leads over the interface once that is up.
@@ -64,5 +75,14 @@ fn links_come_and_go(rt: HostRuntime) -> Result<(), Fail> {
     let hashing = RandomState::new(&rt)?;
     let mut graph = Graph::new(rt.alloc(), ROUTER, hashing);
     assert!(rt; come_and_go(rt.alloc(), &mut graph)?);
+    Ok(())
+}
+
+#[test]
+fn a_link_leads_to_two_addresses(rt: HostRuntime) -> Result<(), Fail> {
+    let hashing = RandomState::new(&rt)?;
+    let mut graph = Graph::new(rt.alloc(), ROUTER, hashing);
+    assert!(rt; comes(rt.alloc(), &mut graph)?);
+    assert!(rt; comes_at_two(rt.alloc(), &mut graph)?);
     Ok(())
 }
