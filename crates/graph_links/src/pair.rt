@@ -1,5 +1,5 @@
 //! The links from one vertex to another.
-ghost use Rattle.std.specs.Prelude.{◌≡◌, ◌<◌, ◌++◌, ◌∷◌, [], if◌then◌else◌, eqb, map as list_map, List, OnOk, IfOk};
+ghost use Rattle.std.specs.Prelude.{◌≡◌, ◌<◌, ◌++◌, ◌∷◌, [], if◌then◌else◌, eqb, length, map as list_map, List, OnOk, IsOk, IfOk};
 ghost use Rattle.std.specs.List.{dedup};
 ghost use Rattle.ospf_types.specs.declared.label.Label.TheVariants.{At};
 ghost use Rattle.graph_links.specs.Pairs.{Adds, AddsOver, AreAllAt, AreCheap, IsOnto, IsPairLink, KeepsApart, is_last, link_by, plain_ways};
@@ -183,7 +183,10 @@ fn push_from_network(
 
 /// The label of a link of a network to a router that has these ends there. Mostly it has one.
 fn label_onto(alloc: Global, ends: &[End]) -> Result<LinkLabel, Memory>
-    ensures { IfOk result (λ label. label ≡ At (dedup eqb (list_map (λ (e : EndValue). e.detail) ends.now))) }
+    ensures label { IfOk result (λ label. label ≡ At (dedup eqb (list_map (λ (e : EndValue). e.detail) ends.now))) }
+
+    // One address takes no memory.
+    ensures one { length ends.now ≡ 1 → IsOk result }
 {
     match ends {
         [only] => Ok(LinkLabel::at_one(only.detail)),

@@ -14,7 +14,7 @@ returns-clause-pushed c back all =
     let addresses : List ℕ = dedup eqb (map (λ (e : End). e.detail) c.args.to.ends.now) in
     let labelled : Label → List Link = λ label. c.args.links.now.items ++ record { from = Network network; to = c.args.to.vertex; cost = 0; label = label } ∷ [] in
     onto_added network c.in-Router.field-0 c.args.to.vertex back addresses c.args.links.now.items c.push.new.self.items c.in-Router.is (details_of_ends (Network network) back c.args.to.ends.now all.in_order all.exact)
-    (c.in_ok-push.ensures.items ∙ ap (λ (l : Link). c.args.links.now.items ++ l ∷ []) c.link.ensures ∙ ap labelled c.in_ok-label.ensures)
+    (c.in_ok-push.ensures.items ∙ ap (λ (l : Link). c.args.links.now.items ++ l ∷ []) c.link.ensures ∙ ap labelled c.in_ok-label.ensures.label)
 
 pub returns-clause-apart : goal.returns-clause-apart
 returns-clause-apart c = onto_apart c.args.network c.args.to.vertex c.args.links.now.items c.push.new.self.items _ (c.in_ok-push.ensures.items ∙ ap (λ (l : Link). c.args.links.now.items ++ l ∷ []) c.link.ensures) refl refl
