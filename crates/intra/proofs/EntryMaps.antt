@@ -1,8 +1,9 @@
 -- The entries of networks, and the finite map that they make.
-use Rattle.std.proofs.Common.{◌≡◌, ◌≢◌, ℕ, zero, suc, Bool, cond, true, false, List, [], ◌∷◌, Option, Some, None, refl, true≢false, is_some, sym, ap, subst, ◌∙◌}
+use Rattle.std.proofs.Common.{◌≡◌, ◌≢◌, ◌-◌, ℕ, zero, suc, get_or, Bool, cond, true, false, List, [], ◌∷◌, length, Option, Some, None, refl, sym, ap, subst, ◌∙◌, arith}
+use Rattle.std.specs.Prelude.{swap_remove, slice_set}
 use Rattle.std.specs.FinMap.{get, from_entries}
 use Rattle.std.specs.Map.{lookup, lookup_key}
-use Rattle.std.proofs.lemmas.List.Elements.{All-cons, All-head, All-tail}
+use Rattle.std.proofs.lemmas.List.Elements.{All-cons, All-head, All-tail, All-set, All-take}
 use Rattle.ospf_types.specs.declared.entry.Entry.{Entry}
 use Rattle.ospf_types.specs.declared.prefix.Prefix.{Prefix}
 use Rattle.ospf_types.specs.Network.{network_cmp}
@@ -41,10 +42,6 @@ module _ (es fs : List (Prefix × Entry)) (p : Prefix) where
   entry_gone_elsewhere m updates is q other =
       ap (λ (x : EntriesByPrefix). get x q) (removed network_total network_exact prefixes_order es fs p updates) ∙ gone_elsewhere network_total network_exact (entries_map es) p q other ∙ ap (λ (x : EntriesByPrefix). get x q) is
 
-pub none_of : (o : Option Entry) → is_some o ≡ false → o ≡ None
-none_of None e = refl
-none_of (Some x) e = absurd (true≢false e)
-
 pub prefixes_equivalence : IsEquivalence prefixes_equal
 prefixes_equivalence = subst (λ (eq : Prefix → Prefix → Bool). IsEquivalence eq) (sym prefixes_order) (eq_by_cmp_equiv network_total)
 
@@ -63,3 +60,20 @@ all_values_at P m [] i w all here = all
 all_values_at P m (e ∷ es) zero w all here = All-cons (λ (x : Prefix × Entry). P x.1) (e.0, w) es here (All-tail (λ (x : Prefix × Entry). P x.1) e es all)
 all_values_at P m (e ∷ es) (suc i) w all here = All-cons (λ (x : Prefix × Entry). P x.1) e (with_value_at (with_entries m es) i w).entries (All-head (λ (x : Prefix × Entry). P x.1) e es all)
     (all_values_at P m es i w (All-tail (λ (x : Prefix × Entry). P x.1) e es all) here)
+
+abbrev IsSameEntry : Prefix × Entry → Prefix × Entry → Type 0
+IsSameEntry a b = Some a ≡ Some b
+
+-- whose entry stands at a place
+pub own_of : (q p : Prefix) (d e : Entry) → IsSameEntry (q, d) (p, e) → q ≡ p
+own_of q p d e there = ap (λ (x : Prefix × Entry). x.0) (same_Some (q, d) (p, e) there)
+
+pub value_of : (q p : Prefix) (d e : Entry) → IsSameEntry (q, d) (p, e) → d ≡ e
+value_of q p d e there = ap (λ (x : Prefix × Entry). x.1) (same_Some (q, d) (p, e) there)
+
+-- what holds of each value, where one is taken out and the last one takes its place
+pub all_values_taken : (P : Entry → Type 0) (es : List (Prefix × Entry)) (i : ℕ) (x : Prefix × Entry) → AllValues P es → AllValues P (swap_remove es i x)
+all_values_taken P [] i x all = all
+all_values_taken P (e ∷ es) i x all =
+    let last = length (e ∷ es) - 1 in
+    All-take (λ (y : Prefix × Entry). P y.1) last (slice_set (e ∷ es) i (get_or (e ∷ es) last x)) (All-set (λ (y : Prefix × Entry). P y.1) (e ∷ es) i (get_or (e ∷ es) last x) (all last x (omega arith)) all)

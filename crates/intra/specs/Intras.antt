@@ -26,7 +26,7 @@ entries_of es = from_entries {K = Prefix} {R = network_cmp} es
 
 -- the entry of the network stands there
 abbrev pub IsEntryAt : List (Prefix × Entry) → Prefix → ℕ → Type 0
-IsEntryAt es p i = (e : Entry) × (slice_get es i ≡ Some (p, e))
+IsEntryAt es p i = (e : Entry) × (slice_get es i ≡ Some (p, e)) × (get (entries_of es) p ≡ Some e)
 
 pub record AreaIntraValue : Type 0 where
   pub id : ℕ

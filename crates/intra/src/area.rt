@@ -98,6 +98,10 @@ impl AreaIntra {
     pub(crate) fn router(&self, router: u32) -> Option<&Reached>
         ensures { option_copied result ≡ map.get self.now.reached router }
     {
+        // Mostly none is kept, and then nothing is hashed.
+        if self.reached.is_empty() {
+            return None;
+        }
         self.reached.get(&router)
     }
 

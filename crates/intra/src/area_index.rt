@@ -93,12 +93,25 @@ impl AreaIndex {
         self.offered.get(&vertex)
     }
 
-    /// The vertices that offer the prefix.
-    pub(crate) fn sources(&self, prefix: Prefix) -> &[Source]
+    /// The vertices that offer the prefix. They are looked for at a place first, and it is told where they stood.
+    pub(crate) fn sources(&self, prefix: Prefix, place: &mut usize) -> &[Source]
         ensures { result.now ≡ sources_of (map.get self.now.sources prefix) }
     {
-        match self.sources.get(&prefix) {
-            Some(sources) => sources.as_slice(),
+        match self.sources.get_index(*place) {
+            Some((kept, sources)) if *kept == prefix => sources.as_slice(),
+            _ => self.find_sources(prefix, place),
+        }
+    }
+
+    // The same by the hash of the prefix.
+    fn find_sources(&self, prefix: Prefix, place: &mut usize) -> &[Source]
+        ensures { result.now ≡ sources_of (map.get self.now.sources prefix) }
+    {
+        match self.sources.get_full(&prefix) {
+            Some((found, _, sources)) => {
+                *place = found;
+                sources.as_slice()
+            }
             None => &[],
         }
     }

@@ -10,7 +10,7 @@ ghost use Rattle.spf.specs.Maps.{most_distance};
 ghost use Rattle.intra.specs.declared.area_index.Source.{Source as SourceValue};
 ghost use Rattle.intra.specs.Inputs.{distance_at, hops_at};
 ghost use Rattle.path_choice.specs.Takes.{OnlyOffer, OfferedBySome};
-ghost use Rattle.intra.specs.Indexes.{IndexedOffers, IsSource};
+ghost use Rattle.intra.specs.Indexes.{IndexedOffers};
 ghost use Rattle.intra.specs.Intras.{IsEntryFor, most_cost};
 ghost use Rattle.intra.specs.Offers.{KeyedOffers};
 ghost use Rattle.intra.specs.Choosing.{TakesPaths, AmongSources, ThisSource, KeyedStubs, KeyedTransit, HopsOffer, InterfaceOffers, IsOver, FindsNearest, IsNoFarther};
@@ -28,18 +28,20 @@ use std::alloc::Global;
 use std::collections::btree_map::Iter;
 use vertex_map::Placed;
 
-/// The entry of the network, by the indexes of the areas; none where nothing is offered.
+/// The entry of the network, by the indexes of the areas; none where nothing is offered. Its sources are looked for at a
+/// place first, and it is told where they stood.
 pub(crate) fn choose(
     alloc: Global,
     inputs: &Inputs<'_>,
     areas: &[AreaIntra],
     prefix: Prefix,
+    place: &mut usize,
 ) -> Result<Option<Entry>, Memory>
     ensures exact { IfOk result (IsEntryFor (IndexedOffers inputs.now (list_map (λ a. a.index) areas.now) inputs.now.areas prefix)) }
     ensures bounded { IfOk result (λ entry. IfSome entry (λ e. e.cost < most_cost)) }
 {
     let mut best = Best::new(alloc);
-    offer_areas(&mut best, inputs, areas, prefix)?;
+    offer_areas(&mut best, inputs, areas, prefix, place)?;
     match best.into_choice() {
         Some(choice) => Ok(Some(entry(choice))),
         None => Ok(None),
@@ -62,32 +64,21 @@ fn entry(choice: Choice<AreaCost, Path>) -> Entry
     }
 }
 
-// Offers what each area has for the network.
+// Offers what each area has for the network, by its index.
 fn offer_areas(
     best: &mut Best<AreaCost, Path>,
     inputs: &Inputs<'_>,
     areas: &[AreaIntra],
     prefix: Prefix,
+    place: &mut usize,
 ) -> Result<(), Memory>
     ensures { OnOk result (TakesPaths (IndexedOffers inputs.now (list_map (λ a. a.index) areas.now) inputs.now.areas prefix) best.old best.new) }
 {
     for (kept, area) in areas.iter().zip(inputs.areas) {
-        offer_area(best, inputs, kept, area, prefix)?;
+        let sources = kept.index().sources(prefix, place);
+        offer_sources(best, inputs, area, sources, prefix)?;
     }
     Ok(())
-}
-
-// Offers what an area has for the network, by its index.
-fn offer_area(
-    best: &mut Best<AreaCost, Path>,
-    inputs: &Inputs<'_>,
-    kept: &AreaIntra,
-    area: &AreaInputs<'_>,
-    prefix: Prefix,
-) -> Result<(), Memory>
-    ensures { OnOk result (TakesPaths (KeyedOffers (IsSource kept.now.index) inputs.now area.now prefix) best.old best.new) }
-{
-    offer_sources(best, inputs, area, kept.index().sources(prefix), prefix)
 }
 
 // Offers what these sources of an area have for the network.

@@ -25,6 +25,7 @@ ghost use Rattle.intra.specs.Right.{AreInputsOf, IsRightFor};
 use crate::area::AreaIntra;
 use crate::choose::choose;
 use crate::dirty::Dirty;
+use crate::hints::Hints;
 use crate::inputs::{AreaInputs, Inputs};
 use crate::named::Named;
 use indexmap::IndexMap;
@@ -41,9 +42,6 @@ use std::marker::Model;
 use std::mem;
 use word_hash::WordHash;
 
-// Where no entry is.
-const NOWHERE: u32 = u32::MAX;
-
 /// The intra-area routes of a router: the entry of each network, and in each area the border routers and AS boundary
 /// routers that are reached.
 pub struct Intra {
@@ -51,8 +49,7 @@ pub struct Intra {
     entries: IndexMap<Prefix, Entry, WordHash>,
     // Memory for an update.
     named: Named,
-    // Where the last update left the entries of the networks that it answered, one after another.
-    places: Vec<u32>,
+    hints: Hints,
     spent: bool,
 }
 
@@ -63,7 +60,7 @@ impl Drop for Intra {
             areas: _areas,
             entries: _entries,
             named: _named,
-            places: _places,
+            hints: _hints,
             spent: _,
         } = self;
     }
@@ -153,7 +150,7 @@ impl Intra {
         ensures value { option_copied result ≡ map.get self.now.entries network }
         ensures bounded { IfSome result (λ e. e.now.cost < most_cost) }
     {
-        match self.entries.get_index(self.left_at(*next)) {
+        match self.entries.get_index(self.hints.left_at(*next)) {
             Some((kept, entry)) if *kept == network => {
                 *next = next.saturating_add(1);
                 Some(entry)
@@ -231,7 +228,7 @@ impl Intra {
             areas: kept,
             entries: IndexMap::with_hasher(alloc, hashing),
             named: Named::new(alloc),
-            places: Vec::new(alloc),
+            hints: Hints::new(alloc),
             spent: false,
         })
     }
@@ -271,7 +268,7 @@ impl Intra {
     {
         let mut named = mem::replace(&mut self.named, Named::new(alloc));
         named.clear();
-        self.places.clear();
+        self.hints.begin();
         let areas = self.areas.as_mut_slice();
         follow_areas(alloc, areas, inputs, dirty, &mut named)?;
         // Vertices come in their order, and their prefixes mostly stand in it: few runs, which a stable sort only merges.
@@ -310,67 +307,19 @@ impl Intra {
     ) -> Result<(), Memory>
         ensures { OnOk result (IsRenewed inputs.now self.old self.new prefix dests.old.items dests.new.items) }
     {
-        let fresh = choose(alloc, inputs, self.areas.as_slice(), prefix)?;
-        if self.put(prefix, fresh)? {
-            dests.push(Dest::Net(prefix))?;
+        let place = place_of(&self.entries, prefix);
+        let at = place.unwrap_or(self.entries.len());
+        let mut near = self.hints.sources_at(at);
+        let fresh = choose(alloc, inputs, self.areas.as_slice(), prefix, &mut near)?;
+        let stays = fresh.is_some();
+        let other = exchange(&mut self.entries, place, prefix, fresh)?;
+        self.hints.keep(at, stays, near)?;
+        if !other {
+            return Ok(());
         }
+        self.hints.leave(at, stays)?;
+        dests.push(Dest::Net(prefix))?;
         Ok(())
-    }
-
-    // This is the entry of the network. The answer is whether it had another, or none.
-    fn put(&mut self, network: Prefix, fresh: Option<Entry>) -> Result<bool, Memory>
-        requires { IfSome fresh (λ e. e.cost < most_cost) }
-        ensures areas { OnOk result (self.new.areas ≡ self.old.areas) }
-        ensures spent { OnOk result (self.new.spent ≡ self.old.spent) }
-        ensures here { OnOk result (map.get self.new.entries network ≡ fresh) }
-        ensures others { OnOk result ((p : PrefixValue) → p ≢ network → map.get self.new.entries p ≡ map.get self.old.entries p) }
-        ensures same { IfOk result (λ other. other ≡ false → map.get self.old.entries network ≡ fresh) }
-        ensures other { IfOk result (λ other. other ≡ true → map.get self.old.entries network ≢ fresh) }
-    {
-        match fresh {
-            Some(entry) => self.set(network, entry),
-            None => Ok(self.entries.swap_remove(&network).is_some()),
-        }
-    }
-
-    // The network has this entry.
-    fn set(&mut self, network: Prefix, entry: Entry) -> Result<bool, Memory>
-        requires { entry.cost < most_cost }
-        ensures areas { OnOk result (self.new.areas ≡ self.old.areas) }
-        ensures spent { OnOk result (self.new.spent ≡ self.old.spent) }
-        ensures here { OnOk result (map.get self.new.entries network ≡ Some entry) }
-        ensures others { OnOk result ((p : PrefixValue) → p ≢ network → map.get self.new.entries p ≡ map.get self.old.entries p) }
-        ensures same { IfOk result (λ other. other ≡ false → map.get self.old.entries network ≡ Some entry) }
-        ensures other { IfOk result (λ other. other ≡ true → map.get self.old.entries network ≢ Some entry) }
-    {
-        let Some((place, same)) = standing(&self.entries, network, &entry) else {
-            self.add(network, entry)?;
-            return Ok(true);
-        };
-        if same {
-            return Ok(false);
-        }
-        self.places.push(number(place))?;
-        write_at(&mut self.entries, place, entry);
-        Ok(true)
-    }
-
-    // The network, which has none, has this entry.
-    fn add(&mut self, network: Prefix, entry: Entry) -> Result<(), Memory>
-        requires { entry.cost < most_cost }
-        ensures areas { OnOk result (self.new.areas ≡ self.old.areas) }
-        ensures spent { OnOk result (self.new.spent ≡ self.old.spent) }
-        ensures here { OnOk result (map.get self.new.entries network ≡ Some entry) }
-        ensures others { OnOk result ((p : PrefixValue) → p ≢ network → map.get self.new.entries p ≡ map.get self.old.entries p) }
-    {
-        self.places.push(number(self.entries.len()))?;
-        self.entries.insert(network, entry)?;
-        Ok(())
-    }
-
-    // Where the last update left the entry of this network of those that it answered.
-    fn left_at(&self, next: usize) -> usize {
-        self.places.get(next).copied().unwrap_or(NOWHERE) as usize
     }
 
     fn spend(&mut self)
@@ -382,19 +331,97 @@ impl Intra {
     }
 }
 
-// Where the entry of the network stands, and whether it is this one.
-fn standing(
-    entries: &IndexMap<Prefix, Entry, WordHash>,
-    network: Prefix,
-    entry: &Entry,
-) -> Option<(usize, bool)>
-    ensures at { IfSome result (λ p. IsEntryAt entries.now.entries network p.0) }
-    ensures same { IfSome result (λ p. IsTrue p.1 ↔ (map.get (entries_of entries.now.entries) network ≡ Some entry.now)) }
+// Where the entry of the network stands.
+fn place_of(entries: &IndexMap<Prefix, Entry, WordHash>, network: Prefix) -> Option<usize>
+    ensures at { IfSome result (IsEntryAt entries.now.entries network) }
     ensures none { IfNone result (map.get (entries_of entries.now.entries) network ≡ None) }
 {
     match entries.get_full(&network) {
-        Some((place, _, value)) => Some((place, value.is_same(entry))),
+        Some((place, _, _)) => Some(place),
         None => None,
+    }
+}
+
+// This is the entry of the network, which stands at the place, where it has one. The answer is whether it had another, or
+// none.
+fn exchange(
+    entries: &mut IndexMap<Prefix, Entry, WordHash>,
+    place: Option<usize>,
+    network: Prefix,
+    fresh: Option<Entry>,
+) -> Result<bool, Memory>
+    requires at { IfSome place (IsEntryAt entries.old.entries network) }
+    requires none { IfNone place (map.get (entries_of entries.old.entries) network ≡ None) }
+    requires bounded { IfSome fresh (λ e. e.cost < most_cost) }
+    ensures here { OnOk result (map.get (entries_of entries.new.entries) network ≡ fresh) }
+    ensures others { OnOk result ((p : PrefixValue) → p ≢ network → map.get (entries_of entries.new.entries) p ≡ map.get (entries_of entries.old.entries) p) }
+    ensures same { IfOk result (λ other. other ≡ false → map.get (entries_of entries.old.entries) network ≡ fresh) }
+    ensures other { IfOk result (λ other. other ≡ true → map.get (entries_of entries.old.entries) network ≢ fresh) }
+    ensures below { All (λ e. e.1.cost < most_cost) entries.old.entries → All (λ e. e.1.cost < most_cost) entries.new.entries }
+{
+    match (place, fresh) {
+        (Some(place), Some(entry)) => Ok(set(entries, place, network, entry)),
+        (Some(place), None) => {
+            take_out(entries, place, network);
+            Ok(true)
+        }
+        (None, Some(entry)) => {
+            entries.insert(network, entry)?;
+            Ok(true)
+        }
+        (None, None) => Ok(false),
+    }
+}
+
+// This is the entry of the network, which has one at the place. The answer is whether that was another.
+fn set(
+    entries: &mut IndexMap<Prefix, Entry, WordHash>,
+    place: usize,
+    network: Prefix,
+    entry: Entry,
+) -> bool
+    requires at { IsEntryAt entries.old.entries network place }
+    requires bounded { entry.cost < most_cost }
+    ensures here { map.get (entries_of entries.new.entries) network ≡ Some entry }
+    ensures others { (p : PrefixValue) → p ≢ network → map.get (entries_of entries.new.entries) p ≡ map.get (entries_of entries.old.entries) p }
+    ensures same { result ≡ false → map.get (entries_of entries.old.entries) network ≡ Some entry }
+    ensures other { result ≡ true → map.get (entries_of entries.old.entries) network ≢ Some entry }
+    ensures below { All (λ e. e.1.cost < most_cost) entries.old.entries → All (λ e. e.1.cost < most_cost) entries.new.entries }
+{
+    if stands_at(entries, place, network, &entry) {
+        return false;
+    }
+    write_at(entries, place, entry);
+    true
+}
+
+// Whether the entry of the network, which stands at the place, is this one.
+fn stands_at(
+    entries: &IndexMap<Prefix, Entry, WordHash>,
+    place: usize,
+    network: Prefix,
+    entry: &Entry,
+) -> bool
+    requires { IsEntryAt entries.now.entries network place }
+    ensures { IsTrue result ↔ (map.get (entries_of entries.now.entries) network ≡ Some entry.now) }
+{
+    match entries.get_index(place) {
+        Some((_, kept)) => kept.is_same(entry),
+        None => false,
+    }
+}
+
+// The network, whose entry stands at the place, has none from now on. The last entry takes the place.
+fn take_out(entries: &mut IndexMap<Prefix, Entry, WordHash>, place: usize, network: Prefix)
+    requires { IsEntryAt entries.old.entries network place }
+    ensures there { IsSome (map.get (entries_of entries.old.entries) network) }
+    ensures here { map.get (entries_of entries.new.entries) network ≡ None }
+    ensures others { (p : PrefixValue) → p ≢ network → map.get (entries_of entries.new.entries) p ≡ map.get (entries_of entries.old.entries) p }
+    ensures below { All (λ e. e.1.cost < most_cost) entries.old.entries → All (λ e. e.1.cost < most_cost) entries.new.entries }
+{
+    match entries.swap_remove_index(place) {
+        Some(_taken) => {}
+        None => {}
     }
 }
 
@@ -407,11 +434,6 @@ fn write_at(entries: &mut IndexMap<Prefix, Entry, WordHash>, place: usize, entry
     // proof: no network has two entries.
     let _ = entries.len();
     entries[place] = entry;
-}
-
-// A place as a number; past the greatest of them there are no entries.
-fn number(place: usize) -> u32 {
-    u32::try_from(place).unwrap_or(NOWHERE)
 }
 
 // What is kept of each area follows its LSAs, its tree and the interfaces.

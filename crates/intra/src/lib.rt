@@ -7,6 +7,7 @@ mod area;
 mod area_index;
 mod choose;
 mod dirty;
+mod hints;
 mod inputs;
 mod intra;
 mod named;

@@ -1,12 +1,13 @@
 use Rattle.std.proofs.Common.{List, ◌∷◌, map, ◌≡◌, ◌∙◌, ap, sym, subst}
+use Rattle.std.specs.FinMap.{get}
 use Rattle.std.proofs.lemmas.Slice.Zip.{Zip-more, either_empty_from_Zip}
 use Rattle.std.specs.Iterator.Adapters.{zip_first, zip_second}
 use Rattle.std.specs.Slice.Iter.{iter_rest}
 use Rattle.intra.specs.Choosing.{TakesPaths}
-use Rattle.intra.specs.Indexes.{IndexedOffers}
+use Rattle.intra.specs.Indexes.{IndexedOffers, IndexValue, sources_of}
 use Rattle.intra.specs.Inputs.{AreaValue, InputsValue}
 use Rattle.intra.specs.Intras.{AreaIntraValue}
-use Rattle.intra.proofs.Sourced.{takes_areas, takes_no_area}
+use Rattle.intra.proofs.Sourced.{takes_areas, takes_indexed, takes_no_area}
 use Rattle.intra.proofs.choose.offer_areas.Goals as goal
 
 pub loop-kept-init : goal.loop-kept-init
@@ -18,11 +19,14 @@ loop-kept-init c = λ new takes.
 
 pub loop-kept-preserved : goal.loop-kept-preserved
 loop-kept-preserved c = λ new rest.
+    let kept = c.in-Some.kept.now in
+    let is = c.sources-sources.ensures ∙ ap (λ (i : IndexValue). sources_of (get i.sources c.args.prefix)) c.index.ensures in
+    let here = takes_indexed kept.index c.args.inputs.now c.in-Some.area.now c.args.prefix c.sources-sources.result.now c.loop-kept.best c.offer_sources.new.best is c.in_ok-offer_sources.ensures in
     let turn = Zip-more c.loop-kept.kept-iterator c.next.new.self _ (c.in-Some.kept, c.in-Some.area) c.in-Some.is c.next.ensures.steps in
     c.loop-kept.invariant new
     (subst (λ (kept : List AreaIntraValue). TakesPaths (IndexedOffers c.args.inputs.now (map (λ k. k.index) kept) (iter_rest (zip_second c.loop-kept.kept-iterator)) c.args.prefix) c.loop-kept.best new) (sym turn.0)
     (subst (λ (areas : List AreaValue). TakesPaths (IndexedOffers c.args.inputs.now (map (λ k. k.index) (c.in-Some.kept.now ∷ iter_rest (zip_first c.next.new.self))) areas c.args.prefix) c.loop-kept.best new) (sym turn.1)
-    (takes_areas c.args.inputs.now c.args.prefix c.in-Some.kept.now (iter_rest (zip_first c.next.new.self)) c.in-Some.area.now (iter_rest (zip_second c.next.new.self)) c.loop-kept.best c.offer_area.new.best new c.in_ok-offer_area.ensures rest)))
+    (takes_areas c.args.inputs.now c.args.prefix c.in-Some.kept.now (iter_rest (zip_first c.next.new.self)) c.in-Some.area.now (iter_rest (zip_second c.next.new.self)) c.loop-kept.best c.offer_sources.new.best new here rest)))
 
 pub returns : goal.returns
 returns c =

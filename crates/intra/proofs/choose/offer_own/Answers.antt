@@ -1,4 +1,4 @@
-use Rattle.std.proofs.Common.{ℕ, List, [], sym, subst}
+use Rattle.std.proofs.Common.{ℕ, List, sym, subst}
 use Rattle.ospf_types.specs.declared.config.Interface.{Interface}
 use Rattle.intra.specs.Choosing.{TakesPaths, InterfaceOffers}
 use Rattle.path_choice.specs.Takes.{OfferedBySome}

@@ -1,15 +1,16 @@
-use Rattle.std.proofs.Common.{ap, ◌∙◌}
+use Rattle.std.proofs.Common.{◌≡◌, Some, sym, ap, subst, ◌∙◌}
 use Rattle.std.specs.FinMap.{get}
+use Rattle.std.specs.Map.{lookup}
+use Rattle.ospf_types.specs.declared.prefix.Prefix.{Prefix}
+use Rattle.ospf_types.proofs.KeyOrders.{prefixes_equal, prefixes_decided}
 use Rattle.intra.specs.Indexes.{IndexValue, sources_of}
 use Rattle.intra.proofs.SourceMaps.{listed, sources_found}
 use Rattle.intra.proofs.area_index.AreaIndex.sources.Goals as goal
 
 pub returns-in-Some : goal.returns-in-Some
 returns-in-Some c =
-    c.as_slice.ensures.value ∙ ap listed c.in-Some.ensures.value ∙ sources_found c.self.inside.sources.entries c.args.prefix
-    ∙ ap (λ (i : IndexValue). sources_of (get i.sources c.args.prefix)) c.self.view_is
-
-pub returns-in-None : goal.returns-in-None
-returns-in-None c =
-    ap listed c.in-None.ensures.value ∙ sources_found c.self.inside.sources.entries c.args.prefix
+    let es = c.self.inside.sources.entries in
+    let own = (prefixes_decided c.in-Some.kept.now c.args.prefix).0 (sym c.if-eq.ensures) in
+    let found = subst (λ (p : Prefix). lookup (prefixes_equal p) es ≡ Some c.in-Some.sources.now) own c.in-Some.ensures.value in
+    c.as_slice.ensures.value ∙ ap listed (sym found) ∙ sources_found es c.args.prefix
     ∙ ap (λ (i : IndexValue). sources_of (get i.sources c.args.prefix)) c.self.view_is
