@@ -21,9 +21,9 @@ use Rattle.ospf_types.proofs.RangeChanges.{areas_kept, ids_kept}
 use Rattle.area_trees.specs.Areas.{AreaTreeValue}
 use Rattle.intra.specs.Changes.{DiffersAt}
 use Rattle.intra.specs.Intras.{AreaIntraValue, IntraValue, EntriesByPrefix, IsIntraOf, reached_at}
-use Rattle.summaries.proofs.Reconfigured.{active_alike, members_stay}
-use Rattle.summaries.specs.Active.{ActiveValue, AreRangesOf, EntriesDifferAmong, IsActiveIn, IsMemberWithin, IsRangeNamed, RangesDifferAt, DiffersAt as RangeDiffers}
-use Rattle.summaries.specs.declared.member.Member.{Member}
+use Rattle.active_ranges.proofs.Reconfigured.{active_alike, members_stay}
+use Rattle.active_ranges.specs.Active.{ActiveValue, AreRangesOf, EntriesDifferAmong, IsActiveIn, IsMemberWithin, IsRangeNamed, RangesDifferAt, DiffersAt as RangeDiffers}
+use Rattle.active_ranges.specs.declared.member.Member.{Member}
 use Rattle.inter.specs.Changes.{InputsDifferAmong as InterInputsDiffer, DiffersAt as InterDiffers}
 use Rattle.inter.specs.Inputs.{ExaminedValue, InterInputsValue}
 use Rattle.inter.specs.Inters.{InterValue, IsInterOf}
@@ -33,7 +33,7 @@ use Rattle.external.specs.Externals.{ExternalValue, IsExternalOf}
 use Rattle.route_table.specs.declared.table.Item.{Item}
 use Rattle.route_table.specs.declared.table.Item.TheVariants.{Route, Discard}
 use Rattle.event_state.specs.States.{State}
-use Rattle.calculation.specs.Due.{RoutesDifferAmong}
+use Rattle.calculation.specs.Summaries.{RoutesDifferAmong}
 use Rattle.calculation.specs.Calculations.{CalculationValue, IsCalculationOf, AreItemsKept, IsItem, entry_else, entry_at}
 use Rattle.state_trees.specs.Trees.{StatesDifferAmong, AreTreesOf, inputs_with}
 use Rattle.route_layers.specs.Layers.{IsExaminedOf, inter_inputs, external_inputs}

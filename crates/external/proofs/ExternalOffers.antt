@@ -17,7 +17,7 @@ use Rattle.path_choice.specs.Takes.{OfferedBySome}
 use Rattle.path_choice.proofs.Taking.{takes_none, takes_same, taken_chosen}
 use Rattle.offer_index.specs.Advertised.{AdvertisedValue}
 use Rattle.offer_index.specs.Indexes.{OfferIndexValue, IsInGroup}
-use Rattle.offer_index.specs.declared.group.Group.TheVariants.{To}
+use Rattle.offer_index.specs.declared.lsa_group.LsaGroup.TheVariants.{To}
 use Rattle.external.specs.Choosing.{TakesPaths, PathsOffer, LeadsOffer, KeyOffers, NetworkOffers}
 use Rattle.external.specs.Externals.{IsEntryFor}
 use Rattle.external.specs.Forwards.{ForwardValue, ForwardsByAddress, internal_entry}

@@ -11,9 +11,9 @@ use Rattle.std.specs.List.Sorted.{IsStrictlySortedBy}
 use Rattle.ospf_types.proofs.Elements.{no_element}
 use Rattle.result_map.proofs.KeyedMaps.{listed_or_not}
 use Rattle.result_map.specs.Results.{Results}
-use Rattle.result_map.specs.Renewing.{AreRenewed}
+use Rattle.result_map.specs.Updating.{AreUpdated}
 
-module _ {K V N : Type 0} (cmp : K → K → Ordering) (IsChosen : K → Option V → Type 0) (named_as : K → N) (old new : Results K V) (keys : List K) (before after : List N) (renewed : AreRenewed cmp IsChosen named_as old new keys before after) where
+module _ {K V N : Type 0} (cmp : K → K → Ordering) (IsChosen : K → Option V → Type 0) (named_as : K → N) (old new : Results K V) (keys : List K) (before after : List N) (renewed : AreUpdated cmp IsChosen named_as old new keys before after) where
   -- each result is chosen anew, or it was not due and stands
   pub each_renewed : IsTotalOrder cmp → IsAntisymmetric cmp → (IsDue : K → Type 0) → ((k : K) → IsDue k → Contains keys k)
       → (k : K) → IsChosen k (get (from_entries {R = cmp} new.entries) k) ⊎ ((IsDue k → ⊥) × (get (from_entries {R = cmp} new.entries) k ≡ get (from_entries {R = cmp} old.entries) k))
@@ -40,8 +40,8 @@ same_keys : {K : Type 0} → (ks : List K) → map (λ k. k) ks ≡ ks
 same_keys [] = refl
 same_keys (k ∷ ks) = ap (λ qs. k ∷ qs) (same_keys ks)
 
--- the same of keys that are named themselves
-module _ {V : Type 0} (cmp : ℕ → ℕ → Ordering) (IsChosen : ℕ → Option V → Type 0) (old new : Results ℕ V) (keys before after : List ℕ) (renewed : AreRenewed cmp IsChosen (λ k. k) old new keys before after) where
+-- keys that are named themselves
+module _ {V : Type 0} (cmp : ℕ → ℕ → Ordering) (IsChosen : ℕ → Option V → Type 0) (old new : Results ℕ V) (keys before after : List ℕ) (renewed : AreUpdated cmp IsChosen (λ k. k) old new keys before after) where
   pub numbers_named : before ≡ [] → (n : ℕ) → Contains after n ↔ (get (from_entries {R = cmp} new.entries) n ≢ get (from_entries {R = cmp} old.entries) n)
   numbers_named none n =
       let all = others_named cmp IsChosen (λ k. k) old new keys before after renewed none n in (

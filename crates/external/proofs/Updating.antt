@@ -15,8 +15,8 @@ use Rattle.ospf_types.specs.External.{ExternalPreference}
 use Rattle.ospf_types.proofs.Elements.{mapped_element, mapped_from}
 use Rattle.intra.specs.Intras.{EntriesByPrefix}
 use Rattle.offer_index.specs.Advertised.{AdvertisedValue}
-use Rattle.offer_index.specs.Indexes.{AffectedValue}
-use Rattle.offer_index.specs.declared.group.Group.TheVariants.{By, Forwarded}
+use Rattle.offer_index.specs.Indexes.{ChangedOffersValue}
+use Rattle.offer_index.specs.declared.lsa_group.LsaGroup.TheVariants.{By, Forwarded}
 use Rattle.external.specs.Changes.{DiffersAt}
 use Rattle.external.specs.Externals.{ExternalValue, IsEntryFor, IsExternalOf, IsForwardIn}
 use Rattle.external.specs.Forwards.{ForwardValue, ForwardsByAddress}
@@ -52,7 +52,7 @@ advertised_offers k a was is before after preferred forward preference path o =
       o.6,
     )
 
-module _ (v : ExternalInputsValue) (dests : List Dest) (affected : AffectedValue) (old : ExternalValue) (preferred : PreferredByRouter) (forwards : ForwardsByAddress) (entries : EntriesByPrefix)
+module _ (v : ExternalInputsValue) (dests : List Dest) (affected : ChangedOffersValue) (old : ExternalValue) (preferred : PreferredByRouter) (forwards : ForwardsByAddress) (entries : EntriesByPrefix)
     (routers moved : List ℕ) (by_routers led all : List Dest) (stands : StandsBut v dests affected old)
     (preferred_renewed : ArePreferredRenewed v dests old.preferred preferred) (changed : (r : ℕ) → Contains routers r ↔ (get preferred r ≢ get old.preferred r))
     (forwards_renewed : AreForwardsRenewed v old.index dests affected.addresses old.forwards forwards) (elsewhere : (a : ℕ) → Contains moved a ↔ (get forwards a ≢ get old.forwards a))

@@ -27,6 +27,18 @@ pub record ExternalValue : Type 0 where
 abbrev pub spent_routes : ExternalValue
 spent_routes = record { index = record { routes = empty }; preferred = empty; forwards = empty; entries = empty; spent = true }
 
+-- the routes where nothing is advertised
+abbrev pub no_routes : ExternalValue
+no_routes = record { index = record { routes = empty }; preferred = empty; forwards = empty; entries = empty; spent = false }
+
+-- the network has an external entry
+abbrev pub HasEntry : ExternalValue → Prefix → Type 0
+HasEntry w p = IsSome (get w.entries p)
+
+-- the AS boundary router has a preferred entry
+abbrev pub HasPreferred : ExternalValue → ℕ → Type 0
+HasPreferred w router = IsSome (get w.preferred router)
+
 -- the entry is the best of the offers, its paths in order; none where nothing is offered
 abbrev pub IsEntryFor : (ExternalPreference → Path → Type 0) → Option Entry → Type 0
 IsEntryFor offers None = NoOffer offers

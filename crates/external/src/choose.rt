@@ -2,21 +2,21 @@
 ghost use Rattle.std.specs.Prelude.{◌≡◌, ◌<◌, None, Some, IfOk, OnOk};
 ghost use Rattle.std.specs.FinMap as map;
 ghost use Rattle.std.specs.List.Sorted.{IsStrictlySortedBy};
-ghost use Rattle.std.specs.Ordering.{nat_cmp};
 ghost use Rattle.ospf_types.specs.Hops.{path_cmp};
 ghost use Rattle.ospf_types.specs.Inter.{through};
 ghost use Rattle.ospf_types.specs.Routes.{entry_of, external_type};
-ghost use Rattle.path_choice.specs.Takes.{OnlyOffer, OfferedBySome};
+ghost use Rattle.path_choice.specs.Takes.{OnlyOffer};
 ghost use Rattle.inter.specs.Inters.{most_cost};
-ghost use Rattle.external.specs.Choosing.{TakesPaths, PathsOffer, LeadsOffer, KeyOffers, NetworkOffers};
-ghost use Rattle.external.specs.Externals.{IsEntryFor};
-ghost use Rattle.external.specs.Forwards.{WayOffers};
-ghost use Rattle.external.specs.Offers.{AdvertisedOffers, ForwardLeads, OffersBy, preference_of};
+ghost use Rattle.external.specs.Choosing.{TakesPaths, PathsOffer, LeadsOffer, KeyOffers, KeysOffer, NetworkOffers};
+ghost use Rattle.external.specs.Forwards.{WayOffers, forwards_in};
+ghost use Rattle.external.specs.Offers.{AdvertisedOffers, ForwardLeads, preference_of};
+ghost use Rattle.external.specs.Preferred.{preferred_in};
+ghost use Rattle.external.specs.Renewing.{IsEntryBy};
 
 use crate::forward::{Forward, Way, has_internal};
 use crate::inputs::ExternalInputs;
 use crate::preferred::Preferred;
-use offer_index::{Advertised, Group, OfferIndex};
+use offer_index::{Advertised, LsaGroup, OfferIndex};
 use ospf_types::entry::{Entry, PathType, Paths};
 use ospf_types::hop::{NextHop, Path};
 use ospf_types::key::{Dest, Key};
@@ -28,7 +28,7 @@ use std::alloc::Global;
 use std::marker::Model;
 
 // What external routes to one network are compared by: type 1 before type 2, the metric of type 2, the class of the way, and
-// then the cost, which is the distance alone for type 2.
+// then the cost, which is only the distance for type 2 (16.4 (6), b to d).
 #[derive(Clone, Copy, PartialEq, Eq, PartialOrd, Ord)]
 struct ExternalKey {
     kind: u8,
@@ -67,6 +67,7 @@ impl ExternalKey {
         requires { distance < most_cost }
         ensures { result ≡ preference_of route class distance }
     {
+        // 16.4 (5): X is the distance and Y the metric. Type 1 costs X + Y, type 2 has X and Y apart.
         if route.is_type_2() {
             ExternalKey {
                 kind: 2,
@@ -105,8 +106,10 @@ pub(crate) fn choose(
     forwards: &ResultMap<u32, Forward>,
     network: Prefix,
 ) -> Result<Option<Entry>, Memory>
-    ensures { IfOk result (IsEntryFor (OffersBy inputs.now (map.from_entries preferred.now.entries) (map.from_entries forwards.now.entries) (λ k a. map.get index.now.routes k ≡ Some a) network)) }
+    ensures { IfOk result (IsEntryBy inputs.now index.now (preferred_in preferred.now)
+        (forwards_in forwards.now) network) }
 {
+    // 16.4 (6) (a): intra-area and inter-area paths are preferred.
     if has_internal(inputs, network) {
         return Ok(None);
     }
@@ -121,7 +124,8 @@ pub(crate) fn choose(
 // The external entry of a choice.
 fn entry(choice: Choice<ExternalKey, Path>) -> Entry
     requires { IsStrictlySortedBy path_cmp choice.items }
-    ensures { result ≡ entry_of (external_type choice.key.kind) None choice.key.cost choice.key.metric choice.items }
+    ensures { result ≡ entry_of
+        (external_type choice.key.kind) None choice.key.cost choice.key.metric choice.items }
 {
     let (key, paths) = choice.into_parts();
     Entry {
@@ -142,10 +146,11 @@ fn offer_network(
     forwards: &ResultMap<u32, Forward>,
     network: Prefix,
 ) -> Result<(), Memory>
-    ensures { OnOk result (TakesPaths (NetworkOffers index.now (map.from_entries preferred.now.entries) (map.from_entries forwards.now.entries) network) best.old best.new) }
+    ensures { OnOk result (TakesPaths (NetworkOffers index.now (preferred_in preferred.now)
+        (forwards_in forwards.now) network) best.old best.new) }
 {
     let mut keys = Vec::new(alloc);
-    index.push_keys(Group::To(Dest::Net(network)), &mut keys)?;
+    index.list_keys(LsaGroup::To(Dest::Net(network)), &mut keys)?;
     offer_keys(best, index, preferred, forwards, keys.as_slice())
 }
 
@@ -157,7 +162,8 @@ fn offer_keys(
     forwards: &ResultMap<u32, Forward>,
     keys: &[Key],
 ) -> Result<(), Memory>
-    ensures { OnOk result (TakesPaths (OfferedBySome keys.now (KeyOffers index.now.routes (map.from_entries preferred.now.entries) (map.from_entries forwards.now.entries))) best.old best.new) }
+    ensures { OnOk result (TakesPaths (KeysOffer keys.now index.now.routes
+        (preferred_in preferred.now) (forwards_in forwards.now)) best.old best.new) }
 {
     for key in keys {
         offer_key(best, index, preferred, forwards, *key)?;
@@ -173,11 +179,13 @@ fn offer_key(
     forwards: &ResultMap<u32, Forward>,
     key: Key,
 ) -> Result<(), Memory>
-    ensures { OnOk result (TakesPaths (KeyOffers index.now.routes (map.from_entries preferred.now.entries) (map.from_entries forwards.now.entries) key) best.old best.new) }
+    ensures { OnOk result (TakesPaths (KeyOffers index.now.routes (preferred_in preferred.now)
+        (forwards_in forwards.now) key) best.old best.new) }
 {
     let Some(route) = index.route(key) else {
         return Ok(());
     };
+    // 16.4 (3): the AS boundary router must have an entry.
     match preferred.get(key.router) {
         Some(entry) => offer_route(best, key, *route, entry, forwards),
         None => Ok(()),
@@ -192,8 +200,10 @@ fn offer_route(
     entry: &Preferred,
     forwards: &ResultMap<u32, Forward>,
 ) -> Result<(), Memory>
-    ensures { OnOk result (TakesPaths (AdvertisedOffers (Some entry.now) (map.get (map.from_entries {R = nat_cmp} forwards.now.entries) route.forwarding) key route) best.old best.new) }
+    ensures { OnOk result (TakesPaths (AdvertisedOffers (Some entry.now)
+        (map.get (forwards_in forwards.now) route.forwarding) key route) best.old best.new) }
 {
+    // 16.4 (3): without a forwarding address packets go to the AS boundary router itself.
     if route.forwarding() == 0 {
         let at = ExternalKey::of(route, entry.class(), entry.cost());
         return offer_hops(best, at, key.router, entry.hops());
@@ -211,7 +221,8 @@ fn offer_forward(
     route: Advertised,
     forward: &Forward,
 ) -> Result<(), Memory>
-    ensures { OnOk result (TakesPaths (LeadsOffer (ForwardLeads (Some forward.now)) router route) best.old best.new) }
+    ensures { OnOk result
+        (TakesPaths (LeadsOffer (ForwardLeads (Some forward.now)) router route) best.old best.new) }
 {
     match forward.way() {
         Some(way) => offer_way(best, router, route, way),
@@ -226,7 +237,8 @@ fn offer_way(
     route: Advertised,
     way: &Way,
 ) -> Result<(), Memory>
-    ensures { OnOk result (TakesPaths (LeadsOffer (WayOffers (Some way.now)) router route) best.old best.new) }
+    ensures { OnOk result
+        (TakesPaths (LeadsOffer (WayOffers (Some way.now)) router route) best.old best.new) }
 {
     let at = ExternalKey::of(route, way.class(), way.cost());
     offer_hops(best, at, router, way.hops())

@@ -1,27 +1,27 @@
 //! What is worked out again where something may differ: preferred entries, then where forwarding addresses lead, then networks.
-ghost use Rattle.std.specs.Prelude.{ℕ, ◌≡◌, ◌≢◌, ◌↔◌, ◌⊎◌, ◌++◌, List, Contains, IfOk, OnOk, IsTrue, map as list_map, option_copied};
+ghost use Rattle.std.specs.Prelude.{◌≡◌, ◌↔◌, ◌++◌, Contains, IfOk, OnOk, IsTrue, option_copied};
 ghost use Rattle.std.specs.FinMap as map;
 ghost use Rattle.std.specs.List.Sorted.{IsStrictlySortedBy};
 ghost use Rattle.std.specs.Ordering.{nat_cmp};
-ghost use Rattle.ospf_types.specs.declared.key.Dest.{Dest as DestValue};
 ghost use Rattle.ospf_types.specs.declared.key.Dest.TheVariants as dest_value;
-ghost use Rattle.ospf_types.specs.declared.prefix.Prefix.{Prefix as PrefixValue};
-ghost use Rattle.ospf_types.specs.Keys.{dest_cmp};
-ghost use Rattle.ospf_types.specs.Network.{network_cmp};
-ghost use Rattle.offer_index.specs.declared.group.Group.TheVariants as group_value;
+ghost use Rattle.offer_index.specs.declared.lsa_group.LsaGroup.TheVariants as group_value;
 ghost use Rattle.offer_index.specs.Indexes.{IsLedTo};
-ghost use Rattle.external.specs.Renewing.{AreEntriesRenewed, AreForwardsRenewed, AreLed, AreNetworksLed, ArePreferredRenewed, IsAddressDue, IsNoShorter, IsNoShorterThan, IsReachedBy};
+ghost use Rattle.offer_index.specs.Lists.{HasAll, KeepsAll};
+ghost use Rattle.active_ranges.specs.Lists.{HasJust};
+ghost use Rattle.external.specs.Forwards.{forwards_in};
+ghost use Rattle.external.specs.Preferred.{preferred_in};
+ghost use Rattle.external.specs.Renewing.{AreEntriesRenewed, AreForwardsRenewed, AreLed, AreNetworksLed, ArePreferredRenewed, GainsAll, HasIfLed, HasOther, IsAddressDue, IsInOrderBefore, IsNetworkAmong, IsNoShorter, IsNoShorterThan, IsOtherNetwork, IsReachedAmong, IsReachedBy, IsReachedIn, IsRouterAmong, entries_in, router_dests};
 
 use crate::choose::choose;
 use crate::forward::{Forward, look_up};
 use crate::inputs::ExternalInputs;
 use crate::preferred::{Preferred, choose_preferred};
-use offer_index::{Group, OfferIndex};
+use offer_index::{LsaGroup, OfferIndex};
 use ospf_types::entry::Entry;
 use ospf_types::key::Dest;
 use ospf_types::memory::Memory;
 use ospf_types::prefix::Prefix;
-use result_map::{Renewal, ResultMap};
+use result_map::{Choose, ResultMap};
 use std::alloc::Global;
 
 // ---- what results are chosen by
@@ -32,7 +32,7 @@ pub(crate) struct Preferring<'a> {
     pub(crate) inputs: &'a ExternalInputs<'a>,
 }
 
-impl<'a> Renewal<u32, Preferred, u32> for Preferring<'a> {
+impl<'a> Choose<u32, Preferred, u32> for Preferring<'a> {
     ghost use Rattle.external.specs.Preferred.{RouterOffers, IsPreferredFor};
 
     ghost IsChosen = { λ by router fresh. IsPreferredFor (RouterOffers by.inputs.now router) fresh };
@@ -55,7 +55,7 @@ pub(crate) struct Forwarding<'a> {
     pub(crate) index: &'a OfferIndex,
 }
 
-impl<'a> Renewal<u32, Forward, u32> for Forwarding<'a> {
+impl<'a> Choose<u32, Forward, u32> for Forwarding<'a> {
     ghost use Rattle.external.specs.Externals.{IsForwardIn};
 
     ghost IsChosen = { λ by address fresh. IsForwardIn by.inputs.now by.index.now address fresh };
@@ -84,7 +84,7 @@ pub(crate) struct Choosing<'a> {
     pub(crate) forwards: &'a ResultMap<u32, Forward>,
 }
 
-impl<'a> Renewal<Prefix, Entry, Dest> for Choosing<'a> {
+impl<'a> Choose<Prefix, Entry, Dest> for Choosing<'a> {
     ghost use Rattle.std.specs.FinMap as map;
     ghost use Rattle.ospf_types.specs.declared.key.Dest.TheVariants.{Net};
     ghost use Rattle.external.specs.Renewing.{IsEntryBy};
@@ -120,15 +120,17 @@ pub(crate) fn renew_preferred(
     preferred: &mut ResultMap<u32, Preferred>,
 ) -> Result<Vec<u32>, Memory>
     ensures in_order { IfOk result (λ routers. IsStrictlySortedBy nat_cmp routers.items) }
-    ensures exact { IfOk result (λ routers. (r : ℕ) → Contains routers.items r ↔ (map.get (map.from_entries {R = nat_cmp} preferred.new.entries) r ≢ map.get (map.from_entries {R = nat_cmp} preferred.old.entries) r)) }
-    ensures renewed { OnOk result (ArePreferredRenewed inputs.now dests.now (map.from_entries preferred.old.entries) (map.from_entries preferred.new.entries)) }
+    ensures exact { IfOk result
+        (λ routers. HasJust (HasOther nat_cmp preferred.old preferred.new) routers.items) }
+    ensures renewed { OnOk result (ArePreferredRenewed inputs.now dests.now
+        (preferred_in preferred.old) (preferred_in preferred.new)) }
 {
     let mut routers = Vec::new(alloc);
     push_routers(dests, &mut routers)?;
     routers.sort_unstable();
     routers.dedup();
     let mut changed = Vec::new(alloc);
-    preferred.renew_all(
+    preferred.update_each(
         alloc,
         routers.as_slice(),
         &Preferring { inputs },
@@ -139,8 +141,8 @@ pub(crate) fn renew_preferred(
 
 /// Adds the routers among the destinations.
 pub(crate) fn push_routers(dests: &[Dest], routers: &mut Vec<u32>) -> Result<(), Memory>
-    ensures kept { OnOk result ((r : ℕ) → Contains routers.old.items r → Contains routers.new.items r) }
-    ensures all { OnOk result ((r : ℕ) → Contains dests.now (dest_value.Router r) → Contains routers.new.items r) }
+    ensures kept { OnOk result (KeepsAll routers.old.items routers.new.items) }
+    ensures all { OnOk result (HasAll (IsRouterAmong dests.now) routers.new.items) }
 {
     for dest in dests {
         push_router(*dest, routers)?;
@@ -150,7 +152,8 @@ pub(crate) fn push_routers(dests: &[Dest], routers: &mut Vec<u32>) -> Result<(),
 
 // Adds the destination if it is a router.
 fn push_router(dest: Dest, routers: &mut Vec<u32>) -> Result<(), Memory>
-    ensures { OnOk result ((r : ℕ) → Contains routers.old.items r ⊎ (dest_value.Router r ≡ dest) → Contains routers.new.items r) }
+    ensures { OnOk result
+        (GainsAll (λ r. dest_value.Router r ≡ dest) routers.old.items routers.new.items) }
 {
     match dest {
         Dest::Router(router) => Ok(routers.push(router)?),
@@ -160,7 +163,7 @@ fn push_router(dest: Dest, routers: &mut Vec<u32>) -> Result<(), Memory>
 
 /// Adds the routers as destinations.
 pub(crate) fn add_routers(routers: &[u32], dests: &mut Vec<Dest>) -> Result<(), Memory>
-    ensures { OnOk result (dests.new.items ≡ dests.old.items ++ list_map dest_value.Router routers.now) }
+    ensures { OnOk result (dests.new.items ≡ dests.old.items ++ router_dests routers.now) }
 {
     for router in routers {
         dests.push(Dest::Router(*router))?;
@@ -179,12 +182,14 @@ pub(crate) fn renew_forwards(
     addresses: Vec<u32>,
     forwards: &mut ResultMap<u32, Forward>,
 ) -> Result<Vec<u32>, Memory>
-    ensures exact { IfOk result (λ moved. (a : ℕ) → Contains moved.items a ↔ (map.get (map.from_entries {R = nat_cmp} forwards.new.entries) a ≢ map.get (map.from_entries {R = nat_cmp} forwards.old.entries) a)) }
-    ensures renewed { OnOk result (AreForwardsRenewed by.now.inputs.now by.now.index.now dests.now addresses.items (map.from_entries forwards.old.entries) (map.from_entries forwards.new.entries)) }
+    ensures exact { IfOk result
+        (λ moved. HasJust (HasOther nat_cmp forwards.old forwards.new) moved.items) }
+    ensures renewed { OnOk result (AreForwardsRenewed by.now.inputs.now by.now.index.now
+        dests.now addresses.items (forwards_in forwards.old) (forwards_in forwards.new)) }
 {
     let due = due_addresses(alloc, by.index, forwards, dests, addresses)?;
     let mut moved = Vec::new(alloc);
-    forwards.renew_all(alloc, due.as_slice(), by, &mut moved)?;
+    forwards.update_each(alloc, due.as_slice(), by, &mut moved)?;
     Ok(moved)
 }
 
@@ -197,7 +202,8 @@ fn due_addresses(
     addresses: Vec<u32>,
 ) -> Result<Vec<u32>, Memory>
     ensures in_order { IfOk result (λ due. IsStrictlySortedBy nat_cmp due.items) }
-    ensures all { IfOk result (λ due. (a : ℕ) → IsAddressDue dests.now addresses.items index.now (map.from_entries forwards.now.entries) a → Contains due.items a) }
+    ensures all { IfOk result (λ due. HasAll
+        (IsAddressDue dests.now addresses.items index.now (forwards_in forwards.now)) due.items) }
 {
     let mut due = addresses;
     push_reached(alloc, index, forwards, dests, &mut due)?;
@@ -214,7 +220,8 @@ fn push_reached(
     dests: &[Dest],
     due: &mut Vec<u32>,
 ) -> Result<(), Memory>
-    ensures { OnOk result ((a : ℕ) → IsAddressDue dests.now due.old.items index.now (map.from_entries forwards.now.entries) a → Contains due.new.items a) }
+    ensures { OnOk result (HasAll
+        (IsAddressDue dests.now due.old.items index.now (forwards_in forwards.now)) due.new.items) }
 {
     if !index.has_addresses() {
         return Ok(());
@@ -225,7 +232,7 @@ fn push_reached(
     Ok(())
 }
 
-// The same of one destination, where that is a network.
+// Adds the addresses in the destination, if that is a network, that is no shorter than their match.
 fn push_in_dest(
     alloc: Global,
     index: &OfferIndex,
@@ -233,7 +240,8 @@ fn push_in_dest(
     dest: Dest,
     due: &mut Vec<u32>,
 ) -> Result<(), Memory>
-    ensures { OnOk result ((a : ℕ) → Contains due.old.items a ⊎ ((p : PrefixValue) × (dest_value.Net p ≡ dest) × IsReachedBy index.now (map.from_entries forwards.now.entries) p a) → Contains due.new.items a) }
+    ensures { OnOk result (GainsAll
+        (IsReachedIn index.now (forwards_in forwards.now) dest) due.old.items due.new.items) }
 {
     match dest {
         Dest::Net(network) => push_in_network(alloc, index, forwards, network, due),
@@ -241,7 +249,7 @@ fn push_in_dest(
     }
 }
 
-// The same of one network.
+// Adds the addresses in the network, if that is no shorter than their match.
 fn push_in_network(
     alloc: Global,
     index: &OfferIndex,
@@ -249,10 +257,11 @@ fn push_in_network(
     network: Prefix,
     due: &mut Vec<u32>,
 ) -> Result<(), Memory>
-    ensures { OnOk result ((a : ℕ) → Contains due.old.items a ⊎ IsReachedBy index.now (map.from_entries forwards.now.entries) network a → Contains due.new.items a) }
+    ensures { OnOk result (GainsAll
+        (IsReachedBy index.now (forwards_in forwards.now) network) due.old.items due.new.items) }
 {
     let mut inside = Vec::new(alloc);
-    index.push_addresses(network, &mut inside)?;
+    index.list_addresses(network, &mut inside)?;
     push_no_longer(forwards, network, inside.as_slice(), due)
 }
 
@@ -263,7 +272,8 @@ fn push_no_longer(
     addresses: &[u32],
     due: &mut Vec<u32>,
 ) -> Result<(), Memory>
-    ensures { OnOk result ((a : ℕ) → Contains due.old.items a ⊎ (Contains addresses.now a × IsNoShorter (map.get (map.from_entries {R = nat_cmp} forwards.now.entries) a) network) → Contains due.new.items a) }
+    ensures { OnOk result (GainsAll
+        (IsReachedAmong addresses.now (forwards_in forwards.now) network) due.old.items due.new.items) }
 {
     for address in addresses {
         push_if_no_longer(forwards, network, *address, due)?;
@@ -278,8 +288,9 @@ fn push_if_no_longer(
     address: u32,
     due: &mut Vec<u32>,
 ) -> Result<(), Memory>
-    ensures kept { OnOk result ((a : ℕ) → Contains due.old.items a → Contains due.new.items a) }
-    ensures added { OnOk result (IsNoShorter (map.get (map.from_entries {R = nat_cmp} forwards.now.entries) address) network → Contains due.new.items address) }
+    ensures kept { OnOk result (KeepsAll due.old.items due.new.items) }
+    ensures added { OnOk result
+        (IsNoShorter (map.get (forwards_in forwards.now) address) network → Contains due.new.items address) }
 {
     if is_no_shorter(forwards.get(address), network) {
         due.push(address)?;
@@ -314,10 +325,11 @@ pub(crate) fn push_by(
     routers: &[u32],
     dests: &mut Vec<Dest>,
 ) -> Result<(), Memory>
-    ensures { OnOk result (AreLed index.now group_value.By routers.now dests.old.items dests.new.items) }
+    ensures { OnOk result
+        (AreLed index.now group_value.By routers.now dests.old.items dests.new.items) }
 {
     for router in routers {
-        index.push_dests(Group::By(*router), dests)?;
+        index.list_dests(LsaGroup::By(*router), dests)?;
     }
     Ok(())
 }
@@ -328,10 +340,11 @@ pub(crate) fn push_forwarded(
     addresses: &[u32],
     dests: &mut Vec<Dest>,
 ) -> Result<(), Memory>
-    ensures { OnOk result (AreLed index.now group_value.Forwarded addresses.now dests.old.items dests.new.items) }
+    ensures { OnOk result
+        (AreLed index.now group_value.Forwarded addresses.now dests.old.items dests.new.items) }
 {
     for address in addresses {
-        index.push_dests(Group::Forwarded(*address), dests)?;
+        index.list_dests(LsaGroup::Forwarded(*address), dests)?;
     }
     Ok(())
 }
@@ -353,8 +366,8 @@ pub(crate) fn push_led(
 
 // Adds the destination if it is a network that something leads to.
 fn push_if_led(index: &OfferIndex, dest: Dest, leading: &mut Vec<Dest>) -> Result<(), Memory>
-    ensures kept { OnOk result ((d : DestValue) → Contains leading.old.items d → Contains leading.new.items d) }
-    ensures led { OnOk result ((p : PrefixValue) → dest_value.Net p ≡ dest → IsLedTo index.now (dest_value.Net p) → Contains leading.new.items (dest_value.Net p)) }
+    ensures kept { OnOk result (KeepsAll leading.old.items leading.new.items) }
+    ensures led { OnOk result (HasIfLed index.now dest leading.new.items) }
 {
     match dest {
         Dest::Net(network) => push_network_if_led(index, network, leading),
@@ -368,8 +381,9 @@ fn push_network_if_led(
     network: Prefix,
     leading: &mut Vec<Dest>,
 ) -> Result<(), Memory>
-    ensures kept { OnOk result ((d : DestValue) → Contains leading.old.items d → Contains leading.new.items d) }
-    ensures led { OnOk result (IsLedTo index.now (dest_value.Net network) → Contains leading.new.items (dest_value.Net network)) }
+    ensures kept { OnOk result (KeepsAll leading.old.items leading.new.items) }
+    ensures led { OnOk result (IsLedTo index.now (dest_value.Net network) →
+        Contains leading.new.items (dest_value.Net network)) }
 {
     if index.leads_to(Dest::Net(network)) {
         leading.push(Dest::Net(network))?;
@@ -384,22 +398,25 @@ pub(crate) fn renew_entries(
     dests: &[Dest],
     entries: &mut ResultMap<Prefix, Entry>,
 ) -> Result<Vec<Dest>, Memory>
-    ensures in_order { IfOk result (λ named. (routers : List ℕ) → IsStrictlySortedBy nat_cmp routers → IsStrictlySortedBy dest_cmp (named.items ++ list_map dest_value.Router routers)) }
-    ensures exact { IfOk result (λ named. (d : DestValue) → Contains named.items d ↔ ((p : PrefixValue) × (d ≡ dest_value.Net p) × (map.get (map.from_entries {R = network_cmp} entries.new.entries) p ≢ map.get (map.from_entries {R = network_cmp} entries.old.entries) p))) }
-    ensures renewed { OnOk result (AreEntriesRenewed by.now.inputs.now by.now.index.now (map.from_entries by.now.preferred.now.entries) (map.from_entries by.now.forwards.now.entries) dests.now (map.from_entries entries.old.entries) (map.from_entries entries.new.entries)) }
+    ensures in_order { IfOk result (λ named. IsInOrderBefore named.items) }
+    ensures exact { IfOk result
+        (λ named. HasJust (IsOtherNetwork entries.old entries.new) named.items) }
+    ensures renewed { OnOk result (AreEntriesRenewed by.now.inputs.now by.now.index.now
+        (preferred_in by.now.preferred.now) (forwards_in by.now.forwards.now) dests.now
+        (entries_in entries.old) (entries_in entries.new)) }
 {
     let mut networks = Vec::new(alloc);
     push_networks(dests, &mut networks)?;
     networks.sort_unstable();
     networks.dedup();
     let mut named = Vec::new(alloc);
-    entries.renew_all(alloc, networks.as_slice(), by, &mut named)?;
+    entries.update_each(alloc, networks.as_slice(), by, &mut named)?;
     Ok(named)
 }
 
 // Adds the networks among the destinations.
 fn push_networks(dests: &[Dest], networks: &mut Vec<Prefix>) -> Result<(), Memory>
-    ensures { OnOk result ((p : PrefixValue) → Contains dests.now (dest_value.Net p) → Contains networks.new.items p) }
+    ensures { OnOk result (HasAll (IsNetworkAmong dests.now) networks.new.items) }
 {
     for dest in dests {
         push_network(*dest, networks)?;
@@ -409,7 +426,8 @@ fn push_networks(dests: &[Dest], networks: &mut Vec<Prefix>) -> Result<(), Memor
 
 // Adds the destination if it is a network.
 fn push_network(dest: Dest, networks: &mut Vec<Prefix>) -> Result<(), Memory>
-    ensures { OnOk result ((p : PrefixValue) → Contains networks.old.items p ⊎ (dest_value.Net p ≡ dest) → Contains networks.new.items p) }
+    ensures { OnOk result
+        (GainsAll (λ p. dest_value.Net p ≡ dest) networks.old.items networks.new.items) }
 {
     match dest {
         Dest::Net(network) => Ok(networks.push(network)?),

@@ -43,7 +43,7 @@ onto_added network router to back addresses xs ys is are pushed =
     (λ l h. let same : h.4.0 ≡ addresses = one_list_of_details (Network network) back h.4.0 addresses h.4.1 are in
     λ i. record { from = h.0 i; to = h.1 i; cost = h.3 i; label = (h.4.2 ∙ (λ j. At (same j))) i }))
 
--- and that is one link alone
+-- and that is only one link
 pub onto_apart : (network : ℕ) (to : Vertex) (old new : List Link) (l : Link) → new ≡ old ++ l ∷ [] → l.from ≡ Network network → l.to ≡ to → KeepsApart (Network network) to old new
 onto_apart network to old new l pushed from_is to_is apart none = subst AreApart (sym pushed) (apart_push old l apart (λ c. none l c from_is to_is))
 

@@ -27,7 +27,7 @@ use Rattle.graph_links.specs.declared.link.Link.{Link}
 use Rattle.graph_links.specs.declared.link.Up.{Up}
 use Rattle.graph_links.specs.declared.ways.Way.{Way}
 use Rattle.graph_links.specs.Pairs.{Adds, AreApart, AreCheap, IsOutLabel, IsWay, IsWayOver, KeepsApart, Names, label_over, link_by, plain_ways}
-use Rattle.graph_links.proofs.Adding.{AreWays, adds_list}
+use Rattle.graph_links.proofs.Adding.{AreWaysBy, adds_list}
 use Rattle.graph_links.proofs.Apart.{Apart, apart_append, apart_cons, apart_mapped, apart_nil, apart_strict}
 use Rattle.graph_links.proofs.Pairing.{IsFromTo}
 
@@ -87,7 +87,7 @@ module _ (all sorted kept : List Way) (moved : IsPermutation all sorted) (in_ord
   )
 
   -- and they are the ways that there were
-  pub ways_kept : (root router : ℕ) (ups : List Up) (ends : List End) → AreWays root ups router ends all → AreWays root ups router ends kept
+  pub ways_kept : (root router : ℕ) (ups : List Up) (ends : List End) → AreWaysBy root ups router ends all → AreWaysBy root ups router ends kept
   ways_kept root router ups ends are w = (λ c. (are w).0 ((same_ways w).0 c), λ h. (same_ways w).1 ((are w).1 h))
 
 -- ---- the links by ways
@@ -115,7 +115,7 @@ way_back router to w = λ i. record { cost = w.cost; interface = interface_back 
 link_one : (router : ℕ) (to : Vertex) (v w : Way) → link_by router to v ≡ link_by router to w → v ≡ w
 link_one router to v w same = sym (way_back router to v) ∙ ap way_of same ∙ way_back router to w
 
-module _ (root router : ℕ) (ups : List Up) (to : Vertex) (ends back here : List End) (ways : List Way) (exact : (e : End) → Contains here e ↔ (Contains ends e × (e.to ≡ to))) (are : AreWays root ups router here ways) where
+module _ (root router : ℕ) (ups : List Up) (to : Vertex) (ends back here : List End) (ways : List Way) (exact : (e : End) → Contains here e ↔ (Contains ends e × (e.to ≡ to))) (are : AreWaysBy root ups router here ways) where
   by_ways : Names back (Router router) → (l : Link) → Contains (map (link_by router to) ways) l ↔ IsFromTo root ups (Router router) ends to back l
   by_ways named l = (
     λ c.
@@ -157,7 +157,7 @@ module _ (root router : ℕ) (ups : List Up) (e : End) (elsewhere : router ≢ r
   plain_label None is = refl
   plain_label (Some id) is = absurd (elsewhere is.0)
 
-  pub plain_are : AreWays root ups router (e ∷ []) (plain_ways e)
+  pub plain_are : AreWaysBy root ups router (e ∷ []) (plain_ways e)
   plain_are w =
       let way : Way = record { cost = e.metric; interface = None } in
       let one : IsWayOver root ups router (e ∷ []) w → (0 < e.metric) × (way ≡ w) =

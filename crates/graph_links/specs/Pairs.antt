@@ -1,6 +1,6 @@
 -- The links from one vertex to another, by what the two lead to.
-use Rattle.std.specs.Prelude.{◌↔◌, ◌⊎◌, ℕ, ◌≡◌, ◌≢◌, ◌<◌, ◌==◌, if◌then◌else◌, Bool, false, List, [], ◌∷◌, ◌++◌, map, Option, Some, None, Contains}
-use Rattle.std.specs.List.{All, AllPairs}
+use Rattle.std.specs.Prelude.{◌↔◌, ◌⊎◌, ℕ, ◌≡◌, ◌≢◌, ◌<◌, ◌==◌, if◌then◌else◌, Bool, false, List, [], ◌∷◌, ◌++◌, eqb, map, Option, Some, None, Contains}
+use Rattle.std.specs.List.{All, AllPairs, dedup}
 use Rattle.std.specs.List.Sorted.{IsStrictlyIncreasing, IsStrictlySortedBy}
 use Rattle.ospf_types.specs.declared.entry.Vertex.{Vertex}
 use Rattle.ospf_types.specs.declared.entry.Vertex.TheVariants.{Router, Network}
@@ -9,9 +9,10 @@ use Rattle.ospf_types.specs.declared.label.Label.TheVariants.{Over, At, Plain}
 use Rattle.graph_links.specs.declared.link.Link.{Link}
 use Rattle.graph_links.specs.declared.link.Up.{Up}
 use Rattle.graph_links.specs.declared.end.End.{End}
+use Rattle.graph_links.specs.declared.pair.Facing.{Facing}
 use Rattle.graph_links.specs.declared.pair.Local.{Local}
 use Rattle.graph_links.specs.declared.ways.Way.{Way}
-use Rattle.graph_links.specs.EndOrder.{end_cmp}
+use Rattle.graph_links.specs.EndOrder.{AreEndsAt, end_cmp}
 
 -- one of the ends is at the vertex
 abbrev pub Names : List End → Vertex → Type 0
@@ -20,7 +21,7 @@ Names ends v = (e : End) × Contains ends e × (e.to ≡ v)
 -- all the ends of a list that are at the vertex, of which there is one at least
 pub record AreAllAt (v : Vertex) (all : List End) (ends : List End) : Type 0 where
   pub in_order : IsStrictlySortedBy end_cmp ends
-  pub exact : (e : End) → Contains ends e ↔ (Contains all e × (e.to ≡ v))
+  pub exact : AreEndsAt v all ends
   pub some : Names ends v
 
 -- the two lists have the same ends at the vertex
@@ -55,16 +56,28 @@ IsWay root ups router e way = (e.metric ≡ way.cost) × (0 < way.cost) × IsOut
 abbrev pub IsWayOver : ℕ → List Up → ℕ → List End → Way → Type 0
 IsWayOver root ups router ends way = (e : End) × Contains ends e × IsWay root ups router e way
 
+-- the ways of a router over some of its ends
+abbrev pub AreWays : Local → ℕ → List End → List Way → Type 0
+AreWays local router ends ways = (w : Way) → Contains ways w ↔ IsWayOver local.root local.interfaces.now router ends w
+
+-- the links of a router to a vertex by these ways are added, behind those that there were
+abbrev pub AddsBy : ℕ → Vertex → List Way → List Link → List Link → Type 0
+AddsBy router to ways old new = new ≡ old ++ map (link_by router to) ways
+
 -- a link by each way of a router over these ends is added, behind those that there were
-pub record AddsOver (root : ℕ) (ups : List Up) (router : ℕ) (ends : List End) (to : Vertex) (old new : List Link) : Type 0 where
+pub record AddsOver (local : Local) (router : ℕ) (ends : List End) (to : Vertex) (old new : List Link) : Type 0 where
   pub ways : List Way
-  pub exact : (w : Way) → Contains ways w ↔ IsWayOver root ups router ends w
+  pub exact : AreWays local router ends ways
   pub each_once : AllPairs (λ v w. v ≢ w) ways
-  pub added : new ≡ old ++ map (link_by router to) ways
+  pub added : AddsBy router to ways old new
 
 -- the way of a router other than the root over one of its ends, if the metric is not 0
 abbrev pub plain_ways : End → List Way
 plain_ways e = if e.metric == 0 then [] else record { cost = e.metric; interface = None } ∷ []
+
+-- the link over the one end of a router other than the root is added, if the metric is not 0
+abbrev pub AddsPlain : ℕ → Vertex → End → List Link → List Link → Type 0
+AddsPlain router to e old new = AddsBy router to (plain_ways e) old new
 
 -- the link of a network to a vertex that leads to these ends, whether the network leads back or not
 abbrev pub IsOnto : ℕ → Vertex → List End → Link → Type 0
@@ -75,6 +88,18 @@ IsOnto network to back l =
 -- the list has these beside those that it had
 abbrev pub Adds : {X : Type 0} → List X → List X → (X → Type 0) → Type 0
 Adds {X} old new Is = (x : X) → Contains new x ↔ (Contains old x ⊎ Is x)
+
+-- the ways of a router over the end are added
+abbrev pub AddsWays : Local → ℕ → End → List Way → List Way → Type 0
+AddsWays local router e old new = Adds old new (IsWay local.root local.interfaces.now router e)
+
+-- the ways of the root over the end and these interfaces are added
+abbrev pub AddsRootWays : ℕ → List Up → End → List Way → List Way → Type 0
+AddsRootWays root ups e old new = Adds old new (IsWay root ups root e)
+
+-- the link of a network to a vertex with these ends at it is added, if the vertex is a router
+abbrev pub AddsOnto : ℕ → Facing → List Link → List Link → Type 0
+AddsOnto network to old new = (back : List End) → AreAllAt (Network network) back to.ends.now → Adds old new (IsOnto network to.vertex back)
 
 -- no link stands twice
 abbrev pub AreApart : List Link → Type 0
@@ -88,10 +113,18 @@ KeepsApart from to old new = AreApart old → ((l : Link) → Contains old l →
 abbrev pub KeepsApartFrom : Vertex → List Link → List Link → Type 0
 KeepsApartFrom from old new = AreApart old → ((l : Link) → Contains old l → l.from ≡ from → ⊥) → AreApart new
 
+-- the Link Data of the ends, without what equals the one before it
+abbrev pub details_of : List End → List ℕ
+details_of ends = dedup eqb (map (λ (e : End). e.detail) ends)
+
 -- whether the number that came last is this one
 abbrev pub is_last : Option ℕ → ℕ → Bool
 is_last None n = false
 is_last (Some m) n = m == n
+
+-- the number is added, unless it is the one that came last
+abbrev pub AddsOnce : Option ℕ → ℕ → List ℕ → List ℕ → Type 0
+AddsOnce last n old new = new ≡ (if is_last last n then old else old ++ n ∷ [])
 
 -- A link from a vertex to another, where these are the ends of the two. Each names the other.
 abbrev pub IsPairLink : ℕ → List Up → Vertex → List End → Vertex → List End → ℕ → Label → Type 0
@@ -100,6 +133,12 @@ IsPairLink root ups (Router from) ends to back cost label =
 IsPairLink root ups (Network from) ends (Router to) back cost label =
     Names ends (Router to) × (cost ≡ 0) × Names back (Network from) × ((addresses : List ℕ) × AreDetailsTo (Network from) back addresses × (label ≡ At addresses))
 IsPairLink root ups (Network from) ends (Network to) back cost label = ⊥
+
+-- the links from the one vertex to the other are added, where the two have these ends at each other
+abbrev pub AddsBetween : Local → Facing → Facing → List Link → List Link → Type 0
+AddsBetween local from to old new =
+    (ends back : List End) → AreAllAt to.vertex ends from.ends.now → AreAllAt from.vertex back to.ends.now
+    → Adds old new (λ (l : Link). (l.from ≡ from.vertex) × (l.to ≡ to.vertex) × IsPairLink local.root local.interfaces.now from.vertex ends to.vertex back l.cost l.label)
 
 -- what the links out of the vertex rest on beside LSAs is the same
 abbrev pub IsSameLocal : Local → Local → Vertex → Type 0

@@ -1,10 +1,7 @@
 //! The links from one vertex to another.
-ghost use Rattle.std.specs.Prelude.{◌≡◌, ◌<◌, ◌++◌, ◌∷◌, [], if◌then◌else◌, eqb, length, map as list_map, List, OnOk, IsOk, IfOk};
-ghost use Rattle.std.specs.List.{dedup};
+ghost use Rattle.std.specs.Prelude.{◌≡◌, ◌<◌, length, OnOk, IsOk, IfOk};
 ghost use Rattle.ospf_types.specs.declared.label.Label.TheVariants.{At};
-ghost use Rattle.graph_links.specs.Pairs.{Adds, AddsOver, AreAllAt, AreCheap, IsOnto, IsPairLink, KeepsApart, is_last, link_by, plain_ways};
-ghost use Rattle.graph_links.specs.declared.end.End.{End as EndValue};
-ghost use Rattle.graph_links.specs.declared.link.Link.{Link as LinkValue};
+ghost use Rattle.graph_links.specs.Pairs.{AddsBetween, AddsBy, AddsOnce, AddsOnto, AddsOver, AddsPlain, AreCheap, KeepsApart, details_of, link_by};
 
 use crate::end::End;
 use crate::label::LinkLabel;
@@ -46,9 +43,11 @@ pub(crate) fn push_links(
     to: Facing<'_>,
     links: &mut Vec<Link>,
 ) -> Result<(), Memory>
-    ensures pushed { (ends back : List EndValue) → AreAllAt to.entry.vertex ends from.entry.ends.now → AreAllAt from.entry.vertex back to.entry.ends.now → OnOk result (Adds links.old.items links.new.items (λ (l : LinkValue). (l.from ≡ from.entry.vertex) × (l.to ≡ to.entry.vertex) × IsPairLink local.entry.root local.entry.interfaces.now from.entry.vertex ends to.entry.vertex back l.cost l.label)) }
+    ensures pushed { OnOk result
+        (AddsBetween local.entry from.entry to.entry links.old.items links.new.items) }
     ensures cheap { OnOk result (AreCheap links.old.items → AreCheap links.new.items) }
-    ensures apart { OnOk result (KeepsApart from.entry.vertex to.entry.vertex links.old.items links.new.items) }
+    ensures apart { OnOk result
+        (KeepsApart from.entry.vertex to.entry.vertex links.old.items links.new.items) }
 {
     let places = Places {
         from: from.place,
@@ -72,7 +71,8 @@ fn push_from_router(
     places: Places,
     links: &mut Vec<Link>,
 ) -> Result<(), Memory>
-    ensures pushed { OnOk result (AddsOver local.entry.root local.entry.interfaces.now router ends.now to links.old.items links.new.items) }
+    ensures pushed { OnOk result
+        (AddsOver local.entry router ends.now to links.old.items links.new.items) }
     ensures cheap { OnOk result (AreCheap links.old.items → AreCheap links.new.items) }
 {
     match ends {
@@ -92,7 +92,8 @@ fn push_over_ends(
     places: Places,
     links: &mut Vec<Link>,
 ) -> Result<(), Memory>
-    ensures pushed { OnOk result (AddsOver local.entry.root local.entry.interfaces.now router ends.now to links.old.items links.new.items) }
+    ensures pushed { OnOk result
+        (AddsOver local.entry router ends.now to links.old.items links.new.items) }
     ensures cheap { OnOk result (AreCheap links.old.items → AreCheap links.new.items) }
 {
     let ways = ways_over(alloc, local, router, ends)?;
@@ -107,7 +108,7 @@ fn push_over_end(
     end: End,
     links: &mut Vec<Link>,
 ) -> Result<(), Memory>
-    ensures pushed { OnOk result (links.new.items ≡ links.old.items ++ list_map (link_by router to) (plain_ways end)) }
+    ensures pushed { OnOk result (AddsPlain router to end links.old.items links.new.items) }
     ensures cheap { OnOk result (AreCheap links.old.items → AreCheap links.new.items) }
 {
     if end.metric == 0 {
@@ -129,7 +130,7 @@ fn push_ways(
     ways: &[Way],
     links: &mut Vec<Link>,
 ) -> Result<(), Memory>
-    ensures pushed { OnOk result (links.new.items ≡ links.old.items ++ list_map (link_by router to) ways.now) }
+    ensures pushed { OnOk result (AddsBy router to ways.now links.old.items links.new.items) }
     ensures cheap { OnOk result (AreCheap links.old.items → AreCheap links.new.items) }
 {
     for way in ways {
@@ -168,22 +169,25 @@ fn push_from_network(
     places: Places,
     links: &mut Vec<Link>,
 ) -> Result<(), Memory>
-    ensures pushed { (back : List EndValue) → AreAllAt (Vertex.Network network) back to.entry.ends.now → OnOk result (Adds links.old.items links.new.items (IsOnto network to.entry.vertex back)) }
+    ensures pushed { OnOk result (AddsOnto network to.entry links.old.items links.new.items) }
     ensures cheap { OnOk result (AreCheap links.old.items → AreCheap links.new.items) }
-    ensures apart { OnOk result (KeepsApart (Vertex.Network network) to.entry.vertex links.old.items links.new.items) }
+    ensures apart { OnOk result
+        (KeepsApart (Vertex.Network network) to.entry.vertex links.old.items links.new.items) }
 {
     let Vertex::Router(_) = to.vertex else {
         return Ok(());
     };
     let label = label_onto(alloc, to.ends)?;
     let from = Vertex::Network(network);
+    // A.4.3: the distance from a network to its routers is zero.
     links.push(link(from, to.vertex, places, 0, label))?;
     Ok(())
 }
 
 /// The label of a link of a network to a router that has these ends there. Mostly it has one.
+/// 16.1.1: the Link Data of each link back to the network is the address of a next hop.
 fn label_onto(alloc: Global, ends: &[End]) -> Result<LinkLabel, Memory>
-    ensures label { IfOk result (λ label. label ≡ At (dedup eqb (list_map (λ (e : EndValue). e.detail) ends.now))) }
+    ensures label { IfOk result (λ label. label ≡ At (details_of ends.now)) }
 
     // One address takes no memory.
     ensures one { length ends.now ≡ 1 → IsOk result }
@@ -196,7 +200,7 @@ fn label_onto(alloc: Global, ends: &[End]) -> Result<LinkLabel, Memory>
 
 /// The Link Data of the ends, without what equals the one before it.
 fn each_once(alloc: Global, ends: &[End]) -> Result<Listed<u32>, Memory>
-    ensures { IfOk result (λ details. details ≡ dedup eqb (list_map (λ (e : EndValue). e.detail) ends.now)) }
+    ensures { IfOk result (λ details. details ≡ details_of ends.now) }
 {
     let mut details = Listed::new(alloc);
     let mut last = None;
@@ -209,7 +213,7 @@ fn each_once(alloc: Global, ends: &[End]) -> Result<Listed<u32>, Memory>
 
 /// Adds the Link Data unless it is what came last.
 fn push_once(details: &mut Listed<u32>, last: Option<u32>, detail: u32) -> Result<(), Memory>
-    ensures { OnOk result (details.new ≡ (if is_last last detail then details.old else details.old ++ detail ∷ [])) }
+    ensures { OnOk result (AddsOnce last detail details.old details.new) }
 {
     if last == Some(detail) {
         return Ok(());

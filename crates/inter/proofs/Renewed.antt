@@ -10,7 +10,7 @@ use Rattle.ospf_types.specs.declared.key.Dest.{Dest}
 use Rattle.ospf_types.specs.Keys.{dest_cmp}
 use Rattle.ospf_types.proofs.Elements.{no_element}
 use Rattle.offer_index.specs.Indexes.{OfferIndexValue}
-use Rattle.result_map.specs.Renewing.{AreRenewed}
+use Rattle.result_map.specs.Updating.{AreUpdated}
 use Rattle.result_map.specs.Results.{Results}
 use Rattle.inter.specs.Choosing.{IsChosenFor}
 use Rattle.inter.specs.Inputs.{InterInputsValue}
@@ -25,7 +25,7 @@ same_dests : (ds : List Dest) → map (λ (d : Dest). d) ds ++ [] ≡ ds
 same_dests ds = append-nil (map (λ (d : Dest). d) ds) ∙ map-id ds
 
 module _ (v : InterInputsValue) (i : OfferIndexValue) (was : EntriesByDest) (old new : Results Dest Entry) (start : entries_of old ≡ was) (keys before after : List Dest)
-    (renewed : AreRenewed dest_cmp (IsChosenFor v i) (λ (d : Dest). d) old new keys before after) where
+    (renewed : AreUpdated dest_cmp (IsChosenFor v i) (λ (d : Dest). d) old new keys before after) where
   -- just the entries at these destinations
   pub chosen_of : (dests : List Dest) → keys ≡ dests → AreChosen v i was (entries_of new) dests
   chosen_of dests same = record {

@@ -13,7 +13,7 @@ use Rattle.vertex_graph.specs.Graphs.{GraphValue, LinksOf, AreLinksFrom}
 use Rattle.spf.specs.Changes.{link_value}
 use Rattle.spf.specs.Parts.{LinksBefore, AreLost, hops_of}
 use Rattle.spf.specs.TreeValues.{TreeValue, IsTreeBefore, IsBegun, blank_value}
-use Rattle.spf.proofs.Renewed.{graph_links}
+use Rattle.spf.proofs.CarriedOut.{graph_links}
 
 -- nothing has a distance
 pub unset : (v : Vertex) (d : ℕ) → get blank_value.distances v ≡ Some d → ⊥

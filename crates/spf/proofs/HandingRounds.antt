@@ -80,7 +80,7 @@ taken_wider g moved stale written wider v widens (inl m) = inl m
 taken_wider g moved stale written wider v widens (inr (inl s)) = inr (inl s)
 taken_wider g moved stale written wider v widens (inr (inr w)) = inr (inr (w.0, w.1, w.2, w.3, widens w.0 w.4))
 
--- the same vertices and the same root under other names
+-- vertices and root under other names
 pub put_named : (distance : Vertex → Option ℕ) (root other : ℕ) (xs ys : List Vertex) (before after : Vertex → Option ℕ) → root ≡ other → xs ≡ ys → ArePut distance (IsOfSome xs (IsReachedAt root distance)) before after → ArePut distance (IsOfSome ys (IsReachedAt other distance)) before after
 put_named distance root other xs ys before after same_root same p =
     subst (λ (r : ℕ). ArePut distance (IsOfSome ys (IsReachedAt r distance)) before after) same_root (subst (λ (vs : List Vertex). ArePut distance (IsOfSome vs (IsReachedAt root distance)) before after) same p)

@@ -31,7 +31,7 @@ use Rattle.spf.proofs.OfSome.{of_none, of_more, of_all}
 pub union_none : (old : List NextHop) (Given : NextHop → Type 0) → ((h : NextHop) → Given h → ⊥) → IsUnion old old Given
 union_none old Given none = record { union = λ h. (λ c. inl c, λ w. elim w [ inl c ↦ c | inr given ↦ absurd (none h given) ]) }
 
--- the same is given under another name
+-- what is given, under another name
 pub union_same : (old new : List NextHop) (P Q : NextHop → Type 0) → ((h : NextHop) → P h ↔ Q h) → IsUnion old new P → IsUnion old new Q
 union_same old new P Q same u = record {
   union = λ h. (
@@ -63,7 +63,7 @@ module _ {A : Type 0} (P : A → NextHop → Type 0) where
   union_more xs i x old mid new lt is before here =
       union_same old new (λ h. IsOfSome (take i xs) P h ⊎ P x h) (IsOfSome (take (i + 1) xs) P) (λ h. let m = of_more P xs i x h lt is in (m.1, m.0)) (union_both old mid new (IsOfSome (take i xs) P) (P x) before here)
 
-  -- the same, where an element is read with a default
+  -- one element more, where it is read with a default
   pub union_turn : (xs : List A) (i : ℕ) (d : A) (old mid new : List NextHop) → i < length xs → IsUnion old mid (IsOfSome (take i xs) P) → IsUnion mid new (P (get_or xs i d)) → IsUnion old new (IsOfSome (take (i + 1) xs) P)
   union_turn xs i d old mid new lt before here = union_more xs i (get_or xs i d) old mid new lt (get_or_default xs i d (get_or xs i d) lt) before here
 

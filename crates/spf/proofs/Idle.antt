@@ -14,7 +14,7 @@ use Rattle.spf.specs.Parts.{HadRoot, LinksBefore, AreLost, AreNeared, AreSettled
 use Rattle.spf.specs.Repairs.{Between}
 use Rattle.spf.specs.TreeValues.{TreeValue, IsTreeBefore}
 use Rattle.spf.proofs.LostVertices.{leads_more}
-use Rattle.spf.proofs.Renewed.{graph_links, distances_after}
+use Rattle.spf.proofs.CarriedOut.{graph_links, distances_after}
 use Rattle.spf.proofs.SameLinks.{hop_same}
 use Rattle.spf.proofs.Values.{within_path}
 
@@ -105,7 +105,7 @@ module _ {g : GraphValue} {t : TreeValue} (u : TreeValue) {lost stale wider move
   no_work : (length moved + count ≡ 0) × (length written ≡ 0)
   no_work = (omega (arith, no_elements moved none_moved, no_elements s.taken none_taken, s.count), no_elements written none_written)
 
--- The same of lists that are empty.
+-- A repair is idle where the lists are empty.
 pub idle : {g : GraphValue} (gone come : List Link) {t : TreeValue} (u : TreeValue) {lost stale wider moved written : List Vertex} {count : ℕ} → IsTreeBefore g gone come t → AreLost g gone come (get t.distances) lost stale
     → AreNeared g come (get t.distances) (get u.distances) lost stale wider moved → AreSettled g (get u.distances) (hops_of t.hops) (hops_of u.hops) lost moved wider written count
     → gone ≡ [] → come ≡ [] → (length moved + count ≡ 0) × (length written ≡ 0)

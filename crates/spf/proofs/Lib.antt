@@ -34,7 +34,7 @@ pub mod HopRounds
 pub mod HandingRounds
 pub mod Falling
 pub mod Suspecting
-pub mod Renewed
+pub mod CarriedOut
 pub mod Idle
 pub mod Blank
 pub mod Caller

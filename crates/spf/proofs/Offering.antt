@@ -136,7 +136,7 @@ made_both {queue = queue} {more = more} a b either from_first from_second = reco
   ];
 }
 
--- the same offers, said in another way
+-- equal offers, said in another way
 pub made_same : {first all : Offers} {distance queue more : Vertex → Option ℕ} {stale wider : List Vertex}
     → AreMade first distance queue more stale wider → ((v : Vertex) (e : ℕ) → all v e → first v e) → ((v : Vertex) (e : ℕ) → first v e → all v e) → AreMade all distance queue more stale wider
 made_same a into from = record {

@@ -112,7 +112,7 @@ told_both First Then All lost stale wide wider suspects some more split first th
   apart = λ apart. b.apart (a.apart apart);
 }
 
--- as many, said otherwise
+-- the count, said otherwise
 told_same : (A B : Vertex → Type 0) (lost stale wider suspects more : List Vertex) → ((v : Vertex) → A v → B v) → ((v : Vertex) → B v → A v)
     → AreToldOf A lost stale wider suspects more → AreToldOf B lost stale wider suspects more
 told_same A B lost stale wider suspects more to from a = record {

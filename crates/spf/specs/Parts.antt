@@ -10,6 +10,7 @@ use Rattle.vertex_graph.specs.Link.{Link}
 use Rattle.vertex_graph.specs.Graphs.{GraphValue, LinksOf, HasRoot}
 use Rattle.tree_parts.specs.Maps.{DistanceMap, HopMap}
 use Rattle.tree_parts.specs.Members.{HasNoDoubles}
+use Rattle.spf.specs.declared.lose_support.Losses.{Losses}
 use Rattle.spf.specs.Changes.{Among, Earlier}
 use Rattle.spf.specs.Loops.{AreLosing, AreNearing, IsReached}
 use Rattle.spf.specs.Repairs.{AreHeld, IsReset}
@@ -31,11 +32,19 @@ HadRoot root old = old (Router root) ≡ Some 0
 abbrev pub LinksBefore : GraphValue → List Link → List Link → Links
 LinksBefore g gone come = Earlier (LinksOf g) gone come
 
+-- each of these is a link of the graph
+abbrev pub AreLinksOfGraph : GraphValue → List Link → Type 0
+AreLinksOfGraph g links = (l : Link) → Contains links l → LinksOf g l.from l.to l.cost l.label
+
 -- The distances are right for the links before, and what came are links after.
 pub record IsBefore (g : GraphValue) (gone come : List Link) (old : Vertex → Option ℕ) : Type 0 where
   pub links : AreLinks (LinksBefore g gone come) g.root (HadRoot g.root old)
   pub distances : AreDistances (LinksBefore g gone come) g.root (HadRoot g.root old) old
   pub came : (l : Link) → Contains come l → LinksOf g l.from l.to l.cost l.label
+
+-- the distances are right for the links before those that went and came
+abbrev pub AreBefore : GraphValue → List Link → List Link → DistanceMap → Type 0
+AreBefore g gone come distances = IsBefore g gone come (get distances)
 
 -- ---- who loses its distance
 
@@ -50,6 +59,10 @@ pub record AreLost (g : GraphValue) (gone come : List Link) (old : Vertex → Op
   pub losing : AreLosing (LinksBefore g gone come) (LinksOf g) (Among gone) g.root (HadRoot g.root old) (HasRoot g) old lost [] stale
   pub why : (v : Vertex) → Contains stale v → IsStaleBy g gone lost v
 
+-- what the links that went and came take from these distances
+abbrev pub AreLostBy : GraphValue → List Link → List Link → DistanceMap → Losses → Type 0
+AreLostBy g gone come distances losses = AreLost g gone come (get distances) losses.lost losses.stale
+
 -- ---- the distances after
 
 -- A vertex from which the search starts, at this distance: the root, or one that was reached and is not lost. It is what `Starts` of the proofs says.
@@ -62,6 +75,14 @@ pub record AreStarted (after come : Links) (root : ℕ) (has_root : Type 0) (old
   pub reached : (v : Vertex) → Contains lost v → IsReached root old v
   pub fair : (from to : Vertex) (cost : ℕ) (label : Label) (d : ℕ) → after from to cost label → to ≢ Router root → StartsAt root has_root old lost from d
       → come from to cost label ⊎ (Contains lost to ⊎ IsWithin (old to) (d + cost))
+
+-- the second part starts from these distances, without what is lost
+abbrev pub AreReadyToRelax : GraphValue → List Link → DistanceMap → List Vertex → Type 0
+AreReadyToRelax g come distances lost = AreStarted (LinksOf g) (Among come) g.root (HasRoot g) (get distances) lost
+
+-- the distances from which those after are sought in the graph
+abbrev pub AreReset : GraphValue → DistanceMap → List Vertex → DistanceMap → Type 0
+AreReset g old lost new = IsReset g.root (HasRoot g) (get old) lost (get new)
 
 -- why a vertex is stale after the second part: it was before, it is the head of a link that came, or of a link out of a vertex that moved
 abbrev pub IsStaleNow : GraphValue → List Link → List Vertex → List Vertex → Vertex → Type 0
@@ -79,6 +100,10 @@ pub record AreNeared (g : GraphValue) (come : List Link) (old distance : Vertex 
   pub widens : (v : Vertex) → Contains stale v → Contains wider v
   pub why : (v : Vertex) → Contains wider v → IsStaleNow g come stale moved v
 
+-- the second part leads from the old distances to the new ones, with the losses before and after, and what it moved
+abbrev pub IsRelaxed : GraphValue → List Link → DistanceMap → DistanceMap → Losses → Losses → List Vertex → Type 0
+IsRelaxed g come old new before after moved = AreNeared g come (get old) (get new) before.lost before.stale after.stale moved
+
 -- ---- the next hops after
 
 -- What the third part starts from: the distances are right; what is neither moved nor stale has the next hops that its least links give it; only what is lost may have next hops though it is not reached.
@@ -88,6 +113,10 @@ pub record AreUnsettled (g : GraphValue) (distance : Vertex → Option ℕ) (hop
       → (Contains moved to ⊎ Contains stale to) ⊎ ((h : NextHop) → hops to h ↔ IsGiven (LinksOf g) g.root distance hops to h)
   pub root : (h : NextHop) → hops (Router g.root) h → ⊥
   pub blank : (v : Vertex) (h : NextHop) → distance v ≡ None → hops v h → Contains lost v
+
+-- the third part starts from these distances and next hops, with what is lost, what is stale and what was moved
+abbrev pub AreReadyToUpdate : GraphValue → DistanceMap → HopMap → Losses → List Vertex → Type 0
+AreReadyToUpdate g distances hops losses moved = AreUnsettled g (get distances) (hops_of hops) losses.lost moved losses.stale
 
 -- why a vertex is taken in the third part: it moved, it is stale, or it is the head of a link out of one whose next hops were written
 abbrev pub IsTakenBy : GraphValue → List Vertex → List Vertex → List Vertex → Vertex → Type 0
@@ -111,3 +140,8 @@ pub record AreSettled (g : GraphValue) (distance : Vertex → Option ℕ) (befor
       ⊎ (Contains taken v × (((h : NextHop) → now v h ↔ before v h) → ⊥))
   pub lost_written : (v : Vertex) → Contains lost v → distance v ≡ None → Contains written v
   pub unwritten : (v : Vertex) → (Contains written v → ⊥) → (h : NextHop) → now v h ↔ before v h
+
+-- the third part leads from the old next hops to the new ones, where so many vertices were taken and these were written
+abbrev pub AreSettledIn : GraphValue → DistanceMap → HopMap → HopMap → Losses → List Vertex → List Vertex → ℕ → Type 0
+AreSettledIn g distances old new losses moved written taken_count =
+    AreSettled g (get distances) (hops_of old) (hops_of new) losses.lost moved losses.stale written taken_count

@@ -1,13 +1,10 @@
 //! What the least links into a vertex give it, of the next hops of their tails (RFC 2328, 16.1.1).
-ghost use Rattle.std.specs.Prelude.{◌≡◌, ◌↔◌, ◌⊎◌, ℕ, IfSome, IfNone, IsTrue, IfOk, OnOk, Contains, Some, option_copied, option_to_list};
+ghost use Rattle.std.specs.Prelude.{◌≡◌, ◌↔◌, IfSome, IfNone, IsTrue, IfOk, OnOk, Some, option_copied, option_to_list};
 ghost use Rattle.std.specs.FinMap as map;
 ghost use Rattle.ospf_types.specs.Distances.{FirstOnly};
-ghost use Rattle.ospf_types.specs.declared.hop.NextHop.{NextHop as Hop};
-ghost use Rattle.vertex_graph.specs.Graphs.{LinksOf, AreLinksTo};
-ghost use Rattle.spf.specs.HandedOn.{IsOfSome, IsLeastLink, IsGivenOver, IsHandedOn, IsUnion};
-ghost use Rattle.spf.specs.Parts.{hops_of};
-ghost use Rattle.spf.specs.TreeValues.{listed_hops};
-ghost use Rattle.spf.specs.Trees.{IsGiven, HandsOn, first_hops};
+ghost use Rattle.vertex_graph.specs.Graphs.{AreLinksTo};
+ghost use Rattle.spf.specs.HandedOn.{AreGiven, AreUnited, HasDirect, HaveSameHops, IsHandedOn, IsLeastLink, IsOfSome, IsUnion, IsUnionOver};
+ghost use Rattle.spf.specs.Trees.{HandsOn, first_hops};
 
 use crate::places::is_at_root;
 use hop_sets::HopSet;
@@ -31,7 +28,7 @@ pub(crate) fn gather(
 ) -> Result<HopSet, Memory>
     requires far { map.get distances.now vertex.now ≡ Some far }
     requires links { AreLinksTo graph.now vertex.now links.now }
-    ensures { IfOk result (λ set. (h : Hop) → Contains set h ↔ IsGiven (LinksOf graph.now) graph.now.root (map.get distances.now) (hops_of hops.now) vertex.now h) }
+    ensures { IfOk result (AreGiven graph.now distances.now hops.now vertex.now) }
 {
     let root = graph.root();
     let mut set = HopSet::new(alloc);
@@ -43,7 +40,7 @@ pub(crate) fn gather(
 
 /// Whether both are the same next hops.
 pub(crate) fn are_same(before: Option<&HopSet>, after: &HopSet) -> bool
-    ensures { IsTrue result ↔ ((h : Hop) → Contains (listed_hops (option_copied before.entry)) h ↔ Contains after.now h) }
+    ensures { IsTrue result ↔ HaveSameHops (option_copied before.entry) after.now }
 {
     match before {
         Some(before) => before.as_slice() == after.as_slice(),
@@ -61,11 +58,12 @@ fn add_given(
     set: &mut HopSet,
 ) -> Result<(), Memory>
     requires { map.get distances.now link.now.to ≡ Some far }
-    ensures { OnOk result (IsUnion set.old set.new (IsGivenOver root (map.get distances.now) (hops_of hops.now) link.now)) }
+    ensures { OnOk result (IsUnionOver root distances.now hops.now link.now set.old set.new) }
 {
     if !is_least(distances, link, far) {
         return Ok(());
     }
+    // 16.1.1: out of the root the interface of the link, else what the tail has.
     if is_at_root(root, &link.from) {
         return add_first(link.to.vertex(), &link.label, set);
     }
@@ -123,7 +121,7 @@ fn add_handed_on(tail: &HopSet, label: &LinkLabel, set: &mut HopSet) -> Result<(
 
 // Adds all of these next hops. Most often they are the first.
 fn unite(tail: &HopSet, set: &mut HopSet) -> Result<(), Memory>
-    ensures { OnOk result ((h : Hop) → Contains set.new h ↔ (Contains set.old h ⊎ Contains tail.now h)) }
+    ensures { OnOk result (AreUnited set.old tail.now set.new) }
 {
     if set.is_empty() {
         *set = tail.copy()?;
@@ -133,7 +131,7 @@ fn unite(tail: &HopSet, set: &mut HopSet) -> Result<(), Memory>
 }
 
 fn has_direct(hops: &[NextHop]) -> bool
-    ensures { IsTrue result ↔ ((interface : ℕ) × Contains hops.now (NextHop.Direct interface)) }
+    ensures { IsTrue result ↔ HasDirect hops.now }
 {
     hops.iter().any(|hop| matches!(hop, NextHop::Direct(_)))
 }
@@ -143,6 +141,7 @@ fn add_handed(hop: NextHop, label: &LinkLabel, set: &mut HopSet) -> Result<(), M
     ensures { OnOk result (IsUnion set.old set.new (HandsOn hop label.now)) }
 {
     match hop {
+        // 16.1.1: behind a network that is attached to the root, the router's address on that network.
         NextHop::Direct(interface) => add_addresses(interface, label, set),
         NextHop::Peer(_) | NextHop::Router(_, _) => set.put(hop),
     }

@@ -1,11 +1,11 @@
-ghost use Rattle.std.specs.Prelude.{◌≡◌, ◌<◌, [], true, OnOk, OnErr, IfOk, IfSome};
+ghost use Rattle.std.specs.Prelude.{◌≡◌, ◌<◌, [], OnOk, OnErr, IfOk, IfSome};
 ghost use Rattle.std.specs.FinMap as map;
 ghost use Rattle.std.specs.List.Sorted.{IsStrictlySortedBy};
 ghost use Rattle.ospf_types.specs.Hops.{hop_cmp};
 ghost use Rattle.tree_parts.specs.Maps.{most_distance};
-ghost use Rattle.spf.specs.TreeValues.{IsTreeOf, IsTreeBefore, AreChanged, AreOthersKept, IsBounded, IsWorkDone, IsWorkForAll, listed_hops};
+ghost use Rattle.spf.specs.TreeValues.{AreChanged, AreOthersKept, IsBoundedBy, IsBuildWork, IsIdleUnless, IsRepairWork, IsTreeBefore, IsTreeOf, at_rest, listed_hops, spent_value};
 
-use crate::losing::lose;
+use crate::lose_support::lose_support;
 use crate::places::{root_of, tail_of};
 use crate::workspace::Workspace;
 use ospf_types::entry::Vertex;
@@ -70,7 +70,7 @@ impl Tree {
     ) -> Result<(Tree, Touched), Memory>
         ensures tree { IfOk result (λ built. IsTreeOf graph.now built.0) }
         ensures changed { IfOk result (λ built. built.0.changed ≡ []) }
-        ensures work { IfOk result (λ built. IsWorkForAll graph.now built.0 built.1.taken built.1.hop_sets) }
+        ensures work { IfOk result (λ built. IsBuildWork graph.now built.0 built.1) }
     {
         let hashing = WordHash::new(hashing);
         let mut distances = Distances::with_room(alloc, hashing, graph.len())?;
@@ -79,7 +79,14 @@ impl Tree {
         let root = Vertex::Router(graph.root());
         let came = graph.links_from(root);
         let root = tail_of(came, root);
-        let touched = workspace.renew(alloc, graph, &root, came, &mut distances, &mut hops)?;
+        let touched = workspace.update_distances_and_hops(
+            alloc,
+            graph,
+            &root,
+            came,
+            &mut distances,
+            &mut hops,
+        )?;
         let tree = Tree {
             distances,
             hops,
@@ -92,8 +99,8 @@ impl Tree {
         Ok((tree, touched))
     }
 
-    /// Brings a tree that is right for the links before to those of the graph, and answers the work. Where memory
-    /// is refused, the tree is spent: it answers nothing, and only `build` makes another.
+    /// Brings a tree that is right for the links before to those of the graph, and answers the work. If memory
+    /// runs out, the tree is spent: it answers nothing, and only `build` makes another.
     pub fn repair(
         &mut self,
         alloc: Global,
@@ -104,10 +111,11 @@ impl Tree {
         ensures tree { OnOk result (IsTreeOf graph.now self.new) }
         ensures changed { OnOk result (AreChanged self.old self.new self.new.changed) }
         ensures others { OnOk result (AreOthersKept self.old self.new) }
-        ensures bounded { IfOk result (λ touched. IsBounded graph.now changes.now.gone.items changes.now.came.items self.old touched.taken touched.hop_sets) }
-        ensures idle { IfOk result (λ touched. changes.now.gone.items ≡ [] → changes.now.came.items ≡ [] → touched ≡ record { taken = 0; hop_sets = 0 }) }
-        ensures work { IfOk result (λ touched. IsWorkDone graph.now self.old self.new touched.taken touched.hop_sets) }
-        ensures spent { OnErr result (self.new ≡ record { distances = map.empty; hops = map.empty; changed = []; spent = true }) }
+        ensures bounded { IfOk result (IsBoundedBy graph.now
+            changes.now.gone.items changes.now.came.items self.old) }
+        ensures idle { IfOk result (IsIdleUnless changes.now.gone.items changes.now.came.items) }
+        ensures work { IfOk result (IsRepairWork graph.now self.old self.new) }
+        ensures spent { OnErr result (self.new ≡ spent_value) }
     {
         self.trim(graph);
         let repaired = self.repair_parts(alloc, graph, changes);
@@ -120,7 +128,7 @@ impl Tree {
 
     /// Says that no link went or came: no vertex changed.
     pub fn rest(&mut self)
-        ensures { self.new ≡ record { distances = self.old.distances; hops = self.old.hops; changed = []; spent = self.old.spent } }
+        ensures { self.new ≡ at_rest self.old }
     {
         self.changed.clear();
     }
@@ -164,7 +172,7 @@ impl Tree {
         }
     }
 
-    /// Whether a repair was refused memory. A spent tree may not be repaired.
+    /// Whether memory ran out in a repair. A spent tree may not be repaired.
     pub fn spent(&self) -> bool
         ensures { result ≡ self.now.spent }
     {
@@ -192,11 +200,12 @@ impl Tree {
         ensures tree { OnOk result (IsTreeOf graph.now self.new) }
         ensures changed { OnOk result (AreChanged self.old self.new self.new.changed) }
         ensures others { OnOk result (AreOthersKept self.old self.new) }
-        ensures bounded { IfOk result (λ touched. IsBounded graph.now changes.now.gone.items changes.now.came.items self.old touched.taken touched.hop_sets) }
-        ensures idle { IfOk result (λ touched. changes.now.gone.items ≡ [] → changes.now.came.items ≡ [] → touched ≡ record { taken = 0; hop_sets = 0 }) }
-        ensures work { IfOk result (λ touched. IsWorkDone graph.now self.old self.new touched.taken touched.hop_sets) }
+        ensures bounded { IfOk result (IsBoundedBy graph.now
+            changes.now.gone.items changes.now.came.items self.old) }
+        ensures idle { IfOk result (IsIdleUnless changes.now.gone.items changes.now.came.items) }
+        ensures work { IfOk result (IsRepairWork graph.now self.old self.new) }
     {
-        lose(graph, changes, &self.distances, &mut self.workspace.search)?;
+        lose_support(graph, changes, &self.distances, &mut self.workspace.search)?;
         self.root = root_of(graph, &self.root);
         remember(
             &self.distances,
@@ -204,7 +213,7 @@ impl Tree {
             self.workspace.search.losses.lost.as_slice(),
             &mut self.workspace.remembered,
         )?;
-        let touched = self.workspace.renew(
+        let touched = self.workspace.update_distances_and_hops(
             alloc,
             graph,
             &self.root,
@@ -236,7 +245,7 @@ impl Tree {
 
     // Takes all out of the tree.
     fn spend(&mut self)
-        ensures { self.new ≡ record { distances = map.empty; hops = map.empty; changed = []; spent = true } }
+        ensures { self.new ≡ spent_value }
     {
         self.distances.clear();
         self.hops.clear();

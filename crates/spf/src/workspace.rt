@@ -1,13 +1,12 @@
 //! What a repair finds on its way.
-ghost use Rattle.std.specs.Prelude.{◌≡◌, [], List, OnOk, IfOk};
+ghost use Rattle.std.specs.Prelude.{◌≡◌, [], OnOk, IfOk};
 ghost use Rattle.std.specs.FinMap as map;
-ghost use Rattle.vertex_graph.specs.Link.{Link as LinkValue};
 ghost use Rattle.tree_parts.specs.Maps.{AreHopsInOrder};
-ghost use Rattle.spf.specs.TreeValues.{IsBegun, IsRenewed, tree_of};
+ghost use Rattle.spf.specs.TreeValues.{ComesTo, IsBegunWith, tree_of};
 
-use crate::handing::hand;
-use crate::losing::Search;
-use crate::nearing::near;
+use crate::lose_support::Search;
+use crate::relax::relax;
+use crate::update_next_hops::update_next_hops;
 use ospf_types::memory::Memory;
 use std::alloc::Global;
 use tree_parts::{Distances, HopColumns, Listing, Touched, VertexList};
@@ -63,8 +62,9 @@ impl Workspace {
         }
     }
 
-    /// The second and the third part of a repair, once it is known what is lost. The root is looked for at the place.
-    pub(crate) fn renew(
+    /// Brings distances and next hops to those after, once it is known what is lost: the second and the third part of a
+    /// repair. The root is looked for at the place.
+    pub(crate) fn update_distances_and_hops(
         &mut self,
         alloc: Global,
         graph: &Graph,
@@ -73,8 +73,10 @@ impl Workspace {
         distances: &mut Distances,
         hops: &mut HopColumns,
     ) -> Result<Touched, Memory>
-        requires begun { (gone : List LinkValue) × IsBegun graph.now gone came.now (tree_of distances.old hops.old) self.old.search.losses.lost self.old.search.losses.stale }
-        ensures renewed { IfOk result (λ touched. IsRenewed graph.now came.now (tree_of distances.old hops.old) (tree_of distances.new hops.new) self.old.search.losses.lost self.old.search.losses.stale self.new.moved self.new.written touched.taken touched.hop_sets) }
+        requires begun { IsBegunWith graph.now came.now
+            (tree_of distances.old hops.old) self.old.search.losses }
+        ensures carried_out { IfOk result (ComesTo graph.now came.now
+            (tree_of distances.old hops.old) (tree_of distances.new hops.new) self.old self.new) }
         ensures lost { OnOk result (self.new.search.losses.lost ≡ self.old.search.losses.lost) }
         ensures remembered { self.new.remembered ≡ self.old.remembered }
         ensures were_in_order { AreHopsInOrder hops.old }
@@ -82,9 +84,9 @@ impl Workspace {
     {
         let _ = hops.len();
         let mut touched = Touched::none();
-        // proof: nothing waits, as a tree is not repaired once it was refused memory.
+        // proof: nothing waits, as a tree is not repaired once memory ran out.
         empty(&mut self.queue);
-        near(
+        relax(
             graph,
             place,
             came,
@@ -94,7 +96,7 @@ impl Workspace {
             &mut self.moved,
             &mut touched,
         )?;
-        hand(
+        update_next_hops(
             alloc,
             graph,
             distances,

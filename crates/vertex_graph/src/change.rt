@@ -2,8 +2,9 @@
 ghost use Rattle.std.specs.Prelude.{◌≡◌, ◌≢◌, ℕ, List, OnOk, OnErr, IfOk};
 ghost use Rattle.std.specs.List.{AllPairs};
 ghost use Rattle.graph_links.specs.Pairs.{AreApart};
-ghost use Rattle.graph_links.specs.Sides.{AreMissing, AreRowsBy, IsChanged, IsInOrder, IsPlaced, LinksBy, ends_after, row_ends};
+ghost use Rattle.graph_links.specs.Sides.{AreRowsBy, IsInOrder, IsPlaced, ends_after};
 ghost use Rattle.graph_links.specs.declared.link.Up.{Up as UpValue};
+ghost use Rattle.vertex_graph.specs.Changes.{ChangesRows, NamesCome, NamesGone};
 
 use crate::staging::Staging;
 use graph_links::{LinkChanges, Local, Room, Rows, Side, changed_links, fresh_rows, place};
@@ -22,12 +23,10 @@ pub(crate) fn change(
     requires once { AllPairs (λ v w. v ≢ w) staging.now.touched.items }
     requires before { (root : ℕ) × (ups : List UpValue) × AreRowsBy root ups rows.old.entries }
     requires after { IsInOrder (ends_after rows.old.entries staging.now.ends.entries) }
-    ensures changed { OnOk result (IsChanged (ends_after rows.old.entries staging.now.ends.entries)
-        (LinksBy is.entry.root is.entry.interfaces.now (ends_after rows.old.entries staging.now.ends.entries)) staging.now.touched.items rows.old.entries rows.new.entries) }
-    ensures gone { IfOk result (λ changes. (root : ℕ) (ups : List UpValue) → AreRowsBy root ups rows.old.entries → AreMissing staging.now.touched.items (LinksBy root ups (row_ends rows.old.entries))
-        (LinksBy is.entry.root is.entry.interfaces.now (ends_after rows.old.entries staging.now.ends.entries)) changes.gone.items) }
-    ensures came { IfOk result (λ changes. (root : ℕ) (ups : List UpValue) → AreRowsBy root ups rows.old.entries → AreMissing staging.now.touched.items (LinksBy is.entry.root is.entry.interfaces.now (ends_after rows.old.entries staging.now.ends.entries))
-        (LinksBy root ups (row_ends rows.old.entries)) changes.came.items) }
+    ensures changed { OnOk result
+        (ChangesRows is.entry staging.now rows.old.entries rows.new.entries) }
+    ensures gone { IfOk result (NamesGone rows.old.entries is.entry staging.now) }
+    ensures came { IfOk result (NamesCome rows.old.entries is.entry staging.now) }
     ensures gone_once { IfOk result (λ changes. AreApart changes.gone.items) }
     ensures came_once { IfOk result (λ changes. AreApart changes.came.items) }
     ensures unchanged { OnErr result (rows.new.entries ≡ rows.old.entries) }

@@ -7,14 +7,14 @@ use Rattle.ospf_types.proofs.Elements.{no_element}
 use Rattle.ospf_types.specs.declared.key.Dest.TheVariants.{Net}
 use Rattle.ospf_types.specs.declared.key.Key.{Key}
 use Rattle.offer_index.specs.Indexes.{IsInGroup}
-use Rattle.offer_index.specs.declared.group.Group.TheVariants.{To}
+use Rattle.offer_index.specs.declared.lsa_group.LsaGroup.TheVariants.{To}
 use Rattle.external.proofs.ExternalOffers.{takes_keys}
 use Rattle.external.proofs.choose.offer_network.Goals as goal
 
 pub returns : goal.returns
 returns c =
     let all : (k : Key) → Contains c.as_slice.result.now k ↔ IsInGroup c.args.index.now (To (Net c.args.network)) k = (λ k.
-    let pushed = c.in_ok-push_keys.ensures.exact k in (
+    let pushed = c.in_ok-list_keys.ensures.exact k in (
       λ h. ⊎_elim
           (λ (old : Contains c.new-keys.result.items k). absurd (no_element k (subst (λ (ks : List Key). Contains ks k) c.new-keys.ensures.items old)))
           (λ (member : IsInGroup c.args.index.now (To (Net c.args.network)) k). member)

@@ -1,6 +1,6 @@
 -- So far what is grouped by those up to here is led to.
 use Rattle.std.proofs.Common.{take}
-use Rattle.offer_index.specs.declared.group.Group.TheVariants.{By}
+use Rattle.offer_index.specs.declared.lsa_group.LsaGroup.TheVariants.{By}
 use Rattle.external.specs.Renewing.{AreLed}
 use Rattle.external.proofs.renew.push_by.Given as goal
 

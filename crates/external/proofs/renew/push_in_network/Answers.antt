@@ -8,6 +8,6 @@ returns c =
     on_ok_weaker c.push_no_longer.result
     (λ pushed a w. pushed a (elim w [
       | inl there ↦ inl there
-      | inr reached ↦ inr (rw c.as_slice.ensures.value ((c.in_ok-push_addresses.ensures a).1 (inr reached.0)), reached.1)
+      | inr reached ↦ inr (rw c.as_slice.ensures.value ((c.in_ok-list_addresses.ensures a).1 (inr reached.0)), reached.1)
     ]))
     c.push_no_longer.ensures

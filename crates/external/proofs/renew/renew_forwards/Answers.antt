@@ -12,15 +12,15 @@ use Rattle.external.specs.Renewing.{IsAddressDue}
 use Rattle.external.proofs.Renewed.{each_renewed, numbers_named}
 use Rattle.external.proofs.renew.renew_forwards.Goals as goal
 
-pub renew_all-requires : goal.renew_all-requires
-renew_all-requires c = subst (IsStrictlySortedBy nat_cmp) (sym c.as_slice.ensures.value) c.in_ok-due.ensures.in_order
+pub update_each-requires : goal.update_each-requires
+update_each-requires c = subst (IsStrictlySortedBy nat_cmp) (sym c.as_slice.ensures.value) c.in_ok-due.ensures.in_order
 
 pub returns-clause-exact : goal.returns-clause-exact
 returns-clause-exact c =
-    numbers_named nat_cmp (λ (a : ℕ) (fresh : Option ForwardValue). IsForwardIn c.args.by.now.inputs.now c.args.by.now.index.now a fresh) c.args.forwards.now c.renew_all.new.self c.as_slice.result.now c.new-moved.result.items c.renew_all.new.named.items c.in_ok-renew_all.ensures c.new-moved.ensures.items
+    numbers_named nat_cmp (λ (a : ℕ) (fresh : Option ForwardValue). IsForwardIn c.args.by.now.inputs.now c.args.by.now.index.now a fresh) c.args.forwards.now c.update_each.new.self c.as_slice.result.now c.new-moved.result.items c.update_each.new.named.items c.in_ok-update_each.ensures c.new-moved.ensures.items
 
 pub returns-clause-renewed : goal.returns-clause-renewed
 returns-clause-renewed c =
-    each_renewed nat_cmp (λ (a : ℕ) (fresh : Option ForwardValue). IsForwardIn c.args.by.now.inputs.now c.args.by.now.index.now a fresh) (λ (a : ℕ). a) c.args.forwards.now c.renew_all.new.self c.as_slice.result.now c.new-moved.result.items c.renew_all.new.named.items c.in_ok-renew_all.ensures nat_cmp_total exact_unsigned
+    each_renewed nat_cmp (λ (a : ℕ) (fresh : Option ForwardValue). IsForwardIn c.args.by.now.inputs.now c.args.by.now.index.now a fresh) (λ (a : ℕ). a) c.args.forwards.now c.update_each.new.self c.as_slice.result.now c.new-moved.result.items c.update_each.new.named.items c.in_ok-update_each.ensures nat_cmp_total exact_unsigned
     (λ (a : ℕ). IsAddressDue c.args.dests.now c.args.addresses.items c.args.by.now.index.now (from_entries c.args.forwards.now.entries) a)
     (λ a due. subst (λ (ns : List ℕ). Contains ns a) (sym c.as_slice.ensures.value) (c.in_ok-due.ensures.all a due))

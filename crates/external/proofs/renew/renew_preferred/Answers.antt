@@ -16,25 +16,25 @@ use Rattle.external.proofs.renew.renew_preferred.Goals as goal
 abbrev IsChosenBy : ExternalInputsValue → ℕ → Option PreferredValue → Type 0
 IsChosenBy v r fresh = IsPreferredFor (RouterOffers v r) fresh
 
-pub renew_all-requires : goal.renew_all-requires
-renew_all-requires c =
+pub update_each-requires : goal.update_each-requires
+update_each-requires c =
     subst (IsStrictlySortedBy nat_cmp) (sym c.as_slice.ensures.value)
     (strictly nat_cmp_total exact_unsigned numbers_order c.push_routers.new.routers.items c.sort_unstable.new.self.items c.dedup.new.self.items c.sort_unstable.ensures.permutation c.sort_unstable.ensures.sorted c.dedup.ensures.filtered)
 
 pub returns-clause-in_order : goal.returns-clause-in_order
 returns-clause-in_order c =
-    numbers_sorted nat_cmp (IsChosenBy c.args.inputs.now) c.args.preferred.now c.renew_all.new.self c.as_slice.result.now c.new-changed.result.items c.renew_all.new.named.items c.in_ok-renew_all.ensures c.new-changed.ensures.items nat_cmp
+    numbers_sorted nat_cmp (IsChosenBy c.args.inputs.now) c.args.preferred.now c.update_each.new.self c.as_slice.result.now c.new-changed.result.items c.update_each.new.named.items c.in_ok-update_each.ensures c.new-changed.ensures.items nat_cmp
     (subst (IsStrictlySortedBy nat_cmp) (sym c.as_slice.ensures.value)
     (strictly nat_cmp_total exact_unsigned numbers_order c.push_routers.new.routers.items c.sort_unstable.new.self.items c.dedup.new.self.items c.sort_unstable.ensures.permutation c.sort_unstable.ensures.sorted c.dedup.ensures.filtered))
 
 pub returns-clause-exact : goal.returns-clause-exact
 returns-clause-exact c =
-    numbers_named nat_cmp (IsChosenBy c.args.inputs.now) c.args.preferred.now c.renew_all.new.self c.as_slice.result.now c.new-changed.result.items c.renew_all.new.named.items c.in_ok-renew_all.ensures c.new-changed.ensures.items
+    numbers_named nat_cmp (IsChosenBy c.args.inputs.now) c.args.preferred.now c.update_each.new.self c.as_slice.result.now c.new-changed.result.items c.update_each.new.named.items c.in_ok-update_each.ensures c.new-changed.ensures.items
 
 pub returns-clause-renewed : goal.returns-clause-renewed
 returns-clause-renewed c =
     let all = c.push_routers.new.routers.items in
     let same = same_items nat_cmp_total exact_unsigned numbers_order all c.sort_unstable.new.self.items c.dedup.new.self.items c.sort_unstable.ensures.permutation c.sort_unstable.ensures.sorted c.dedup.ensures.filtered in
-    each_renewed nat_cmp (IsChosenBy c.args.inputs.now) (λ (r : ℕ). r) c.args.preferred.now c.renew_all.new.self c.as_slice.result.now c.new-changed.result.items c.renew_all.new.named.items c.in_ok-renew_all.ensures nat_cmp_total exact_unsigned
+    each_renewed nat_cmp (IsChosenBy c.args.inputs.now) (λ (r : ℕ). r) c.args.preferred.now c.update_each.new.self c.as_slice.result.now c.new-changed.result.items c.update_each.new.named.items c.in_ok-update_each.ensures nat_cmp_total exact_unsigned
     (λ (r : ℕ). Contains c.args.dests.now (Router r))
     (λ r named. subst (λ (rs : List ℕ). Contains rs r) (sym c.as_slice.ensures.value) ((same r).1 (c.in_ok-push_routers.ensures.all r named)))

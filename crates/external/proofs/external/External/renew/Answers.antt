@@ -8,8 +8,8 @@ use Rattle.ospf_types.specs.declared.key.Dest.{Dest}
 use Rattle.ospf_types.specs.declared.key.Dest.TheVariants.{Router}
 use Rattle.ospf_types.specs.Keys.{dest_cmp}
 use Rattle.intra.specs.Intras.{EntriesByPrefix}
-use Rattle.offer_index.specs.declared.group.Group.TheVariants.{By, Forwarded}
-use Rattle.offer_index.specs.Indexes.{AffectedValue}
+use Rattle.offer_index.specs.declared.lsa_group.LsaGroup.TheVariants.{By, Forwarded}
+use Rattle.offer_index.specs.Indexes.{ChangedOffersValue}
 use Rattle.external.specs.Changes.{DiffersAt}
 use Rattle.external.specs.Externals.{ExternalValue}
 use Rattle.external.specs.Forwards.{ForwardsByAddress}
@@ -23,7 +23,7 @@ pub returns : goal.returns
 returns c =
     let v = c.args.inputs.now in
     let dests = c.args.dests.now in
-    let affected : AffectedValue = record { dests = c.affected.inside.dests.items; addresses = c.affected.inside.addresses.items } in
+    let affected : ChangedOffersValue = record { dests = c.affected.inside.dests.items; addresses = c.affected.inside.addresses.items } in
     let old : ExternalValue = the_view c.self.inside in
     let preferred : PreferredByRouter = from_entries c.renew_preferred.new.preferred.entries in
     let forwards : ForwardsByAddress = from_entries c.renew_forwards.new.forwards.entries in
@@ -33,7 +33,7 @@ returns c =
     let by_routers = c.push_by.new.dests.items in
     let led = c.push_forwarded.new.dests.items in
     let named = c.in_ok-named.named.items in
-    let stands : StandsBut v dests affected old = subst (λ (w : ExternalValue). StandsBut v dests affected w) (sym c.self.view_is) (subst (λ (a : AffectedValue). StandsBut v dests a c.args.self.now) (sym c.affected.view_is) c.requires) in
+    let stands : StandsBut v dests affected old = subst (λ (w : ExternalValue). StandsBut v dests affected w) (sym c.self.view_is) (subst (λ (a : ChangedOffersValue). StandsBut v dests a c.args.self.now) (sym c.affected.view_is) c.requires) in
     let first = subst (λ (ns : List ℕ). AreLed old.index By ns affected.dests by_routers) c.as_slice.ensures.value c.in_ok-push_by.ensures in
     let second = subst (λ (ns : List ℕ). AreLed old.index Forwarded ns by_routers led) c.as_slice-2.ensures.value c.in_ok-push_forwarded.ensures in
     let leading = c.push_led.new.leading.items in
