@@ -112,7 +112,7 @@ fn withstands<R: Wait>(rt: &R, engine: &Engine, known: Known, events: Vec<Event>
 }
 
 #[test]
-fn where_a_growth_may_be_refused(rt: HostRuntime) -> Result<(), Fail> {
+fn where_memory_may_be_refused(rt: HostRuntime) -> Result<(), Fail> {
     let (config, mut events) = events_of(rt.alloc(), BORDER)?;
     let (scope, lsa) = (BACKBONE, read(rt.alloc(), &SUMMARY)?);
     events.push(Event::Install { scope, lsa })?;
