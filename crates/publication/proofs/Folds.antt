@@ -65,8 +65,8 @@ nothing_leads items = record { given = given; others = λ p. others p (get items
     others p (Some i) is = inr (subst (λ (o : Option Item). Contains (all_of items) (p, o)) (sym is) (mapped_element (λ (e : Network × Item). (e.0, Some e.1)) (entries items) (p, i) (value_at items p i network_exact is)))
 
 -- one more of the networks that are left
-pub laid_one : (before after all : List Update) (c : Network × Option Item) (left : List (Network × Option Item)) → before ++ gifts (c ∷ left) ≡ all → after ≡ before ++ gifts (c ∷ []) → after ++ gifts left ≡ all
-laid_one before after all c left whole is = ap (λ (us : List Update). us ++ gifts left) is ∙ append_assoc before (gifts (c ∷ [])) (gifts left) ∙ whole
+pub appended_one : (before after all : List Update) (c : Network × Option Item) (left : List (Network × Option Item)) → before ++ gifts (c ∷ left) ≡ all → after ≡ before ++ gifts (c ∷ []) → after ++ gifts left ≡ all
+appended_one before after all c left whole is = ap (λ (us : List Update). us ++ gifts left) is ∙ append_assoc before (gifts (c ∷ [])) (gifts left) ∙ whole
 
 -- a whole table, after whatever is pending
 pub gives_whole : (f : ShownState) (pending : List Update) (t : TableValue) (line : Line) → IsTableFor f.base line.list t → IsRightState line f.base (fold updated f (pending ++ whole t line))

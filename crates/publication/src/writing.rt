@@ -17,7 +17,7 @@ use std::alloc::Global;
 use std::sync::Wait;
 
 // Appends the serial of a list, and the list.
-fn lay_end(writer: &mut ShownWriter, serial: u64, front: &HistoryPrefix) -> bool
+fn append_end(writer: &mut ShownWriter, serial: u64, front: &HistoryPrefix) -> bool
     ensures desk { writer.new.desk ≡ writer.old.desk }
     ensures pending { IsTrue result → AreAppended (ends serial front.now)
         (drop writer.old.behind writer.old.log.items)
@@ -33,7 +33,7 @@ fn lay_end(writer: &mut ShownWriter, serial: u64, front: &HistoryPrefix) -> bool
 }
 
 // Appends that the network has this item.
-fn lay_item(writer: &mut ShownWriter, alloc: Global, prefix: Prefix, item: &Item) -> bool
+fn append_item(writer: &mut ShownWriter, alloc: Global, prefix: Prefix, item: &Item) -> bool
     ensures desk { writer.new.desk ≡ writer.old.desk }
     ensures pending { IsTrue result → AreAppended (gifts ((prefix, Some item.now) ∷ []))
         (drop writer.old.behind writer.old.log.items)
@@ -46,14 +46,14 @@ fn lay_item(writer: &mut ShownWriter, alloc: Global, prefix: Prefix, item: &Item
 }
 
 // Appends each network's item.
-fn lay_items(writer: &mut ShownWriter, alloc: Global, table: &Table) -> bool
+fn append_items(writer: &mut ShownWriter, alloc: Global, table: &Table) -> bool
     ensures desk { writer.new.desk ≡ writer.old.desk }
     ensures pending { IsTrue result → AreAppended (gifts (all_of table.now.items))
         (drop writer.old.behind writer.old.log.items)
         (drop writer.new.behind writer.new.log.items) }
 {
     for (prefix, item) in table.items() {
-        if !lay_item(writer, alloc, prefix, item) {
+        if !append_item(writer, alloc, prefix, item) {
             return false;
         }
     }
@@ -61,7 +61,7 @@ fn lay_items(writer: &mut ShownWriter, alloc: Global, table: &Table) -> bool
 }
 
 // Appends that the table is emptied and has these items, and the list that they are right for.
-fn lay_whole(writer: &mut ShownWriter, alloc: Global, table: &Table, front: &HistoryPrefix) -> bool
+fn append_whole(writer: &mut ShownWriter, alloc: Global, table: &Table, front: &HistoryPrefix) -> bool
     ensures desk { writer.new.desk ≡ writer.old.desk }
     ensures pending { IsTrue result → AreAppended (whole table.now front.now)
         (drop writer.old.behind writer.old.log.items)
@@ -70,11 +70,11 @@ fn lay_whole(writer: &mut ShownWriter, alloc: Global, table: &Table, front: &His
     if writer.append(Update::Change(Change::Clear)).is_err() {
         return false;
     }
-    lay_items(writer, alloc, table) && lay_end(writer, table.serial(), front)
+    append_items(writer, alloc, table) && append_end(writer, table.serial(), front)
 }
 
 // Appends what the network has in the table, or that it has nothing.
-fn lay_network(writer: &mut ShownWriter, prefix: Prefix, table: &Table) -> bool
+fn append_network(writer: &mut ShownWriter, prefix: Prefix, table: &Table) -> bool
     ensures desk { writer.new.desk ≡ writer.old.desk }
     ensures pending { IsTrue result → AreAppended
         (gifts ((prefix, get table.now.items prefix) ∷ []))
@@ -88,14 +88,14 @@ fn lay_network(writer: &mut ShownWriter, prefix: Prefix, table: &Table) -> bool
 }
 
 // Appends what these networks have in the table.
-fn lay_networks(writer: &mut ShownWriter, networks: &[Prefix], table: &Table) -> bool
+fn append_networks(writer: &mut ShownWriter, networks: &[Prefix], table: &Table) -> bool
     ensures desk { writer.new.desk ≡ writer.old.desk }
     ensures pending { IsTrue result → AreAppended (gifts (those_of table.now.items networks.now))
         (drop writer.old.behind writer.old.log.items)
         (drop writer.new.behind writer.new.log.items) }
 {
     for network in networks {
-        if !lay_network(writer, *network, table) {
+        if !append_network(writer, *network, table) {
             return false;
         }
     }
@@ -103,7 +103,7 @@ fn lay_networks(writer: &mut ShownWriter, networks: &[Prefix], table: &Table) ->
 }
 
 // Appends one change for each of these networks, and the list that the table is right for.
-fn lay_changes(
+fn append_changes(
     writer: &mut ShownWriter,
     networks: &[Prefix],
     table: &Table,
@@ -114,13 +114,13 @@ fn lay_changes(
         (drop writer.old.behind writer.old.log.items)
         (drop writer.new.behind writer.new.log.items) }
 {
-    lay_networks(writer, networks, table) && lay_end(writer, table.serial(), front)
+    append_networks(writer, networks, table) && append_end(writer, table.serial(), front)
 }
 
 // Publishes what is pending. The answer is false where it was refused, and then readers see what they saw.
 fn publish<R: Wait>(rt: &R, writer: ShownWriter, front: &HistoryPrefix) -> (ShownWriter, bool)
     requires history { front.now.book ≡ writer.desk.shown.value.front.book }
-    requires laid { IsRightState front.now writer.desk.shown.value.base
+    requires appended { IsRightState front.now writer.desk.shown.value.base
         (fold updated (shown_state_of writer.desk.shown.value) (drop writer.behind writer.log.items)) }
     requires grows { IsPrefix writer.desk.shown.value.front.list front.now.list }
     ensures name { name_of result.0.desk.shown.value ≡ name_of writer.desk.shown.value }
@@ -158,7 +158,7 @@ pub fn show<R: Wait>(
     let mut writer = writer;
     history.look(&writer.published().front);
     let front = history.front();
-    if !lay_whole(&mut writer, alloc, table, &front) {
+    if !append_whole(&mut writer, alloc, table, &front) {
         return (writer, false);
     }
     publish(rt, writer, &front)
@@ -189,7 +189,7 @@ pub fn show_changes<R: Wait>(
     let mut writer = writer;
     history.look(&writer.published().front);
     let front = history.front();
-    if !lay_changes(&mut writer, networks, table, &front) {
+    if !append_changes(&mut writer, networks, table, &front) {
         return (writer, false);
     }
     publish(rt, writer, &front)

@@ -1,6 +1,6 @@
 use Rattle.std.proofs.Common.{◌≡◌, ◌++◌, drop}
 use Rattle.publication.specs.Updates.{gifts, those_of}
-use Rattle.publication.proofs.writing.lay_networks.Given as goal
+use Rattle.publication.proofs.writing.append_networks.Given as goal
 
 abbrev pub invariant-loop-network : goal.invariant-loop-network
 invariant-loop-network l =

@@ -1,6 +1,6 @@
 use Rattle.std.proofs.Common.{◌≡◌, ◌++◌, map, drop, Some}
 use Rattle.publication.specs.Updates.{gifts, all_of}
-use Rattle.publication.proofs.writing.lay_items.Given as goal
+use Rattle.publication.proofs.writing.append_items.Given as goal
 
 abbrev pub invariant-loop-prefix : goal.invariant-loop-prefix
 invariant-loop-prefix l =
