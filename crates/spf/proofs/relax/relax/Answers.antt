@@ -4,7 +4,7 @@ use Rattle.std.proofs.lemmas.List.{length_push}
 use Rattle.std.proofs.lemmas.List.Elements.{Contains-get_or}
 use Rattle.vertex_graph.specs.Link.{Link}
 use Rattle.spf.proofs.GraphVertices.{fits}
-use Rattle.spf.proofs.Nearest.{AreSought, sought_at_start, sought_more, unmoved, neared_at_end, moved_most, taken_right, fewer_left}
+use Rattle.spf.proofs.Nearest.{AreSought, sought_at_start, sought_more, unmoved, relax_leaves, moved_most, taken_right, fewer_left}
 use Rattle.spf.proofs.relax.relax.Goals as goal
 
 pub offer_reached-requires : goal.offer_reached-requires
@@ -57,4 +57,4 @@ loop-vertex-preserved c = record {
 
 pub returns-clause-relaxed : goal.returns-clause-relaxed
 returns-clause-relaxed c =
-    neared_at_end c.args.graph.now c.args.came.now c.args.losses.now.lost c.as_slice.result.now c.reset.new.distances c.loop-vertex.distances c.loop-vertex.queue c.as_slice.ensures.value c.in_ok-reset.ensures c.in_default.ensures.none c.loop-vertex.invariant.sought
+    relax_leaves c.args.graph.now c.args.came.now c.args.losses.now.lost c.as_slice.result.now c.reset.new.distances c.loop-vertex.distances c.loop-vertex.queue c.as_slice.ensures.value c.in_ok-reset.ensures c.in_default.ensures.none c.loop-vertex.invariant.sought

@@ -5,7 +5,7 @@ use Rattle.tree_parts.specs.declared.touched.Touched.{Touched}
 use Rattle.spf.specs.HandedOn.{AreBlanked}
 use Rattle.spf.specs.Parts.{AreSettled, hops_of}
 use Rattle.spf.proofs.OptionCases.{of_absent}
-use Rattle.spf.proofs.HandingRounds.{put_named, amidst_start, not_written_yet, amidst_round, taken_few, taken_fewer, amidst_end}
+use Rattle.spf.proofs.UpdateNextHopsRounds.{put_named, amidst_start, not_written_yet, amidst_round, taken_few, taken_fewer, amidst_end}
 use Rattle.spf.proofs.update_next_hops.update_next_hops.Goals as goal
 
 pub loop-vertex-init : goal.loop-vertex-init
@@ -21,7 +21,7 @@ pub take-requires : goal.take-requires
 take-requires c = omega (arith, taken_few c.args.distances.now c.loop-vertex.invariant, c.len.ensures.small, c.len.ensures.value, c.requires.fits, c.in_ok-blank.ensures.taken)
 
 pub settle-requires-clause-at : goal.settle-requires-clause-at
-settle-requires-clause-at c = (c.loop-vertex.invariant.handing.queued c.in-Some.vertex c.in-Some.distance c.in-Some.ensures.first.waits).0
+settle-requires-clause-at c = (c.loop-vertex.invariant.updating.queued c.in-Some.vertex c.in-Some.distance c.in-Some.ensures.first.waits).0
 
 pub settle-requires-clause-fresh : goal.settle-requires-clause-fresh
 settle-requires-clause-fresh c = not_written_yet c.loop-vertex.invariant c.in-Some.vertex c.in-Some.distance c.in-Some.ensures.first.waits

@@ -1,4 +1,4 @@
--- The third loop of a repair: its invariant holds in each round, and gives the next hops at the end.
+-- Updating next hops: the invariant of the loop holds in each round, and gives the next hops at the end.
 use Rattle.std.proofs.Common.{◌≡◌, ◌≢◌, ℕ, ◌+◌, ◌≤◌, List, [], Option, Some, None, refl, sym, subst, ◌∙◌, inl, inr, arith, ◌⊎◌}
 use Rattle.std.specs.Prelude.{◌↔◌}
 use Rattle.std.specs.List.{Contains}
@@ -11,16 +11,16 @@ use Rattle.tree_parts.specs.Members.{IsAdded}
 use Rattle.tree_parts.proofs.Elements.{cases_vertex}
 use Rattle.spf.specs.Trees.{AreLinks, AreDistances, IsTree, IsLeast}
 use Rattle.spf.specs.Repairs.{IsQueued, IsEmptyQueue, AreRightOrQueued}
-use Rattle.spf.specs.Loops.{IsReached, AreHanding, IsPutAgain, IsHanded}
+use Rattle.spf.specs.Loops.{IsReached, AreUpdatingNextHops, IsPutAgain, IsUpdated}
 use Rattle.ospf_types.proofs.Elements.{no_element}
 use Rattle.spf.proofs.Hops.{hops_everywhere}
 use Rattle.spf.proofs.QueuedDistances.{forward_at_start, forward_taken}
 use Rattle.spf.proofs.WrittenSets.{least_elsewhere, none_again, right_written, unions_at_end}
 
 -- at the start nothing was taken or written
-pub handing_start : {link : Links} {root : ℕ} (distance queue : Vertex → Option ℕ) (now : Vertex → NextHop → Type 0) → AreRightOrQueued link root distance queue now
-    → ((v : Vertex) (k : ℕ) → queue v ≡ Some k → (distance v ≡ Some k) × (v ≢ Router root)) → AreHanding link root distance queue now now [] []
-handing_start distance queue now right queued = record {
+pub update_next_hops_start : {link : Links} {root : ℕ} (distance queue : Vertex → Option ℕ) (now : Vertex → NextHop → Type 0) → AreRightOrQueued link root distance queue now
+    → ((v : Vertex) (k : ℕ) → queue v ≡ Some k → (distance v ≡ Some k) × (v ≢ Router root)) → AreUpdatingNextHops link root distance queue now now [] []
+update_next_hops_start distance queue now right queued = record {
   right = right;
   forward = forward_at_start distance queue;
   queued = queued;
@@ -32,24 +32,24 @@ handing_start distance queue now right queued = record {
 }
 
 module _ {link : Links} {root : ℕ} {distance queue : Vertex → Option ℕ} {sets now : Vertex → NextHop → Type 0} {taken written : List Vertex}
-    (n : AreHanding link root distance queue sets now taken written) where
+    (n : AreUpdatingNextHops link root distance queue sets now taken written) where
   -- the set of what was not taken stays
-  pub untouched : (v : Vertex) → (Contains taken v → ⊥) → (h : NextHop) → now v h ↔ sets v h
-  untouched v none = n.unwritten v (λ c. none (n.within v c))
+  pub kept_until_taken : (v : Vertex) → (Contains taken v → ⊥) → (h : NextHop) → now v h ↔ sets v h
+  kept_until_taken v none = n.unwritten v (λ c. none (n.within v c))
 
   -- with nothing queued, and no next hops at the root and at what is not reached, the tree is that of the links
-  pub handing_end : {has_root : Type 0} → AreLinks link root has_root → AreDistances link root has_root distance → IsEmptyQueue queue
+  pub update_next_hops_end : {has_root : Type 0} → AreLinks link root has_root → AreDistances link root has_root distance → IsEmptyQueue queue
       → ((h : NextHop) → sets (Router root) h → ⊥) → ((to : Vertex) → distance to ≡ None → (h : NextHop) → sets to h → ⊥)
       → IsTree link root has_root distance now
-  handing_end links are none blank_root blank = record {
+  update_next_hops_end links are none blank_root blank = record {
     distances = are;
     right = hops_everywhere links distance now are (unions_at_end distance queue now none n.right)
-        (λ h x. blank_root h ((untouched (Router root) (λ c. (n.reached (Router root) c).other refl) h).0 x))
-        (λ to is h x. blank to is h ((untouched to (λ c. let differ : Some (n.reached to c).number ≡ None = sym (n.reached to c).at ∙ is in cc) h).0 x));
+        (λ h x. blank_root h ((kept_until_taken (Router root) (λ c. (n.reached (Router root) c).other refl) h).0 x))
+        (λ to is h x. blank to is h ((kept_until_taken to (λ c. let differ : Some (n.reached to c).number ≡ None = sym (n.reached to c).at ∙ is in cc) h).0 x));
   }
 
   module _ {has_root : Type 0} (links : AreLinks link root has_root) (more : Vertex → Option ℕ) (new : Vertex → NextHop → Type 0) (all wider : List Vertex) (v : Vertex) (k : ℕ)
-      (t : IsHanded link root distance queue more now new written wider v k) (added : IsAdded taken all v) where
+      (t : IsUpdated link root distance queue more now new written wider v k) (added : IsAdded taken all v) where
     -- the vertex that is taken is queued at its distance
     at_v : (distance v ≡ Some k) × (v ≢ Router root)
     at_v = n.queued v k t.waits
@@ -89,8 +89,8 @@ module _ {link : Links} {root : ℕ} {distance queue : Vertex → Option ℕ} {s
     ]
 
     -- each round keeps the invariant
-    pub handing_taken : AreHanding link root distance more sets new all wider
-    handing_taken = record {
+    pub update_next_hops_taken : AreUpdatingNextHops link root distance more sets new all wider
+    update_next_hops_taken = record {
       right = right_written links distance queue more now new v n.right t.keeps t.union t.elsewhere heads_queued;
       forward = forward_taken links distance queue distance more taken all v k n.forward t.waits (record { here = at_v.0; elsewhere = λ w other. refl }) t.least
           (λ w e at. elim (t.put w e at) [ inl was ↦ inl was.1 | inr p ↦ inr (later w e p.0) ])
@@ -109,7 +109,7 @@ module _ {link : Links} {root : ℕ} {distance queue : Vertex → Option ℕ} {s
       changed = λ w c same. elim (t.writes w c) [
         | inl was ↦ n.changed w was (λ h. let here = stays w (n.within w was) h in (λ x. (same h).0 (here.1 x), λ y. here.0 ((same h).1 y)))
         | inr is ↦ is.1 (λ h.
-            let was = untouched v (λ m. n.apart v k m t.waits) h in
+            let was = kept_until_taken v (λ m. n.apart v k m t.waits) h in
             let at = subst (λ u. new u h ↔ sets u h) is.0 (same h) in
             (λ x. was.1 (at.0 x), λ y. at.1 (was.0 y)))
       ];

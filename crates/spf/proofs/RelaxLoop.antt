@@ -1,4 +1,4 @@
--- The second loop of a repair: its invariant holds in each round, and gives the distances at the end.
+-- Relaxing: the invariant of the loop holds in each round, and gives the distances at the end.
 use Rattle.std.proofs.Common.{◌≡◌, ◌≢◌, ℕ, ◌+◌, List, [], Option, Some, sym, ap, subst, ◌∙◌, ◌⊎◌, inl, inr, arith}
 use Rattle.std.specs.List.{Contains}
 use Rattle.ospf_types.specs.declared.entry.Vertex.{Vertex}
@@ -10,7 +10,7 @@ use Rattle.tree_parts.proofs.Elements.{cases_contains, cases_vertex}
 use Rattle.spf.specs.Trees.{AreLinks, IsWithin, AreReal, AreDistances}
 use Rattle.spf.specs.Parts.{StartsAt, AreStarted}
 use Rattle.spf.specs.Repairs.{AreCome, IsReset, IsOffered, IsEmptyQueue}
-use Rattle.spf.specs.Loops.{AreLosing, IsOpened, AreNearing, IsPut, IsTaken}
+use Rattle.spf.specs.Loops.{AreLosingSupport, IsOpened, AreRelaxing, IsPut, IsTaken}
 use Rattle.spf.proofs.Values.{root_zero, distances_relaxed}
 use Rattle.ospf_types.proofs.Elements.{no_element}
 use Rattle.spf.proofs.QueuedDistances.{Starts, AsRoot, AsKept, starts, within_same, real_at_start, offer_real, forward_at_start, moved_at_start, queue_real, real_taken, fair_taken, forward_taken, none_nearer, moved_taken, distances_at_end}
@@ -27,8 +27,8 @@ module _ {after come : Links} {root : ℕ} {has_root : Type 0} {old start : Vert
   start_real = real_at_start flag reset links s.held
 
   -- With the queue open the search begins.
-  pub nearing_started : {queue : Vertex → Option ℕ} {stale : List Vertex} → IsOpened after come root lost start queue stale → AreNearing after come root has_root start start queue [] stale
-  nearing_started {queue} {stale} o = record {
+  pub relax_started : {queue : Vertex → Option ℕ} {stale : List Vertex} → IsOpened after come root lost start queue stale → AreRelaxing after come root has_root start start queue [] stale
+  relax_started {queue} {stale} o = record {
     rooted = reset.rooted;
     real = start_real;
     queued_real = record { real = λ to k at. offer_real start start_real to k (o.offered to k at) };
@@ -60,7 +60,7 @@ module _ {after come : Links} {root : ℕ} {has_root : Type 0} {old start : Vert
 
 -- Where nothing is suspected any more, the search may start.
 pub started : {before after gone come : Links} {root : ℕ} {had_root has_root : Type 0} {old start : Vertex → Option ℕ} {lost told : List Vertex}
-    → AreLinks before root had_root → AreDistances before root had_root old → AreCome before after come start → AreLosing before after gone root had_root has_root old lost [] told → IsReset root has_root old lost start
+    → AreLinks before root had_root → AreDistances before root had_root old → AreCome before after come start → AreLosingSupport before after gone root had_root has_root old lost [] told → IsReset root has_root old lost start
     → AreStarted after come root has_root old lost
 started {before = before} {root = root} {has_root = has_root} {old = old} {start = start} {lost = lost} links were changes l reset = record {
   held = l.held;
@@ -79,21 +79,21 @@ started {before = before} {root = root} {has_root = has_root} {old = old} {start
     over_old from to cost label d stood other (inr k) = (distances_relaxed were).relaxed from to cost label d stood other k.2
 
 -- and once the queue is open it has started
-pub nearing_start : {before after gone come : Links} {root : ℕ} {had_root has_root : Type 0} {old start queue : Vertex → Option ℕ} {lost stale told : List Vertex}
+pub relax_start : {before after gone come : Links} {root : ℕ} {had_root has_root : Type 0} {old start queue : Vertex → Option ℕ} {lost stale told : List Vertex}
     → AreLinks before root had_root → AreLinks after root has_root → has_root ⊎ (has_root → ⊥) → AreDistances before root had_root old → AreCome before after come start
-    → AreLosing before after gone root had_root has_root old lost [] told → IsReset root has_root old lost start → IsOpened after come root lost start queue stale
-    → AreNearing after come root has_root start start queue [] stale
-nearing_start links_before links flag were changes l reset o = nearing_started links flag (started links_before were changes l reset) reset o
+    → AreLosingSupport before after gone root had_root has_root old lost [] told → IsReset root has_root old lost start → IsOpened after come root lost start queue stale
+    → AreRelaxing after come root has_root start start queue [] stale
+relax_start links_before links flag were changes l reset o = relax_started links flag (started links_before were changes l reset) reset o
 
 module _ {after come : Links} {root : ℕ} {has_root : Type 0} {start distance queue : Vertex → Option ℕ} {moved stale : List Vertex}
-    (n : AreNearing after come root has_root start distance queue moved stale) where
+    (n : AreRelaxing after come root has_root start distance queue moved stale) where
   -- what is queued was not moved
   pub fresh : (v : Vertex) (k : ℕ) → queue v ≡ Some k → Contains moved v → ⊥
   fresh v k waits m = n.apart v k m waits
 
   -- with nothing queued the distances are those after
-  pub nearing_end : IsEmptyQueue queue → AreDistances after root has_root distance
-  nearing_end none = distances_at_end distance queue n.rooted none n.fair n.real
+  pub relax_end : IsEmptyQueue queue → AreDistances after root has_root distance
+  relax_end none = distances_at_end distance queue n.rooted none n.fair n.real
 
   module _ (links : AreLinks after root has_root) (new more : Vertex → Option ℕ) (all wider : List Vertex) (v : Vertex) (k : ℕ) (t : IsTaken after root distance queue new more stale wider v k) (added : IsAdded moved all v) where
     -- what is put is offered by the vertex that is taken
@@ -117,8 +117,8 @@ module _ {after come : Links} {root : ℕ} {has_root : Type 0} {start distance q
     ]
 
     -- each round keeps the invariant
-    pub nearing_taken : AreNearing after come root has_root start new more all wider
-    nearing_taken = record {
+    pub relax_taken : AreRelaxing after come root has_root start new more all wider
+    relax_taken = record {
       rooted = λ has. t.set.elsewhere (Router root) (λ same. n.other v k t.waits (sym same)) ∙ n.rooted has;
       real = new_real;
       queued_real = queue_real new queue more new_real n.queued_real (λ w e at. elim (t.put w e at) [ inl was ↦ inl was.1 | inr p ↦ inr (put_offered w e p) ]);

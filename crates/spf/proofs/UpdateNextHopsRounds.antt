@@ -1,4 +1,4 @@
--- The third part of a repair as a whole: how it starts, what each round keeps, and what it leaves.
+-- The update of next hops as a whole: how it starts, what each round keeps, and what it leaves.
 use Rattle.std.proofs.Common.{◌≡◌, ◌≢◌, ℕ, ◌+◌, ◌-◌, ◌≤◌, List, [], ◌∷◌, ◌++◌, length, true, false, cond, Option, Some, None, refl, sym, ap, subst, ◌∙◌, ◌⊎◌, inl, inr, arith, length-append, append_assoc, append-nil}
 use Rattle.std.specs.Prelude.{◌↔◌}
 use Rattle.std.specs.Ordering.{eq_by_cmp}
@@ -24,12 +24,12 @@ use Rattle.tree_parts.proofs.Counting.{no_longer, no_doubles_nil, no_doubles_pus
 use Rattle.tree_parts.proofs.Elements.{cases_contains, added_end, cases_vertex}
 use Rattle.tree_parts.proofs.VertexMaps.{gone_here, gone_elsewhere}
 use Rattle.spf.specs.HandedOn.{IsOfSome, ArePut, IsReachedAt, IsLeastHead, AreBlanked, IsSettled, IsAmidst}
-use Rattle.spf.specs.Loops.{IsHanded}
+use Rattle.spf.specs.Loops.{IsUpdated}
 use Rattle.spf.specs.Parts.{hops_of, AreUnsettled, IsTakenBy, AreSettled}
 use Rattle.spf.specs.Repairs.{IsQueued}
 use Rattle.spf.specs.Trees.{IsGiven, rank}
 use Rattle.spf.proofs.AreaLinks.{area_links}
-use Rattle.spf.proofs.HandingLoop.{handing_start, handing_taken, handing_end}
+use Rattle.spf.proofs.UpdateNextHopsLoop.{update_next_hops_start, update_next_hops_taken, update_next_hops_end}
 use Rattle.spf.proofs.QueuePuts.{put_both}
 use Rattle.spf.proofs.Settling.{given_more}
 
@@ -139,7 +139,7 @@ module _ {g : GraphValue} {distance : Vertex → Option ℕ} {old mid : HopMap} 
   amidst_start before between waiting start sets none counted first second = record {
     taken = [];
     set = [];
-    handing = handing_start distance (get waiting) (hops_of mid) (record {
+    updating = update_next_hops_start distance (get waiting) (hops_of mid) (record {
       right = λ to d at other. elim (u.right to d at other) [
         | inl (inl m) ↦ inl (put.all to (inl (to, m, (refl, record { number = d; at = at; other = other }))))
         | inl (inr s) ↦ inl (put.all to (inr (to, s, (refl, record { number = d; at = at; other = other }))))
@@ -175,25 +175,25 @@ module _ {g : GraphValue} {distance : Vertex → Option ℕ} {begun now : Vertex
     (a : IsAmidst g distance begun now waiting blanked moved stale written start number sets) where
   -- what was taken is reached
   taken_reached : (v : Vertex) → Contains a.taken v → (d : ℕ) × (distance v ≡ Some d)
-  taken_reached v c = let r = a.handing.reached v c in (r.number, r.at)
+  taken_reached v c = let r = a.updating.reached v c in (r.number, r.at)
 
   module _ (v : Vertex) (k : ℕ) (waits : get waiting v ≡ Some k) where
     -- a vertex that waits was not taken
     not_taken : Contains a.taken v → ⊥
-    not_taken c = a.handing.apart v k c waits
+    not_taken c = a.updating.apart v k c waits
 
     -- and not written
     pub not_written_yet : Contains written v → ⊥
     not_written_yet c = elim (Contains-append_cases blanked a.set v (subst (λ (vs : List Vertex). Contains vs v) a.whole c)) [
-      | inl blank ↦ let differ : Some k ≡ None = sym (a.handing.queued v k waits).0 ∙ a.unreached v blank in cc
-      | inr set ↦ not_taken (a.handing.within v set)
+      | inl blank ↦ let differ : Some k ≡ None = sym (a.updating.queued v k waits).0 ∙ a.unreached v blank in cc
+      | inr set ↦ not_taken (a.updating.within v set)
     ]
 
     -- with it, what was taken is reached, and nothing twice
     more_reached : (w : Vertex) → Contains (a.taken ++ v ∷ []) w → (d : ℕ) × (distance w ≡ Some d)
     more_reached w c = elim (Contains-push_cases a.taken v w c) [
       | inl was ↦ taken_reached w was
-      | inr same ↦ (k, ap distance (sym same) ∙ (a.handing.queued v k waits).0)
+      | inr same ↦ (k, ap distance (sym same) ∙ (a.updating.queued v k waits).0)
     ]
 
     more_apart : HasNoDoubles (a.taken ++ v ∷ [])
@@ -209,9 +209,9 @@ module _ {g : GraphValue} {distance : Vertex → Option ℕ} {begun now : Vertex
     waits_between w other waits = let still = still_waits waiting v w other waits in (still.0, ap (λ (q : Queue). get q w) out ∙ still.1)
 
     -- the set is written
-    handed_written : (((h : NextHop) → new v h ↔ now v h) → ⊥) → ArePut distance (IsLeastHead (LinksOf g) g.root distance v) (get between) (get more)
-        → IsHanded (LinksOf g) g.root distance (get waiting) (get more) now new a.set (a.set ++ v ∷ []) v k
-    handed_written other put = record {
+    updated_written : (((h : NextHop) → new v h ↔ now v h) → ⊥) → ArePut distance (IsLeastHead (LinksOf g) g.root distance v) (get between) (get more)
+        → IsUpdated (LinksOf g) g.root distance (get waiting) (get more) now new a.set (a.set ++ v ∷ []) v k
+    updated_written other put = record {
       waits = first.waits;
       least = λ w e at. least_of waiting v w k e first at;
       union = s.union;
@@ -227,8 +227,8 @@ module _ {g : GraphValue} {distance : Vertex → Option ℕ} {begun now : Vertex
     }
 
     -- or it stays
-    handed_same : ((h : NextHop) → new v h ↔ now v h) → more ≡ between → IsHanded (LinksOf g) g.root distance (get waiting) (get more) now new a.set a.set v k
-    handed_same same stays = record {
+    updated_same : ((h : NextHop) → new v h ↔ now v h) → more ≡ between → IsUpdated (LinksOf g) g.root distance (get waiting) (get more) now new a.set a.set v k
+    updated_same same stays = record {
       waits = first.waits;
       least = λ w e at. least_of waiting v w k e first at;
       union = s.union;
@@ -241,12 +241,12 @@ module _ {g : GraphValue} {distance : Vertex → Option ℕ} {begun now : Vertex
     }
 
     -- either way the round keeps what holds
-    round_with : (set : List Vertex) (taken_now written_now : ℕ) → IsHanded (LinksOf g) g.root distance (get waiting) (get more) now new a.set set v k → wider ≡ blanked ++ set → HasNoDoubles wider → taken_now ≡ number + 1 → written_now ≡ length wider
+    round_with : (set : List Vertex) (taken_now written_now : ℕ) → IsUpdated (LinksOf g) g.root distance (get waiting) (get more) now new a.set set v k → wider ≡ blanked ++ set → HasNoDoubles wider → taken_now ≡ number + 1 → written_now ≡ length wider
         → IsAmidst g distance begun new more blanked moved stale wider start taken_now written_now
     round_with set taken_now written_now t whole apart count counted = record {
       taken = a.taken ++ v ∷ [];
       set = set;
-      handing = handing_taken a.handing (area_links (graph_view g)) (get more) new (a.taken ++ v ∷ []) set v k t (added_end v a.taken);
+      updating = update_next_hops_taken a.updating (area_links (graph_view g)) (get more) new (a.taken ++ v ∷ []) set v k t (added_end v a.taken);
       whole = whole;
       unreached = a.unreached;
       apart = more_apart v k first.waits;
@@ -279,9 +279,9 @@ module _ {g : GraphValue} {distance : Vertex → Option ℕ} {begun now : Vertex
     -- Each round keeps what holds.
     pub amidst_round : (taken_now written_now : ℕ) → taken_now ≡ number + 1 → written_now ≡ length wider → IsAmidst g distance begun new more blanked moved stale wider start taken_now written_now
     amidst_round taken_now written_now count counted = elim s.outcome [
-      | inl w ↦ round_with (a.set ++ v ∷ []) taken_now written_now (handed_written w.1 w.2) (w.0 ∙ ap (λ (vs : List Vertex). vs ++ v ∷ []) a.whole ∙ append_assoc blanked a.set (v ∷ []))
+      | inl w ↦ round_with (a.set ++ v ∷ []) taken_now written_now (updated_written w.1 w.2) (w.0 ∙ ap (λ (vs : List Vertex). vs ++ v ∷ []) a.whole ∙ append_assoc blanked a.set (v ∷ []))
           (subst HasNoDoubles (sym w.0) (no_doubles_push written v a.written_apart (not_written_yet v k first.waits))) count counted
-      | inr w ↦ round_with a.set taken_now written_now (handed_same w.1 w.2) (w.0 ∙ a.whole) (subst HasNoDoubles (sym w.0) a.written_apart) count counted
+      | inr w ↦ round_with a.set taken_now written_now (updated_same w.1 w.2) (w.0 ∙ a.whole) (subst HasNoDoubles (sym w.0) a.written_apart) count counted
     ]
 
 -- ---- how long it goes on
@@ -313,12 +313,12 @@ module _ {g : GraphValue} {distance : Vertex → Option ℕ} {old mid : HopMap} 
   -- With nothing left waiting, the tree is that of the links.
   pub amidst_end : waiting ≡ empty → AreSettled g distance (hops_of old) now lost moved stale written (number - start)
   amidst_end none = record {
-    tree = handing_end a.handing (area_links (graph_view g)) u.distances (λ v. ap (λ (q : Queue). get q v) none ∙ get-empty {X = ℕ} vertex_cmp v) (blank_root u b) (blank_unreached u b);
+    tree = update_next_hops_end a.updating (area_links (graph_view g)) u.distances (λ v. ap (λ (q : Queue). get q v) none ∙ get-empty {X = ℕ} vertex_cmp v) (blank_root u b) (blank_unreached u b);
     taken = a.taken;
     count = omega (arith, a.count);
     taken_apart = a.apart;
     why = a.why_taken;
-    taken_reached = a.handing.reached;
+    taken_reached = a.updating.reached;
     moved_taken = λ v r m. elim (a.moved_taken v r m) [
       | inl c ↦ c
       | inr waits ↦ let differ : None ≡ Some waits.0 = sym (get-empty {X = ℕ} vertex_cmp v) ∙ ap (λ (q : Queue). get q v) (sym none) ∙ waits.1 in absurd cc
@@ -327,18 +327,18 @@ module _ {g : GraphValue} {distance : Vertex → Option ℕ} {old mid : HopMap} 
     written_for = λ v c. elim (blank_or_set v c) [
       | inl blank ↦ inl ((b.exact v).0 blank)
       | inr set ↦
-          let in_taken = a.handing.within v set in
-          let at = a.handing.reached v in_taken in
+          let in_taken = a.updating.within v set in
+          let at = a.updating.reached v in_taken in
           inr (
             in_taken,
-            λ same. a.handing.changed v set (λ h.
+            λ same. a.updating.changed v set (λ h.
                 let kept = kept_reached u b v at.number at.at h in
                 (λ x. kept.1 ((same h).0 x), λ y. (same h).1 (kept.0 y))),
           )
     ];
     lost_written = λ v c unreached. blank_written v ((b.exact v).1 (c, unreached));
     unwritten = λ v not_in h.
-        let here = a.handing.unwritten v (λ c. not_in (set_written v c)) h in
+        let here = a.updating.unwritten v (λ c. not_in (set_written v c)) h in
         let is : get mid v ≡ get old v = b.kept v (λ c. not_in (blank_written v c)) in
         (λ x. let y = here.0 x in (y.0, sym is ∙ y.1, y.2), λ y. here.1 (y.0, is ∙ y.1, y.2));
   }
