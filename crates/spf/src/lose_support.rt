@@ -171,14 +171,11 @@ impl Search {
         let Some(distance) = distances.get(suspect) else {
             return Ok(());
         };
-        if is_supported(
-            &mut self.stops,
-            graph,
-            &self.losses.lost,
+        let kept = Kept {
             distances,
-            suspect,
-            distance,
-        )? {
+            lost: &self.losses.lost,
+        };
+        if kept.is_supported(&mut self.stops, graph, suspect, distance)? {
             return Ok(());
         }
         self.losses.lost.push(suspect)?;
@@ -191,26 +188,62 @@ impl Search {
     }
 }
 
-// Whether a link into the vertex supports it at its distance. The search goes on where one for the vertex stopped, if
-// that passed over eight links or more. What that one passed over is read again only before the vertex is lost.
-fn is_supported(
-    stops: &mut VertexMap<usize>,
-    graph: &Graph,
-    lost: &Members,
-    distances: &Distances,
-    vertex: &Placed,
-    distance: u32,
-) -> Result<bool, Memory>
-    ensures { IfOk result (TellsSupport graph.now distances.now lost.now vertex.now distance) }
-{
-    let links = graph.links_into(vertex);
-    let start = start_of(stops, vertex).min(links.len());
-    let (passed, open) = links.split_at(start);
-    if let Some(place) = find_support(open, lost, distances, distance) {
-        note_stop(stops, vertex, start + place, place)?;
-        return Ok(true);
+// The vertices that keep their distance: those that were reached and are not lost.
+#[derive(Clone, Copy)]
+struct Kept<'a> {
+    distances: &'a Distances,
+    lost: &'a Members,
+}
+
+impl Kept<'_> {
+    // Whether a link into the vertex supports it at its distance. The search goes on where one for the vertex stopped,
+    // if that passed over eight links or more. What that one passed over is read again only before the vertex is lost.
+    fn is_supported(
+        self,
+        stops: &mut VertexMap<usize>,
+        graph: &Graph,
+        vertex: &Placed,
+        distance: u32,
+    ) -> Result<bool, Memory>
+        ensures { IfOk result (TellsSupport graph.now self.entry.distances.now self.entry.lost.now
+            vertex.now distance) }
+    {
+        let links = graph.links_into(vertex);
+        let start = start_of(stops, vertex).min(links.len());
+        let (passed, open) = links.split_at(start);
+        if let Some(place) = self.find_support(open, distance) {
+            note_stop(stops, vertex, start + place, place)?;
+            return Ok(true);
+        }
+        Ok(self.find_support(passed, distance).is_some())
     }
-    Ok(find_support(passed, lost, distances, distance).is_some())
+
+    // The place of the first link that supports its head at the distance.
+    fn find_support(self, links: &[Link], distance: u32) -> Option<usize>
+        ensures none { IfNone result
+            (NoneSupports self.entry.distances.now self.entry.lost.now distance links.now) }
+        ensures within { IfSome result (λ place. place < length links.now) }
+        ensures found { IfSome result (λ _.
+            SomeSupports self.entry.distances.now self.entry.lost.now distance links.now) }
+    {
+        for (place, link) in links.iter().enumerate() {
+            if self.supports(link, distance) {
+                return Some(place);
+            }
+        }
+        None
+    }
+
+    // Whether the link's tail keeps its distance, and its head is no farther over it than this distance.
+    fn supports(self, link: &Link, distance: u32) -> bool
+        ensures { IsTrue result ↔
+            Supports (map.get self.entry.distances.now) self.entry.lost.now distance link.now }
+    {
+        match self.distances.get(&link.from) {
+            Some(near) => near + u32::from(link.cost) <= distance && !self.lost.has(&link.from),
+            None => false,
+        }
+    }
 }
 
 // Where the search for the vertex's support goes on.
@@ -232,35 +265,6 @@ fn note_stop(
         stops.insert(vertex, stop)?;
     }
     Ok(())
-}
-
-// The place of the first link that supports its head at the distance.
-fn find_support(
-    links: &[Link],
-    lost: &Members,
-    distances: &Distances,
-    distance: u32,
-) -> Option<usize>
-    ensures none { IfNone result (NoneSupports distances.now lost.now distance links.now) }
-    ensures within { IfSome result (λ place. place < length links.now) }
-    ensures found { IfSome result (λ _. SomeSupports distances.now lost.now distance links.now) }
-{
-    for (place, link) in links.iter().enumerate() {
-        if supports(link, lost, distances, distance) {
-            return Some(place);
-        }
-    }
-    None
-}
-
-// Whether the link's tail is reached and not lost, and its head no farther over it than the distance.
-fn supports(link: &Link, lost: &Members, distances: &Distances, distance: u32) -> bool
-    ensures { IsTrue result ↔ Supports (map.get distances.now) lost.now distance link.now }
-{
-    match distances.get(&link.from) {
-        Some(near) => near + u32::from(link.cost) <= distance && !lost.has(&link.from),
-        None => false,
-    }
 }
 
 // Whether the link is a least one into a vertex other than the root.

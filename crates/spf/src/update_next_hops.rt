@@ -7,7 +7,7 @@ ghost use Rattle.tree_parts.specs.Maps.{with_hops};
 ghost use Rattle.spf.specs.HandedOn.{AreBlank, AreHeadsPut, AreReachedPut, HasDistance, IsHeadPut, IsLeastLink, IsReachedPut, IsSettledIn};
 ghost use Rattle.spf.specs.Parts.{AreReadyToUpdate, AreSettledIn};
 
-use crate::gathering::{are_same, gather};
+use crate::gathering::{TreeInUpdate, are_same};
 use crate::lose_support::Losses;
 use crate::places::is_at_root;
 use hop_sets::HopSet;
@@ -98,9 +98,13 @@ fn settle(
     ensures taken { OnOk result (touched.new.taken ≡ touched.old.taken) }
     ensures counted { OnOk result (touched.new.hop_sets ≡ length written.new) }
 {
-    let links = graph.links_into(vertex);
+    let tree = TreeInUpdate {
+        graph,
+        distances,
+        hops,
+    };
     // 16.1.1: the union over all paths of least cost.
-    let set = gather(alloc, graph, distances, hops, vertex, links, distance)?;
+    let set = tree.gather(alloc, vertex, distance)?;
     if are_same(hops.get(vertex), &set) {
         return Ok(());
     }
