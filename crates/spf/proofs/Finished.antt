@@ -22,10 +22,10 @@ counted : (moved near taken : ℕ) → near ≡ moved → near ≤ taken → mov
 counted moved near taken all more = omega arith
 
 -- What relaxing and the update of next hops leave, once a repair is begun.
-pub carried_out : {g : GraphValue} {gone come : List Link} {t : TreeValue} (u : TreeValue) {lost left stale wider moved written : List Vertex} {near taken hop_sets : ℕ} → IsBegun g gone come t lost stale
-    → IsRelaxedTo g come (get t.distances) (get u.distances) lost stale wider moved → left ≡ lost → AreSettled g (get u.distances) (hops_of t.hops) (hops_of u.hops) left moved wider written (taken - near)
+pub carried_out : {g : GraphValue} {gone come : List Link} {t : TreeValue} (u : TreeValue) {lost stale wider moved written : List Vertex} {near taken hop_sets : ℕ} → IsBegun g gone come t lost stale
+    → IsRelaxedTo g come (get t.distances) (get u.distances) lost stale wider moved → AreSettled g (get u.distances) (hops_of t.hops) (hops_of u.hops) lost moved wider written (taken - near)
     → near ≡ length moved → near ≤ taken → hop_sets ≡ length written → u.spent ≡ t.spent → IsCarriedOut g come t u lost stale moved written taken hop_sets
-carried_out {g} {gone} {come} {t} u {lost} {left} {stale} {wider} {moved} {written} {near} {taken} {hop_sets} b n same_lost settled all more wrote kept = record {
+carried_out {g} {gone} {come} {t} u {lost} {stale} {wider} {moved} {written} {near} {taken} {hop_sets} b n s all more wrote kept = record {
   tree = tree_after u b.before b.losses n s (kept ∙ b.before.fresh);
   bounded = λ went d. let is = bounded u d.before d.losses n s in subst (λ k. IsBounded g went come t k hop_sets) total (subst (λ k. IsBounded g went come t (length moved + (taken - near)) k) (sym wrote) is);
   idle = λ d none. let no = idle [] come u d.before d.losses n s refl none in (sym total ∙ no.0, wrote ∙ no.1);
@@ -33,9 +33,6 @@ carried_out {g} {gone} {come} {t} u {lost} {left} {stale} {wider} {moved} {writt
   differ = changed_by u b.before b.losses n s;
 }
   where
-    s : AreSettled g (get u.distances) (hops_of t.hops) (hops_of u.hops) lost moved wider written (taken - near)
-    s = subst (λ (vs : List Vertex). AreSettled g (get u.distances) (hops_of t.hops) (hops_of u.hops) vs moved wider written (taken - near)) same_lost settled
-
     total : length moved + (taken - near) ≡ taken
     total = counted (length moved) near taken all more
 

@@ -10,7 +10,8 @@ use Rattle.vertex_graph.specs.Link.{Link}
 use Rattle.vertex_graph.specs.Graphs.{GraphValue, LinksOf, HasRoot}
 use Rattle.tree_parts.specs.Maps.{DistanceMap, HopMap}
 use Rattle.tree_parts.specs.Members.{HasNoDoubles}
-use Rattle.spf.specs.declared.lose_support.Losses.{Losses}
+use Rattle.spf.specs.declared.lose_support.Search.{Search}
+use Rattle.spf.specs.declared.relax.Waiting.{Waiting}
 use Rattle.spf.specs.Changes.{Among, Earlier}
 use Rattle.spf.specs.Loops.{AreLosingSupport, AreRelaxing, IsReached}
 use Rattle.spf.specs.Repairs.{AreHeld, IsReset}
@@ -60,8 +61,8 @@ pub record AreLost (g : GraphValue) (gone come : List Link) (old : Vertex → Op
   pub why : (v : Vertex) → Contains stale v → IsStaleBy g gone lost v
 
 -- what the links that went and came take from these distances
-abbrev pub AreLostBy : GraphValue → List Link → List Link → DistanceMap → Losses → Type 0
-AreLostBy g gone come distances losses = AreLost g gone come (get distances) losses.lost losses.stale
+abbrev pub AreLostBy : GraphValue → List Link → List Link → DistanceMap → Search → Type 0
+AreLostBy g gone come distances search = AreLost g gone come (get distances) search.lost search.waiting.stale
 
 -- ---- the distances after
 
@@ -100,9 +101,9 @@ pub record IsRelaxedTo (g : GraphValue) (come : List Link) (old distance : Verte
   pub widens : (v : Vertex) → Contains stale v → Contains wider v
   pub why : (v : Vertex) → Contains wider v → IsStaleNow g come stale moved v
 
--- relaxing leads from the old distances to the new ones, with the losses before and after, and what it moved
-abbrev pub IsRelaxed : GraphValue → List Link → DistanceMap → DistanceMap → Losses → Losses → List Vertex → Type 0
-IsRelaxed g come old new before after moved = IsRelaxedTo g come (get old) (get new) before.lost before.stale after.stale moved
+-- relaxing leads from the old distances to the new ones, with what is lost, what waits before and after, and what it moved
+abbrev pub IsRelaxed : GraphValue → List Link → DistanceMap → DistanceMap → List Vertex → Waiting → Waiting → List Vertex → Type 0
+IsRelaxed g come old new lost before after moved = IsRelaxedTo g come (get old) (get new) lost before.stale after.stale moved
 
 -- ---- the next hops after
 
@@ -114,9 +115,9 @@ pub record AreUnsettled (g : GraphValue) (distance : Vertex → Option ℕ) (hop
   pub root : (h : NextHop) → hops (Router g.root) h → ⊥
   pub blank : (v : Vertex) (h : NextHop) → distance v ≡ None → hops v h → Contains lost v
 
--- the update starts from these distances and next hops, with what is lost, what is stale and what was moved
-abbrev pub AreReadyToUpdate : GraphValue → DistanceMap → HopMap → Losses → List Vertex → Type 0
-AreReadyToUpdate g distances hops losses moved = AreUnsettled g (get distances) (hops_of hops) losses.lost moved losses.stale
+-- the update starts from these distances and next hops, with what is lost, what was moved and what is stale
+abbrev pub AreReadyToUpdate : GraphValue → DistanceMap → HopMap → List Vertex → List Vertex → List Vertex → Type 0
+AreReadyToUpdate g distances hops lost moved stale = AreUnsettled g (get distances) (hops_of hops) lost moved stale
 
 -- why a vertex is taken in the update of next hops: it moved, it is stale, or it is the head of a link out of one whose next hops were written
 abbrev pub IsTakenBy : GraphValue → List Vertex → List Vertex → List Vertex → Vertex → Type 0
@@ -142,6 +143,6 @@ pub record AreSettled (g : GraphValue) (distance : Vertex → Option ℕ) (befor
   pub unwritten : (v : Vertex) → (Contains written v → ⊥) → (h : NextHop) → now v h ↔ before v h
 
 -- the update leads from the old next hops to the new ones, where so many vertices were taken and these were written
-abbrev pub AreSettledIn : GraphValue → DistanceMap → HopMap → HopMap → Losses → List Vertex → List Vertex → ℕ → Type 0
-AreSettledIn g distances old new losses moved written taken_count =
-    AreSettled g (get distances) (hops_of old) (hops_of new) losses.lost moved losses.stale written taken_count
+abbrev pub AreSettledIn : GraphValue → DistanceMap → HopMap → HopMap → List Vertex → List Vertex → List Vertex → List Vertex → ℕ → Type 0
+AreSettledIn g distances old new lost moved stale written taken_count =
+    AreSettled g (get distances) (hops_of old) (hops_of new) lost moved stale written taken_count

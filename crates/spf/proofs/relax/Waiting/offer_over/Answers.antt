@@ -1,7 +1,7 @@
 use Rattle.std.proofs.Common.{◌+◌, ap}
 use Rattle.std.proofs.lemmas.Result.{on_ok_weaker}
 use Rattle.spf.proofs.Offering.{over_link}
-use Rattle.spf.proofs.relax.offer_over.Goals as goal
+use Rattle.spf.proofs.relax.Waiting.offer_over.Goals as goal
 
 pub returns : goal.returns
 returns c =

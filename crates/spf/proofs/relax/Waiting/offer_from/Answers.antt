@@ -1,7 +1,7 @@
 use Rattle.std.proofs.Common.{sym}
 use Rattle.std.specs.FinMap.{get}
 use Rattle.spf.proofs.Offering.{over_more}
-use Rattle.spf.proofs.relax.offer_from.Goals as goal
+use Rattle.spf.proofs.relax.Waiting.offer_from.Goals as goal
 
 pub loop-link-preserved : goal.loop-link-preserved
 loop-link-preserved c =
