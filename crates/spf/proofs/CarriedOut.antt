@@ -18,13 +18,13 @@ use Rattle.tree_parts.proofs.Elements.{cases_contains, cases_vertex}
 use Rattle.spf.specs.Trees.{AreLinks, AreDistances, IsWithin}
 use Rattle.spf.specs.Repairs.{AreChanges, AreOwed, IsDue, Moved, Went, Came, OutOfLost, OutOfMoved, OutOfWritten}
 use Rattle.spf.specs.Changes.{Among}
-use Rattle.spf.specs.Parts.{HadRoot, LinksBefore, IsBefore, AreLost, StartsAt, AreStarted, AreNeared, AreUnsettled, AreSettled, hops_of}
+use Rattle.spf.specs.Parts.{HadRoot, LinksBefore, IsBefore, AreLost, StartsAt, AreStarted, IsRelaxedTo, AreUnsettled, AreSettled, hops_of}
 use Rattle.spf.specs.TreeValues.{TreeValue, IsTreeOf, IsTreeBefore, Differs, IsChangedBy, IsBounded, IsReachedIn, IsWritten, IsWorkDone}
 use Rattle.spf.proofs.AreaLinks.{area_links}
 use Rattle.spf.proofs.Before.{earlier_changes}
 use Rattle.spf.proofs.Bounds.{lost_differs, written_differs, taken_bound, written_bound}
 use Rattle.spf.proofs.Hops.{no_hop_of_root}
-use Rattle.spf.proofs.NearingLoop.{nearing_end}
+use Rattle.spf.proofs.RelaxLoop.{relax_end}
 use Rattle.spf.proofs.Repaired.{told_wider, distance_stays, moved_if_other}
 use Rattle.spf.proofs.Settling.{right_where_fresh}
 use Rattle.spf.proofs.Values.{root_zero, distances_relaxed, within_path}
@@ -46,11 +46,11 @@ pub named : (g : GraphValue) (gone come : List Link) → AreChanges (LinksBefore
 named g gone come = earlier_changes (LinksOf g) gone come
 
 module _ {g : GraphValue} {gone come : List Link} where
-  -- What the first part leaves is what the second starts from.
+  -- What losing support leaves is what relaxing starts from.
   pub started : {old : Vertex → Option ℕ} {lost stale : List Vertex} → IsBefore g gone come old → AreLost g gone come old lost stale → AreStarted (LinksOf g) (Among come) g.root (HasRoot g) old lost
   started {old} {lost} b l = record {
-    held = l.losing.held;
-    reached = l.losing.reached;
+    held = l.losing_support.held;
+    reached = l.losing_support.reached;
     fair = λ from to cost label d taken other at. elim ((named g gone come).came from to cost label taken) [
       | inr came ↦ inl came
       | inl stood ↦ inr (inr (over_old from to cost label d stood other at))
@@ -68,10 +68,10 @@ module _ {g : GraphValue} {gone come : List Link} where
   distances_before b = record { links = b.links; distances = b.tree.distances; came = b.came }
 
 module _ {g : GraphValue} {gone come : List Link} {t : TreeValue} (u : TreeValue) {lost stale wider moved : List Vertex} (b : IsTreeBefore g gone come t) (l : AreLost g gone come (get t.distances) lost stale)
-    (n : AreNeared g come (get t.distances) (get u.distances) lost stale wider moved) where
+    (n : IsRelaxedTo g come (get t.distances) (get u.distances) lost stale wider moved) where
   -- the distances are those after
   pub distances_after : AreDistances (LinksOf g) g.root (HasRoot g) (get u.distances)
-  distances_after = nearing_end n.nearing (λ v. refl)
+  distances_after = relax_end n.relaxing (λ v. refl)
 
   -- what has next hops and is not reached was lost
   blank_after : (v : Vertex) (h : NextHop) → get u.distances v ≡ None → hops_of t.hops v h → Contains lost v
@@ -81,13 +81,13 @@ module _ {g : GraphValue} {gone come : List Link} {t : TreeValue} (u : TreeValue
         let is : IsHop (LinksBefore g gone come) g.root (HadRoot g.root (get t.distances)) v h = (b.tree.right v h).0 x in
         let was = within_path b.tree.distances v is.path.0 is.path.1 in
         let other : v ≢ Router g.root = λ same. no_hop_of_root (LinksBefore g gone come) g.root (HadRoot g.root (get t.distances)) h (subst (λ w. IsHop (LinksBefore g gone come) g.root (HadRoot g.root (get t.distances)) w h) same is) in
-        let still : Contains moved v → ⊥ = λ m. let e = n.nearing.ended.reached v m in let differ : Some e.0 ≡ None = sym e.1 ∙ none in cc in
-        let stays : get u.distances v ≡ get t.distances v = distance_stays b.links (graph_links g) b.tree l.losing n.reset n.nearing (λ w. refl) v other kept still in
+        let still : Contains moved v → ⊥ = λ m. let e = n.relaxing.ended.reached v m in let differ : Some e.0 ≡ None = sym e.1 ∙ none in cc in
+        let stays : get u.distances v ≡ get t.distances v = distance_stays b.links (graph_links g) b.tree l.losing_support n.reset n.relaxing (λ w. refl) v other kept still in
         let differ : Some was.number ≡ None = sym was.is ∙ sym stays ∙ none in
         absurd cc
   ]
 
-  -- What the second part leaves is what the third starts from.
+  -- What relaxing leaves is what the update of next hops starts from.
   pub unsettled : AreUnsettled g (get u.distances) (hops_of t.hops) lost moved wider
   unsettled = record {
     distances = distances_after;
@@ -96,8 +96,8 @@ module _ {g : GraphValue} {gone come : List Link} {t : TreeValue} (u : TreeValue
       | inr still ↦ elim (cases_contains wider to) [
         | inl s ↦ inl (inr s)
         | inr fresh ↦ inr (
-            right_where_fresh (are_gone (named g gone come)) (are_come (named g gone come) (get n.start)) b.links (graph_links g) b.tree.distances distances_after n.reset n.nearing.ended
-            (told_wider stale wider l.losing.told n.widens) n.nearing.told (λ v. refl) (hops_of t.hops) (hops_of t.hops) (tree_unions b.tree) (λ v e is h. (λ x. x, λ x. x)) to d at other still fresh)
+            right_where_fresh (are_gone (named g gone come)) (are_come (named g gone come) (get n.start)) b.links (graph_links g) b.tree.distances distances_after n.reset n.relaxing.ended
+            (told_wider stale wider l.losing_support.told n.widens) n.relaxing.told (λ v. refl) (hops_of t.hops) (hops_of t.hops) (tree_unions b.tree) (λ v e is h. (λ x. x, λ x. x)) to d at other still fresh)
       ]
     ];
     root = λ h x. no_hop_of_root (LinksBefore g gone come) g.root (HadRoot g.root (get t.distances)) h ((b.tree.right (Router g.root) h).0 x);
@@ -123,13 +123,13 @@ module _ {g : GraphValue} {gone come : List Link} {t : TreeValue} (u : TreeValue
 
     -- what is lost was reached
     lost_reached : (v : Vertex) → Contains lost v → (d : ℕ) × (get t.distances v ≡ Some d)
-    lost_reached v c = let r = l.losing.reached v c in (r.number, r.at)
+    lost_reached v c = let r = l.losing_support.reached v c in (r.number, r.at)
 
     module _ {first second heads first_out second_out : List Vertex} (owed : AreOwed g.root (LinksBefore g gone come) (LinksOf g) (Among gone) (Among come) (HadRoot g.root (get t.distances)) (HasRoot g) first second heads first_out second_out) where
       -- what is written is owed
       written_owed : (v : Vertex) → Contains written v → Contains (first ++ second) v
       written_owed v c = elim (s.written_for v c) [
-        | inl w ↦ Contains-append_left first second v (lost_differs owed (named g gone come) b.tree.distances distances_after l.losing.dear lost_reached n.reset n.nearing.ended n.nearing.moved_other v w.0)
+        | inl w ↦ Contains-append_left first second v (lost_differs owed (named g gone come) b.tree.distances distances_after l.losing_support.dear lost_reached n.reset n.relaxing.ended n.relaxing.moved_other v w.0)
         | inr w ↦ written_differs owed (hops_of t.hops) (hops_of u.hops) v (b.tree.right v) (s.tree.right v) w.1
       ]
 
@@ -137,7 +137,7 @@ module _ {g : GraphValue} {gone come : List Link} {t : TreeValue} (u : TreeValue
     pub bounded : IsBounded g gone come t (length moved + count) (length written)
     bounded = record {
       taken_most = λ first second heads first_out second_out owed.
-          let most = taken_bound owed (named g gone come) b.tree.distances distances_after l.losing.dear lost_reached n.reset n.nearing.ended n.nearing.moved_other written s.taken n.apart s.taken_apart (written_owed owed) taken_due in
+          let most = taken_bound owed (named g gone come) b.tree.distances distances_after l.losing_support.dear lost_reached n.reset n.relaxing.ended n.relaxing.moved_other written s.taken n.apart s.taken_apart (written_owed owed) taken_due in
           omega (arith, most, s.count);
       sets_most = λ first second heads first_out second_out owed. written_bound owed written s.written_apart (written_owed owed);
     }
@@ -150,7 +150,7 @@ module _ {g : GraphValue} {gone come : List Link} {t : TreeValue} (u : TreeValue
         | inl w ↦ elim (s.written_for v w) [ inl away ↦ let differ : Some r.0.0 ≡ None = sym r.0.1 ∙ away.1 in absurd cc | inr by ↦ by.0 ]
         | inr none ↦ elim (cases_distance (get u.distances v) (get t.distances v)) [
           | inl same ↦ absurd (differs (same, s.unwritten v none))
-          | inr other ↦ absurd (still (moved_if_other b.links (graph_links g) b.tree l.losing n.reset n.nearing (λ w. refl) v r.0.0 r.1 r.0.1 (λ was. other (r.0.1 ∙ sym was))))
+          | inr other ↦ absurd (still (moved_if_other b.links (graph_links g) b.tree l.losing_support n.reset n.relaxing (λ w. refl) v r.0.0 r.1 r.0.1 (λ was. other (r.0.1 ∙ sym was))))
         ]
       ]
     ]
@@ -160,9 +160,9 @@ module _ {g : GraphValue} {gone come : List Link} {t : TreeValue} (u : TreeValue
     lost_if_unreached v d other was none = elim (cases_contains lost v) [
       | inl c ↦ c
       | inr kept ↦ elim (cases_contains moved v) [
-        | inl m ↦ let e = n.nearing.ended.reached v m in let differ : Some e.0 ≡ None = sym e.1 ∙ none in absurd cc
+        | inl m ↦ let e = n.relaxing.ended.reached v m in let differ : Some e.0 ≡ None = sym e.1 ∙ none in absurd cc
         | inr still ↦
-            let stays : get u.distances v ≡ get t.distances v = distance_stays b.links (graph_links g) b.tree l.losing n.reset n.nearing (λ w. refl) v other kept still in
+            let stays : get u.distances v ≡ get t.distances v = distance_stays b.links (graph_links g) b.tree l.losing_support n.reset n.relaxing (λ w. refl) v other kept still in
             let differ : Some d ≡ None = sym was ∙ sym stays ∙ none in
             absurd cc
       ]
@@ -172,7 +172,7 @@ module _ {g : GraphValue} {gone come : List Link} {t : TreeValue} (u : TreeValue
     written_is : (v : Vertex) → Contains written v ↔ IsWritten g t u v
     written_is v = (
       λ c. elim (s.written_for v c) [
-        | inl w ↦ let r = l.losing.reached v w.0 in inr (((r.number, r.at), r.other), w.1)
+        | inl w ↦ let r = l.losing_support.reached v w.0 in inr (((r.number, r.at), r.other), w.1)
         | inr w ↦ inl w.1
       ],
       λ w. elim w [
@@ -185,15 +185,15 @@ module _ {g : GraphValue} {gone come : List Link} {t : TreeValue} (u : TreeValue
     pub work_done : IsWorkDone g t u (length moved + count) (length written)
     work_done = record {
       taken_least = λ nearer differing nearer_apart differing_apart each each_differs.
-          let near = no_longer nearer moved nearer_apart (λ v c.
+          let relaxed = no_longer nearer moved nearer_apart (λ v c.
           let e = each v c in
-          moved_if_other b.links (graph_links g) b.tree l.losing n.reset n.nearing (λ w. refl) v e.0.0.0 e.0.1 e.0.0.1 (λ was. e.1 (e.0.0.1 ∙ sym was))) in
-          let handed = no_longer differing s.taken differing_apart (λ v c. let e = each_differs v c in taken_if_differs v e.0 e.1) in
-          omega (arith, near, handed, s.count);
+          moved_if_other b.links (graph_links g) b.tree l.losing_support n.reset n.relaxing (λ w. refl) v e.0.0.0 e.0.1 e.0.0.1 (λ was. e.1 (e.0.0.1 ∙ sym was))) in
+          let updated = no_longer differing s.taken differing_apart (λ v c. let e = each_differs v c in taken_if_differs v e.0 e.1) in
+          omega (arith, relaxed, updated, s.count);
       taken_twice_most = λ reached all.
-          let near = no_longer moved reached n.apart (λ v c. let e = n.nearing.ended.reached v c in all v ((e.0, e.1), n.nearing.moved_other v c)) in
-          let handed = no_longer s.taken reached s.taken_apart (λ v c. let r = s.taken_reached v c in all v ((r.number, r.at), r.other)) in
-          omega (arith, near, handed, s.count);
+          let relaxed = no_longer moved reached n.apart (λ v c. let e = n.relaxing.ended.reached v c in all v ((e.0, e.1), n.relaxing.moved_other v c)) in
+          let updated = no_longer s.taken reached s.taken_apart (λ v c. let r = s.taken_reached v c in all v ((r.number, r.at), r.other)) in
+          omega (arith, relaxed, updated, s.count);
       written = written;
       written_apart = s.written_apart;
       written_exact = written_is;
@@ -211,11 +211,11 @@ module _ {g : GraphValue} {gone come : List Link} {t : TreeValue} (u : TreeValue
         differs : IsChangedBy g.root t u lost moved written v → Differs t u v
         differs (inl w) same = w.1 same.0
         differs (inr (inl w)) same =
-            let e = n.nearing.ended.reached v w.0 in
-            let was = n.reset.kept v (n.nearing.moved_other v w.0) w.1 ∙ sym same.0 ∙ e.1 in
-            absurd (omega (arith, n.nearing.ended.nearer v e.0 e.0 w.0 was e.1))
+            let e = n.relaxing.ended.reached v w.0 in
+            let was = n.reset.kept v (n.relaxing.moved_other v w.0) w.1 ∙ sym same.0 ∙ e.1 in
+            absurd (omega (arith, n.relaxing.ended.nearer v e.0 e.0 w.0 was e.1))
         differs (inr (inr w)) same = elim (s.written_for v w) [
-          | inl gone_v ↦ let r = l.losing.reached v gone_v.0 in let differ : Some r.number ≡ None = sym r.at ∙ sym same.0 ∙ gone_v.1 in absurd cc
+          | inl gone_v ↦ let r = l.losing_support.reached v gone_v.0 in let differ : Some r.number ≡ None = sym r.at ∙ sym same.0 ∙ gone_v.1 in absurd cc
           | inr other ↦ other.1 same.1
         ]
 
@@ -226,7 +226,7 @@ module _ {g : GraphValue} {gone come : List Link} {t : TreeValue} (u : TreeValue
             | inl c ↦ inl (later_element (Router g.root) v lost c, other)
             | inr kept ↦ elim (cases_contains moved v) [
               | inl m ↦ inr (inl (m, kept))
-              | inr still ↦ absurd (other (distance_stays b.links (graph_links g) b.tree l.losing n.reset n.nearing (λ w. refl) v not_root kept still))
+              | inr still ↦ absurd (other (distance_stays b.links (graph_links g) b.tree l.losing_support n.reset n.relaxing (λ w. refl) v not_root kept still))
             ]
           ]
         ]

@@ -11,15 +11,15 @@ pub mod Settling
 pub mod WrittenSets
 pub mod Bounds
 pub mod Whole
-pub mod LosingLoop
-pub mod NearingLoop
+pub mod LoseSupportLoop
+pub mod RelaxLoop
 pub mod Taken
 pub mod Offering
 pub mod Resetting
 pub mod GraphVertices
 pub mod Nearest
 pub mod Reach
-pub mod HandingLoop
+pub mod UpdateNextHopsLoop
 pub mod Dues
 pub mod Repaired
 pub mod Building
@@ -31,7 +31,7 @@ pub mod HopUnions
 pub mod QueuePuts
 pub mod Blanks
 pub mod HopRounds
-pub mod HandingRounds
+pub mod UpdateNextHopsRounds
 pub mod Falling
 pub mod Suspecting
 pub mod CarriedOut

@@ -1,4 +1,4 @@
--- What the steps of the third part do: what a link gives, what is put into the queue, what is written at one vertex.
+-- The steps that update next hops: what a link gives, what is put into the queue, what is written at one vertex.
 use Rattle.std.specs.Prelude.{◌↔◌, ◌⊎◌, ℕ, ◌+◌, ◌≡◌, ◌≢◌, ◌++◌, ◌∷◌, List, [], length, Contains, Option, Some, None}
 use Rattle.ospf_types.specs.declared.entry.Vertex.{Vertex}
 use Rattle.ospf_types.specs.declared.entry.Vertex.TheVariants.{Router}
@@ -11,7 +11,7 @@ use Rattle.vertex_graph.specs.Link.{Link}
 use Rattle.vertex_queue.specs.Queues.{Queue}
 use Rattle.tree_parts.specs.Members.{HasNoDoubles}
 use Rattle.tree_parts.specs.Maps.{DistanceMap, HopMap}
-use Rattle.spf.specs.Loops.{IsReached, AreHanding}
+use Rattle.spf.specs.Loops.{IsReached, AreUpdatingNextHops}
 use Rattle.spf.specs.Parts.{IsTakenBy, hops_of}
 use Rattle.spf.specs.Repairs.{IsQueued}
 use Rattle.spf.specs.TreeValues.{listed_hops}
@@ -133,7 +133,7 @@ IsSettledIn g distances v queue more old new written wider =
 pub record IsAmidst (g : GraphValue) (distance : Vertex → Option ℕ) (begun now : Vertex → NextHop → Type 0) (queue : Queue) (blanked moved stale written : List Vertex) (start number sets : ℕ) : Type 0 where
   pub taken : List Vertex
   pub set : List Vertex
-  pub handing : AreHanding (LinksOf g) g.root distance (get queue) begun now taken set
+  pub updating : AreUpdatingNextHops (LinksOf g) g.root distance (get queue) begun now taken set
   pub whole : written ≡ blanked ++ set
   pub unreached : (v : Vertex) → Contains blanked v → distance v ≡ None
   pub apart : HasNoDoubles taken

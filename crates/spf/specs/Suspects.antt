@@ -1,4 +1,4 @@
--- What is done with vertices that are suspected to have lost their distance, in the first part of a repair.
+-- Losing support: what is done with vertices that are suspected to have lost their distance.
 use Rattle.std.specs.Prelude.{◌↔◌, ◌⊎◌, ℕ, ◌+◌, ◌≡◌, ◌≢◌, ◌≤◌, ◌++◌, ◌∷◌, Bool, List, [], Contains, IsTrue, Option, Some}
 use Rattle.std.specs.FinMap.{get}
 use Rattle.std.specs.List.{All}
@@ -11,7 +11,7 @@ use Rattle.tree_parts.specs.Maps.{DistanceMap}
 use Rattle.tree_parts.specs.Members.{HasNoDoubles}
 use Rattle.spf.specs.declared.lose_support.Search.{Search}
 use Rattle.spf.specs.Changes.{Among}
-use Rattle.spf.specs.Loops.{AreLosing, IsLost}
+use Rattle.spf.specs.Loops.{AreLosingSupport, IsLost}
 use Rattle.spf.specs.Parts.{LinksBefore, HadRoot, IsStaleBy}
 use Rattle.spf.specs.Repairs.{IsSupported}
 
@@ -54,7 +54,7 @@ pub record AreToldOf (Told : Vertex → Type 0) (lost stale wider suspects more 
 
 -- the search told each vertex of which this holds, and no other
 abbrev pub AreToldIn : (Vertex → Type 0) → Search → Search → Type 0
-AreToldIn Told old new = AreToldOf Told old.losses.lost old.losses.stale new.losses.stale old.suspects new.suspects
+AreToldIn Told old new = AreToldOf Told old.lost old.waiting.stale new.waiting.stale old.suspects new.suspects
 
 -- it told the heads of the least links among these
 abbrev pub AreHeadsTold : ℕ → DistanceMap → List Link → Search → Search → Type 0
@@ -77,7 +77,7 @@ pub record IsPassed (g : GraphValue) (old : Vertex → Option ℕ) (lost more su
 
 -- a suspect without support is lost, and the heads of its links are told
 pub record IsLostNow (g : GraphValue) (old : Vertex → Option ℕ) (lost more suspects again stale wider : List Vertex) (v : Vertex) : Type 0 where
-  pub losing : IsLost (LinksOf g) g.root old lost more suspects again stale wider v
+  pub judged : IsLost (LinksOf g) g.root old lost more suspects again stale wider v
   pub why : (w : Vertex) → Contains wider w → Contains stale w ⊎ ((cost : ℕ) × (label : Label) × LinksOf g v w cost label)
   pub fresh : Contains lost v → ⊥
   pub end : more ≡ lost ++ v ∷ []
@@ -91,11 +91,11 @@ IsJudged g old lost more suspects again stale wider v = IsPassed g old lost more
 -- what the search finds of a suspect
 abbrev pub IsJudgedIn : GraphValue → DistanceMap → Search → Search → Vertex → Type 0
 IsJudgedIn g distances old new v =
-    IsJudged g (get distances) old.losses.lost new.losses.lost old.suspects new.suspects old.losses.stale new.losses.stale v
+    IsJudged g (get distances) old.lost new.lost old.suspects new.suspects old.waiting.stale new.waiting.stale v
 
 -- while suspects are left
 pub record AreSuspected (g : GraphValue) (gone come : List Link) (old : Vertex → Option ℕ) (lost suspects stale : List Vertex) : Type 0 where
-  pub losing : AreLosing (LinksBefore g gone come) (LinksOf g) (Among gone) g.root (HadRoot g.root old) (HasRoot g) old lost suspects stale
+  pub losing_support : AreLosingSupport (LinksBefore g gone come) (LinksOf g) (Among gone) g.root (HadRoot g.root old) (HasRoot g) old lost suspects stale
   pub why : (v : Vertex) → Contains stale v → IsStaleBy g gone lost v
   pub within : AreWithin lost suspects stale
   pub lost_apart : HasNoDoubles lost

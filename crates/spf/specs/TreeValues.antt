@@ -13,7 +13,7 @@ use Rattle.tree_parts.specs.Members.{HasNoDoubles}
 use Rattle.tree_parts.specs.Counts.{no_work}
 use Rattle.tree_parts.specs.Maps.{DistanceMap, HopMap}
 use Rattle.tree_parts.specs.declared.touched.Touched.{Touched}
-use Rattle.spf.specs.declared.lose_support.Losses.{Losses}
+use Rattle.spf.specs.declared.lose_support.Search.{Search}
 use Rattle.spf.specs.declared.workspace.Workspace.{Workspace}
 use Rattle.spf.specs.Changes.{Among}
 use Rattle.spf.specs.Parts.{HadRoot, LinksBefore, AreLost, hops_of}
@@ -49,8 +49,8 @@ pub record IsBegun (g : GraphValue) (gone come : List Link) (t : TreeValue) (los
   pub losses : AreLost g gone come (get t.distances) lost stale
 
 -- a repair is begun for some links that went
-abbrev pub IsBegunWith : GraphValue → List Link → TreeValue → Losses → Type 0
-IsBegunWith g come t losses = (gone : List Link) × IsBegun g gone come t losses.lost losses.stale
+abbrev pub IsBegunWith : GraphValue → List Link → TreeValue → Search → Type 0
+IsBegunWith g come t search = (gone : List Link) × IsBegun g gone come t search.lost search.waiting.stale
 
 -- the vertex has another distance or other next hops
 abbrev pub Differs : TreeValue → TreeValue → Vertex → Type 0
@@ -141,7 +141,7 @@ pub record IsCarriedOut (g : GraphValue) (come : List Link) (old new : TreeValue
 -- what a repair that is begun comes to, by what is found before and after
 abbrev pub ComesTo : GraphValue → List Link → TreeValue → TreeValue → Workspace → Workspace → Touched → Type 0
 ComesTo g come old new before after touched =
-    IsCarriedOut g come old new before.search.losses.lost before.search.losses.stale after.moved after.written touched.taken touched.hop_sets
+    IsCarriedOut g come old new before.search.lost before.search.waiting.stale after.moved after.written touched.taken touched.hop_sets
 
 -- the tree of these distances and next hops
 abbrev pub tree_of : DistanceMap → HopMap → TreeValue

@@ -2,7 +2,6 @@
 ghost use Rattle.std.specs.Prelude.{◌≡◌, ◌↔◌, IfSome, IfNone, IsTrue, IfOk, OnOk, Some, option_copied, option_to_list};
 ghost use Rattle.std.specs.FinMap as map;
 ghost use Rattle.ospf_types.specs.Distances.{FirstOnly};
-ghost use Rattle.vertex_graph.specs.Graphs.{AreLinksTo};
 ghost use Rattle.spf.specs.HandedOn.{AreGiven, AreUnited, HasDirect, HaveSameHops, IsHandedOn, IsLeastLink, IsOfSome, IsUnion, IsUnionOver};
 ghost use Rattle.spf.specs.Trees.{HandsOn, first_hops};
 
@@ -16,26 +15,48 @@ use tree_parts::{Distances, HopColumns};
 use vertex_graph::{Graph, Link, LinkLabel};
 use vertex_map::Placed;
 
-/// The next hops that the least links among those into a vertex, which is this far, give it.
-pub(crate) fn gather(
-    alloc: Global,
-    graph: &Graph,
-    distances: &Distances,
-    hops: &HopColumns,
-    vertex: &Placed,
-    links: &[Link],
-    far: u32,
-) -> Result<HopSet, Memory>
-    requires far { map.get distances.now vertex.now ≡ Some far }
-    requires links { AreLinksTo graph.now vertex.now links.now }
-    ensures { IfOk result (AreGiven graph.now distances.now hops.now vertex.now) }
-{
-    let root = graph.root();
-    let mut set = HopSet::new(alloc);
-    for link in links {
-        add_given(root, distances, hops, link, far, &mut set)?;
+/// A tree whose next hops are being updated: the distances are those after, and each next hop is of before or after.
+#[derive(Clone, Copy)]
+pub(crate) struct TreeInUpdate<'a> {
+    pub(crate) graph: &'a Graph,
+    pub(crate) distances: &'a Distances,
+    pub(crate) hops: &'a HopColumns,
+}
+
+impl TreeInUpdate<'_> {
+    /// The next hops that the least links into a vertex, which is this far, give it.
+    pub(crate) fn gather(self, alloc: Global, vertex: &Placed, far: u32) -> Result<HopSet, Memory>
+        requires { map.get self.distances.now vertex.now ≡ Some far }
+        ensures { IfOk result (AreGiven self.entry.graph.now
+            self.entry.distances.now self.entry.hops.now vertex.now) }
+    {
+        let root = self.graph.root();
+        let mut set = HopSet::new(alloc);
+        for link in self.graph.links_into(vertex) {
+            self.add_given(root, link, far, &mut set)?;
+        }
+        Ok(set)
     }
-    Ok(set)
+
+    // Adds what a link gives its head, which is this far, if it is a least link.
+    fn add_given(self, root: u32, link: &Link, far: u32, set: &mut HopSet) -> Result<(), Memory>
+        requires { map.get self.distances.now link.now.to ≡ Some far }
+        ensures { OnOk result
+            (IsUnionOver root self.entry.distances.now self.entry.hops.now link.now
+            set.old set.new) }
+    {
+        if !is_least(self.distances, link, far) {
+            return Ok(());
+        }
+        // 16.1.1: out of the root the interface of the link, else what the tail has.
+        if is_at_root(root, &link.from) {
+            return add_first(link.to.vertex(), &link.label, set);
+        }
+        match self.hops.get(&link.from) {
+            Some(tail) => add_handed_on(tail, &link.label, set),
+            None => Ok(()),
+        }
+    }
 }
 
 /// Whether both are the same next hops.
@@ -45,31 +66,6 @@ pub(crate) fn are_same(before: Option<&HopSet>, after: &HopSet) -> bool
     match before {
         Some(before) => before.as_slice() == after.as_slice(),
         None => after.is_empty(),
-    }
-}
-
-// Adds what a link gives its head, which is this far, if it is a least link.
-fn add_given(
-    root: u32,
-    distances: &Distances,
-    hops: &HopColumns,
-    link: &Link,
-    far: u32,
-    set: &mut HopSet,
-) -> Result<(), Memory>
-    requires { map.get distances.now link.now.to ≡ Some far }
-    ensures { OnOk result (IsUnionOver root distances.now hops.now link.now set.old set.new) }
-{
-    if !is_least(distances, link, far) {
-        return Ok(());
-    }
-    // 16.1.1: out of the root the interface of the link, else what the tail has.
-    if is_at_root(root, &link.from) {
-        return add_first(link.to.vertex(), &link.label, set);
-    }
-    match hops.get(&link.from) {
-        Some(tail) => add_handed_on(tail, &link.label, set),
-        None => Ok(()),
     }
 }
 

@@ -6,6 +6,7 @@ ghost use Rattle.tree_parts.specs.Maps.{most_distance};
 ghost use Rattle.spf.specs.Parts.{AreBefore, AreLostBy};
 ghost use Rattle.spf.specs.Suspects.{AreHeadsBeyondTold, AreHeadsTold, AreToldIn, AreWithin, IsJudgedIn, MaySupport, NoneSupports, SomeSupports, Supports, TellsSupport, WasLeast};
 
+use crate::relax::Waiting;
 use crate::workspace::MOST_KEPT;
 use ospf_types::entry::Vertex;
 use ospf_types::memory::Memory;
@@ -14,22 +15,6 @@ use tree_parts::{Distances, Members};
 use vertex_graph::{Graph, Link, LinkChanges};
 use vertex_map::{Placed, VertexMap};
 use word_hash::WordHash;
-
-/// The vertices that lose their distance, and those whose least links changed by that.
-pub(crate) struct Losses {
-    pub(crate) lost: Members,
-    pub(crate) stale: Members,
-}
-
-// proof: one call drops it, in place of a drop of each part wherever one is held.
-impl Drop for Losses {
-    fn drop(self) {
-        let Losses {
-            lost: _lost,
-            stale: _stale,
-        } = self;
-    }
-}
 
 /// Finds what is lost by the links that went.
 pub(crate) fn lose_support(
@@ -40,7 +25,7 @@ pub(crate) fn lose_support(
 ) -> Result<(), Memory>
     requires { AreBefore graph.now changes.now.gone.items changes.now.came.items distances.now }
     ensures { OnOk result (AreLostBy graph.now changes.now.gone.items changes.now.came.items
-        distances.now search.new.losses) }
+        distances.now search.new) }
 {
     search.clear(MOST_KEPT);
     search.suspect_heads(changes.gone.as_slice(), graph.root(), distances)?;
@@ -50,9 +35,11 @@ pub(crate) fn lose_support(
     Ok(())
 }
 
-/// What is found while vertices are suspected to have lost all that supported them. It is kept for its memory.
+/// What is found while vertices are suspected to have lost all that supported them: those that lose their distance, and
+/// those that wait. It is kept for its memory.
 pub(crate) struct Search {
-    pub(crate) losses: Losses,
+    pub(crate) lost: Members,
+    pub(crate) waiting: Waiting,
     suspects: Members,
     // At which of the links into a vertex a search for support stopped, if it passed over many.
     stops: VertexMap<usize>,
@@ -62,7 +49,8 @@ pub(crate) struct Search {
 impl Drop for Search {
     fn drop(self) {
         let Search {
-            losses: _losses,
+            lost: _lost,
+            waiting: _waiting,
             suspects: _suspects,
             stops: _stops,
         } = self;
@@ -71,28 +59,34 @@ impl Drop for Search {
 
 impl Search {
     pub(crate) fn new(alloc: Global, hashing: WordHash) -> Search
-        ensures lost { result.losses.lost ≡ [] }
-        ensures stale { result.losses.stale ≡ [] }
+        ensures lost { result.lost ≡ [] }
+        ensures stale { result.waiting.stale ≡ [] }
         ensures suspects { result.suspects ≡ [] }
     {
         Search {
-            losses: Losses {
-                lost: Members::new(alloc, hashing),
-                stale: Members::new(alloc, hashing),
-            },
+            lost: Members::new(alloc, hashing),
+            waiting: Waiting::new(alloc, hashing),
             suspects: Members::new(alloc, hashing),
             stops: VertexMap::new(alloc, hashing),
         }
     }
 
+    /// Gives back the memory of what was found, but not that of the queue.
+    pub(crate) fn give_back(&mut self, alloc: Global, hashing: WordHash) {
+        self.lost = Members::new(alloc, hashing);
+        self.waiting.stale = Members::new(alloc, hashing);
+        self.suspects = Members::new(alloc, hashing);
+        self.stops = VertexMap::new(alloc, hashing);
+    }
+
     // Takes out what the last search found. No more marks stay than so many.
     fn clear(&mut self, most: usize)
-        ensures lost { self.new.losses.lost ≡ [] }
-        ensures stale { self.new.losses.stale ≡ [] }
+        ensures lost { self.new.lost ≡ [] }
+        ensures stale { self.new.waiting.stale ≡ [] }
         ensures suspects { self.new.suspects ≡ [] }
     {
-        self.losses.lost.clear(most);
-        self.losses.stale.clear(most);
+        self.lost.clear(most);
+        self.waiting.stale.clear(most);
         self.suspects.clear(most);
         self.stops.clear();
     }
@@ -104,9 +98,9 @@ impl Search {
         root: u32,
         distances: &Distances,
     ) -> Result<(), Memory>
-        requires within { AreWithin self.old.losses.lost self.old.suspects self.old.losses.stale }
+        requires within { AreWithin self.old.lost self.old.suspects self.old.waiting.stale }
         ensures told { OnOk result (AreHeadsTold root distances.now gone.now self.old self.new) }
-        ensures lost { OnOk result (self.new.losses.lost ≡ self.old.losses.lost) }
+        ensures lost { OnOk result (self.new.lost ≡ self.old.lost) }
     {
         for link in gone {
             if was_least(link, root, distances) {
@@ -125,10 +119,10 @@ impl Search {
         distance: u32,
     ) -> Result<(), Memory>
         requires near { distance < most_distance }
-        requires within { AreWithin self.old.losses.lost self.old.suspects self.old.losses.stale }
+        requires within { AreWithin self.old.lost self.old.suspects self.old.waiting.stale }
         ensures told { OnOk result (AreHeadsBeyondTold root distances.now distance links.now
             self.old self.new) }
-        ensures lost { OnOk result (self.new.losses.lost ≡ self.old.losses.lost) }
+        ensures lost { OnOk result (self.new.lost ≡ self.old.lost) }
     {
         for link in links {
             if may_support(link, root, distances, distance) {
@@ -140,15 +134,15 @@ impl Search {
 
     // The vertex is stale, and suspected unless it is lost.
     fn suspect(&mut self, vertex: &Placed) -> Result<(), Memory>
-        requires within { AreWithin self.old.losses.lost self.old.suspects self.old.losses.stale }
+        requires within { AreWithin self.old.lost self.old.suspects self.old.waiting.stale }
         ensures told { OnOk result (AreToldIn (λ v. vertex.now ≡ v) self.old self.new) }
-        ensures lost { OnOk result (self.new.losses.lost ≡ self.old.losses.lost) }
+        ensures lost { OnOk result (self.new.lost ≡ self.old.lost) }
     {
         // One that was not stale is neither lost nor suspected.
-        if self.losses.stale.add(vertex)? {
+        if self.waiting.stale.add(vertex)? {
             return self.suspects.push(vertex);
         }
-        if !self.losses.lost.has(vertex) {
+        if !self.lost.has(vertex) {
             self.suspects.add(vertex)?;
         }
         Ok(())
@@ -161,27 +155,24 @@ impl Search {
         distances: &Distances,
         suspect: &Placed,
     ) -> Result<(), Memory>
-        requires within { AreWithin self.old.losses.lost self.old.suspects self.old.losses.stale }
-        requires stale { Contains self.old.losses.stale suspect.now }
+        requires within { AreWithin self.old.lost self.old.suspects self.old.waiting.stale }
+        requires stale { Contains self.old.waiting.stale suspect.now }
         ensures { OnOk result (IsJudgedIn graph.now distances.now self.old self.new suspect.now) }
     {
-        if self.losses.lost.has(suspect) {
+        if self.lost.has(suspect) {
             return Ok(());
         }
         let Some(distance) = distances.get(suspect) else {
             return Ok(());
         };
-        if is_supported(
-            &mut self.stops,
-            graph,
-            &self.losses.lost,
+        let kept = Kept {
             distances,
-            suspect,
-            distance,
-        )? {
+            lost: &self.lost,
+        };
+        if kept.is_supported(&mut self.stops, graph, suspect, distance)? {
             return Ok(());
         }
-        self.losses.lost.push(suspect)?;
+        self.lost.push(suspect)?;
         self.suspect_beyond(
             graph.links_out_of(suspect),
             graph.root(),
@@ -191,26 +182,62 @@ impl Search {
     }
 }
 
-// Whether a link into the vertex supports it at its distance. The search goes on where one for the vertex stopped, if
-// that passed over eight links or more. What that one passed over is read again only before the vertex is lost.
-fn is_supported(
-    stops: &mut VertexMap<usize>,
-    graph: &Graph,
-    lost: &Members,
-    distances: &Distances,
-    vertex: &Placed,
-    distance: u32,
-) -> Result<bool, Memory>
-    ensures { IfOk result (TellsSupport graph.now distances.now lost.now vertex.now distance) }
-{
-    let links = graph.links_into(vertex);
-    let start = start_of(stops, vertex).min(links.len());
-    let (passed, open) = links.split_at(start);
-    if let Some(place) = find_support(open, lost, distances, distance) {
-        note_stop(stops, vertex, start + place, place)?;
-        return Ok(true);
+// The vertices that keep their distance: those that were reached and are not lost.
+#[derive(Clone, Copy)]
+struct Kept<'a> {
+    distances: &'a Distances,
+    lost: &'a Members,
+}
+
+impl Kept<'_> {
+    // Whether a link into the vertex supports it at its distance. The search goes on where one for the vertex stopped,
+    // if that passed over eight links or more. What that one passed over is read again only before the vertex is lost.
+    fn is_supported(
+        self,
+        stops: &mut VertexMap<usize>,
+        graph: &Graph,
+        vertex: &Placed,
+        distance: u32,
+    ) -> Result<bool, Memory>
+        ensures { IfOk result (TellsSupport graph.now self.entry.distances.now self.entry.lost.now
+            vertex.now distance) }
+    {
+        let links = graph.links_into(vertex);
+        let start = start_of(stops, vertex).min(links.len());
+        let (passed, open) = links.split_at(start);
+        if let Some(place) = self.find_support(open, distance) {
+            note_stop(stops, vertex, start + place, place)?;
+            return Ok(true);
+        }
+        Ok(self.find_support(passed, distance).is_some())
     }
-    Ok(find_support(passed, lost, distances, distance).is_some())
+
+    // The place of the first link that supports its head at the distance.
+    fn find_support(self, links: &[Link], distance: u32) -> Option<usize>
+        ensures none { IfNone result
+            (NoneSupports self.entry.distances.now self.entry.lost.now distance links.now) }
+        ensures within { IfSome result (λ place. place < length links.now) }
+        ensures found { IfSome result (λ _.
+            SomeSupports self.entry.distances.now self.entry.lost.now distance links.now) }
+    {
+        for (place, link) in links.iter().enumerate() {
+            if self.supports(link, distance) {
+                return Some(place);
+            }
+        }
+        None
+    }
+
+    // Whether the link's tail keeps its distance, and its head is no farther over it than this distance.
+    fn supports(self, link: &Link, distance: u32) -> bool
+        ensures { IsTrue result ↔
+            Supports (map.get self.entry.distances.now) self.entry.lost.now distance link.now }
+    {
+        match self.distances.get(&link.from) {
+            Some(near) => near + u32::from(link.cost) <= distance && !self.lost.has(&link.from),
+            None => false,
+        }
+    }
 }
 
 // Where the search for the vertex's support goes on.
@@ -232,35 +259,6 @@ fn note_stop(
         stops.insert(vertex, stop)?;
     }
     Ok(())
-}
-
-// The place of the first link that supports its head at the distance.
-fn find_support(
-    links: &[Link],
-    lost: &Members,
-    distances: &Distances,
-    distance: u32,
-) -> Option<usize>
-    ensures none { IfNone result (NoneSupports distances.now lost.now distance links.now) }
-    ensures within { IfSome result (λ place. place < length links.now) }
-    ensures found { IfSome result (λ _. SomeSupports distances.now lost.now distance links.now) }
-{
-    for (place, link) in links.iter().enumerate() {
-        if supports(link, lost, distances, distance) {
-            return Some(place);
-        }
-    }
-    None
-}
-
-// Whether the link's tail is reached and not lost, and its head no farther over it than the distance.
-fn supports(link: &Link, lost: &Members, distances: &Distances, distance: u32) -> bool
-    ensures { IsTrue result ↔ Supports (map.get distances.now) lost.now distance link.now }
-{
-    match distances.get(&link.from) {
-        Some(near) => near + u32::from(link.cost) <= distance && !lost.has(&link.from),
-        None => false,
-    }
 }
 
 // Whether the link is a least one into a vertex other than the root.

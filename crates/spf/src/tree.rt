@@ -7,6 +7,7 @@ ghost use Rattle.spf.specs.TreeValues.{AreChanged, AreOthersKept, IsBoundedBy, I
 
 use crate::lose_support::lose_support;
 use crate::places::{root_of, tail_of};
+use crate::relax::LinksAfter;
 use crate::workspace::Workspace;
 use ospf_types::entry::Vertex;
 use ospf_types::hop::NextHop;
@@ -81,9 +82,11 @@ impl Tree {
         let root = tail_of(came, root);
         let touched = workspace.update_distances_and_hops(
             alloc,
-            graph,
-            &root,
-            came,
+            LinksAfter {
+                graph,
+                root: &root,
+                came,
+            },
             &mut distances,
             &mut hops,
         )?;
@@ -210,21 +213,23 @@ impl Tree {
         remember(
             &self.distances,
             &self.root,
-            self.workspace.search.losses.lost.as_slice(),
+            self.workspace.search.lost.as_slice(),
             &mut self.workspace.remembered,
         )?;
         let touched = self.workspace.update_distances_and_hops(
             alloc,
-            graph,
-            &self.root,
-            changes.came.as_slice(),
+            LinksAfter {
+                graph,
+                root: &self.root,
+                came: changes.came.as_slice(),
+            },
             &mut self.distances,
             &mut self.hops,
         )?;
         list_differing(
             self.workspace.remembered.as_slice(),
             &self.distances,
-            &self.workspace.search.losses.lost,
+            &self.workspace.search.lost,
             &self.workspace.moved,
             &self.workspace.written,
             &mut self.workspace.listing,

@@ -7,13 +7,13 @@ ghost use Rattle.tree_parts.specs.Maps.{with_hops};
 ghost use Rattle.spf.specs.HandedOn.{AreBlank, AreHeadsPut, AreReachedPut, HasDistance, IsHeadPut, IsLeastLink, IsReachedPut, IsSettledIn};
 ghost use Rattle.spf.specs.Parts.{AreReadyToUpdate, AreSettledIn};
 
-use crate::gathering::{are_same, gather};
-use crate::lose_support::Losses;
+use crate::gathering::{TreeInUpdate, are_same};
 use crate::places::is_at_root;
+use crate::relax::Waiting;
 use hop_sets::HopSet;
 use ospf_types::memory::Memory;
 use std::alloc::Global;
-use tree_parts::{Distances, HopColumns, Touched, VertexList};
+use tree_parts::{Distances, HopColumns, Members, Touched, VertexList};
 use vertex_graph::{Graph, Link};
 use vertex_map::Placed;
 use vertex_queue::Queue;
@@ -23,32 +23,47 @@ pub(crate) fn update_next_hops(
     alloc: Global,
     graph: &Graph,
     distances: &Distances,
-    losses: &Losses,
+    lost: &Members,
     moved: &VertexList,
+    waiting: &mut Waiting,
     hops: &mut HopColumns,
-    queue: &mut Queue,
     written: &mut VertexList,
     touched: &mut Touched,
 ) -> Result<(), Memory>
-    requires none_wait { queue.old ≡ map.empty }
-    requires unsettled { AreReadyToUpdate graph.now distances.now hops.old losses.now moved.now }
+    requires none_wait { waiting.old.queue ≡ map.empty }
+    requires unsettled { AreReadyToUpdate graph.now distances.now hops.old
+        lost.now moved.now waiting.old.stale }
     requires fits { touched.old.taken < 2 ^ 63 }
     requires none_written { touched.old.hop_sets ≡ 0 }
     ensures settled { OnOk result (AreSettledIn graph.now distances.now hops.old hops.new
-        losses.now moved.now written.new (touched.new.taken - touched.old.taken)) }
+        lost.now moved.now waiting.old.stale written.new
+        (touched.new.taken - touched.old.taken)) }
     ensures taken { OnOk result (touched.old.taken ≤ touched.new.taken) }
     ensures written { OnOk result (touched.new.hop_sets ≡ length written.new) }
 {
     written.clear();
-    blank(distances, losses.lost.as_slice(), hops, written, touched)?;
+    blank(distances, lost.as_slice(), hops, written, touched)?;
     let root = graph.root();
-    put_reached(root, distances, moved.as_slice(), queue)?;
-    put_reached(root, distances, losses.stale.as_slice(), queue)?;
+    put_reached(root, distances, moved.as_slice(), &mut waiting.queue)?;
+    put_reached(
+        root,
+        distances,
+        waiting.stale.as_slice(),
+        &mut waiting.queue,
+    )?;
     prove!(distances.len() <= usize::MAX / 2);
     // 16.1 (3): the vertex closest to the root, a network before a router.
-    while let Some((vertex, distance)) = touched.take(queue) {
+    while let Some((vertex, distance)) = touched.take(&mut waiting.queue) {
         settle(
-            alloc, graph, distances, &vertex, distance, hops, touched, queue, written,
+            alloc,
+            graph,
+            distances,
+            &vertex,
+            distance,
+            hops,
+            touched,
+            &mut waiting.queue,
+            written,
         )?;
     }
     Ok(())
@@ -98,9 +113,13 @@ fn settle(
     ensures taken { OnOk result (touched.new.taken ≡ touched.old.taken) }
     ensures counted { OnOk result (touched.new.hop_sets ≡ length written.new) }
 {
-    let links = graph.links_into(vertex);
+    let tree = TreeInUpdate {
+        graph,
+        distances,
+        hops,
+    };
     // 16.1.1: the union over all paths of least cost.
-    let set = gather(alloc, graph, distances, hops, vertex, links, distance)?;
+    let set = tree.gather(alloc, vertex, distance)?;
     if are_same(hops.get(vertex), &set) {
         return Ok(());
     }

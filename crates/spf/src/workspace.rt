@@ -5,12 +5,11 @@ ghost use Rattle.tree_parts.specs.Maps.{AreHopsInOrder};
 ghost use Rattle.spf.specs.TreeValues.{ComesTo, IsBegunWith, tree_of};
 
 use crate::lose_support::Search;
-use crate::relax::relax;
+use crate::relax::LinksAfter;
 use crate::update_next_hops::update_next_hops;
 use ospf_types::memory::Memory;
 use std::alloc::Global;
 use tree_parts::{Distances, HopColumns, Listing, Touched, VertexList};
-use vertex_graph::{Graph, Link};
 use vertex_map::Placed;
 use vertex_queue::Queue;
 use word_hash::WordHash;
@@ -23,7 +22,6 @@ pub(crate) struct Workspace {
     pub(crate) search: Search,
     // The root and what was lost, each with its distance before.
     pub(crate) remembered: Vec<(Placed, Option<u32>)>,
-    queue: Queue,
     pub(crate) moved: VertexList,
     pub(crate) written: VertexList,
     pub(crate) listing: Listing,
@@ -36,7 +34,6 @@ impl Drop for Workspace {
         let Workspace {
             search: _search,
             remembered: _remembered,
-            queue: _queue,
             moved: _moved,
             written: _written,
             listing: _listing,
@@ -48,13 +45,12 @@ impl Drop for Workspace {
 impl Workspace {
     /// Nothing is found yet.
     pub(crate) fn new(alloc: Global, hashing: WordHash) -> Workspace
-        ensures lost { result.search.losses.lost ≡ [] }
-        ensures stale { result.search.losses.stale ≡ [] }
+        ensures lost { result.search.lost ≡ [] }
+        ensures stale { result.search.waiting.stale ≡ [] }
     {
         Workspace {
             search: Search::new(alloc, hashing),
             remembered: Vec::new(alloc),
-            queue: Queue::new(alloc, hashing),
             moved: VertexList::new(alloc),
             written: VertexList::new(alloc),
             listing: Listing::new(alloc),
@@ -63,47 +59,38 @@ impl Workspace {
     }
 
     /// Brings distances and next hops to those after, once it is known what is lost: the second and the third part of a
-    /// repair. The root is looked for at the place.
+    /// repair.
     pub(crate) fn update_distances_and_hops(
         &mut self,
         alloc: Global,
-        graph: &Graph,
-        place: &Placed,
-        came: &[Link],
+        after: LinksAfter<'_>,
         distances: &mut Distances,
         hops: &mut HopColumns,
     ) -> Result<Touched, Memory>
-        requires begun { IsBegunWith graph.now came.now
-            (tree_of distances.old hops.old) self.old.search.losses }
-        ensures carried_out { IfOk result (ComesTo graph.now came.now
+        requires begun { IsBegunWith after.graph.now after.came.now
+            (tree_of distances.old hops.old) self.old.search }
+        ensures carried_out { IfOk result (ComesTo after.entry.graph.now after.entry.came.now
             (tree_of distances.old hops.old) (tree_of distances.new hops.new) self.old self.new) }
-        ensures lost { OnOk result (self.new.search.losses.lost ≡ self.old.search.losses.lost) }
+        ensures lost { OnOk result (self.new.search.lost ≡ self.old.search.lost) }
         ensures remembered { self.new.remembered ≡ self.old.remembered }
         ensures were_in_order { AreHopsInOrder hops.old }
         ensures in_order { OnOk result (AreHopsInOrder hops.new) }
     {
         let _ = hops.len();
-        let mut touched = Touched::none();
         // proof: nothing waits, as a tree is not repaired once memory ran out.
-        empty(&mut self.queue);
-        relax(
-            graph,
-            place,
-            came,
-            &mut self.search.losses,
-            distances,
-            &mut self.queue,
-            &mut self.moved,
-            &mut touched,
-        )?;
+        empty(&mut self.search.waiting.queue);
+        let mut touched = self
+            .search
+            .waiting
+            .relax(after, &self.search.lost, distances, &mut self.moved)?;
         update_next_hops(
             alloc,
-            graph,
+            after.graph,
             distances,
-            &self.search.losses,
+            &self.search.lost,
             &self.moved,
+            &mut self.search.waiting,
             hops,
-            &mut self.queue,
             &mut self.written,
             &mut touched,
         )?;
@@ -113,13 +100,13 @@ impl Workspace {
 
     /// Gives up the places of vertices that do not wait, where there are more than so many.
     pub(crate) fn trim(&mut self, most: usize) {
-        self.queue.trim(most);
+        self.search.waiting.queue.trim(most);
     }
 
     /// Gives back the memory that only a large repair needs.
     pub(crate) fn give_back(&mut self, alloc: Global) {
-        if self.search.losses.stale.len() > MOST_KEPT {
-            self.search = Search::new(alloc, self.hashing);
+        if self.search.waiting.stale.len() > MOST_KEPT {
+            self.search.give_back(alloc, self.hashing);
             self.remembered = Vec::new(alloc);
         }
         if self.moved.len().max(self.written.len()) > MOST_KEPT {

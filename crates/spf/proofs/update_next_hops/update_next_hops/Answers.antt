@@ -5,23 +5,23 @@ use Rattle.tree_parts.specs.declared.touched.Touched.{Touched}
 use Rattle.spf.specs.HandedOn.{AreBlanked}
 use Rattle.spf.specs.Parts.{AreSettled, hops_of}
 use Rattle.spf.proofs.OptionCases.{of_absent}
-use Rattle.spf.proofs.HandingRounds.{put_named, amidst_start, not_written_yet, amidst_round, taken_few, taken_fewer, amidst_end}
+use Rattle.spf.proofs.UpdateNextHopsRounds.{put_named, amidst_start, not_written_yet, amidst_round, taken_few, taken_fewer, amidst_end}
 use Rattle.spf.proofs.update_next_hops.update_next_hops.Goals as goal
 
 pub loop-vertex-init : goal.loop-vertex-init
 loop-vertex-init c =
     let blanked = subst (λ (lost : List Vertex). AreBlanked (get c.args.distances.now) lost c.args.hops.now c.blank.new.hops c.blank.new.written) c.as_slice.ensures.value c.in_ok-blank.ensures.blanked in
-    let first = put_named (get c.args.distances.now) c.root-root.result c.args.graph.now.root c.as_slice-2.result.now c.args.moved.now (get c.args.queue.now) (get c.put_reached.new.queue) c.root-root.ensures.value c.as_slice-2.ensures.value c.in_ok-put_reached.ensures in
+    let first = put_named (get c.args.distances.now) c.root-root.result c.args.graph.now.root c.as_slice-2.result.now c.args.moved.now (get c.args.waiting.now.queue) (get c.put_reached.new.queue) c.root-root.ensures.value c.as_slice-2.ensures.value c.in_ok-put_reached.ensures in
     let second =
-    put_named (get c.args.distances.now) c.root-root.result c.args.graph.now.root c.as_slice-3.result.now c.args.losses.now.stale (get c.put_reached.new.queue) (get c.put_reached-2.new.queue) c.root-root.ensures.value c.as_slice-3.ensures.value c.in_ok-put_reached-2.ensures
+    put_named (get c.args.distances.now) c.root-root.result c.args.graph.now.root c.as_slice-3.result.now c.args.waiting.now.stale (get c.put_reached.new.queue) (get c.put_reached-2.new.queue) c.root-root.ensures.value c.as_slice-3.ensures.value c.in_ok-put_reached-2.ensures
     in
-    amidst_start c.requires.unsettled blanked c.args.queue.now c.put_reached.new.queue c.put_reached-2.new.queue c.blank.new.touched.taken c.blank.new.touched.hop_sets c.requires.none_wait c.in_ok-blank.ensures.counted first second
+    amidst_start c.requires.unsettled blanked c.args.waiting.now.queue c.put_reached.new.queue c.put_reached-2.new.queue c.blank.new.touched.taken c.blank.new.touched.hop_sets c.requires.none_wait c.in_ok-blank.ensures.counted first second
 
 pub take-requires : goal.take-requires
 take-requires c = omega (arith, taken_few c.args.distances.now c.loop-vertex.invariant, c.len.ensures.small, c.len.ensures.value, c.requires.fits, c.in_ok-blank.ensures.taken)
 
 pub settle-requires-clause-at : goal.settle-requires-clause-at
-settle-requires-clause-at c = (c.loop-vertex.invariant.handing.queued c.in-Some.vertex c.in-Some.distance c.in-Some.ensures.first.waits).0
+settle-requires-clause-at c = (c.loop-vertex.invariant.updating.queued c.in-Some.vertex c.in-Some.distance c.in-Some.ensures.first.waits).0
 
 pub settle-requires-clause-fresh : goal.settle-requires-clause-fresh
 settle-requires-clause-fresh c = not_written_yet c.loop-vertex.invariant c.in-Some.vertex c.in-Some.distance c.in-Some.ensures.first.waits
@@ -41,4 +41,4 @@ returns-clause-settled c =
     let settled = amidst_end c.requires.unsettled blanked c.loop-vertex.invariant (of_absent c.take.result c.in_default.not-Some c.take.ensures.none) in
     let same : c.take.new.self ≡ c.loop-vertex.touched = of_absent c.take.result c.in_default.not-Some c.take.ensures.uncounted in
     let count : c.loop-vertex.touched.taken - c.blank.new.touched.taken ≡ c.take.new.self.taken - c.args.touched.now.taken = ap (λ (t : Touched). t.taken - c.blank.new.touched.taken) (sym same) ∙ ap (λ n. c.take.new.self.taken - n) c.in_ok-blank.ensures.taken in
-    subst (λ (n : ℕ). AreSettled c.args.graph.now (get c.args.distances.now) (hops_of c.args.hops.now) (hops_of c.loop-vertex.hops) c.args.losses.now.lost c.args.moved.now c.args.losses.now.stale c.loop-vertex.written n) count settled
+    subst (λ (n : ℕ). AreSettled c.args.graph.now (get c.args.distances.now) (hops_of c.args.hops.now) (hops_of c.loop-vertex.hops) c.args.lost.now c.args.moved.now c.args.waiting.now.stale c.loop-vertex.written n) count settled

@@ -1,7 +1,4 @@
-use Rattle.std.proofs.Common.{List, refl, sym, ap, subst}
-use Rattle.std.specs.FinMap.{get}
-use Rattle.ospf_types.specs.declared.entry.Vertex.{Vertex}
-use Rattle.spf.specs.Parts.{AreUnsettled, hops_of}
+use Rattle.std.proofs.Common.{refl, ap}
 use Rattle.spf.specs.TreeValues.{tree_of}
 use Rattle.spf.proofs.Finished.{carried_out}
 use Rattle.spf.proofs.CarriedOut.{started, distances_before, unsettled}
@@ -16,10 +13,9 @@ relax-requires-clause-links c = c.requires.begun.1.before.came
 pub update_next_hops-requires-clause-unsettled : goal.update_next_hops-requires-clause-unsettled
 update_next_hops-requires-clause-unsettled c =
     let w = c.requires.begun in
-    subst (λ (lost : List Vertex). AreUnsettled c.args.graph.now (get c.relax.new.distances) (hops_of c.args.hops.now) lost c.relax.new.moved c.relax.new.losses.stale) (sym c.in_ok-relax.ensures.lost)
-    (unsettled (tree_of c.relax.new.distances c.args.hops.now) w.1.before w.1.losses c.in_ok-relax.ensures.relaxed)
+    unsettled (tree_of c.relax.new.distances c.args.hops.now) w.1.before w.1.losses c.in_ok-touched.ensures.relaxed
 
 pub returns-clause-carried_out : goal.returns-clause-carried_out
 returns-clause-carried_out c =
-    carried_out (tree_of c.relax.new.distances c.update_next_hops.new.hops) c.requires.begun.1 c.in_ok-relax.ensures.relaxed c.in_ok-relax.ensures.lost c.in_ok-update_next_hops.ensures.settled (ap (λ (t : _). t.taken) c.in_ok-relax.ensures.counted) c.in_ok-update_next_hops.ensures.taken
+    carried_out (tree_of c.relax.new.distances c.update_next_hops.new.hops) c.requires.begun.1 c.in_ok-touched.ensures.relaxed c.in_ok-update_next_hops.ensures.settled (ap (λ (t : _). t.taken) c.in_ok-touched.ensures.counted) c.in_ok-update_next_hops.ensures.taken
     c.in_ok-update_next_hops.ensures.written refl
