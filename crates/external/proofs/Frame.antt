@@ -37,7 +37,7 @@ use Rattle.external.specs.Forwards.{ForwardValue, ForwardsByAddress, IsForwardOf
 use Rattle.external.specs.Inputs.{ExternalInputsValue}
 use Rattle.external.specs.Offers.{OffersOf}
 use Rattle.external.specs.Preferred.{PreferredByRouter, PreferredValue, EntryOffers, IsPreferredFor, RouterOffers}
-use Rattle.external.specs.Renewing.{IsNoShorter, IsNoShorterThan, StandsBut}
+use Rattle.external.specs.Updating.{IsNoShorter, IsNoShorterThan, StandsBut}
 
 -- ---- results of the same offers
 

@@ -7,7 +7,7 @@ use Rattle.ospf_types.specs.declared.key.Dest.{Dest}
 use Rattle.ospf_types.proofs.Elements.{no_element, contains_more}
 use Rattle.offer_index.specs.declared.lsa_group.LsaGroup.{LsaGroup}
 use Rattle.offer_index.specs.Indexes.{OfferIndexValue, GroupLeadsTo}
-use Rattle.external.specs.Renewing.{AreLed}
+use Rattle.external.specs.Updating.{AreLed}
 
 module _ (i : OfferIndexValue) (group : ℕ → LsaGroup) (numbers : List ℕ) where
   -- none

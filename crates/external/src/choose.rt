@@ -11,7 +11,7 @@ ghost use Rattle.external.specs.Choosing.{TakesPaths, PathsOffer, LeadsOffer, Ke
 ghost use Rattle.external.specs.Forwards.{WayOffers, forwards_in};
 ghost use Rattle.external.specs.Offers.{AdvertisedOffers, ForwardLeads, preference_of};
 ghost use Rattle.external.specs.Preferred.{preferred_in};
-ghost use Rattle.external.specs.Renewing.{IsEntryBy};
+ghost use Rattle.external.specs.Updating.{IsEntryBy};
 
 use crate::forward::{Forward, Way, has_internal};
 use crate::inputs::ExternalInputs;
@@ -23,7 +23,7 @@ use ospf_types::key::{Dest, Key};
 use ospf_types::memory::Memory;
 use ospf_types::prefix::Prefix;
 use path_choice::{Best, Choice, ExactOrd};
-use result_map::ResultMap;
+use result_map::{Choose, ResultMap};
 use std::alloc::Global;
 use std::marker::Model;
 
@@ -96,28 +96,120 @@ impl ExternalKey {
     }
 }
 
-/// The entry of the network by the index, with what is kept of AS boundary routers and of forwarding addresses; none where
-/// nothing is offered.
-pub(crate) fn choose(
-    alloc: Global,
-    inputs: &ExternalInputs<'_>,
-    index: &OfferIndex,
-    preferred: &ResultMap<u32, Preferred>,
-    forwards: &ResultMap<u32, Forward>,
-    network: Prefix,
-) -> Result<Option<Entry>, Memory>
-    ensures { IfOk result (IsEntryBy inputs.now index.now (preferred_in preferred.now)
-        (forwards_in forwards.now) network) }
-{
-    // 16.4 (6) (a): intra-area and inter-area paths are preferred.
-    if has_internal(inputs, network) {
-        return Ok(None);
+/// What the entries of networks are chosen by.
+#[derive(Drop)]
+pub(crate) struct Choosing<'a> {
+    pub(crate) inputs: &'a ExternalInputs<'a>,
+    /// What AS-external-LSAs advertise.
+    pub(crate) index: &'a OfferIndex,
+    /// The preferred entries of AS boundary routers.
+    pub(crate) preferred: &'a ResultMap<u32, Preferred>,
+    /// Where forwarding addresses lead.
+    pub(crate) forwards: &'a ResultMap<u32, Forward>,
+}
+
+impl<'a> Choose<Prefix, Entry, Dest> for Choosing<'a> {
+    ghost use Rattle.std.specs.FinMap as map;
+    ghost use Rattle.ospf_types.specs.declared.key.Dest.TheVariants.{Net};
+    ghost use Rattle.external.specs.Updating.{IsEntryBy};
+
+    ghost IsChosen = { λ by network fresh. IsEntryBy by.inputs.now by.index.now (map.from_entries by.preferred.now.entries) (map.from_entries by.forwards.now.entries) network fresh };
+
+    ghost named_as = { Net };
+
+    fn choose(&self, alloc: Global, key: Prefix) -> Result<Option<Entry>, Memory> {
+        self.choose_entry(alloc, key)
     }
-    let mut best = Best::new(alloc);
-    offer_network(alloc, &mut best, index, preferred, forwards, network)?;
-    match best.into_choice() {
-        Some(choice) => Ok(Some(entry(choice))),
-        None => Ok(None),
+
+    fn name(&self, key: Prefix) -> Dest {
+        Dest::Net(key)
+    }
+}
+
+impl Choosing<'_> {
+    // The entry of the network; none where nothing is offered.
+    fn choose_entry(&self, alloc: Global, network: Prefix) -> Result<Option<Entry>, Memory>
+        ensures { IfOk result (IsEntryBy self.now.inputs.now self.now.index.now
+            (preferred_in self.now.preferred.now) (forwards_in self.now.forwards.now) network) }
+    {
+        // 16.4 (6) (a): intra-area and inter-area paths are preferred.
+        if has_internal(self.inputs, network) {
+            return Ok(None);
+        }
+        let mut best = Best::new(alloc);
+        self.offer_network(alloc, &mut best, network)?;
+        match best.into_choice() {
+            Some(choice) => Ok(Some(entry(choice))),
+            None => Ok(None),
+        }
+    }
+
+    // Offers what is advertised to the network.
+    fn offer_network(
+        &self,
+        alloc: Global,
+        best: &mut Best<ExternalKey, Path>,
+        network: Prefix,
+    ) -> Result<(), Memory>
+        ensures { OnOk result (TakesPaths (NetworkOffers self.now.index.now
+            (preferred_in self.now.preferred.now) (forwards_in self.now.forwards.now) network)
+            best.old best.new) }
+    {
+        let mut keys = Vec::new(alloc);
+        self.index
+            .list_keys(LsaGroup::To(Dest::Net(network)), &mut keys)?;
+        self.offer_keys(best, keys.as_slice())
+    }
+
+    // Offers what is advertised under each of these keys.
+    fn offer_keys(&self, best: &mut Best<ExternalKey, Path>, keys: &[Key]) -> Result<(), Memory>
+        ensures { OnOk result (TakesPaths (KeysOffer keys.now self.now.index.now.routes
+            (preferred_in self.now.preferred.now) (forwards_in self.now.forwards.now))
+            best.old best.new) }
+    {
+        for key in keys {
+            self.offer_key(best, *key)?;
+        }
+        Ok(())
+    }
+
+    // Offers what is advertised under the key, if its AS boundary router has an entry.
+    fn offer_key(&self, best: &mut Best<ExternalKey, Path>, key: Key) -> Result<(), Memory>
+        ensures { OnOk result (TakesPaths (KeyOffers self.now.index.now.routes
+            (preferred_in self.now.preferred.now) (forwards_in self.now.forwards.now) key)
+            best.old best.new) }
+    {
+        let Some(route) = self.index.route(key) else {
+            return Ok(());
+        };
+        // 16.4 (3): the AS boundary router must have an entry.
+        match self.preferred.get(key.router) {
+            Some(entry) => self.offer_route(best, key, *route, entry),
+            None => Ok(()),
+        }
+    }
+
+    // Offers the route of an AS boundary router with this entry.
+    fn offer_route(
+        &self,
+        best: &mut Best<ExternalKey, Path>,
+        key: Key,
+        route: Advertised,
+        entry: &Preferred,
+    ) -> Result<(), Memory>
+        ensures { OnOk result (TakesPaths (AdvertisedOffers (Some entry.now)
+            (map.get (forwards_in self.now.forwards.now) route.forwarding) key route)
+            best.old best.new) }
+    {
+        // 16.4 (3): without a forwarding address packets go to the AS boundary router itself.
+        if route.forwarding() == 0 {
+            let at = ExternalKey::of(route, entry.class(), entry.cost());
+            return offer_hops(best, at, key.router, entry.hops());
+        }
+        match self.forwards.get(route.forwarding()) {
+            Some(forward) => offer_forward(best, key.router, route, forward),
+            None => Ok(()),
+        }
     }
 }
 
@@ -134,83 +226,6 @@ fn entry(choice: Choice<ExternalKey, Path>) -> Entry
         cost: key.cost,
         cost2: key.metric,
         paths: Paths::new(paths),
-    }
-}
-
-// Offers what is advertised to the network.
-fn offer_network(
-    alloc: Global,
-    best: &mut Best<ExternalKey, Path>,
-    index: &OfferIndex,
-    preferred: &ResultMap<u32, Preferred>,
-    forwards: &ResultMap<u32, Forward>,
-    network: Prefix,
-) -> Result<(), Memory>
-    ensures { OnOk result (TakesPaths (NetworkOffers index.now (preferred_in preferred.now)
-        (forwards_in forwards.now) network) best.old best.new) }
-{
-    let mut keys = Vec::new(alloc);
-    index.list_keys(LsaGroup::To(Dest::Net(network)), &mut keys)?;
-    offer_keys(best, index, preferred, forwards, keys.as_slice())
-}
-
-// Offers what is advertised under each of these keys.
-fn offer_keys(
-    best: &mut Best<ExternalKey, Path>,
-    index: &OfferIndex,
-    preferred: &ResultMap<u32, Preferred>,
-    forwards: &ResultMap<u32, Forward>,
-    keys: &[Key],
-) -> Result<(), Memory>
-    ensures { OnOk result (TakesPaths (KeysOffer keys.now index.now.routes
-        (preferred_in preferred.now) (forwards_in forwards.now)) best.old best.new) }
-{
-    for key in keys {
-        offer_key(best, index, preferred, forwards, *key)?;
-    }
-    Ok(())
-}
-
-// Offers what is advertised under the key, if its AS boundary router has an entry.
-fn offer_key(
-    best: &mut Best<ExternalKey, Path>,
-    index: &OfferIndex,
-    preferred: &ResultMap<u32, Preferred>,
-    forwards: &ResultMap<u32, Forward>,
-    key: Key,
-) -> Result<(), Memory>
-    ensures { OnOk result (TakesPaths (KeyOffers index.now.routes (preferred_in preferred.now)
-        (forwards_in forwards.now) key) best.old best.new) }
-{
-    let Some(route) = index.route(key) else {
-        return Ok(());
-    };
-    // 16.4 (3): the AS boundary router must have an entry.
-    match preferred.get(key.router) {
-        Some(entry) => offer_route(best, key, *route, entry, forwards),
-        None => Ok(()),
-    }
-}
-
-// Offers the route of an AS boundary router with this entry.
-fn offer_route(
-    best: &mut Best<ExternalKey, Path>,
-    key: Key,
-    route: Advertised,
-    entry: &Preferred,
-    forwards: &ResultMap<u32, Forward>,
-) -> Result<(), Memory>
-    ensures { OnOk result (TakesPaths (AdvertisedOffers (Some entry.now)
-        (map.get (forwards_in forwards.now) route.forwarding) key route) best.old best.new) }
-{
-    // 16.4 (3): without a forwarding address packets go to the AS boundary router itself.
-    if route.forwarding() == 0 {
-        let at = ExternalKey::of(route, entry.class(), entry.cost());
-        return offer_hops(best, at, key.router, entry.hops());
-    }
-    match forwards.get(route.forwarding()) {
-        Some(forward) => offer_forward(best, key.router, route, forward),
-        None => Ok(()),
     }
 }
 

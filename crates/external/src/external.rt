@@ -6,15 +6,16 @@ ghost use Rattle.ospf_types.specs.Keys.{dest_cmp};
 ghost use Rattle.active_ranges.specs.Lists.{HasJust};
 ghost use Rattle.external.specs.Externals.{HasEntry, HasPreferred, IsExternalOf, no_routes, spent_routes};
 ghost use Rattle.external.specs.Changes.{AreRoutesBehind, DiffersAt};
-ghost use Rattle.external.specs.Renewing.{HasBoundaryRouters, StandsBut, StandsButRouters};
+ghost use Rattle.external.specs.Updating.{HasBoundaryRouters, StandsBut, StandsButRouters};
 ghost use Rattle.external.specs.Right.{IsRightWith};
 
+use crate::choose::Choosing;
 use crate::forward::Forward;
 use crate::inputs::ExternalInputs;
 use crate::preferred::Preferred;
-use crate::renew::{
-    Choosing, Forwarding, add_routers, push_by, push_forwarded, push_led, push_routers,
-    renew_entries, renew_forwards, renew_preferred,
+use crate::update::{
+    Forwarding, Preferring, add_routers, list_dests_by_addresses, list_dests_by_routers,
+    list_networks_led_to, list_routers,
 };
 use intra::Dirty;
 use offer_index::{ChangedOffers, OfferIndex};
@@ -88,7 +89,7 @@ impl External {
         let mut external = External::blank(alloc, hashing);
         let affected = external.follow_all(alloc, inputs)?;
         let routers = boundary_routers(alloc, inputs)?;
-        external.renew(alloc, inputs, routers.as_slice(), affected)?;
+        external.update_results(alloc, inputs, routers.as_slice(), affected)?;
         Ok(external)
     }
 
@@ -183,7 +184,7 @@ impl External {
         ensures exact { IfOk result (λ dests. HasJust (DiffersAt self.old self.new) dests.items) }
     {
         let affected = self.follow(alloc, inputs, dirty)?;
-        self.renew(alloc, inputs, dirty.dests.as_slice(), affected)
+        self.update_results(alloc, inputs, dirty.dests.as_slice(), affected)
     }
 
     // The index follows. The answer is what may differ for it.
@@ -227,7 +228,7 @@ impl External {
     }
 
     // Works out again what is named and affected. The answer is the destinations with another result, ascending, each once.
-    fn renew(
+    fn update_results(
         &mut self,
         alloc: Global,
         inputs: &ExternalInputs<'_>,
@@ -244,19 +245,21 @@ impl External {
             addresses,
         } = affected;
         let index = &self.index;
-        let routers = renew_preferred(alloc, inputs, dests, &mut self.preferred)?;
+        // Preferred entries first, then where forwarding addresses lead, then the networks behind what differs.
+        let preferring = Preferring { inputs };
+        let routers = preferring.update_preferred(alloc, dests, &mut self.preferred)?;
         let forwarding = Forwarding { inputs, index };
-        let moved = renew_forwards(alloc, &forwarding, dests, addresses, &mut self.forwards)?;
-        push_by(index, routers.as_slice(), &mut leading)?;
-        push_forwarded(index, moved.as_slice(), &mut leading)?;
-        push_led(index, dests, &mut leading)?;
+        let moved = forwarding.update_forwards(alloc, dests, addresses, &mut self.forwards)?;
+        list_dests_by_routers(index, routers.as_slice(), &mut leading)?;
+        list_dests_by_addresses(index, moved.as_slice(), &mut leading)?;
+        list_networks_led_to(index, dests, &mut leading)?;
         let choosing = Choosing {
             inputs,
             index,
             preferred: &self.preferred,
             forwards: &self.forwards,
         };
-        let mut named = renew_entries(alloc, &choosing, leading.as_slice(), &mut self.entries)?;
+        let mut named = choosing.update_entries(alloc, leading.as_slice(), &mut self.entries)?;
         add_routers(routers.as_slice(), &mut named)?;
         Ok(named)
     }
@@ -278,7 +281,7 @@ fn boundary_routers(alloc: Global, inputs: &ExternalInputs<'_>) -> Result<Vec<De
 {
     let mut routers = inputs.intra.routers(alloc)?;
     let others = inputs.inter.dests(alloc)?;
-    push_routers(others.as_slice(), &mut routers)?;
+    list_routers(others.as_slice(), &mut routers)?;
     let mut dests = Vec::new(alloc);
     add_routers(routers.as_slice(), &mut dests)?;
     Ok(dests)
