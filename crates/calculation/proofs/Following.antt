@@ -113,7 +113,7 @@ module _ (s t : State) (keys : List (Scope × Key)) (ids : List ℕ) (range : Op
           external_differ s t keys ids alike more c.intra intra c.active active (λ p not. networks p (lower (Net p) not)) (λ p not. ranges p (lower (Net p) not)) (λ r not. routers r (lower (Router r) not)) c.inter inter between,
         )
 
-        module _ (external : ExternalValue) (last : List Dest) (renewed : (d : Dest) → Contains last d ↔ ExternalDiffers c.external external d) (over : List Dest) (over_is : over ≡ more ++ routers_in last) where
+        module _ (external : ExternalValue) (last : List Dest) (updated : (d : Dest) → Contains last d ↔ ExternalDiffers c.external external d) (over : List Dest) (over_is : over ≡ more ++ routers_in last) where
           abbrev now : CalculationValue
           now = record { trees = trees; intra = intra; active = active; inter = inter; external = external }
 
@@ -132,7 +132,7 @@ module _ (s t : State) (keys : List (Scope × Key)) (ids : List ℕ) (range : Op
               let not_below = lower (Net p) (not_more (Net p) not_over) in
               let first = networks p not_below in
               let second = between (Net p) (not_more (Net p) not_over) in
-              let third = external_stays c.external external last renewed p not_first in
+              let third = external_stays c.external external last updated p not_first in
               let both = ranges p not_below in
               item_same (entry_at c p) (entry_at now p) (IsActiveIn c.active p) (IsActiveIn active p) (λ i. entry_else (first i) (entry_else (second i) (third i))) both.1 both.0 item
 
@@ -163,5 +163,5 @@ module _ (s t : State) (keys : List (Scope × Key)) (ids : List ℕ) (range : Op
                   intra = same;
                   members = members_stay range s.config.areas t.config.areas others told c.intra.entries intra.entries range_named same c.active active is.active are;
                   inter = λ p not. between (Net p) (not_more (Net p) (not_over (Net p) not));
-                  preferred = λ r not. preferred_stays c.external external last renewed r (not_last r (not_over (Router r) not));
+                  preferred = λ r not. preferred_stays c.external external last updated r (not_last r (not_over (Router r) not));
                 }

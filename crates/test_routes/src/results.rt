@@ -42,7 +42,7 @@ fn results_are_chosen_anew_and_named_where_they_differ(rt: HostRuntime) -> Resul
     results.update_each(alloc, &[3, 5], &Below { bound: 2 }, &mut named)?;
     let then = named.len() == 3 && named.get(2) == Some(&Dest::Router(3));
     let kept = results.keys(alloc)?.as_slice() == [1].as_slice() && results.get(1) == Some(&4);
-    let renewed = !results.update(1, Some(4))? && results.update(1, None)?;
-    assert!(rt; first && then && kept && renewed && results.get(1).is_none());
+    let anew = !results.update(1, Some(4))? && results.update(1, None)?;
+    assert!(rt; first && then && kept && anew && results.get(1).is_none());
     Ok(())
 }

@@ -6,7 +6,7 @@ use Rattle.offer_index.specs.Indexes.{OfferIndexValue}
 use Rattle.inter.specs.Following.{IsFollowed}
 use Rattle.inter.specs.Inters.{InterValue}
 use Rattle.inter.proofs.Frame.{updated}
-use Rattle.inter.proofs.Renewed.{chosen_of, told_in_order, told_exactly}
+use Rattle.inter.proofs.UpdatedEach.{chosen_of, told_in_order, told_exactly}
 use Rattle.inter.proofs.inter.Inter.update_parts.Goals as goal
 
 pub returns-clause-kept : goal.returns-clause-kept

@@ -25,12 +25,12 @@ same_dests : (ds : List Dest) → map (λ (d : Dest). d) ds ++ [] ≡ ds
 same_dests ds = append-nil (map (λ (d : Dest). d) ds) ∙ map-id ds
 
 module _ (v : InterInputsValue) (i : OfferIndexValue) (was : EntriesByDest) (old new : Results Dest Entry) (start : entries_of old ≡ was) (keys before after : List Dest)
-    (renewed : AreUpdated dest_cmp (IsChosenFor v i) (λ (d : Dest). d) old new keys before after) where
+    (updated : AreUpdated dest_cmp (IsChosenFor v i) (λ (d : Dest). d) old new keys before after) where
   -- just the entries at these destinations
   pub chosen_of : (dests : List Dest) → keys ≡ dests → AreChosen v i was (entries_of new) dests
   chosen_of dests same = record {
-    here = λ d c. renewed.here d (subst (λ (ds : List Dest). Contains ds d) (sym same) c);
-    others = λ d absent. renewed.others d (λ c. absent (subst (λ (ds : List Dest). Contains ds d) same c)) ∙ ap (λ (m : EntriesByDest). get m d) start;
+    here = λ d c. updated.here d (subst (λ (ds : List Dest). Contains ds d) (sym same) c);
+    others = λ d absent. updated.others d (λ c. absent (subst (λ (ds : List Dest). Contains ds d) same c)) ∙ ap (λ (m : EntriesByDest). get m d) start;
   }
 
   module _ (none : before ≡ []) where
@@ -38,14 +38,14 @@ module _ (v : InterInputsValue) (i : OfferIndexValue) (was : EntriesByDest) (old
     pub told_in_order : IsStrictlySortedBy dest_cmp keys → IsStrictlySortedBy dest_cmp after
     told_in_order sorted =
         subst (IsStrictlySortedBy dest_cmp) (append-nil after)
-        (renewed.in_order dest_cmp [] (subst (λ (ds : List Dest). IsStrictlySortedBy dest_cmp (ds ++ (map (λ (d : Dest). d) keys ++ []))) (sym none) (subst (IsStrictlySortedBy dest_cmp) (sym (same_dests keys)) sorted)))
+        (updated.in_order dest_cmp [] (subst (λ (ds : List Dest). IsStrictlySortedBy dest_cmp (ds ++ (map (λ (d : Dest). d) keys ++ []))) (sym none) (subst (IsStrictlySortedBy dest_cmp) (sym (same_dests keys)) sorted)))
 
     -- and are just those with another entry
     pub told_exactly : (d : Dest) → Contains after d ↔ (get (entries_of new) d ≢ get was d)
     told_exactly d = (
-      λ c e. elim ((renewed.named d).0 c) [
+      λ c e. elim ((updated.named d).0 c) [
         | inl early ↦ no_element d (subst (λ (ds : List Dest). Contains ds d) none early)
         | inr other ↦ other.2 (subst (λ (k : Dest). get (entries_of new) k ≡ get (entries_of old) k) other.1 (e ∙ sym (ap (λ (m : EntriesByDest). get m d) start)))
       ],
-      λ differs. (renewed.named d).1 (inr (d, refl, λ e. differs (e ∙ ap (λ (m : EntriesByDest). get m d) start))),
+      λ differs. (updated.named d).1 (inr (d, refl, λ e. differs (e ∙ ap (λ (m : EntriesByDest). get m d) start))),
     )
