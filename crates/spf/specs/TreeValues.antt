@@ -141,7 +141,7 @@ pub record IsCarriedOut (g : GraphValue) (come : List Link) (old new : TreeValue
 -- what a repair that is begun comes to, by what is found before and after
 abbrev pub ComesTo : GraphValue → List Link → TreeValue → TreeValue → Workspace → Workspace → Touched → Type 0
 ComesTo g come old new before after touched =
-    IsCarriedOut g come old new before.search.lost before.search.waiting.stale after.moved after.written touched.taken touched.hop_sets
+    IsCarriedOut g come old new before.search.lost before.search.waiting.stale after.moved after.writer.written touched.taken touched.hop_sets
 
 -- the tree of these distances and next hops
 abbrev pub tree_of : DistanceMap → HopMap → TreeValue
