@@ -11,7 +11,7 @@ use Rattle.vertex_graph.specs.Graphs.{GraphValue, LinksOf, HasRoot}
 use Rattle.tree_parts.specs.Maps.{DistanceMap, HopMap}
 use Rattle.tree_parts.specs.Members.{HasNoDoubles}
 use Rattle.spf.specs.declared.lose_support.Search.{Search}
-use Rattle.spf.specs.declared.relax.Waiting.{Waiting}
+use Rattle.spf.specs.declared.relax.Pending.{Pending}
 use Rattle.spf.specs.declared.update_next_hops.Relaxed.{Relaxed}
 use Rattle.spf.specs.Changes.{Among, Earlier}
 use Rattle.spf.specs.Loops.{AreLosingSupport, AreRelaxing, IsReached}
@@ -63,7 +63,7 @@ pub record AreLost (g : GraphValue) (gone come : List Link) (old : Vertex → Op
 
 -- what the links that went and came take from these distances
 abbrev pub AreLostBy : GraphValue → List Link → List Link → DistanceMap → Search → Type 0
-AreLostBy g gone come distances search = AreLost g gone come (get distances) search.lost search.waiting.stale
+AreLostBy g gone come distances search = AreLost g gone come (get distances) search.lost search.pending.stale
 
 -- ---- the distances after
 
@@ -103,7 +103,7 @@ pub record IsRelaxedTo (g : GraphValue) (come : List Link) (old distance : Verte
   pub why : (v : Vertex) → Contains wider v → IsStaleNow g come stale moved v
 
 -- relaxing leads from the old distances to the new ones, with what is lost, what waits before and after, and what it moved
-abbrev pub IsRelaxed : GraphValue → List Link → DistanceMap → DistanceMap → List Vertex → Waiting → Waiting → List Vertex → Type 0
+abbrev pub IsRelaxed : GraphValue → List Link → DistanceMap → DistanceMap → List Vertex → Pending → Pending → List Vertex → Type 0
 IsRelaxed g come old new lost before after moved = IsRelaxedTo g come (get old) (get new) lost before.stale after.stale moved
 
 -- ---- the next hops after

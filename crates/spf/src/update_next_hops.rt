@@ -9,7 +9,7 @@ ghost use Rattle.spf.specs.Parts.{AreReadyToUpdate, AreSettledIn};
 
 use crate::gathering::{TreeInUpdate, are_same};
 use crate::places::is_at_root;
-use crate::relax::Waiting;
+use crate::relax::Pending;
 use hop_sets::HopSet;
 use ospf_types::memory::Memory;
 use std::alloc::Global;
@@ -59,15 +59,15 @@ impl HopWriter {
     pub(crate) fn update_next_hops(
         &mut self,
         relaxed: Relaxed<'_>,
-        waiting: &mut Waiting,
+        pending: &mut Pending,
         hops: &mut HopColumns,
     ) -> Result<(), Memory>
-        requires none_wait { waiting.old.queue ≡ map.empty }
-        requires unsettled { AreReadyToUpdate relaxed hops.old waiting.old.stale }
+        requires none_wait { pending.old.queue ≡ map.empty }
+        requires unsettled { AreReadyToUpdate relaxed hops.old pending.old.stale }
         requires fits { self.old.touched.taken < 2 ^ 63 }
         requires none_written { self.old.touched.hop_sets ≡ 0 }
         ensures settled { OnOk result (AreSettledIn relaxed.entry hops.old hops.new
-            waiting.old.stale self.new.written
+            pending.old.stale self.new.written
             (self.new.touched.taken - self.old.touched.taken)) }
         ensures taken { OnOk result (self.old.touched.taken ≤ self.new.touched.taken) }
         ensures written { OnOk result (self.new.touched.hop_sets ≡ length self.new.written) }
@@ -80,23 +80,23 @@ impl HopWriter {
             root,
             distances,
             relaxed.moved.as_slice(),
-            &mut waiting.queue,
+            &mut pending.queue,
         )?;
         put_reached(
             root,
             distances,
-            waiting.stale.as_slice(),
-            &mut waiting.queue,
+            pending.stale.as_slice(),
+            &mut pending.queue,
         )?;
         prove!(distances.len() <= usize::MAX / 2);
-        let reached = Reached {
+        let least_links = LeastLinks {
             graph: relaxed.graph,
             distances,
         };
         // 16.1 (3): the vertex closest to the root, a network before a router.
-        while let Some((vertex, distance)) = self.touched.take(&mut waiting.queue) {
+        while let Some((vertex, distance)) = self.touched.take(&mut pending.queue) {
             let taken = Taken { vertex, distance };
-            self.settle(reached, &taken, hops, &mut waiting.queue)?;
+            self.settle(least_links, &taken, hops, &mut pending.queue)?;
         }
         Ok(())
     }
@@ -128,23 +128,23 @@ impl HopWriter {
     // the heads of its least links wait.
     fn settle(
         &mut self,
-        reached: Reached<'_>,
+        least_links: LeastLinks<'_>,
         taken: &Taken,
         hops: &mut HopColumns,
         queue: &mut Queue,
     ) -> Result<(), Memory>
-        requires at { map.get reached.distances.now taken.now.vertex ≡ Some taken.now.distance }
+        requires at { map.get least_links.distances.now taken.now.vertex ≡ Some taken.now.distance }
         requires fresh { Contains self.old.written taken.now.vertex → ⊥ }
         requires counted { self.old.touched.hop_sets ≡ length self.old.written }
         ensures settled { OnOk result (IsSettledIn
-            reached.entry.graph.now reached.entry.distances.now taken.now.vertex
+            least_links.entry.graph.now least_links.entry.distances.now taken.now.vertex
             queue.old queue.new hops.old hops.new self.old.written self.new.written) }
         ensures taken { OnOk result (self.new.touched.taken ≡ self.old.touched.taken) }
         ensures counted { OnOk result (self.new.touched.hop_sets ≡ length self.new.written) }
     {
         let tree = TreeInUpdate {
-            graph: reached.graph,
-            distances: reached.distances,
+            graph: least_links.graph,
+            distances: least_links.distances,
             hops,
         };
         // 16.1.1: the union over all paths of least cost.
@@ -153,7 +153,7 @@ impl HopWriter {
             return Ok(());
         }
         self.write(&taken.vertex, Some(set), hops)?;
-        reached.put_heads(taken, queue)
+        least_links.put_heads(taken, queue)
     }
 
     // Writes the next hops of a vertex where none were written yet.
@@ -183,14 +183,14 @@ struct Taken {
     distance: u32,
 }
 
-// The vertices of a graph, and how far they are.
+// The least links of a graph: those whose head is as far as tail and link together.
 #[derive(Clone, Copy)]
-struct Reached<'a> {
+struct LeastLinks<'a> {
     graph: &'a Graph,
     distances: &'a Distances,
 }
 
-impl Reached<'_> {
+impl LeastLinks<'_> {
     // Lets the heads of the least links out of a vertex wait, but not the root.
     fn put_heads(self, taken: &Taken, queue: &mut Queue) -> Result<(), Memory>
         requires { map.get self.distances.now taken.now.vertex ≡ Some taken.now.distance }

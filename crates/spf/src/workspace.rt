@@ -46,7 +46,7 @@ impl Workspace {
     /// Nothing is found yet.
     pub(crate) fn new(alloc: Global, hashing: WordHash) -> Workspace
         ensures lost { result.search.lost ≡ [] }
-        ensures stale { result.search.waiting.stale ≡ [] }
+        ensures stale { result.search.pending.stale ≡ [] }
     {
         Workspace {
             search: Search::new(alloc, hashing),
@@ -77,10 +77,10 @@ impl Workspace {
     {
         let _ = hops.len();
         // proof: nothing waits, as a tree is not repaired once memory ran out.
-        empty(&mut self.search.waiting.queue);
+        empty(&mut self.search.pending.queue);
         let touched = self
             .search
-            .waiting
+            .pending
             .relax(after, &self.search.lost, distances, &mut self.moved)?;
         self.writer.touched = touched;
         let relaxed = Relaxed {
@@ -90,19 +90,19 @@ impl Workspace {
             moved: &self.moved,
         };
         self.writer
-            .update_next_hops(relaxed, &mut self.search.waiting, hops)?;
+            .update_next_hops(relaxed, &mut self.search.pending, hops)?;
         let _ = hops.len();
         Ok(self.writer.touched)
     }
 
     /// Gives up the places of vertices that do not wait, where there are more than so many.
     pub(crate) fn trim(&mut self, most: usize) {
-        self.search.waiting.queue.trim(most);
+        self.search.pending.queue.trim(most);
     }
 
     /// Gives back the memory that only a large repair needs.
     pub(crate) fn give_back(&mut self, alloc: Global) {
-        if self.search.waiting.stale.len() > MOST_KEPT {
+        if self.search.pending.stale.len() > MOST_KEPT {
             self.search.give_back(alloc, self.hashing);
             self.remembered = Vec::new(alloc);
         }

@@ -11,11 +11,11 @@ use Rattle.spf.proofs.update_next_hops.HopWriter.update_next_hops.Goals as goal
 pub loop-vertex-init : goal.loop-vertex-init
 loop-vertex-init c =
     let blanked = subst (λ (lost : List Vertex). AreBlanked (get c.args.relaxed.distances.now) lost c.args.hops.now c.blank.new.hops c.blank.new.self.written) c.as_slice.ensures.value c.in_ok-blank.ensures.blanked in
-    let first = put_named (get c.args.relaxed.distances.now) c.root-root.result c.args.relaxed.graph.now.root c.as_slice-2.result.now c.args.relaxed.moved.now (get c.args.waiting.now.queue) (get c.put_reached.new.queue) c.root-root.ensures.value c.as_slice-2.ensures.value c.in_ok-put_reached.ensures in
+    let first = put_named (get c.args.relaxed.distances.now) c.root-root.result c.args.relaxed.graph.now.root c.as_slice-2.result.now c.args.relaxed.moved.now (get c.args.pending.now.queue) (get c.put_reached.new.queue) c.root-root.ensures.value c.as_slice-2.ensures.value c.in_ok-put_reached.ensures in
     let second =
-    put_named (get c.args.relaxed.distances.now) c.root-root.result c.args.relaxed.graph.now.root c.as_slice-3.result.now c.args.waiting.now.stale (get c.put_reached.new.queue) (get c.put_reached-2.new.queue) c.root-root.ensures.value c.as_slice-3.ensures.value c.in_ok-put_reached-2.ensures
+    put_named (get c.args.relaxed.distances.now) c.root-root.result c.args.relaxed.graph.now.root c.as_slice-3.result.now c.args.pending.now.stale (get c.put_reached.new.queue) (get c.put_reached-2.new.queue) c.root-root.ensures.value c.as_slice-3.ensures.value c.in_ok-put_reached-2.ensures
     in
-    amidst_start c.requires.unsettled blanked c.args.waiting.now.queue c.put_reached.new.queue c.put_reached-2.new.queue c.blank.new.self.touched.taken c.blank.new.self.touched.hop_sets c.requires.none_wait c.in_ok-blank.ensures.counted first second
+    amidst_start c.requires.unsettled blanked c.args.pending.now.queue c.put_reached.new.queue c.put_reached-2.new.queue c.blank.new.self.touched.taken c.blank.new.self.touched.hop_sets c.requires.none_wait c.in_ok-blank.ensures.counted first second
 
 pub take-requires : goal.take-requires
 take-requires c = omega (arith, taken_few c.args.relaxed.distances.now c.loop-vertex.invariant, c.len.ensures.small, c.len.ensures.value, c.requires.fits, c.in_ok-blank.ensures.taken)
@@ -41,4 +41,4 @@ returns-clause-settled c =
     let settled = amidst_end c.requires.unsettled blanked c.loop-vertex.invariant (of_absent c.take.result c.in_default.not-Some c.take.ensures.none) in
     let same : c.take.new.self ≡ c.loop-vertex.self.touched = of_absent c.take.result c.in_default.not-Some c.take.ensures.uncounted in
     let count : c.loop-vertex.self.touched.taken - c.blank.new.self.touched.taken ≡ c.take.new.self.taken - c.args.self.now.touched.taken = ap (λ (t : Touched). t.taken - c.blank.new.self.touched.taken) (sym same) ∙ ap (λ n. c.take.new.self.taken - n) c.in_ok-blank.ensures.taken in
-    subst (λ (n : ℕ). AreSettled c.args.relaxed.graph.now (get c.args.relaxed.distances.now) (hops_of c.args.hops.now) (hops_of c.loop-vertex.hops) c.args.relaxed.lost.now c.args.relaxed.moved.now c.args.waiting.now.stale c.loop-vertex.self.written n) count settled
+    subst (λ (n : ℕ). AreSettled c.args.relaxed.graph.now (get c.args.relaxed.distances.now) (hops_of c.args.hops.now) (hops_of c.loop-vertex.hops) c.args.relaxed.lost.now c.args.relaxed.moved.now c.args.pending.now.stale c.loop-vertex.self.written n) count settled

@@ -6,7 +6,7 @@ use Rattle.spf.proofs.update_next_hops.HopWriter.update_next_hops.Given as goal
 
 -- what was taken, what was written and what waits
 abbrev pub invariant-loop-vertex : goal.invariant-loop-vertex
-invariant-loop-vertex l = IsAmidst l.relaxed.graph.now (get l.relaxed.distances.now) (hops_of l.initial.hops) (hops_of l.hops) l.waiting.queue l.initial.self.written l.relaxed.moved.now l.fn.waiting.stale l.self.written l.initial.self.touched.taken l.self.touched.taken l.self.touched.hop_sets
+invariant-loop-vertex l = IsAmidst l.relaxed.graph.now (get l.relaxed.distances.now) (hops_of l.initial.hops) (hops_of l.hops) l.pending.queue l.initial.self.written l.relaxed.moved.now l.fn.pending.stale l.self.written l.initial.self.touched.taken l.self.touched.taken l.self.touched.hop_sets
 
 -- what was not taken falls
 abbrev pub decreases-loop-vertex : goal.decreases-loop-vertex
