@@ -15,7 +15,7 @@ use Rattle.vertex_queue.proofs.Ranks.{lessened_here, lessened_elsewhere}
 use Rattle.tree_parts.specs.Members.{IsAdded}
 use Rattle.tree_parts.proofs.Elements.{cases_vertex}
 use Rattle.tree_parts.proofs.VertexMaps.{set_here}
-use Rattle.spf.specs.declared.relax.Waiting.{Waiting}
+use Rattle.spf.specs.declared.relax.Pending.{Pending}
 use Rattle.spf.specs.Changes.{link_value}
 use Rattle.spf.specs.Trees.{IsWithin}
 use Rattle.spf.specs.Offers.{Offers, OneOffer, OverLink, OverLinks, OverReached, OutOf, Into, AreMade}
@@ -150,8 +150,8 @@ made_same a into from = record {
 }
 
 -- under another name
-pub made_renamed : {offers : Offers} {distance before : Vertex → Option ℕ} {stale : List Vertex} {v w : Waiting} → w ≡ v → AreMade offers distance before (get v.queue) stale v.stale → AreMade offers distance before (get w.queue) stale w.stale
-made_renamed {offers} {distance} {before} {stale} is a = subst (λ (x : Waiting). AreMade offers distance before (get x.queue) stale x.stale) (sym is) a
+pub made_renamed : {offers : Offers} {distance before : Vertex → Option ℕ} {stale : List Vertex} {v w : Pending} → w ≡ v → AreMade offers distance before (get v.queue) stale v.stale → AreMade offers distance before (get w.queue) stale w.stale
+made_renamed {offers} {distance} {before} {stale} is a = subst (λ (x : Pending). AreMade offers distance before (get x.queue) stale x.stale) (sym is) a
 
 -- ---- over links
 

@@ -8,7 +8,7 @@ use Rattle.ospf_types.specs.Distances.{Links}
 use Rattle.vertex_graph.specs.Link.{Link}
 use Rattle.vertex_graph.specs.Graphs.{GraphValue, LinksOf}
 use Rattle.tree_parts.specs.Maps.{DistanceMap}
-use Rattle.spf.specs.declared.relax.Waiting.{Waiting}
+use Rattle.spf.specs.declared.relax.Pending.{Pending}
 use Rattle.spf.specs.Trees.{IsWithin}
 
 -- vertices, each with a distance
@@ -49,11 +49,11 @@ pub record AreMade (offers : Offers) (distance queue more : Vertex → Option �
   pub why : (v : Vertex) → Contains wider v → Contains stale v ⊎ ((e : ℕ) × offers v e × (distance v ≡ Some e))
 
 -- the offers were made to what waits, where vertices have these distances
-abbrev pub AreMadeIn : Offers → DistanceMap → Waiting → Waiting → Type 0
+abbrev pub AreMadeIn : Offers → DistanceMap → Pending → Pending → Type 0
 AreMadeIn offers distances old new = AreMade offers (get distances) (get old.queue) (get new.queue) old.stale new.stale
 
 -- the offers were made, whatever the distances are, if the vertex is this far
-abbrev pub AreMadeAt : Offers → Vertex → Option ℕ → Waiting → Waiting → Type 0
+abbrev pub AreMadeAt : Offers → Vertex → Option ℕ → Pending → Pending → Type 0
 AreMadeAt offers v far old new =
     (distance : Vertex → Option ℕ) → distance v ≡ far → AreMade offers distance (get old.queue) (get new.queue) old.stale new.stale
 

@@ -11,7 +11,8 @@ use Rattle.vertex_graph.specs.Graphs.{GraphValue, LinksOf, HasRoot}
 use Rattle.tree_parts.specs.Maps.{DistanceMap, HopMap}
 use Rattle.tree_parts.specs.Members.{HasNoDoubles}
 use Rattle.spf.specs.declared.lose_support.Search.{Search}
-use Rattle.spf.specs.declared.relax.Waiting.{Waiting}
+use Rattle.spf.specs.declared.relax.Pending.{Pending}
+use Rattle.spf.specs.declared.update_next_hops.Relaxed.{Relaxed}
 use Rattle.spf.specs.Changes.{Among, Earlier}
 use Rattle.spf.specs.Loops.{AreLosingSupport, AreRelaxing, IsReached}
 use Rattle.spf.specs.Repairs.{AreHeld, IsReset}
@@ -62,7 +63,7 @@ pub record AreLost (g : GraphValue) (gone come : List Link) (old : Vertex → Op
 
 -- what the links that went and came take from these distances
 abbrev pub AreLostBy : GraphValue → List Link → List Link → DistanceMap → Search → Type 0
-AreLostBy g gone come distances search = AreLost g gone come (get distances) search.lost search.waiting.stale
+AreLostBy g gone come distances search = AreLost g gone come (get distances) search.lost search.pending.stale
 
 -- ---- the distances after
 
@@ -102,7 +103,7 @@ pub record IsRelaxedTo (g : GraphValue) (come : List Link) (old distance : Verte
   pub why : (v : Vertex) → Contains wider v → IsStaleNow g come stale moved v
 
 -- relaxing leads from the old distances to the new ones, with what is lost, what waits before and after, and what it moved
-abbrev pub IsRelaxed : GraphValue → List Link → DistanceMap → DistanceMap → List Vertex → Waiting → Waiting → List Vertex → Type 0
+abbrev pub IsRelaxed : GraphValue → List Link → DistanceMap → DistanceMap → List Vertex → Pending → Pending → List Vertex → Type 0
 IsRelaxed g come old new lost before after moved = IsRelaxedTo g come (get old) (get new) lost before.stale after.stale moved
 
 -- ---- the next hops after
@@ -115,9 +116,9 @@ pub record AreUnsettled (g : GraphValue) (distance : Vertex → Option ℕ) (hop
   pub root : (h : NextHop) → hops (Router g.root) h → ⊥
   pub blank : (v : Vertex) (h : NextHop) → distance v ≡ None → hops v h → Contains lost v
 
--- the update starts from these distances and next hops, with what is lost, what was moved and what is stale
-abbrev pub AreReadyToUpdate : GraphValue → DistanceMap → HopMap → List Vertex → List Vertex → List Vertex → Type 0
-AreReadyToUpdate g distances hops lost moved stale = AreUnsettled g (get distances) (hops_of hops) lost moved stale
+-- the update starts from what relaxing left, these next hops, and what is stale
+abbrev pub AreReadyToUpdate : Relaxed → HopMap → List Vertex → Type 0
+AreReadyToUpdate r hops stale = AreUnsettled r.graph.now (get r.distances.now) (hops_of hops) r.lost.now r.moved.now stale
 
 -- why a vertex is taken in the update of next hops: it moved, it is stale, or it is the head of a link out of one whose next hops were written
 abbrev pub IsTakenBy : GraphValue → List Vertex → List Vertex → List Vertex → Vertex → Type 0
@@ -143,6 +144,6 @@ pub record AreSettled (g : GraphValue) (distance : Vertex → Option ℕ) (befor
   pub unwritten : (v : Vertex) → (Contains written v → ⊥) → (h : NextHop) → now v h ↔ before v h
 
 -- the update leads from the old next hops to the new ones, where so many vertices were taken and these were written
-abbrev pub AreSettledIn : GraphValue → DistanceMap → HopMap → HopMap → List Vertex → List Vertex → List Vertex → List Vertex → ℕ → Type 0
-AreSettledIn g distances old new lost moved stale written taken_count =
-    AreSettled g (get distances) (hops_of old) (hops_of new) lost moved stale written taken_count
+abbrev pub AreSettledIn : Relaxed → HopMap → HopMap → List Vertex → List Vertex → ℕ → Type 0
+AreSettledIn r old new stale written taken_count =
+    AreSettled r.graph.now (get r.distances.now) (hops_of old) (hops_of new) r.lost.now r.moved.now stale written taken_count

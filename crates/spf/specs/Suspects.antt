@@ -54,7 +54,7 @@ pub record AreToldOf (Told : Vertex → Type 0) (lost stale wider suspects more 
 
 -- the search told each vertex of which this holds, and no other
 abbrev pub AreToldIn : (Vertex → Type 0) → Search → Search → Type 0
-AreToldIn Told old new = AreToldOf Told old.lost old.waiting.stale new.waiting.stale old.suspects new.suspects
+AreToldIn Told old new = AreToldOf Told old.lost old.pending.stale new.pending.stale old.suspects new.suspects
 
 -- it told the heads of the least links among these
 abbrev pub AreHeadsTold : ℕ → DistanceMap → List Link → Search → Search → Type 0
@@ -91,7 +91,7 @@ IsJudged g old lost more suspects again stale wider v = IsPassed g old lost more
 -- what the search finds of a suspect
 abbrev pub IsJudgedIn : GraphValue → DistanceMap → Search → Search → Vertex → Type 0
 IsJudgedIn g distances old new v =
-    IsJudged g (get distances) old.lost new.lost old.suspects new.suspects old.waiting.stale new.waiting.stale v
+    IsJudged g (get distances) old.lost new.lost old.suspects new.suspects old.pending.stale new.pending.stale v
 
 -- while suspects are left
 pub record AreSuspected (g : GraphValue) (gone come : List Link) (old : Vertex → Option ℕ) (lost suspects stale : List Vertex) : Type 0 where

@@ -50,7 +50,7 @@ pub record IsBegun (g : GraphValue) (gone come : List Link) (t : TreeValue) (los
 
 -- a repair is begun for some links that went
 abbrev pub IsBegunWith : GraphValue → List Link → TreeValue → Search → Type 0
-IsBegunWith g come t search = (gone : List Link) × IsBegun g gone come t search.lost search.waiting.stale
+IsBegunWith g come t search = (gone : List Link) × IsBegun g gone come t search.lost search.pending.stale
 
 -- the vertex has another distance or other next hops
 abbrev pub Differs : TreeValue → TreeValue → Vertex → Type 0
@@ -141,7 +141,7 @@ pub record IsCarriedOut (g : GraphValue) (come : List Link) (old new : TreeValue
 -- what a repair that is begun comes to, by what is found before and after
 abbrev pub ComesTo : GraphValue → List Link → TreeValue → TreeValue → Workspace → Workspace → Touched → Type 0
 ComesTo g come old new before after touched =
-    IsCarriedOut g come old new before.search.lost before.search.waiting.stale after.moved after.written touched.taken touched.hop_sets
+    IsCarriedOut g come old new before.search.lost before.search.pending.stale after.moved after.writer.written touched.taken touched.hop_sets
 
 -- the tree of these distances and next hops
 abbrev pub tree_of : DistanceMap → HopMap → TreeValue

@@ -6,7 +6,7 @@ ghost use Rattle.tree_parts.specs.Maps.{most_distance};
 ghost use Rattle.spf.specs.Parts.{AreBefore, AreLostBy};
 ghost use Rattle.spf.specs.Suspects.{AreHeadsBeyondTold, AreHeadsTold, AreToldIn, AreWithin, IsJudgedIn, MaySupport, NoneSupports, SomeSupports, Supports, TellsSupport, WasLeast};
 
-use crate::relax::Waiting;
+use crate::relax::Pending;
 use crate::workspace::MOST_KEPT;
 use ospf_types::entry::Vertex;
 use ospf_types::memory::Memory;
@@ -39,7 +39,7 @@ pub(crate) fn lose_support(
 /// those that wait. It is kept for its memory.
 pub(crate) struct Search {
     pub(crate) lost: Members,
-    pub(crate) waiting: Waiting,
+    pub(crate) pending: Pending,
     suspects: Members,
     // At which of the links into a vertex a search for support stopped, if it passed over many.
     stops: VertexMap<usize>,
@@ -50,7 +50,7 @@ impl Drop for Search {
     fn drop(self) {
         let Search {
             lost: _lost,
-            waiting: _waiting,
+            pending: _pending,
             suspects: _suspects,
             stops: _stops,
         } = self;
@@ -60,12 +60,12 @@ impl Drop for Search {
 impl Search {
     pub(crate) fn new(alloc: Global, hashing: WordHash) -> Search
         ensures lost { result.lost ≡ [] }
-        ensures stale { result.waiting.stale ≡ [] }
+        ensures stale { result.pending.stale ≡ [] }
         ensures suspects { result.suspects ≡ [] }
     {
         Search {
             lost: Members::new(alloc, hashing),
-            waiting: Waiting::new(alloc, hashing),
+            pending: Pending::new(alloc, hashing),
             suspects: Members::new(alloc, hashing),
             stops: VertexMap::new(alloc, hashing),
         }
@@ -74,7 +74,7 @@ impl Search {
     /// Gives back the memory of what was found, but not that of the queue.
     pub(crate) fn give_back(&mut self, alloc: Global, hashing: WordHash) {
         self.lost = Members::new(alloc, hashing);
-        self.waiting.stale = Members::new(alloc, hashing);
+        self.pending.stale = Members::new(alloc, hashing);
         self.suspects = Members::new(alloc, hashing);
         self.stops = VertexMap::new(alloc, hashing);
     }
@@ -82,11 +82,11 @@ impl Search {
     // Takes out what the last search found. No more marks stay than so many.
     fn clear(&mut self, most: usize)
         ensures lost { self.new.lost ≡ [] }
-        ensures stale { self.new.waiting.stale ≡ [] }
+        ensures stale { self.new.pending.stale ≡ [] }
         ensures suspects { self.new.suspects ≡ [] }
     {
         self.lost.clear(most);
-        self.waiting.stale.clear(most);
+        self.pending.stale.clear(most);
         self.suspects.clear(most);
         self.stops.clear();
     }
@@ -98,7 +98,7 @@ impl Search {
         root: u32,
         distances: &Distances,
     ) -> Result<(), Memory>
-        requires within { AreWithin self.old.lost self.old.suspects self.old.waiting.stale }
+        requires within { AreWithin self.old.lost self.old.suspects self.old.pending.stale }
         ensures told { OnOk result (AreHeadsTold root distances.now gone.now self.old self.new) }
         ensures lost { OnOk result (self.new.lost ≡ self.old.lost) }
     {
@@ -119,7 +119,7 @@ impl Search {
         distance: u32,
     ) -> Result<(), Memory>
         requires near { distance < most_distance }
-        requires within { AreWithin self.old.lost self.old.suspects self.old.waiting.stale }
+        requires within { AreWithin self.old.lost self.old.suspects self.old.pending.stale }
         ensures told { OnOk result (AreHeadsBeyondTold root distances.now distance links.now
             self.old self.new) }
         ensures lost { OnOk result (self.new.lost ≡ self.old.lost) }
@@ -134,12 +134,12 @@ impl Search {
 
     // The vertex is stale, and suspected unless it is lost.
     fn suspect(&mut self, vertex: &Placed) -> Result<(), Memory>
-        requires within { AreWithin self.old.lost self.old.suspects self.old.waiting.stale }
+        requires within { AreWithin self.old.lost self.old.suspects self.old.pending.stale }
         ensures told { OnOk result (AreToldIn (λ v. vertex.now ≡ v) self.old self.new) }
         ensures lost { OnOk result (self.new.lost ≡ self.old.lost) }
     {
         // One that was not stale is neither lost nor suspected.
-        if self.waiting.stale.add(vertex)? {
+        if self.pending.stale.add(vertex)? {
             return self.suspects.push(vertex);
         }
         if !self.lost.has(vertex) {
@@ -155,8 +155,8 @@ impl Search {
         distances: &Distances,
         suspect: &Placed,
     ) -> Result<(), Memory>
-        requires within { AreWithin self.old.lost self.old.suspects self.old.waiting.stale }
-        requires stale { Contains self.old.waiting.stale suspect.now }
+        requires within { AreWithin self.old.lost self.old.suspects self.old.pending.stale }
+        requires stale { Contains self.old.pending.stale suspect.now }
         ensures { OnOk result (IsJudgedIn graph.now distances.now self.old self.new suspect.now) }
     {
         if self.lost.has(suspect) {
@@ -165,7 +165,7 @@ impl Search {
         let Some(distance) = distances.get(suspect) else {
             return Ok(());
         };
-        let kept = Kept {
+        let kept = StillReached {
             distances,
             lost: &self.lost,
         };
@@ -184,12 +184,12 @@ impl Search {
 
 // The vertices that keep their distance: those that were reached and are not lost.
 #[derive(Clone, Copy)]
-struct Kept<'a> {
+struct StillReached<'a> {
     distances: &'a Distances,
     lost: &'a Members,
 }
 
-impl Kept<'_> {
+impl StillReached<'_> {
     // Whether a link into the vertex supports it at its distance. The search goes on where one for the vertex stopped,
     // if that passed over eight links or more. What that one passed over is read again only before the vertex is lost.
     fn is_supported(

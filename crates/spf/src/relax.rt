@@ -28,28 +28,27 @@ pub(crate) struct LinksAfter<'a> {
     pub(crate) came: &'a [Link],
 }
 
-/// The vertices that wait: in the queue those that were offered a distance, and the stale ones, whose least links changed,
-/// for their next hops.
-pub(crate) struct Waiting {
+/// The vertices that are looked at again: those that wait in the queue, and the stale ones, whose least links changed.
+pub(crate) struct Pending {
     pub(crate) queue: Queue,
     pub(crate) stale: Members,
 }
 
 // proof: one call drops it, in place of a drop of each part wherever one is held.
-impl Drop for Waiting {
+impl Drop for Pending {
     fn drop(self) {
-        let Waiting {
+        let Pending {
             queue: _queue,
             stale: _stale,
         } = self;
     }
 }
 
-impl Waiting {
-    pub(crate) fn new(alloc: Global, hashing: WordHash) -> Waiting
+impl Pending {
+    pub(crate) fn new(alloc: Global, hashing: WordHash) -> Pending
         ensures { result.stale ≡ [] }
     {
-        Waiting {
+        Pending {
             queue: Queue::new(alloc, hashing),
             stale: Members::new(alloc, hashing),
         }

@@ -81,7 +81,6 @@ impl Tree {
         let came = graph.links_from(root);
         let root = tail_of(came, root);
         let touched = workspace.update_distances_and_hops(
-            alloc,
             LinksAfter {
                 graph,
                 root: &root,
@@ -121,7 +120,7 @@ impl Tree {
         ensures spent { OnErr result (self.new ≡ spent_value) }
     {
         self.trim(graph);
-        let repaired = self.repair_parts(alloc, graph, changes);
+        let repaired = self.repair_parts(graph, changes);
         match &repaired {
             Ok(_) => self.workspace.give_back(alloc),
             Err(_) => self.spend(),
@@ -193,12 +192,7 @@ impl Tree {
 impl Tree {
     // All parts of a repair, and the vertices that they changed. After an error the tree is neither of the links
     // before nor of those after.
-    fn repair_parts(
-        &mut self,
-        alloc: Global,
-        graph: &Graph,
-        changes: &LinkChanges,
-    ) -> Result<Touched, Memory>
+    fn repair_parts(&mut self, graph: &Graph, changes: &LinkChanges) -> Result<Touched, Memory>
         requires { IsTreeBefore graph.now changes.now.gone.items changes.now.came.items self.old }
         ensures tree { OnOk result (IsTreeOf graph.now self.new) }
         ensures changed { OnOk result (AreChanged self.old self.new self.new.changed) }
@@ -217,7 +211,6 @@ impl Tree {
             &mut self.workspace.remembered,
         )?;
         let touched = self.workspace.update_distances_and_hops(
-            alloc,
             LinksAfter {
                 graph,
                 root: &self.root,
@@ -231,7 +224,7 @@ impl Tree {
             &self.distances,
             &self.workspace.search.lost,
             &self.workspace.moved,
-            &self.workspace.written,
+            &self.workspace.writer.written,
             &mut self.workspace.listing,
             &mut self.changed,
         )?;

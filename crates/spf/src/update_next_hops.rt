@@ -9,7 +9,7 @@ ghost use Rattle.spf.specs.Parts.{AreReadyToUpdate, AreSettledIn};
 
 use crate::gathering::{TreeInUpdate, are_same};
 use crate::places::is_at_root;
-use crate::relax::Waiting;
+use crate::relax::Pending;
 use hop_sets::HopSet;
 use ospf_types::memory::Memory;
 use std::alloc::Global;
@@ -18,133 +18,206 @@ use vertex_graph::{Graph, Link};
 use vertex_map::Placed;
 use vertex_queue::Queue;
 
-/// Brings the next hops to those after, and finds the vertices whose next hops are written.
-pub(crate) fn update_next_hops(
-    alloc: Global,
-    graph: &Graph,
-    distances: &Distances,
-    lost: &Members,
-    moved: &VertexList,
-    waiting: &mut Waiting,
-    hops: &mut HopColumns,
-    written: &mut VertexList,
-    touched: &mut Touched,
-) -> Result<(), Memory>
-    requires none_wait { waiting.old.queue ≡ map.empty }
-    requires unsettled { AreReadyToUpdate graph.now distances.now hops.old
-        lost.now moved.now waiting.old.stale }
-    requires fits { touched.old.taken < 2 ^ 63 }
-    requires none_written { touched.old.hop_sets ≡ 0 }
-    ensures settled { OnOk result (AreSettledIn graph.now distances.now hops.old hops.new
-        lost.now moved.now waiting.old.stale written.new
-        (touched.new.taken - touched.old.taken)) }
-    ensures taken { OnOk result (touched.old.taken ≤ touched.new.taken) }
-    ensures written { OnOk result (touched.new.hop_sets ≡ length written.new) }
-{
-    written.clear();
-    blank(distances, lost.as_slice(), hops, written, touched)?;
-    let root = graph.root();
-    put_reached(root, distances, moved.as_slice(), &mut waiting.queue)?;
-    put_reached(
-        root,
-        distances,
-        waiting.stale.as_slice(),
-        &mut waiting.queue,
-    )?;
-    prove!(distances.len() <= usize::MAX / 2);
-    // 16.1 (3): the vertex closest to the root, a network before a router.
-    while let Some((vertex, distance)) = touched.take(&mut waiting.queue) {
-        settle(
-            alloc,
-            graph,
-            distances,
-            &vertex,
-            distance,
-            hops,
-            touched,
-            &mut waiting.queue,
-            written,
-        )?;
-    }
-    Ok(())
+/// What relaxing leaves: the graph with the distances after, the vertices that lost theirs, and those that moved.
+#[derive(Clone, Copy)]
+pub(crate) struct Relaxed<'a> {
+    pub(crate) graph: &'a Graph,
+    pub(crate) distances: &'a Distances,
+    pub(crate) lost: &'a Members,
+    pub(crate) moved: &'a VertexList,
 }
 
-// Takes the next hops of what is lost and is not reached again. Those vertices are written.
-fn blank(
-    distances: &Distances,
-    lost: &[Placed],
-    hops: &mut HopColumns,
-    written: &mut VertexList,
-    touched: &mut Touched,
-) -> Result<(), Memory>
-    requires apart { HasNoDoubles lost.now }
-    requires none { written.old ≡ [] }
-    requires none_written { touched.old.hop_sets ≡ 0 }
-    ensures blanked { OnOk result (AreBlank distances.now lost.now hops.old hops.new written.new) }
-    ensures taken { OnOk result (touched.new.taken ≡ touched.old.taken) }
-    ensures counted { OnOk result (touched.new.hop_sets ≡ length written.new) }
-{
-    for vertex in lost {
-        if distances.get(vertex).is_none() {
-            write(vertex, None, hops, touched, written)?;
+/// Writes next hops: it names the vertices whose next hops it wrote, and counts its work.
+pub(crate) struct HopWriter {
+    alloc: Global,
+    pub(crate) written: VertexList,
+    pub(crate) touched: Touched,
+}
+
+// proof: one call drops it, in place of a drop of each part wherever one is held.
+impl Drop for HopWriter {
+    fn drop(self) {
+        let HopWriter {
+            alloc: _,
+            written: _written,
+            touched: _,
+        } = self;
+    }
+}
+
+impl HopWriter {
+    /// Nothing is written yet.
+    pub(crate) fn new(alloc: Global) -> HopWriter {
+        HopWriter {
+            alloc,
+            written: VertexList::new(alloc),
+            touched: Touched::none(),
         }
     }
-    Ok(())
-}
 
-// Brings the next hops of a vertex, which is at this distance, to those that its least links give it. If they
-// are others, the heads of its least links wait.
-fn settle(
-    alloc: Global,
-    graph: &Graph,
-    distances: &Distances,
-    vertex: &Placed,
-    distance: u32,
-    hops: &mut HopColumns,
-    touched: &mut Touched,
-    queue: &mut Queue,
-    written: &mut VertexList,
-) -> Result<(), Memory>
-    requires at { map.get distances.now vertex.now ≡ Some distance }
-    requires fresh { Contains written.old vertex.now → ⊥ }
-    requires counted { touched.old.hop_sets ≡ length written.old }
-    ensures settled { OnOk result (IsSettledIn graph.now distances.now vertex.now
-        queue.old queue.new hops.old hops.new written.old written.new) }
-    ensures taken { OnOk result (touched.new.taken ≡ touched.old.taken) }
-    ensures counted { OnOk result (touched.new.hop_sets ≡ length written.new) }
-{
-    let tree = TreeInUpdate {
-        graph,
-        distances,
-        hops,
-    };
-    // 16.1.1: the union over all paths of least cost.
-    let set = tree.gather(alloc, vertex, distance)?;
-    if are_same(hops.get(vertex), &set) {
-        return Ok(());
+    /// Brings the next hops to those after, and finds the vertices whose next hops are written.
+    pub(crate) fn update_next_hops(
+        &mut self,
+        relaxed: Relaxed<'_>,
+        pending: &mut Pending,
+        hops: &mut HopColumns,
+    ) -> Result<(), Memory>
+        requires none_wait { pending.old.queue ≡ map.empty }
+        requires unsettled { AreReadyToUpdate relaxed hops.old pending.old.stale }
+        requires fits { self.old.touched.taken < 2 ^ 63 }
+        requires none_written { self.old.touched.hop_sets ≡ 0 }
+        ensures settled { OnOk result (AreSettledIn relaxed.entry hops.old hops.new
+            pending.old.stale self.new.written
+            (self.new.touched.taken - self.old.touched.taken)) }
+        ensures taken { OnOk result (self.old.touched.taken ≤ self.new.touched.taken) }
+        ensures written { OnOk result (self.new.touched.hop_sets ≡ length self.new.written) }
+    {
+        let distances = relaxed.distances;
+        self.written.clear();
+        self.blank(distances, relaxed.lost.as_slice(), hops)?;
+        let root = relaxed.graph.root();
+        put_reached(
+            root,
+            distances,
+            relaxed.moved.as_slice(),
+            &mut pending.queue,
+        )?;
+        put_reached(
+            root,
+            distances,
+            pending.stale.as_slice(),
+            &mut pending.queue,
+        )?;
+        prove!(distances.len() <= usize::MAX / 2);
+        let least_links = LeastLinks {
+            graph: relaxed.graph,
+            distances,
+        };
+        // 16.1 (3): the vertex closest to the root, a network before a router.
+        while let Some((vertex, distance)) = self.touched.take(&mut pending.queue) {
+            let taken = Taken { vertex, distance };
+            self.settle(least_links, &taken, hops, &mut pending.queue)?;
+        }
+        Ok(())
     }
-    write(vertex, Some(set), hops, touched, written)?;
-    put_heads(graph, distances, vertex, distance, queue)
+
+    // Takes the next hops of what is lost and is not reached again. Those vertices are written.
+    fn blank(
+        &mut self,
+        distances: &Distances,
+        lost: &[Placed],
+        hops: &mut HopColumns,
+    ) -> Result<(), Memory>
+        requires apart { HasNoDoubles lost.now }
+        requires none { self.old.written ≡ [] }
+        requires none_written { self.old.touched.hop_sets ≡ 0 }
+        ensures blanked { OnOk result (AreBlank distances.now lost.now
+            hops.old hops.new self.new.written) }
+        ensures taken { OnOk result (self.new.touched.taken ≡ self.old.touched.taken) }
+        ensures counted { OnOk result (self.new.touched.hop_sets ≡ length self.new.written) }
+    {
+        for vertex in lost {
+            if distances.get(vertex).is_none() {
+                self.write(vertex, None, hops)?;
+            }
+        }
+        Ok(())
+    }
+
+    // Brings the next hops of a vertex that was taken to those that its least links give it. If they are others,
+    // the heads of its least links wait.
+    fn settle(
+        &mut self,
+        least_links: LeastLinks<'_>,
+        taken: &Taken,
+        hops: &mut HopColumns,
+        queue: &mut Queue,
+    ) -> Result<(), Memory>
+        requires at { map.get least_links.distances.now taken.now.vertex ≡ Some taken.now.distance }
+        requires fresh { Contains self.old.written taken.now.vertex → ⊥ }
+        requires counted { self.old.touched.hop_sets ≡ length self.old.written }
+        ensures settled { OnOk result (IsSettledIn
+            least_links.entry.graph.now least_links.entry.distances.now taken.now.vertex
+            queue.old queue.new hops.old hops.new self.old.written self.new.written) }
+        ensures taken { OnOk result (self.new.touched.taken ≡ self.old.touched.taken) }
+        ensures counted { OnOk result (self.new.touched.hop_sets ≡ length self.new.written) }
+    {
+        let tree = TreeInUpdate {
+            graph: least_links.graph,
+            distances: least_links.distances,
+            hops,
+        };
+        // 16.1.1: the union over all paths of least cost.
+        let set = tree.gather(self.alloc, &taken.vertex, taken.distance)?;
+        if are_same(hops.get(&taken.vertex), &set) {
+            return Ok(());
+        }
+        self.write(&taken.vertex, Some(set), hops)?;
+        least_links.put_heads(taken, queue)
+    }
+
+    // Writes the next hops of a vertex where none were written yet.
+    fn write(
+        &mut self,
+        vertex: &Placed,
+        set: Option<HopSet>,
+        hops: &mut HopColumns,
+    ) -> Result<(), Memory>
+        requires fresh { Contains self.old.written vertex.now → ⊥ }
+        requires counted { self.old.touched.hop_sets ≡ length self.old.written }
+        ensures hops { OnOk result (hops.new ≡ with_hops hops.old vertex.now set) }
+        ensures written { OnOk result (self.new.written ≡ self.old.written ++ vertex.now ∷ []) }
+        ensures taken { OnOk result (self.new.touched.taken ≡ self.old.touched.taken) }
+        ensures counted { OnOk result (self.new.touched.hop_sets ≡ length self.new.written) }
+    {
+        prove!(self.written.len() < usize::MAX);
+        self.touched.write(hops, vertex, set)?;
+        self.written.push(vertex)
+    }
 }
 
-// Writes the next hops of a vertex where none were written yet.
-fn write(
-    vertex: &Placed,
-    set: Option<HopSet>,
-    hops: &mut HopColumns,
-    touched: &mut Touched,
-    written: &mut VertexList,
-) -> Result<(), Memory>
-    requires fresh { Contains written.old vertex.now → ⊥ }
-    requires counted { touched.old.hop_sets ≡ length written.old }
-    ensures hops { OnOk result (hops.new ≡ with_hops hops.old vertex.now set) }
-    ensures written { OnOk result (written.new ≡ written.old ++ vertex.now ∷ []) }
-    ensures taken { OnOk result (touched.new.taken ≡ touched.old.taken) }
-    ensures counted { OnOk result (touched.new.hop_sets ≡ length written.new) }
-{
-    prove!(written.len() < usize::MAX);
-    touched.write(hops, vertex, set)?;
-    written.push(vertex)
+// A vertex that was taken from the queue, at the distance that it has.
+#[derive(Drop)]
+struct Taken {
+    vertex: Placed,
+    distance: u32,
+}
+
+// The least links of a graph: those whose head is as far as tail and link together.
+#[derive(Clone, Copy)]
+struct LeastLinks<'a> {
+    graph: &'a Graph,
+    distances: &'a Distances,
+}
+
+impl LeastLinks<'_> {
+    // Lets the heads of the least links out of a vertex wait, but not the root.
+    fn put_heads(self, taken: &Taken, queue: &mut Queue) -> Result<(), Memory>
+        requires { map.get self.distances.now taken.now.vertex ≡ Some taken.now.distance }
+        ensures { OnOk result (AreHeadsPut self.entry.graph.now self.entry.distances.now
+            taken.now.vertex queue.old queue.new) }
+    {
+        let root = self.graph.root();
+        for link in self.graph.links_out_of(&taken.vertex) {
+            self.put_head(root, link, taken.distance, queue)?;
+        }
+        Ok(())
+    }
+
+    // Lets the head of a link, whose tail is this near, wait if that is a least link and the head is not the root.
+    fn put_head(self, root: u32, link: &Link, near: u32, queue: &mut Queue) -> Result<(), Memory>
+        requires { map.get self.distances.now link.now.from ≡ Some near }
+        ensures { OnOk result
+            (IsHeadPut root self.entry.distances.now link.now queue.old queue.new) }
+    {
+        if is_at_root(root, &link.to) {
+            return Ok(());
+        }
+        match least_distance(self.distances, link, near) {
+            Some(distance) => queue.put(&link.to, distance),
+            None => Ok(()),
+        }
+    }
 }
 
 // Lets those of the vertices wait that are reached, but not the root.
@@ -175,44 +248,6 @@ fn put_if_reached(
     }
     match distances.get(vertex) {
         Some(distance) => queue.put(vertex, distance),
-        None => Ok(()),
-    }
-}
-
-// Lets the heads of the least links out of a vertex, which is this near, wait, but not the root.
-fn put_heads(
-    graph: &Graph,
-    distances: &Distances,
-    vertex: &Placed,
-    near: u32,
-    queue: &mut Queue,
-) -> Result<(), Memory>
-    requires { map.get distances.now vertex.now ≡ Some near }
-    ensures { OnOk result (AreHeadsPut graph.now distances.now vertex.now queue.old queue.new) }
-{
-    let root = graph.root();
-    for link in graph.links_out_of(vertex) {
-        put_head(root, distances, link, near, queue)?;
-    }
-    Ok(())
-}
-
-// Lets the head of a link, whose tail is this near, wait if that is a least link and the head is not the root.
-fn put_head(
-    root: u32,
-    distances: &Distances,
-    link: &Link,
-    near: u32,
-    queue: &mut Queue,
-) -> Result<(), Memory>
-    requires { map.get distances.now link.now.from ≡ Some near }
-    ensures { OnOk result (IsHeadPut root distances.now link.now queue.old queue.new) }
-{
-    if is_at_root(root, &link.to) {
-        return Ok(());
-    }
-    match least_distance(distances, link, near) {
-        Some(distance) => queue.put(&link.to, distance),
         None => Ok(()),
     }
 }

@@ -6,7 +6,7 @@ ghost use Rattle.spf.specs.TreeValues.{ComesTo, IsBegunWith, tree_of};
 
 use crate::lose_support::Search;
 use crate::relax::LinksAfter;
-use crate::update_next_hops::update_next_hops;
+use crate::update_next_hops::{HopWriter, Relaxed};
 use ospf_types::memory::Memory;
 use std::alloc::Global;
 use tree_parts::{Distances, HopColumns, Listing, Touched, VertexList};
@@ -23,7 +23,7 @@ pub(crate) struct Workspace {
     // The root and what was lost, each with its distance before.
     pub(crate) remembered: Vec<(Placed, Option<u32>)>,
     pub(crate) moved: VertexList,
-    pub(crate) written: VertexList,
+    pub(crate) writer: HopWriter,
     pub(crate) listing: Listing,
     hashing: WordHash,
 }
@@ -35,7 +35,7 @@ impl Drop for Workspace {
             search: _search,
             remembered: _remembered,
             moved: _moved,
-            written: _written,
+            writer: _writer,
             listing: _listing,
             hashing: _,
         } = self;
@@ -46,13 +46,13 @@ impl Workspace {
     /// Nothing is found yet.
     pub(crate) fn new(alloc: Global, hashing: WordHash) -> Workspace
         ensures lost { result.search.lost ≡ [] }
-        ensures stale { result.search.waiting.stale ≡ [] }
+        ensures stale { result.search.pending.stale ≡ [] }
     {
         Workspace {
             search: Search::new(alloc, hashing),
             remembered: Vec::new(alloc),
             moved: VertexList::new(alloc),
-            written: VertexList::new(alloc),
+            writer: HopWriter::new(alloc),
             listing: Listing::new(alloc),
             hashing,
         }
@@ -62,7 +62,6 @@ impl Workspace {
     /// repair.
     pub(crate) fn update_distances_and_hops(
         &mut self,
-        alloc: Global,
         after: LinksAfter<'_>,
         distances: &mut Distances,
         hops: &mut HopColumns,
@@ -78,40 +77,38 @@ impl Workspace {
     {
         let _ = hops.len();
         // proof: nothing waits, as a tree is not repaired once memory ran out.
-        empty(&mut self.search.waiting.queue);
-        let mut touched = self
+        empty(&mut self.search.pending.queue);
+        let touched = self
             .search
-            .waiting
+            .pending
             .relax(after, &self.search.lost, distances, &mut self.moved)?;
-        update_next_hops(
-            alloc,
-            after.graph,
+        self.writer.touched = touched;
+        let relaxed = Relaxed {
+            graph: after.graph,
             distances,
-            &self.search.lost,
-            &self.moved,
-            &mut self.search.waiting,
-            hops,
-            &mut self.written,
-            &mut touched,
-        )?;
+            lost: &self.search.lost,
+            moved: &self.moved,
+        };
+        self.writer
+            .update_next_hops(relaxed, &mut self.search.pending, hops)?;
         let _ = hops.len();
-        Ok(touched)
+        Ok(self.writer.touched)
     }
 
     /// Gives up the places of vertices that do not wait, where there are more than so many.
     pub(crate) fn trim(&mut self, most: usize) {
-        self.search.waiting.queue.trim(most);
+        self.search.pending.queue.trim(most);
     }
 
     /// Gives back the memory that only a large repair needs.
     pub(crate) fn give_back(&mut self, alloc: Global) {
-        if self.search.waiting.stale.len() > MOST_KEPT {
+        if self.search.pending.stale.len() > MOST_KEPT {
             self.search.give_back(alloc, self.hashing);
             self.remembered = Vec::new(alloc);
         }
-        if self.moved.len().max(self.written.len()) > MOST_KEPT {
+        if self.moved.len().max(self.writer.written.len()) > MOST_KEPT {
             self.moved = VertexList::new(alloc);
-            self.written = VertexList::new(alloc);
+            self.writer.written = VertexList::new(alloc);
             self.listing = Listing::new(alloc);
         }
     }

@@ -5,6 +5,6 @@ use Rattle.spf.proofs.lose_support.Search.suspect_beyond.Given as goal
 
 abbrev pub invariant-loop-link : goal.invariant-loop-link
 invariant-loop-link l = record {
-  told : AreToldOf (IsHead (MaySupport l.root (get l.distances) l.distance) (take l.link-index l.links)) l.fn.self.lost l.fn.self.waiting.stale l.self.waiting.stale l.fn.self.suspects l.self.suspects;
+  told : AreToldOf (IsHead (MaySupport l.root (get l.distances) l.distance) (take l.link-index l.links)) l.fn.self.lost l.fn.self.pending.stale l.self.pending.stale l.fn.self.suspects l.self.suspects;
   lost : l.self.lost ≡ l.fn.self.lost;
 }

@@ -33,7 +33,7 @@ returns-clause-changed c =
     let items = c.list_differing.new.changed.items in
     let is = carried_out_at i c.args.self.now u c.self.view_is c.as_slice-2.ensures.value (ap (λ (t : TreeValue). t.spent) c.self.view_is ∙ c.requires.fresh) c.in_ok-touched.ensures.carried_out in
     let lost = c.lose_support.new.search.lost in
-    changed_list i c.args.self.now u c.args.graph.now.root c.args.graph.now.root lost c.as_slice.result.now c.update_distances_and_hops.new.self.search.lost c.update_distances_and_hops.new.self.moved c.update_distances_and_hops.new.self.written
+    changed_list i c.args.self.now u c.args.graph.now.root c.args.graph.now.root lost c.as_slice.result.now c.update_distances_and_hops.new.self.search.lost c.update_distances_and_hops.new.self.moved c.update_distances_and_hops.new.self.writer.written
     items c.remember.new.remembered.items c.as_slice-3.result.now c.self.view_is refl c.as_slice.ensures.value c.in_ok-touched.ensures.lost
     (c.as_slice-3.ensures.value ∙ ap (λ (r : _). r.items) c.in_ok-touched.ensures.remembered)
     (c.in_ok-remember.ensures ∙ ap (λ (v : Vertex). map (with_distance c.self.inside.distances) (v ∷ c.as_slice.result.now)) c.root_of-self-inside.ensures) c.in_ok-list_differing.ensures.in_order c.in_ok-list_differing.ensures.exact is.differ
@@ -54,7 +54,7 @@ returns-clause-idle c = λ none_gone none_came.
     let is = carried_out_at i c.args.self.now u c.self.view_is c.as_slice-2.ensures.value (ap (λ (t : TreeValue). t.spent) c.self.view_is ∙ c.requires.fresh) c.in_ok-touched.ensures.carried_out in
     let came = c.args.changes.now.came.items in
     let lost = c.lose_support.new.search.lost in
-    let stale = c.lose_support.new.search.waiting.stale in
+    let stale = c.lose_support.new.search.pending.stale in
     let begins : IsBegun c.args.graph.now c.args.changes.now.gone.items came c.args.self.now lost stale = begun _ _ c.self.view_is refl c.requires c.in_ok-lose_support.ensures in
     let none = is.idle (subst (λ (gone : List Link). IsBegun c.args.graph.now gone came c.args.self.now lost stale) none_gone begins) none_came in
     λ j. record { taken = none.0 j; hop_sets = none.1 j }
