@@ -1,5 +1,5 @@
 //! The index of an area: what each vertex offers, and who offers each prefix. It follows the area's LSAs only.
-ghost use Rattle.std.specs.Prelude.{◌≡◌, ◌≢◌, ◌∷◌, [], Some, None, IfOk, IfSome, IsTrue, OnOk, option_copied};
+ghost use Rattle.std.specs.Prelude.{◌≡◌, ◌≢◌, Some, None, IfOk, IfSome, IsTrue, OnOk, option_copied};
 ghost use Rattle.std.specs.FinMap as map;
 ghost use Rattle.std.specs.List.{AllPairs};
 ghost use Rattle.ospf_types.specs.Lsa.{key_of};
@@ -20,7 +20,9 @@ use ospf_types::entry::Vertex;
 use ospf_types::memory::Memory;
 use ospf_types::prefix::Prefix;
 use path_choice::are_same;
+use smallvec::SmallVec;
 use std::alloc::Global;
+use std::default::MadeWith;
 use std::marker::Model;
 use vertex_map::Placed;
 use word_hash::WordHash;
@@ -33,11 +35,22 @@ pub(crate) struct Source {
     pub(crate) metric: u16,
 }
 
+/// Fills the places of a collection that hold no source.
+impl<A: Drop> MadeWith<A> for Source {
+    fn made_with(_alloc: A) -> Source {
+        Source {
+            vertex: Placed::nowhere(Vertex::Router(0)),
+            metric: 0,
+        }
+    }
+}
+
 /// What each vertex of an area offers, as it was last taken from its LSA, and who offers each prefix.
 pub(crate) struct AreaIndex {
     alloc: Global,
     offered: IndexMap<Vertex, Offered, WordHash>,
-    sources: IndexMap<Prefix, Vec<Source>, WordHash>,
+    // Mostly one vertex offers a prefix, and its source needs no memory of its own.
+    sources: IndexMap<Prefix, SmallVec<Source, 1>, WordHash>,
 }
 
 // proof: one call drops it, in place of a drop of each part wherever one is held.
@@ -104,7 +117,7 @@ impl AreaIndex {
         }
     }
 
-    // The vertices that offer the prefix, by its hash.
+    // Looks for the prefix by its hash, and tells where its sources stand.
     fn find_sources(&self, prefix: Prefix, place: &mut usize) -> &[Source]
         ensures { result.now ≡ sources_of (map.get self.now.sources prefix) }
     {
@@ -232,21 +245,12 @@ impl AreaIndex {
                 Ok(())
             }
             None => {
-                let first = list_of(self.alloc, source)?;
+                let first = SmallVec::from_buf(self.alloc, [source]);
                 self.sources.insert(offer.prefix, first)?;
                 Ok(())
             }
         }
     }
-}
-
-// A list of one source.
-fn list_of(alloc: Global, source: Source) -> Result<Vec<Source>, Memory>
-    ensures { IfOk result (λ list. list.items ≡ source ∷ []) }
-{
-    let mut list = Vec::with_capacity(alloc, 1)?;
-    list.push(source)?;
-    Ok(list)
 }
 
 // Whether the offers are what the LSA that stands for the vertex says.
@@ -320,7 +324,7 @@ fn name_both(one: Offer, other: Offer, dirty: &mut Vec<Prefix>) -> Result<(), Me
 }
 
 // Leaves out all of the vertex.
-fn leave_out(sources: &mut Vec<Source>, vertex: Vertex)
+fn leave_out(sources: &mut SmallVec<Source, 1>, vertex: Vertex)
     ensures each_once { HasNoDoubles sources.old.items → HasNoDoubles sources.new.items }
     ensures left { AreLeftOut sources.old.items sources.new.items vertex }
 {

@@ -307,11 +307,11 @@ impl Intra {
         let fresh = choose(alloc, inputs, self.areas.as_slice(), prefix, &mut near)?;
         let stays = fresh.is_some();
         let other = exchange(&mut self.entries, place, prefix, fresh)?;
-        self.hints.keep(at, stays, near)?;
+        self.hints.keep(at, stays.then_some(near))?;
         if !other {
             return Ok(());
         }
-        self.hints.leave(at, stays)?;
+        self.hints.leave(stays.then_some(at))?;
         dests.push(Dest::Net(prefix))?;
         Ok(())
     }
