@@ -28,14 +28,14 @@ use Rattle.graph_links.proofs.Growing.{more, more_at}
 use Rattle.graph_links.proofs.VertexTests.{equals, one_or_other, found_after, found_own, found_other}
 
 -- whether a vertex is handed in
-abbrev IsHanded : List Handed → Vertex → Type 0
-IsHanded handed v = (given : Option Body) × Contains handed (v, given)
+abbrev WasHandedIn : List Handed → Vertex → Type 0
+WasHandedIn handed v = (given : Option Body) × Contains handed (v, given)
 
-pub handed_or_not : (handed : List Handed) (v : Vertex) → IsHanded handed v ⊎ ((given : Option Body) → Contains handed (v, given) → ⊥)
+pub handed_or_not : (handed : List Handed) (v : Vertex) → WasHandedIn handed v ⊎ ((given : Option Body) → Contains handed (v, given) → ⊥)
 handed_or_not [] v = inr (λ given h. no_element (v, given) h)
 handed_or_not (h ∷ hs) v =
     ⊎_elim (λ (same : v ≡ h.0). inl (h.1, subst (λ u. Contains (h ∷ hs) (u, h.1)) (sym same) (first_element h hs)))
-    (λ (other : v ≢ h.0). ⊎_elim (λ (there : IsHanded hs v). inl (there.0, later_element h (v, there.0) hs there.1))
+    (λ (other : v ≢ h.0). ⊎_elim (λ (there : WasHandedIn hs v). inl (there.0, later_element h (v, there.0) hs there.1))
     (λ (none : (given : Option Body) → Contains hs (v, given) → ⊥). inr (λ given c. ⊎_elim (λ (e : (v, given) ≡ h). other (ap (λ (p : Handed). p.0) e)) (λ (later : Contains hs (v, given)). none given later) (first_or_later h (v, given) hs c)))
     (handed_or_not hs v)) (one_or_other v h.0)
 
@@ -68,12 +68,12 @@ module _ (old : GraphValue) (before after : Leading) (handed : List Handed) (has
 
   after_in_order : (v : Vertex) (ends : List End) → after v ≡ Some ends → IsStrictlySortedBy end_cmp ends
   after_in_order v ends is =
-      ⊎_elim (λ (there : IsHanded handed v). (given_ends v there.0 there.1 ends is).2.in_order)
+      ⊎_elim (λ (there : WasHandedIn handed v). (given_ends v there.0 there.1 ends is).2.in_order)
       (λ (none : (given : Option Body) → Contains handed (v, given) → ⊥). has.in_order v ends (leads v ∙ sym (h.others v none) ∙ is)) (handed_or_not handed v)
 
   after_listed : (v : Vertex) (ends : List End) → after v ≡ Some ends → IsListed v ends
   after_listed v ends is n e network there =
-      ⊎_elim (λ (handed_in : IsHanded handed v). let own = given_ends v handed_in.0 handed_in.1 ends is in ends_listed v own.0 ends own.2 n e network there)
+      ⊎_elim (λ (handed_in : WasHandedIn handed v). let own = given_ends v handed_in.0 handed_in.1 ends is in ends_listed v own.0 ends own.2 n e network there)
       (λ (none : (given : Option Body) → Contains handed (v, given) → ⊥). has.listed n ends e (ap (get old.ends) (sym network) ∙ leads v ∙ sym (h.others v none) ∙ is) there) (handed_or_not handed v)
 
   pub handed_in_order : IsInOrder after
@@ -93,7 +93,7 @@ module _ (old : GraphValue) (before after : Leading) (handed : List Handed) (has
     pub handed_few : AreFewAfter old handed → HasFewRouters new
     handed_few few routers apart are = few routers apart (λ r c.
         let is = are r c in
-        ⊎_elim (λ (there : IsHanded handed (Router r)). there_after (Router r) there.0 there.1 is)
+        ⊎_elim (λ (there : WasHandedIn handed (Router r)). there_after (Router r) there.0 there.1 is)
         (λ (none : (given : Option Body) → Contains handed (Router r, given) → ⊥). inr (none, subst IsSome (leads_new (Router r) ∙ h.others (Router r) none ∙ sym (leads (Router r))) is)) (handed_or_not handed (Router r)))
 
     pub handed_replaced : new.root ≡ old.root → new.interfaces ≡ old.interfaces → IsReplaced old new handed
