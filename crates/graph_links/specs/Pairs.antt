@@ -9,8 +9,8 @@ use Rattle.ospf_types.specs.declared.label.Label.TheVariants.{Over, At, Plain}
 use Rattle.graph_links.specs.declared.link.Link.{Link}
 use Rattle.graph_links.specs.declared.link.Up.{Up}
 use Rattle.graph_links.specs.declared.end.End.{End}
-use Rattle.graph_links.specs.declared.pair.Facing.{Facing}
 use Rattle.graph_links.specs.declared.pair.Local.{Local}
+use Rattle.graph_links.specs.declared.pair.Pair.{Pair}
 use Rattle.graph_links.specs.declared.ways.Way.{Way}
 use Rattle.graph_links.specs.EndOrder.{AreEndsAt, end_cmp}
 
@@ -45,8 +45,8 @@ label_over None = Plain
 label_over (Some id) = Over id
 
 -- the link of a router to a vertex by this way
-abbrev pub link_by : ℕ → Vertex → Way → Link
-link_by router to way = record { from = Router router; to = to; cost = way.cost; label = label_over way.interface }
+abbrev pub link_by : Vertex → Vertex → Way → Link
+link_by from to way = record { from = from; to = to; cost = way.cost; label = label_over way.interface }
 
 -- a way of a router over one of its ends, whether that leads back or not
 abbrev pub IsWay : ℕ → List Up → ℕ → End → Way → Type 0
@@ -60,30 +60,30 @@ IsWayOver root ups router ends way = (e : End) × Contains ends e × IsWay root 
 abbrev pub AreWays : Local → ℕ → List End → List Way → Type 0
 AreWays local router ends ways = (w : Way) → Contains ways w ↔ IsWayOver local.root local.interfaces.now router ends w
 
--- the links of a router to a vertex by these ways are added, behind those that there were
-abbrev pub AddsBy : ℕ → Vertex → List Way → List Link → List Link → Type 0
-AddsBy router to ways old new = new ≡ old ++ map (link_by router to) ways
+-- the links of a router by these ways are added, behind those that there were
+abbrev pub AddsBy : Pair → List Way → List Link → List Link → Type 0
+AddsBy pair ways old new = new ≡ old ++ map (link_by pair.from.vertex pair.to.vertex) ways
 
--- a link by each way of a router over these ends is added, behind those that there were
-pub record AddsOver (local : Local) (router : ℕ) (ends : List End) (to : Vertex) (old new : List Link) : Type 0 where
+-- a link by each way of the router over its ends is added, behind those that there were
+pub record AddsOver (pair : Pair) (router : ℕ) (old new : List Link) : Type 0 where
   pub ways : List Way
-  pub exact : AreWays local router ends ways
+  pub exact : AreWays pair.local router pair.from.ends.now ways
   pub each_once : AllPairs (λ v w. v ≢ w) ways
-  pub added : AddsBy router to ways old new
+  pub added : AddsBy pair ways old new
 
 -- the way of a router other than the root over one of its ends, if the metric is not 0
 abbrev pub plain_ways : End → List Way
 plain_ways e = if e.metric == 0 then [] else record { cost = e.metric; interface = None } ∷ []
 
 -- the link over the one end of a router other than the root is added, if the metric is not 0
-abbrev pub AddsPlain : ℕ → Vertex → End → List Link → List Link → Type 0
-AddsPlain router to e old new = AddsBy router to (plain_ways e) old new
+abbrev pub AddsPlain : Pair → End → List Link → List Link → Type 0
+AddsPlain pair e old new = AddsBy pair (plain_ways e) old new
 
 -- the link of a network to a vertex that leads to these ends, whether the network leads back or not
-abbrev pub IsOnto : ℕ → Vertex → List End → Link → Type 0
+abbrev pub IsOnto : Vertex → Vertex → List End → Link → Type 0
 IsOnto network to back l =
-    (l.from ≡ Network network) × (l.to ≡ to) × ((router : ℕ) × (to ≡ Router router)) × (l.cost ≡ 0)
-    × ((addresses : List ℕ) × AreDetailsTo (Network network) back addresses × (l.label ≡ At addresses))
+    (l.from ≡ network) × (l.to ≡ to) × ((router : ℕ) × (to ≡ Router router)) × (l.cost ≡ 0)
+    × ((addresses : List ℕ) × AreDetailsTo network back addresses × (l.label ≡ At addresses))
 
 -- the list has these beside those that it had
 abbrev pub Adds : {X : Type 0} → List X → List X → (X → Type 0) → Type 0
@@ -97,9 +97,9 @@ AddsWays local router e old new = Adds old new (IsWay local.root local.interface
 abbrev pub AddsRootWays : ℕ → List Up → End → List Way → List Way → Type 0
 AddsRootWays root ups e old new = Adds old new (IsWay root ups root e)
 
--- the link of a network to a vertex with these ends at it is added, if the vertex is a router
-abbrev pub AddsOnto : ℕ → Facing → List Link → List Link → Type 0
-AddsOnto network to old new = (back : List End) → AreAllAt (Network network) back to.ends.now → Adds old new (IsOnto network to.vertex back)
+-- the link of a network is added, if the other vertex is a router
+abbrev pub AddsOnto : Pair → List Link → List Link → Type 0
+AddsOnto pair old new = (back : List End) → AreAllAt pair.from.vertex back pair.to.ends.now → Adds old new (IsOnto pair.from.vertex pair.to.vertex back)
 
 -- no link stands twice
 abbrev pub AreApart : List Link → Type 0
@@ -135,10 +135,12 @@ IsPairLink root ups (Network from) ends (Router to) back cost label =
 IsPairLink root ups (Network from) ends (Network to) back cost label = ⊥
 
 -- the links from the one vertex to the other are added, where the two have these ends at each other
-abbrev pub AddsBetween : Local → Facing → Facing → List Link → List Link → Type 0
-AddsBetween local from to old new =
-    (ends back : List End) → AreAllAt to.vertex ends from.ends.now → AreAllAt from.vertex back to.ends.now
-    → Adds old new (λ (l : Link). (l.from ≡ from.vertex) × (l.to ≡ to.vertex) × IsPairLink local.root local.interfaces.now from.vertex ends to.vertex back l.cost l.label)
+abbrev pub AddsBetween : Pair → List Link → List Link → Type 0
+AddsBetween pair old new =
+    let from : Vertex = pair.from.vertex in
+    let to : Vertex = pair.to.vertex in
+    (ends back : List End) → AreAllAt to ends pair.from.ends.now → AreAllAt from back pair.to.ends.now
+    → Adds old new (λ (l : Link). (l.from ≡ from) × (l.to ≡ to) × IsPairLink pair.local.root pair.local.interfaces.now from ends to back l.cost l.label)
 
 -- what the links out of the vertex rest on beside LSAs is the same
 abbrev pub IsSameLocal : Local → Local → Vertex → Type 0

@@ -22,55 +22,45 @@ pub fn changed_links(alloc: Global, rows: &Rows, fresh: &[Fresh]) -> Result<Link
     ensures came_once { HaveDifferentVertices fresh.now
         → IfOk result (λ changes. AreApart changes.came.items) }
 {
-    let mut gone = Vec::new(alloc);
-    let mut came = Vec::new(alloc);
+    let mut changes = LinkChanges {
+        gone: Vec::new(alloc),
+        came: Vec::new(alloc),
+    };
     for one in fresh {
         let before = out_links(find_row(rows, &one.vertex).0);
         let after = out_links(one.row.as_ref());
-        push_changes(alloc, before, after, &mut gone, &mut came)?;
+        list_changes(alloc, before, after, &mut changes)?;
     }
-    Ok(LinkChanges { gone, came })
+    Ok(changes)
 }
 
-// Adds the links that are only before to those that went, and the links that are only after to those that came.
-fn push_changes(
+// Lists the links that are only before among those that went, and the links that are only after among those that came.
+// Links at the front and at the back that are the same in both are left out.
+fn list_changes(
     alloc: Global,
     before: &[Link],
     after: &[Link],
-    gone: &mut Vec<Link>,
-    came: &mut Vec<Link>,
+    changes: &mut LinkChanges,
 ) -> Result<(), Memory>
     requires before { AreApart before.now }
     requires after { AreApart after.now }
-    ensures gone { OnOk result (AddsUnlike before.now after.now gone.old.items gone.new.items) }
-    ensures came { OnOk result (AddsUnlike after.now before.now came.old.items came.new.items) }
-    ensures gone_once { OnOk result (KeepsApartWith before.now gone.old.items gone.new.items) }
-    ensures came_once { OnOk result (KeepsApartWith after.now came.old.items came.new.items) }
+    ensures gone { OnOk result
+        (AddsUnlike before.now after.now changes.old.gone.items changes.new.gone.items) }
+    ensures came { OnOk result
+        (AddsUnlike after.now before.now changes.old.came.items changes.new.came.items) }
+    ensures gone_once { OnOk result
+        (KeepsApartWith before.now changes.old.gone.items changes.new.gone.items) }
+    ensures came_once { OnOk result
+        (KeepsApartWith after.now changes.old.came.items changes.new.came.items) }
 {
-    let same = same_front(before, after);
-    push_behind(alloc, &before[same..], &after[same..], gone, came)
-}
-
-// Adds what went and what came. Links at the back that are the same in both are left out.
-fn push_behind(
-    alloc: Global,
-    before: &[Link],
-    after: &[Link],
-    gone: &mut Vec<Link>,
-    came: &mut Vec<Link>,
-) -> Result<(), Memory>
-    requires before { AreApart before.now }
-    requires after { AreApart after.now }
-    ensures gone { OnOk result (AddsUnlike before.now after.now gone.old.items gone.new.items) }
-    ensures came { OnOk result (AddsUnlike after.now before.now came.old.items came.new.items) }
-    ensures gone_once { OnOk result (KeepsApartWith before.now gone.old.items gone.new.items) }
-    ensures came_once { OnOk result (KeepsApartWith after.now came.old.items came.new.items) }
-{
-    let same = same_back(before, after);
-    let before = &before[..before.len() - same];
-    let after = &after[..after.len() - same];
-    push_missing(alloc, before, after, gone)?;
-    push_missing(alloc, after, before, came)?;
+    let front = same_front(before, after);
+    let before = &before[front..];
+    let after = &after[front..];
+    let back = same_back(before, after);
+    let before = &before[..before.len() - back];
+    let after = &after[..after.len() - back];
+    list_missing(alloc, before, after, &mut changes.gone)?;
+    list_missing(alloc, after, before, &mut changes.came)?;
     Ok(())
 }
 
@@ -119,8 +109,8 @@ fn same_back(one: &[Link], other: &[Link]) -> usize
 // So many links are compared one by one, where they stand.
 const FEW: usize = 8;
 
-// Adds copies of the links that are not among others.
-fn push_missing(
+// Lists copies of the links that are not among others.
+fn list_missing(
     alloc: Global,
     has: &[Link],
     others: &[Link],
@@ -133,14 +123,14 @@ fn push_missing(
         return Ok(());
     }
     if others.len() <= FEW {
-        return push_unlike_few(alloc, has, others, links);
+        return list_unlike_few(alloc, has, others, links);
     }
     let others = by_cost(copies(alloc, others)?);
-    push_unlike(copies(alloc, has)?, others.as_slice(), links)
+    list_unlike(copies(alloc, has)?, others.as_slice(), links)
 }
 
-// Adds copies of the links that are not among a few others.
-fn push_unlike_few(
+// Lists copies of the links that are not among a few others.
+fn list_unlike_few(
     alloc: Global,
     has: &[Link],
     others: &[Link],
@@ -150,13 +140,13 @@ fn push_unlike_few(
     ensures apart { OnOk result (KeepsApartWith has.now links.old.items links.new.items) }
 {
     for link in has {
-        push_unless_same(alloc, link, others, links)?;
+        list_unless_same(alloc, link, others, links)?;
     }
     Ok(())
 }
 
-// Adds a copy of the link, unless it is one of a few others.
-fn push_unless_same(
+// Lists a copy of the link, unless it is one of a few others.
+fn list_unless_same(
     alloc: Global,
     link: &Link,
     others: &[Link],
@@ -215,20 +205,20 @@ fn by_cost(links: Vec<Link>) -> Vec<Link>
     links
 }
 
-// Adds the links that are not among others.
-fn push_unlike(has: Vec<Link>, others: &[Link], links: &mut Vec<Link>) -> Result<(), Memory>
+// Lists the links that are not among others.
+fn list_unlike(has: Vec<Link>, others: &[Link], links: &mut Vec<Link>) -> Result<(), Memory>
     requires { IsByCost others.now }
     ensures unlike { OnOk result (AddsUnlike has.items others.now links.old.items links.new.items) }
     ensures apart { OnOk result (KeepsApartWith has.items links.old.items links.new.items) }
 {
     for link in has {
-        push_unless(link, others, links)?;
+        list_unless(link, others, links)?;
     }
     Ok(())
 }
 
-// Adds the link, unless it is among others.
-fn push_unless(link: Link, others: &[Link], links: &mut Vec<Link>) -> Result<(), Memory>
+// Lists the link, unless it is among others.
+fn list_unless(link: Link, others: &[Link], links: &mut Vec<Link>) -> Result<(), Memory>
     requires { IsByCost others.now }
     ensures unlike { OnOk result (AddsUnless link others.now links.old.items links.new.items) }
     ensures once { OnOk result (AddsAtMost link links.old.items links.new.items) }

@@ -155,7 +155,7 @@ fn row_of(alloc: Global, side: Side<'_>, all: Facing<'_>, used: Row) -> Result<R
             ends: &ends[first..past],
         };
         let other = next_placed(known, &mut passed, to);
-        side.push_both(alloc, own, &other, &mut row.out, &mut row.into)?;
+        side.list_both(alloc, own, &other, &mut row)?;
         first = past;
     }
     Ok(row)

@@ -8,7 +8,7 @@ ghost use Rattle.graph_links.specs.Sides as sides;
 use crate::at_vertex::ends_at;
 use crate::end::End;
 use crate::link::Link;
-use crate::pair::{Facing, Local, push_links};
+use crate::pair::{Facing, Local, Pair};
 use crate::row::{Row, Rows, StagedEnds};
 use ospf_types::entry::Vertex;
 use ospf_types::memory::Memory;
@@ -147,28 +147,30 @@ impl<'a> Side<'a> {
         find_staged(self.staged, vertex).is_some()
     }
 
-    /// Adds the links between a vertex and another that it leads to, out of it and into it, each once. It is given with all its
-    /// ends there.
-    pub(crate) fn push_both(
+    /// Lists in the vertex's row the links between it and another that it leads to, out of it and into it, each once. It
+    /// is given with all its ends there.
+    pub(crate) fn list_both(
         self,
         alloc: Global,
         own: Facing<'_>,
         to: &Placed,
-        out: &mut Vec<Link>,
-        into: &mut Vec<Link>,
+        row: &mut Row,
     ) -> Result<(), Memory>
         requires in_order { sides.IsInOrder (sides.ends_in self) }
         requires own { AreAllAt to.now (sides.all_ends self own.vertex) own.ends.now }
-        ensures out { OnOk result
-            (sides.AddsOut self.entry own.entry.vertex to.now out.old.items out.new.items) }
-        ensures into { OnOk result
-            (sides.AddsInto self.entry own.entry.vertex to.now into.old.items into.new.items) }
-        ensures out_cheap { OnOk result (AreCheap out.old.items → AreCheap out.new.items) }
-        ensures into_cheap { OnOk result (AreCheap into.old.items → AreCheap into.new.items) }
+        ensures ends { row.new.ends ≡ row.old.ends }
+        ensures out { OnOk result (sides.AddsOut
+            self.entry own.entry.vertex to.now row.old.out.items row.new.out.items) }
+        ensures into { OnOk result (sides.AddsInto
+            self.entry own.entry.vertex to.now row.old.into.items row.new.into.items) }
+        ensures out_cheap { OnOk result
+            (AreCheap row.old.out.items → AreCheap row.new.out.items) }
+        ensures into_cheap { OnOk result
+            (AreCheap row.old.into.items → AreCheap row.new.into.items) }
         ensures out_apart { OnOk result
-            (KeepsApart own.entry.vertex to.now out.old.items out.new.items) }
+            (KeepsApart own.entry.vertex to.now row.old.out.items row.new.out.items) }
         ensures into_apart { OnOk result
-            (KeepsApart to.now own.entry.vertex into.old.items into.new.items) }
+            (KeepsApart to.now own.entry.vertex row.old.into.items row.new.into.items) }
     {
         // 16.1 (2) (b): look up W's LSA; without one, or without a link back, there is no link.
         let (ends, place) = self.find(to);
@@ -181,8 +183,18 @@ impl<'a> Side<'a> {
             place,
             ends: back,
         };
-        push_links(alloc, self.local, own, other, out)?;
-        push_links(alloc, self.local, other, own, into)?;
+        let there = Pair {
+            local: self.local,
+            from: own,
+            to: other,
+        };
+        there.list_links(alloc, &mut row.out)?;
+        let here = Pair {
+            local: self.local,
+            from: other,
+            to: own,
+        };
+        here.list_links(alloc, &mut row.into)?;
         Ok(())
     }
 }

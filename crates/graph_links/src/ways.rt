@@ -45,14 +45,14 @@ fn all_ways(
 {
     let mut ways = SmallVec::new(alloc);
     for end in ends {
-        push_over(local, router, *end, &mut ways)?;
+        list_over(local, router, *end, &mut ways)?;
     }
     Ok(ways)
 }
 
-/// Adds the ways of a router over one of its ends: none if the metric is 0, else one, or at the root
+/// Lists the ways of a router over one of its ends: none if the metric is 0, else one, or at the root
 /// one for each interface that has the address.
-fn push_over(
+fn list_over(
     local: Local<'_>,
     router: u32,
     end: End,
@@ -64,7 +64,7 @@ fn push_over(
         return Ok(());
     }
     if router == local.root {
-        return push_over_interfaces(local.interfaces, router, end, ways);
+        return list_over_interfaces(local.interfaces, router, end, ways);
     }
     ways.push(Way {
         cost: end.metric,
@@ -73,8 +73,8 @@ fn push_over(
     Ok(())
 }
 
-/// Adds a way of the root over one of its ends for each interface that has the address.
-fn push_over_interfaces(
+/// Lists a way of the root over one of its ends for each interface that has the address.
+fn list_over_interfaces(
     interfaces: &[Up],
     root: u32,
     end: End,
@@ -84,13 +84,13 @@ fn push_over_interfaces(
     ensures { OnOk result (AddsRootWays root interfaces.now end ways.old.items ways.new.items) }
 {
     for up in interfaces {
-        push_over_interface(*up, root, end, ways)?;
+        list_over_interface(*up, root, end, ways)?;
     }
     Ok(())
 }
 
-/// Adds a way of the root over one of its ends if the interface has the address.
-fn push_over_interface(
+/// Lists a way of the root over one of its ends if the interface has the address.
+fn list_over_interface(
     up: Up,
     root: u32,
     end: End,

@@ -2,7 +2,7 @@ use Rattle.std.specs.Prelude.{◌↔◌, ◌⊎◌, ◌++◌, Contains}
 use Rattle.std.specs.Vec.Iter.{into_iter_items}
 use Rattle.graph_links.specs.declared.link.Link.{Link}
 use Rattle.graph_links.specs.Pairs.{AreApart}
-use Rattle.graph_links.proofs.changes.push_unlike.Given as goal
+use Rattle.graph_links.proofs.changes.list_unlike.Given as goal
 
 -- what is there and what is left is what was there and all that was given
 abbrev pub invariant-loop-link : goal.invariant-loop-link

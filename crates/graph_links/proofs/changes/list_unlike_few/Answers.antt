@@ -4,7 +4,7 @@ use Rattle.std.proofs.lemmas.List.{drop_all, drop_more}
 use Rattle.graph_links.specs.declared.link.Link.{Link}
 use Rattle.graph_links.proofs.Apart.{apart_given, apart_end}
 use Rattle.graph_links.proofs.Taking.{missing_all, missing_more, missing_none}
-use Rattle.graph_links.proofs.changes.push_unlike_few.Goals as goal
+use Rattle.graph_links.proofs.changes.list_unlike_few.Goals as goal
 
 pub loop-link-init : goal.loop-link-init
 loop-link-init c = record {
@@ -20,12 +20,12 @@ loop-link-preserved c =
     let x : Link = c.link-item.result in
     let lt : i < length has = c.loop-link-test.true in
     let mid : List Link = c.loop-link.links.items in
-    let new : List Link = c.push_unless_same.new.links.items in
+    let new : List Link = c.list_unless_same.new.links.items in
     let steps : drop i has ≡ x ∷ drop (i + 1) has = drop_more has i x lt ∙ ap (λ (l : Link). l ∷ drop (i + 1) has) (sym c.link-item.is) in
     record {
       missing = missing_more others c.args.links.now.items has i x mid new lt c.loop-link.invariant.missing
-          (subst (λ (k : Link). (l : Link) → Contains new l ↔ (Contains mid l ⊎ ((l ≡ k) × (Contains others l → ⊥)))) c.link-item.is c.in_ok-push_unless_same.ensures.unlike);
-      apart = λ apart. apart_given mid new (drop (i + 1) has) (drop i has) x steps c.in_ok-push_unless_same.ensures.once (c.loop-link.invariant.apart apart);
+          (subst (λ (k : Link). (l : Link) → Contains new l ↔ (Contains mid l ⊎ ((l ≡ k) × (Contains others l → ⊥)))) c.link-item.is c.in_ok-list_unless_same.ensures.unlike);
+      apart = λ apart. apart_given mid new (drop (i + 1) has) (drop i has) x steps c.in_ok-list_unless_same.ensures.once (c.loop-link.invariant.apart apart);
     }
 
 pub returns-clause-missing : goal.returns-clause-missing

@@ -6,7 +6,7 @@ use Rattle.graph_links.specs.declared.link.Link.{Link}
 use Rattle.graph_links.specs.Pairs.{AreApart}
 use Rattle.graph_links.proofs.Apart.{apart_given, apart_end}
 use Rattle.graph_links.proofs.Linking.{unlike_more, unlike_all}
-use Rattle.graph_links.proofs.changes.push_unlike.Goals as goal
+use Rattle.graph_links.proofs.changes.list_unlike.Goals as goal
 
 pub loop-link-init : goal.loop-link-init
 loop-link-init c =
@@ -22,10 +22,10 @@ loop-link-init c =
 pub loop-link-preserved : goal.loop-link-preserved
 loop-link-preserved c = record {
   unlike =
-      unlike_more c.args.others.now c.args.links.now.items c.args.has.items (into_iter_items c.next.new.self) c.loop-link.links.items c.push_unless.new.links.items (into_iter_items c.loop-link.link-iterator) c.in-Some.link
-      c.in-Some.ensures.steps.0 c.loop-link.invariant.unlike c.in_ok-push_unless.ensures.unlike;
-  apart = λ apart. apart_given c.loop-link.links.items c.push_unless.new.links.items (into_iter_items c.next.new.self) (into_iter_items c.loop-link.link-iterator) c.in-Some.link
-      c.in-Some.ensures.steps.0 c.in_ok-push_unless.ensures.once (c.loop-link.invariant.apart apart);
+      unlike_more c.args.others.now c.args.links.now.items c.args.has.items (into_iter_items c.next.new.self) c.loop-link.links.items c.list_unless.new.links.items (into_iter_items c.loop-link.link-iterator) c.in-Some.link
+      c.in-Some.ensures.steps.0 c.loop-link.invariant.unlike c.in_ok-list_unless.ensures.unlike;
+  apart = λ apart. apart_given c.loop-link.links.items c.list_unless.new.links.items (into_iter_items c.next.new.self) (into_iter_items c.loop-link.link-iterator) c.in-Some.link
+      c.in-Some.ensures.steps.0 c.in_ok-list_unless.ensures.once (c.loop-link.invariant.apart apart);
 }
 
 pub returns-clause-unlike : goal.returns-clause-unlike

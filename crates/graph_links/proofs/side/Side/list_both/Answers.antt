@@ -7,9 +7,9 @@ use Rattle.ospf_types.specs.declared.entry.Vertex.{Vertex}
 use Rattle.graph_links.specs.declared.end.End.{End}
 use Rattle.graph_links.specs.Pairs.{AreAllAt, KeepsApart}
 use Rattle.graph_links.specs.Sides.{ends_in, ends_or, LinksIn, IsOutTo, IsIntoFrom}
-use Rattle.graph_links.proofs.Linking.{as_pushed, none_into, none_out, none_pushed, some_at}
-use Rattle.graph_links.proofs.side.Side.push_both.Goals.{In_ok-push_links-2}
-use Rattle.graph_links.proofs.side.Side.push_both.Goals as goal
+use Rattle.graph_links.proofs.Linking.{as_listed, none_into, none_out, none_listed, some_at}
+use Rattle.graph_links.proofs.side.Side.list_both.Goals.{In_ok-list_links-2}
+use Rattle.graph_links.proofs.side.Side.list_both.Goals as goal
 
 -- the ends of the other that are at the vertex, by another name of the list of all
 found : (v : Vertex) (back here all : List End) → here ≡ all → ((e : End) → Contains back e ↔ (Contains here e × (e.to ≡ v))) → (e : End) → Contains back e ↔ (Contains all e × (e.to ≡ v))
@@ -27,7 +27,7 @@ returns-then-is_empty-clause-out c =
     let v = c.args.own.vertex in
     let to = c.args.to.now in
     let back : List End = c.ends_at-back.result.now in
-    none_pushed c.args.out.now.items (λ l. IsOutTo (LinksIn side) v l to)
+    none_listed c.args.row.now.out.items (λ l. IsOutTo (LinksIn side) v l to)
     (none_out side.local.root side.local.interfaces.now (ends_in side) v to back (none back c.is_empty.result c.is_empty.ensures c.if-is_empty.true)
     (found v back c.slice_or_none.result.now (ends_or (ends_in side to)) (c.slice_or_none.ensures ∙ ap ends_or c.find-place.ensures) c.ends_at-back.ensures.exact))
 
@@ -37,7 +37,7 @@ returns-then-is_empty-clause-into c =
     let v = c.args.own.vertex in
     let to = c.args.to.now in
     let back : List End = c.ends_at-back.result.now in
-    none_pushed c.args.into.now.items (λ l. IsIntoFrom (LinksIn side) v l to)
+    none_listed c.args.row.now.into.items (λ l. IsIntoFrom (LinksIn side) v l to)
     (none_into side.local.root side.local.interfaces.now (ends_in side) v to back (none back c.is_empty.result c.is_empty.ensures c.if-is_empty.true)
     (found v back c.slice_or_none.result.now (ends_or (ends_in side to)) (c.slice_or_none.ensures ∙ ap ends_or c.find-place.ensures) c.ends_at-back.ensures.exact))
 
@@ -45,7 +45,7 @@ returns-then-is_empty-clause-into c =
 own : (all ends : List End) (to named : Vertex) → named ≡ to → AreAllAt to all ends → AreAllAt named all ends
 own all ends to named is at = subst (λ (w : Vertex). AreAllAt w all ends) (sym is) at
 
-there : (c : In_ok-push_links-2) → AreAllAt c.args.own.vertex (ends_or (ends_in c.args.self c.args.to.now)) c.ends_at-back.result.now
+there : (c : In_ok-list_links-2) → AreAllAt c.args.own.vertex (ends_or (ends_in c.args.self c.args.to.now)) c.ends_at-back.result.now
 there c =
     let v = c.args.own.vertex in
     let back : List End = c.ends_at-back.result.now in
@@ -59,8 +59,8 @@ returns-clause-out c =
     let v = c.args.own.vertex in
     let to = c.args.to.now in
     let leading = ends_in side in
-    as_pushed side.local.root side.local.interfaces.now leading v to v c.vertex.result (ends_or (leading v)) (ends_or (leading to)) c.args.out.now.items c.push_links.new.links.items refl c.vertex.ensures refl refl
-    (c.in_ok-push_links.ensures.pushed (ends_or (leading v)) (ends_or (leading to)) (own (ends_or (leading v)) c.args.own.ends.now to c.vertex.result c.vertex.ensures c.requires.own) (there c))
+    as_listed side.local.root side.local.interfaces.now leading v to v c.vertex.result (ends_or (leading v)) (ends_or (leading to)) c.args.row.now.out.items c.list_links.new.links.items refl c.vertex.ensures refl refl
+    (c.in_ok-list_links.ensures.listed (ends_or (leading v)) (ends_or (leading to)) (own (ends_or (leading v)) c.args.own.ends.now to c.vertex.result c.vertex.ensures c.requires.own) (there c))
 
 pub returns-clause-into : goal.returns-clause-into
 returns-clause-into c =
@@ -68,11 +68,11 @@ returns-clause-into c =
     let v = c.args.own.vertex in
     let to = c.args.to.now in
     let leading = ends_in side in
-    as_pushed side.local.root side.local.interfaces.now leading to v c.vertex.result v (ends_or (leading to)) (ends_or (leading v)) c.args.into.now.items c.push_links-2.new.links.items c.vertex.ensures refl refl refl
-    (c.in_ok-push_links-2.ensures.pushed (ends_or (leading to)) (ends_or (leading v)) (there c) (own (ends_or (leading v)) c.args.own.ends.now to c.vertex.result c.vertex.ensures c.requires.own))
+    as_listed side.local.root side.local.interfaces.now leading to v c.vertex.result v (ends_or (leading to)) (ends_or (leading v)) c.args.row.now.into.items c.list_links-2.new.links.items c.vertex.ensures refl refl refl
+    (c.in_ok-list_links-2.ensures.listed (ends_or (leading to)) (ends_or (leading v)) (there c) (own (ends_or (leading v)) c.args.own.ends.now to c.vertex.result c.vertex.ensures c.requires.own))
 
 pub returns-clause-out_apart : goal.returns-clause-out_apart
-returns-clause-out_apart c = subst (λ (w : Vertex). KeepsApart c.args.own.vertex w c.args.out.now.items c.push_links.new.links.items) c.vertex.ensures c.in_ok-push_links.ensures.apart
+returns-clause-out_apart c = subst (λ (w : Vertex). KeepsApart c.args.own.vertex w c.args.row.now.out.items c.list_links.new.links.items) c.vertex.ensures c.in_ok-list_links.ensures.apart
 
 pub returns-clause-into_apart : goal.returns-clause-into_apart
-returns-clause-into_apart c = subst (λ (w : Vertex). KeepsApart w c.args.own.vertex c.args.into.now.items c.push_links-2.new.links.items) c.vertex.ensures c.in_ok-push_links-2.ensures.apart
+returns-clause-into_apart c = subst (λ (w : Vertex). KeepsApart w c.args.own.vertex c.args.row.now.into.items c.list_links-2.new.links.items) c.vertex.ensures c.in_ok-list_links-2.ensures.apart
