@@ -6,7 +6,7 @@ ghost use Rattle.ospf_types.specs.Vertices.{vertex_cmp};
 ghost use Rattle.vertex_graph.specs.Graphs.{AreApartHanded, AreFewAfter, AreLinkChanges, AreLinksFrom, AreLinksTo, HasCheapLinks, HasEnds, HasFewRouters, HasRoot, IsReplaced, handed_of, handed_in};
 ghost use Rattle.graph_links.specs.Pairs.{AreCheap};
 
-use crate::change::change;
+use crate::change::Change;
 use crate::staging::{Staging, stage, stage_root};
 use graph_links::{Link, LinkChanges, Local, Room, Row, Rows, Up};
 use indexmap::IndexMap;
@@ -170,11 +170,14 @@ impl Graph {
     {
         let alloc = *self.interfaces.allocator();
         stage(alloc, &self.rows, lsas, &mut self.staging)?;
-        let local = Local {
-            root: self.root,
-            interfaces: &self.interfaces,
+        let change = Change {
+            local: Local {
+                root: self.root,
+                interfaces: &self.interfaces,
+            },
+            staging: &self.staging,
         };
-        let changes = change(alloc, &mut self.rows, local, &self.staging, &mut self.room)?;
+        let changes = change.make(alloc, &mut self.rows, &mut self.room)?;
         Ok(changes)
     }
 
@@ -201,11 +204,14 @@ impl Graph {
         let alloc = *self.interfaces.allocator();
         let ups = Vec::from_slice(alloc, interfaces)?;
         stage_root(alloc, &self.rows, self.root, &mut self.staging)?;
-        let local = Local {
-            root: self.root,
-            interfaces: &ups,
+        let change = Change {
+            local: Local {
+                root: self.root,
+                interfaces: &ups,
+            },
+            staging: &self.staging,
         };
-        let changes = change(alloc, &mut self.rows, local, &self.staging, &mut self.room)?;
+        let changes = change.make(alloc, &mut self.rows, &mut self.room)?;
         self.interfaces = ups;
         Ok(changes)
     }
