@@ -36,7 +36,7 @@ pub(crate) fn lose_support(
 }
 
 /// What is found while vertices are suspected to have lost all that supported them: those that lose their distance, and
-/// those that wait. It is kept for its memory.
+/// those that are looked at again. It is kept for its memory.
 pub(crate) struct Search {
     pub(crate) lost: Members,
     pub(crate) pending: Pending,
