@@ -61,7 +61,12 @@ fn append_items(writer: &mut ShownWriter, alloc: Global, table: &Table) -> bool
 }
 
 // Appends that the table is emptied and has these items, and the list that they are right for.
-fn append_whole(writer: &mut ShownWriter, alloc: Global, table: &Table, front: &HistoryPrefix) -> bool
+fn append_whole(
+    writer: &mut ShownWriter,
+    alloc: Global,
+    table: &Table,
+    front: &HistoryPrefix,
+) -> bool
     ensures desk { writer.new.desk ≡ writer.old.desk }
     ensures pending { IsTrue result → AreAppended (whole table.now front.now)
         (drop writer.old.behind writer.old.log.items)
