@@ -1,5 +1,5 @@
 -- External routes as their callers see them, with the preferred entries of AS boundary routers.
-use Rattle.std.specs.Prelude.{ℕ, ◌≡◌, ◌↔◌, Bool, true, false, Option, Some, None, IsSome}
+use Rattle.std.specs.Prelude.{ℕ, ◌≡◌, Bool, true, false, Option, Some, None, IsSome}
 use Rattle.std.specs.FinMap.{get, empty}
 use Rattle.std.specs.List.Sorted.{IsStrictlySortedBy}
 use Rattle.ospf_types.specs.declared.entry.Entry.{Entry}

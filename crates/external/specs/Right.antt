@@ -1,5 +1,5 @@
 -- When external routes are those of the definitions.
-use Rattle.std.specs.Prelude.{ℕ, ◌≡◌, ◌≢◌, List, map, Option}
+use Rattle.std.specs.Prelude.{ℕ, ◌≡◌, ◌≢◌, map}
 use Rattle.std.specs.FinMap.{get, values}
 use Rattle.std.specs.List.{AllPairs}
 use Rattle.ospf_types.specs.declared.prefix.Prefix.{Prefix}
