@@ -1,4 +1,4 @@
-"""Runs a program many times, and refuses it one growth of memory in each run: the first, the second, and so on."""
+"""Runs a program many times, and refuses it one allocation in each run: the first, the second, and so on."""
 
 import os
 import subprocess
@@ -22,7 +22,7 @@ def library(folder):
 
 
 def run(words, folder, number=0):
-    """The status, the output and the fault lines of a run whose growth of this number is refused, and its count of growths."""
+    """The status, the output and the fault lines of a run whose allocation of this number is refused, and its count of allocations."""
     counted = os.path.join(folder, "counted")
     more = {"LD_PRELOAD": os.path.join(folder, "refuse.so"), "REFUSED": str(number), "COUNTED": counted}
     done = subprocess.run(words, capture_output=True, timeout=SECONDS, env={**os.environ, **more}, check=False)
@@ -32,7 +32,7 @@ def run(words, folder, number=0):
 
 
 def each_refusal(words, folder):
-    """Each run that was refused a growth: its number, and what `run` gives of it. It ends with the last growth."""
+    """Each run that was refused an allocation: its number, and what `run` gives of it. It ends with the last allocation."""
     number = 1
     while True:
         status, output, faults, count = run(words, folder, number)

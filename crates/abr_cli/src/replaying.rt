@@ -29,7 +29,9 @@ pub fn replay<S: Threads + Wait + Sync, R: io::Read, W: io::Write, F: io::Write>
     faults: &mut F,
 ) -> u8
     requires { AreWorkers workers }
-    ensures { IsReplayTold file.entry workers show result (R.remaining input.old) (R.remaining input.new) (W.contents out.old) (W.contents out.new) (F.contents faults.old) (F.contents faults.new) }
+    ensures { IsReplayTold file.entry workers show result (R.remaining input.old)
+        (R.remaining input.new) (W.contents out.old) (W.contents out.new) (F.contents faults.old)
+        (F.contents faults.new) }
 {
     match run_with(rt, alloc, hashing, workers, show, input, out) {
         Ok(()) => 0,
@@ -47,7 +49,8 @@ fn run_with<S: Threads + Wait + Sync, R: io::Read, W: io::Write>(
     out: &mut W,
 ) -> Result<(), ManyFault>
     requires { AreWorkers workers }
-    ensures { EndsBy workers show result (R.remaining input.old) (R.remaining input.new) (W.contents out.old) (W.contents out.new) }
+    ensures { EndsBy workers show result (R.remaining input.old) (R.remaining input.new)
+        (W.contents out.old) (W.contents out.new) }
 {
     if workers > 1 {
         return replay_many(rt, alloc, hashing, input, out, show, workers);
@@ -83,7 +86,8 @@ fn fault_from(file: &str, fault: ManyFault) -> CommandFault<'_>
 
 // Writes the line of the fault, or of want of memory where there is none for it.
 fn say_fault<F: io::Write>(alloc: Global, fault: CommandFault<'_>, faults: &mut F) -> u8
-    ensures { IsSaid (fault_line (command_fault_text fault.entry)) (status_of fault.entry) result (F.contents faults.old) (F.contents faults.new)
+    ensures { IsSaid (fault_line (command_fault_text fault.entry)) (status_of fault.entry) result
+        (F.contents faults.old) (F.contents faults.new)
         ⊎ IsSaid (fault_line (command_fault_text CommandFault.Memory)) 1 result (F.contents faults.old) (F.contents faults.new) }
 {
     match line_of(alloc, fault) {

@@ -25,7 +25,8 @@ pub fn run<S: Threads + Wait + Sync, R: io::Read, W: io::Write, F: io::Write>(
     faults: &mut F,
 ) -> u8
     requires { IfOk job IsFit }
-    ensures { IsJobTold job.entry result (R.remaining input.old) (R.remaining input.new) (W.contents out.old) (W.contents out.new) (F.contents faults.old) (F.contents faults.new) }
+    ensures { IsJobTold job.entry result (R.remaining input.old) (R.remaining input.new)
+        (W.contents out.old) (W.contents out.new) (F.contents faults.old) (F.contents faults.new) }
 {
     match job {
         Ok(job) => perform(rt, alloc, hashing, job, input, out, faults),
@@ -43,7 +44,8 @@ fn perform<S: Threads + Wait + Sync, R: io::Read, W: io::Write, F: io::Write>(
     faults: &mut F,
 ) -> u8
     requires { IsFit job }
-    ensures { IsDone job.entry result (R.remaining input.old) (R.remaining input.new) (W.contents out.old) (W.contents out.new) (F.contents faults.old) (F.contents faults.new) }
+    ensures { IsDone job.entry result (R.remaining input.old) (R.remaining input.new)
+        (W.contents out.old) (W.contents out.new) (F.contents faults.old) (F.contents faults.new) }
 {
     match job {
         Job::One(words) => one(rt, alloc, hashing, &words, out, faults),

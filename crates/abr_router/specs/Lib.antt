@@ -1,6 +1,6 @@
-pub use Rattle.desk.specs.Answers
+pub use Rattle.engine_state.specs.Answers
 pub use Rattle.engine.specs.Bytes
-pub use Rattle.desk.specs.Gates
+pub use Rattle.engine_state.specs.Gates
 pub use Rattle.engine.specs.Opens
 pub use Rattle.engine.specs.Texts
 pub use Rattle.event_core.specs.Cores

@@ -4,15 +4,15 @@
 
 // One thread has a core; threads share an engine, and look up by forwarders.
 pub use engine::{
-    Answer, Base, BaseFault, BytesFault, ConfigFault, Core, Due, DueList, Engine, Event, Forwarder,
-    Gate, Open, OpenFault, Refusal, Refused, Reply, Seen, Standing, Told, Unfit, Unseen,
+    Answer, Base, BaseFault, BytesFault, ConfigFault, Core, DueList, DueSummary, Engine, Event,
+    Forwarder, Gate, Open, OpenFault, Refusal, Refused, Reply, Seen, Status, Told, Unfit, Unseen,
 };
 // What a router is opened from again.
 pub use event_state::{Limits, fault_in_base};
 pub use ospf_types::listed::Listed;
 // What the core shows beside its table.
-pub use due_lists::AreaDues;
-pub use event_core::{Dues, Touched, fault_in};
+pub use event_core::{DueSummaries, Touched, fault_in};
+pub use summary_lists::AreaSummaries;
 // LSAs and their bytes (A.4).
 pub use lsa_codec::{
     Checked, External, Header, Link, LinkKind, Links, Routers, WireFault, read, sum_of, write,

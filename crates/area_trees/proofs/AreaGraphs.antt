@@ -106,7 +106,7 @@ key_there d key there = Contains-from_any (tells_apart key_exact) key (keys d) (
 used_there : (d : Database) (key : Key) → IsUsed d key → IsSome (get d key)
 used_there d key used = elim (get d key) as (λ o. IsSome (body_of o) → IsSome o) [ None ↦ λ h. absurd cc | Some l ↦ λ h. refl ] used
 
--- a database differs from none in its own keys alone
+-- a database differs from none only in its own keys
 pub differ_from_none : (d : DatabaseValue) → IsOrder d → DifferAmong empty d.lsas d.order
 differ_from_none d order key apart =
     let none : get d.lsas key ≡ None = elim (get d.lsas key) as (λ o. get d.lsas key ≡ o → o ≡ None) [

@@ -28,7 +28,7 @@ tree_after was inside new view_is is graph root interfaces tree spent = record {
   fresh = spent ∙ ap (λ (v : AreaTreeValue). v.spent) view_is ∙ is.fresh;
 }
 
--- where a change is not refused, all is as the parts left it, and not spent
+-- if a change has its memory, all is as the parts left it, and not spent
 pub not_spent : {root : ℕ} {d : Database} {ups : List Up} (parts inside : AreaTreeValue) (spent : Bool) → inside ≡ parts → spent ≡ false → IsAreaTree root d ups parts → IsAreaTree root d ups (record { area = inside.area; tree = inside.tree; spent = spent })
 not_spent {root} {d} {ups} parts inside spent view_is fresh is =
     let there = subst (IsAreaTree root d ups) (sym view_is) is in

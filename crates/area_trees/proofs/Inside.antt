@@ -49,7 +49,7 @@ network_key_is l id advertiser mask routers legal at by is =
 
 -- ---- the graph of a database
 
--- a vertex has its ends in order, and a network leads to routers alone
+-- a vertex has its ends in order, and a network leads only to routers
 module _ {d : Database} {v : AreaGraphValue} (is : IsGraphOf d v) where
   -- where a vertex leads by what stands for it
   led : (w : Vertex) (b : Body) → IsStanding d w (Some b) → (ends : List End) × (get v.graph.ends w ≡ Some ends) × AreEnds w b ends

@@ -1,10 +1,12 @@
 -- The graph of an area as its database gives it, and its tree (RFC 2328, 16.1).
-use Rattle.std.specs.Prelude.{◌↔◌, ◌⊎◌, ◌==◌, ℕ, ◌≡◌, ◌≤◌, Bool, false, List, [], ◌∷◌, Contains, Option, Some, None, IsSome, if◌then◌else◌}
+use Rattle.std.specs.Prelude.{◌↔◌, ◌⊎◌, ◌==◌, ℕ, ◌≡◌, ◌≤◌, Bool, false, List, [], ◌∷◌, ◌++◌, Contains, Option, Some, None, IsSome, if◌then◌else◌, option_to_list}
+use Rattle.std.proofs.Common.{Bor}
 use Rattle.std.specs.FinMap.{get, values}
 use Rattle.ospf_types.specs.declared.entry.Vertex.{Vertex}
 use Rattle.ospf_types.specs.declared.entry.Vertex.TheVariants.{Router, Network}
 use Rattle.ospf_types.specs.declared.key.Key.{Key}
 use Rattle.ospf_types.specs.Lsa.{Body}
+use Rattle.lsa_codec.specs.declared.checked.Checked.{Checked}
 use Rattle.lsdb.specs.Databases.{Database}
 use Rattle.ospf_types.specs.declared.config.Interface.{Interface}
 use Rattle.ospf_types.specs.Inputs.{Inputs, Area, IsUp}
@@ -14,8 +16,9 @@ use Rattle.vertex_graph.specs.End.{End}
 use Rattle.vertex_graph.specs.Up.{Up}
 use Rattle.vertex_graph.specs.Ends.{AreEnds}
 use Rattle.vertex_graph.specs.Link.{Link}
-use Rattle.vertex_graph.specs.Graphs.{GraphValue, Handed, AreExact}
-use Rattle.spf.specs.TreeValues.{TreeValue, IsTreeOf, IsBounded}
+use Rattle.vertex_graph.specs.Graphs.{GraphValue, Handed, AreExact, handed_of}
+use Rattle.spf.specs.TreeValues.{TreeValue, AreChanged, IsBounded, IsTreeOf, IsWorkDone, IsWorkForAll}
+use Rattle.spf.specs.Touched.{Touched}
 
 -- ---- LSAs
 
@@ -32,6 +35,14 @@ IsUsed d key = IsSome (body_at d key)
 abbrev pub vertex_of : Key → Option Vertex
 vertex_of key = if key.kind == 1 then Some (Router key.router) else (if key.kind == 2 then Some (Network key.id) else None)
 
+-- the vertices that LSAs under these keys stand for
+abbrev pub AreVerticesOf : List Key → List Vertex → Type 0
+AreVerticesOf keys vertices = (v : Vertex) → Contains vertices v ↔ ((k : Key) × Contains keys k × (vertex_of k ≡ Some v))
+
+-- the vertex of the key is added, if it has one
+abbrev pub AddsVertexOf : Key → List Vertex → List Vertex → Type 0
+AddsVertexOf key old new = new ≡ old ++ option_to_list (vertex_of key)
+
 -- from the one to the other no LSA is used otherwise, but for those under these keys
 abbrev pub DifferAmong : Database → Database → List Key → Type 0
 DifferAmong before after keys = (key : Key) → (Contains keys key → ⊥) → body_at after key ≡ body_at before key
@@ -42,15 +53,28 @@ DifferAmong before after keys = (key : Key) → (Contains keys key → ⊥) → 
 abbrev pub AreNetworksOf : Database → List (ℕ × ℕ) → Type 0
 AreNetworksOf d networks = (id router : ℕ) → Contains networks (id, router) ↔ IsUsed d (network_key id router)
 
+-- the networks are those of a database that differs from this one at most in the LSAs under these keys
+abbrev pub AreNetworksBut : Database → List Key → List (ℕ × ℕ) → Type 0
+AreNetworksBut d keys networks = (before : Database) × AreNetworksOf before networks × DifferAmong before d keys
+
+-- a key of a network-LSA is among the networks exactly if the LSA is usable
+abbrev pub FollowsKey : Database → Key → List (ℕ × ℕ) → Type 0
+FollowsKey d key networks = key.kind ≡ 2 → Contains networks (key.id, key.router) ↔ IsUsed d key
+
+-- the networks other than that of the key are the same
+abbrev pub KeepsOthers : Key → List (ℕ × ℕ) → List (ℕ × ℕ) → Type 0
+KeepsOthers key old new =
+    (id router : ℕ) → (((key.kind ≡ 2) × (key.id ≡ id) × (key.router ≡ router)) → ⊥) → Contains new (id, router) ↔ Contains old (id, router)
+
 -- of those with the Link State ID this Advertising Router is the greatest
 abbrev pub IsGreatest : List (ℕ × ℕ) → ℕ → ℕ → Type 0
 IsGreatest networks id router = Contains networks (id, router) × ((other : ℕ) → Contains networks (id, other) → other ≤ router)
 
--- the same, of the usable network-LSAs of a database
+-- of a database's usable network-LSAs with the Link State ID this Advertising Router is the greatest
 abbrev pub IsGreatestOf : Database → ℕ → ℕ → Type 0
 IsGreatestOf d id router = IsUsed d (network_key id router) × ((other : ℕ) → IsUsed d (network_key id other) → other ≤ router)
 
--- The body of the LSA that stands for the vertex, none where the vertex is not there. For a transit network it is that of the greatest Advertising Router.
+-- The body of the LSA that stands for the vertex, none if the vertex is not there. For a transit network it is that of the greatest Advertising Router.
 abbrev pub IsStanding : Database → Vertex → Option Body → Type 0
 IsStanding d (Router router) body = body ≡ body_at d (router_key router)
 IsStanding d (Network id) body =
@@ -63,6 +87,10 @@ AreStanding d [] [] = Unit {0}
 AreStanding d [] (h ∷ hs) = ⊥
 AreStanding d (v ∷ vs) [] = ⊥
 AreStanding d (v ∷ vs) (h ∷ hs) = (h.0 ≡ v) × IsStanding d v h.1 × AreStanding d vs hs
+
+-- each of these vertices with the LSA that stands for it, or with none
+abbrev pub StandFor : Database → List Vertex → List (Vertex × Option (Bor Checked)) → Type 0
+StandFor d vertices lsas = AreStanding d vertices (handed_of lsas)
 
 -- where the vertex leads by the body of its LSA
 abbrev pub LeadsBy : Vertex → Option Body → Option (List End) → Type 0
@@ -81,6 +109,10 @@ pub record IsGraphOf (d : Database) (v : AreaGraphValue) : Type 0 where
   pub networks : AreNetworksOf d v.networks
   pub leads : (w : Vertex) → (body : Option Body) × IsStanding d w body × LeadsBy w body (get v.graph.ends w)
 
+-- the graph is that of a database that differs from this one at most in the LSAs under these keys
+abbrev pub IsGraphBut : Database → List Key → AreaGraphValue → Type 0
+IsGraphBut d keys v = (before : Database) × IsGraphOf before v × DifferAmong before d keys
+
 pub record AreaTreeValue : Type 0 where
   pub area : AreaGraphValue
   pub tree : TreeValue
@@ -94,9 +126,49 @@ pub record IsAreaTree (root : ℕ) (d : Database) (ups : List Up) (v : AreaTreeV
   pub tree : IsTreeOf v.area.graph v.tree
   pub fresh : v.spent ≡ false
 
+-- graph and tree are those of some database and interfaces, for some root
+abbrev pub IsTreeOfSome : AreaTreeValue → Type 0
+IsTreeOfSome v = (root : ℕ) × (d : Database) × (ups : List Up) × IsAreaTree root d ups v
+
+-- graph and tree are those of the database, for some root and interfaces
+abbrev pub IsTreeIn : Database → AreaTreeValue → Type 0
+IsTreeIn d v = (root : ℕ) × (ups : List Up) × IsAreaTree root d ups v
+
+-- graph and tree are those of a database that differs from this one at most in the LSAs under these keys
+abbrev pub IsTreeBut : Database → List Key → AreaTreeValue → Type 0
+IsTreeBut d keys v = (root : ℕ) × (before : Database) × (ups : List Up) × IsAreaTree root before ups v × DifferAmong before d keys
+
+-- graph and tree are those of this database now, for the root and the interfaces that they were for
+abbrev pub FollowsLsas : Database → AreaTreeValue → AreaTreeValue → Type 0
+FollowsLsas d old new = (root : ℕ) (before : Database) (ups : List Up) → IsAreaTree root before ups old → IsAreaTree root d ups new
+
+-- graph and tree are those of these interfaces now, for the root and the database that they were for
+abbrev pub FollowsInterfaces : List Up → AreaTreeValue → AreaTreeValue → Type 0
+FollowsInterfaces now old new = (root : ℕ) (d : Database) (ups : List Up) → IsAreaTree root d ups old → IsAreaTree root d now new
+
+-- the tree lists the vertices whose distance or next hops differ
+abbrev pub NamesChanged : AreaTreeValue → AreaTreeValue → Type 0
+NamesChanged old new = AreChanged old.tree new.tree new.tree.changed
+
+-- the tree that was built is that of the database and of these interfaces, for this root
+abbrev pub IsBuiltFor : ℕ → Database → List Up → AreaTreeValue × Touched → Type 0
+IsBuiltFor root d ups built = IsAreaTree root d ups built.0
+
+-- the work of building is that of the whole tree
+abbrev pub IsBuiltByWork : AreaTreeValue × Touched → Type 0
+IsBuiltByWork built = IsWorkForAll built.0.area.graph built.0.tree built.1.taken built.1.hop_sets
+
+-- the work of a change from the one to the other
+abbrev pub IsWorkBetween : AreaTreeValue → AreaTreeValue → Touched → Type 0
+IsWorkBetween old new touched = IsWorkDone new.area.graph old.tree new.tree touched.taken touched.hop_sets
+
 -- the work of a change is bounded by what differs
 abbrev pub IsWorkBounded : AreaTreeValue → AreaTreeValue → ℕ → ℕ → Type 0
 IsWorkBounded old new taken hop_sets = (gone come : List Link) × AreExact old.area.graph new.area.graph gone come × IsBounded new.area.graph gone come old.tree taken hop_sets
+
+-- what a change took from queues and wrote of next hops is bounded by what differs
+abbrev pub HasBoundedWork : AreaTreeValue → AreaTreeValue → Touched → Type 0
+HasBoundedWork old new touched = IsWorkBounded old new touched.taken touched.hop_sets
 
 -- ---- an area of the definitions
 

@@ -1,4 +1,4 @@
--- The work of a change, said of the links before and after alone.
+-- The work of a change, said only of the links before and after.
 use Rattle.std.specs.Prelude.{◌↔◌, ◌⊎◌, ℕ, ◌+◌, ◌*◌, ◌≡◌, ◌≢◌, ◌≤◌, List, length, Contains}
 use Rattle.ospf_types.specs.declared.entry.Vertex.{Vertex}
 use Rattle.ospf_types.specs.declared.entry.Vertex.TheVariants.{Router}
@@ -32,7 +32,7 @@ IsReachedOtherwise root before after had_root has_root v =
 -- What is taken, and how often next hops are written.
 -- No more are taken than twice what differs, the heads of the links that differ and those of the links out of what differs; and no more than twice as many as are reached.
 -- No fewer are taken than are reached at another distance than before, and besides as many as are reached otherwise than before.
--- As many sets are written as there are vertices that have other next hops.
+-- The sets that are written are as many as the vertices that have other next hops.
 pub record IsWorkOf (root : ℕ) (before after : Links) (had_root has_root : Type 0) (taken hop_sets : ℕ) : Type 0 where
   pub gone : List Link
   pub come : List Link

@@ -3,8 +3,8 @@ ghost use Rattle.std.specs.Prelude.{◌≡◌, ◌≤◌, [], Some, OnOk, IfOk, 
 ghost use Rattle.std.specs.FinMap as map;
 ghost use Rattle.lsdb.specs.Databases.{Database as Lsas};
 ghost use Rattle.ospf_types.specs.Lsa.{key_of};
-ghost use Rattle.vertex_graph.specs.Graphs.{AreExact, HasEnds, most_routers};
-ghost use Rattle.area_trees.specs.Areas.{IsGraphOf, IsStanding, DifferAmong, vertex_of};
+ghost use Rattle.vertex_graph.specs.Graphs.{AreLinkChanges, HasEnds, most_routers};
+ghost use Rattle.area_trees.specs.Areas.{IsGraphBut, IsGraphOf, IsStanding, vertex_of};
 
 use crate::networks::Networks;
 use crate::vertices::{list_vertices, lsa_of, standing};
@@ -80,13 +80,13 @@ impl AreaGraph {
         database: &Database,
         keys: &[Key],
     ) -> Result<LinkChanges, Memory>
-        requires before { (before : Lsas) × IsGraphOf before self.old × DifferAmong before database.now.lsas keys.now }
+        requires before { IsGraphBut database.now.lsas keys.now self.old }
         requires few { database.now.limit ≤ most_routers }
         ensures ends { HasEnds self.old.graph }
         ensures right { OnOk result (IsGraphOf database.now.lsas self.new) }
         ensures root { OnOk result (self.new.graph.root ≡ self.old.graph.root) }
         ensures interfaces { OnOk result (self.new.graph.interfaces ≡ self.old.graph.interfaces) }
-        ensures exact { IfOk result (λ changes. AreExact self.old.graph self.new.graph changes.gone.items changes.came.items) }
+        ensures exact { IfOk result (AreLinkChanges self.old.graph self.new.graph) }
     {
         // By these calls it is known that the routers are few and which links a vertex has.
         let _ = (database.len(), self.graph.root());
@@ -96,7 +96,7 @@ impl AreaGraph {
         self.graph.replace_all(lsas.as_slice())
     }
 
-    /// The LSA that stands for the vertex in the database, none where it is not there.
+    /// The LSA that stands for the vertex in the database, none if it is not there.
     pub(crate) fn standing<'a>(&self, database: &'a Database, vertex: Vertex) -> Option<&'a Checked>
         requires { IsGraphOf database.now.lsas self.now }
         ensures body { IsStanding database.now.lsas vertex (option_map (λ l. l.now.body) result) }
@@ -111,7 +111,7 @@ impl AreaGraph {
         ensures right { OnOk result ((d : Lsas) → IsGraphOf d self.old → IsGraphOf d self.new) }
         ensures root { OnOk result (self.new.graph.root ≡ self.old.graph.root) }
         ensures interfaces { OnOk result (self.new.graph.interfaces ≡ ups.now) }
-        ensures exact { IfOk result (λ changes. AreExact self.old.graph self.new.graph changes.gone.items changes.came.items) }
+        ensures exact { IfOk result (AreLinkChanges self.old.graph self.new.graph) }
     {
         let _ = self.graph.root();
         self.graph.interfaces(ups)

@@ -1,15 +1,13 @@
 //! The graph of an area and its shortest-path tree, which stay together.
-ghost use Rattle.std.specs.Prelude.{◌≡◌, ◌≤◌, ◌<◌, [], ℕ, List, Some, true, OnOk, OnErr, IfOk, IfSome, option_map};
+ghost use Rattle.std.specs.Prelude.{◌≡◌, ◌≤◌, ◌<◌, [], Some, true, OnOk, OnErr, IfOk, IfSome, option_map};
 ghost use Rattle.std.specs.FinMap as map;
 ghost use Rattle.std.specs.List.Sorted.{IsStrictlySortedBy};
-ghost use Rattle.lsdb.specs.Databases.{Database as Lsas};
 ghost use Rattle.ospf_types.specs.Lsa.{key_of};
 ghost use Rattle.ospf_types.specs.Hops.{hop_cmp};
 ghost use Rattle.spf.specs.Maps.{most_distance};
-ghost use Rattle.spf.specs.TreeValues.{AreChanged, AreOthersKept, IsWorkForAll, IsWorkDone, listed_hops};
-ghost use Rattle.vertex_graph.specs.Up.{Up as UpValue};
+ghost use Rattle.spf.specs.TreeValues.{AreOthersKept, listed_hops};
 ghost use Rattle.vertex_graph.specs.Graphs.{most_routers};
-ghost use Rattle.area_trees.specs.Areas.{IsAreaTree, IsStanding, DifferAmong, IsWorkBounded, vertex_of};
+ghost use Rattle.area_trees.specs.Areas.{FollowsInterfaces, FollowsLsas, HasBoundedWork, IsBuiltByWork, IsBuiltFor, IsStanding, IsTreeBut, IsTreeIn, IsTreeOfSome, IsWorkBetween, NamesChanged, vertex_of};
 
 use crate::area_graph::AreaGraph;
 use lsa_codec::Checked;
@@ -71,9 +69,9 @@ impl AreaTree {
         hashing: RandomState,
     ) -> Result<(AreaTree, Touched), Memory>
         requires few { database.now.limit ≤ most_routers }
-        ensures right { IfOk result (λ built. IsAreaTree root database.now.lsas interfaces.now built.0) }
+        ensures right { IfOk result (IsBuiltFor root database.now.lsas interfaces.now) }
         ensures changed { IfOk result (λ built. built.0.tree.changed ≡ []) }
-        ensures work { IfOk result (λ built. IsWorkForAll built.0.area.graph built.0.tree built.1.taken built.1.hop_sets) }
+        ensures work { IfOk result IsBuiltByWork }
     {
         let mut area = AreaGraph::new(alloc, root, hashing);
         area.follow(alloc, database, database.keys())?;
@@ -83,21 +81,21 @@ impl AreaTree {
         Ok((AreaTree { area, tree, spent }, touched))
     }
 
-    /// Takes what the database says now of the LSAs under these keys, and answers the work. Where memory is refused,
-    /// all is spent, and only `build` makes another.
+    /// Takes what the database says now of the LSAs under these keys, and answers the work. If memory runs out, all is
+    /// spent, and only `build` makes another.
     pub fn follow(
         &mut self,
         alloc: Global,
         database: &Database,
         keys: &[Key],
     ) -> Result<Touched, Memory>
-        requires before { (root : ℕ) × (before : Lsas) × (ups : List UpValue) × IsAreaTree root before ups self.old × DifferAmong before database.now.lsas keys.now }
+        requires before { IsTreeBut database.now.lsas keys.now self.old }
         requires few { database.now.limit ≤ most_routers }
-        ensures right { OnOk result ((root : ℕ) (before : Lsas) (ups : List UpValue) → IsAreaTree root before ups self.old → IsAreaTree root database.now.lsas ups self.new) }
-        ensures changed { OnOk result (AreChanged self.old.tree self.new.tree self.new.tree.changed) }
+        ensures right { OnOk result (FollowsLsas database.now.lsas self.old self.new) }
+        ensures changed { OnOk result (NamesChanged self.old self.new) }
         ensures others { OnOk result (AreOthersKept self.old.tree self.new.tree) }
-        ensures bounded { IfOk result (λ touched. IsWorkBounded self.old self.new touched.taken touched.hop_sets) }
-        ensures work { IfOk result (λ touched. IsWorkDone self.new.area.graph self.old.tree self.new.tree touched.taken touched.hop_sets) }
+        ensures bounded { IfOk result (HasBoundedWork self.old self.new) }
+        ensures work { IfOk result (IsWorkBetween self.old self.new) }
         ensures spent { OnErr result (self.new.spent ≡ true) }
     {
         let touched = self.follow_keys(alloc, database, keys);
@@ -105,14 +103,14 @@ impl AreaTree {
         touched
     }
 
-    /// Takes these as the area's interfaces that are up, and answers the work. Where memory is refused, all is spent.
+    /// Takes these as the area's interfaces that are up, and answers the work. If memory runs out, all is spent.
     pub fn interfaces(&mut self, alloc: Global, interfaces: &[Up]) -> Result<Touched, Memory>
-        requires { (root : ℕ) × (d : Lsas) × (ups : List UpValue) × IsAreaTree root d ups self.old }
-        ensures right { OnOk result ((root : ℕ) (d : Lsas) (ups : List UpValue) → IsAreaTree root d ups self.old → IsAreaTree root d interfaces.now self.new) }
-        ensures changed { OnOk result (AreChanged self.old.tree self.new.tree self.new.tree.changed) }
+        requires { IsTreeOfSome self.old }
+        ensures right { OnOk result (FollowsInterfaces interfaces.now self.old self.new) }
+        ensures changed { OnOk result (NamesChanged self.old self.new) }
         ensures others { OnOk result (AreOthersKept self.old.tree self.new.tree) }
-        ensures bounded { IfOk result (λ touched. IsWorkBounded self.old self.new touched.taken touched.hop_sets) }
-        ensures work { IfOk result (λ touched. IsWorkDone self.new.area.graph self.old.tree self.new.tree touched.taken touched.hop_sets) }
+        ensures bounded { IfOk result (HasBoundedWork self.old self.new) }
+        ensures work { IfOk result (IsWorkBetween self.old self.new) }
         ensures spent { OnErr result (self.new.spent ≡ true) }
     {
         let touched = self.follow_interfaces(alloc, interfaces);
@@ -121,9 +119,9 @@ impl AreaTree {
     }
 
     /// The LSA that stands for the vertex in the area's database: a router's own router-LSA; for a transit network,
-    /// of its usable network-LSAs the one of the greatest Advertising Router. None where the vertex is not there.
+    /// of its usable network-LSAs the one of the greatest Advertising Router. None if the vertex is not there.
     pub fn standing<'a>(&self, database: &'a Database, vertex: Vertex) -> Option<&'a Checked>
-        requires { (root : ℕ) × (ups : List UpValue) × IsAreaTree root database.now.lsas ups self.now }
+        requires { IsTreeIn database.now.lsas self.now }
         ensures body { IsStanding database.now.lsas vertex (option_map (λ l. l.now.body) result) }
         ensures own { IfSome result (λ l. vertex_of (key_of l.now) ≡ Some vertex) }
     {
@@ -137,7 +135,7 @@ impl AreaTree {
         self.area.graph().placed(vertex)
     }
 
-    /// The distance of a vertex, a sum of metrics; none where it is not reached.
+    /// The distance of a vertex, a sum of metrics; none if it is not reached.
     pub fn distance(&self, vertex: Vertex) -> Option<u32>
         ensures value { result ≡ map.get self.now.tree.distances vertex }
         ensures bounded { IfSome result (λ distance. distance < most_distance) }
@@ -176,7 +174,7 @@ impl AreaTree {
         self.tree.changed()
     }
 
-    /// Whether a change was refused memory.
+    /// Whether memory ran out in a change.
     pub fn spent(&self) -> bool
         ensures { result ≡ self.now.spent }
     {
@@ -185,20 +183,21 @@ impl AreaTree {
 }
 
 impl AreaTree {
-    // After an error graph and tree are those of no database.
+    // Takes what the database says now of the LSAs under these keys. After an error graph and tree are those of no
+    // database.
     fn follow_keys(
         &mut self,
         alloc: Global,
         database: &Database,
         keys: &[Key],
     ) -> Result<Touched, Memory>
-        requires before { (root : ℕ) × (before : Lsas) × (ups : List UpValue) × IsAreaTree root before ups self.old × DifferAmong before database.now.lsas keys.now }
+        requires before { IsTreeBut database.now.lsas keys.now self.old }
         requires few { database.now.limit ≤ most_routers }
-        ensures right { OnOk result ((root : ℕ) (before : Lsas) (ups : List UpValue) → IsAreaTree root before ups self.old → IsAreaTree root database.now.lsas ups self.new) }
-        ensures changed { OnOk result (AreChanged self.old.tree self.new.tree self.new.tree.changed) }
+        ensures right { OnOk result (FollowsLsas database.now.lsas self.old self.new) }
+        ensures changed { OnOk result (NamesChanged self.old self.new) }
         ensures others { OnOk result (AreOthersKept self.old.tree self.new.tree) }
-        ensures bounded { IfOk result (λ touched. IsWorkBounded self.old self.new touched.taken touched.hop_sets) }
-        ensures work { IfOk result (λ touched. IsWorkDone self.new.area.graph self.old.tree self.new.tree touched.taken touched.hop_sets) }
+        ensures bounded { IfOk result (HasBoundedWork self.old self.new) }
+        ensures work { IfOk result (IsWorkBetween self.old self.new) }
     {
         if keys.is_empty() {
             self.tree.rest();
@@ -208,14 +207,14 @@ impl AreaTree {
         self.tree.repair(alloc, self.area.graph(), &changes)
     }
 
-    // The same for interfaces.
+    // Takes these as the area's interfaces that are up, and repairs the tree.
     fn follow_interfaces(&mut self, alloc: Global, interfaces: &[Up]) -> Result<Touched, Memory>
-        requires { (root : ℕ) × (d : Lsas) × (ups : List UpValue) × IsAreaTree root d ups self.old }
-        ensures right { OnOk result ((root : ℕ) (d : Lsas) (ups : List UpValue) → IsAreaTree root d ups self.old → IsAreaTree root d interfaces.now self.new) }
-        ensures changed { OnOk result (AreChanged self.old.tree self.new.tree self.new.tree.changed) }
+        requires { IsTreeOfSome self.old }
+        ensures right { OnOk result (FollowsInterfaces interfaces.now self.old self.new) }
+        ensures changed { OnOk result (NamesChanged self.old self.new) }
         ensures others { OnOk result (AreOthersKept self.old.tree self.new.tree) }
-        ensures bounded { IfOk result (λ touched. IsWorkBounded self.old self.new touched.taken touched.hop_sets) }
-        ensures work { IfOk result (λ touched. IsWorkDone self.new.area.graph self.old.tree self.new.tree touched.taken touched.hop_sets) }
+        ensures bounded { IfOk result (HasBoundedWork self.old self.new) }
+        ensures work { IfOk result (IsWorkBetween self.old self.new) }
     {
         let changes = self.area.interfaces(interfaces)?;
         self.tree.repair(alloc, self.area.graph(), &changes)

@@ -1,7 +1,6 @@
 //! The network-LSAs of an area by Link State ID.
-ghost use Rattle.std.specs.Prelude.{◌≡◌, ◌↔◌, ◌<◌, ◌^◌, ℕ, IfSome, IfNone, OnOk, Contains};
-ghost use Rattle.area_trees.specs.Areas.{IsGreatest, IsUsed, AreNetworksOf, DifferAmong};
-ghost use Rattle.lsdb.specs.Databases.{Database as Lsas};
+ghost use Rattle.std.specs.Prelude.{◌≡◌, ◌<◌, ◌^◌, ℕ, IfSome, IfNone, OnOk, Contains};
+ghost use Rattle.area_trees.specs.Areas.{AreNetworksBut, AreNetworksOf, FollowsKey, IsGreatest, KeepsOthers};
 
 use crate::vertices::is_usable;
 use lsdb::Database;
@@ -77,7 +76,7 @@ impl Networks {
 
     /// Takes what the database says now of the LSAs under these keys.
     pub(crate) fn follow(&mut self, database: &Database, keys: &[Key]) -> Result<(), Memory>
-        requires { (before : Lsas) × AreNetworksOf before self.old × DifferAmong before database.now.lsas keys.now }
+        requires { AreNetworksBut database.now.lsas keys.now self.old }
         ensures { OnOk result (AreNetworksOf database.now.lsas self.new) }
     {
         for key in keys {
@@ -86,10 +85,10 @@ impl Networks {
         Ok(())
     }
 
-    // The same for one key.
+    // Takes what the database says now of the LSA under the key.
     fn follow_key(&mut self, database: &Database, key: Key) -> Result<(), Memory>
-        ensures own { OnOk result (key.kind ≡ 2 → Contains self.new (key.id, key.router) ↔ IsUsed database.now.lsas key) }
-        ensures others { OnOk result ((id router : ℕ) → (((key.kind ≡ 2) × (key.id ≡ id) × (key.router ≡ router)) → ⊥) → Contains self.new (id, router) ↔ Contains self.old (id, router)) }
+        ensures own { OnOk result (FollowsKey database.now.lsas key self.new) }
+        ensures others { OnOk result (KeepsOthers key self.old self.new) }
     {
         if key.kind != NETWORK_LSA {
             return Ok(());

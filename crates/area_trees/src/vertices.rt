@@ -1,13 +1,10 @@
 //! The vertices that LSAs stand for, and the LSA of each.
-ghost use Rattle.std.specs.Prelude.{◌≡◌, ◌↔◌, ◌++◌, Some, IsTrue, IfOk, IfSome, OnOk, option_to_list, Contains, option_map};
+ghost use Rattle.std.specs.Prelude.{◌≡◌, ◌↔◌, Some, IsTrue, IfOk, IfSome, OnOk, option_map};
 ghost use Rattle.std.specs.List.{filter_map};
 ghost use Rattle.std.specs.List.Sorted.{IsStrictlySortedBy};
-ghost use Rattle.ospf_types.specs.declared.entry.Vertex.{Vertex as VertexValue};
-ghost use Rattle.ospf_types.specs.declared.key.Key.{Key as KeyValue};
 ghost use Rattle.ospf_types.specs.Lsa.{key_of};
 ghost use Rattle.ospf_types.specs.Vertices.{vertex_cmp};
-ghost use Rattle.vertex_graph.specs.Graphs.{handed_of};
-ghost use Rattle.area_trees.specs.Areas.{vertex_of as vertex_of_key, router_key, network_key, IsUsed, IsStanding, AreStanding, AreNetworksOf};
+ghost use Rattle.area_trees.specs.Areas.{vertex_of as vertex_of_key, AddsVertexOf, AreNetworksOf, AreVerticesOf, IsStanding, IsUsed, StandFor};
 
 use crate::networks::Networks;
 use lsa_codec::Checked;
@@ -24,7 +21,7 @@ pub(crate) type Handed<'a> = (Vertex, Option<&'a Checked>);
 /// Makes the list that of the vertices that LSAs under these keys stand for, ascending, each once.
 pub(crate) fn list_vertices(keys: &[Key], vertices: &mut Vec<Vertex>) -> Result<(), Memory>
     ensures in_order { OnOk result (IsStrictlySortedBy vertex_cmp vertices.new.items) }
-    ensures exact { OnOk result ((v : VertexValue) → Contains vertices.new.items v ↔ ((k : KeyValue) × Contains keys.now k × (vertex_of_key k ≡ Some v))) }
+    ensures exact { OnOk result (AreVerticesOf keys.now vertices.new.items) }
 {
     list_named(keys, vertices)?;
     vertices.sort_unstable();
@@ -45,7 +42,7 @@ fn list_named(keys: &[Key], vertices: &mut Vec<Vertex>) -> Result<(), Memory>
 
 // Adds the vertex of the key, if it has one.
 fn push_named(key: Key, vertices: &mut Vec<Vertex>) -> Result<(), Memory>
-    ensures { OnOk result (vertices.new.items ≡ vertices.old.items ++ option_to_list (vertex_of_key key)) }
+    ensures { OnOk result (AddsVertexOf key vertices.old.items vertices.new.items) }
 {
     if let Some(vertex) = vertex_of(key) {
         vertices.push(vertex)?;
@@ -73,7 +70,7 @@ pub(crate) fn standing<'a>(
     vertices: &[Vertex],
 ) -> Result<Vec<Handed<'a>>, Memory>
     requires { AreNetworksOf database.now.lsas networks.now }
-    ensures { IfOk result (λ handed. AreStanding database.now.lsas vertices.now (handed_of handed.items)) }
+    ensures { IfOk result (λ handed. StandFor database.now.lsas vertices.now handed.items) }
 {
     let mut handed = Vec::with_capacity(alloc, vertices.len())?;
     for vertex in vertices {
@@ -82,7 +79,8 @@ pub(crate) fn standing<'a>(
     Ok(handed)
 }
 
-/// The LSA that stands for the vertex, none where it is not there.
+/// The LSA that stands for the vertex, none if it is not there.
+/// 16.1 (2) (b): an LSA at MaxAge counts for none.
 pub(crate) fn lsa_of<'a>(
     database: &'a Database,
     networks: &Networks,

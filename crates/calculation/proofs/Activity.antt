@@ -5,9 +5,9 @@ use Rattle.std.specs.FinMap.{entries}
 use Rattle.std.proofs.lemmas.Bool.{cases_eq}
 use Rattle.ospf_types.specs.declared.prefix.Prefix.{Prefix}
 use Rattle.ospf_types.proofs.Elements.{no_element, first_element, later_element, first_or_later}
-use Rattle.summaries.specs.Active.{ActiveValue, IsActiveIn}
-use Rattle.summaries.specs.declared.member.Member.{Member}
-use Rattle.summaries.proofs.Members.{member_total, member_exact}
+use Rattle.active_ranges.specs.Active.{ActiveValue, IsActiveIn}
+use Rattle.active_ranges.specs.declared.member.Member.{Member}
+use Rattle.active_ranges.proofs.Members.{member_total, member_exact}
 use Rattle.event_state.proofs.Sorted.{value_at, value_from}
 
 same_network : (p q : Prefix) → (p ≡ q) ⊎ (p ≢ q)

@@ -22,8 +22,8 @@ use Rattle.intra.specs.Intras.{AreaIntraValue, IntraValue, IsAreaIntra, AreAreaI
 use Rattle.intra.specs.Offers.{HasOffer, IsNearest, AreaOffers, KeyedOffers, OffersOf}
 use Rattle.intra.proofs.Frame.{entry_same, offers_same}
 use Rattle.intra.proofs.Right.{intra_right}
-use Rattle.summaries.specs.Active.{AreRangesOf}
-use Rattle.summaries.proofs.Right.{ranges_right}
+use Rattle.active_ranges.specs.Active.{AreRangesOf}
+use Rattle.active_ranges.proofs.Right.{ranges_right}
 use Rattle.inter.proofs.Right.{inter_right}
 use Rattle.external.proofs.Right.{external_right}
 use Rattle.event_state.specs.States.{State, LooksAlike, database_of, inputs_of}

@@ -26,7 +26,7 @@ use Rattle.lsdb.specs.Contents.{body_at}
 use Rattle.intra.specs.Intras.{IntraValue}
 use Rattle.offer_index.specs.Advertised.{advertised_at}
 use Rattle.offer_index.specs.Indexes.{OfferIndexValue}
-use Rattle.summaries.specs.Active.{ActiveValue}
+use Rattle.active_ranges.specs.Active.{ActiveValue}
 use Rattle.inter.specs.Inputs.{ExaminedValue, InterInputsValue}
 use Rattle.inter.specs.Inters.{InterValue, IsEntryFor, IsInterOf}
 use Rattle.inter.specs.Offers.{OffersBy, OffersOf}

@@ -21,9 +21,9 @@ use Rattle.ospf_types.proofs.RangeChanges.{areas_kept, ids_kept}
 use Rattle.area_trees.specs.Areas.{AreaTreeValue}
 use Rattle.intra.specs.Changes.{DiffersAt}
 use Rattle.intra.specs.Intras.{AreaIntraValue, IntraValue, EntriesByPrefix, IsIntraOf, reached_at}
-use Rattle.summaries.proofs.Reconfigured.{active_alike, members_stay}
-use Rattle.summaries.specs.Active.{ActiveValue, AreRangesOf, EntriesDifferAmong, IsActiveIn, IsMemberWithin, IsRangeNamed, RangesDifferAt, DiffersAt as RangeDiffers}
-use Rattle.summaries.specs.declared.member.Member.{Member}
+use Rattle.active_ranges.proofs.Reconfigured.{active_alike, members_stay}
+use Rattle.active_ranges.specs.Active.{ActiveValue, AreRangesOf, EntriesDifferAmong, IsActiveIn, IsMemberWithin, IsRangeNamed, RangesDifferAt, DiffersAt as RangeDiffers}
+use Rattle.active_ranges.specs.declared.member.Member.{Member}
 use Rattle.inter.specs.Changes.{InputsDifferAmong as InterInputsDiffer, DiffersAt as InterDiffers}
 use Rattle.inter.specs.Inputs.{ExaminedValue, InterInputsValue}
 use Rattle.inter.specs.Inters.{InterValue, IsInterOf}
@@ -33,7 +33,7 @@ use Rattle.external.specs.Externals.{ExternalValue, IsExternalOf}
 use Rattle.route_table.specs.declared.table.Item.{Item}
 use Rattle.route_table.specs.declared.table.Item.TheVariants.{Route, Discard}
 use Rattle.event_state.specs.States.{State}
-use Rattle.calculation.specs.Due.{RoutesDifferAmong}
+use Rattle.calculation.specs.Summaries.{RoutesDifferAmong}
 use Rattle.calculation.specs.Calculations.{CalculationValue, IsCalculationOf, AreItemsKept, IsItem, entry_else, entry_at}
 use Rattle.state_trees.specs.Trees.{StatesDifferAmong, AreTreesOf, inputs_with}
 use Rattle.route_layers.specs.Layers.{IsExaminedOf, inter_inputs, external_inputs}
@@ -113,7 +113,7 @@ module _ (s t : State) (keys : List (Scope × Key)) (ids : List ℕ) (range : Op
           external_differ s t keys ids alike more c.intra intra c.active active (λ p not. networks p (lower (Net p) not)) (λ p not. ranges p (lower (Net p) not)) (λ r not. routers r (lower (Router r) not)) c.inter inter between,
         )
 
-        module _ (external : ExternalValue) (last : List Dest) (renewed : (d : Dest) → Contains last d ↔ ExternalDiffers c.external external d) (over : List Dest) (over_is : over ≡ more ++ routers_in last) where
+        module _ (external : ExternalValue) (last : List Dest) (updated : (d : Dest) → Contains last d ↔ ExternalDiffers c.external external d) (over : List Dest) (over_is : over ≡ more ++ routers_in last) where
           abbrev now : CalculationValue
           now = record { trees = trees; intra = intra; active = active; inter = inter; external = external }
 
@@ -132,7 +132,7 @@ module _ (s t : State) (keys : List (Scope × Key)) (ids : List ℕ) (range : Op
               let not_below = lower (Net p) (not_more (Net p) not_over) in
               let first = networks p not_below in
               let second = between (Net p) (not_more (Net p) not_over) in
-              let third = external_stays c.external external last renewed p not_first in
+              let third = external_stays c.external external last updated p not_first in
               let both = ranges p not_below in
               item_same (entry_at c p) (entry_at now p) (IsActiveIn c.active p) (IsActiveIn active p) (λ i. entry_else (first i) (entry_else (second i) (third i))) both.1 both.0 item
 
@@ -163,5 +163,5 @@ module _ (s t : State) (keys : List (Scope × Key)) (ids : List ℕ) (range : Op
                   intra = same;
                   members = members_stay range s.config.areas t.config.areas others told c.intra.entries intra.entries range_named same c.active active is.active are;
                   inter = λ p not. between (Net p) (not_more (Net p) (not_over (Net p) not));
-                  preferred = λ r not. preferred_stays c.external external last renewed r (not_last r (not_over (Router r) not));
+                  preferred = λ r not. preferred_stays c.external external last updated r (not_last r (not_over (Router r) not));
                 }

@@ -4,7 +4,7 @@ pub mod Staying
 pub mod AlikeAbove
 pub mod Alike
 pub mod Following
-pub mod Due
+pub mod Summaries
 pub mod Named
 pub mod NewItems
 pub use Rattle.state_trees.proofs.InputsAre

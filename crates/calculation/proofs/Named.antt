@@ -3,8 +3,8 @@ use Rattle.std.proofs.Common.{◌≡◌, ℕ, List, Option, Some, sym, subst, �
 use Rattle.std.specs.Prelude.{◌↔◌, Contains}
 use Rattle.ospf_types.specs.declared.prefix.Prefix.{Prefix}
 use Rattle.intra.specs.Intras.{EntriesByPrefix}
-use Rattle.summaries.specs.Active.{IsMemberWithin}
-use Rattle.summaries.specs.declared.member.Member.{Member}
+use Rattle.active_ranges.specs.Active.{IsMemberWithin}
+use Rattle.active_ranges.specs.declared.member.Member.{Member}
 
 same_pair : (x y : ℕ × Prefix) → Some x ≡ Some y → x ≡ y
 same_pair x y e = cc

@@ -20,7 +20,7 @@ use Rattle.ospf_types.proofs.Elements.{no_element, first_element, later_element,
 use Rattle.ospf_types.proofs.KeyOrders.{prefixes_equal, prefixes_order}
 use Rattle.ospf_types.proofs.Orders.{network_total, network_exact}
 use Rattle.intra.proofs.SortedOnce.{strictly, same_items}
-use Rattle.summaries.specs.Active.{IsActiveIn}
+use Rattle.active_ranges.specs.Active.{IsActiveIn}
 use Rattle.calculation.specs.Calculations.{CalculationValue, IsItemOf, entry_else}
 use Rattle.calculation.specs.Followed.{routers_in}
 

@@ -16,7 +16,7 @@ use Rattle.ospf_types.specs.declared.prefix.Prefix.{Prefix}
 use Rattle.intra.specs.Changes.{DiffersAt, HasOtherRouter}
 use Rattle.intra.specs.Intras.{AreaIntraValue, IntraValue, reached_at}
 use Rattle.intra.specs.Reached.{ReachedValue}
-use Rattle.summaries.specs.Active.{ActiveValue, IsActiveIn, DiffersAt as RangeDiffers}
+use Rattle.active_ranges.specs.Active.{ActiveValue, IsActiveIn, DiffersAt as RangeDiffers}
 use Rattle.inter.specs.Changes.{DiffersAt as InterDiffers}
 use Rattle.inter.specs.Inters.{InterValue}
 use Rattle.external.specs.Changes.{DiffersAt as ExternalDiffers}

@@ -9,8 +9,8 @@ use Rattle.ospf_types.specs.Network.{network_cmp}
 use Rattle.area_trees.specs.Areas.{AreaTreeValue}
 use Rattle.intra.specs.Intras.{IntraValue, IsIntraOf}
 use Rattle.intra.specs.Right.{IsRightFor}
-use Rattle.summaries.specs.Active.{ActiveValue, AreRangesOf, IsActiveIn}
-use Rattle.summaries.specs.Right.{IsRightFor as AreRangesRight}
+use Rattle.active_ranges.specs.Active.{ActiveValue, AreRangesOf, IsActiveIn}
+use Rattle.active_ranges.specs.Right.{IsRightFor as AreRangesRight}
 use Rattle.inter.specs.Inputs.{ExaminedValue}
 use Rattle.inter.specs.Inters.{InterValue, IsInterOf}
 use Rattle.inter.specs.Right.{IsRightFor as IsInterRight}

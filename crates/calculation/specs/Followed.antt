@@ -6,7 +6,7 @@ use Rattle.ospf_types.specs.declared.prefix.Prefix.{Prefix}
 use Rattle.area_trees.specs.Areas.{AreaTreeValue}
 use Rattle.intra.specs.declared.dirty.Dirty.{Dirty}
 use Rattle.intra.specs.Changes.{InputsDifferAmong}
-use Rattle.summaries.specs.Active.{RangesDifferAt}
+use Rattle.active_ranges.specs.Active.{RangesDifferAt}
 use Rattle.event_state.specs.States.{State}
 use Rattle.calculation.specs.Calculations.{CalculationValue, IsCalculationOf}
 use Rattle.state_trees.specs.Trees.{inputs_with, StatesDifferAmong}

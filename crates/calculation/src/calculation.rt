@@ -14,21 +14,22 @@ ghost use Rattle.intra.specs.Changes.{InputsDifferAmong, DiffersAt};
 ghost use Rattle.intra.specs.Inputs.{InputsValue};
 ghost use Rattle.intra.specs.Intras.{IsIntraOf};
 ghost use Rattle.intra.specs.Right.{IsRightFor};
-ghost use Rattle.summaries.specs.Active.{AreRangesOf, IsMemberWithin, IsRangeNamed, RangesDifferAt};
-ghost use Rattle.summaries.specs.declared.member.Member.{Member as MemberValue};
-ghost use Rattle.dues.specs.Carrying.{IsCarriedOut, IsReady};
-ghost use Rattle.dues.specs.Dues.{DuesValue, lists_of};
+ghost use Rattle.active_ranges.specs.Active.{AreRangesOf, IsMemberWithin, IsRangeNamed, RangesDifferAt};
+ghost use Rattle.active_ranges.specs.declared.member.Member.{Member as MemberValue};
+ghost use Rattle.summaries.specs.Carrying.{IsCarriedOut, IsReady};
+ghost use Rattle.summaries.specs.DueSummaries.{DueSummariesValue, lists_of};
 ghost use Rattle.route_table.specs.declared.table.Item.{Item as ItemValue};
 ghost use Rattle.event_state.specs.Held.{AreFit};
 ghost use Rattle.event_state.specs.States.{AreApart, State as StateValue, inputs_of};
 ghost use Rattle.calculation.specs.Calculations.{CalculationValue, IsCalculationOf, IsItemOf, IsNewItemOf, IsTableOf, AreItemsKept, entry_at, entry_else};
 ghost use Rattle.state_trees.specs.Trees.{StatesDifferAmong, AreTreesOf, inputs_with};
-ghost use Rattle.calculation.specs.Due.{AreDuesFor, DuesDifferAmong, RoutesDifferAmong, due_inputs};
+ghost use Rattle.calculation.specs.Summaries.{AreSummariesFor, SummariesDifferAmong, RoutesDifferAmong, summary_inputs};
 ghost use Rattle.calculation.specs.Followed.{AreLayersBehind, range_dests, routers_in};
-ghost use Rattle.state_trees.specs.Works.{IsEventWork, AreWorksForAll, IsTotal};
+ghost use Rattle.state_trees.specs.Works.{IsEventWork};
+ghost use Rattle.calculation.specs.Totals.{IsWorkOfTrees};
 
+use active_ranges::{ActiveRanges, Member};
 use area_trees::AreaTree;
-use dues::{DueInputs, Dues, Plan};
 use event_state::State;
 use external::External;
 use inter::Inter;
@@ -45,7 +46,7 @@ use state_trees::{area_inputs, build_trees, follow_trees};
 use std::alloc::Global;
 use std::hash::RandomState;
 use std::marker::Model;
-use summaries::{ActiveRanges, Member};
+use summaries::{DueSummaries, Plan, SummaryInputs};
 
 /// What may differ since an event, by a calculation that has followed it.
 pub struct Changed {
@@ -94,7 +95,7 @@ impl Model for Calculation {
     ghost use Rattle.std.specs.Coded.{codes};
     ghost use Rattle.area_trees.specs.contracts.area_tree.AreaTree as kept_tree;
     ghost use Rattle.intra.specs.contracts.intra.Intra as kept_intra;
-    ghost use Rattle.summaries.specs.contracts.active.ActiveRanges as kept_active;
+    ghost use Rattle.active_ranges.specs.contracts.active.ActiveRanges as kept_active;
     ghost use Rattle.inter.specs.contracts.inter.Inter as kept_inter;
     ghost use Rattle.external.specs.contracts.external.External as kept_external;
     ghost use Rattle.calculation.specs.Calculations.{CalculationValue};
@@ -116,7 +117,7 @@ impl Calculation {
         requires few { state.now.limits.area_lsas ≤ most_routers }
         requires apart { AreApart state.now.config.areas }
         ensures right { IfOk result (λ built. IsCalculationOf state.now built.0) }
-        ensures work { IfOk result (λ built. (works : List TouchedValue) × AreWorksForAll built.0.trees works × IsTotal works built.1) }
+        ensures work { IfOk result (λ built. IsWorkOfTrees built.0.trees built.1) }
     {
         let (trees, work) = build_trees(alloc, state, hashing)?;
         let intra = build_intra(alloc, state, &trees, hashing)?;
@@ -144,13 +145,20 @@ impl Calculation {
         range: Option<(u32, Prefix)>,
     ) -> Result<Changed, Memory>
         requires few { state.now.limits.area_lsas ≤ most_routers }
-        requires before { (before : StateValue) × IsCalculationOf before self.old × StatesDifferAmong keys.items ids.items (is_some range) before state.now × RangesDifferAt range before.config.areas state.now.config.areas }
+        requires before { (before : StateValue) × IsCalculationOf before self.old
+            × StatesDifferAmong keys.items ids.items (is_some range) before state.now
+            × RangesDifferAt range before.config.areas state.now.config.areas }
         ensures right { OnOk result (IsCalculationOf state.now self.new) }
-        ensures in_order { IfOk result (λ told. IsStrictlySortedBy network_cmp told.networks.items) }
+        ensures in_order { IfOk result (λ told.
+            IsStrictlySortedBy network_cmp told.networks.items) }
         ensures items { IfOk result (λ told. AreItemsKept told.networks.items self.old self.new) }
-        ensures routes { IfOk result (λ told. RoutesDifferAmong told.dests.items self.old self.new) }
-        ensures named { IfOk result (λ told. IsRangeNamed range told.dests.items self.old.intra.entries) }
-        ensures work { IfOk result (λ told. (before : StateValue) → IsCalculationOf before self.old → StatesDifferAmong keys.items ids.items (is_some range) before state.now → IsEventWork before state.now told.work) }
+        ensures routes { IfOk result (λ told.
+            RoutesDifferAmong told.dests.items self.old self.new) }
+        ensures named { IfOk result (λ told.
+            IsRangeNamed range told.dests.items self.old.intra.entries) }
+        ensures work { IfOk result (λ told. (before : StateValue) → IsCalculationOf before self.old
+            → StatesDifferAmong keys.items ids.items (is_some range) before state.now
+            → IsEventWork before state.now told.work) }
     {
         let mut vertices = Vec::new(alloc);
         let work = follow_trees(alloc, &mut self.trees, state, &keys, &ids, &mut vertices)?;
@@ -170,30 +178,33 @@ impl Calculation {
     }
 
     /// What is due in the areas (RFC 2328, 12.4.3), from scratch.
-    pub fn dues(&self, alloc: Global, state: &State) -> Result<Dues, Memory>
-        ensures { IfOk result (AreDuesFor state.now self.now) }
+    pub fn summaries(&self, alloc: Global, state: &State) -> Result<DueSummaries, Memory>
+        ensures { IfOk result (AreSummariesFor state.now self.now) }
     {
         let active = active_areas(alloc, state)?;
-        Dues::build(alloc, &self.due_inputs(state, &active))
+        DueSummaries::build(alloc, &self.summary_inputs(state, &active))
     }
 
     /// What is to change in due summaries that were those of routes which differ in no more than these destinations name,
     /// and of the same configuration; or one range of it differs, and is named with the networks of its area that it covers.
     /// Their lists stay, and get room for it.
-    pub fn plan_dues(
+    pub fn plan_summaries(
         &self,
         alloc: Global,
         state: &State,
-        dues: &mut Dues,
+        summaries: &mut DueSummaries,
         dests: &[Dest],
     ) -> Result<Plan, Memory>
-        requires before { (before : StateValue) × (old : CalculationValue) × AreDuesFor before old dues.old × DuesDifferAmong dests.now before state.now old self.now }
-        ensures unchanged { lists_of dues.new ≡ lists_of dues.old }
-        ensures ready { IfOk result (λ plan. IsReady plan dues.new) }
-        ensures kept { IfOk result (λ plan. (after : DuesValue) → IsCarriedOut plan dues.new after → AreDuesFor state.now self.now after) }
+        requires before { (before : StateValue) × (old : CalculationValue)
+            × AreSummariesFor before old summaries.old
+            × SummariesDifferAmong dests.now before state.now old self.now }
+        ensures unchanged { lists_of summaries.new ≡ lists_of summaries.old }
+        ensures ready { IfOk result (λ plan. IsReady plan summaries.new) }
+        ensures kept { IfOk result (λ plan. (after : DueSummariesValue)
+            → IsCarriedOut plan summaries.new after → AreSummariesFor state.now self.now after) }
     {
         let active = active_areas(alloc, state)?;
-        let plan = dues.plan(alloc, &self.due_inputs(state, &active), dests)?;
+        let plan = summaries.plan(alloc, &self.summary_inputs(state, &active), dests)?;
         Ok(plan)
     }
 
@@ -264,7 +275,8 @@ impl Calculation {
         ensures in_order { IfOk result (λ networks. IsStrictlySortedBy network_cmp networks.items) }
         ensures items { IfOk result (λ networks. AreItemsKept networks.items self.old self.new) }
         ensures routes { OnOk result (RoutesDifferAmong dirty.new.dests.items self.old self.new) }
-        ensures named { OnOk result (IsRangeNamed range dirty.new.dests.items self.old.intra.entries) }
+        ensures named { OnOk result (IsRangeNamed range dirty.new.dests.items
+            self.old.intra.entries) }
     {
         let areas = state.config().areas.as_slice();
         let active = &mut self.active;
@@ -288,10 +300,10 @@ impl Calculation {
     }
 
     // What is due rests on this.
-    fn due_inputs<'a>(&'a self, state: &'a State, active: &'a [u32]) -> DueInputs<'a>
-        ensures { result ≡ due_inputs state.now active.now self.now }
+    fn summary_inputs<'a>(&'a self, state: &'a State, active: &'a [u32]) -> SummaryInputs<'a>
+        ensures { result ≡ summary_inputs state.now active.now self.now }
     {
-        DueInputs {
+        SummaryInputs {
             areas: state.config().areas.as_slice(),
             active,
             intra: &self.intra,
@@ -323,7 +335,9 @@ impl Calculation {
 
     // The network's entry of another area or from outside: inter-area, else external.
     fn outer_entry(&self, network: Prefix) -> Option<&Entry>
-        ensures { option_copied result ≡ entry_else (map.get self.now.inter.entries (dest_value.Net network)) (map.get self.now.external.entries network) }
+        ensures { option_copied result
+            ≡ entry_else (map.get self.now.inter.entries (dest_value.Net network))
+            (map.get self.now.external.entries network) }
     {
         if let Some(entry) = self.inter.get(Dest::Net(network)) {
             return Some(entry);
@@ -333,7 +347,8 @@ impl Calculation {
 
     // All networks that the table has something for, ascending, each once; and perhaps others.
     fn networks(&self, alloc: Global) -> Result<Vec<Prefix>, Memory>
-        ensures { IfOk result (λ networks. (p : PrefixValue) → (Contains networks.items p → ⊥) → IsItemOf self.now p None) }
+        ensures { IfOk result (λ networks. (p : PrefixValue)
+            → (Contains networks.items p → ⊥) → IsItemOf self.now p None) }
     {
         let mut networks = self.intra.networks(alloc)?;
         networks.extend_from_slice(&self.active.prefixes(alloc)?)?;
@@ -355,12 +370,15 @@ fn follow_intra(
 ) -> Result<Vec<Dest>, Memory>
     requires apart { AreApart state.now.config.areas }
     requires trees { AreTreesOf state.now state.now.config.areas trees.now }
-    requires before { (before : InputsValue) × IsIntraOf before intra.old × InputsDifferAmong dirty.now.keys.items dirty.now.vertices.items dirty.now.interfaces.items before (inputs_with state.now trees.now) }
+    requires before { (before : InputsValue) × IsIntraOf before intra.old
+        × InputsDifferAmong dirty.now.keys.items dirty.now.vertices.items
+        dirty.now.interfaces.items before (inputs_with state.now trees.now) }
     ensures kept { OnOk result (IsIntraOf (inputs_with state.now trees.now) intra.new) }
     ensures routed { OnOk result (IsRightFor (inputs_of state.now) intra.new) }
     ensures fit { OnOk result (AreFit state.now.config.areas state.now.databases) }
     ensures in_order { IfOk result (λ dests. IsStrictlySortedBy dest_cmp dests.items) }
-    ensures exact { IfOk result (λ dests. (d : DestValue) → Contains dests.items d ↔ DiffersAt intra.old intra.new d) }
+    ensures exact { IfOk result (λ dests. (d : DestValue)
+        → Contains dests.items d ↔ DiffersAt intra.old intra.new d) }
 {
     let areas = area_inputs(alloc, state, trees)?;
     let inputs = Inputs {
@@ -380,9 +398,13 @@ fn follow_range(
     intra: &Intra,
     range: &Option<(u32, Prefix)>,
 ) -> Result<Vec<Member>, Memory>
-    requires before { (before : List AreaConfigValue) × AreRangesOf before intra.now.entries active.old × RangesDifferAt range.now before areas.now × (range.now ≡ None → areas.now ≡ before) }
+    requires before { (before : List AreaConfigValue)
+        × AreRangesOf before intra.now.entries active.old
+        × RangesDifferAt range.now before areas.now × (range.now ≡ None → areas.now ≡ before) }
     ensures kept { OnOk result (AreRangesOf areas.now intra.now.entries active.new) }
-    ensures all { IfOk result (λ within. (id : ℕ) (prefix : PrefixValue) → range.now ≡ Some (id, prefix) → (m : MemberValue) → IsMemberWithin intra.now.entries id prefix m → Contains within.items m) }
+    ensures all { IfOk result (λ within. (id : ℕ) (prefix : PrefixValue)
+        → range.now ≡ Some (id, prefix) → (m : MemberValue)
+        → IsMemberWithin intra.now.entries id prefix m → Contains within.items m) }
 {
     match range {
         Some(named) => active.reconfigure(alloc, areas, intra, *named),
@@ -414,7 +436,8 @@ fn build_intra(
 
 // Adds the networks as destinations.
 fn push_networks(networks: &[Prefix], dests: &mut Vec<Dest>) -> Result<(), Memory>
-    ensures { OnOk result (dests.new.items ≡ dests.old.items ++ list_map dest_value.Net networks.now) }
+    ensures { OnOk result (dests.new.items
+        ≡ dests.old.items ++ list_map dest_value.Net networks.now) }
 {
     for network in networks {
         dests.push(Dest::Net(*network))?;
@@ -434,7 +457,8 @@ fn push_range(range: &Option<(u32, Prefix)>, dests: &mut Vec<Dest>) -> Result<()
 
 // Adds the networks of the members.
 fn push_members(members: &[Member], dests: &mut Vec<Dest>) -> Result<(), Memory>
-    ensures { OnOk result (dests.new.items ≡ dests.old.items ++ list_map (λ m. dest_value.Net m.network) members.now) }
+    ensures { OnOk result (dests.new.items
+        ≡ dests.old.items ++ list_map (λ m. dest_value.Net m.network) members.now) }
 {
     for member in members {
         dests.push(Dest::Net(member.network))?;
@@ -457,7 +481,8 @@ fn push_routers(among: &[Dest], dests: &mut Vec<Dest>) -> Result<(), Memory>
 // The networks among the destinations, ascending, each once.
 fn networks_of(alloc: Global, dests: &[Dest]) -> Result<Vec<Prefix>, Memory>
     ensures in_order { IfOk result (λ networks. IsStrictlySortedBy network_cmp networks.items) }
-    ensures exact { IfOk result (λ networks. (p : PrefixValue) → Contains networks.items p ↔ Contains dests.now (dest_value.Net p)) }
+    ensures exact { IfOk result (λ networks. (p : PrefixValue)
+        → Contains networks.items p ↔ Contains dests.now (dest_value.Net p)) }
 {
     let mut networks = Vec::with_capacity(alloc, dests.len())?;
     for dest in dests {

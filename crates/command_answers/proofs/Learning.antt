@@ -15,9 +15,9 @@ use Rattle.event_state.specs.Refusals.{IsLastingRefusalOf, IsRefusalOf}
 use Rattle.event_state.specs.States.{State, serial_of}
 use Rattle.event_state.specs.Steps.{early_tests_of, late_tests_of, is_journal_full, lasting_refusal_of, opening, refusal_of, standard_limits}
 use Rattle.event_state.proofs.Rolls.{further_run, run_serial}
-use Rattle.desk.specs.Answers.{Answers, Refusals, after}
-use Rattle.desk.specs.declared.answer.Answer.{Answer}
-use Rattle.desk.specs.declared.answer.Refused.{Refused}
+use Rattle.engine_state.specs.Answers.{Answers, Refusals, after}
+use Rattle.engine_state.specs.declared.answer.Answer.{Answer}
+use Rattle.engine_state.specs.declared.answer.Refused.{Refused}
 use Rattle.route_table.specs.Tables.{IsMatch}
 use Rattle.publication.specs.Forwarders.{Looker, Sighted, Sights}
 use Rattle.publication.specs.Names.{Name}

@@ -12,13 +12,14 @@ pub enum Answer {
     Printed(String),
     /// A line for standard error.
     Fault { status: u8, line: String },
-    /// A growth was refused: the line `abr: 30 Memory`, with status 1.
+    /// Memory ran out: the line `abr: 30 Memory`, with status 1.
     NoMemory,
 }
 
 /// The line `abr: FAULT`, or that of want of memory where there is none for it.
 pub fn answer_fault(alloc: Global, fault: CommandFault<'_>) -> Answer
-    ensures { (value_of result ≡ faulty fault.entry) ⊎ (value_of result ≡ faulty CommandFault.Memory) }
+    ensures { (value_of result ≡ faulty fault.entry)
+        ⊎ (value_of result ≡ faulty CommandFault.Memory) }
 {
     match line_of(alloc, fault) {
         Ok(line) => Answer::Fault {
@@ -31,7 +32,8 @@ pub fn answer_fault(alloc: Global, fault: CommandFault<'_>) -> Answer
 
 /// The line `abr: FAULT`.
 pub fn line_of(alloc: Global, fault: CommandFault<'_>) -> Result<String, AllocError>
-    ensures { IfOk result (λ line. string_bytes line ≡ fault_line (command_fault_text fault.entry)) }
+    ensures { IfOk result (λ line. string_bytes line
+        ≡ fault_line (command_fault_text fault.entry)) }
 {
     format!(in alloc; "abr: {fault}\n")
 }

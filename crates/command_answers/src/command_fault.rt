@@ -25,7 +25,7 @@ pub enum CommandFault<'a> {
     Read(&'a str),
     /// The file is no recording.
     Line(LineFault),
-    /// A growth was refused.
+    /// Memory ran out.
     Memory,
     /// What there is to print could not be written.
     Write,

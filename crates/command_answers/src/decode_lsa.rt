@@ -32,7 +32,8 @@ pub fn decode<W: io::Write, F: io::Write>(
     out: &mut W,
     faults: &mut F,
 ) -> u8
-    ensures { Tells (IsDecodeAnswer word.now) result (W.contents out.old) (W.contents out.new) (F.contents faults.old) (F.contents faults.new) }
+    ensures { Tells (IsDecodeAnswer word.now) result (W.contents out.old) (W.contents out.new)
+        (F.contents faults.old) (F.contents faults.new) }
 {
     tell(&answer_decode(alloc, word), out, faults)
 }

@@ -4,7 +4,7 @@ ghost use Rattle.event_state.specs.Bases.{bare};
 ghost use Rattle.event_state.specs.Steps.{refusal_of};
 ghost use Rattle.event_state.specs.declared.refusal.Refusal.TheVariants.{JournalFull};
 ghost use Rattle.config_faults.specs.Configs.{config_fault_of};
-ghost use Rattle.desk.specs.Answers.{after};
+ghost use Rattle.engine_state.specs.Answers.{after};
 ghost use Rattle.command_answers.specs.Answers.{Tells, value_of};
 ghost use Rattle.command_line.specs.Command.{texts_of};
 ghost use Rattle.command_answers.specs.One.{Answer as HasLine, HasLearned, IsFault, IsEngineFault, IsOpenFault, IsStepFault, IsOneAnswer, Prints, PrintsSeen, Say, both_events, config_of, given_by, one_area};
@@ -52,7 +52,8 @@ pub fn one<S: Wait, W: io::Write, F: io::Write>(
     out: &mut W,
     faults: &mut F,
 ) -> u8
-    ensures { Tells (IsOneAnswer (texts_of words.now)) result (W.contents out.old) (W.contents out.new) (F.contents faults.old) (F.contents faults.new) }
+    ensures { Tells (IsOneAnswer (texts_of words.now)) result (W.contents out.old)
+        (W.contents out.new) (F.contents faults.old) (F.contents faults.new) }
 {
     tell(&answer_one(rt, alloc, hashing, words), out, faults)
 }
@@ -110,7 +111,8 @@ fn open_engine<S: Wait>(
     hashing: RandomState,
     config: Config,
 ) -> Result<(Engine, Forwarder), CommandFault<'static>>
-    ensures base { IfOk result (λ opened. (opened.0.base ≡ bare config) × (config_fault_of config ≡ None)) }
+    ensures base { IfOk result (λ opened. (opened.0.base ≡ bare config)
+        × (config_fault_of config ≡ None)) }
     ensures forwarder { IfOk result (λ opened. (opened.1.name ≡ opened.0) × (opened.1.known ≡ [])) }
     ensures fault { IfErr result (IsOpenFault config) }
 {
@@ -166,7 +168,8 @@ fn take_both<S: Wait>(
     requires sound { config_fault_of (config_of (given_by input.now lsa)) ≡ None }
     requires name { forwarder.name ≡ engine.now }
     requires known { forwarder.known ≡ [] }
-    ensures known { IfOk result (λ f. (f.name ≡ engine.now) × (f.known ≡ both_events (given_by input.now lsa))) }
+    ensures known { IfOk result (λ f. (f.name ≡ engine.now)
+        × (f.known ≡ both_events (given_by input.now lsa))) }
     ensures fault { IfErr result (IsEngineFault (given_by input.now lsa)) }
 {
     let (area, address) = (input.area, input.address);
@@ -195,8 +198,10 @@ fn submit<S: Wait>(
     requires first { engine.now.base.serial ≡ 0 }
     requires count { length forwarder.known ≡ count }
     requires few { count < 2 }
-    ensures known { IfOk result (λ f. (f.name ≡ engine.now) × (f.known ≡ forwarder.known ++ event ∷ [])) }
-    ensures accepted { IfOk result (λ _. refusal_of (after engine.now.base forwarder.known) event ≡ None) }
+    ensures known { IfOk result (λ f. (f.name ≡ engine.now)
+        × (f.known ≡ forwarder.known ++ event ∷ [])) }
+    ensures accepted { IfOk result (λ _. refusal_of (after engine.now.base forwarder.known) event
+        ≡ None) }
     ensures fault { IfErr result (IsStepFault (after engine.now.base forwarder.known) event) }
 {
     match engine.submit(rt, event) {

@@ -12,7 +12,8 @@ pub const CANNOT_WRITE: &str = "abr: cannot write\n";
 /// Writes the answer to its stream, `out` or `faults`. What is returned is the status of the program:
 /// that of the answer, but 1 where a writer fails. Where `out` fails, `faults` is told.
 pub fn tell<W: io::Write, F: io::Write>(answer: &Answer, out: &mut W, faults: &mut F) -> u8
-    ensures { IsTold (value_of answer.now) result (W.contents out.old) (W.contents out.new) (F.contents faults.old) (F.contents faults.new) }
+    ensures { IsTold (value_of answer.now) result (W.contents out.old) (W.contents out.new)
+        (F.contents faults.old) (F.contents faults.new) }
 {
     match answer {
         Answer::Printed(text) => print(text.as_str(), out, faults),
@@ -22,7 +23,8 @@ pub fn tell<W: io::Write, F: io::Write>(answer: &Answer, out: &mut W, faults: &m
 }
 
 fn print<W: io::Write, F: io::Write>(text: &str, out: &mut W, faults: &mut F) -> u8
-    ensures { IsTold (printed text.now) result (W.contents out.old) (W.contents out.new) (F.contents faults.old) (F.contents faults.new) }
+    ensures { IsTold (printed text.now) result (W.contents out.old) (W.contents out.new)
+        (F.contents faults.old) (F.contents faults.new) }
 {
     match write_whole(out, text.as_bytes()) {
         Ok(()) => 0,

@@ -25,7 +25,7 @@ pub struct OneInput {
     pub lookup: u32,
 }
 
-/// A word that cannot be read, or a growth that was refused.
+/// A word that cannot be read, or that memory ran out.
 #[derive(Clone, Copy, Debug, PartialEq, Eq, Error)]
 pub enum WordFault {
     NotAnAddress,

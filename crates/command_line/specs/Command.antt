@@ -1,5 +1,5 @@
 -- The command line: `abr one ROUTER AREA ADDRESS HEX LOOKUP`, `abr decode HEX` and `abr replay FILE [--workers N] [--show NAME]`.
-use Rattle.std.specs.Prelude.{ℕ, ◌≡◌, ◌⊎◌, ◌≤◌, true, List, [], ◌∷◌, Option, Some, None, codes, map}
+use Rattle.std.specs.Prelude.{ℕ, ◌≡◌, ◌⊎◌, ◌≤◌, true, List, [], ◌∷◌, Option, Some, None, Result, MatchResult, codes, map}
 use Rattle.std.specs.Borrow.{Bor}
 use Rattle.std.specs.Str.Parse.{IsNumeral, digits_value, without_leading_plus}
 use Rattle.clap.specs.Words.{App, Row, Rule, Text, IsAmong, fault_of, first_of, kind_of, new_app, new_rule, subcommand_of, with_rule, with_subcommand}
@@ -66,6 +66,14 @@ abbrev pub replay_command : References → App
 replay_command names =
     with_rule (with_rule (with_rule (new_app (codes "replay")) (required_word (codes "FILE"))) workers_option) (show_option names)
 
+-- the command `abr replay`, wherever its references point
+abbrev pub IsReplayCommand : App → Type 0
+IsReplayCommand a = (names : References) × AreShowNames names × (a ≡ replay_command names)
+
+-- the option `--show`, wherever its references point
+abbrev pub IsShowOption : Rule → Type 0
+IsShowOption rule = (names : References) × AreShowNames names × (rule ≡ show_option names)
+
 -- what follows the program's name is one of its commands, or asks for its version
 abbrev pub program_with : References → App
 program_with names =
@@ -128,7 +136,7 @@ pub record WritesWorkers (word : Text) (n : ℕ) : Type 0 where
   pub written : digits_value 10 (without_leading_plus word) ≡ n
   pub within : AreWorkers n
 
--- this file, so many workers and the name of what is shown were given; where no number was given, the matches have 1, and where no name was, `routes`
+-- this file, so many workers and the name of what is shown were given; if no number was given, the matches have 1, and if no name was, `routes`
 abbrev pub HasReplayWords : List Row → Text → ℕ → Show → Type 0
 HasReplayWords rows file workers show = (first_of (codes "FILE") rows ≡ Some file)
     × ((word : Text) × (first_of (codes "workers") rows ≡ Some word) × WritesWorkers word workers)
@@ -154,13 +162,13 @@ IsJob met (One w) = HasOne met (texts_of w)
 IsJob met (Decode hex) = HasDecode met hex.now
 IsJob met (Replay file workers show) = HasReplay met file.now workers show
 
--- the job can be done: where it is a replay, there may be so many workers
+-- the job can be done: if it is a replay, there may be so many workers
 abbrev pub IsFit : Job → Type 0
 IsFit (One w) = Unit {0}
 IsFit (Decode hex) = Unit {0}
 IsFit (Replay file workers show) = AreWorkers workers
 
--- A mistake is one that the command line has. Where no mistake is found and there is no job, a word is missing.
+-- A mistake is one that the command line has. If no mistake is found and there is no job, a word is missing.
 abbrev pub IsMistake : List Text → Usage → Type 0
 IsMistake words (Told e) = IsAmong (kind_of e) (fault_of program words)
     ⊎ ((kind_of e ≡ MissingRequiredArgument) × (¬ HasJob (subcommand_of program words)))
@@ -205,11 +213,11 @@ IsFileWord word = IsPlainWord word ⊎ (word ≡ codes "-")
 abbrev pub replay_line : Text → Text → List Text
 replay_line name file = name ∷ codes "replay" ∷ file ∷ []
 
--- the same with `--show` and a name
+-- the command line `abr replay` with this file, `--show` and a name
 abbrev pub show_line : Text → Text → Show → List Text
 show_line name file show = name ∷ codes "replay" ∷ file ∷ codes "--show" ∷ show_name show ∷ []
 
--- the same with `--workers` and a number
+-- the command line `abr replay` with this file, `--workers` and a number
 abbrev pub workers_line : Text → Text → Text → List Text
 workers_line name file number = name ∷ codes "replay" ∷ file ∷ codes "--workers" ∷ number ∷ []
 
@@ -218,3 +226,36 @@ abbrev pub IsReplay : Text → ℕ → Show → Job → Type 0
 IsReplay word count what (One w) = ⊥
 IsReplay word count what (Decode hex) = ⊥
 IsReplay word count what (Replay file workers show) = (file.now ≡ word) × (workers ≡ count) × (show ≡ what)
+
+-- ---- what each command line gives
+
+-- the command line that the words are
+abbrev pub command_words : List (Bor Text) → List Text
+command_words words = map (λ w. w.now) words
+
+-- the job is such a one, unless memory runs out
+abbrev pub GivesJob : Result Job Usage → (Job → Type 0) → Type 0
+GivesJob result IsSuch = MatchResult result IsSuch (λ u. u ≡ Memory)
+
+-- if the line is `abr one` with plain words, the job is `one` with these
+abbrev pub GivesOne : List Text → Result Job Usage → Type 0
+GivesOne line result = (name : Text) (t : OneTexts) → line ≡ one_line name t → ArePlain t → GivesJob result (IsOne t)
+
+-- if the line is `abr decode` with a plain word, the job is `decode` with it
+abbrev pub GivesDecode : List Text → Result Job Usage → Type 0
+GivesDecode line result = (name hex : Text) → line ≡ decode_line name hex → IsPlainWord hex → GivesJob result (IsDecode hex)
+
+-- if the line is `abr replay` with a file, the job is `replay` of it by one worker, to show the routing table
+abbrev pub GivesReplay : List Text → Result Job Usage → Type 0
+GivesReplay line result = (name file : Text) → line ≡ replay_line name file → IsFileWord file → GivesJob result (IsReplay file 1 Routes)
+
+-- if the line is `abr replay` with a file and `--workers`, the job is `replay` of it by so many
+abbrev pub GivesWorkers : List Text → Result Job Usage → Type 0
+GivesWorkers line result =
+    (name file number : Text) (count : ℕ) → line ≡ workers_line name file number
+    → IsFileWord file → WritesWorkers number count → GivesJob result (IsReplay file count Routes)
+
+-- if the line is `abr replay` with a file and `--show`, the job is `replay` of it by one worker, to show that
+abbrev pub GivesShow : List Text → Result Job Usage → Type 0
+GivesShow line result =
+    (name file : Text) (show : Show) → line ≡ show_line name file show → IsFileWord file → GivesJob result (IsReplay file 1 show)

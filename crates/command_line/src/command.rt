@@ -38,7 +38,7 @@ pub enum Usage {
     /// it goes and the status: 2 for a mistake in the words, and 0 for help.
     #[error(transparent)]
     Told(clap::Error),
-    /// A growth was refused.
+    /// Memory ran out.
     #[error("30 Memory")]
     Memory,
 }

@@ -1,9 +1,9 @@
 //! What the command line asks for.
-ghost use Rattle.std.specs.Prelude.{ℕ, ◌≡◌, ◌≢◌, ◌⊎◌, IfOk, IfErr, IfSome, IsNone, MatchResult, false, map};
+ghost use Rattle.std.specs.Prelude.{ℕ, ◌≡◌, ◌≢◌, ◌⊎◌, IfOk, IfErr, IfSome, IsNone, false};
 ghost use Rattle.clap.specs.Words.{Text, app_of, rows_of, found_of, rule_of, subcommand_of, subcommand_rows_of, kind_of};
 ghost use Rattle.clap.specs.declared.builder.command.Command.TheViews.{out-Command};
 ghost use Rattle.recording.specs.declared.show.Show.{Show};
-ghost use Rattle.command_line.specs.Command.{one_command, decode_command, replay_command, program, required_word, show_option, show_name, References, AreShowNames, OneTexts, texts_of, HasWords, HasJob, IsJob, IsMistake, one_line, ArePlain, IsOne, decode_line, IsPlainWord, IsDecode, IsProgram, replay_line, show_line, workers_line, IsFileWord, IsReplay, HasReplayWords, IsFit, IsReplayOf, WritesWorkers, workers_option};
+ghost use Rattle.command_line.specs.Command.{one_command, decode_command, program, required_word, show_name, References, AreShowNames, OneTexts, texts_of, HasWords, HasJob, IsJob, IsMistake, IsProgram, IsReplayCommand, IsShowOption, HasReplayWords, IsFit, IsReplayOf, WritesWorkers, workers_option, command_words, GivesDecode, GivesOne, GivesReplay, GivesShow, GivesWorkers};
 
 use crate::command::{Job, OneWords, Usage};
 use clap::builder::ValueParser;
@@ -25,19 +25,14 @@ const SHOW_NAMES: &[&str] = &["routes", "due", "lsdb", "journal"];
 
 /// The job that the words name, the first of them the program's name.
 pub fn job<'a>(alloc: Global, words: &'a [&'a str]) -> Result<Job<'a>, Usage>
-    ensures job { IfOk result (IsJob (subcommand_of program (map (λ w. w.now) words.entry.now))) }
+    ensures job { IfOk result (IsJob (subcommand_of program (command_words words.entry.now))) }
     ensures fit { IfOk result IsFit }
-    ensures mistake { IfErr result (IsMistake (map (λ w. w.now) words.entry.now)) }
-    ensures one { (name : Text) (t : OneTexts) → map (λ w. w.now) words.entry.now ≡ one_line name t
-        → ArePlain t → MatchResult result (IsOne t) (λ u. u ≡ Usage.Memory) }
-    ensures decode { (name hex : Text) → map (λ w. w.now) words.entry.now ≡ decode_line name hex
-        → IsPlainWord hex → MatchResult result (IsDecode hex) (λ u. u ≡ Usage.Memory) }
-    ensures replay { (name file : Text) → map (λ w. w.now) words.entry.now ≡ replay_line name file
-        → IsFileWord file → MatchResult result (IsReplay file 1 Show.Routes) (λ u. u ≡ Usage.Memory) }
-    ensures workers { (name file number : Text) (count : ℕ) → map (λ w. w.now) words.entry.now ≡ workers_line name file number
-        → IsFileWord file → WritesWorkers number count → MatchResult result (IsReplay file count Show.Routes) (λ u. u ≡ Usage.Memory) }
-    ensures show { (name file : Text) (show : Show) → map (λ w. w.now) words.entry.now ≡ show_line name file show
-        → IsFileWord file → MatchResult result (IsReplay file 1 show) (λ u. u ≡ Usage.Memory) }
+    ensures mistake { IfErr result (IsMistake (command_words words.entry.now)) }
+    ensures one { GivesOne (command_words words.entry.now) result }
+    ensures decode { GivesDecode (command_words words.entry.now) result }
+    ensures replay { GivesReplay (command_words words.entry.now) result }
+    ensures workers { GivesWorkers (command_words words.entry.now) result }
+    ensures show { GivesShow (command_words words.entry.now) result }
 {
     let command = program_command(alloc)?;
     match command.try_get_matches_from(words) {
@@ -109,7 +104,7 @@ fn one_words<'a>(matches: &ArgMatches<'a>) -> Option<OneWords<'a>>
     })
 }
 
-// The number that the word writes, where there may be so many workers.
+// The number that the word writes, if there may be so many workers.
 fn workers_of(word: &str) -> Option<usize>
     ensures some { IfSome result (WritesWorkers word.now) }
     ensures none { IsNone result → (n : ℕ) → ¬ WritesWorkers word.now n }
@@ -173,7 +168,7 @@ fn decode<'a>(alloc: Global) -> Result<Command<'a>, AllocError>
 }
 
 fn replay<'a>(alloc: Global) -> Result<Command<'a>, AllocError>
-    ensures app { IfOk result (λ c. (names : References) × AreShowNames names × (app_of c ≡ replay_command names)) }
+    ensures app { IfOk result (λ c. IsReplayCommand (app_of c)) }
     ensures local { IfOk result (λ c. (out-Command c).has_globals ≡ false) }
 {
     Command::new(alloc, "replay")
@@ -196,7 +191,7 @@ fn workers_option<'a>(alloc: Global) -> Arg<'a>
 }
 
 fn show_option<'a>(alloc: Global) -> Arg<'a>
-    ensures rule { (names : References) × AreShowNames names × (rule_of result ≡ show_option names) }
+    ensures rule { IsShowOption (rule_of result) }
     ensures local { result.global ≡ false }
 {
     Arg::new(alloc, "show")

@@ -42,7 +42,7 @@ abbrev pub is_costly : Option Stub → Bool
 is_costly None = false
 is_costly (Some stub) = nat_le LSInfinity stub.cost
 
--- the table of faults, in its order; none where the areas have none
+-- the table of faults, in its order; none if the areas have none
 abbrev pub areas_fault_of : List AreaConfig → Option ConfigFault
 areas_fault_of areas = first_of (
     (has_wrong_areas areas, fault.Areas)

@@ -15,7 +15,7 @@ IsMasked p = masked p.address p.length ≡ p.address
 abbrev pub is_before : Prefix → Prefix → Bool
 is_before p q = is_lt (network_cmp p q)
 
--- the range stands before the first of the others, where there is one
+-- the range stands before the first of the others, if there is one
 abbrev pub is_before_first : Range → List Range → Bool
 is_before_first a [] = true
 is_before_first a (b ∷ ranges) = is_before a.prefix b.prefix

@@ -17,7 +17,7 @@ pub enum ConfigFault {
     Cost,
     /// More than 32 ranges in an area.
     RangeCount,
-    /// A growth was refused.
+    /// Memory ran out.
     Memory,
 }
 

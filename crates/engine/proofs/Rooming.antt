@@ -1,11 +1,11 @@
--- The steps of the lock's room keep its rule.
+-- The steps of the slot beside the lock keep its rule.
 use Rattle.std.proofs.Common.{◌≡◌, ℕ, zero, suc, List, [], ◌∷◌, Option, set, length, slice_index, refl, sym, ap, ◌∙◌, subst, arith}
 use mathlib.Core.Option.{some, none}
 use lib.ListN.{get_elem?}
 use Rattle.atomic_table.specs.Table.{State, Me, Arrives, Allows, keeps, takes, gives, step, Act, Valid, homes_after, carried_after}
-use Rattle.desk.specs.Desks.{Held}
+use Rattle.engine_state.specs.EngineStates.{Held}
 use Rattle.publication.specs.Names.{Name}
-use Rattle.engine.specs.Rooms.{Fits, Locks, Took, Gave}
+use Rattle.engine.specs.EngineSlots.{Fits, Locks, Took, Gave}
 
 abbrev Lot : Type 0
 Lot = State (Option Held) Name

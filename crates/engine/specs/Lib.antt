@@ -1,12 +1,12 @@
 pub mod Bytes
-pub mod Rooms
+pub mod EngineSlots
 pub mod Opens
 pub mod Texts
 pub use Rattle.event_core.specs.Cores
 pub use Rattle.event_core.specs.Right
 pub use Rattle.event_core.specs.Listings
-pub use Rattle.event_core.specs.Due
+pub use Rattle.event_core.specs.DueSummary
 pub use Rattle.event_core.specs.declared.reply.Reply
-pub use Rattle.event_core.specs.declared.reply.Standing
-pub use Rattle.desk.specs.Answers
-pub use Rattle.desk.specs.Gates
+pub use Rattle.event_core.specs.declared.reply.Status
+pub use Rattle.engine_state.specs.Answers
+pub use Rattle.engine_state.specs.Gates

@@ -1,5 +1,5 @@
 -- The faults of opening an engine, and the serial of a roll.
-use Rattle.std.specs.Prelude.{ℕ, ◌≡◌, ◌≤◌, ◌<◌, ◌+◌, ◌⊎◌, List, length, Option, Some, None}
+use Rattle.std.specs.Prelude.{ℕ, ◌≡◌, ◌≤◌, ◌<◌, ◌+◌, ◌++◌, ◌∷◌, ◌⊎◌, List, [], All, length, Option, Some, None}
 use Rattle.ospf_types.specs.declared.config.Config.{Config}
 use Rattle.event_core.specs.ConfigFault.TheVariants.{Memory}
 use Rattle.event_core.specs.Configs.{config_fault_of}
@@ -9,12 +9,15 @@ use Rattle.event_state.specs.declared.base.Base.{Base}
 use Rattle.event_state.specs.declared.base_fault.BaseFault.{BaseFault}
 use Rattle.event_state.specs.declared.base_fault.BaseFault.TheVariants as base_fault
 use Rattle.event_state.specs.declared.event.Event.{Event}
+use Rattle.event_state.specs.Rolls.{IsRolled}
+use Rattle.publication.specs.Forwarders.{Looker}
+use Rattle.publication.specs.Names.{Name}
 use Rattle.publication.specs.Published.{IsLegal}
-use Rattle.desk.specs.Desks.{AreReaders}
+use Rattle.engine_state.specs.EngineStates.{AreReaders}
 use Rattle.engine.specs.declared.open_fault.OpenFault.{OpenFault}
 use Rattle.engine.specs.declared.open_fault.OpenFault.TheVariants as opens
 
--- a fault of the configuration before all others, then the number of readers, then what only a refused growth or place can cause
+-- a fault of the configuration before all others, then the number of readers, then what only want of memory, or of a place for a reader, can cause
 abbrev pub IsOpenFaultOf : Config → ℕ → OpenFault → Type 0
 IsOpenFaultOf config readers (opens.Config f) = (config_fault_of config ≡ Some f) ⊎ ((f ≡ Memory) × (config_fault_of config ≡ None) × AreReaders readers)
 IsOpenFaultOf config readers opens.Doubled = ⊥
@@ -27,7 +30,7 @@ open_fault_of (base_fault.Config f) = opens.Config f
 open_fault_of base_fault.Doubled = opens.Doubled
 open_fault_of (base_fault.Unfit u) = opens.Unfit u
 
--- the first fault of the base before all others, then the same. Before a refused growth only a fault of the configuration is looked for
+-- the first fault of the base before all others, then the same. Before want of memory only a fault of the configuration is looked for
 abbrev pub IsOpenFaultFrom : Base → ℕ → OpenFault → Type 0
 IsOpenFaultFrom base readers (opens.Config f) = (base_fault_of standard_limits base ≡ Some (base_fault.Config f)) ⊎ ((f ≡ Memory) × (config_fault_of base.config ≡ None))
 IsOpenFaultFrom base readers opens.Doubled = base_fault_of standard_limits base ≡ Some base_fault.Doubled
@@ -38,3 +41,27 @@ IsOpenFaultFrom base readers opens.Place = (base_fault_of standard_limits base �
 -- it is that of a legal list
 abbrev pub IsRolledSerial : Base → ℕ → Type 0
 IsRolledSerial base serial = (list : List Event) × IsLegal base list × (serial ≡ base.serial + length list)
+
+-- the configuration has no fault, and so many readers may be
+abbrev pub CanOpen : Config → ℕ → Type 0
+CanOpen config readers = (config_fault_of config ≡ None) × AreReaders readers
+
+-- the base has no fault, and so many readers may be
+abbrev pub CanOpenFrom : Base → ℕ → Type 0
+CanOpenFrom base readers = (base_fault_of standard_limits base ≡ None) × AreReaders readers
+
+-- what is found last of all: no place for a reader, or want of memory
+abbrev pub IsLastFault : OpenFault → Type 0
+IsLastFault fault = (fault ≡ opens.Place) ⊎ (fault ≡ opens.Config Memory)
+
+-- the forwarders of an engine that was opened just now
+abbrev pub AreNew : Name → List Looker → Type 0
+AreNew name forwarders = All (λ f. (f.name ≡ name) × (f.known ≡ [])) forwarders
+
+-- one more of these
+abbrev pub IsNewAdded : Name → List Looker → List Looker → Type 0
+IsNewAdded name before after = (f : Looker) × (after ≡ before ++ f ∷ []) × (f.name ≡ name) × (f.known ≡ [])
+
+-- some events were rolled into the base
+abbrev pub IsRolledFrom : Base → Base → Type 0
+IsRolledFrom base after = (rolled : List Event) × IsRolled base standard_limits rolled after

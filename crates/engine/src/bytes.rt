@@ -3,8 +3,8 @@ ghost use Rattle.std.specs.Prelude.{MatchResult};
 ghost use Rattle.engine.specs.Bytes.{AreInstalled, AreRefused};
 
 use crate::bytes_fault::BytesFault;
-use crate::engine_state::Engine;
-use desk::Answer;
+use crate::engine::Engine;
+use engine_state::Answer;
 use event_core::Event;
 use lsa_codec::read;
 use ospf_types::key::Scope;
@@ -18,7 +18,8 @@ impl Engine {
         scope: Scope,
         bytes: &[u8],
     ) -> Result<Answer, BytesFault>
-        ensures { MatchResult result (AreInstalled self.now scope bytes.now) (AreRefused self.now scope bytes.now) }
+        ensures { MatchResult result (AreInstalled self.now scope bytes.now)
+            (AreRefused self.now scope bytes.now) }
     {
         let lsa = match read(self.alloc(), bytes) {
             Ok(lsa) => lsa,

@@ -4,15 +4,15 @@
 
 mod bytes;
 mod bytes_fault;
-mod engine_state;
+mod engine;
 mod open_fault;
-mod room;
+mod slot;
 mod workers;
 
 pub use bytes_fault::BytesFault;
-pub use desk::{Answer, DueList, Gate, Open, Refused};
-pub use engine_state::Engine;
-pub use event_core::{ConfigFault, Core, Due, Event, Refusal, Reply, Standing};
+pub use engine::Engine;
+pub use engine_state::{Answer, DueList, Gate, Open, Refused};
+pub use event_core::{ConfigFault, Core, DueSummary, Event, Refusal, Reply, Status};
 pub use event_state::{Base, BaseFault, Unfit};
 pub use open_fault::OpenFault;
 pub use publication::{Forwarder, Seen, Told, Unseen};

@@ -10,7 +10,7 @@ use thiserror::Error;
 /// Why an engine was not opened: the first of these that holds.
 #[derive(Clone, Copy, Debug, PartialEq, Eq, Error)]
 pub enum OpenFault {
-    /// The configuration has this fault, or a growth was refused.
+    /// The configuration has this fault, or memory ran out.
     Config(ConfigFault),
     /// An interface id, or a key in a scope, is twice in the base.
     Doubled,

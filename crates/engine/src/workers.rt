@@ -1,12 +1,12 @@
 //! Several workers on one engine, each with its own list of events.
 ghost use Rattle.std.specs.Prelude.{◌≡◌, ◌<◌, ◌≤◌, ◌⊎◌, [], length, vec_len, vec_capacity, IfOk, IfErr, IfSome, IsTrue};
 ghost use Rattle.std.specs.List.{AllZip};
-ghost use Rattle.desk.specs.Answers.{AreAnswered};
-ghost use Rattle.desk.specs.Gates.{HavePassed};
+ghost use Rattle.engine_state.specs.Answers.{AreAnswered};
+ghost use Rattle.engine_state.specs.Gates.{HavePassed};
 ghost use Rattle.event_state.specs.declared.refusal.Refusal.TheVariants.{Memory, Spawn, Workers};
 
-use crate::engine_state::Engine;
-use desk::{Answer, Gate, Refused};
+use crate::engine::Engine;
+use engine_state::{Answer, Gate, Refused};
 use event_core::{Event, Refusal};
 use std::alloc::{AllocError, Global};
 use std::snapshot::Snapshot;
@@ -38,7 +38,8 @@ fn prepared(alloc: Global, events: Vec<Event>) -> Result<Job, AllocError>
 // Submits a worker's events in turn, each through the gate.
 fn work<R: Wait, G: Gate>(rt: &R, engine: &Engine, gate: &G, worker: usize, job: Job) -> Answers
     ensures answered { AreAnswered engine.now job.events.items result.items }
-    ensures gate { HavePassed (G.came gate.now) (G.passed gate.now) (G.left gate.now) worker 0 result.items }
+    ensures gate { HavePassed (G.came gate.now) (G.passed gate.now) (G.left gate.now)
+        worker 0 result.items }
 {
     let Job {
         events,
@@ -63,7 +64,7 @@ struct Answering<'a> {
 }
 
 impl<'a> Promise<Answers> for Answering<'a> {
-    ghost use Rattle.desk.specs.Answers.{AreAnswered};
+    ghost use Rattle.engine_state.specs.Answers.{AreAnswered};
 
     ghost kept_by = { λ p r. AreAnswered p.engine.now p.events.value.items r.items };
 }
@@ -79,7 +80,8 @@ fn start<'s, E, R: Threads + Wait + Sync, G: Gate>(
     worker: usize,
     job: Job,
 ) -> Option<Child<'s>>
-    ensures { IfSome result (λ h. (h.promise.engine.now ≡ engine.now) × (h.promise.events.value.items ≡ job.events.items)) }
+    ensures { IfSome result (λ h. (h.promise.engine.now ≡ engine.now)
+        × (h.promise.events.value.items ≡ job.events.items)) }
 {
     let promise = Answering {
         engine,
@@ -102,7 +104,10 @@ fn start_all<'s, E, R: Threads + Wait + Sync, G: Gate>(
     requires empty { children.old.items ≡ [] }
     requires room { vec_len jobs ≤ vec_capacity children.old }
     ensures count { vec_len children.new ≤ vec_len jobs }
-    ensures children { IsTrue result → AllZip (λ job h. (h.promise.engine.now ≡ engine.now) × (h.promise.events.value.items ≡ job.events.items)) jobs.items children.new.items }
+    ensures children { IsTrue result → AllZip
+        (λ job h. (h.promise.engine.now ≡ engine.now)
+        × (h.promise.events.value.items ≡ job.events.items))
+        jobs.items children.new.items }
 {
     let mut worker = 0;
     for job in jobs {
@@ -121,7 +126,10 @@ fn start_all<'s, E, R: Threads + Wait + Sync, G: Gate>(
 fn join_all<'s, R: Threads>(rt: &R, children: Vec<Child<'s>>, all: Vec<Answers>) -> Vec<Answers>
     requires empty { all.items ≡ [] }
     requires room { vec_len children ≤ vec_capacity all }
-    ensures { AllZip (λ h answers. AreAnswered h.promise.engine.now h.promise.events.value.items answers.items) children.entry.items result.items }
+    ensures { AllZip
+        (λ h answers.
+        AreAnswered h.promise.engine.now h.promise.events.value.items answers.items)
+        children.entry.items result.items }
 {
     let mut all = all;
     for child in children {
@@ -141,7 +149,9 @@ fn run_all<'s, E, R: Threads + Wait + Sync, G: Gate>(
     gate: &'s G,
     jobs: Vec<Job>,
 ) -> Result<Vec<Answers>, Refusal>
-    ensures answers { IfOk result (λ all. AllZip (λ job answers. AreAnswered engine.now job.events.items answers.items) jobs.items all.items) }
+    ensures answers { IfOk result (λ all. AllZip
+        (λ job answers. AreAnswered engine.now job.events.items answers.items)
+        jobs.items all.items) }
     ensures causes { IfErr result (λ e. (e ≡ Spawn) ⊎ (e ≡ Memory)) }
 {
     let count = jobs.len();
@@ -162,7 +172,8 @@ fn run_all<'s, E, R: Threads + Wait + Sync, G: Gate>(
 
 // Makes room for the answers of each list.
 fn all_prepared(alloc: Global, lists: Vec<Vec<Event>>) -> Result<Vec<Job>, AllocError>
-    ensures { IfOk result (λ jobs. AllZip (λ events job. job.events ≡ events) lists.items jobs.items) }
+    ensures { IfOk result (λ jobs.
+        AllZip (λ events job. job.events ≡ events) lists.items jobs.items) }
 {
     let mut jobs = Vec::new(alloc);
     for events in lists {
@@ -171,7 +182,7 @@ fn all_prepared(alloc: Global, lists: Vec<Vec<Event>>) -> Result<Vec<Job>, Alloc
     Ok(jobs)
 }
 
-// As `run_all`, in a scope of its own.
+// Opens a scope for the threads, and runs each job on one of them.
 fn run<R: Threads + Wait + Sync, G: Gate>(
     rt: &R,
     alloc: Global,
@@ -179,14 +190,19 @@ fn run<R: Threads + Wait + Sync, G: Gate>(
     gate: &G,
     jobs: Vec<Job>,
 ) -> Result<Vec<Answers>, Refusal>
-    ensures answers { IfOk result (λ all. AllZip (λ job answers. AreAnswered engine.now job.events.items answers.items) jobs.items all.items) }
+    ensures answers { IfOk result (λ all. AllZip
+        (λ job answers. AreAnswered engine.now job.events.items answers.items)
+        jobs.items all.items) }
     ensures causes { IfErr result (λ e. (e ≡ Spawn) ⊎ (e ≡ Memory)) }
 {
     thread::scope(
         thread::scope_env(),
         rt,
         move |scope| -> Result<Vec<Answers>, Refusal>
-            ensures { IfOk result (λ all. AllZip (λ job answers. AreAnswered engine.entry.now job.events.items answers.items) jobs.items all.items) × IfErr result (λ e. (e ≡ Spawn) ⊎ (e ≡ Memory)) }
+            ensures { IfOk result (λ all. AllZip
+                (λ job answers. AreAnswered engine.entry.now job.events.items answers.items)
+                jobs.items all.items)
+                × IfErr result (λ e. (e ≡ Spawn) ⊎ (e ≡ Memory)) }
         { run_all(scope, rt, alloc, engine, gate, jobs) },
     )
 }
@@ -200,10 +216,14 @@ impl Engine {
         lists: Vec<Vec<Event>>,
         gate: &G,
     ) -> Result<Vec<Answers>, Refusal>
-        ensures answers { IfOk result (λ all. AllZip (λ events answers. AreAnswered self.now events.items answers.items) lists.items all.items) }
+        ensures answers { IfOk result (λ all. AllZip
+            (λ events answers. AreAnswered self.now events.items answers.items)
+            lists.items all.items) }
         ensures few { IfOk result (λ _. length lists.items ≤ 16) }
-        ensures workers { IfErr result (λ e. (e ≡ Workers → 16 < length lists.items) × (16 < length lists.items → e ≡ Workers)) }
-        ensures causes { IfErr result (λ e. (e ≡ Workers) ⊎ ((e ≡ Spawn) ⊎ (e ≡ Memory))) }
+        ensures workers { IfErr result (λ e. (e ≡ Workers → 16 < length lists.items)
+            × (16 < length lists.items → e ≡ Workers)) }
+        ensures causes { IfErr result (λ e. (e ≡ Workers)
+            ⊎ ((e ≡ Spawn) ⊎ (e ≡ Memory))) }
     {
         if lists.len() > MOST_WORKERS {
             return Err(Refusal::Workers);

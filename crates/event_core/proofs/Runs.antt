@@ -11,11 +11,11 @@ use Rattle.event_state.specs.Rolls.{since, IsBaseOf}
 use Rattle.event_state.specs.Steps.{opening, step, refusal_of, run_of}
 use Rattle.vertex_graph.specs.Graphs.{most_routers}
 use Rattle.route_table.specs.Tables.{TableValue}
-use Rattle.dues.specs.Dues.{lists_of}
+use Rattle.summaries.specs.DueSummaries.{lists_of}
 use Rattle.event_core.specs.Right.{IsRight, AreDue}
 use Rattle.event_core.specs.declared.reply.Reply.{Reply}
-use Rattle.event_core.specs.declared.reply.Standing.{Standing}
-use Rattle.event_core.specs.declared.reply.Standing.TheVariants.{Current, Behind}
+use Rattle.event_core.specs.declared.reply.Status.{Status}
+use Rattle.event_core.specs.declared.reply.Status.TheVariants.{Current, Behind}
 use Rattle.event_core.specs.Cores.{CoreValue, IsCore, IsTaken, Rolls, Applies, Tells, Stands, HasBoundedWork, NamesChanges, state_of}
 use Rattle.event_core.specs.Kept.{core_of, IsCoherent}
 use Rattle.event_state.specs.declared.refusal.Refusal.{Refusal}
@@ -76,29 +76,29 @@ rolls s u r built b kept is since_is again =
       journal = journal;
       built = refl;
       table = refl;
-      dues = refl;
+      summaries = refl;
       work = refl;
       changes = refl;
     }
 
 -- an event more, and table and due summaries are as they were, whatever else is kept
-pub kept_behind : (s : State) (r new : RoutesValue) (built : ℕ) (e : Event) → IsCoherent s r built → refusal_of s e ≡ None → new.table ≡ r.table → lists_of new.dues ≡ lists_of r.dues → IsCoherent (step s e) new built
-kept_behind s r new built e kept accepted table dues =
+pub kept_behind : (s : State) (r new : RoutesValue) (built : ℕ) (e : Event) → IsCoherent s r built → refusal_of s e ≡ None → new.table ≡ r.table → lists_of new.summaries ≡ lists_of r.summaries → IsCoherent (step s e) new built
+kept_behind s r new built e kept accepted table summaries =
     let setting = further_step s e in
     let runs : (base : Base) (limits : Limits) → base ≡ s.base → limits ≡ s.limits → step s e ≡ run_of base limits (s.journal ++ e ∷ []) = λ base limits p q. step_runs s e kept.run ∙ sym (λ i. run_of (p i) (q i) (s.journal ++ e ∷ [])) in
     let front : take built (s.journal ++ e ∷ []) ≡ take built s.journal = take-append-le built s.journal (e ∷ []) kept.core.within in
-    let core : IsCore (record { base = s.base; limits = s.limits; journal = s.journal ++ e ∷ []; built = built; table = new.table; dues = lists_of new.dues; work = new.work; changes = new.changes }) = record {
+    let core : IsCore (record { base = s.base; limits = s.limits; journal = s.journal ++ e ∷ []; built = built; table = new.table; summaries = lists_of new.summaries; work = new.work; changes = new.changes }) = record {
       sound = kept.core.sound;
       legal = taken_more s.base s.limits s.journal e kept.core.legal (ap (λ (u : State). refusal_of u e) (sym kept.run) ∙ accepted);
       within = omega (arith, kept.core.within, length-append s.journal (e ∷ []));
       right = subst (λ (t : TableValue). IsRight (run_of s.base s.limits (take built (s.journal ++ e ∷ []))) t) (sym table)
           (subst (λ (events : List Event). IsRight (run_of s.base s.limits events) r.table) (sym front) kept.core.right);
-      due = subst (AreDue (run_of s.base s.limits (take built (s.journal ++ e ∷ [])))) (sym dues)
-          (subst (λ (events : List Event). AreDue (run_of s.base s.limits events) (lists_of r.dues)) (sym front) kept.core.due);
+      due = subst (AreDue (run_of s.base s.limits (take built (s.journal ++ e ∷ [])))) (sym summaries)
+          (subst (λ (events : List Event). AreDue (run_of s.base s.limits events) (lists_of r.summaries)) (sym front) kept.core.due);
     } in
     record {
       run = runs (step s e).base (step s e).limits setting.base setting.limits;
-      core = subst (λ (c : CoreValue). IsCore c) (λ i. record { base = sym setting.base i; limits = sym setting.limits i; journal = s.journal ++ e ∷ []; built = built; table = new.table; dues = lists_of new.dues; work = new.work; changes = new.changes }) core;
+      core = subst (λ (c : CoreValue). IsCore c) (λ i. record { base = sym setting.base i; limits = sym setting.limits i; journal = s.journal ++ e ∷ []; built = built; table = new.table; summaries = lists_of new.summaries; work = new.work; changes = new.changes }) core;
       fresh = λ all. absurd (omega (arith, all, kept.core.within, length-append s.journal (e ∷ [])));
       few = subst (λ (limits : Limits). limits.area_lsas ≤ most_routers) (sym setting.limits) kept.few;
     }
@@ -110,8 +110,8 @@ kept_step s r built e kept accepted = kept_behind s r r built e kept accepted re
 pub current_right : (c : CoreValue) → IsCore c → c.built ≡ length c.journal → IsRight (state_of c) c.table
 current_right c core all = subst (λ (events : List Event). IsRight (run_of c.base c.limits events) c.table) (take_all c.built c.journal (omega arith)) core.right
 
-pub current_due : (c : CoreValue) → IsCore c → c.built ≡ length c.journal → AreDue (state_of c) c.dues
-current_due c core all = subst (λ (events : List Event). AreDue (run_of c.base c.limits events) c.dues) (take_all c.built c.journal (omega arith)) core.due
+pub current_due : (c : CoreValue) → IsCore c → c.built ≡ length c.journal → AreDue (state_of c) c.summaries
+current_due c core all = subst (λ (events : List Event). AreDue (run_of c.base c.limits events) c.summaries) (take_all c.built c.journal (omega arith)) core.due
 
 -- routes that are the state's make a core that is current
 pub kept_current : (s : State) (r new : RoutesValue) (built now : ℕ) → IsCoherent s r built → now ≡ length s.journal → AreRoutesOf s new → IsCoherent s new now
@@ -122,7 +122,7 @@ kept_current s r new built now kept all are =
     let is : s ≡ run_of s.base s.limits (take now s.journal) = kept.run ∙ ap (run_of s.base s.limits) (sym whole) in
     record {
       run = kept.run;
-      core = record { sound = kept.core.sound; legal = kept.core.legal; within = omega arith; right = subst (λ (v : State). IsRight v new.table) is right; due = subst (λ (v : State). AreDue v (lists_of new.dues)) is due };
+      core = record { sound = kept.core.sound; legal = kept.core.legal; within = omega arith; right = subst (λ (v : State). IsRight v new.table) is right; due = subst (λ (v : State). AreDue v (lists_of new.summaries)) is due };
       fresh = λ _. are;
       few = kept.few;
     }
@@ -131,7 +131,7 @@ kept_current s r new built now kept all are =
 pub stands_current : (s : State) (new : RoutesValue) (now : ℕ) (old : CoreValue) → IsCoherent s new now → now ≡ length s.journal → Stands old Current (core_of s new now)
 stands_current s new now old kept all = (all, current_right (core_of s new now) kept.core all, current_due (core_of s new now) kept.core all)
 
-stands_same : (s u : State) (r : RoutesValue) (built : ℕ) (standing : Standing) (new : CoreValue) → Stands (core_of u r built) standing new → Stands (core_of s r built) standing new
+stands_same : (s u : State) (r : RoutesValue) (built : ℕ) (standing : Status) (new : CoreValue) → Stands (core_of u r built) standing new → Stands (core_of s r built) standing new
 stands_same s u r built Current new h = h
 stands_same s u r built Behind new h = h
 
@@ -162,7 +162,7 @@ pub record IsSettled (s u : State) (r : RoutesValue) (built : ℕ) (result : Res
   pub anew : OnOk result ((built ≡ length s.journal → ⊥) → IsBuildWork u new.work)
   pub unnamed : OnOk result ((built ≡ length s.journal → ⊥) → new.changes ≡ [])
   pub unchanged : OnErr result (new.table ≡ r.table)
-  pub due : OnErr result (lists_of new.dues ≡ lists_of r.dues)
+  pub due : OnErr result (lists_of new.summaries ≡ lists_of r.summaries)
   pub work : OnErr result (new.work ≡ no_work)
   pub changes : OnErr result (new.changes ≡ [])
 
@@ -170,8 +170,8 @@ module _ (s u : State) (r new : RoutesValue) (built : ℕ) (e : Event) (kept : I
   settled_ok : (now : ℕ) → now ≡ length u.journal → AreRoutesOf u new → IsCoherent u new now
   settled_ok now all are = kept_current u r new built now (subst (λ (v : State). IsCoherent v r built) (sym is) (kept_step s r built e kept accepted)) all are
 
-  settled_err : new.table ≡ r.table → lists_of new.dues ≡ lists_of r.dues → IsCoherent u new built
-  settled_err table dues = subst (λ (v : State). IsCoherent v new built) (sym is) (kept_behind s r new built e kept accepted table dues)
+  settled_err : new.table ≡ r.table → lists_of new.summaries ≡ lists_of r.summaries → IsCoherent u new built
+  settled_err table summaries = subst (λ (v : State). IsCoherent v new built) (sym is) (kept_behind s r new built e kept accepted table summaries)
 
   -- where the routes settle, the core is current
   pub coherent_ok : (result : Result (Unit {0}) Memory) (now : ℕ) → now ≡ length u.journal → result ≡ Ok tt → IsSettled s u r built result new → IsCoherent u new now
@@ -188,7 +188,7 @@ module _ (s u : State) (r new : RoutesValue) (built : ℕ) (e : Event) (kept : I
   taken_ok result now reply all ok h changed current serial =
       let after = coherent_ok result now all ok h in
       takes s u r built e reply (core_of u new now) kept is accepted changed refl refl refl
-      (subst (λ (standing : Standing). Stands (core_of u r built) standing (core_of u new now)) (sym current) (stands_current u new now (core_of u r built) after all)) serial
+      (subst (λ (standing : Status). Stands (core_of u r built) standing (core_of u new now)) (sym current) (stands_current u new now (core_of u r built) after all)) serial
 
   pub taken_err : (result : Result (Unit {0}) Memory) (m : Memory) (reply : Reply) → result ≡ Err m → IsSettled s u r built result new
       → (reply.changed ≡ false) ↔ LooksAlike s u → reply.state ≡ Behind → reply.serial ≡ serial_of u → IsTaken (core_of s r built) e reply (core_of u new built)
@@ -196,7 +196,7 @@ module _ (s u : State) (r new : RoutesValue) (built : ℕ) (e : Event) (kept : I
   taken_err (Err x) m reply err h changed behind serial =
       let longer : built < length u.journal = omega (arith, kept.core.within, length-append s.journal (e ∷ []), ap (λ (v : State). length v.journal) is) in
       takes s u r built e reply (core_of u new built) kept is accepted changed refl refl refl
-      (subst (λ (standing : Standing). Stands (core_of u r built) standing (core_of u new built)) (sym behind) (refl, h.unchanged, h.due, longer)) serial
+      (subst (λ (standing : Status). Stands (core_of u r built) standing (core_of u new built)) (sym behind) (refl, h.unchanged, h.due, longer)) serial
 
   pub bounded_ok : (result : Result (Unit {0}) Memory) (now : ℕ) → now ≡ length u.journal → result ≡ Ok tt → IsSettled s u r built result new → HasBoundedWork (core_of s r built) Current (core_of u new now)
   bounded_ok (Ok x) now all ok h =

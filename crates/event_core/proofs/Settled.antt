@@ -9,13 +9,13 @@ use Rattle.event_state.specs.Rolls.{since, IsBaseOf}
 use Rattle.event_state.specs.States.{State, AreApart, LooksAlike, serial_of}
 use Rattle.calculation.specs.Calculations.{IsCalculationOf, IsTableOf}
 use Rattle.calculation.specs.Trees.{StatesDifferAmong}
-use Rattle.calculation.specs.Due.{AreDuesFor}
+use Rattle.calculation.specs.Summaries.{AreSummariesFor}
 use Rattle.calculation.specs.Works.{IsEventWork}
 use Rattle.event_core.specs.Following.{RoutesValue, AreRoutesOf, AreChanges, no_work}
 use Rattle.ospf_types.proofs.RangeChanges.{areas_kept}
 use Rattle.calculation.proofs.OtherRanges.{apart_kept}
 use Rattle.calculation.proofs.Alike.{calculation_alike}
-use Rattle.calculation.proofs.Due.{due_alike}
+use Rattle.calculation.proofs.Summaries.{due_alike}
 use Rattle.event_core.proofs.Followed.{nothing_changes}
 use Rattle.event_core.proofs.NoWork.{no_event_work}
 
@@ -33,12 +33,12 @@ pub record GoesOn (keys : List (Scope × Key)) (ids : List ℕ) (ranged changed 
 pub record HasFollowed (t : State) (keys : List (Scope × Key)) (ids : List ℕ) (ranged changed : Bool) (old new : RoutesValue) : Type 0 where
   pub calculation : IsCalculationOf t new.calculation
   pub items : IsTableOf new.calculation new.table.items
-  pub dues : AreDuesFor t new.calculation new.dues
+  pub summaries : AreSummariesFor t new.calculation new.summaries
   pub exact : AreChanges old.table.items new.table.items new.changes
   pub bounded : (before : State) → GoesOn keys ids ranged changed before t → AreRoutesOf before old → IsEventWork before t new.work
 
 forgotten_routes : (s : State) (r : RoutesValue) → AreRoutesOf s r → AreRoutesOf s (forgotten r)
-forgotten_routes s r are = record { calculation = are.calculation; table = are.table; serial = are.serial; dues = are.dues }
+forgotten_routes s r are = record { calculation = are.calculation; table = are.table; serial = are.serial; summaries = are.summaries }
 
 -- no two areas have one Area ID, since at most their ranges are others
 pub still_apart : (s t : State) (keys : List (Scope × Key)) (ids : List ℕ) (ranged : Bool) → AreFit s.config.areas s.databases → StatesDifferAmong keys ids ranged s t → AreApart t.config.areas
@@ -48,12 +48,12 @@ pub still_routes : (s : State) (old mid : RoutesValue) → mid ≡ forgotten old
 still_routes s old mid is are = subst (AreRoutesOf s) (sym is) (forgotten_routes s old are)
 
 module _ (t : State) (keys : List (Scope × Key)) (ids : List ℕ) (ranged changed : Bool) (old mid : RoutesValue) (is : mid ≡ forgotten old) where
-  pub followed : (new : RoutesValue) → IsCalculationOf t new.calculation → IsTableOf new.calculation new.table.items → AreDuesFor t new.calculation new.dues → AreChanges mid.table.items new.table.items new.changes
+  pub followed : (new : RoutesValue) → IsCalculationOf t new.calculation → IsTableOf new.calculation new.table.items → AreSummariesFor t new.calculation new.summaries → AreChanges mid.table.items new.table.items new.changes
       → ((before : State) → AreRoutesOf before mid → StatesDifferAmong keys ids ranged before t → IsEventWork before t new.work) → HasFollowed t keys ids ranged changed old new
-  followed new calculation items dues exact bounded = record {
+  followed new calculation items summaries exact bounded = record {
     calculation = calculation;
     items = items;
-    dues = dues;
+    summaries = summaries;
     exact = subst (λ (r : RoutesValue). AreChanges r.table.items new.table.items new.changes) is exact;
     bounded = λ before goes are. bounded before (still_routes before old mid is are) goes.differ;
   }
@@ -64,16 +64,16 @@ module _ (t : State) (keys : List (Scope × Key)) (ids : List ℕ) (ranged chang
       subst (HasFollowed t keys ids ranged changed old) (sym is) (record {
         calculation = alike;
         items = are.table;
-        dues = due_alike before t old.calculation old.dues (goes.alike same) are.dues;
+        summaries = due_alike before t old.calculation old.summaries (goes.alike same) are.summaries;
         exact = nothing_changes old.table.items;
         bounded = λ other on others. no_event_work other t old.calculation on.fit fit others.calculation alike;
       })
 
 -- with the serial of the state, the routes are those of the state
-pub with_serial : (t : State) (new : RoutesValue) (table : TableValue) → IsCalculationOf t new.calculation → IsTableOf new.calculation new.table.items → AreDuesFor t new.calculation new.dues → table ≡ record new.table { serial = serial_of t }
+pub with_serial : (t : State) (new : RoutesValue) (table : TableValue) → IsCalculationOf t new.calculation → IsTableOf new.calculation new.table.items → AreSummariesFor t new.calculation new.summaries → table ≡ record new.table { serial = serial_of t }
     → AreRoutesOf t (record new { table = table })
-with_serial t new table calculation items dues is =
-    subst (λ (v : TableValue). AreRoutesOf t (record new { table = v })) (sym is) (record { calculation = calculation; table = items; serial = refl; dues = dues })
+with_serial t new table calculation items summaries is =
+    subst (λ (v : TableValue). AreRoutesOf t (record new { table = v })) (sym is) (record { calculation = calculation; table = items; serial = refl; summaries = summaries })
 
 -- a roll leaves the routes those of the state
 pub routes_since : (s : State) (b : Base) (r : RoutesValue) → IsBaseOf s b → AreFit s.config.areas s.databases → AreRoutesOf s r → AreRoutesOf (since b s) r
@@ -83,5 +83,5 @@ routes_since s b r is fit are =
       calculation = calculation_alike s (since b s) r.calculation alike fit are.calculation;
       table = are.table;
       serial = omega (arith, are.serial, is.serial);
-      dues = due_alike s (since b s) r.calculation r.dues alike are.dues;
+      summaries = due_alike s (since b s) r.calculation r.summaries alike are.summaries;
     }

@@ -4,8 +4,8 @@ use Rattle.ospf_types.specs.declared.config.Config.{Config}
 use Rattle.event_state.specs.declared.base.Base.{Base}
 use Rattle.event_state.specs.declared.event.Event.{Event}
 use Rattle.event_core.specs.declared.reply.Reply.{Reply}
-use Rattle.event_core.specs.declared.reply.Standing.{Standing}
-use Rattle.event_core.specs.declared.reply.Standing.TheVariants.{Current, Behind}
+use Rattle.event_core.specs.declared.reply.Status.{Status}
+use Rattle.event_core.specs.declared.reply.Status.TheVariants.{Current, Behind}
 use Rattle.event_state.specs.declared.refusal.Refusal.{Refusal}
 use Rattle.event_state.specs.declared.refusal.Refusal.TheVariants as refusal
 use Rattle.config_faults.specs.declared.fault.ConfigFault.{ConfigFault}
@@ -20,7 +20,7 @@ use Rattle.event_state.specs.States.{State, LooksAlike, serial_of}
 use Rattle.event_state.specs.Steps.{run_of, refusal_of, IsLegalList}
 use Rattle.event_state.specs.Refusals.{IsRefusalOf}
 use Rattle.route_table.specs.Tables.{TableValue}
-use Rattle.dues.specs.Due.{Due}
+use Rattle.summaries.specs.DueSummary.{DueSummary}
 use Rattle.event_core.specs.Right.{IsRight, AreDue}
 use Rattle.ospf_types.specs.declared.prefix.Prefix.{Prefix}
 use Rattle.spf.specs.Touched.{Touched}
@@ -33,7 +33,7 @@ pub record CoreValue : Type 0 where
   pub journal : List Event  -- the events that were taken since
   pub built : ℕ  -- table and due summaries are those of so many of them
   pub table : TableValue
-  pub dues : List (ℕ × List Due)  -- each area with what is due in it, in the order of the configuration
+  pub summaries : List (ℕ × List DueSummary)  -- each area with what is due in it, in the order of the configuration
   pub work : Touched  -- that of the last event
   pub changes : List Prefix  -- the networks whose item the last event changed
 
@@ -51,12 +51,12 @@ pub record IsCore (c : CoreValue) : Type 0 where
   pub legal : IsLegalList c.base c.limits c.journal
   pub within : c.built ≤ length c.journal
   pub right : IsRight (built_state c) c.table
-  pub due : AreDue (built_state c) c.dues
+  pub due : AreDue (built_state c) c.summaries
 
 -- table and due summaries are those of the whole journal, or those of before, where events were taken since
-abbrev pub Stands : CoreValue → Standing → CoreValue → Type 0
-Stands old Current new = (new.built ≡ length new.journal) × IsRight (state_of new) new.table × AreDue (state_of new) new.dues
-Stands old Behind new = (new.built ≡ old.built) × (new.table ≡ old.table) × (new.dues ≡ old.dues) × (new.built < length new.journal)
+abbrev pub Stands : CoreValue → Status → CoreValue → Type 0
+Stands old Current new = (new.built ≡ length new.journal) × IsRight (state_of new) new.table × AreDue (state_of new) new.summaries
+Stands old Behind new = (new.built ≡ old.built) × (new.table ≡ old.table) × (new.summaries ≡ old.summaries) × (new.built < length new.journal)
 
 -- the event is taken, with this reply
 pub record IsTaken (old : CoreValue) (e : Event) (r : Reply) (new : CoreValue) : Type 0 where
@@ -82,12 +82,12 @@ abbrev pub IsCurrent : CoreValue → Type 0
 IsCurrent c = c.built ≡ length c.journal
 
 -- Of an event that finds the table current and leaves it current, the networks whose item differs. Of one that finds it behind, or leaves it behind, none.
-abbrev pub NamesChanges : CoreValue → Standing → CoreValue → Type 0
+abbrev pub NamesChanges : CoreValue → Status → CoreValue → Type 0
 NamesChanges old Current new = (IsCurrent old → AreChanges old.table.items new.table.items new.changes) × ((IsCurrent old → ⊥) → new.changes ≡ [])
 NamesChanges old Behind new = new.changes ≡ []
 
 -- Of an event that finds the table current and leaves it current, the work is the sum over the areas, in each of which it is bounded by what differs. One that finds it behind builds all: the sum over the areas of what is reached.
-abbrev pub HasBoundedWork : CoreValue → Standing → CoreValue → Type 0
+abbrev pub HasBoundedWork : CoreValue → Status → CoreValue → Type 0
 HasBoundedWork old Current new = (IsCurrent old → IsFollowingWork (state_of old) (state_of new) new.work) × ((IsCurrent old → ⊥) → IsBuildingWork (state_of new) new.work)
 HasBoundedWork old Behind new = new.work ≡ no_work
 
@@ -129,7 +129,7 @@ pub record Rolls (old new : CoreValue) : Type 0 where
   pub journal : new.journal ≡ []
   pub built : new.built ≡ 0
   pub table : new.table ≡ old.table
-  pub dues : new.dues ≡ old.dues
+  pub summaries : new.summaries ≡ old.summaries
   pub work : new.work ≡ old.work
   pub changes : new.changes ≡ old.changes
 

@@ -8,15 +8,15 @@ use Rattle.ospf_types.specs.Network.{network_cmp}
 use Rattle.spf.specs.Touched.{Touched}
 use Rattle.route_table.specs.declared.table.Item.{Item}
 use Rattle.route_table.specs.Tables.{TableValue}
-use Rattle.dues.specs.Dues.{DuesValue}
+use Rattle.summaries.specs.DueSummaries.{DueSummariesValue}
 use Rattle.event_state.specs.States.{State, serial_of}
 use Rattle.calculation.specs.Calculations.{CalculationValue, IsCalculationOf, IsItemOf, IsTableOf}
-use Rattle.calculation.specs.Due.{AreDuesFor}
+use Rattle.calculation.specs.Summaries.{AreSummariesFor}
 
 pub record RoutesValue : Type 0 where
   pub calculation : CalculationValue
   pub table : TableValue
-  pub dues : DuesValue
+  pub summaries : DueSummariesValue
   pub work : Touched
   pub changes : List Prefix
 
@@ -25,7 +25,7 @@ pub record AreRoutesOf (s : State) (r : RoutesValue) : Type 0 where
   pub calculation : IsCalculationOf s r.calculation
   pub table : IsTableOf r.calculation r.table.items
   pub serial : r.table.serial ≡ serial_of s
-  pub dues : AreDuesFor s r.calculation r.dues
+  pub summaries : AreSummariesFor s r.calculation r.summaries
 
 -- the networks whose item differs, ascending, each once
 pub record AreChanges (old new : map.FinMap network_cmp Item) (networks : List Prefix) : Type 0 where

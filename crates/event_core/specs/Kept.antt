@@ -1,14 +1,14 @@
 -- What a core keeps of its parts.
 use Rattle.std.specs.Prelude.{ℕ, ◌≡◌, ◌≤◌, length}
 use Rattle.vertex_graph.specs.Graphs.{most_routers}
-use Rattle.dues.specs.Dues.{lists_of}
+use Rattle.summaries.specs.DueSummaries.{lists_of}
 use Rattle.event_state.specs.States.{State}
 use Rattle.event_state.specs.Steps.{run_of}
 use Rattle.event_core.specs.Cores.{CoreValue, IsCore}
 use Rattle.event_core.specs.Following.{RoutesValue, AreRoutesOf}
 
 abbrev pub core_of : State → RoutesValue → ℕ → CoreValue
-core_of s r built = record { base = s.base; limits = s.limits; journal = s.journal; built = built; table = r.table; dues = lists_of r.dues; work = r.work; changes = r.changes }
+core_of s r built = record { base = s.base; limits = s.limits; journal = s.journal; built = built; table = r.table; summaries = lists_of r.summaries; work = r.work; changes = r.changes }
 
 -- databases and interfaces are those of the run of the journal; and where table and due summaries are those of all of it, so is what is kept
 pub record IsCoherent (s : State) (r : RoutesValue) (built : ℕ) : Type 0 where

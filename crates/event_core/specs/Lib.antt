@@ -8,6 +8,6 @@ pub use Rattle.config_faults.specs.Configs
 pub use Rattle.config_faults.specs.Texts
 pub use Rattle.config_faults.specs.declared.fault.ConfigFault
 pub use Rattle.event_state.specs.Listings
-pub use Rattle.dues.specs.Dues
-pub use Rattle.dues.specs.Lists
-pub use Rattle.dues.specs.Due
+pub use Rattle.summaries.specs.DueSummaries
+pub use Rattle.summaries.specs.Lists
+pub use Rattle.summaries.specs.DueSummary

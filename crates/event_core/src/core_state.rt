@@ -1,7 +1,7 @@
 ghost use Rattle.std.specs.Prelude.{◌≡◌, ◌≤◌, ◌<◌, ◌+◌, length, None, IfErr, IfOk, MatchBool, OnOk, OnErr, option_map};
 ghost use Rattle.vertex_graph.specs.Graphs.{most_routers};
 ghost use Rattle.event_state.specs.BaseFaults.{base_fault_of};
-ghost use Rattle.dues.specs.Dues.{lists_of};
+ghost use Rattle.summaries.specs.DueSummaries.{lists_of};
 ghost use Rattle.event_core.specs.Right.{IsDueIn, list_under};
 ghost use Rattle.event_core.specs.Cores.{IsBaseFaultOf, IsCore, IsCurrent, IsOpening, IsFaultOf, IsRollRefusal, Rolls, Applies, NamesChanges, HasBoundedWork, Stands, Runs, built_state, state_of};
 ghost use Rattle.event_state.specs.Bases.{bare};
@@ -11,10 +11,9 @@ ghost use Rattle.event_state.specs.Listings.{AreLsas};
 
 use crate::listing::{base_of, lsas};
 use crate::named::named_by;
-use crate::reply::{Reply, Standing};
+use crate::reply::{Reply, Status};
 use crate::routes::Routes;
 use config_faults::{ConfigFault, fault_in};
-use dues::{Due, Dues};
 use event_state::{Base, BaseFault, Event, Limits, Refusal, State, fault_in_base};
 use lsa_codec::Checked;
 use ospf_types::config::Config;
@@ -26,6 +25,7 @@ use spf::Touched;
 use std::alloc::Global;
 use std::hash::RandomState;
 use std::marker::Model;
+use summaries::{DueSummaries, DueSummary};
 
 /// The databases and interfaces of an area border router, the journal of the events that made them, and the routing table
 /// and the summary-LSAs due in each area that they give (RFC 2328, 16 and 12.4.3).
@@ -76,7 +76,7 @@ impl Core {
         Core::open_within(alloc, config, Limits::STANDARD, hashing)
     }
 
-    /// The same with limits of one's own.
+    /// A core of a bare configuration with these limits.
     fn open_within(
         alloc: Global,
         config: Config,
@@ -114,7 +114,8 @@ impl Core {
         }
     }
 
-    /// The same of a base that has no fault, as `fault_in_base` tells, and with limits of one's own.
+    /// A core with the databases and the interfaces of the base, and these limits. The base has no fault, as `fault_in_base`
+    /// tells.
     pub fn open_sound(
         alloc: Global,
         base: Base,
@@ -157,9 +158,9 @@ impl Core {
         let state = match settled {
             Ok(()) => {
                 self.built = self.state.journal().len() as u64;
-                Standing::Current
+                Status::Current
             }
-            Err(Memory) => Standing::Behind,
+            Err(Memory) => Status::Behind,
         };
         Ok(Reply {
             serial,
@@ -170,7 +171,7 @@ impl Core {
 
     /// Builds table and due summaries anew, where they are behind; databases and journal stay as they are, and so does
     /// what `changes` and `work` tell of the last event.
-    pub fn catch_up(&mut self) -> Standing
+    pub fn catch_up(&mut self) -> Status
         ensures journal { self.new.journal ≡ self.old.journal }
         ensures base { self.new.base ≡ self.old.base }
         ensures limits { self.new.limits ≡ self.old.limits }
@@ -180,14 +181,14 @@ impl Core {
     {
         let count = self.state.journal().len() as u64;
         if self.built == count {
-            return Standing::Current;
+            return Status::Current;
         }
         match self.routes.rebuild(self.alloc, &self.state, self.hashing) {
             Ok(_) => {
                 self.built = count;
-                Standing::Current
+                Status::Current
             }
-            Err(Memory) => Standing::Behind,
+            Err(Memory) => Status::Behind,
         }
     }
 
@@ -240,20 +241,20 @@ impl Core {
 
     /// The summary-LSAs that are due in the area (RFC 2328, 12.4.3), ascending by LS type and destination: of the same
     /// events as the table. `None` where no such area is configured.
-    pub fn due(&self, area: u32) -> Option<&[Due]>
-        ensures value { option_map (λ list. list.now) result ≡ list_under self.now.dues area }
+    pub fn due(&self, area: u32) -> Option<&[DueSummary]>
+        ensures value { option_map (λ list. list.now) result ≡ list_under self.now.summaries area }
         ensures right { IsDueIn (built_state self.now) area (option_map (λ list. list.now) result) }
         ensures kept { IsCore self.now }
     {
-        self.routes.dues().get(area)
+        self.routes.summaries().get(area)
     }
 
     /// What is due in all areas.
-    pub fn dues(&self) -> &Dues
-        ensures value { lists_of result.now ≡ self.now.dues }
+    pub fn summaries(&self) -> &DueSummaries
+        ensures value { lists_of result.now ≡ self.now.summaries }
         ensures kept { IsCore self.now }
     {
-        self.routes.dues()
+        self.routes.summaries()
     }
 
     /// The networks whose item in the table the last taken event changed, ascending, each once. None is named where that
@@ -307,7 +308,8 @@ impl Core {
 
     /// Whether table and due summaries are those of the whole journal.
     pub fn is_current(&self) -> bool
-        ensures value { MatchBool result (IsCurrent self.now) (self.now.built < length self.now.journal) }
+        ensures value { MatchBool result (IsCurrent self.now)
+            (self.now.built < length self.now.journal) }
         ensures kept { IsCore self.now }
     {
         self.built == self.state.journal().len() as u64

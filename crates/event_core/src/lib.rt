@@ -10,8 +10,8 @@ mod routes;
 
 pub use config_faults::{ConfigFault, fault_in};
 pub use core_state::Core;
-pub use dues::{Due, Dues};
 pub use event_state::{Base, Event, Limits, Refusal};
-pub use reply::{Reply, Standing};
+pub use reply::{Reply, Status};
 pub use route_table as table;
 pub use spf::Touched;
+pub use summaries::{DueSummaries, DueSummary};

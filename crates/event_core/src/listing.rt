@@ -64,7 +64,8 @@ fn add_areas(
     state: &State,
     ids: &BTreeSet<u32>,
 ) -> Result<(), Memory>
-    ensures { OnOk result (found.new.items ≡ found.old.items ++ lsas_of_areas state.now ids.now.keys) }
+    ensures { OnOk result (found.new.items
+        ≡ found.old.items ++ lsas_of_areas state.now ids.now.keys) }
 {
     for id in ids {
         add_lsas(found, state, Scope::Area(*id))?;
@@ -99,7 +100,8 @@ fn add_rows(
     lsas: Vec<Checked>,
     scope: Scope,
 ) -> Result<(), Memory>
-    ensures { OnOk result (found.new.items ≡ found.old.items ++ list_map (λ l. (scope, l)) lsas.items) }
+    ensures { OnOk result (found.new.items
+        ≡ found.old.items ++ list_map (λ l. (scope, l)) lsas.items) }
 {
     for lsa in lsas {
         found.push((scope, lsa))?;

@@ -4,7 +4,7 @@ ghost use Rattle.event_state.specs.Refusals.{IsRefusalOf};
 ghost use Rattle.event_state.specs.Steps.{step};
 ghost use Rattle.calculation.specs.Active.{RangesDifferAt};
 ghost use Rattle.calculation.specs.Trees.{StatesDifferAmong};
-ghost use Rattle.event_core.specs.Named.{range_of};
+ghost use Rattle.event_core.specs.Named.{IsNamedBetween, IsRangeNamedBetween, range_of};
 
 use event_state::{Event, Refusal, State};
 use ospf_types::key::{Key, Scope};
@@ -23,8 +23,10 @@ pub(crate) struct Named {
 
 /// What the event may change, or its refusal where there is no room to say it.
 pub(crate) fn named_by(alloc: Global, state: &State, event: &Event) -> Result<Named, Refusal>
-    ensures named { IfOk result (λ named. StatesDifferAmong named.keys.items named.interfaces.items (is_some named.range) state.now (step state.now event.now)) }
-    ensures ranges { IfOk result (λ named. RangesDifferAt named.range state.now.config.areas (step state.now event.now).config.areas) }
+    ensures named { IfOk result (λ named.
+        IsNamedBetween named state.now (step state.now event.now)) }
+    ensures ranges { IfOk result (λ named.
+        IsRangeNamedBetween named state.now (step state.now event.now)) }
     ensures range { IfOk result (λ named. named.range ≡ range_of event.now) }
     ensures refused { IfErr result (IsRefusalOf state.now event.now) }
 {
@@ -35,8 +37,10 @@ pub(crate) fn named_by(alloc: Global, state: &State, event: &Event) -> Result<Na
 }
 
 fn changed_by(alloc: Global, state: &State, event: &Event) -> Result<Named, Memory>
-    ensures named { IfOk result (λ named. StatesDifferAmong named.keys.items named.interfaces.items (is_some named.range) state.now (step state.now event.now)) }
-    ensures ranges { IfOk result (λ named. RangesDifferAt named.range state.now.config.areas (step state.now event.now).config.areas) }
+    ensures named { IfOk result (λ named.
+        IsNamedBetween named state.now (step state.now event.now)) }
+    ensures ranges { IfOk result (λ named.
+        IsRangeNamedBetween named state.now (step state.now event.now)) }
     ensures range { IfOk result (λ named. named.range ≡ range_of event.now) }
 {
     if let Event::Interface { id, .. } = event {

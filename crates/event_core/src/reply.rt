@@ -1,9 +1,9 @@
 /// Whether the routing table is that of the state now.
 #[derive(Clone, Copy, Debug, PartialEq, Eq)]
-pub enum Standing {
+pub enum Status {
     /// The table is that of the state now.
     Current,
-    /// A growth was refused, and the table is that of an earlier prefix of the journal.
+    /// Memory ran out, and the table is that of an earlier prefix of the journal.
     Behind,
 }
 
@@ -14,5 +14,5 @@ pub struct Reply {
     pub serial: u64,
     /// Whether the usable LSAs (key, Options, body) or the interfaces differ from before.
     pub changed: bool,
-    pub state: Standing,
+    pub state: Status,
 }

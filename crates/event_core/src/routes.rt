@@ -6,18 +6,18 @@ ghost use Rattle.ospf_types.specs.Network.{network_cmp};
 ghost use Rattle.vertex_graph.specs.Graphs.{most_routers};
 ghost use Rattle.event_state.specs.Held.{AreFit};
 ghost use Rattle.event_state.specs.States.{AreApart, State as StateValue, LooksAlike, serial_of};
-ghost use Rattle.dues.specs.Dues.{lists_of};
+ghost use Rattle.summaries.specs.DueSummaries.{lists_of};
 ghost use Rattle.calculation.specs.Active.{RangesDifferAt};
 ghost use Rattle.calculation.specs.Calculations.{IsCalculationOf, IsTableOf};
 ghost use Rattle.calculation.specs.Trees.{StatesDifferAmong};
-ghost use Rattle.calculation.specs.Due.{AreDuesFor};
+ghost use Rattle.calculation.specs.Summaries.{AreSummariesFor};
 ghost use Rattle.calculation.specs.Totals.{IsBuildWork};
 ghost use Rattle.calculation.specs.Works.{IsEventWork};
 ghost use Rattle.event_core.specs.Following.{AreRoutesOf, AreChanges, AreOtherItems, IsOneMore, no_work};
+ghost use Rattle.event_core.specs.Named.{IsNamedBetween, IsRangeNamedBetween};
 
 use crate::named::Named;
 use calculation::Calculation;
-use dues::Dues;
 use event_state::State;
 use ospf_types::memory::Memory;
 use ospf_types::prefix::Prefix;
@@ -26,13 +26,14 @@ use spf::Touched;
 use std::alloc::Global;
 use std::hash::RandomState;
 use std::marker::Model;
+use summaries::DueSummaries;
 
 /// The routing table of a state and what is due in its areas, what both are calculated from, and what the last event
 /// changed.
 pub(crate) struct Routes {
     calculation: Calculation,
     table: Table,
-    dues: Dues,
+    summaries: DueSummaries,
     work: Touched,
     changes: Vec<Prefix>,
     // How often all was built.
@@ -45,7 +46,7 @@ impl Drop for Routes {
         let Routes {
             calculation: _calculation,
             table: _table,
-            dues: _dues,
+            summaries: _summaries,
             work: _,
             changes: _changes,
             builds: _,
@@ -56,15 +57,15 @@ impl Drop for Routes {
 impl Model for Routes {
     ghost use Rattle.std.specs.Coded.{Coded, codes};
     ghost use Rattle.calculation.specs.contracts.calculation.Calculation as kept;
-    ghost use Rattle.dues.specs.contracts.dues.Dues as kept_dues;
+    ghost use Rattle.summaries.specs.contracts.summaries.DueSummaries as kept_summaries;
     ghost use Rattle.route_table.specs.Tables.{TableValue, table_code};
     ghost use Rattle.event_core.specs.Following.{RoutesValue};
 
     ghost Value = { RoutesValue };
 
-    ghost coded = { let table : Coded TableValue = table_code in Prim.hlevel (codes, kept.the_row.coded, kept_dues.the_row.coded, table) };
+    ghost coded = { let table : Coded TableValue = table_code in Prim.hlevel (codes, kept.the_row.coded, kept_summaries.the_row.coded, table) };
 
-    ghost view = { λ r. record { calculation = r.calculation; table = r.table; dues = r.dues; work = r.work; changes = r.changes.items } };
+    ghost view = { λ r. record { calculation = r.calculation; table = r.table; summaries = r.summaries; work = r.work; changes = r.changes.items } };
 }
 
 impl Routes {
@@ -80,19 +81,18 @@ impl Routes {
         ensures work { IfOk result (λ routes. routes.work ≡ no_work) }
         ensures changes { IfOk result (λ routes. routes.changes ≡ []) }
     {
-        let (calculation, table, dues, _) = from_scratch(alloc, state, hashing)?;
+        let (calculation, table, summaries, _) = from_scratch(alloc, state, hashing)?;
         Ok(Routes {
             calculation,
             table,
-            dues,
+            summaries,
             work: Touched::none(),
             changes: Vec::new(alloc),
             builds: 1,
         })
     }
 
-    /// The same in the place of routes that are behind, and the work of building them. What is told of the last event
-    /// stays.
+    /// Builds all routes anew where they are behind. The answer is the work of that. What is told of the last event stays.
     pub(crate) fn rebuild(
         &mut self,
         alloc: Global,
@@ -105,19 +105,19 @@ impl Routes {
         ensures fit { OnOk result (AreFit state.now.config.areas state.now.databases) }
         ensures built { IfOk result (IsBuildWork state.now) }
         ensures unchanged { OnErr result (self.new.table ≡ self.old.table) }
-        ensures due { OnErr result (lists_of self.new.dues ≡ lists_of self.old.dues) }
+        ensures due { OnErr result (lists_of self.new.summaries ≡ lists_of self.old.summaries) }
         ensures work { self.new.work ≡ self.old.work }
         ensures changes { self.new.changes ≡ self.old.changes }
     {
-        let (calculation, table, dues, work) = from_scratch(alloc, state, hashing)?;
+        let (calculation, table, summaries, work) = from_scratch(alloc, state, hashing)?;
         self.calculation = calculation;
         self.table = table;
-        self.dues = dues;
+        self.summaries = summaries;
         self.builds = self.builds.wrapping_add(1);
         Ok(work)
     }
 
-    /// The same after an event, of which the work is told, and no network is named.
+    /// Builds all routes anew after an event. Its work is told, and no network is named.
     pub(crate) fn start_anew(
         &mut self,
         alloc: Global,
@@ -130,7 +130,7 @@ impl Routes {
         ensures fit { OnOk result (AreFit state.now.config.areas state.now.databases) }
         ensures built { OnOk result (IsBuildWork state.now self.new.work) }
         ensures unchanged { OnErr result (self.new.table ≡ self.old.table) }
-        ensures due { OnErr result (lists_of self.new.dues ≡ lists_of self.old.dues) }
+        ensures due { OnErr result (lists_of self.new.summaries ≡ lists_of self.old.summaries) }
         ensures work { OnErr result (self.new.work ≡ no_work) }
         ensures changes { self.new.changes ≡ [] }
     {
@@ -149,13 +149,21 @@ impl Routes {
         named: Named,
     ) -> Result<(), Memory>
         requires few { state.now.limits.area_lsas ≤ most_routers }
-        requires before { (before : StateValue) × AreFit before.config.areas before.databases × AreRoutesOf before self.old × StatesDifferAmong named.keys.items named.interfaces.items (is_some named.range) before state.now × (changed ≡ false → LooksAlike before state.now) × RangesDifferAt named.range before.config.areas state.now.config.areas }
+        requires before { (before : StateValue) × AreFit before.config.areas before.databases
+            × AreRoutesOf before self.old × IsNamedBetween named before state.now
+            × (changed ≡ false → LooksAlike before state.now)
+            × IsRangeNamedBetween named before state.now }
         ensures right { OnOk result (AreRoutesOf state.now self.new) }
         ensures fit { OnOk result (AreFit state.now.config.areas state.now.databases) }
-        ensures exact { OnOk result (AreChanges self.old.table.items self.new.table.items self.new.changes) }
-        ensures bounded { OnOk result ((before : StateValue) → AreFit before.config.areas before.databases → AreRoutesOf before self.old → StatesDifferAmong named.keys.items named.interfaces.items (is_some named.range) before state.now → (changed ≡ false → LooksAlike before state.now) → IsEventWork before state.now self.new.work) }
+        ensures exact { OnOk result (AreChanges self.old.table.items self.new.table.items
+            self.new.changes) }
+        ensures bounded { OnOk result ((before : StateValue)
+            → AreFit before.config.areas before.databases → AreRoutesOf before self.old
+            → IsNamedBetween named before state.now
+            → (changed ≡ false → LooksAlike before state.now)
+            → IsEventWork before state.now self.new.work) }
         ensures unchanged { OnErr result (self.new.table ≡ self.old.table) }
-        ensures due { OnErr result (lists_of self.new.dues ≡ lists_of self.old.dues) }
+        ensures due { OnErr result (lists_of self.new.summaries ≡ lists_of self.old.summaries) }
         ensures work { OnErr result (self.new.work ≡ no_work) }
         ensures changes { OnErr result (self.new.changes ≡ []) }
     {
@@ -175,10 +183,10 @@ impl Routes {
         &self.table
     }
 
-    pub(crate) fn dues(&self) -> &Dues
-        ensures { result.now ≡ self.now.dues }
+    pub(crate) fn summaries(&self) -> &DueSummaries
+        ensures { result.now ≡ self.now.summaries }
     {
-        &self.dues
+        &self.summaries
     }
 
     pub(crate) fn changes(&self) -> &[Prefix]
@@ -212,14 +220,18 @@ impl Routes {
     // be refused memory; due summaries have room for theirs by then.
     fn follow(&mut self, alloc: Global, state: &State, named: Named) -> Result<(), Memory>
         requires few { state.now.limits.area_lsas ≤ most_routers }
-        requires before { (before : StateValue) × AreRoutesOf before self.old × StatesDifferAmong named.keys.items named.interfaces.items (is_some named.range) before state.now × RangesDifferAt named.range before.config.areas state.now.config.areas }
+        requires before { (before : StateValue) × AreRoutesOf before self.old
+            × IsNamedBetween named before state.now × IsRangeNamedBetween named before state.now }
         ensures calculation { OnOk result (IsCalculationOf state.now self.new.calculation) }
         ensures items { OnOk result (IsTableOf self.new.calculation self.new.table.items) }
-        ensures dues { OnOk result (AreDuesFor state.now self.new.calculation self.new.dues) }
-        ensures exact { OnOk result (AreChanges self.old.table.items self.new.table.items self.new.changes) }
-        ensures bounded { OnOk result ((before : StateValue) → AreRoutesOf before self.old → StatesDifferAmong named.keys.items named.interfaces.items (is_some named.range) before state.now → IsEventWork before state.now self.new.work) }
+        ensures summaries { OnOk result (AreSummariesFor state.now self.new.calculation
+            self.new.summaries) }
+        ensures exact { OnOk result (AreChanges self.old.table.items self.new.table.items
+            self.new.changes) }
+        ensures bounded { OnOk result ((before : StateValue) → AreRoutesOf before self.old
+            → IsNamedBetween named before state.now → IsEventWork before state.now self.new.work) }
         ensures unchanged { OnErr result (self.new.table ≡ self.old.table) }
-        ensures due { OnErr result (lists_of self.new.dues ≡ lists_of self.old.dues) }
+        ensures due { OnErr result (lists_of self.new.summaries ≡ lists_of self.old.summaries) }
         ensures work { OnErr result (self.new.work ≡ self.old.work) }
         ensures changes { OnErr result (self.new.changes ≡ self.old.changes) }
     {
@@ -235,9 +247,9 @@ impl Routes {
         let changes = networks_of(alloc, &items)?;
         let plan = self
             .calculation
-            .plan_dues(alloc, state, &mut self.dues, &told.dests)?;
+            .plan_summaries(alloc, state, &mut self.summaries, &told.dests)?;
         self.table.change(alloc, items)?;
-        self.dues.carry_out(plan);
+        self.summaries.carry_out(plan);
         self.work = told.work;
         self.changes = changes;
         Ok(())
@@ -249,13 +261,13 @@ fn from_scratch(
     alloc: Global,
     state: &State,
     hashing: RandomState,
-) -> Result<(Calculation, Table, Dues, Touched), Memory>
+) -> Result<(Calculation, Table, DueSummaries, Touched), Memory>
     requires few { state.now.limits.area_lsas ≤ most_routers }
     requires apart { AreApart state.now.config.areas }
     ensures calculation { IfOk result (λ built. IsCalculationOf state.now built.0) }
     ensures items { IfOk result (λ built. IsTableOf built.0 built.1.items) }
     ensures serial { IfOk result (λ built. built.1.serial ≡ serial_of state.now) }
-    ensures dues { IfOk result (λ built. AreDuesFor state.now built.0 built.2) }
+    ensures summaries { IfOk result (λ built. AreSummariesFor state.now built.0 built.2) }
     ensures fit { IfOk result (λ built. AreFit state.now.config.areas state.now.databases) }
     ensures work { IfOk result (λ built. IsBuildWork state.now built.3) }
 {
@@ -263,8 +275,8 @@ fn from_scratch(
     // proof: what holds of the databases of every state.
     let _ = state.config();
     let table = calculation.table(alloc, state.serial(), hashing)?;
-    let dues = calculation.dues(alloc, state)?;
-    Ok((calculation, table, dues, work))
+    let summaries = calculation.summaries(alloc, state)?;
+    Ok((calculation, table, summaries, work))
 }
 
 // Those of the networks for which the table has to have another item, each with that item.
@@ -275,7 +287,8 @@ fn other_items(
     networks: &[Prefix],
 ) -> Result<Vec<NewItem>, Memory>
     requires { IsStrictlySortedBy network_cmp networks.now }
-    ensures { IfOk result (λ items. AreOtherItems calculation.now table.now.items networks.now items.items) }
+    ensures { IfOk result (λ items.
+        AreOtherItems calculation.now table.now.items networks.now items.items) }
 {
     let mut items = Vec::with_capacity(alloc, networks.len())?;
     let mut next = 0;
@@ -294,7 +307,8 @@ fn push_other(
     next: &mut usize,
     items: &mut Vec<NewItem>,
 ) -> Result<(), Memory>
-    ensures { OnOk result (IsOneMore calculation.now table.now.items network items.old.items items.new.items) }
+    ensures { OnOk result (IsOneMore calculation.now table.now.items network
+        items.old.items items.new.items) }
 {
     let Some(item) = calculation.new_item(alloc, table, network, next)? else {
         return Ok(());

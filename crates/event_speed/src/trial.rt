@@ -6,7 +6,7 @@ use crate::choices::{below, one_in};
 use crate::routers::{BORDER, BOUNDARY, NETWORKS, ROUTERS, member, point, router_id, stub};
 use anyhow::Result;
 use event_core::table::{Item, Table};
-use event_core::{Core, Dues, Event};
+use event_core::{Core, DueSummaries, Event};
 use ospf_types::config::{AreaConfig, Areas, Config, Ranges};
 use ospf_types::key::Scope;
 use ospf_types::memory::Memory;
@@ -176,7 +176,8 @@ fn opened<R: AllocGlobal + RandomSource>(rt: &R, text: &[u8]) -> Result<Core> {
 
 // Whether both have the same routes, and the same summary-LSAs are due.
 fn are_same(one: &Core, other: &Core) -> bool {
-    have_same_routes(one.table(), other.table()) && are_same_dues(one.dues(), other.dues())
+    have_same_routes(one.table(), other.table())
+        && have_same_summaries(one.summaries(), other.summaries())
 }
 
 fn have_same_routes(one: &Table, other: &Table) -> bool {
@@ -198,7 +199,7 @@ fn is_same(one: &Item, other: &Item) -> bool {
     }
 }
 
-fn are_same_dues(one: &Dues, other: &Dues) -> bool {
+fn have_same_summaries(one: &DueSummaries, other: &DueSummaries) -> bool {
     let (ones, others) = (one.areas(), other.areas());
     ones.len() == others.len()
         && ones.iter().zip(others).all(|(one, other)| {

@@ -38,21 +38,29 @@ is_same_place x y = is_scope x.0 y.0 && eq_by_cmp key_cmp (key_of x.1) (key_of y
 abbrev pub is_doubled : Base → Bool
 is_doubled b = has_twice is_same_id b.interfaces || has_twice is_same_place b.lsas
 
+-- the area of an interface is not configured
+abbrev pub has_interface_outside : List AreaConfig → List (ℕ × Interface) → Bool
+has_interface_outside areas interfaces = list_any (λ x. is_none (place_of areas (scope.Area x.1.area))) interfaces
+
+-- the area of an LSA's scope is not configured
+abbrev pub has_lsa_outside : List AreaConfig → List (Scope × Lsa) → Bool
+has_lsa_outside areas lsas = list_any (λ x. is_none (place_of areas x.0)) lsas
+
 -- the area of an interface, or that of an LSA's scope, is not configured
 abbrev pub lacks_an_area : Base → Bool
-lacks_an_area b =
-    list_any (λ x. is_none (place_of b.config.areas (scope.Area x.1.area))) b.interfaces
-    || list_any (λ x. is_none (place_of b.config.areas x.0)) b.lsas
+lacks_an_area b = has_interface_outside b.config.areas b.interfaces || has_lsa_outside b.config.areas b.lsas
 
 -- an AS-external-LSA stands under an area, or another one under the AS
 abbrev pub has_misplaced : Base → Bool
 has_misplaced b = list_any (λ x. is_out_of_scope x.0 x.1.header.kind) b.lsas
 
+-- an area has more LSAs than so many
+abbrev pub has_overfull_area : List AreaConfig → List (Scope × Lsa) → (most : ℕ) → Bool
+has_overfull_area areas lsas most = list_any (λ (a : AreaConfig). nat_lt most (length (lsas_under lsas (scope.Area a.id)))) areas
+
 -- a configured scope has more LSAs than it may
 abbrev pub is_overfull : Limits → Base → Bool
-is_overfull limits b =
-    list_any (λ (a : AreaConfig). nat_lt limits.area_lsas (length (lsas_under b.lsas (scope.Area a.id)))) b.config.areas
-    || nat_lt limits.externals (length (lsas_under b.lsas scope.As))
+is_overfull limits b = has_overfull_area b.config.areas b.lsas limits.area_lsas || nat_lt limits.externals (length (lsas_under b.lsas scope.As))
 
 -- both are up, and have one address
 abbrev pub is_same_address : ℕ × Interface → ℕ × Interface → Bool
@@ -84,6 +92,6 @@ after_config None others = others
 abbrev pub after_doubled : Bool → Option BaseFault → Option BaseFault
 after_doubled doubled others = if doubled then Some base_fault.Doubled else others
 
--- the first fault that the base has; none where a state can be made from it
+-- the first fault that the base has; none if a state can be made from it
 abbrev pub base_fault_of : Limits → Base → Option BaseFault
 base_fault_of limits b = after_config (config_fault_of b.config) (after_doubled (is_doubled b) (unfit_fault (unfit_of limits b)))

@@ -16,10 +16,11 @@ use Rattle.event_state.specs.declared.base.Base.{Base}
 abbrev pub most_serial : ℕ
 most_serial = 18446744073709551615
 
--- a configuration alone
+-- a configuration only: serial 0, no interfaces and no LSAs
 abbrev pub bare : Config → Base
 bare config = record { config = config; serial = 0; interfaces = []; lsas = [] }
 
+-- both are one scope
 abbrev pub is_scope : Scope → Scope → Bool
 is_scope (scope.Area a) (scope.Area b) = a == b
 is_scope scope.As scope.As = true

@@ -14,7 +14,7 @@ use Rattle.lsdb.specs.Contents.{IsSound}
 use Rattle.event_state.specs.declared.limits.Limits.{Limits}
 use Rattle.event_state.specs.Bases.{most_serial, databases_in}
 use Rattle.event_state.specs.Changes.{lsas_in, limits_in}
-use Rattle.event_state.specs.States.{AreApart, place_of}
+use Rattle.event_state.specs.States.{AreApart, State, place_of}
 use Rattle.event_state.specs.Steps.{is_out_of_scope, limit_of}
 
 -- a scope's database: each LSA under its own key, in the grammar and in its scope
@@ -22,7 +22,7 @@ pub record IsFit (at : Scope) (d : Database) : Type 0 where
   pub sound : IsSound d
   pub placed : (k : Key) (l : Lsa) → get d k ≡ Some l → is_out_of_scope at l.header.kind ≡ false
 
--- there is one database for each area, and one for the AS; where two areas have one Area ID, that of the later stays empty
+-- there is one database for each area, and one for the AS; if two areas have one Area ID, that of the later stays empty
 pub record AreKept (areas : List AreaConfig) (databases : List Database) : Type 0 where
   pub places : length databases ≡ length areas + 1
   pub fit : (at : Scope) (k : ℕ) → place_of areas at ≡ Some k → IsFit at (slice_index_or databases k empty)
@@ -33,6 +33,10 @@ pub record AreFit (areas : List AreaConfig) (databases : List Database) : Type 0
   pub apart : AreApart areas
   pub places : length databases ≡ length areas + 1
   pub fit : (at : Scope) (k : ℕ) → place_of areas at ≡ Some k → IsFit at (slice_index_or databases k empty)
+
+-- if no two areas have one Area ID, each database is that of its scope
+abbrev pub HasFitDatabases : State → Type 0
+HasFitDatabases s = AreApart s.config.areas → AreFit s.config.areas s.databases
 
 -- each database has the limit of its scope
 abbrev pub AreLimited : List AreaConfig → Limits → List ℕ → Type 0

@@ -13,8 +13,8 @@ use Rattle.event_state.specs.Steps.{refusal_of, early_tests_of, lasting_refusal_
 abbrev pub IsRefusalOf : State → Event → Refusal → Type 0
 IsRefusalOf s e r = (refusal_of s e ≡ Some r) ⊎ ((r ≡ refusal.Memory) × (refusal_of s e ≡ None))
 
--- The same without the test of the journal, which knows only how many events were taken since the base: another refusal of the table, or Memory where there is
--- none. It is that of a full journal only where none of the tests before refuses.
+-- The first of the table that holds, without the test of the journal, which knows only how many events were taken since the base; or Memory if none does. It
+-- is that of a full journal only if none of the tests before refuses.
 abbrev pub IsLastingRefusalOf : State → Event → Refusal → Type 0
 IsLastingRefusalOf s e r =
     (lasting_refusal_of s e ≡ Some r)

@@ -5,11 +5,11 @@ use Rattle.event_state.specs.declared.base.Base.{Base}
 use Rattle.event_state.specs.declared.event.Event.{Event}
 use Rattle.event_state.specs.declared.limits.Limits.{Limits}
 use Rattle.event_state.specs.BaseFaults.{base_fault_of}
-use Rattle.event_state.specs.States.{State, serial_of}
+use Rattle.event_state.specs.States.{AreApart, State, serial_of}
 use Rattle.event_state.specs.Steps.{opening, run_of, IsLegalList}
 use Rattle.event_state.specs.Listings.{AreLsas}
 
--- the same databases, interfaces and configuration, with this base and no event since
+-- the state with this base and no event since; its databases, interfaces and configuration stay
 abbrev pub since : Base → State → State
 since b s = record s { base = b; journal = [] }
 
@@ -25,6 +25,10 @@ pub record IsRolled (first : Base) (limits : Limits) (rolled : List Event) (b : 
   pub legal : IsLegalList first limits rolled
   pub state : opening b limits ≡ since b (run_of first limits rolled)
   pub serial : b.serial ≡ first.serial + length rolled
+
+-- if no two areas have one Area ID, the state is that with which the base begins
+abbrev pub BeginsAgain : (old : State) (base : Base) (new : State) → Type 0
+BeginsAgain old base new = AreApart old.config.areas → new ≡ opening base old.limits
 
 -- a base that is the state as it is has no fault
 abbrev pub CanBeRolled : State → Type 0

@@ -1,8 +1,8 @@
 -- The state that events change (RFC 2328, 13.2 and 14), and what is calculated from.
-use Rattle.std.specs.Prelude.{ℕ, ◌≡◌, ◌≢◌, ◌<◌, ◌+◌, ◌==◌, length, List, [], map, position, slice_index_or, slice_set, Option, Some, None, option_map, option_and_then}
+use Rattle.std.specs.Prelude.{ℕ, ◌≡◌, ◌≢◌, ◌<◌, ◌+◌, ◌==◌, ◌↔◌, Bool, false, length, List, [], map, position, slice_index_or, slice_set, Option, Some, None, option_map, option_and_then}
 use Rattle.std.specs.Ordering.{nat_cmp}
 use Rattle.std.specs.BTreeMap.{BTreeMap}
-use Rattle.std.specs.FinMap.{FinMap, from_entries, entries, values, empty}
+use Rattle.std.specs.FinMap.{FinMap, from_entries, entries, values, empty, get, insert}
 use Rattle.ospf_types.specs.declared.config.Config.{Config}
 use Rattle.ospf_types.specs.declared.config.AreaConfig.{AreaConfig}
 use Rattle.ospf_types.specs.declared.config.Interface.{Interface}
@@ -33,6 +33,14 @@ serial_of s = s.base.serial + length s.journal
 abbrev pub interfaces_of : BTreeMap ℕ Interface → FinMap nat_cmp Interface
 interfaces_of m = from_entries m.entries
 
+-- the interface stands under the id, and all others are as they were
+abbrev pub PutsInterface : (old new : BTreeMap ℕ Interface) → ℕ → Interface → Type 0
+PutsInterface old new id i = interfaces_of new ≡ insert (interfaces_of old) id i
+
+-- the answer is false exactly if the id has this interface
+abbrev pub TellsInterface : BTreeMap ℕ Interface → ℕ → Interface → (changed : Bool) → Type 0
+TellsInterface m id i changed = (changed ≡ false) ↔ (get (interfaces_of m) id ≡ Some i)
+
 -- no two areas have one Area ID
 abbrev pub AreApart : List AreaConfig → Type 0
 AreApart areas = (i j : ℕ) (d : AreaConfig) → i < j → j < length areas → (slice_index_or areas i d).id ≢ (slice_index_or areas j d).id
@@ -42,7 +50,7 @@ abbrev pub place_of : List AreaConfig → Scope → Option ℕ
 place_of areas (scope.Area id) = position (λ a. a.id == id) areas
 place_of areas scope.As = Some (length areas)
 
--- the database of a scope, where there is one
+-- the database of a scope, if there is one
 abbrev pub database_of : State → Scope → Option Database
 database_of s at = option_map (λ k. slice_index_or s.databases k empty) (place_of s.config.areas at)
 
@@ -55,6 +63,7 @@ changed_at_place s change (Some k) = record s { databases = slice_set s.database
 abbrev pub with_change : State → Scope → (Database → Database) → State
 with_change s at change = changed_at_place s change (place_of s.config.areas at)
 
+-- the LSAs of the database, if there is one
 abbrev pub lsas_of : Option Database → List Lsa
 lsas_of None = []
 lsas_of (Some d) = values d
@@ -73,8 +82,12 @@ inputs_of s = record {
 abbrev pub usable_at : State → Scope → Key → Option (ℕ × Body)
 usable_at s at key = option_and_then (λ d. used_at d key) (database_of s at)
 
--- the same usable LSAs (key, Options, body), the same interfaces, and the same configuration
+-- the usable LSAs (key, Options, body), the interfaces and the configuration are equal
 pub record LooksAlike (s t : State) : Type 0 where
   pub config : s.config ≡ t.config
   pub usable : (at : Scope) (key : Key) → usable_at s at key ≡ usable_at t at key
   pub interfaces : s.interfaces ≡ t.interfaces
+
+-- the answer is false exactly if the two look alike
+abbrev pub TellsChange : (s t : State) → (changed : Bool) → Type 0
+TellsChange s t changed = (changed ≡ false) ↔ LooksAlike s t

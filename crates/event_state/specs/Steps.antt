@@ -20,8 +20,9 @@ use Rattle.event_state.specs.declared.limits.Limits.{Limits}
 use Rattle.event_state.specs.declared.refusal.Refusal.{Refusal}
 use Rattle.event_state.specs.declared.refusal.Refusal.TheVariants as refusal
 use Rattle.event_state.specs.Bases.{most_serial, databases_in, interfaces_in}
-use Rattle.event_state.specs.RangeEvents.{ranges_of, is_one_too_many, with_changed_ranges}
-use Rattle.event_state.specs.States.{State, serial_of, place_of, database_of, with_change}
+use Rattle.event_state.specs.declared.ranges.RangeChange.{RangeChange}
+use Rattle.event_state.specs.RangeEvents.{changed_ranges, ranges_of, is_one_too_many, with_changed_ranges}
+use Rattle.event_state.specs.States.{State, serial_of, place_of, database_of, with_change, TellsChange}
 
 -- ---- the tests, a line of the table of refusals each
 
@@ -118,11 +119,12 @@ limit_of limits scope.As = limits.externals
 abbrev pub standard_limits : Limits
 standard_limits = record { area_lsas = 16384; externals = 65536; events = 1000000 }
 
+-- the LSA has a new key, and the database, if there is one, is at its limit
 abbrev pub is_full_in : ℕ → Lsa → Option Database → Bool
 is_full_in limit lsa None = false
 is_full_in limit lsa (Some d) = is_full_for d limit lsa
 
--- a new key where the database is at its limit
+-- the LSA has a new key, and the database of the scope is at its limit
 abbrev pub is_full : State → Event → Bool
 is_full s (event.Install at lsa) = is_full_in (limit_of s.limits at) lsa (database_of s at)
 is_full s (event.Flush at key) = false
@@ -132,7 +134,7 @@ is_full s (event.RangeSet area prefix advertise) = false
 is_full s (event.RangeDrop area prefix) = false
 is_full s event.Second = false
 
--- as many events were taken since the base as the journal may hold, or the last serial is given
+-- the journal has as many events as it may hold, or the last serial is given
 abbrev pub is_journal_full : State → Bool
 is_journal_full s = nat_le s.limits.events (length s.journal) || nat_le most_serial (serial_of s)
 
@@ -184,6 +186,14 @@ is_range_full s (event.RangeSet area prefix advertise) = is_one_too_many prefix 
 is_range_full s (event.RangeDrop area prefix) = false
 is_range_full s event.Second = false
 
+-- the interface is set up so
+abbrev pub interface_event : (id : ℕ) → Interface → Event
+interface_event id i = event.Interface id i.area i.address i.peer i.up
+
+-- the range of the area is set
+abbrev pub range_set_event : (area : ℕ) → Range → Event
+range_set_event area range = event.RangeSet area range.prefix range.advertise
+
 -- the table of refusals, in its order: the tests before that of the journal
 abbrev pub early_tests_of : State → Event → List (Bool × Refusal)
 early_tests_of s e =
@@ -206,10 +216,11 @@ late_tests_of s e =
     ∷ (is_range_full s e, refusal.RangeFull)
     ∷ []
 
+-- the whole table, with the test of the journal in its place
 abbrev pub tests_of : State → Event → List (Bool × Refusal)
 tests_of s e = early_tests_of s e ++ (is_journal_full s, refusal.JournalFull) ∷ late_tests_of s e
 
--- the first refusal of the table that holds; none where the event is taken
+-- the first refusal of the table that holds; none if the event is taken
 abbrev pub refusal_of : State → Event → Option Refusal
 refusal_of s e = first_of (tests_of s e)
 
@@ -233,11 +244,17 @@ pub record IsAccepted (s : State) (e : Event) : Type 0 where
 
 -- ---- what an event does
 
+-- the interface stands under the id
 abbrev pub with_interface : State → ℕ → Interface → State
 with_interface s id i = record s { interfaces = insert s.interfaces id i }
 
+-- the ranges of the area are changed so
 abbrev pub with_range_change : State → ℕ → (List Range → List Range) → State
 with_range_change s area change = record s { config = with_changed_ranges s.config area change }
+
+-- a range of the area is set or dropped
+abbrev pub with_ranges_by : State → (area : ℕ) → RangeChange → State
+with_ranges_by s area change = with_range_change s area (changed_ranges change)
 
 -- the databases, the interfaces and the ranges after the event
 abbrev pub changed_by : State → Event → State
@@ -248,6 +265,18 @@ changed_by s (event.Interface id area address peer up) = with_interface s id (re
 changed_by s (event.RangeSet area prefix advertise) = with_range_change s area (set_range (range_with prefix advertise))
 changed_by s (event.RangeDrop area prefix) = with_range_change s area (drop_range prefix)
 changed_by s event.Second = record s { databases = map all_aged s.databases }
+
+-- the answer is false exactly if the state looks alike after the event
+abbrev pub TellsChangeBy : State → Event → (changed : Bool) → Type 0
+TellsChangeBy s e changed = TellsChange s (changed_by s e) changed
+
+-- the answer is false exactly if the state looks alike with the interface
+abbrev pub TellsInterfaceChange : State → (id : ℕ) → Interface → (changed : Bool) → Type 0
+TellsInterfaceChange s id i changed = TellsChange s (with_interface s id i) changed
+
+-- the answer is false exactly if the state looks alike after the change of ranges
+abbrev pub TellsRangeChange : State → (area : ℕ) → RangeChange → (changed : Bool) → Type 0
+TellsRangeChange s area change changed = TellsChange s (with_ranges_by s area change) changed
 
 -- the state after an event that is taken
 abbrev pub step : State → Event → State
@@ -271,6 +300,7 @@ abbrev pub run_from : State → List Event → State
 run_from s [] = s
 run_from s (e ∷ es) = run_from (step s e) es
 
+-- the state after these events, from the base on
 abbrev pub run_of : Base → Limits → List Event → State
 run_of base limits events = run_from (opening base limits) events
 

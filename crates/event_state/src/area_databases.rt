@@ -1,12 +1,11 @@
 //! The databases of the areas, and of the AS behind them: a change to the one at a place.
-ghost use Rattle.std.specs.Prelude.{◌≡◌, ◌↔◌, ◌<◌, None, false, OnOk, OnErr, IfOk, All, length, slice_index_or, slice_set, map as list_map};
+ghost use Rattle.std.specs.Prelude.{◌≡◌, ◌↔◌, ◌<◌, None, false, OnOk, OnErr, IfOk, All, length, map as list_map};
 ghost use Rattle.std.specs.FinMap as map;
-ghost use Rattle.ospf_types.specs.Lsa.{key_of};
 ghost use Rattle.lsa_codec.specs.Spelling.{IsLegal};
-ghost use Rattle.lsdb.specs.Databases.{all_aged, aged_out, install_refusal_of, purge_refusal_of};
-ghost use Rattle.lsdb.specs.Contents.{used_at, IsUsedAlike, NoneComes};
+ghost use Rattle.lsdb.specs.Databases.{aged_out};
+ghost use Rattle.lsdb.specs.Contents.{NoneComes};
 ghost use Rattle.event_state.specs.BaseFaults.{base_fault_of};
-ghost use Rattle.event_state.specs.Changes.{IsChange, no_database, aged_value, empty_values};
+ghost use Rattle.event_state.specs.Changes.{CanBePurgedAt, FitsAt, IsChange, PutsLsa, TellsAgedAt, TellsPutAt, aged_value, empty_values};
 ghost use Rattle.event_state.specs.Held.{AreFilled};
 
 use crate::base::Base;
@@ -21,10 +20,10 @@ use std::alloc::Global;
 // Puts the LSA into the database at the place. The answer is whether what is used of it differs.
 pub(crate) fn put_at(databases: &mut [Database], place: usize, lsa: Checked) -> Result<bool, Memory>
     requires within { place < length databases.old }
-    requires fits { let d = slice_index_or databases.old place no_database in install_refusal_of d.lsas d.limit lsa ≡ None }
+    requires fits { FitsAt databases.old place lsa }
     ensures unchanged { OnErr result (databases.new ≡ databases.old) }
-    ensures done { OnOk result (IsChange databases.old databases.new place (λ d. map.insert d (key_of lsa) lsa)) }
-    ensures changed { IfOk result (λ changed. (changed ≡ false) ↔ IsUsedAlike (slice_index_or databases.old place no_database).lsas lsa) }
+    ensures done { OnOk result (PutsLsa databases.old databases.new place lsa) }
+    ensures changed { IfOk result (TellsPutAt databases.old place lsa) }
     ensures legal { IsLegal lsa }
 {
     let database = &mut databases[place];
@@ -56,7 +55,7 @@ pub(crate) fn put_all(
 pub(crate) fn age_out_at(databases: &mut [Database], place: usize, key: Key) -> bool
     requires { place < length databases.old }
     ensures done { IsChange databases.old databases.new place (λ d. aged_out d key) }
-    ensures changed { (result ≡ false) ↔ (used_at (slice_index_or databases.old place no_database).lsas key ≡ None) }
+    ensures changed { TellsAgedAt databases.old place key result }
 {
     let database = &mut databases[place];
     match database.age_out(key) {
@@ -68,7 +67,7 @@ pub(crate) fn age_out_at(databases: &mut [Database], place: usize, key: Key) -> 
 // Takes the LSA under the key, which is at MaxAge, out of the database at the place.
 pub(crate) fn purge_at(databases: &mut [Database], place: usize, key: Key)
     requires within { place < length databases.old }
-    requires allowed { purge_refusal_of (map.get (slice_index_or databases.old place no_database).lsas key) ≡ None }
+    requires allowed { CanBePurgedAt databases.old place key }
     ensures { IsChange databases.old databases.new place (λ d. map.remove d key) }
 {
     let database = &mut databases[place];

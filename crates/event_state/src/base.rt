@@ -35,7 +35,7 @@ impl Drop for Base {
 }
 
 impl Base {
-    /// A configuration alone: serial 0, no interfaces and no LSAs.
+    /// A configuration only: serial 0, no interfaces and no LSAs.
     pub fn bare(alloc: Global, config: Config) -> Base
         ensures { result ≡ bare config }
     {

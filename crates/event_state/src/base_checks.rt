@@ -3,7 +3,7 @@ ghost use Rattle.std.specs.Prelude.{◌≡◌, true, None, IfErr, IfOk, length, 
 ghost use Rattle.std.specs.List.{list_any};
 ghost use Rattle.config_faults.specs.Configs.{config_fault_of};
 ghost use Rattle.event_state.specs.Bases.{lsas_under};
-ghost use Rattle.event_state.specs.BaseFaults.{base_fault_of, unfit_of, unfit_fault, is_doubled, has_twice, is_same_id, is_same_place, is_same_address, lacks_an_area, is_overfull};
+ghost use Rattle.event_state.specs.BaseFaults.{base_fault_of, unfit_of, unfit_fault, is_doubled, has_twice, is_same_id, is_same_place, is_same_address, has_interface_outside, has_lsa_outside, has_overfull_area, lacks_an_area, is_overfull};
 ghost use Rattle.event_state.specs.Ascending.{scoped_key, scoped_cmp, is_ascending, is_before_first, ids_ascend, is_before_first_id, is_ordered};
 ghost use Rattle.event_state.specs.States.{place_of};
 ghost use Rattle.event_state.specs.Steps.{is_out_of_scope};
@@ -176,7 +176,7 @@ fn is_before_first(lsa: &(Scope, Checked), lsas: &[(Scope, Checked)]) -> bool
     }
 }
 
-/// What no event could have made of the base's configuration. Where nothing in the base is listed twice, this is
+/// What no event could have made of the base's configuration. If nothing in the base is listed twice, this is
 /// its fault behind those of the configuration.
 pub fn unfit_in(base: &Base, limits: Limits) -> Option<Unfit>
     ensures { result ≡ unfit_of limits base.now }
@@ -204,7 +204,7 @@ fn lacks_an_area(base: &Base) -> bool
 }
 
 fn has_interface_outside(areas: &[AreaConfig], interfaces: &[(u8, Interface)]) -> bool
-    ensures { result ≡ list_any (λ x. is_none (place_of areas.now (Scope.Area x.1.area))) interfaces.now }
+    ensures { result ≡ has_interface_outside areas.now interfaces.now }
 {
     interfaces
         .iter()
@@ -212,7 +212,7 @@ fn has_interface_outside(areas: &[AreaConfig], interfaces: &[(u8, Interface)]) -
 }
 
 fn has_lsa_outside(areas: &[AreaConfig], lsas: &[(Scope, Checked)]) -> bool
-    ensures { result ≡ list_any (λ x. is_none (place_of areas.now x.0)) lsas.now }
+    ensures { result ≡ has_lsa_outside areas.now lsas.now }
 {
     lsas.iter().any(|listed| is_outside(areas, listed.0))
 }
@@ -246,7 +246,7 @@ fn is_overfull(base: &Base, limits: Limits) -> bool
 }
 
 fn has_overfull_area(areas: &[AreaConfig], lsas: &[(Scope, Checked)], most: u32) -> bool
-    ensures { result ≡ list_any (λ a. nat_lt most (length (lsas_under lsas.now (Scope.Area a.id)))) areas.now }
+    ensures { result ≡ has_overfull_area areas.now lsas.now most }
 {
     areas.iter().any(|area| is_more(count_under(lsas, Scope::Area(area.id)), most))
 }

@@ -53,19 +53,13 @@ impl Event {
     pub fn copy(&self, alloc: Global) -> Result<Event, Memory>
         ensures { IfOk result (λ event. event ≡ self.now) }
     {
-        match self {
-            Event::Install { scope, lsa } => Ok(Event::Install {
-                scope: *scope,
+        match *self {
+            Event::Install { scope, ref lsa } => Ok(Event::Install {
+                scope,
                 lsa: lsa.copy(alloc)?,
             }),
-            Event::Flush { scope, key } => Ok(Event::Flush {
-                scope: *scope,
-                key: *key,
-            }),
-            Event::Purge { scope, key } => Ok(Event::Purge {
-                scope: *scope,
-                key: *key,
-            }),
+            Event::Flush { scope, key } => Ok(Event::Flush { scope, key }),
+            Event::Purge { scope, key } => Ok(Event::Purge { scope, key }),
             Event::Interface {
                 id,
                 area,
@@ -73,25 +67,22 @@ impl Event {
                 peer,
                 up,
             } => Ok(Event::Interface {
-                id: *id,
-                area: *area,
-                address: *address,
-                peer: *peer,
-                up: *up,
+                id,
+                area,
+                address,
+                peer,
+                up,
             }),
             Event::RangeSet {
                 area,
                 prefix,
                 advertise,
             } => Ok(Event::RangeSet {
-                area: *area,
-                prefix: *prefix,
-                advertise: *advertise,
+                area,
+                prefix,
+                advertise,
             }),
-            Event::RangeDrop { area, prefix } => Ok(Event::RangeDrop {
-                area: *area,
-                prefix: *prefix,
-            }),
+            Event::RangeDrop { area, prefix } => Ok(Event::RangeDrop { area, prefix }),
             Event::Second => Ok(Event::Second),
         }
     }

@@ -1,12 +1,11 @@
 //! The interfaces of the root, by their ids.
-ghost use Rattle.std.specs.Prelude.{◌≡◌, ◌↔◌, Some, false, OnOk, OnErr, IfOk};
+ghost use Rattle.std.specs.Prelude.{◌≡◌, false, OnOk, OnErr, IfOk};
 ghost use Rattle.std.specs.List.{list_any};
 ghost use Rattle.std.specs.Ordering.{nat_cmp};
 ghost use Rattle.std.specs.BTreeMap.{IsOrdered};
-ghost use Rattle.std.specs.FinMap as map;
 ghost use Rattle.event_state.specs.Bases.{interfaces_in};
 ghost use Rattle.event_state.specs.BaseFaults.{has_twice, is_same_id};
-ghost use Rattle.event_state.specs.States.{interfaces_of};
+ghost use Rattle.event_state.specs.States.{interfaces_of, PutsInterface, TellsInterface};
 ghost use Rattle.event_state.specs.Steps.{has_address};
 
 use ospf_types::config::Interface;
@@ -31,8 +30,8 @@ pub(crate) fn put_interface(
     interface: Interface,
 ) -> Result<bool, Memory>
     ensures unchanged { OnErr result (interfaces.new.entries ≡ interfaces.old.entries) }
-    ensures done { OnOk result (interfaces_of interfaces.new ≡ map.insert (interfaces_of interfaces.old) id interface) }
-    ensures changed { IfOk result (λ changed. (changed ≡ false) ↔ (map.get (interfaces_of interfaces.old) id ≡ Some interface)) }
+    ensures done { OnOk result (PutsInterface interfaces.old interfaces.new id interface) }
+    ensures changed { IfOk result (TellsInterface interfaces.old id interface) }
 {
     match interfaces.insert(id, interface)? {
         None => Ok(true),

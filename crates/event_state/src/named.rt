@@ -1,8 +1,6 @@
 //! Which LSAs an event may bring into use, take out of use or change, known before it is taken.
-ghost use Rattle.std.specs.Prelude.{◌≡◌, ◌++◌, [], ◌∷◌, IfOk, OnOk, Contains, map as list_map};
-ghost use Rattle.event_state.specs.States.{usable_at};
-ghost use Rattle.event_state.specs.Steps.{step};
-ghost use Rattle.event_state.specs.Named.{IsAmong, AreListed};
+ghost use Rattle.std.specs.Prelude.{◌≡◌, ◌++◌, [], ◌∷◌, IfOk, OnOk};
+ghost use Rattle.event_state.specs.Named.{AreListed, IsAmong, NamesAll, with_scope};
 
 use crate::event::Event;
 use crate::state::State;
@@ -15,7 +13,7 @@ impl State {
     /// The keys of the LSAs that the event may bring into use, take out of use or change, each with its
     /// scope: that of its LSA, or of each LSA that a second brings to MaxAge (RFC 2328, 14).
     pub fn named(&self, alloc: Global, event: &Event) -> Result<Vec<(Scope, Key)>, Memory>
-        ensures { IfOk result (λ named. (at : Scope) (key : Key) → (Contains named.items (at, key) → ⊥) → usable_at (step self.now event.now) at key ≡ usable_at self.now at key) }
+        ensures { IfOk result (λ named. NamesAll self.now event.now named.items) }
     {
         match event {
             Event::Install { scope, lsa } => one(alloc, *scope, lsa.key()),
@@ -64,7 +62,7 @@ fn one(alloc: Global, scope: Scope, key: Key) -> Result<Vec<(Scope, Key)>, Memor
 
 // Adds the keys, each with the scope, at the end.
 fn add_all(scope: Scope, keys: &[Key], named: &mut Vec<(Scope, Key)>) -> Result<(), Memory>
-    ensures { OnOk result (named.new.items ≡ named.old.items ++ list_map (λ key. (scope, key)) keys.now) }
+    ensures { OnOk result (named.new.items ≡ named.old.items ++ with_scope scope keys.now) }
 {
     for key in keys {
         named.push((scope, *key))?;

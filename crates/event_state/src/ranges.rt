@@ -23,13 +23,13 @@ const MOST_RANGES: usize = 32;
 // What becomes of the ranges of an area.
 #[derive(Debug, Drop)]
 pub(crate) enum RangeChange {
-    // The range takes the place of the one with its prefix; where there is none, it comes in order.
+    // The range takes the place of the one with its prefix; if there is none, it comes in order.
     Set(Range),
     // The range with the prefix leaves them.
     Drop(Prefix),
 }
 
-// The ranges of the area with the Area ID, where it is configured.
+// The ranges of the area with the Area ID, if it is configured.
 pub(crate) fn ranges_of(areas: &[AreaConfig], id: u32) -> Option<&[Range]>
     ensures none { is_none result ≡ is_none (place_of areas.now (Scope.Area id)) }
     ensures some { IfSome result (λ ranges. ranges.now ≡ ranges_of areas.now id) }

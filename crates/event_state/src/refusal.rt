@@ -24,9 +24,9 @@ pub enum Refusal {
     NotOwn,
     /// The LSA to be purged is not at MaxAge (RFC 2328, 14).
     NotMaxAge,
-    /// A new key where the database is at its limit.
+    /// The LSA has a new key, and the database is at its limit.
     Full,
-    /// As many events were taken as the journal may hold.
+    /// The journal has as many events as it may hold.
     JournalFull,
     /// The interface is up, and another one that is up has its address.
     AddressTaken,
@@ -34,15 +34,15 @@ pub enum Refusal {
     RangeOverlaps,
     /// The area has no range with the prefix of the one to be dropped.
     NoRange,
-    /// A range with a new prefix where the area has as many as it may.
+    /// The range has a new prefix, and the area has as many ranges as it may.
     RangeFull,
-    /// A growth was refused.
+    /// Memory ran out.
     Memory,
-    /// A worker's thread could not be started: of several workers alone.
+    /// A worker's thread could not be started. Only several workers have this.
     Spawn,
-    /// More lists than there may be workers: of several workers alone.
+    /// There are more lists than there may be workers. Only several workers have this.
     Workers,
-    /// Table, due summaries or publication are behind: of a roll alone.
+    /// Table, due summaries or publication are behind. Only a roll has this.
     NotCurrent,
 }
 

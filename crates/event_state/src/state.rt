@@ -1,15 +1,14 @@
-ghost use Rattle.std.specs.Prelude.{◌≡◌, ◌↔◌, ◌<◌, ◌≤◌, false, None, Some, IfErr, IfOk, IfSome, OnOk, OnErr, option_map};
+ghost use Rattle.std.specs.Prelude.{◌≡◌, ◌<◌, ◌≤◌, None, IfErr, IfOk, IfSome, OnOk, OnErr, option_map};
 ghost use Rattle.std.specs.List.{list_any};
 ghost use Rattle.std.specs.FinMap as map;
 ghost use Rattle.config_faults.specs.Configs.{config_fault_of};
 ghost use Rattle.event_state.specs.Bases.{bare, most_serial};
 ghost use Rattle.event_state.specs.BaseFaults.{base_fault_of};
-ghost use Rattle.event_state.specs.Rolls.{since, IsBaseOf, CanBeRolled};
-ghost use Rattle.event_state.specs.States.{AreApart, LooksAlike, serial_of, database_of};
+ghost use Rattle.event_state.specs.Rolls.{since, BeginsAgain, CanBeRolled, IsBaseOf};
+ghost use Rattle.event_state.specs.States.{TellsChange, serial_of, database_of};
 ghost use Rattle.event_state.specs.Changes.{empty_values};
-ghost use Rattle.event_state.specs.RangeEvents.{changed_ranges};
-ghost use Rattle.event_state.specs.Steps.{changed_by, with_interface, with_range_change, refusal_of, IsAccepted, step, opening, has_address, limit_of, standard_limits};
-ghost use Rattle.event_state.specs.Held.{AreFit};
+ghost use Rattle.event_state.specs.Steps.{changed_by, interface_event, range_set_event, with_interface, with_ranges_by, TellsChangeBy, TellsInterfaceChange, TellsRangeChange, refusal_of, IsAccepted, step, opening, has_address, limit_of, standard_limits};
+ghost use Rattle.event_state.specs.Held.{HasFitDatabases};
 ghost use Rattle.event_state.specs.Refusals.{IsRefusalOf};
 
 use crate::area_databases::{age_all, age_out_at, purge_at, put_all, put_at};
@@ -102,7 +101,7 @@ impl State {
         State::within(alloc, config, Limits::STANDARD, hashing)
     }
 
-    /// The same with limits of one's own.
+    /// No interfaces, empty databases and an empty journal, with limits of one's own.
     pub fn within(
         alloc: Global,
         config: Config,
@@ -168,7 +167,7 @@ impl State {
     pub fn rebase(&mut self, base: Base)
         requires { IsBaseOf self.old base }
         ensures since { self.new ≡ since base self.old }
-        ensures again { AreApart self.old.config.areas → self.new ≡ opening base self.old.limits }
+        ensures again { BeginsAgain self.old base self.new }
     {
         self.base = base;
         self.journal = Vec::new(*self.journal.allocator());
@@ -177,7 +176,7 @@ impl State {
     /// The configuration, with the ranges of now.
     pub fn config(&self) -> &Config
         ensures value { result.now ≡ self.now.config }
-        ensures fit { AreApart self.now.config.areas → AreFit self.now.config.areas self.now.databases }
+        ensures fit { HasFitDatabases self.now }
     {
         &self.config
     }
@@ -192,7 +191,7 @@ impl State {
     /// The events that were taken since the base, in their order.
     pub fn journal(&self) -> &[Event]
         ensures value { result.now ≡ self.now.journal }
-        ensures fit { AreApart self.now.config.areas → AreFit self.now.config.areas self.now.databases }
+        ensures fit { HasFitDatabases self.now }
     {
         self.journal.as_slice()
     }
@@ -298,7 +297,7 @@ impl State {
     }
 
     fn interface_refusal(&self, id: u8, interface: Interface) -> Option<Refusal>
-        ensures { result ≡ refusal_of self.now (Event.Interface id interface.area interface.address interface.peer interface.up) }
+        ensures { result ≡ refusal_of self.now (interface_event id interface) }
     {
         let areas = self.config.areas.as_slice();
         if place_of(areas, Scope::Area(interface.area)).is_none() {
@@ -320,7 +319,7 @@ impl State {
     }
 
     fn range_set_refusal(&self, area: u32, range: &Range) -> Option<Refusal>
-        ensures { result ≡ refusal_of self.now (Event.RangeSet area range.now.prefix range.now.advertise) }
+        ensures { result ≡ refusal_of self.now (range_set_event area range.now) }
     {
         let Some(ranges) = ranges_of(self.config.areas.as_slice(), area) else {
             return Some(Refusal::NoArea);
@@ -363,7 +362,7 @@ impl State {
         ensures accepted { OnOk result (refusal_of self.old event ≡ None) }
         ensures taken { OnOk result (self.new ≡ step self.old event) }
         ensures serial { IfOk result (λ answer. answer.0 ≡ serial_of self.new) }
-        ensures changed { IfOk result (λ answer. (answer.1 ≡ false) ↔ LooksAlike self.old self.new) }
+        ensures changed { IfOk result (λ answer. TellsChange self.old self.new answer.1) }
     {
         if let Some(refusal) = self.refusal(&event) {
             return Err(refusal);
@@ -380,7 +379,7 @@ impl State {
         requires room { serial_of self.old < most_serial }
         ensures unchanged { OnErr result (self.new ≡ self.old) }
         ensures taken { OnOk result (self.new ≡ step self.old event) }
-        ensures changed { IfOk result (λ changed. (changed ≡ false) ↔ LooksAlike self.old (changed_by self.old event)) }
+        ensures changed { IfOk result (TellsChangeBy self.old event) }
     {
         let entry = event.copy(*self.journal.allocator())?;
         make_room(&mut self.journal, self.limits.events);
@@ -399,11 +398,14 @@ impl State {
         requires { IsAccepted self.old event }
         ensures unchanged { OnErr result (self.new ≡ self.old) }
         ensures done { OnOk result (self.new ≡ changed_by self.old event) }
-        ensures changed { IfOk result (λ changed. (changed ≡ false) ↔ LooksAlike self.old (changed_by self.old event)) }
+        ensures changed { IfOk result (TellsChangeBy self.old event) }
     {
         match event {
+            // 13.2: an LSA is installed in the database.
             Event::Install { scope, lsa } => self.install(scope, lsa),
+            // 14.1: premature ageing.
             Event::Flush { scope, key } => Ok(self.flush(scope, key)),
+            // 14: an LSA at MaxAge leaves the database.
             Event::Purge { scope, key } => Ok(self.purge(scope, key)),
             Event::Interface {
                 id,
@@ -428,6 +430,7 @@ impl State {
             Event::RangeDrop { area, prefix } => {
                 self.change_ranges(area, &RangeChange::Drop(prefix))
             }
+            // 14: LSAs age.
             Event::Second => Ok(self.second()),
         }
     }
@@ -436,7 +439,7 @@ impl State {
         requires { IsAccepted self.old (Event.Install scope lsa) }
         ensures unchanged { OnErr result (self.new ≡ self.old) }
         ensures done { OnOk result (self.new ≡ changed_by self.old (Event.Install scope lsa)) }
-        ensures changed { IfOk result (λ changed. (changed ≡ false) ↔ LooksAlike self.old (changed_by self.old (Event.Install scope lsa))) }
+        ensures changed { IfOk result (TellsChangeBy self.old (Event.Install scope lsa)) }
     {
         match place_of(self.config.areas.as_slice(), scope) {
             Some(place) => put_at(self.databases.as_mut_slice(), place, lsa),
@@ -447,7 +450,7 @@ impl State {
     // Whether the LSA was used before.
     fn flush(&mut self, scope: Scope, key: Key) -> bool
         ensures done { self.new ≡ changed_by self.old (Event.Flush scope key) }
-        ensures changed { (result ≡ false) ↔ LooksAlike self.old (changed_by self.old (Event.Flush scope key)) }
+        ensures changed { TellsChangeBy self.old (Event.Flush scope key) result }
     {
         match place_of(self.config.areas.as_slice(), scope) {
             Some(place) => age_out_at(self.databases.as_mut_slice(), place, key),
@@ -459,7 +462,7 @@ impl State {
     fn purge(&mut self, scope: Scope, key: Key) -> bool
         requires { IsAccepted self.old (Event.Purge scope key) }
         ensures done { self.new ≡ changed_by self.old (Event.Purge scope key) }
-        ensures changed { (result ≡ false) ↔ LooksAlike self.old (changed_by self.old (Event.Purge scope key)) }
+        ensures changed { TellsChangeBy self.old (Event.Purge scope key) result }
     {
         if let Some(place) = place_of(self.config.areas.as_slice(), scope) {
             purge_at(self.databases.as_mut_slice(), place, key);
@@ -468,18 +471,18 @@ impl State {
     }
 
     fn set_interface(&mut self, id: u8, interface: Interface) -> Result<bool, Memory>
-        requires { IsAccepted self.old (Event.Interface id interface.area interface.address interface.peer interface.up) }
+        requires { IsAccepted self.old (interface_event id interface) }
         ensures unchanged { OnErr result (self.new ≡ self.old) }
         ensures done { OnOk result (self.new ≡ with_interface self.old id interface) }
-        ensures changed { IfOk result (λ changed. (changed ≡ false) ↔ LooksAlike self.old (with_interface self.old id interface)) }
+        ensures changed { IfOk result (TellsInterfaceChange self.old id interface) }
     {
         put_interface(&mut self.interfaces, id, interface)
     }
 
     fn change_ranges(&mut self, area: u32, change: &RangeChange) -> Result<bool, Memory>
         ensures unchanged { OnErr result (self.new ≡ self.old) }
-        ensures done { OnOk result (self.new ≡ with_range_change self.old area (changed_ranges change.now)) }
-        ensures changed { IfOk result (λ changed. (changed ≡ false) ↔ LooksAlike self.old (with_range_change self.old area (changed_ranges change.now))) }
+        ensures done { OnOk result (self.new ≡ with_ranges_by self.old area change.now) }
+        ensures changed { IfOk result (TellsRangeChange self.old area change.now) }
     {
         let areas = self.config.areas.as_slice();
         let new = with_ranges(*self.journal.allocator(), areas, area, change)?;
@@ -490,14 +493,14 @@ impl State {
 
     fn second(&mut self) -> bool
         ensures done { self.new ≡ changed_by self.old Event.Second }
-        ensures changed { (result ≡ false) ↔ LooksAlike self.old (changed_by self.old Event.Second) }
+        ensures changed { TellsChangeBy self.old Event.Second result }
     {
         age_all(self.databases.as_mut_slice())
     }
 }
 
 // Makes room for all events that the journal may have, once it has many. So large a piece of memory goes back to the
-// system in a roll, and not to a heap that keeps it. Where it is refused, room is made event by event.
+// system in a roll, and not to a heap that keeps it. If memory runs out, room is made event by event.
 fn make_room(journal: &mut Vec<Event>, most: u64)
     ensures { journal.new.items ≡ journal.old.items }
 {

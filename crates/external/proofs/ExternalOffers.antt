@@ -1,5 +1,5 @@
 -- What a choice of an external route takes, part by part, is what is offered to it.
-use Rattle.std.proofs.Common.{◌≡◌, ℕ, ◌<◌, List, Option, Some, None, true, false, refl, sym, ap, subst, ◌∙◌, ◌⊎◌, inl, inr, ⊎_elim, arith}
+use Rattle.std.proofs.Common.{◌≡◌, ℕ, ◌<◌, List, Option, Some, None, true, false, refl, sym, subst, ◌∙◌, ◌⊎◌, inl, inr, ⊎_elim, arith}
 use Rattle.std.specs.Prelude.{◌↔◌, IsSome}
 use Rattle.std.specs.List.{Contains}
 use Rattle.std.specs.FinMap.{get}
@@ -17,7 +17,7 @@ use Rattle.path_choice.specs.Takes.{OfferedBySome}
 use Rattle.path_choice.proofs.Taking.{takes_none, takes_same, taken_chosen}
 use Rattle.offer_index.specs.Advertised.{AdvertisedValue}
 use Rattle.offer_index.specs.Indexes.{OfferIndexValue, IsInGroup}
-use Rattle.offer_index.specs.declared.group.Group.TheVariants.{To}
+use Rattle.offer_index.specs.declared.lsa_group.LsaGroup.TheVariants.{To}
 use Rattle.external.specs.Choosing.{TakesPaths, PathsOffer, LeadsOffer, KeyOffers, NetworkOffers}
 use Rattle.external.specs.Externals.{IsEntryFor}
 use Rattle.external.specs.Forwards.{ForwardValue, ForwardsByAddress, internal_entry}

@@ -30,14 +30,14 @@ use Rattle.intra.specs.Intras.{reached_at}
 use Rattle.intra.specs.Reached.{ReachedValue, HandsOut}
 use Rattle.intra.proofs.Frame.{best_same}
 use Rattle.offer_index.specs.Advertised.{AdvertisedValue}
-use Rattle.offer_index.specs.Indexes.{OfferIndexValue, AffectedValue, AreTouched, IsIndexOf, IsForwardedInto, IsForwardedTo, IsLedTo}
+use Rattle.offer_index.specs.Indexes.{OfferIndexValue, ChangedOffersValue, AreTouched, IsIndexOf, IsForwardedInto, IsForwardedTo, IsLedTo}
 use Rattle.external.specs.Changes.{InputsDifferAmong}
 use Rattle.external.specs.Externals.{ExternalValue, IsEntryFor, IsExternalOf, IsForwardIn}
 use Rattle.external.specs.Forwards.{ForwardValue, ForwardsByAddress, IsForwardOf, IsMatchOf, LeadsBy, Matches, class_in, internal_entry}
 use Rattle.external.specs.Inputs.{ExternalInputsValue}
 use Rattle.external.specs.Offers.{OffersOf}
 use Rattle.external.specs.Preferred.{PreferredByRouter, PreferredValue, EntryOffers, IsPreferredFor, RouterOffers}
-use Rattle.external.specs.Renewing.{IsNoShorter, IsNoShorterThan, StandsBut}
+use Rattle.external.specs.Updating.{IsNoShorter, IsNoShorterThan, StandsBut}
 
 -- ---- results of the same offers
 
@@ -123,7 +123,7 @@ module _ (keys : List (Scope × Key)) (dests : List Dest) (b v : ExternalInputsV
 
   -- ---- and the index says otherwise no more than is affected
 
-  module _ (old i : OfferIndexValue) (first affected : AffectedValue) (touched : AreTouched old i first affected) where
+  module _ (old i : OfferIndexValue) (first affected : ChangedOffersValue) (touched : AreTouched old i first affected) where
     forwarded_before : (a : ℕ) → (Contains affected.addresses a → ⊥) → IsForwardedTo i a → IsForwardedTo old a
     forwarded_before a absent w =
         let g = w.1 in
@@ -170,7 +170,7 @@ module _ (keys : List (Scope × Key)) (dests : List Dest) (b v : ExternalInputsV
       entry_stands e is = entry_same (OffersOf b preferred forwards p) (OffersOf v preferred forwards p) (λ preference path. (offers_after preference path, offers_before preference path)) e is
 
 -- once the index followed, all else that is not due is right as it stands
-pub stands_after : (keys : List (Scope × Key)) (dests : List Dest) (b v : ExternalInputsValue) (old new : ExternalValue) (first affected : AffectedValue) → IsExternalOf b old → InputsDifferAmong keys dests b v
+pub stands_after : (keys : List (Scope × Key)) (dests : List Dest) (b v : ExternalInputsValue) (old new : ExternalValue) (first affected : ChangedOffersValue) → IsExternalOf b old → InputsDifferAmong keys dests b v
     → IsIndexOf v.root As v.lsas new.index → AreTouched old.index new.index first affected → new.preferred ≡ old.preferred → new.forwards ≡ old.forwards → new.entries ≡ old.entries → new.spent ≡ old.spent
     → StandsBut v dests affected new
 stands_after keys dests b v old new first affected was differ index touched preferred forwards entries spent =
@@ -188,8 +188,8 @@ stands_after keys dests b v old new first affected was differ index touched pref
 abbrev pub blank : ExternalValue
 blank = record { index = record { routes = empty }; preferred = empty; forwards = empty; entries = empty; spent = false }
 
--- the same of routes where nothing was advertised, and all routers that something leads to are named
-pub stands_from_nothing : (dests : List Dest) (v : ExternalInputsValue) (new : ExternalValue) (first affected : AffectedValue) → ((r : ℕ) (preference : Preference) (h : NextHop) → RouterOffers v r preference h → Contains dests (Router r))
+-- routes where nothing was advertised stand, if all routers that something leads to are named
+pub stands_from_nothing : (dests : List Dest) (v : ExternalInputsValue) (new : ExternalValue) (first affected : ChangedOffersValue) → ((r : ℕ) (preference : Preference) (h : NextHop) → RouterOffers v r preference h → Contains dests (Router r))
     → IsIndexOf v.root As v.lsas new.index → AreTouched blank.index new.index first affected → new.preferred ≡ empty → new.forwards ≡ empty → new.entries ≡ empty → new.spent ≡ false
     → StandsBut v dests affected new
 stands_from_nothing dests v new first affected named index touched preferred forwards entries spent =

@@ -5,11 +5,11 @@ use Rattle.std.specs.List.{Contains}
 use Rattle.std.proofs.lemmas.List.{get_or_default, take_all}
 use Rattle.ospf_types.specs.declared.key.Dest.{Dest}
 use Rattle.ospf_types.proofs.Elements.{no_element, contains_more}
-use Rattle.offer_index.specs.declared.group.Group.{Group}
+use Rattle.offer_index.specs.declared.lsa_group.LsaGroup.{LsaGroup}
 use Rattle.offer_index.specs.Indexes.{OfferIndexValue, GroupLeadsTo}
-use Rattle.external.specs.Renewing.{AreLed}
+use Rattle.external.specs.Updating.{AreLed}
 
-module _ (i : OfferIndexValue) (group : ℕ → Group) (numbers : List ℕ) where
+module _ (i : OfferIndexValue) (group : ℕ → LsaGroup) (numbers : List ℕ) where
   -- none
   pub led_none : (dests : List Dest) → AreLed i group (take 0 numbers) dests dests
   led_none dests = record {

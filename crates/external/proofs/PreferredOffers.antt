@@ -1,5 +1,5 @@
 -- What a choice of a preferred entry takes, part by part, is what is offered to it.
-use Rattle.std.proofs.Common.{◌≡◌, ℕ, ◌<◌, List, Option, Some, None, refl, sym, ap, subst, ◌∙◌}
+use Rattle.std.proofs.Common.{◌≡◌, ℕ, ◌<◌, Option, Some, None, refl, sym, ap, subst, ◌∙◌}
 use Rattle.std.specs.Prelude.{Bool, bit_and}
 use Rattle.std.specs.List.{Contains}
 use Rattle.std.specs.FinMap.{get}

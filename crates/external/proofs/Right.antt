@@ -33,7 +33,7 @@ use Rattle.external.specs.Right.{AreInputsOf, IsRightFor}
 use Rattle.external.proofs.RightPreferred.{router_offered}
 use Rattle.external.proofs.RightForwards.{ForwardReaches, nothing_inside, forward_right}
 
--- ---- the same offers
+-- ---- alike offers
 
 -- an entry for the offers is one for the same offers
 entry_same : (one other : ExternalPreference → Path → Type 0) → ((k : ExternalPreference) (path : Path) → one k path ↔ other k path) → (e : Option Entry) → IsEntryFor one e → IsEntryFor other e

@@ -15,15 +15,15 @@ use Rattle.ospf_types.specs.External.{ExternalPreference}
 use Rattle.ospf_types.proofs.Elements.{mapped_element, mapped_from}
 use Rattle.intra.specs.Intras.{EntriesByPrefix}
 use Rattle.offer_index.specs.Advertised.{AdvertisedValue}
-use Rattle.offer_index.specs.Indexes.{AffectedValue}
-use Rattle.offer_index.specs.declared.group.Group.TheVariants.{By, Forwarded}
+use Rattle.offer_index.specs.Indexes.{ChangedOffersValue}
+use Rattle.offer_index.specs.declared.lsa_group.LsaGroup.TheVariants.{By, Forwarded}
 use Rattle.external.specs.Changes.{DiffersAt}
 use Rattle.external.specs.Externals.{ExternalValue, IsEntryFor, IsExternalOf, IsForwardIn}
 use Rattle.external.specs.Forwards.{ForwardValue, ForwardsByAddress}
 use Rattle.external.specs.Inputs.{ExternalInputsValue}
 use Rattle.external.specs.Offers.{AdvertisedOffers, ForwardLeads, OffersBy, OffersOf}
 use Rattle.external.specs.Preferred.{PreferredByRouter, PreferredValue, IsPreferredFor, RouterOffers}
-use Rattle.external.specs.Renewing.{AreEntriesRenewed, AreForwardsRenewed, AreLed, AreNetworksLed, ArePreferredRenewed, IsListed, StandsBut}
+use Rattle.external.specs.Updating.{AreEntriesUpdated, AreForwardsUpdated, AreLed, AreNetworksLed, ArePreferredUpdated, IsListed, StandsBut}
 use Rattle.external.specs.contracts.forward.Forward as kept_forward
 use Rattle.external.specs.contracts.preferred.Preferred as kept_entry
 use Rattle.external.proofs.Frame.{entry_same}
@@ -52,20 +52,20 @@ advertised_offers k a was is before after preferred forward preference path o =
       o.6,
     )
 
-module _ (v : ExternalInputsValue) (dests : List Dest) (affected : AffectedValue) (old : ExternalValue) (preferred : PreferredByRouter) (forwards : ForwardsByAddress) (entries : EntriesByPrefix)
+module _ (v : ExternalInputsValue) (dests : List Dest) (affected : ChangedOffersValue) (old : ExternalValue) (preferred : PreferredByRouter) (forwards : ForwardsByAddress) (entries : EntriesByPrefix)
     (routers moved : List ℕ) (by_routers led all : List Dest) (stands : StandsBut v dests affected old)
-    (preferred_renewed : ArePreferredRenewed v dests old.preferred preferred) (changed : (r : ℕ) → Contains routers r ↔ (get preferred r ≢ get old.preferred r))
-    (forwards_renewed : AreForwardsRenewed v old.index dests affected.addresses old.forwards forwards) (elsewhere : (a : ℕ) → Contains moved a ↔ (get forwards a ≢ get old.forwards a))
+    (preferred_updated : ArePreferredUpdated v dests old.preferred preferred) (changed : (r : ℕ) → Contains routers r ↔ (get preferred r ≢ get old.preferred r))
+    (forwards_updated : AreForwardsUpdated v old.index dests affected.addresses old.forwards forwards) (elsewhere : (a : ℕ) → Contains moved a ↔ (get forwards a ≢ get old.forwards a))
     (first : AreLed old.index By routers affected.dests by_routers) (second : AreLed old.index Forwarded moved by_routers led)
-    (third : AreNetworksLed old.index dests led all) (entries_renewed : AreEntriesRenewed v old.index preferred forwards all old.entries entries) where
+    (third : AreNetworksLed old.index dests led all) (entries_updated : AreEntriesUpdated v old.index preferred forwards all old.entries entries) where
   preferred_is : (r : ℕ) → IsPreferredFor (RouterOffers v r) (get preferred r)
-  preferred_is r = elim (preferred_renewed r) [
+  preferred_is r = elim (preferred_updated r) [
     | inl is ↦ is
     | inr kept ↦ subst (IsPreferredFor (RouterOffers v r)) (sym kept.1) (stands.preferred r kept.0)
   ]
 
   forward_is : (a : ℕ) → IsForwardIn v old.index a (get forwards a)
-  forward_is a = elim (forwards_renewed a) [
+  forward_is a = elim (forwards_updated a) [
     | inl is ↦ is
     | inr kept ↦ subst (IsForwardIn v old.index a) (sym kept.1) (stands.forwards a kept.0)
   ]
@@ -99,7 +99,7 @@ module _ (v : ExternalInputsValue) (dests : List Dest) (affected : AffectedValue
   -- ---- all networks
 
   entry_is : (p : Prefix) → IsEntryFor (OffersOf v preferred forwards p) (get entries p)
-  entry_is p = elim (entries_renewed p) [
+  entry_is p = elim (entries_updated p) [
     | inl is ↦ entry_same (OffersBy v preferred forwards (IsListed old.index) p) (OffersOf v preferred forwards p) (λ preference path. (
       λ o. (o.0, o.1, sym (stands.index o.0) ∙ o.2, o.3, o.4, o.5),
       λ o. (o.0, o.1, stands.index o.0 ∙ o.2, o.3, o.4, o.5),
@@ -112,8 +112,8 @@ module _ (v : ExternalInputsValue) (dests : List Dest) (affected : AffectedValue
   new = record { index = old.index; preferred = preferred; forwards = forwards; entries = entries; spent = old.spent }
 
   -- the routes are those of the inputs
-  pub renewed : IsExternalOf v new
-  renewed = record {
+  pub updated : IsExternalOf v new
+  updated = record {
     fresh = stands.fresh;
     index = stands.index;
     preferred = preferred_is;

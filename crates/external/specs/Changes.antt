@@ -9,9 +9,9 @@ use Rattle.ospf_types.specs.declared.key.Scope.TheVariants.{As}
 use Rattle.ospf_types.specs.declared.prefix.Prefix.{Prefix}
 use Rattle.intra.specs.Intras.{reached_at}
 use Rattle.offer_index.specs.Indexes.{LsasDifferAmong}
-use Rattle.summaries.specs.Active.{IsActiveIn}
+use Rattle.active_ranges.specs.Active.{IsActiveIn}
 use Rattle.external.specs.Inputs.{ExternalInputsValue}
-use Rattle.external.specs.Externals.{ExternalValue}
+use Rattle.external.specs.Externals.{ExternalValue, IsExternalOf}
 
 -- the inputs differ in no more than is named
 pub record InputsDifferAmong (keys : List (Scope × Key)) (dests : List Dest) (old new : ExternalInputsValue) : Type 0 where
@@ -23,6 +23,10 @@ pub record InputsDifferAmong (keys : List (Scope × Key)) (dests : List Dest) (o
   pub ranges : (p : Prefix) → (Contains dests (Net p) → ⊥) → IsActiveIn new.active p ↔ IsActiveIn old.active p
   pub inter : (d : Dest) → (Contains dests d → ⊥) → get new.inter.entries d ≡ get old.inter.entries d
   pub routers : (r : ℕ) → (Contains dests (Router r) → ⊥) → (area : ℕ) → reached_at new.intra.areas area r ≡ reached_at old.intra.areas area r
+
+-- the routes are those of earlier inputs, which differ from these in no more than is named
+abbrev pub AreRoutesBehind : List (Scope × Key) → List Dest → ExternalInputsValue → ExternalValue → Type 0
+AreRoutesBehind keys dests v w = (before : ExternalInputsValue) × IsExternalOf before w × InputsDifferAmong keys dests before v
 
 -- the result of the destination differs: the entry of a network, the preferred entry of a router
 abbrev pub DiffersAt : ExternalValue → ExternalValue → Dest → Type 0

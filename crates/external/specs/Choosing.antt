@@ -16,8 +16,9 @@ use Rattle.intra.specs.Reached.{ReachedValue, HandsOut}
 use Rattle.path_choice.specs.Takes.{Takes, OnlyOffer, OfferedBySome}
 use Rattle.offer_index.specs.Advertised.{AdvertisedValue}
 use Rattle.offer_index.specs.Indexes.{AdvertisedByKey, OfferIndexValue, IsInGroup}
-use Rattle.offer_index.specs.declared.group.Group.TheVariants.{To}
-use Rattle.external.specs.Preferred.{PreferredByRouter}
+use Rattle.offer_index.specs.declared.lsa_group.LsaGroup.TheVariants.{To}
+use Rattle.external.specs.Inputs.{ExternalInputsValue}
+use Rattle.external.specs.Preferred.{PreferredByRouter, ReachedOffers}
 use Rattle.external.specs.Forwards.{ForwardsByAddress}
 use Rattle.external.specs.Offers.{AdvertisedOffers, preference_of}
 
@@ -32,6 +33,10 @@ HopsOffer hops at = OfferedBySome hops (OnlyOffer at)
 -- what is kept of the router in the area offers it, if it is an AS boundary router
 abbrev pub AreaOffers : Bool → ℕ → Option ReachedValue → Preference → NextHop → Type 0
 AreaOffers compat area reached preference h = (preference.area ≡ area) × (preference.class ≡ class_of compat (Some area)) × HandsOut E reached preference.cost h
+
+-- each area where the router is reached as AS boundary router
+abbrev pub AreasOffer : ExternalInputsValue → ℕ → Preference → NextHop → Type 0
+AreasOffer v router = OfferedBySome v.areas (ReachedOffers v router)
 
 -- just these offers of paths were taken
 abbrev pub TakesPaths : (ExternalPreference → Path → Type 0) → Option (Chosen ExternalPreference Path) → Option (Chosen ExternalPreference Path) → Type 0
@@ -49,6 +54,10 @@ LeadsOffer leads router a preference path = (class x : ℕ) × (h : NextHop) × 
 abbrev pub KeyOffers : AdvertisedByKey → PreferredByRouter → ForwardsByAddress → Key → ExternalPreference → Path → Type 0
 KeyOffers routes preferred forwards k preference path = (a : AdvertisedValue) × (get routes k ≡ Some a)
     × AdvertisedOffers (get preferred k.router) (get forwards a.forwarding) k a preference path
+
+-- what is advertised under each of these keys
+abbrev pub KeysOffer : List Key → AdvertisedByKey → PreferredByRouter → ForwardsByAddress → ExternalPreference → Path → Type 0
+KeysOffer keys routes preferred forwards = OfferedBySome keys (KeyOffers routes preferred forwards)
 
 -- what is advertised to the network offers this
 abbrev pub NetworkOffers : OfferIndexValue → PreferredByRouter → ForwardsByAddress → Prefix → ExternalPreference → Path → Type 0

@@ -1,5 +1,5 @@
 -- External routes as their callers see them, with the preferred entries of AS boundary routers.
-use Rattle.std.specs.Prelude.{ℕ, ◌≡◌, ◌↔◌, Bool, true, false, Option, Some, None, IsSome}
+use Rattle.std.specs.Prelude.{ℕ, ◌≡◌, Bool, true, false, Option, Some, None, IsSome}
 use Rattle.std.specs.FinMap.{get, empty}
 use Rattle.std.specs.List.Sorted.{IsStrictlySortedBy}
 use Rattle.ospf_types.specs.declared.entry.Entry.{Entry}
@@ -26,6 +26,18 @@ pub record ExternalValue : Type 0 where
 
 abbrev pub spent_routes : ExternalValue
 spent_routes = record { index = record { routes = empty }; preferred = empty; forwards = empty; entries = empty; spent = true }
+
+-- the routes where nothing is advertised
+abbrev pub no_routes : ExternalValue
+no_routes = record { index = record { routes = empty }; preferred = empty; forwards = empty; entries = empty; spent = false }
+
+-- the network has an external entry
+abbrev pub HasEntry : ExternalValue → Prefix → Type 0
+HasEntry w p = IsSome (get w.entries p)
+
+-- the AS boundary router has a preferred entry
+abbrev pub HasPreferred : ExternalValue → ℕ → Type 0
+HasPreferred w router = IsSome (get w.preferred router)
 
 -- the entry is the best of the offers, its paths in order; none where nothing is offered
 abbrev pub IsEntryFor : (ExternalPreference → Path → Type 0) → Option Entry → Type 0

@@ -1,6 +1,6 @@
 -- Where forwarding addresses lead (RFC 2328, 16.4).
-use Rattle.std.specs.Prelude.{ℕ, ◌≡◌, ◌≤◌, ◌⊎◌, ◌↔◌, Bool, List, Contains, Option, Some, None, IsSome}
-use Rattle.std.specs.FinMap.{FinMap, get}
+use Rattle.std.specs.Prelude.{ℕ, ◌≡◌, ◌≤◌, ◌⊎◌, ◌↔◌, Bool, List, Contains, Option, Some, None, IsSome, map}
+use Rattle.std.specs.FinMap.{FinMap, get, from_entries}
 use Rattle.std.specs.Ordering.{nat_cmp}
 use Rattle.ospf_types.specs.declared.entry.Entry.{Entry}
 use Rattle.ospf_types.specs.declared.hop.NextHop.{NextHop}
@@ -10,7 +10,8 @@ use Rattle.ospf_types.specs.declared.prefix.Prefix.{Prefix}
 use Rattle.ospf_types.specs.Address.{HasAddress}
 use Rattle.ospf_types.specs.Boundary.{class_of}
 use Rattle.ospf_types.specs.External.{toward}
-use Rattle.summaries.specs.Active.{IsActiveIn}
+use Rattle.active_ranges.specs.Active.{IsActiveIn}
+use Rattle.result_map.specs.Results.{Results}
 use Rattle.external.specs.Inputs.{ExternalInputsValue}
 
 -- the class and the cost of a way, and its next hops
@@ -26,6 +27,18 @@ pub record ForwardValue : Type 0 where
 
 abbrev pub ForwardsByAddress : Type 0
 ForwardsByAddress = FinMap nat_cmp ForwardValue
+
+-- where forwarding addresses lead, as it is kept
+abbrev pub forwards_in : Results ℕ ForwardValue → ForwardsByAddress
+forwards_in results = from_entries results.entries
+
+-- the two ways have one class and one cost
+abbrev pub HaveOneCost : WayValue → WayValue → Type 0
+HaveOneCost way other = (way.class ≡ other.class) × (way.cost ≡ other.cost)
+
+-- the next hops of the paths, each toward the address
+abbrev pub hops_toward : ℕ → List Path → List NextHop
+hops_toward address paths = map (λ path. toward address path.hop) paths
 
 -- the network has an intra-area entry, else an inter-area one
 abbrev pub internal_entry : ExternalInputsValue → Prefix → Option Entry
@@ -72,7 +85,11 @@ abbrev pub WayOffers : Option WayValue → ℕ → ℕ → NextHop → Type 0
 WayOffers None class cost h = ⊥
 WayOffers (Some w) class cost h = (w.class ≡ class) × (w.cost ≡ cost) × Contains w.hops h
 
+-- the way goes just where the match of the address leads
+abbrev pub IsWayBy : ExternalInputsValue → ℕ → Option Prefix → Option WayValue → Type 0
+IsWayBy v address matched way = (class cost : ℕ) (h : NextHop) → WayOffers way class cost h ↔ LeadsBy v address matched class cost h
+
 -- what is kept of the address
 pub record IsForwardOf (v : ExternalInputsValue) (address : ℕ) (f : ForwardValue) : Type 0 where
   pub matched : IsMatchOf v address f.matched
-  pub way : (class cost : ℕ) (h : NextHop) → WayOffers f.way class cost h ↔ LeadsBy v address f.matched class cost h
+  pub way : IsWayBy v address f.matched f.way

@@ -2,7 +2,7 @@
 use Rattle.std.specs.Prelude.{ℕ, Bool, List}
 use Rattle.lsdb.specs.Databases.{Database}
 use Rattle.intra.specs.Intras.{IntraValue}
-use Rattle.summaries.specs.Active.{ActiveValue}
+use Rattle.active_ranges.specs.Active.{ActiveValue}
 use Rattle.inter.specs.Inters.{InterValue}
 
 pub record ExternalInputsValue : Type 0 where

@@ -5,5 +5,5 @@ pub mod Offers
 pub mod Choosing
 pub mod Externals
 pub mod Changes
-pub mod Renewing
+pub mod Updating
 pub mod Right

@@ -1,5 +1,5 @@
 -- When external routes are those of the definitions.
-use Rattle.std.specs.Prelude.{ℕ, ◌≡◌, ◌≢◌, List, map, Option}
+use Rattle.std.specs.Prelude.{ℕ, ◌≡◌, ◌≢◌, map}
 use Rattle.std.specs.FinMap.{get, values}
 use Rattle.std.specs.List.{AllPairs}
 use Rattle.ospf_types.specs.declared.prefix.Prefix.{Prefix}
@@ -8,7 +8,7 @@ use Rattle.ospf_types.specs.External.{ExternalOffers}
 use Rattle.ospf_types.specs.Inputs.{Inputs, Area}
 use Rattle.lsdb.specs.Contents.{IsSound}
 use Rattle.intra.specs.Right.{IsRightFor as IsIntraRight}
-use Rattle.summaries.specs.Right.{IsRightFor as AreRangesRight}
+use Rattle.active_ranges.specs.Right.{IsRightFor as AreRangesRight}
 use Rattle.inter.specs.Right.{IsRightFor as IsInterRight}
 use Rattle.external.specs.Inputs.{ExternalInputsValue}
 use Rattle.external.specs.Preferred.{IsPreferredFor}
@@ -30,3 +30,7 @@ pub record AreInputsOf (s : Inputs) (v : ExternalInputsValue) : Type 0 where
 pub record IsRightFor (s : Inputs) (w : ExternalValue) : Type 0 where
   pub entries : (p : Prefix) → IsEntryFor (ExternalOffers s p) (get w.entries p)
   pub preferred : (router : ℕ) → IsPreferredFor (BoundaryOffers s router) (get w.preferred router)
+
+-- the routes are right for all that the definitions may say of these inputs
+abbrev pub IsRightWith : ExternalInputsValue → ExternalValue → Type 0
+IsRightWith v w = (s : Inputs) → AreInputsOf s v → IsRightFor s w

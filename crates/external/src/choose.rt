@@ -2,33 +2,33 @@
 ghost use Rattle.std.specs.Prelude.{◌≡◌, ◌<◌, None, Some, IfOk, OnOk};
 ghost use Rattle.std.specs.FinMap as map;
 ghost use Rattle.std.specs.List.Sorted.{IsStrictlySortedBy};
-ghost use Rattle.std.specs.Ordering.{nat_cmp};
 ghost use Rattle.ospf_types.specs.Hops.{path_cmp};
 ghost use Rattle.ospf_types.specs.Inter.{through};
 ghost use Rattle.ospf_types.specs.Routes.{entry_of, external_type};
-ghost use Rattle.path_choice.specs.Takes.{OnlyOffer, OfferedBySome};
+ghost use Rattle.path_choice.specs.Takes.{OnlyOffer};
 ghost use Rattle.inter.specs.Inters.{most_cost};
-ghost use Rattle.external.specs.Choosing.{TakesPaths, PathsOffer, LeadsOffer, KeyOffers, NetworkOffers};
-ghost use Rattle.external.specs.Externals.{IsEntryFor};
-ghost use Rattle.external.specs.Forwards.{WayOffers};
-ghost use Rattle.external.specs.Offers.{AdvertisedOffers, ForwardLeads, OffersBy, preference_of};
+ghost use Rattle.external.specs.Choosing.{TakesPaths, PathsOffer, LeadsOffer, KeyOffers, KeysOffer, NetworkOffers};
+ghost use Rattle.external.specs.Forwards.{WayOffers, forwards_in};
+ghost use Rattle.external.specs.Offers.{AdvertisedOffers, ForwardLeads, preference_of};
+ghost use Rattle.external.specs.Preferred.{preferred_in};
+ghost use Rattle.external.specs.Updating.{IsEntryBy};
 
 use crate::forward::{Forward, Way, has_internal};
 use crate::inputs::ExternalInputs;
 use crate::preferred::Preferred;
-use offer_index::{Advertised, Group, OfferIndex};
+use offer_index::{Advertised, LsaGroup, OfferIndex};
 use ospf_types::entry::{Entry, PathType, Paths};
 use ospf_types::hop::{NextHop, Path};
 use ospf_types::key::{Dest, Key};
 use ospf_types::memory::Memory;
 use ospf_types::prefix::Prefix;
 use path_choice::{Best, Choice, ExactOrd};
-use result_map::ResultMap;
+use result_map::{Choose, ResultMap};
 use std::alloc::Global;
 use std::marker::Model;
 
 // What external routes to one network are compared by: type 1 before type 2, the metric of type 2, the class of the way, and
-// then the cost, which is the distance alone for type 2.
+// then the cost, which is only the distance for type 2 (16.4 (6), b to d).
 #[derive(Clone, Copy, PartialEq, Eq, PartialOrd, Ord)]
 struct ExternalKey {
     kind: u8,
@@ -67,6 +67,7 @@ impl ExternalKey {
         requires { distance < most_cost }
         ensures { result ≡ preference_of route class distance }
     {
+        // 16.4 (5): X is the distance and Y the metric. Type 1 costs X + Y, type 2 has X and Y apart.
         if route.is_type_2() {
             ExternalKey {
                 kind: 2,
@@ -95,33 +96,128 @@ impl ExternalKey {
     }
 }
 
-/// The entry of the network by the index, with what is kept of AS boundary routers and of forwarding addresses; none where
-/// nothing is offered.
-pub(crate) fn choose(
-    alloc: Global,
-    inputs: &ExternalInputs<'_>,
-    index: &OfferIndex,
-    preferred: &ResultMap<u32, Preferred>,
-    forwards: &ResultMap<u32, Forward>,
-    network: Prefix,
-) -> Result<Option<Entry>, Memory>
-    ensures { IfOk result (IsEntryFor (OffersBy inputs.now (map.from_entries preferred.now.entries) (map.from_entries forwards.now.entries) (λ k a. map.get index.now.routes k ≡ Some a) network)) }
-{
-    if has_internal(inputs, network) {
-        return Ok(None);
+/// What the entries of networks are chosen by.
+#[derive(Drop)]
+pub(crate) struct Choosing<'a> {
+    pub(crate) inputs: &'a ExternalInputs<'a>,
+    /// What AS-external-LSAs advertise.
+    pub(crate) index: &'a OfferIndex,
+    /// The preferred entries of AS boundary routers.
+    pub(crate) preferred: &'a ResultMap<u32, Preferred>,
+    /// Where forwarding addresses lead.
+    pub(crate) forwards: &'a ResultMap<u32, Forward>,
+}
+
+impl<'a> Choose<Prefix, Entry, Dest> for Choosing<'a> {
+    ghost use Rattle.std.specs.FinMap as map;
+    ghost use Rattle.ospf_types.specs.declared.key.Dest.TheVariants.{Net};
+    ghost use Rattle.external.specs.Updating.{IsEntryBy};
+
+    ghost IsChosen = { λ by network fresh. IsEntryBy by.inputs.now by.index.now (map.from_entries by.preferred.now.entries) (map.from_entries by.forwards.now.entries) network fresh };
+
+    ghost named_as = { Net };
+
+    fn choose(&self, alloc: Global, key: Prefix) -> Result<Option<Entry>, Memory> {
+        self.choose_entry(alloc, key)
     }
-    let mut best = Best::new(alloc);
-    offer_network(alloc, &mut best, index, preferred, forwards, network)?;
-    match best.into_choice() {
-        Some(choice) => Ok(Some(entry(choice))),
-        None => Ok(None),
+
+    fn name(&self, key: Prefix) -> Dest {
+        Dest::Net(key)
+    }
+}
+
+impl Choosing<'_> {
+    // The entry of the network; none where nothing is offered.
+    fn choose_entry(&self, alloc: Global, network: Prefix) -> Result<Option<Entry>, Memory>
+        ensures { IfOk result (IsEntryBy self.now.inputs.now self.now.index.now
+            (preferred_in self.now.preferred.now) (forwards_in self.now.forwards.now) network) }
+    {
+        // 16.4 (6) (a): intra-area and inter-area paths are preferred.
+        if has_internal(self.inputs, network) {
+            return Ok(None);
+        }
+        let mut best = Best::new(alloc);
+        self.offer_network(alloc, &mut best, network)?;
+        match best.into_choice() {
+            Some(choice) => Ok(Some(entry(choice))),
+            None => Ok(None),
+        }
+    }
+
+    // Offers what is advertised to the network.
+    fn offer_network(
+        &self,
+        alloc: Global,
+        best: &mut Best<ExternalKey, Path>,
+        network: Prefix,
+    ) -> Result<(), Memory>
+        ensures { OnOk result (TakesPaths (NetworkOffers self.now.index.now
+            (preferred_in self.now.preferred.now) (forwards_in self.now.forwards.now) network)
+            best.old best.new) }
+    {
+        let mut keys = Vec::new(alloc);
+        self.index
+            .list_keys(LsaGroup::To(Dest::Net(network)), &mut keys)?;
+        self.offer_keys(best, keys.as_slice())
+    }
+
+    // Offers what is advertised under each of these keys.
+    fn offer_keys(&self, best: &mut Best<ExternalKey, Path>, keys: &[Key]) -> Result<(), Memory>
+        ensures { OnOk result (TakesPaths (KeysOffer keys.now self.now.index.now.routes
+            (preferred_in self.now.preferred.now) (forwards_in self.now.forwards.now))
+            best.old best.new) }
+    {
+        for key in keys {
+            self.offer_key(best, *key)?;
+        }
+        Ok(())
+    }
+
+    // Offers what is advertised under the key, if its AS boundary router has an entry.
+    fn offer_key(&self, best: &mut Best<ExternalKey, Path>, key: Key) -> Result<(), Memory>
+        ensures { OnOk result (TakesPaths (KeyOffers self.now.index.now.routes
+            (preferred_in self.now.preferred.now) (forwards_in self.now.forwards.now) key)
+            best.old best.new) }
+    {
+        let Some(route) = self.index.route(key) else {
+            return Ok(());
+        };
+        // 16.4 (3): the AS boundary router must have an entry.
+        match self.preferred.get(key.router) {
+            Some(entry) => self.offer_route(best, key, *route, entry),
+            None => Ok(()),
+        }
+    }
+
+    // Offers the route of an AS boundary router with this entry.
+    fn offer_route(
+        &self,
+        best: &mut Best<ExternalKey, Path>,
+        key: Key,
+        route: Advertised,
+        entry: &Preferred,
+    ) -> Result<(), Memory>
+        ensures { OnOk result (TakesPaths (AdvertisedOffers (Some entry.now)
+            (map.get (forwards_in self.now.forwards.now) route.forwarding) key route)
+            best.old best.new) }
+    {
+        // 16.4 (3): without a forwarding address packets go to the AS boundary router itself.
+        if route.forwarding() == 0 {
+            let at = ExternalKey::of(route, entry.class(), entry.cost());
+            return offer_hops(best, at, key.router, entry.hops());
+        }
+        match self.forwards.get(route.forwarding()) {
+            Some(forward) => offer_forward(best, key.router, route, forward),
+            None => Ok(()),
+        }
     }
 }
 
 // The external entry of a choice.
 fn entry(choice: Choice<ExternalKey, Path>) -> Entry
     requires { IsStrictlySortedBy path_cmp choice.items }
-    ensures { result ≡ entry_of (external_type choice.key.kind) None choice.key.cost choice.key.metric choice.items }
+    ensures { result ≡ entry_of
+        (external_type choice.key.kind) None choice.key.cost choice.key.metric choice.items }
 {
     let (key, paths) = choice.into_parts();
     Entry {
@@ -133,77 +229,6 @@ fn entry(choice: Choice<ExternalKey, Path>) -> Entry
     }
 }
 
-// Offers what is advertised to the network.
-fn offer_network(
-    alloc: Global,
-    best: &mut Best<ExternalKey, Path>,
-    index: &OfferIndex,
-    preferred: &ResultMap<u32, Preferred>,
-    forwards: &ResultMap<u32, Forward>,
-    network: Prefix,
-) -> Result<(), Memory>
-    ensures { OnOk result (TakesPaths (NetworkOffers index.now (map.from_entries preferred.now.entries) (map.from_entries forwards.now.entries) network) best.old best.new) }
-{
-    let mut keys = Vec::new(alloc);
-    index.push_keys(Group::To(Dest::Net(network)), &mut keys)?;
-    offer_keys(best, index, preferred, forwards, keys.as_slice())
-}
-
-// Offers what is advertised under each of these keys.
-fn offer_keys(
-    best: &mut Best<ExternalKey, Path>,
-    index: &OfferIndex,
-    preferred: &ResultMap<u32, Preferred>,
-    forwards: &ResultMap<u32, Forward>,
-    keys: &[Key],
-) -> Result<(), Memory>
-    ensures { OnOk result (TakesPaths (OfferedBySome keys.now (KeyOffers index.now.routes (map.from_entries preferred.now.entries) (map.from_entries forwards.now.entries))) best.old best.new) }
-{
-    for key in keys {
-        offer_key(best, index, preferred, forwards, *key)?;
-    }
-    Ok(())
-}
-
-// Offers what is advertised under the key, if its AS boundary router has an entry.
-fn offer_key(
-    best: &mut Best<ExternalKey, Path>,
-    index: &OfferIndex,
-    preferred: &ResultMap<u32, Preferred>,
-    forwards: &ResultMap<u32, Forward>,
-    key: Key,
-) -> Result<(), Memory>
-    ensures { OnOk result (TakesPaths (KeyOffers index.now.routes (map.from_entries preferred.now.entries) (map.from_entries forwards.now.entries) key) best.old best.new) }
-{
-    let Some(route) = index.route(key) else {
-        return Ok(());
-    };
-    match preferred.get(key.router) {
-        Some(entry) => offer_route(best, key, *route, entry, forwards),
-        None => Ok(()),
-    }
-}
-
-// Offers the route of an AS boundary router with this entry.
-fn offer_route(
-    best: &mut Best<ExternalKey, Path>,
-    key: Key,
-    route: Advertised,
-    entry: &Preferred,
-    forwards: &ResultMap<u32, Forward>,
-) -> Result<(), Memory>
-    ensures { OnOk result (TakesPaths (AdvertisedOffers (Some entry.now) (map.get (map.from_entries {R = nat_cmp} forwards.now.entries) route.forwarding) key route) best.old best.new) }
-{
-    if route.forwarding() == 0 {
-        let at = ExternalKey::of(route, entry.class(), entry.cost());
-        return offer_hops(best, at, key.router, entry.hops());
-    }
-    match forwards.get(route.forwarding()) {
-        Some(forward) => offer_forward(best, key.router, route, forward),
-        None => Ok(()),
-    }
-}
-
 // Offers the route of the router over the way to its forwarding address, if there is one.
 fn offer_forward(
     best: &mut Best<ExternalKey, Path>,
@@ -211,7 +236,8 @@ fn offer_forward(
     route: Advertised,
     forward: &Forward,
 ) -> Result<(), Memory>
-    ensures { OnOk result (TakesPaths (LeadsOffer (ForwardLeads (Some forward.now)) router route) best.old best.new) }
+    ensures { OnOk result
+        (TakesPaths (LeadsOffer (ForwardLeads (Some forward.now)) router route) best.old best.new) }
 {
     match forward.way() {
         Some(way) => offer_way(best, router, route, way),
@@ -226,7 +252,8 @@ fn offer_way(
     route: Advertised,
     way: &Way,
 ) -> Result<(), Memory>
-    ensures { OnOk result (TakesPaths (LeadsOffer (WayOffers (Some way.now)) router route) best.old best.new) }
+    ensures { OnOk result
+        (TakesPaths (LeadsOffer (WayOffers (Some way.now)) router route) best.old best.new) }
 {
     let at = ExternalKey::of(route, way.class(), way.cost());
     offer_hops(best, at, router, way.hops())

@@ -1,30 +1,24 @@
-ghost use Rattle.std.specs.Prelude.{ℕ, ◌≡◌, ◌≢◌, ◌↔◌, List, Contains, IsSome, IfOk, OnOk, OnErr, false, option_copied};
+ghost use Rattle.std.specs.Prelude.{◌≡◌, ◌≢◌, IfOk, OnOk, OnErr, option_copied};
 ghost use Rattle.std.specs.FinMap as map;
 ghost use Rattle.std.specs.List.{AllPairs};
 ghost use Rattle.std.specs.List.Sorted.{IsStrictlySortedBy};
-ghost use Rattle.ospf_types.specs.declared.hop.NextHop.{NextHop as HopValue};
-ghost use Rattle.ospf_types.specs.declared.key.Dest.{Dest as DestValue};
-ghost use Rattle.ospf_types.specs.declared.key.Dest.TheVariants as dest_value;
-ghost use Rattle.ospf_types.specs.declared.prefix.Prefix.{Prefix as PrefixValue};
-ghost use Rattle.ospf_types.specs.Boundary.{Preference};
-ghost use Rattle.ospf_types.specs.Inputs.{Inputs as Definitions};
 ghost use Rattle.ospf_types.specs.Keys.{dest_cmp};
-ghost use Rattle.external.specs.Inputs.{ExternalInputsValue};
-ghost use Rattle.external.specs.Preferred.{RouterOffers};
-ghost use Rattle.external.specs.Externals.{IsExternalOf, spent_routes};
-ghost use Rattle.external.specs.Changes.{InputsDifferAmong, DiffersAt};
-ghost use Rattle.external.specs.Renewing.{StandsBut};
-ghost use Rattle.external.specs.Right.{AreInputsOf, IsRightFor};
+ghost use Rattle.active_ranges.specs.Lists.{HasJust};
+ghost use Rattle.external.specs.Externals.{HasEntry, HasPreferred, IsExternalOf, no_routes, spent_routes};
+ghost use Rattle.external.specs.Changes.{AreRoutesBehind, DiffersAt};
+ghost use Rattle.external.specs.Updating.{HasBoundaryRouters, StandsBut, StandsButRouters};
+ghost use Rattle.external.specs.Right.{IsRightWith};
 
+use crate::choose::Choosing;
 use crate::forward::Forward;
 use crate::inputs::ExternalInputs;
 use crate::preferred::Preferred;
-use crate::renew::{
-    Choosing, Forwarding, add_routers, push_by, push_forwarded, push_led, push_routers,
-    renew_entries, renew_forwards, renew_preferred,
+use crate::update::{
+    Forwarding, Preferring, add_routers, list_dests_by_addresses, list_dests_by_routers,
+    list_networks_led_to, list_routers,
 };
 use intra::Dirty;
-use offer_index::{Affected, OfferIndex};
+use offer_index::{ChangedOffers, OfferIndex};
 use ospf_types::entry::Entry;
 use ospf_types::key::{Dest, Scope};
 use ospf_types::memory::Memory;
@@ -90,17 +84,17 @@ impl External {
         hashing: RandomState,
     ) -> Result<External, Memory>
         ensures kept { IfOk result (IsExternalOf inputs.now) }
-        ensures right { IfOk result (λ external. (s : Definitions) → AreInputsOf s inputs.now → IsRightFor s external) }
+        ensures right { IfOk result (IsRightWith inputs.now) }
     {
         let mut external = External::blank(alloc, hashing);
         let affected = external.follow_all(alloc, inputs)?;
         let routers = boundary_routers(alloc, inputs)?;
-        external.renew(alloc, inputs, routers.as_slice(), affected)?;
+        external.update_results(alloc, inputs, routers.as_slice(), affected)?;
         Ok(external)
     }
 
     /// Works out again what may differ, and answers the destinations whose result does: networks, and AS boundary routers
-    /// with another preferred entry; ascending, each once. Where memory is refused, all is spent: nothing is answered any
+    /// with another preferred entry; ascending, each once. If memory runs out, all is spent: nothing is answered any
     /// more, and only `build` makes another.
     pub fn update(
         &mut self,
@@ -108,11 +102,12 @@ impl External {
         inputs: &ExternalInputs<'_>,
         dirty: &Dirty,
     ) -> Result<Vec<Dest>, Memory>
-        requires before { (before : ExternalInputsValue) × IsExternalOf before self.old × InputsDifferAmong dirty.now.keys.items dirty.now.dests.items before inputs.now }
+        requires before { AreRoutesBehind dirty.now.keys.items dirty.now.dests.items inputs.now
+            self.old }
         ensures kept { OnOk result (IsExternalOf inputs.now self.new) }
-        ensures right { OnOk result ((s : Definitions) → AreInputsOf s inputs.now → IsRightFor s self.new) }
+        ensures right { OnOk result (IsRightWith inputs.now self.new) }
         ensures in_order { IfOk result (λ dests. IsStrictlySortedBy dest_cmp dests.items) }
-        ensures exact { IfOk result (λ dests. (d : DestValue) → Contains dests.items d ↔ DiffersAt self.old self.new d) }
+        ensures exact { IfOk result (λ dests. HasJust (DiffersAt self.old self.new) dests.items) }
         ensures spent { OnErr result (self.new ≡ spent_routes) }
     {
         let dests = self.update_parts(alloc, inputs, dirty);
@@ -131,7 +126,7 @@ impl External {
 
     /// The networks that have an entry, in no stated order, each once.
     pub fn networks(&self, alloc: Global) -> Result<Vec<Prefix>, Memory>
-        ensures exact { IfOk result (λ networks. (p : PrefixValue) → Contains networks.items p ↔ IsSome (map.get self.now.entries p)) }
+        ensures exact { IfOk result (λ networks. HasJust (HasEntry self.now) networks.items) }
         ensures each_once { IfOk result (λ networks. AllPairs (λ p q. p ≢ q) networks.items) }
     {
         self.entries.keys(alloc)
@@ -146,13 +141,13 @@ impl External {
 
     /// The AS boundary routers that have a preferred entry, in no stated order, each once.
     pub fn routers(&self, alloc: Global) -> Result<Vec<u32>, Memory>
-        ensures exact { IfOk result (λ routers. (r : ℕ) → Contains routers.items r ↔ IsSome (map.get self.now.preferred r)) }
+        ensures exact { IfOk result (λ routers. HasJust (HasPreferred self.now) routers.items) }
         ensures each_once { IfOk result (λ routers. AllPairs (λ q r. q ≢ r) routers.items) }
     {
         self.preferred.keys(alloc)
     }
 
-    /// Whether an update was refused memory.
+    /// Whether an update ran out of memory.
     pub fn spent(&self) -> bool
         ensures { result ≡ self.now.spent }
     {
@@ -163,7 +158,7 @@ impl External {
 impl External {
     // The routes where nothing is advertised.
     fn blank(alloc: Global, hashing: RandomState) -> External
-        ensures { result ≡ record { index = record { routes = map.empty }; preferred = map.empty; forwards = map.empty; entries = map.empty; spent = false } }
+        ensures { result ≡ no_routes }
     {
         External {
             hashing,
@@ -175,20 +170,21 @@ impl External {
         }
     }
 
-    // The same; after an error some parts followed and others did not.
+    // Updates each part in turn. Out of memory, some parts have followed and others have not.
     fn update_parts(
         &mut self,
         alloc: Global,
         inputs: &ExternalInputs<'_>,
         dirty: &Dirty,
     ) -> Result<Vec<Dest>, Memory>
-        requires before { (before : ExternalInputsValue) × IsExternalOf before self.old × InputsDifferAmong dirty.now.keys.items dirty.now.dests.items before inputs.now }
+        requires before { AreRoutesBehind dirty.now.keys.items dirty.now.dests.items inputs.now
+            self.old }
         ensures kept { OnOk result (IsExternalOf inputs.now self.new) }
         ensures in_order { IfOk result (λ dests. IsStrictlySortedBy dest_cmp dests.items) }
-        ensures exact { IfOk result (λ dests. (d : DestValue) → Contains dests.items d ↔ DiffersAt self.old self.new d) }
+        ensures exact { IfOk result (λ dests. HasJust (DiffersAt self.old self.new) dests.items) }
     {
         let affected = self.follow(alloc, inputs, dirty)?;
-        self.renew(alloc, inputs, dirty.dests.as_slice(), affected)
+        self.update_results(alloc, inputs, dirty.dests.as_slice(), affected)
     }
 
     // The index follows. The answer is what may differ for it.
@@ -197,13 +193,15 @@ impl External {
         alloc: Global,
         inputs: &ExternalInputs<'_>,
         dirty: &Dirty,
-    ) -> Result<Affected, Memory>
-        requires before { (before : ExternalInputsValue) × IsExternalOf before self.old × InputsDifferAmong dirty.now.keys.items dirty.now.dests.items before inputs.now }
+    ) -> Result<ChangedOffers, Memory>
+        requires before { AreRoutesBehind dirty.now.keys.items dirty.now.dests.items inputs.now
+            self.old }
         ensures preferred { OnOk result (self.new.preferred ≡ self.old.preferred) }
         ensures entries { OnOk result (self.new.entries ≡ self.old.entries) }
-        ensures stands { IfOk result (λ affected. StandsBut inputs.now dirty.now.dests.items affected self.new) }
+        ensures stands { IfOk result
+            (λ affected. StandsBut inputs.now dirty.now.dests.items affected self.new) }
     {
-        let mut affected = Affected::none(alloc);
+        let mut affected = ChangedOffers::none(alloc);
         self.index.follow(
             inputs.root,
             Scope::As,
@@ -214,48 +212,54 @@ impl External {
         Ok(affected)
     }
 
-    // The same from nothing: all may differ.
-    fn follow_all(&mut self, alloc: Global, inputs: &ExternalInputs<'_>) -> Result<Affected, Memory>
-        requires { self.old ≡ record { index = record { routes = map.empty }; preferred = map.empty; forwards = map.empty; entries = map.empty; spent = false } }
-        ensures { IfOk result (λ affected. (dests : List DestValue) → ((r : ℕ) (preference : Preference) (h : HopValue) → RouterOffers inputs.now r preference h → Contains dests (dest_value.Router r)) → StandsBut inputs.now dests affected self.new) }
+    // The index takes what all LSAs say, where nothing was taken before. The answer is all that they advertise.
+    fn follow_all(
+        &mut self,
+        alloc: Global,
+        inputs: &ExternalInputs<'_>,
+    ) -> Result<ChangedOffers, Memory>
+        requires { self.old ≡ no_routes }
+        ensures { IfOk result (λ affected. StandsButRouters inputs.now affected self.new) }
     {
-        let mut affected = Affected::none(alloc);
+        let mut affected = ChangedOffers::none(alloc);
         self.index
             .follow_all(inputs.root, Scope::As, inputs.database, &mut affected)?;
         Ok(affected)
     }
 
     // Works out again what is named and affected. The answer is the destinations with another result, ascending, each once.
-    fn renew(
+    fn update_results(
         &mut self,
         alloc: Global,
         inputs: &ExternalInputs<'_>,
         dests: &[Dest],
-        affected: Affected,
+        affected: ChangedOffers,
     ) -> Result<Vec<Dest>, Memory>
         requires { StandsBut inputs.now dests.now affected self.old }
         ensures kept { OnOk result (IsExternalOf inputs.now self.new) }
         ensures in_order { IfOk result (λ named. IsStrictlySortedBy dest_cmp named.items) }
-        ensures exact { IfOk result (λ named. (d : DestValue) → Contains named.items d ↔ DiffersAt self.old self.new d) }
+        ensures exact { IfOk result (λ named. HasJust (DiffersAt self.old self.new) named.items) }
     {
-        let Affected {
+        let ChangedOffers {
             dests: mut leading,
             addresses,
         } = affected;
         let index = &self.index;
-        let routers = renew_preferred(alloc, inputs, dests, &mut self.preferred)?;
+        // Preferred entries first, then where forwarding addresses lead, then the networks behind what differs.
+        let preferring = Preferring { inputs };
+        let routers = preferring.update_preferred(alloc, dests, &mut self.preferred)?;
         let forwarding = Forwarding { inputs, index };
-        let moved = renew_forwards(alloc, &forwarding, dests, addresses, &mut self.forwards)?;
-        push_by(index, routers.as_slice(), &mut leading)?;
-        push_forwarded(index, moved.as_slice(), &mut leading)?;
-        push_led(index, dests, &mut leading)?;
+        let moved = forwarding.update_forwards(alloc, dests, addresses, &mut self.forwards)?;
+        list_dests_by_routers(index, routers.as_slice(), &mut leading)?;
+        list_dests_by_addresses(index, moved.as_slice(), &mut leading)?;
+        list_networks_led_to(index, dests, &mut leading)?;
         let choosing = Choosing {
             inputs,
             index,
             preferred: &self.preferred,
             forwards: &self.forwards,
         };
-        let mut named = renew_entries(alloc, &choosing, leading.as_slice(), &mut self.entries)?;
+        let mut named = choosing.update_entries(alloc, leading.as_slice(), &mut self.entries)?;
         add_routers(routers.as_slice(), &mut named)?;
         Ok(named)
     }
@@ -273,11 +277,11 @@ impl External {
 
 // The AS boundary routers to which something leads.
 fn boundary_routers(alloc: Global, inputs: &ExternalInputs<'_>) -> Result<Vec<Dest>, Memory>
-    ensures { IfOk result (λ dests. (r : ℕ) (preference : Preference) (h : HopValue) → RouterOffers inputs.now r preference h → Contains dests.items (dest_value.Router r)) }
+    ensures { IfOk result (λ dests. HasBoundaryRouters inputs.now dests.items) }
 {
     let mut routers = inputs.intra.routers(alloc)?;
     let others = inputs.inter.dests(alloc)?;
-    push_routers(others.as_slice(), &mut routers)?;
+    list_routers(others.as_slice(), &mut routers)?;
     let mut dests = Vec::new(alloc);
     add_routers(routers.as_slice(), &mut dests)?;
     Ok(dests)

@@ -1,9 +1,8 @@
 //! Where a forwarding address leads (RFC 2328, 16.4).
-ghost use Rattle.std.specs.Prelude.{ℕ, ◌≡◌, ◌↔◌, ◌<◌, Some, IfOk, IfSome, IsSome, IsTrue, map as list_map, option_copied};
-ghost use Rattle.ospf_types.specs.declared.hop.NextHop.{NextHop as HopValue};
+ghost use Rattle.std.specs.Prelude.{◌≡◌, ◌↔◌, ◌<◌, Some, IfOk, IfSome, IsSome, IsTrue, option_copied};
 ghost use Rattle.ospf_types.specs.External.{toward};
 ghost use Rattle.inter.specs.Inters.{most_cost};
-ghost use Rattle.external.specs.Forwards.{IsForwardOf, IsMatchOf, LeadsBy, Matches, WayOffers, class_at, internal_entry};
+ghost use Rattle.external.specs.Forwards.{HaveOneCost, IsForwardOf, IsMatchOf, IsWayBy, Matches, class_at, hops_toward, internal_entry};
 
 use crate::inputs::ExternalInputs;
 use crate::preferred::class_of;
@@ -70,7 +69,7 @@ impl Way {
 
     // Whether class and cost are equal.
     fn has_numbers_of(&self, other: &Way) -> bool
-        ensures { IsTrue result ↔ ((self.now.class ≡ other.now.class) × (self.now.cost ≡ other.now.cost)) }
+        ensures { IsTrue result ↔ HaveOneCost self.now other.now }
     {
         self.class == other.class && self.cost == other.cost
     }
@@ -136,6 +135,7 @@ pub(crate) fn look_up(
 ) -> Result<Forward, Memory>
     ensures { IfOk result (IsForwardOf inputs.now address) }
 {
+    // 16.4 (3): the match of the forwarding address must be an intra-area or inter-area path.
     match longest_match(inputs, address) {
         Some(network) => Ok(Forward {
             matched: Some(network),
@@ -196,7 +196,7 @@ fn way_by(
     network: Prefix,
     address: u32,
 ) -> Result<Option<Way>, Memory>
-    ensures { IfOk result (λ way. (class cost : ℕ) (h : HopValue) → WayOffers way class cost h ↔ LeadsBy inputs.now address (Some network) class cost h) }
+    ensures { IfOk result (IsWayBy inputs.now address (Some network)) }
 {
     match internal(inputs, network) {
         Some(entry) => Ok(Some(Way {
@@ -220,7 +220,7 @@ fn class_at(inputs: &ExternalInputs<'_>, network: Prefix, area: Option<u32>) -> 
 
 // The next hops of the paths, each toward the address.
 fn hops_toward(alloc: Global, address: u32, paths: &[Path]) -> Result<Vec<NextHop>, Memory>
-    ensures { IfOk result (λ hops. hops.items ≡ list_map (λ path. toward address path.hop) paths.now) }
+    ensures { IfOk result (λ hops. hops.items ≡ hops_toward address paths.now) }
 {
     let mut hops = Vec::with_capacity(alloc, paths.len())?;
     for path in paths {

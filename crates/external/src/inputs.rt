@@ -1,8 +1,8 @@
+use active_ranges::ActiveRanges;
 use inter::Inter;
 use intra::Intra;
 use lsdb::Database;
 use std::marker::Model;
-use summaries::ActiveRanges;
 
 /// What external routes are calculated from.
 #[derive(Drop)]
@@ -26,7 +26,7 @@ impl<'a> Model for ExternalInputs<'a> {
     ghost use Rattle.ospf_types.specs.Keys.{key_code};
     ghost use Rattle.lsdb.specs.Databases.{Database as Lsas};
     ghost use Rattle.intra.specs.contracts.intra.Intra as intra_routes;
-    ghost use Rattle.summaries.specs.contracts.active.ActiveRanges as active_ranges;
+    ghost use Rattle.active_ranges.specs.contracts.active.ActiveRanges as active_ranges;
     ghost use Rattle.inter.specs.contracts.inter.Inter as inter_routes;
     ghost use Rattle.external.specs.Inputs.{ExternalInputsValue};
 

@@ -8,7 +8,7 @@ mod external;
 mod forward;
 mod inputs;
 mod preferred;
-mod renew;
+mod update;
 
 pub use external::External;
 pub use inputs::ExternalInputs;

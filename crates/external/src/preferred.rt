@@ -1,12 +1,10 @@
 //! The preferred entry of an AS boundary router (RFC 2328, 16.4 and 16.4.1).
 ghost use Rattle.std.specs.Prelude.{◌≡◌, ◌↔◌, ◌<◌, Some, IfOk, OnOk, IsTrue};
-ghost use Rattle.std.specs.FinMap as map;
-ghost use Rattle.ospf_types.specs.declared.key.Dest.TheVariants as dest_value;
 ghost use Rattle.ospf_types.specs.Boundary.{class_of};
 ghost use Rattle.path_choice.specs.Takes.{OnlyOffer, OfferedBySome};
 ghost use Rattle.inter.specs.Inters.{most_cost};
-ghost use Rattle.external.specs.Choosing.{TakesHops, HopsOffer, AreaOffers};
-ghost use Rattle.external.specs.Preferred.{RouterOffers, ReachedOffers, EntryOffers, IsPreferredFor};
+ghost use Rattle.external.specs.Choosing.{TakesHops, HopsOffer, AreaOffers, AreasOffer};
+ghost use Rattle.external.specs.Preferred.{RouterOffers, ReachedOffers, EntryOffers, InterEntryOffers, IsPreferredFor};
 
 use crate::inputs::ExternalInputs;
 use ospf_types::entry::Entry;
@@ -53,7 +51,7 @@ impl Model for Preferred {
     ghost invariant = { λ p. p.cost < most_cost };
 }
 
-// What entries of one router are compared by: the lesser class, then the lesser cost, then the greater area.
+// What entries of one router are compared by: the lesser class (16.4.1), then the lesser cost, then the greater area (16.4 (3)).
 #[derive(Clone, Copy, PartialEq, Eq, PartialOrd, Ord)]
 struct PreferenceKey {
     class: u8,
@@ -156,6 +154,7 @@ pub(crate) fn choose_preferred(
     ensures { IfOk result (IsPreferredFor (RouterOffers inputs.now router)) }
 {
     let mut best = Best::new(alloc);
+    // 16.4 (3): the router may have an entry in each area.
     offer_areas(&mut best, inputs, router)?;
     offer_entry(&mut best, inputs, router)?;
     match best.into_choice() {
@@ -169,6 +168,7 @@ pub(crate) fn choose_preferred(
 pub(crate) fn class_of(compat: bool, within: Option<u32>) -> u8
     ensures { result ≡ class_of compat within }
 {
+    // 16.4.1: intra-area paths through other areas than the backbone are the most preferred.
     if compat {
         return 0;
     }
@@ -197,7 +197,7 @@ fn offer_areas(
     inputs: &ExternalInputs<'_>,
     router: u32,
 ) -> Result<(), Memory>
-    ensures { OnOk result (TakesHops (OfferedBySome inputs.now.areas (ReachedOffers inputs.now router)) best.old best.new) }
+    ensures { OnOk result (TakesHops (AreasOffer inputs.now router) best.old best.new) }
 {
     for area in inputs.areas {
         offer_area(best, inputs, *area, router)?;
@@ -227,7 +227,8 @@ fn offer_reached(
     area: u32,
     reached: &Reached,
 ) -> Result<(), Memory>
-    ensures { OnOk result (TakesHops (AreaOffers compat area (Some reached.now)) best.old best.new) }
+    ensures { OnOk result
+        (TakesHops (AreaOffers compat area (Some reached.now)) best.old best.new) }
 {
     if !reached.is_boundary() {
         return Ok(());
@@ -242,7 +243,7 @@ fn offer_entry(
     inputs: &ExternalInputs<'_>,
     router: u32,
 ) -> Result<(), Memory>
-    ensures { OnOk result (TakesHops (EntryOffers inputs.now.compat (map.get inputs.now.inter.entries (dest_value.Router router))) best.old best.new) }
+    ensures { OnOk result (TakesHops (InterEntryOffers inputs.now router) best.old best.new) }
 {
     match inputs.inter.get(Dest::Router(router)) {
         Some(entry) => offer_inter(best, inputs.compat, entry),
@@ -272,7 +273,8 @@ fn offer_paths(
     key: PreferenceKey,
     paths: &[Path],
 ) -> Result<(), Memory>
-    ensures { OnOk result (TakesHops (OfferedBySome paths.now (λ path. OnlyOffer key path.hop)) best.old best.new) }
+    ensures { OnOk result
+        (TakesHops (OfferedBySome paths.now (λ path. OnlyOffer key path.hop)) best.old best.new) }
 {
     for path in paths {
         offer_hop(best, key, path.hop)?;

@@ -3,7 +3,7 @@
 #![tactic(auto)]
 
 use abr_router::{
-    Address, AreaConfig, Areas, Config, Core, Dest, Due, Event, Memory, Ranges, Scope, read,
+    Address, AreaConfig, Areas, Config, Core, Dest, DueSummary, Event, Memory, Ranges, Scope, read,
 };
 use anyhow::Result;
 use std::alloc::Global;
@@ -63,7 +63,7 @@ fn up(id: u8, area: u32, address: [u8; 4]) -> Event {
 }
 
 // The LS type of a summary-LSA, its destination and its metric (12.4.3).
-fn print_due(rt: &impl Print, due: &Due) -> io::Result<()> {
+fn print_due(rt: &impl Print, due: &DueSummary) -> io::Result<()> {
     let (kind, metric) = (due.kind, due.metric);
     match due.dest {
         Dest::Net(network) => println!(rt; "due {kind} {network} {metric}"),

@@ -1,12 +1,11 @@
 -- What is added to a list, and the ways of a router that are.
-use Rattle.std.proofs.Common.{◌≡◌, ℕ, ◌<◌, ◌≤◌, ◌+◌, List, [], ◌∷◌, ◌++◌, length, get_or, take, Result, Ok, Err, sym, subst, ◌⊎◌, inl, inr, ⊎_elim}
-use Rattle.std.specs.Prelude.{◌↔◌, OnOk}
+use Rattle.std.proofs.Common.{◌≡◌, ℕ, ◌<◌, ◌≤◌, ◌+◌, List, [], ◌∷◌, ◌++◌, length, get_or, take, sym, subst, ◌⊎◌, inl, inr, ⊎_elim}
+use Rattle.std.specs.Prelude.{◌↔◌}
 use Rattle.std.specs.List.{Contains}
 use Rattle.std.proofs.lemmas.List.{take_more, take_all}
 use Rattle.std.proofs.lemmas.List.Elements.{Contains-append_left, Contains-append_right, Contains-append_cases, Contains-push_cases}
 use Rattle.ospf_types.specs.declared.label.Label.{Label}
 use Rattle.ospf_types.specs.declared.label.Label.TheVariants.{Over, At, Plain}
-use Rattle.ospf_types.specs.declared.memory.Memory.{Memory}
 use Rattle.ospf_types.proofs.Elements.{no_element, first_element}
 use Rattle.graph_links.specs.declared.end.End.{End}
 use Rattle.graph_links.specs.declared.link.Link.{Link}
@@ -36,17 +35,12 @@ module _ {X : Type 0} where
     λ h. ⊎_elim (λ (early : Contains xs l). Contains-append_left xs ys l early) (λ (p : P l). Contains-append_right xs ys l ((are l).1 p)) h,
   )
 
--- the same links said another way
+-- added links, said another way
 pub adds_same : (xs ys : List Link) (P Q : Link → Type 0) → ((l : Link) → P l ↔ Q l) → Adds xs ys P → Adds xs ys Q
 adds_same xs ys P Q same adds l = (
   λ c. ⊎_elim (λ (x : Contains xs l). inl x) (λ (p : P l). inr ((same l).0 p)) ((adds l).0 c),
   λ h. ⊎_elim (λ (x : Contains xs l). (adds l).1 (inl x)) (λ (q : Q l). (adds l).1 (inr ((same l).1 q))) h,
 )
-
--- the same of a result
-pub ok_same : (r : Result (Unit {0}) Memory) (xs ys : List Link) (P Q : Link → Type 0) → ((l : Link) → P l ↔ Q l) → OnOk r (Adds xs ys P) → OnOk r (Adds xs ys Q)
-ok_same (Ok done) xs ys P Q same adds = adds_same xs ys P Q same adds
-ok_same (Err error) xs ys P Q same adds = tt
 
 module _ (root router : ℕ) (detail : ℕ) where
   -- a label rests on some of the interfaces or on others
@@ -92,10 +86,10 @@ pub over_all : (root : ℕ) (e : End) (ups : List Up) (i : ℕ) (xs ys : List Wa
 over_all root e ups i xs ys le adds = subst (λ (us : List Up). Adds xs ys (IsWay root us root e)) (take_all i ups le) adds
 
 -- the ways are those over these ends
-abbrev pub AreWays : ℕ → List Up → ℕ → List End → List Way → Type 0
-AreWays root ups router ends ways = (w : Way) → Contains ways w ↔ IsWayOver root ups router ends w
+abbrev pub AreWaysBy : ℕ → List Up → ℕ → List End → List Way → Type 0
+AreWaysBy root ups router ends ways = (w : Way) → Contains ways w ↔ IsWayOver root ups router ends w
 
-pub ways_none : (root router : ℕ) (ups : List Up) (ways : List Way) → ways ≡ [] → AreWays root ups router [] ways
+pub ways_none : (root router : ℕ) (ups : List Up) (ways : List Way) → ways ≡ [] → AreWaysBy root ups router [] ways
 ways_none root router ups ways none w = (
   λ c. absurd (no_element w (subst (λ (ws : List Way). Contains ws w) none c)),
   λ h. absurd (no_element h.0 h.1),
@@ -103,7 +97,7 @@ ways_none root router ups ways none w = (
 
 -- the loop over ends, one on
 pub ways_on : (root router : ℕ) (ups : List Up) (es : List End) (i : ℕ) (d : End) (ways ways_new : List Way) → i < length es
-    → AreWays root ups router (take i es) ways → Adds ways ways_new (IsWay root ups router (get_or es i d)) → AreWays root ups router (take (i + 1) es) ways_new
+    → AreWaysBy root ups router (take i es) ways → Adds ways ways_new (IsWay root ups router (get_or es i d)) → AreWaysBy root ups router (take (i + 1) es) ways_new
 ways_on root router ups es i d ways ways_new lt before then w =
     let more : IsWayOver root ups router (take (i + 1) es) w ↔ (IsWayOver root ups router (take i es) w ⊎ IsWay root ups router (get_or es i d) w) =
     subst (λ (fs : List End). IsWayOver root ups router fs w ↔ (IsWayOver root ups router (take i es) w ⊎ IsWay root ups router (get_or es i d) w)) (sym (take_more es i d lt)) (over_one_more root router ups (take i es) (get_or es i d) w) in (
@@ -112,5 +106,5 @@ ways_on root router ups es i d ways ways_new lt before then w =
     )
 
 -- and at its end
-pub ways_all : (root router : ℕ) (ups : List Up) (es : List End) (i : ℕ) (ways : List Way) → length es ≤ i → AreWays root ups router (take i es) ways → AreWays root ups router es ways
-ways_all root router ups es i ways le are = subst (λ (fs : List End). AreWays root ups router fs ways) (take_all i es le) are
+pub ways_all : (root router : ℕ) (ups : List Up) (es : List End) (i : ℕ) (ways : List Way) → length es ≤ i → AreWaysBy root ups router (take i es) ways → AreWaysBy root ups router es ways
+ways_all root router ups es i ways le are = subst (λ (fs : List End). AreWaysBy root ups router fs ways) (take_all i es le) are

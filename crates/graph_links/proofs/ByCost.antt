@@ -7,7 +7,7 @@ use Rattle.std.proofs.lemmas.Bool.{cases_lt}
 use Rattle.std.proofs.lemmas.Bool.Decides.{nat_tests}
 use Rattle.std.proofs.lemmas.List.{get_or-take, get_or-drop, get_or_default, length-take-le, length-drop}
 use Rattle.graph_links.specs.declared.link.Link.{Link}
-use Rattle.graph_links.specs.Sides.{IsByCost}
+use Rattle.graph_links.specs.Differing.{IsByCost}
 
 -- where a link is dearer that stands behind those passed over, what is cheaper is not there
 pub none_behind : (xs : List Link) (i : ℕ) (x l : Link) → IsByCost xs → i < length xs → x ≡ get_or xs i x → l.cost < x.cost → (Contains (take i xs) l → ⊥) → Contains xs l → ⊥

@@ -27,16 +27,16 @@ searched (Err i) ends end at within ok = absurd cc
 -- ---- links from one vertex to another
 
 -- the list has, beside those that it had, the links from one vertex to the other
-abbrev pub IsPushed : Links → Vertex → Vertex → List Link → List Link → Type 0
-IsPushed Link_of v w old new = (l : Link) → Contains new l ↔ (Contains old l ⊎ IsOutTo Link_of v l w)
+abbrev pub IsListed : Links → Vertex → Vertex → List Link → List Link → Type 0
+IsListed Link_of v w old new = (l : Link) → Contains new l ↔ (Contains old l ⊎ IsOutTo Link_of v l w)
 
-pub as_pushed : (root : ℕ) (ups : List Up) (leading : Leading) (v w from to : Vertex) (ends back : List End) (old new : List Link) → from ≡ v → to ≡ w → ends ≡ ends_or (leading v) → back ≡ ends_or (leading w)
+pub as_listed : (root : ℕ) (ups : List Up) (leading : Leading) (v w from to : Vertex) (ends back : List End) (old new : List Link) → from ≡ v → to ≡ w → ends ≡ ends_or (leading v) → back ≡ ends_or (leading w)
     → ((l : Link) → Contains new l ↔ (Contains old l ⊎ ((l.from ≡ from) × (l.to ≡ to) × IsPairLink root ups from ends to back l.cost l.label)))
-    → IsPushed (LinksBy root ups leading) v w old new
-as_pushed root ups leading v w from to ends back old new from_is to_is ends_are back_are pushes l =
+    → IsListed (LinksBy root ups leading) v w old new
+as_listed root ups leading v w from to ends back old new from_is to_is ends_are back_are lists l =
     let Pair : Vertex → Vertex → List End → List End → Type 0 = λ a b x y. Contains new l ↔ (Contains old l ⊎ ((l.from ≡ a) × (l.to ≡ b) × IsPairLink root ups a x b y l.cost l.label)) in
     let here : Pair v w (ends_or (leading v)) (ends_or (leading w)) =
-    subst (λ (t : (Vertex × Vertex) × (List End × List End)). Pair t.0.0 t.0.1 t.1.0 t.1.1) (λ i. ((from_is i, to_is i), (ends_are i, back_are i))) (pushes l) in
+    subst (λ (t : (Vertex × Vertex) × (List End × List End)). Pair t.0.0 t.0.1 t.1.0 t.1.1) (λ i. ((from_is i, to_is i), (ends_are i, back_are i))) (lists l) in
     let Link_of : Vertex × Vertex → Type 0 = λ p. LinksBy root ups leading p.0 p.1 l.cost l.label in (
       λ c. ⊎_elim (λ (o : Contains old l). inl o) (λ (n : (l.from ≡ v) × (l.to ≡ w) × LinksBy root ups leading v w l.cost l.label). inr (n.0, n.1, subst Link_of (λ i. (sym n.0 i, sym n.1 i)) n.2)) (here.0 c),
       λ c. here.1 (⊎_elim (λ (o : Contains old l). inl o) (λ (n : IsOutTo (LinksBy root ups leading) v l w). inr (n.0, n.1, subst Link_of (λ i. (n.0 i, n.1 i)) n.2)) c),
@@ -57,9 +57,9 @@ module _ (root : ℕ) (ups : List Up) (leading : Leading) (v w : Vertex) (back :
       let Link_of : Vertex × Vertex → Type 0 = λ p. LinksBy root ups leading p.0 p.1 l.cost l.label in
       not_named (pair_names root ups w v (ends_or (leading w)) (ends_or (leading v)) l.cost l.label (subst Link_of (λ i. (is.0 i, is.1 i)) is.2))
 
--- so nothing is pushed
-pub none_pushed : (links : List Link) (P : Link → Type 0) → ((l : Link) → P l → ⊥) → (l : Link) → Contains links l ↔ (Contains links l ⊎ P l)
-none_pushed links P none l = (λ c. inl c, λ h. ⊎_elim (λ (c : Contains links l). c) (λ (p : P l). absurd (none l p)) h)
+-- so nothing is listed
+pub none_listed : (links : List Link) (P : Link → Type 0) → ((l : Link) → P l → ⊥) → (l : Link) → Contains links l ↔ (Contains links l ⊎ P l)
+none_listed links P none l = (λ c. inl c, λ h. ⊎_elim (λ (c : Contains links l). c) (λ (p : P l). absurd (none l p)) h)
 
 -- ends that are not none are all that there are at the vertex
 pub some_at : (v : Vertex) (all ends : List End) → IsStrictlySortedBy end_cmp ends → ((e : End) → Contains ends e ↔ (Contains all e × (e.to ≡ v))) → ends ≢ [] → AreAllAt v all ends

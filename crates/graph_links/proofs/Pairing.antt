@@ -1,10 +1,9 @@
 -- The links of two vertices that name each other.
-use Rattle.std.proofs.Common.{◌≡◌, ℕ, List, [], ◌∷◌, ◌++◌, Result, refl, sym, subst, ◌∙◌}
-use Rattle.std.specs.Prelude.{◌↔◌, OnOk}
+use Rattle.std.proofs.Common.{◌≡◌, ℕ, List, [], ◌∷◌, ◌++◌, refl, sym, subst, ◌∙◌}
+use Rattle.std.specs.Prelude.{◌↔◌}
 use Rattle.ospf_types.specs.declared.entry.Vertex.{Vertex}
 use Rattle.ospf_types.specs.declared.entry.Vertex.TheVariants.{Router, Network}
 use Rattle.ospf_types.specs.declared.label.Label.TheVariants.{At}
-use Rattle.ospf_types.specs.declared.memory.Memory.{Memory}
 use Rattle.graph_links.specs.declared.end.End.{End}
 use Rattle.graph_links.specs.declared.link.Link.{Link}
 use Rattle.graph_links.specs.declared.link.Up.{Up}
@@ -21,7 +20,7 @@ all_named v all ends are = (are.some.0, ((are.exact are.some.0).0 are.some.1).0,
 abbrev pub IsFromTo : ℕ → List Up → Vertex → List End → Vertex → List End → Link → Type 0
 IsFromTo root ups from ends to back l = (l.from ≡ from) × (l.to ≡ to) × IsPairLink root ups from ends to back l.cost l.label
 
-onto_pair : (root : ℕ) (ups : List Up) (network : ℕ) (to : Vertex) (ends back : List End) → Names ends to → Names back (Network network) → (l : Link) → IsOnto network to back l ↔ IsFromTo root ups (Network network) ends to back l
+onto_pair : (root : ℕ) (ups : List Up) (network : ℕ) (to : Vertex) (ends back : List End) → Names ends to → Names back (Network network) → (l : Link) → IsOnto (Network network) to back l ↔ IsFromTo root ups (Network network) ends to back l
 onto_pair root ups network (Router t) ends back named back_named l = (
   λ h. (h.0, h.1, (named, h.3, back_named, h.4)),
   λ h. (h.0, h.1, (t, refl), h.2.1, h.2.3),
@@ -30,23 +29,19 @@ onto_pair root ups network (Network t) ends back named back_named l = (λ h. let
 
 -- the link of a network to a vertex, each naming the other, is there if that is a router
 pub network_pair : (root : ℕ) (ups : List Up) (network : ℕ) (from to : Vertex) (ends back : List End) → from ≡ Network network → Names ends to → Names back from
-    → (l : Link) → IsOnto network to back l ↔ IsFromTo root ups from ends to back l
+    → (l : Link) → IsOnto from to back l ↔ IsFromTo root ups from ends to back l
 network_pair root ups network from to ends back is named back_named l =
-    subst (λ (v : Vertex). Names back v → IsOnto network to back l ↔ IsFromTo root ups v ends to back l) (sym is) (λ n. onto_pair root ups network to ends back named n l) back_named
+    subst (λ (v : Vertex). Names back v → IsOnto v to back l ↔ IsFromTo root ups v ends to back l) (sym is) (λ n. onto_pair root ups network to ends back named n l) back_named
 
 -- the link of a network to a router is added
-pub onto_added : (network router : ℕ) (to : Vertex) (back : List End) (addresses : List ℕ) (xs ys : List Link) → to ≡ Router router → AreDetailsTo (Network network) back addresses
-    → ys ≡ xs ++ record { from = Network network; to = to; cost = 0; label = At addresses } ∷ [] → Adds xs ys (IsOnto network to back)
-onto_added network router to back addresses xs ys is are pushed =
-    subst (λ (zs : List Link). Adds xs zs (IsOnto network to back)) (sym pushed) (adds_one xs (record { from = Network network; to = to; cost = 0; label = At addresses }) (IsOnto network to back)
+pub onto_added : (network : Vertex) (router : ℕ) (to : Vertex) (back : List End) (addresses : List ℕ) (xs ys : List Link) → to ≡ Router router → AreDetailsTo network back addresses
+    → ys ≡ xs ++ record { from = network; to = to; cost = 0; label = At addresses } ∷ [] → Adds xs ys (IsOnto network to back)
+onto_added network router to back addresses xs ys is are listed =
+    subst (λ (zs : List Link). Adds xs zs (IsOnto network to back)) (sym listed) (adds_one xs (record { from = network; to = to; cost = 0; label = At addresses }) (IsOnto network to back)
     (refl, refl, (router, is), refl, (addresses, are, refl))
-    (λ l h. let same : h.4.0 ≡ addresses = one_list_of_details (Network network) back h.4.0 addresses h.4.1 are in
+    (λ l h. let same : h.4.0 ≡ addresses = one_list_of_details network back h.4.0 addresses h.4.1 are in
     λ i. record { from = h.0 i; to = h.1 i; cost = h.3 i; label = (h.4.2 ∙ (λ j. At (same j))) i }))
 
--- and that is one link alone
-pub onto_apart : (network : ℕ) (to : Vertex) (old new : List Link) (l : Link) → new ≡ old ++ l ∷ [] → l.from ≡ Network network → l.to ≡ to → KeepsApart (Network network) to old new
-onto_apart network to old new l pushed from_is to_is apart none = subst AreApart (sym pushed) (apart_push old l apart (λ c. none l c from_is to_is))
-
--- the vertex that links are from by another name
-pub apart_from : (r : Result (Unit {0}) Memory) (from v to : Vertex) (old new : List Link) → from ≡ v → OnOk r (KeepsApart v to old new) → OnOk r (KeepsApart from to old new)
-apart_from r from v to old new is keeps = subst (λ (u : Vertex). OnOk r (KeepsApart u to old new)) (sym is) keeps
+-- and that is only one link
+pub onto_apart : (network to : Vertex) (old new : List Link) (l : Link) → new ≡ old ++ l ∷ [] → l.from ≡ network → l.to ≡ to → KeepsApart network to old new
+onto_apart network to old new l listed from_is to_is apart none = subst AreApart (sym listed) (apart_push old l apart (λ c. none l c from_is to_is))

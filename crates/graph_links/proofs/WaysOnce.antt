@@ -27,7 +27,7 @@ use Rattle.graph_links.specs.declared.link.Link.{Link}
 use Rattle.graph_links.specs.declared.link.Up.{Up}
 use Rattle.graph_links.specs.declared.ways.Way.{Way}
 use Rattle.graph_links.specs.Pairs.{Adds, AreApart, AreCheap, IsOutLabel, IsWay, IsWayOver, KeepsApart, Names, label_over, link_by, plain_ways}
-use Rattle.graph_links.proofs.Adding.{AreWays, adds_list}
+use Rattle.graph_links.proofs.Adding.{AreWaysBy, adds_list}
 use Rattle.graph_links.proofs.Apart.{Apart, apart_append, apart_cons, apart_mapped, apart_nil, apart_strict}
 use Rattle.graph_links.proofs.Pairing.{IsFromTo}
 
@@ -87,7 +87,7 @@ module _ (all sorted kept : List Way) (moved : IsPermutation all sorted) (in_ord
   )
 
   -- and they are the ways that there were
-  pub ways_kept : (root router : ℕ) (ups : List Up) (ends : List End) → AreWays root ups router ends all → AreWays root ups router ends kept
+  pub ways_kept : (root router : ℕ) (ups : List Up) (ends : List End) → AreWaysBy root ups router ends all → AreWaysBy root ups router ends kept
   ways_kept root router ups ends are w = (λ c. (are w).0 ((same_ways w).0 c), λ h. (same_ways w).1 ((are w).1 h))
 
 -- ---- the links by ways
@@ -109,41 +109,41 @@ label_back root router detail ups Plain is = refl
 abbrev way_of : Link → Way
 way_of l = record { cost = l.cost; interface = interface_of l.label }
 
-way_back : (router : ℕ) (to : Vertex) (w : Way) → way_of (link_by router to w) ≡ w
-way_back router to w = λ i. record { cost = w.cost; interface = interface_back w.interface i }
+way_back : (from to : Vertex) (w : Way) → way_of (link_by from to w) ≡ w
+way_back from to w = λ i. record { cost = w.cost; interface = interface_back w.interface i }
 
-link_one : (router : ℕ) (to : Vertex) (v w : Way) → link_by router to v ≡ link_by router to w → v ≡ w
-link_one router to v w same = sym (way_back router to v) ∙ ap way_of same ∙ way_back router to w
+link_one : (from to : Vertex) (v w : Way) → link_by from to v ≡ link_by from to w → v ≡ w
+link_one from to v w same = sym (way_back from to v) ∙ ap way_of same ∙ way_back from to w
 
-module _ (root router : ℕ) (ups : List Up) (to : Vertex) (ends back here : List End) (ways : List Way) (exact : (e : End) → Contains here e ↔ (Contains ends e × (e.to ≡ to))) (are : AreWays root ups router here ways) where
-  by_ways : Names back (Router router) → (l : Link) → Contains (map (link_by router to) ways) l ↔ IsFromTo root ups (Router router) ends to back l
+module _ (root router : ℕ) (ups : List Up) (to : Vertex) (ends back here : List End) (ways : List Way) (exact : (e : End) → Contains here e ↔ (Contains ends e × (e.to ≡ to))) (are : AreWaysBy root ups router here ways) where
+  by_ways : Names back (Router router) → (l : Link) → Contains (map (link_by (Router router) to) ways) l ↔ IsFromTo root ups (Router router) ends to back l
   by_ways named l = (
     λ c.
-        let from = mapped_from (link_by router to) ways l c in
+        let from = mapped_from (link_by (Router router) to) ways l c in
         let over = (are from.0).0 from.1 in
         let at = (exact over.0).0 over.1 in
         subst (IsFromTo root ups (Router router) ends to back) from.2 (refl, refl, (over.0, at.0, at.1, over.2.0, over.2.1, over.2.2, named)),
     λ h.
         let label : label_over (interface_of l.label) ≡ l.label = label_back root router h.2.0.detail ups l.label h.2.5 in
         let there : Contains ways (way_of l) = (are (way_of l)).1 (h.2.0, (exact h.2.0).1 (h.2.1, h.2.2), (h.2.3, h.2.4, subst (IsOutLabel root ups router h.2.0.detail) (sym label) h.2.5)) in
-        let same : link_by router to (way_of l) ≡ l = λ i. record { from = sym h.0 i; to = sym h.1 i; cost = l.cost; label = label i } in
-        subst (Contains (map (link_by router to) ways)) same (mapped_element (link_by router to) ways (way_of l) there),
+        let same : link_by (Router router) to (way_of l) ≡ l = λ i. record { from = sym h.0 i; to = sym h.1 i; cost = l.cost; label = label i } in
+        subst (Contains (map (link_by (Router router) to) ways)) same (mapped_element (link_by (Router router) to) ways (way_of l) there),
   )
 
-  module _ (from : Vertex) (old new : List Link) (is : from ≡ Router router) (pushed : new ≡ old ++ map (link_by router to) ways) where
+  module _ (from : Vertex) (old new : List Link) (is : from ≡ Router router) (listed : new ≡ old ++ map (link_by from to) ways) where
     -- the links of a router to a vertex that leads back are those by its ways there
     pub adds_ways : Names back from → Adds old new (IsFromTo root ups from ends to back)
     adds_ways named =
-        let links : (l : Link) → Contains (map (link_by router to) ways) l ↔ IsFromTo root ups from ends to back l =
-        subst (λ (v : Vertex). Names back v → (l : Link) → Contains (map (link_by router to) ways) l ↔ IsFromTo root ups v ends to back l) (sym is) by_ways named in
-        subst (λ (ls : List Link). Adds old ls (IsFromTo root ups from ends to back)) (sym pushed) (adds_list old (map (link_by router to) ways) (IsFromTo root ups from ends to back) links)
+        let links : (l : Link) → Contains (map (link_by from to) ways) l ↔ IsFromTo root ups from ends to back l =
+        subst (λ (v : Vertex). Names back v → (l : Link) → Contains (map (link_by v to) ways) l ↔ IsFromTo root ups v ends to back l) (sym is) by_ways named in
+        subst (λ (ls : List Link). Adds old ls (IsFromTo root ups from ends to back)) (sym listed) (adds_list old (map (link_by from to) ways) (IsFromTo root ups from ends to back) links)
 
 -- none of which is there twice
-pub apart_ways : (router : ℕ) (from to : Vertex) (ways : List Way) (old new : List Link) → from ≡ Router router → new ≡ old ++ map (link_by router to) ways → Apart ways → KeepsApart from to old new
-apart_ways router from to ways old new is pushed once apart none =
-    subst AreApart (sym pushed)
-    (apart_append old (map (link_by router to) ways) apart (apart_mapped (link_by router to) (link_one router to) ways once)
-    (λ l early late. let by = mapped_from (link_by router to) ways l late in none l early (sym (ap (λ (k : Link). k.from) by.2) ∙ sym is) (sym (ap (λ (k : Link). k.to) by.2))))
+pub apart_ways : (from to : Vertex) (ways : List Way) (old new : List Link) → new ≡ old ++ map (link_by from to) ways → Apart ways → KeepsApart from to old new
+apart_ways from to ways old new listed once apart none =
+    subst AreApart (sym listed)
+    (apart_append old (map (link_by from to) ways) apart (apart_mapped (link_by from to) (link_one from to) ways once)
+    (λ l early late. let by = mapped_from (link_by from to) ways l late in none l early (sym (ap (λ (k : Link). k.from) by.2)) (sym (ap (λ (k : Link). k.to) by.2))))
 
 -- ---- the way over one end, elsewhere than at the root
 
@@ -157,7 +157,7 @@ module _ (root router : ℕ) (ups : List Up) (e : End) (elsewhere : router ≢ r
   plain_label None is = refl
   plain_label (Some id) is = absurd (elsewhere is.0)
 
-  pub plain_are : AreWays root ups router (e ∷ []) (plain_ways e)
+  pub plain_are : AreWaysBy root ups router (e ∷ []) (plain_ways e)
   plain_are w =
       let way : Way = record { cost = e.metric; interface = None } in
       let one : IsWayOver root ups router (e ∷ []) w → (0 < e.metric) × (way ≡ w) =
@@ -182,20 +182,20 @@ plain_once e =
     let way : Way = record { cost = e.metric; interface = None } in
     elim (e.metric == 0) as (λ b. Apart (cond b [] (way ∷ []))) [ true ↦ apart_nil | false ↦ apart_cons way [] (no_element way) apart_nil ]
 
--- ---- links pushed one by one
+-- ---- links listed one by one
 
 -- the loop over ways, one on
-pub links_on : (router : ℕ) (to : Vertex) (ways : List Way) (i : ℕ) (d : Way) (old now new : List Link) (l : Link) → i < length ways
-    → now ≡ old ++ map (link_by router to) (take i ways) → new ≡ now ++ l ∷ [] → l ≡ link_by router to (get_or ways i d) → new ≡ old ++ map (link_by router to) (take (i + 1) ways)
-links_on router to ways i d old now new l lt before pushed is =
-    let f = link_by router to in
-    pushed ∙ (λ k. before k ++ is k ∷ []) ∙ append_assoc old (map f (take i ways)) (f (get_or ways i d) ∷ [])
+pub links_on : (from to : Vertex) (ways : List Way) (i : ℕ) (d : Way) (old now new : List Link) (l : Link) → i < length ways
+    → now ≡ old ++ map (link_by from to) (take i ways) → new ≡ now ++ l ∷ [] → l ≡ link_by from to (get_or ways i d) → new ≡ old ++ map (link_by from to) (take (i + 1) ways)
+links_on from to ways i d old now new l lt before listed is =
+    let f = link_by from to in
+    listed ∙ (λ k. before k ++ is k ∷ []) ∙ append_assoc old (map f (take i ways)) (f (get_or ways i d) ∷ [])
     ∙ ap (λ (ls : List Link). old ++ ls) (sym (map-append f (take i ways) (get_or ways i d ∷ [])) ∙ ap (λ (ws : List Way). map f ws) (sym (take_more ways i d lt)))
 
 -- and at its end
-pub links_all : (router : ℕ) (to : Vertex) (ways : List Way) (i : ℕ) (old now : List Link) → length ways ≤ i → now ≡ old ++ map (link_by router to) (take i ways) → now ≡ old ++ map (link_by router to) ways
-links_all router to ways i old now le before = before ∙ ap (λ (ws : List Way). old ++ map (link_by router to) ws) (take_all i ways le)
+pub links_all : (from to : Vertex) (ways : List Way) (i : ℕ) (old now : List Link) → length ways ≤ i → now ≡ old ++ map (link_by from to) (take i ways) → now ≡ old ++ map (link_by from to) ways
+links_all from to ways i old now le before = before ∙ ap (λ (ws : List Way). old ++ map (link_by from to) ws) (take_all i ways le)
 
 -- a link more leaves metrics of 16 bits
 pub cheap_on : (now new : List Link) (l : Link) → new ≡ now ++ l ∷ [] → AreCheap now → l.cost < 65536 → AreCheap new
-cheap_on now new l pushed cheap one = subst AreCheap (sym pushed) (All-push (λ (k : Link). k.cost < 65536) now l cheap one)
+cheap_on now new l listed cheap one = subst AreCheap (sym listed) (All-push (λ (k : Link). k.cost < 65536) now l cheap one)

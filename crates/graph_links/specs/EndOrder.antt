@@ -1,7 +1,10 @@
--- The order of ends, and the end at a router that a network-LSA lists.
-use Rattle.std.specs.Prelude.{ℕ}
+-- The order of ends, the ends at one vertex, and the end at a router that a network-LSA lists.
+use Rattle.std.specs.Prelude.{◌↔◌, ℕ, ◌≡◌, ◌≢◌, List, Contains}
+use Rattle.std.specs.List.Sorted.{IsPartitionPoint}
 use Rattle.std.specs.Ordering.{nat_cmp, ordering_then}
 use Rattle.std.specs.declared.cmp.Ordering.{Ordering}
+use Rattle.std.specs.declared.cmp.Ordering.TheVariants.{Less, Greater}
+use Rattle.ospf_types.specs.declared.entry.Vertex.{Vertex}
 use Rattle.ospf_types.specs.declared.entry.Vertex.TheVariants.{Router}
 use Rattle.ospf_types.specs.Vertices.{vertex_cmp}
 use Rattle.graph_links.specs.declared.end.End.{End}
@@ -13,3 +16,15 @@ end_cmp a b = ordering_then (vertex_cmp a.to b.to) (ordering_then (nat_cmp a.det
 -- where a router that a network-LSA lists stands
 abbrev pub listed_end : ℕ → End
 listed_end router = record { to = Router router; detail = 0; metric = 0 }
+
+-- the ends of a list that are at the vertex
+abbrev pub AreEndsAt : Vertex → List End → List End → Type 0
+AreEndsAt v all ends = (e : End) → Contains ends e ↔ (Contains all e × (e.to ≡ v))
+
+-- so many ends are below the vertex, and they come before all others
+abbrev pub IsCountBelow : Vertex → List End → ℕ → Type 0
+IsCountBelow v ends n = IsPartitionPoint (λ (e : End). vertex_cmp e.to v ≡ Less) (λ (e : End). vertex_cmp e.to v ≢ Less) ends n
+
+-- so many ends are below the vertex or at it, and they come before all others
+abbrev pub IsCountUpTo : Vertex → List End → ℕ → Type 0
+IsCountUpTo v ends n = IsPartitionPoint (λ (e : End). vertex_cmp e.to v ≢ Greater) (λ (e : End). vertex_cmp e.to v ≡ Greater) ends n

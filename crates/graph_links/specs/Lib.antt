@@ -1,3 +1,4 @@
+pub mod Differing
 pub mod EndOrder
 pub mod Labels
 pub mod Pairs

@@ -2,8 +2,8 @@
 use Rattle.std.specs.Prelude.{◌↔◌, ◌⊎◌, ℕ, ◌≡◌, ◌≢◌, List, [], map, Contains, Option, Some, None, option_map}
 use Rattle.std.specs.FinMap.{find}
 use Rattle.std.specs.Global.{Vec}
-use Rattle.std.specs.List.{All}
-use Rattle.std.specs.List.Sorted.{IsNonDecreasingBy, IsStrictlySortedBy}
+use Rattle.std.specs.List.{All, AllPairs}
+use Rattle.std.specs.List.Sorted.{IsStrictlySortedBy}
 use Rattle.ospf_types.specs.declared.entry.Vertex.{Vertex}
 use Rattle.ospf_types.specs.Distances.{Links}
 use Rattle.ospf_types.specs.Vertices.{vertex_cmp}
@@ -14,10 +14,10 @@ use Rattle.graph_links.specs.declared.link.Up.{Up}
 use Rattle.graph_links.specs.declared.row.Row.{Row}
 use Rattle.graph_links.specs.declared.side.Side.{Side}
 use Rattle.graph_links.specs.EndOrder.{end_cmp}
-use Rattle.graph_links.specs.Pairs.{AreApart, AreCheap}
-use Rattle.graph_links.specs.Pairs.{IsPairLink}
+use Rattle.graph_links.specs.Differing.{IsOnlyIn}
+use Rattle.graph_links.specs.Pairs.{Adds, AreApart, AreCheap, IsPairLink}
 
--- where each vertex leads, where it is there
+-- where each vertex leads, if it is there
 abbrev pub Leading : Type 0
 Leading = Vertex → Option (List End)
 
@@ -27,8 +27,12 @@ RowList = List (Vertex × Row)
 abbrev pub StagedList : Type 0
 StagedList = List (Vertex × Option (Vec End))
 
+-- where the vertex of a row leads, none if there is no row
+abbrev pub ends_of_row : Option Row → Option (List End)
+ends_of_row row = option_map (λ (r : Row). r.ends.items) row
+
 abbrev pub row_ends : RowList → Leading
-row_ends rows v = option_map (λ (row : Row). row.ends.items) (find vertex_cmp v rows)
+row_ends rows v = ends_of_row (find vertex_cmp v rows)
 
 -- what is staged of a vertex stands for what was before
 abbrev pub staged_or : Option (Option (Vec End)) → Option (List End) → Option (List End)
@@ -38,7 +42,7 @@ staged_or (Some given) before = option_map (λ (ends : Vec End). ends.items) giv
 abbrev pub ends_after : RowList → StagedList → Leading
 ends_after rows staged v = staged_or (find vertex_cmp v staged) (row_ends rows v)
 
--- no ends where the vertex is not there
+-- no ends if the vertex is not there
 abbrev pub ends_or : Option (List End) → List End
 ends_or None = []
 ends_or (Some ends) = ends
@@ -49,6 +53,10 @@ LinksBy root ups leading v w cost label = IsPairLink root ups v (ends_or (leadin
 
 abbrev pub ends_in : Side → Leading
 ends_in side = ends_after side.rows.now.entries side.staged.now.entries
+
+-- all that the vertex leads to, nothing if it is not there
+abbrev pub all_ends : Side → Vertex → List End
+all_ends side v = ends_or (ends_in side v)
 
 abbrev pub LinksIn : Side → Links
 LinksIn side = LinksBy side.local.root side.local.interfaces.now (ends_in side)
@@ -70,6 +78,14 @@ IsOutTo Link_of v l w = (l.from ≡ v) × (l.to ≡ w) × Link_of l.from l.to l.
 abbrev pub IsIntoFrom : Links → Vertex → Link → Vertex → Type 0
 IsIntoFrom Link_of v l w = (l.from ≡ w) × (l.to ≡ v) × Link_of l.from l.to l.cost l.label
 
+-- the links out of one vertex to another are added
+abbrev pub AddsOut : Side → Vertex → Vertex → List Link → List Link → Type 0
+AddsOut side v w old new = Adds old new (λ (l : Link). IsOutTo (LinksIn side) v l w)
+
+-- the links into one vertex from another are added
+abbrev pub AddsInto : Side → Vertex → Vertex → List Link → List Link → Type 0
+AddsInto side v w old new = Adds old new (λ (l : Link). IsIntoFrom (LinksIn side) v l w)
+
 abbrev pub AreOut : Links → Vertex → List Link → Type 0
 AreOut Link_of v links = (l : Link) → Contains links l ↔ ((l.from ≡ v) × Link_of l.from l.to l.cost l.label)
 
@@ -85,15 +101,27 @@ pub record IsRow (Link_of : Links) (v : Vertex) (row : Row) : Type 0 where
   pub out_once : AreApart row.out.items
   pub into_once : AreApart row.into.items
 
--- what a vertex has after a change: a row, where it is there
+-- what a vertex has after a change: a row, if it is there
 abbrev pub IsFreshRow : Leading → Links → Vertex → Option Row → Type 0
 IsFreshRow leading Link_of v None = leading v ≡ None
 IsFreshRow leading Link_of v (Some row) = (leading v ≡ Some row.ends.items) × IsRow Link_of v row
+
+-- what a vertex has on that side of a change: a row, if it is there
+abbrev pub IsFreshRowIn : Side → Vertex → Option Row → Type 0
+IsFreshRowIn side v row = IsFreshRow (ends_in side) (LinksIn side) v row
 
 -- a row for each of the vertices
 pub record AreFresh (leading : Leading) (Link_of : Links) (vertices : List Vertex) (fresh : List Fresh) : Type 0 where
   pub each : map (λ (f : Fresh). f.vertex) fresh ≡ vertices
   pub rows : All (λ (f : Fresh). IsFreshRow leading Link_of f.vertex f.row) fresh
+
+-- a row for each of the vertices, by that side of a change
+abbrev pub AreFreshIn : Side → List Vertex → List Fresh → Type 0
+AreFreshIn side vertices fresh = AreFresh (ends_in side) (LinksIn side) vertices fresh
+
+-- no two of the fresh rows are for one vertex
+abbrev pub HaveDifferentVertices : List Fresh → Type 0
+HaveDifferentVertices fresh = AllPairs (λ v w. v ≢ w) (map (λ (f : Fresh). f.vertex) fresh)
 
 -- each vertex has its fresh row, if there is one, and otherwise what it had
 abbrev pub IsPlaced : List Fresh → RowList → RowList → Type 0
@@ -109,7 +137,7 @@ IsChanged leading Link_of touched old new = (v : Vertex) →
     (Contains touched v × IsFreshRow leading Link_of v (find vertex_cmp v new))
     ⊎ ((Contains touched v → ⊥) × (find vertex_cmp v new ≡ find vertex_cmp v old))
 
--- the links out of a vertex by its row, none where it has no row
+-- the links out of a vertex by its row, none if it has no row
 abbrev pub out_of : Option Row → List Link
 out_of None = []
 out_of (Some row) = row.out.items
@@ -128,20 +156,24 @@ AreOwn rows fresh = (f : Fresh) → Contains fresh f → AreLinksOut f.vertex (o
 
 -- the vertex of the fresh row had the link, and has it no longer
 abbrev pub IsTaken : RowList → Link → Fresh → Type 0
-IsTaken rows l f = Contains (out_of (find vertex_cmp f.vertex rows)) l × (Contains (out_of f.row) l → ⊥)
+IsTaken rows l f = IsOnlyIn (out_of (find vertex_cmp f.vertex rows)) (out_of f.row) l
 
 -- it has the link, and had it not
 abbrev pub IsBrought : RowList → Link → Fresh → Type 0
-IsBrought rows l f = Contains (out_of f.row) l × (Contains (out_of (find vertex_cmp f.vertex rows)) l → ⊥)
+IsBrought rows l f = IsOnlyIn (out_of f.row) (out_of (find vertex_cmp f.vertex rows)) l
 
 -- just the links that are so for one of the fresh rows
 abbrev pub AreOfFresh : (Link → Fresh → Type 0) → List Fresh → List Link → Type 0
 AreOfFresh P fresh links = (l : Link) → Contains links l ↔ ((f : Fresh) × Contains fresh f × P l f)
 
--- in ascending cost
-abbrev pub IsByCost : List Link → Type 0
-IsByCost links = IsNonDecreasingBy (λ (l : Link). l.cost) links
+-- just the links that the vertices of the fresh rows had, and have no longer
+abbrev pub HaveGone : RowList → List Fresh → List Link → Type 0
+HaveGone rows fresh links = AreOfFresh (IsTaken rows) fresh links
 
--- the links out of the vertices that are in one graph alone
+-- just the links that the vertices of the fresh rows have, and had not
+abbrev pub HaveCome : RowList → List Fresh → List Link → Type 0
+HaveCome rows fresh links = AreOfFresh (IsBrought rows) fresh links
+
+-- of the links out of these vertices, just those that are only in the first graph
 abbrev pub AreMissing : List Vertex → Links → Links → List Link → Type 0
 AreMissing touched Here There links = (l : Link) → Contains links l ↔ (Contains touched l.from × Here l.from l.to l.cost l.label × (There l.from l.to l.cost l.label → ⊥))

@@ -1,19 +1,16 @@
 //! The ends that are at a vertex.
-ghost use Rattle.std.specs.Prelude.{◌≡◌, ◌≢◌, ◌↔◌, ◌≤◌, length, Contains};
-ghost use Rattle.std.specs.List.Sorted.{IsStrictlySortedBy, IsPartitionPoint};
-ghost use Rattle.ospf_types.specs.Vertices.{vertex_cmp};
-ghost use Rattle.graph_links.specs.EndOrder.{end_cmp};
-ghost use Rattle.graph_links.specs.declared.end.End.{End as EndValue};
+ghost use Rattle.std.specs.Prelude.{◌≤◌, length};
+ghost use Rattle.std.specs.List.Sorted.{IsStrictlySortedBy};
+ghost use Rattle.graph_links.specs.EndOrder.{AreEndsAt, IsCountBelow, IsCountUpTo, end_cmp};
 
 use crate::end::End;
 use ospf_types::entry::Vertex;
-use std::cmp::Ordering;
 
 /// The ends that are at the vertex.
 pub(crate) fn ends_at(ends: &[End], vertex: Vertex) -> &[End]
     requires { IsStrictlySortedBy end_cmp ends.now }
     ensures in_order { IsStrictlySortedBy end_cmp result.now }
-    ensures exact { (e : EndValue) → Contains result.now e ↔ (Contains ends.now e × (e.to ≡ vertex)) }
+    ensures exact { AreEndsAt vertex ends.now result.now }
 {
     let first = first_at(ends, vertex);
     let past = past_from(ends, first, vertex);
@@ -24,20 +21,20 @@ pub(crate) fn ends_at(ends: &[End], vertex: Vertex) -> &[End]
 fn first_at(ends: &[End], vertex: Vertex) -> usize
     requires { IsStrictlySortedBy end_cmp ends.now }
     ensures within { result ≤ length ends.now }
-    ensures split { IsPartitionPoint (λ (e : EndValue). vertex_cmp e.to vertex ≡ Ordering.Less) (λ (e : EndValue). vertex_cmp e.to vertex ≢ Ordering.Less) ends.now result }
+    ensures split { IsCountBelow vertex ends.now result }
 {
     ends.partition_point(|end| end.to.compare(vertex).is_lt())
 }
 
-/// How many ends are below the vertex or at it, where the first ones are below it and no other is. The ends at the vertex are
+/// How many ends are below the vertex or at it, if the first ones are below it and no other is. The ends at the vertex are
 /// passed one by one: who asks goes through them next.
 pub(crate) fn past_from(ends: &[End], first: usize, vertex: Vertex) -> usize
     requires in_order { IsStrictlySortedBy end_cmp ends.now }
     requires within { first ≤ length ends.now }
-    requires split { IsPartitionPoint (λ (e : EndValue). vertex_cmp e.to vertex ≡ Ordering.Less) (λ (e : EndValue). vertex_cmp e.to vertex ≢ Ordering.Less) ends.now first }
+    requires split { IsCountBelow vertex ends.now first }
     ensures from { first ≤ result }
     ensures within { result ≤ length ends.now }
-    ensures split { IsPartitionPoint (λ (e : EndValue). vertex_cmp e.to vertex ≢ Ordering.Greater) (λ (e : EndValue). vertex_cmp e.to vertex ≡ Ordering.Greater) ends.now result }
+    ensures split { IsCountUpTo vertex ends.now result }
 {
     let mut past = first;
     while past < ends.len() && ends[past].to == vertex {

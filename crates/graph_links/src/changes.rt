@@ -1,10 +1,8 @@
 //! The links that a change takes and brings, by the rows of vertices before it and after it.
-ghost use Rattle.std.specs.Prelude.{◌≡◌, ◌≢◌, ◌↔◌, ◌⊎◌, ◌≤◌, ◌<◌, ◌++◌, ◌∷◌, ◌-◌, [], length, take, drop, IsTrue, IfOk, OnOk, Contains, option_copied, map as list_map};
-ghost use Rattle.std.specs.List.{AllPairs};
-ghost use Rattle.std.specs.List.Sorted.{IsPartitionPoint};
+ghost use Rattle.std.specs.Prelude.{◌≡◌, ◌↔◌, ◌≤◌, length, take, IsTrue, IfOk, OnOk, Contains, option_copied};
+ghost use Rattle.graph_links.specs.Differing.{AddsAtMost, AddsUnless, AddsUnlike, HaveSameBack, HaveSameLinks, IsByCost, IsCountCheaper, KeepsApartWith};
 ghost use Rattle.graph_links.specs.Pairs.{AreApart};
-ghost use Rattle.graph_links.specs.Sides.{AreOfFresh, AreOwn, IsBrought, IsByCost, IsTaken, out_of};
-ghost use Rattle.graph_links.specs.declared.link.Link.{Link as LinkValue};
+ghost use Rattle.graph_links.specs.Sides.{AreOwn, HaveCome, HaveDifferentVertices, HaveGone, out_of};
 
 use crate::fresh::Fresh;
 use crate::link::{Link, LinkChanges};
@@ -17,64 +15,56 @@ use std::alloc::Global;
 /// not, each once.
 pub fn changed_links(alloc: Global, rows: &Rows, fresh: &[Fresh]) -> Result<LinkChanges, Memory>
     requires { AreOwn rows.now.entries fresh.now }
-    ensures gone { IfOk result (λ changes. AreOfFresh (IsTaken rows.now.entries) fresh.now changes.gone.items) }
-    ensures came { IfOk result (λ changes. AreOfFresh (IsBrought rows.now.entries) fresh.now changes.came.items) }
-    ensures gone_once { AllPairs (λ v w. v ≢ w) (list_map (λ f. f.vertex) fresh.now) → IfOk result (λ changes. AreApart changes.gone.items) }
-    ensures came_once { AllPairs (λ v w. v ≢ w) (list_map (λ f. f.vertex) fresh.now) → IfOk result (λ changes. AreApart changes.came.items) }
+    ensures gone { IfOk result (λ changes. HaveGone rows.now.entries fresh.now changes.gone.items) }
+    ensures came { IfOk result (λ changes. HaveCome rows.now.entries fresh.now changes.came.items) }
+    ensures gone_once { HaveDifferentVertices fresh.now
+        → IfOk result (λ changes. AreApart changes.gone.items) }
+    ensures came_once { HaveDifferentVertices fresh.now
+        → IfOk result (λ changes. AreApart changes.came.items) }
 {
-    let mut gone = Vec::new(alloc);
-    let mut came = Vec::new(alloc);
+    let mut changes = LinkChanges {
+        gone: Vec::new(alloc),
+        came: Vec::new(alloc),
+    };
     for one in fresh {
         let before = out_links(find_row(rows, &one.vertex).0);
         let after = out_links(one.row.as_ref());
-        push_changes(alloc, before, after, &mut gone, &mut came)?;
+        list_changes(alloc, before, after, &mut changes)?;
     }
-    Ok(LinkChanges { gone, came })
+    Ok(changes)
 }
 
-// Adds the links that are before alone to those that went, and those that are after alone to those that came.
-fn push_changes(
+// Lists the links that are only before among those that went, and the links that are only after among those that came.
+// Links at the front and at the back that are the same in both are left out.
+fn list_changes(
     alloc: Global,
     before: &[Link],
     after: &[Link],
-    gone: &mut Vec<Link>,
-    came: &mut Vec<Link>,
+    changes: &mut LinkChanges,
 ) -> Result<(), Memory>
     requires before { AreApart before.now }
     requires after { AreApart after.now }
-    ensures gone { OnOk result ((l : LinkValue) → Contains gone.new.items l ↔ (Contains gone.old.items l ⊎ (Contains before.now l × (Contains after.now l → ⊥)))) }
-    ensures came { OnOk result ((l : LinkValue) → Contains came.new.items l ↔ (Contains came.old.items l ⊎ (Contains after.now l × (Contains before.now l → ⊥)))) }
-    ensures gone_once { OnOk result (AreApart (gone.old.items ++ before.now) → AreApart gone.new.items) }
-    ensures came_once { OnOk result (AreApart (came.old.items ++ after.now) → AreApart came.new.items) }
+    ensures gone { OnOk result
+        (AddsUnlike before.now after.now changes.old.gone.items changes.new.gone.items) }
+    ensures came { OnOk result
+        (AddsUnlike after.now before.now changes.old.came.items changes.new.came.items) }
+    ensures gone_once { OnOk result
+        (KeepsApartWith before.now changes.old.gone.items changes.new.gone.items) }
+    ensures came_once { OnOk result
+        (KeepsApartWith after.now changes.old.came.items changes.new.came.items) }
 {
-    let same = same_front(before, after);
-    push_behind(alloc, &before[same..], &after[same..], gone, came)
-}
-
-// The same of links that differ at the front: what is the same at the back is left out.
-fn push_behind(
-    alloc: Global,
-    before: &[Link],
-    after: &[Link],
-    gone: &mut Vec<Link>,
-    came: &mut Vec<Link>,
-) -> Result<(), Memory>
-    requires before { AreApart before.now }
-    requires after { AreApart after.now }
-    ensures gone { OnOk result ((l : LinkValue) → Contains gone.new.items l ↔ (Contains gone.old.items l ⊎ (Contains before.now l × (Contains after.now l → ⊥)))) }
-    ensures came { OnOk result ((l : LinkValue) → Contains came.new.items l ↔ (Contains came.old.items l ⊎ (Contains after.now l × (Contains before.now l → ⊥)))) }
-    ensures gone_once { OnOk result (AreApart (gone.old.items ++ before.now) → AreApart gone.new.items) }
-    ensures came_once { OnOk result (AreApart (came.old.items ++ after.now) → AreApart came.new.items) }
-{
-    let same = same_back(before, after);
-    let before = &before[..before.len() - same];
-    let after = &after[..after.len() - same];
-    push_missing(alloc, before, after, gone)?;
-    push_missing(alloc, after, before, came)?;
+    let front = same_front(before, after);
+    let before = &before[front..];
+    let after = &after[front..];
+    let back = same_back(before, after);
+    let before = &before[..before.len() - back];
+    let after = &after[..after.len() - back];
+    list_missing(alloc, before, after, &mut changes.gone)?;
+    list_missing(alloc, after, before, &mut changes.came)?;
     Ok(())
 }
 
-/// The links out of a vertex by its row; none where it has no row.
+/// The links out of a vertex by its row; none if it has no row.
 pub fn out_links(row: Option<&Row>) -> &[Link]
     ensures { result.now ≡ out_of (option_copied row.entry) }
 {
@@ -103,7 +93,7 @@ fn same_front(one: &[Link], other: &[Link]) -> usize
 fn same_back(one: &[Link], other: &[Link]) -> usize
     ensures within_one { result ≤ length one.now }
     ensures within_other { result ≤ length other.now }
-    ensures same { drop (length one.now - result) one.now ≡ drop (length other.now - result) other.now }
+    ensures same { HaveSameBack result one.now other.now }
 {
     let mut same = 0;
     while same < one.len() && same < other.len() {
@@ -119,51 +109,51 @@ fn same_back(one: &[Link], other: &[Link]) -> usize
 // So many links are compared one by one, where they stand.
 const FEW: usize = 8;
 
-// Adds copies of the links that are not among others.
-fn push_missing(
+// Lists copies of the links that are not among others.
+fn list_missing(
     alloc: Global,
     has: &[Link],
     others: &[Link],
     links: &mut Vec<Link>,
 ) -> Result<(), Memory>
-    ensures missing { OnOk result ((l : LinkValue) → Contains links.new.items l ↔ (Contains links.old.items l ⊎ (Contains has.now l × (Contains others.now l → ⊥)))) }
-    ensures apart { OnOk result (AreApart (links.old.items ++ has.now) → AreApart links.new.items) }
+    ensures missing { OnOk result (AddsUnlike has.now others.now links.old.items links.new.items) }
+    ensures apart { OnOk result (KeepsApartWith has.now links.old.items links.new.items) }
 {
     if has.is_empty() {
         return Ok(());
     }
     if others.len() <= FEW {
-        return push_unlike_few(alloc, has, others, links);
+        return list_unlike_few(alloc, has, others, links);
     }
     let others = by_cost(copies(alloc, others)?);
-    push_unlike(copies(alloc, has)?, others.as_slice(), links)
+    list_unlike(copies(alloc, has)?, others.as_slice(), links)
 }
 
-// Adds copies of the links that are not among a few others.
-fn push_unlike_few(
+// Lists copies of the links that are not among a few others.
+fn list_unlike_few(
     alloc: Global,
     has: &[Link],
     others: &[Link],
     links: &mut Vec<Link>,
 ) -> Result<(), Memory>
-    ensures missing { OnOk result ((l : LinkValue) → Contains links.new.items l ↔ (Contains links.old.items l ⊎ (Contains has.now l × (Contains others.now l → ⊥)))) }
-    ensures apart { OnOk result (AreApart (links.old.items ++ has.now) → AreApart links.new.items) }
+    ensures missing { OnOk result (AddsUnlike has.now others.now links.old.items links.new.items) }
+    ensures apart { OnOk result (KeepsApartWith has.now links.old.items links.new.items) }
 {
     for link in has {
-        push_unless_same(alloc, link, others, links)?;
+        list_unless_same(alloc, link, others, links)?;
     }
     Ok(())
 }
 
-// Adds a copy of the link, unless it is one of a few others.
-fn push_unless_same(
+// Lists a copy of the link, unless it is one of a few others.
+fn list_unless_same(
     alloc: Global,
     link: &Link,
     others: &[Link],
     links: &mut Vec<Link>,
 ) -> Result<(), Memory>
-    ensures unlike { OnOk result ((l : LinkValue) → Contains links.new.items l ↔ (Contains links.old.items l ⊎ ((l ≡ link.now) × (Contains others.now l → ⊥)))) }
-    ensures once { OnOk result ((links.new.items ≡ links.old.items) ⊎ (links.new.items ≡ links.old.items ++ link.now ∷ [])) }
+    ensures unlike { OnOk result (AddsUnless link.now others.now links.old.items links.new.items) }
+    ensures once { OnOk result (AddsAtMost link.now links.old.items links.new.items) }
 {
     if is_one_of(link, others) {
         return Ok(());
@@ -207,7 +197,7 @@ fn copy(alloc: Global, link: &Link) -> Result<Link, Memory>
 
 // The links in ascending cost: there may be thousands between two routers.
 fn by_cost(links: Vec<Link>) -> Vec<Link>
-    ensures same { (l : LinkValue) → Contains result.items l ↔ Contains links.items l }
+    ensures same { HaveSameLinks links.items result.items }
     ensures ascending { IsByCost result.items }
 {
     let mut links = links;
@@ -215,23 +205,23 @@ fn by_cost(links: Vec<Link>) -> Vec<Link>
     links
 }
 
-// Adds the links that are not among others.
-fn push_unlike(has: Vec<Link>, others: &[Link], links: &mut Vec<Link>) -> Result<(), Memory>
+// Lists the links that are not among others.
+fn list_unlike(has: Vec<Link>, others: &[Link], links: &mut Vec<Link>) -> Result<(), Memory>
     requires { IsByCost others.now }
-    ensures unlike { OnOk result ((l : LinkValue) → Contains links.new.items l ↔ (Contains links.old.items l ⊎ (Contains has.items l × (Contains others.now l → ⊥)))) }
-    ensures apart { OnOk result (AreApart (links.old.items ++ has.items) → AreApart links.new.items) }
+    ensures unlike { OnOk result (AddsUnlike has.items others.now links.old.items links.new.items) }
+    ensures apart { OnOk result (KeepsApartWith has.items links.old.items links.new.items) }
 {
     for link in has {
-        push_unless(link, others, links)?;
+        list_unless(link, others, links)?;
     }
     Ok(())
 }
 
-// Adds the link, unless it is among others.
-fn push_unless(link: Link, others: &[Link], links: &mut Vec<Link>) -> Result<(), Memory>
+// Lists the link, unless it is among others.
+fn list_unless(link: Link, others: &[Link], links: &mut Vec<Link>) -> Result<(), Memory>
     requires { IsByCost others.now }
-    ensures unlike { OnOk result ((l : LinkValue) → Contains links.new.items l ↔ (Contains links.old.items l ⊎ ((l ≡ link) × (Contains others.now l → ⊥)))) }
-    ensures once { OnOk result ((links.new.items ≡ links.old.items) ⊎ (links.new.items ≡ links.old.items ++ link ∷ [])) }
+    ensures unlike { OnOk result (AddsUnless link others.now links.old.items links.new.items) }
+    ensures once { OnOk result (AddsAtMost link links.old.items links.new.items) }
 {
     if is_among(&link, others) {
         return Ok(());
@@ -253,7 +243,7 @@ fn is_among(link: &Link, others: &[Link]) -> bool
 fn first_at_cost(links: &[Link], cost: u16) -> usize
     requires { IsByCost links.now }
     ensures within { result ≤ length links.now }
-    ensures split { IsPartitionPoint (λ (l : LinkValue). l.cost < cost) (λ (l : LinkValue). cost ≤ l.cost) links.now result }
+    ensures split { IsCountCheaper cost links.now result }
 {
     links.partition_point(|link| link.cost < cost)
 }

@@ -1,12 +1,8 @@
 //! The rows of vertices after a change.
-ghost use Rattle.std.specs.Prelude.{◌≡◌, ◌+◌, ◌≤◌, ◌<◌, [], ◌∷◌, Some, IfOk, IfSome, OnOk, length, if◌then◌else◌};
-ghost use Rattle.std.specs.FinMap.{find};
-ghost use Rattle.std.specs.Ordering.{eq_by_cmp};
-ghost use Rattle.ospf_types.specs.Vertices.{vertex_cmp};
-ghost use Rattle.ospf_types.specs.declared.entry.Vertex.{Vertex as VertexValue};
+ghost use Rattle.std.specs.Prelude.{◌≡◌, ◌+◌, ◌≤◌, ◌<◌, [], ◌∷◌, IfOk, IfSome, OnOk, length};
 ghost use Rattle.std.specs.HashMap.{spare};
-ghost use Rattle.graph_links.specs.Places.{IsAt};
-ghost use Rattle.graph_links.specs.Sides.{ends_in, ends_or, LinksIn, IsInOrder, IsRow, IsFreshRow, AreFresh, IsPlaced};
+ghost use Rattle.graph_links.specs.Places.{IsAt, PutsRow, PutsRowAt};
+ghost use Rattle.graph_links.specs.Sides.{AreFreshIn, IsFreshRowIn, IsInOrder, IsPlaced, IsRow, LinksIn, all_ends, ends_in};
 
 use crate::at_vertex::past_from;
 use crate::end::End;
@@ -20,7 +16,7 @@ use std::alloc::Global;
 use std::mem::replace;
 use vertex_map::Placed;
 
-/// What a vertex has after a change: a row, where it is there. The vertex knows the place of the row that it had or will have.
+/// What a vertex has after a change: a row, if it is there. The vertex knows the place of the row that it had or will have.
 #[derive(Drop)]
 pub struct Fresh {
     pub vertex: Placed,
@@ -63,7 +59,7 @@ pub fn fresh_rows(
     room: &mut Room,
 ) -> Result<(), Memory>
     requires { IsInOrder (ends_in side) }
-    ensures { OnOk result (AreFresh (ends_in side.entry) (LinksIn side.entry) vertices.now room.new.fresh.items) }
+    ensures { OnOk result (AreFreshIn side.entry vertices.now room.new.fresh.items) }
 {
     room.fresh.clear();
     for vertex in vertices {
@@ -73,7 +69,7 @@ pub fn fresh_rows(
     Ok(())
 }
 
-// The row of a vertex, where it is there. The vertex has its place from then on.
+// The row of a vertex, if it is there. The vertex has its place from then on.
 fn fresh_row(
     alloc: Global,
     side: Side<'_>,
@@ -82,7 +78,7 @@ fn fresh_row(
 ) -> Result<Fresh, Memory>
     requires { IsInOrder (ends_in side) }
     ensures vertex { IfOk result (λ fresh. fresh.vertex ≡ vertex.now) }
-    ensures row { IfOk result (λ fresh. IsFreshRow (ends_in side.entry) (LinksIn side.entry) vertex.now fresh.row) }
+    ensures row { IfOk result (λ fresh. IsFreshRowIn side.entry vertex.now fresh.row) }
 {
     let (ends, place) = side.find(vertex);
     let row = match ends {
@@ -137,7 +133,7 @@ fn copy_ends(alloc: Global, ends: &[End], list: &mut Vec<End>) -> Result<(), Mem
 // The row of a vertex that is there. Its ends are in order, so those at one vertex stand together.
 fn row_of(alloc: Global, side: Side<'_>, all: Facing<'_>, used: Row) -> Result<Row, Memory>
     requires in_order { IsInOrder (ends_in side) }
-    requires ends { all.ends.now ≡ ends_or (ends_in side all.vertex) }
+    requires ends { all.ends.now ≡ all_ends side all.vertex }
     ensures ends { IfOk result (λ row. row.ends.items ≡ all.entry.ends.now) }
     ensures links { IfOk result (IsRow (LinksIn side.entry) all.entry.vertex) }
 {
@@ -149,6 +145,7 @@ fn row_of(alloc: Global, side: Side<'_>, all: Facing<'_>, used: Row) -> Result<R
     let known = links_at(side.rows, all.place);
     let mut passed = 0;
     let mut first = 0;
+    // 16.1 (2): examine each link that the vertex's LSA describes, to a vertex W.
     while first < ends.len() {
         let to = ends[first].to;
         let past = past_from(ends, first, to);
@@ -158,7 +155,7 @@ fn row_of(alloc: Global, side: Side<'_>, all: Facing<'_>, used: Row) -> Result<R
             ends: &ends[first..past],
         };
         let other = next_placed(known, &mut passed, to);
-        side.push_both(alloc, own, &other, &mut row.out, &mut row.into)?;
+        side.list_both(alloc, own, &other, &mut row)?;
         first = past;
     }
     Ok(row)
@@ -174,7 +171,7 @@ pub fn place(rows: &mut Rows, room: &mut Room)
     }
 }
 
-// The same for one vertex.
+// Puts the fresh row in the place of what its vertex had, or takes out a vertex that is not there.
 fn place_one(rows: &mut Rows, fresh: Fresh, used: &mut Vec<Row>)
     requires room { 0 < spare rows.old }
     ensures placed { IsPlaced (fresh ∷ []) rows.old.entries rows.new.entries }
@@ -192,7 +189,7 @@ fn place_one(rows: &mut Rows, fresh: Fresh, used: &mut Vec<Row>)
 // Puts the row in the place of what its vertex had, whose memory may be used again.
 fn put_in_room(rows: &mut Rows, vertex: &Placed, row: Row, used: &mut Vec<Row>)
     requires { 0 < spare rows.old }
-    ensures placed { (v : VertexValue) → find vertex_cmp v rows.new.entries ≡ (if eq_by_cmp vertex_cmp v vertex.now then Some row else find vertex_cmp v rows.old.entries) }
+    ensures placed { PutsRow vertex.now row rows.old.entries rows.new.entries }
     ensures room { spare rows.old ≤ spare rows.new + 1 }
 {
     let before = match standing(rows, vertex) {
@@ -216,7 +213,7 @@ fn standing(rows: &Rows, vertex: &Placed) -> Option<usize>
 // Puts the row in the place of the one that is there, and gives that back.
 fn exchange(rows: &mut Rows, place: usize, row: Row) -> Row
     requires { place < length rows.old.entries }
-    ensures placed { (v : VertexValue) → IsAt rows.old.entries v place → (w : VertexValue) → find vertex_cmp w rows.new.entries ≡ (if eq_by_cmp vertex_cmp w v then Some row else find vertex_cmp w rows.old.entries) }
+    ensures placed { PutsRowAt place row rows.old.entries rows.new.entries }
     ensures room { spare rows.old ≤ spare rows.new + 1 }
 {
     // proof: no vertex has two rows.
@@ -227,7 +224,7 @@ fn exchange(rows: &mut Rows, place: usize, row: Row) -> Row
 // Puts the row in the place of what its vertex had, which is looked up by its hash, and gives that back.
 fn insert_in_room(rows: &mut Rows, vertex: Vertex, row: Row) -> Option<Row>
     requires { 0 < spare rows.old }
-    ensures placed { (v : VertexValue) → find vertex_cmp v rows.new.entries ≡ (if eq_by_cmp vertex_cmp v vertex then Some row else find vertex_cmp v rows.old.entries) }
+    ensures placed { PutsRow vertex row rows.old.entries rows.new.entries }
     ensures room { spare rows.old ≤ spare rows.new + 1 }
 {
     match rows.insert(vertex, row) {
@@ -239,7 +236,7 @@ fn insert_in_room(rows: &mut Rows, vertex: Vertex, row: Row) -> Option<Row>
 // So many rows that are no longer needed are kept for their memory.
 const KEPT: usize = 8;
 
-// Keeps the row for its memory, unless enough are kept, or memory for one more is refused.
+// Keeps the row for its memory, unless enough are kept or memory runs out.
 fn keep(row: Option<Row>, used: &mut Vec<Row>) {
     if let Some(row) = row
         && used.len() < KEPT

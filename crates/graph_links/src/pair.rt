@@ -1,10 +1,7 @@
 //! The links from one vertex to another.
-ghost use Rattle.std.specs.Prelude.{◌≡◌, ◌<◌, ◌++◌, ◌∷◌, [], if◌then◌else◌, eqb, length, map as list_map, List, OnOk, IsOk, IfOk};
-ghost use Rattle.std.specs.List.{dedup};
+ghost use Rattle.std.specs.Prelude.{◌≡◌, ◌<◌, length, OnOk, IsOk, IfOk};
 ghost use Rattle.ospf_types.specs.declared.label.Label.TheVariants.{At};
-ghost use Rattle.graph_links.specs.Pairs.{Adds, AddsOver, AreAllAt, AreCheap, IsOnto, IsPairLink, KeepsApart, is_last, link_by, plain_ways};
-ghost use Rattle.graph_links.specs.declared.end.End.{End as EndValue};
-ghost use Rattle.graph_links.specs.declared.link.Link.{Link as LinkValue};
+ghost use Rattle.graph_links.specs.Pairs.{AddsBetween, AddsBy, AddsOnce, AddsOnto, AddsOver, AddsPlain, AreCheap, KeepsApart, details_of, link_by};
 
 use crate::end::End;
 use crate::label::LinkLabel;
@@ -24,13 +21,6 @@ pub(crate) struct Facing<'a> {
     pub(crate) ends: &'a [End],
 }
 
-// The places of the rows of a link's two vertices.
-#[derive(Clone, Copy)]
-struct Places {
-    from: u32,
-    to: u32,
-}
-
 /// What the links of a router rest on beside LSAs: the Router ID of the root, and its interfaces.
 #[derive(Clone, Copy)]
 pub struct Local<'a> {
@@ -38,152 +28,128 @@ pub struct Local<'a> {
     pub interfaces: &'a [Up],
 }
 
-/// Adds the links from one vertex to another, each once. Each of the two names the other.
-pub(crate) fn push_links(
-    alloc: Global,
-    local: Local<'_>,
-    from: Facing<'_>,
-    to: Facing<'_>,
-    links: &mut Vec<Link>,
-) -> Result<(), Memory>
-    ensures pushed { (ends back : List EndValue) → AreAllAt to.entry.vertex ends from.entry.ends.now → AreAllAt from.entry.vertex back to.entry.ends.now → OnOk result (Adds links.old.items links.new.items (λ (l : LinkValue). (l.from ≡ from.entry.vertex) × (l.to ≡ to.entry.vertex) × IsPairLink local.entry.root local.entry.interfaces.now from.entry.vertex ends to.entry.vertex back l.cost l.label)) }
-    ensures cheap { OnOk result (AreCheap links.old.items → AreCheap links.new.items) }
-    ensures apart { OnOk result (KeepsApart from.entry.vertex to.entry.vertex links.old.items links.new.items) }
-{
-    let places = Places {
-        from: from.place,
-        to: to.place,
-    };
-    match from.vertex {
-        Vertex::Router(router) => {
-            push_from_router(alloc, local, router, from.ends, to.vertex, places, links)
+/// Two vertices that name each other: links lead from the one to the other.
+#[derive(Clone, Copy)]
+pub(crate) struct Pair<'a> {
+    pub(crate) local: Local<'a>,
+    pub(crate) from: Facing<'a>,
+    pub(crate) to: Facing<'a>,
+}
+
+impl<'a> Pair<'a> {
+    /// Lists the links from the one vertex to the other, each once.
+    pub(crate) fn list_links(&self, alloc: Global, links: &mut Vec<Link>) -> Result<(), Memory>
+        ensures listed { OnOk result (AddsBetween self.now links.old.items links.new.items) }
+        ensures cheap { OnOk result (AreCheap links.old.items → AreCheap links.new.items) }
+        ensures apart { OnOk result
+            (KeepsApart self.now.from.vertex self.now.to.vertex links.old.items links.new.items) }
+    {
+        match self.from.vertex {
+            Vertex::Router(router) => self.list_from_router(alloc, router, links),
+            Vertex::Network(_) => self.list_from_network(alloc, links),
         }
-        Vertex::Network(network) => push_from_network(alloc, network, to, places, links),
     }
-}
 
-/// Adds the links of a router to a vertex by its ways over its ends there. Mostly it has one.
-fn push_from_router(
-    alloc: Global,
-    local: Local<'_>,
-    router: u32,
-    ends: &[End],
-    to: Vertex,
-    places: Places,
-    links: &mut Vec<Link>,
-) -> Result<(), Memory>
-    ensures pushed { OnOk result (AddsOver local.entry.root local.entry.interfaces.now router ends.now to links.old.items links.new.items) }
-    ensures cheap { OnOk result (AreCheap links.old.items → AreCheap links.new.items) }
-{
-    match ends {
-        [only] if router != local.root => push_over_end(router, to, places, *only, links),
-        _ => push_over_ends(alloc, local, router, ends, to, places, links),
+    // Lists the links of a router by its ways over its ends at the other vertex. Mostly it has one.
+    fn list_from_router(
+        &self,
+        alloc: Global,
+        router: u32,
+        links: &mut Vec<Link>,
+    ) -> Result<(), Memory>
+        ensures listed { OnOk result (AddsOver self.now router links.old.items links.new.items) }
+        ensures cheap { OnOk result (AreCheap links.old.items → AreCheap links.new.items) }
+    {
+        match self.from.ends {
+            [only] if router != self.local.root => self.list_over_end(*only, links),
+            _ => self.list_over_all(alloc, router, links),
+        }
     }
-}
 
-/// Adds the links of any router to a vertex by its ways over any ends there.
-#[inline(never)]
-fn push_over_ends(
-    alloc: Global,
-    local: Local<'_>,
-    router: u32,
-    ends: &[End],
-    to: Vertex,
-    places: Places,
-    links: &mut Vec<Link>,
-) -> Result<(), Memory>
-    ensures pushed { OnOk result (AddsOver local.entry.root local.entry.interfaces.now router ends.now to links.old.items links.new.items) }
-    ensures cheap { OnOk result (AreCheap links.old.items → AreCheap links.new.items) }
-{
-    let ways = ways_over(alloc, local, router, ends)?;
-    push_ways(router, to, places, ways.as_slice(), links)
-}
-
-/// Adds the link of a router other than the root to a vertex that it has this one end at, unless the metric is 0.
-fn push_over_end(
-    router: u32,
-    to: Vertex,
-    places: Places,
-    end: End,
-    links: &mut Vec<Link>,
-) -> Result<(), Memory>
-    ensures pushed { OnOk result (links.new.items ≡ links.old.items ++ list_map (link_by router to) (plain_ways end)) }
-    ensures cheap { OnOk result (AreCheap links.old.items → AreCheap links.new.items) }
-{
-    if end.metric == 0 {
-        return Ok(());
+    // Lists the links of any router by its ways over all its ends at the other vertex.
+    #[inline(never)]
+    fn list_over_all(&self, alloc: Global, router: u32, links: &mut Vec<Link>) -> Result<(), Memory>
+        ensures listed { OnOk result (AddsOver self.now router links.old.items links.new.items) }
+        ensures cheap { OnOk result (AreCheap links.old.items → AreCheap links.new.items) }
+    {
+        let ways = ways_over(alloc, self.local, router, self.from.ends)?;
+        self.list_by_ways(ways.as_slice(), links)
     }
-    let way = Way {
-        cost: end.metric,
-        interface: None,
-    };
-    links.push(link_by(router, to, places, way))?;
-    Ok(())
-}
 
-/// Adds the links of a router to a vertex by these ways.
-fn push_ways(
-    router: u32,
-    to: Vertex,
-    places: Places,
-    ways: &[Way],
-    links: &mut Vec<Link>,
-) -> Result<(), Memory>
-    ensures pushed { OnOk result (links.new.items ≡ links.old.items ++ list_map (link_by router to) ways.now) }
-    ensures cheap { OnOk result (AreCheap links.old.items → AreCheap links.new.items) }
-{
-    for way in ways {
-        links.push(link_by(router, to, places, *way))?;
+    // Lists the link of a router other than the root that has this one end at the other vertex, unless the metric is 0.
+    fn list_over_end(&self, end: End, links: &mut Vec<Link>) -> Result<(), Memory>
+        ensures listed { OnOk result (AddsPlain self.now end links.old.items links.new.items) }
+        ensures cheap { OnOk result (AreCheap links.old.items → AreCheap links.new.items) }
+    {
+        if end.metric == 0 {
+            return Ok(());
+        }
+        let way = Way {
+            cost: end.metric,
+            interface: None,
+        };
+        links.push(self.link_by(way))?;
+        Ok(())
     }
-    Ok(())
-}
 
-/// The link of a router to a vertex by this way.
-fn link_by(router: u32, to: Vertex, places: Places, way: Way) -> Link
-    ensures value { result ≡ link_by router to way }
-    ensures cheap { result.cost < 65536 }
-{
-    let label = LinkLabel::over(way.interface);
-    link(Vertex::Router(router), to, places, way.cost, label)
-}
-
-// A link between two vertices, which have their rows at these places.
-fn link(from: Vertex, to: Vertex, places: Places, cost: u16, label: LinkLabel) -> Link
-    ensures { result ≡ record { from = from; to = to; cost = cost; label = label } }
-{
-    Link {
-        from: Placed::new(from, places.from),
-        to: Placed::new(to, places.to),
-        cost,
-        label,
+    // Lists the links of a router by these ways.
+    fn list_by_ways(&self, ways: &[Way], links: &mut Vec<Link>) -> Result<(), Memory>
+        ensures listed { OnOk result (AddsBy self.now ways.now links.old.items links.new.items) }
+        ensures cheap { OnOk result (AreCheap links.old.items → AreCheap links.new.items) }
+    {
+        for way in ways {
+            links.push(self.link_by(*way))?;
+        }
+        Ok(())
     }
-}
 
-/// Adds the link of a network to a vertex, if that is a router.
-#[inline(never)]
-fn push_from_network(
-    alloc: Global,
-    network: u32,
-    to: Facing<'_>,
-    places: Places,
-    links: &mut Vec<Link>,
-) -> Result<(), Memory>
-    ensures pushed { (back : List EndValue) → AreAllAt (Vertex.Network network) back to.entry.ends.now → OnOk result (Adds links.old.items links.new.items (IsOnto network to.entry.vertex back)) }
-    ensures cheap { OnOk result (AreCheap links.old.items → AreCheap links.new.items) }
-    ensures apart { OnOk result (KeepsApart (Vertex.Network network) to.entry.vertex links.old.items links.new.items) }
-{
-    let Vertex::Router(_) = to.vertex else {
-        return Ok(());
-    };
-    let label = label_onto(alloc, to.ends)?;
-    let from = Vertex::Network(network);
-    links.push(link(from, to.vertex, places, 0, label))?;
-    Ok(())
+    // The link of a router by this way.
+    fn link_by(&self, way: Way) -> Link
+        ensures value { result ≡ link_by self.now.from.vertex self.now.to.vertex way }
+        ensures cheap { result.cost < 65536 }
+    {
+        self.link(way.cost, LinkLabel::over(way.interface))
+    }
+
+    // Lists the link of a network, if the other vertex is a router.
+    #[inline(never)]
+    fn list_from_network(&self, alloc: Global, links: &mut Vec<Link>) -> Result<(), Memory>
+        ensures listed { OnOk result (AddsOnto self.now links.old.items links.new.items) }
+        ensures cheap { OnOk result (AreCheap links.old.items → AreCheap links.new.items) }
+        ensures apart { OnOk result
+            (KeepsApart self.now.from.vertex self.now.to.vertex links.old.items links.new.items) }
+    {
+        let Vertex::Router(_) = self.to.vertex else {
+            return Ok(());
+        };
+        let label = label_onto(alloc, self.to.ends)?;
+        // A.4.3: the distance from a network to its routers is zero.
+        links.push(self.link(0, label))?;
+        Ok(())
+    }
+
+    // The link with this cost and label.
+    fn link(&self, cost: u16, label: LinkLabel) -> Link
+        ensures { result ≡ record {
+          from = self.now.from.vertex;
+          to = self.now.to.vertex;
+          cost = cost;
+          label = label;
+        } }
+    {
+        Link {
+            from: Placed::new(self.from.vertex, self.from.place),
+            to: Placed::new(self.to.vertex, self.to.place),
+            cost,
+            label,
+        }
+    }
 }
 
 /// The label of a link of a network to a router that has these ends there. Mostly it has one.
+/// 16.1.1: the Link Data of each link back to the network is the address of a next hop.
 fn label_onto(alloc: Global, ends: &[End]) -> Result<LinkLabel, Memory>
-    ensures label { IfOk result (λ label. label ≡ At (dedup eqb (list_map (λ (e : EndValue). e.detail) ends.now))) }
+    ensures label { IfOk result (λ label. label ≡ At (details_of ends.now)) }
 
     // One address takes no memory.
     ensures one { length ends.now ≡ 1 → IsOk result }
@@ -196,20 +162,20 @@ fn label_onto(alloc: Global, ends: &[End]) -> Result<LinkLabel, Memory>
 
 /// The Link Data of the ends, without what equals the one before it.
 fn each_once(alloc: Global, ends: &[End]) -> Result<Listed<u32>, Memory>
-    ensures { IfOk result (λ details. details ≡ dedup eqb (list_map (λ (e : EndValue). e.detail) ends.now)) }
+    ensures { IfOk result (λ details. details ≡ details_of ends.now) }
 {
     let mut details = Listed::new(alloc);
     let mut last = None;
     for end in ends {
-        push_once(&mut details, last, end.detail)?;
+        list_once(&mut details, last, end.detail)?;
         last = Some(end.detail);
     }
     Ok(details)
 }
 
-/// Adds the Link Data unless it is what came last.
-fn push_once(details: &mut Listed<u32>, last: Option<u32>, detail: u32) -> Result<(), Memory>
-    ensures { OnOk result (details.new ≡ (if is_last last detail then details.old else details.old ++ detail ∷ [])) }
+/// Lists the Link Data unless it is what came last.
+fn list_once(details: &mut Listed<u32>, last: Option<u32>, detail: u32) -> Result<(), Memory>
+    ensures { OnOk result (AddsOnce last detail details.old details.new) }
 {
     if last == Some(detail) {
         return Ok(());

@@ -26,5 +26,5 @@ impl Drop for Row {
 /// The vertices that are there.
 pub type Rows = IndexMap<Vertex, Row, WordHash>;
 
-/// Where vertices lead whose LSAs change, none where the LSA goes.
+/// Where vertices lead whose LSAs change, none if the LSA goes.
 pub type StagedEnds = IndexMap<Vertex, Option<Vec<End>>, WordHash>;

@@ -1,16 +1,14 @@
 //! The graph before or after a change.
-ghost use Rattle.std.specs.Prelude.{◌≡◌, ◌↔◌, ◌⊎◌, OnOk, Contains, option_copied, option_map, is_some};
+ghost use Rattle.std.specs.Prelude.{◌≡◌, OnOk, option_copied, option_map, is_some};
 ghost use Rattle.std.specs.FinMap.{find};
 ghost use Rattle.ospf_types.specs.Vertices.{vertex_cmp};
-ghost use Rattle.graph_links.specs.declared.link.Link.{Link as LinkValue};
-ghost use Rattle.graph_links.specs.declared.row.Row.{Row as RowValue};
 ghost use Rattle.graph_links.specs.Pairs.{AreAllAt, AreCheap, KeepsApart};
 ghost use Rattle.graph_links.specs.Sides as sides;
 
 use crate::at_vertex::ends_at;
 use crate::end::End;
 use crate::link::Link;
-use crate::pair::{Facing, Local, push_links};
+use crate::pair::{Facing, Local, Pair};
 use crate::row::{Row, Rows, StagedEnds};
 use ospf_types::entry::Vertex;
 use ospf_types::memory::Memory;
@@ -25,7 +23,7 @@ pub struct Side<'a> {
     pub staged: &'a StagedEnds,
 }
 
-/// The vertex's row and its place. Where another's is at the vertex's place, it is looked up by its hash.
+/// The vertex's row and its place. If another's is at the vertex's place, it is looked up by its hash.
 #[inline]
 pub fn find_row<'a>(rows: &'a Rows, vertex: &Placed) -> (Option<&'a Row>, u32)
     ensures { option_copied result.0 ≡ find vertex_cmp vertex.now rows.now.entries }
@@ -36,7 +34,7 @@ pub fn find_row<'a>(rows: &'a Rows, vertex: &Placed) -> (Option<&'a Row>, u32)
     }
 }
 
-// The vertex's row and its place, by its hash; the place past all where it has no row.
+// The vertex's row and its place, by its hash; the place past all if it has no row.
 #[inline(never)]
 fn hashed_row<'a>(rows: &'a Rows, vertex: Vertex) -> (Option<&'a Row>, u32)
     ensures { option_copied result.0 ≡ find vertex_cmp vertex rows.now.entries }
@@ -47,7 +45,7 @@ fn hashed_row<'a>(rows: &'a Rows, vertex: Vertex) -> (Option<&'a Row>, u32)
     }
 }
 
-// Where the vertex of a row leads, none where there is no row, and the place of the row.
+// Where the vertex of a row leads, none if there is no row, and the place of the row.
 fn placed_ends<'a>(rows: &'a Rows, vertex: &Placed) -> (Option<&'a [End]>, u32)
     ensures { option_map (λ ends. ends.now) result.0 ≡ sides.row_ends rows.now.entries vertex.now }
 {
@@ -60,9 +58,9 @@ fn placed_ends<'a>(rows: &'a Rows, vertex: &Placed) -> (Option<&'a [End]>, u32)
     }
 }
 
-/// Where the vertex of a row leads, none where there is no row.
+/// Where the vertex of a row leads, none if there is no row.
 pub fn ends_of_row<'a>(row: Option<&'a Row>) -> Option<&'a [End]>
-    ensures { option_map (λ ends. ends.now) result ≡ option_map (λ (r : RowValue). r.ends.items) (option_copied row.entry) }
+    ensures { option_map (λ ends. ends.now) result ≡ sides.ends_of_row (option_copied row.entry) }
 {
     match row {
         Some(row) => Some(row.ends.as_slice()),
@@ -94,7 +92,7 @@ fn find_staged<'a>(staged: &'a StagedEnds, vertex: Vertex) -> Option<&'a Option<
     if *only == vertex { Some(ends) } else { None }
 }
 
-/// The ends that are staged, none where the LSA goes.
+/// The ends that are staged, none if the LSA goes.
 pub fn slice_of(ends: &Option<Vec<End>>) -> Option<&[End]>
     ensures { option_map (λ e. e.now) result ≡ option_map (λ e. e.items) ends.now }
 {
@@ -104,7 +102,7 @@ pub fn slice_of(ends: &Option<Vec<End>>) -> Option<&[End]>
     }
 }
 
-/// The ends, none where there is no vertex.
+/// The ends, none if there is no vertex.
 pub fn slice_or_none<'a>(ends: Option<&'a [End]>) -> &'a [End]
     ensures { result.now ≡ sides.ends_or (option_map (λ e. e.now) ends.entry) }
 {
@@ -115,7 +113,7 @@ pub fn slice_or_none<'a>(ends: Option<&'a [End]>) -> &'a [End]
 }
 
 impl<'a> Side<'a> {
-    /// Where the vertex leads, none where it is not there, and the place that its row has or will have.
+    /// Where the vertex leads, none if it is not there, and the place that its row has or will have.
     pub fn find(self, vertex: &Placed) -> (Option<&'a [End]>, u32)
         ensures { option_map (λ ends. ends.now) result.0 ≡ sides.ends_in self.entry vertex.now }
     {
@@ -149,25 +147,32 @@ impl<'a> Side<'a> {
         find_staged(self.staged, vertex).is_some()
     }
 
-    /// Adds the links between a vertex and another that it leads to, out of it and into it, each once. It is given with all its
-    /// ends there.
-    pub(crate) fn push_both(
+    /// Lists in the vertex's row the links between it and another that it leads to, out of it and into it, each once. It
+    /// is given with all its ends there.
+    pub(crate) fn list_both(
         self,
         alloc: Global,
         own: Facing<'_>,
         to: &Placed,
-        out: &mut Vec<Link>,
-        into: &mut Vec<Link>,
+        row: &mut Row,
     ) -> Result<(), Memory>
         requires in_order { sides.IsInOrder (sides.ends_in self) }
-        requires own { AreAllAt to.now (sides.ends_or (sides.ends_in self own.vertex)) own.ends.now }
-        ensures out { OnOk result ((l : LinkValue) → Contains out.new.items l ↔ (Contains out.old.items l ⊎ sides.IsOutTo (sides.LinksIn self.entry) own.entry.vertex l to.now)) }
-        ensures into { OnOk result ((l : LinkValue) → Contains into.new.items l ↔ (Contains into.old.items l ⊎ sides.IsIntoFrom (sides.LinksIn self.entry) own.entry.vertex l to.now)) }
-        ensures out_cheap { OnOk result (AreCheap out.old.items → AreCheap out.new.items) }
-        ensures into_cheap { OnOk result (AreCheap into.old.items → AreCheap into.new.items) }
-        ensures out_apart { OnOk result (KeepsApart own.entry.vertex to.now out.old.items out.new.items) }
-        ensures into_apart { OnOk result (KeepsApart to.now own.entry.vertex into.old.items into.new.items) }
+        requires own { AreAllAt to.now (sides.all_ends self own.vertex) own.ends.now }
+        ensures ends { row.new.ends ≡ row.old.ends }
+        ensures out { OnOk result (sides.AddsOut
+            self.entry own.entry.vertex to.now row.old.out.items row.new.out.items) }
+        ensures into { OnOk result (sides.AddsInto
+            self.entry own.entry.vertex to.now row.old.into.items row.new.into.items) }
+        ensures out_cheap { OnOk result
+            (AreCheap row.old.out.items → AreCheap row.new.out.items) }
+        ensures into_cheap { OnOk result
+            (AreCheap row.old.into.items → AreCheap row.new.into.items) }
+        ensures out_apart { OnOk result
+            (KeepsApart own.entry.vertex to.now row.old.out.items row.new.out.items) }
+        ensures into_apart { OnOk result
+            (KeepsApart to.now own.entry.vertex row.old.into.items row.new.into.items) }
     {
+        // 16.1 (2) (b): look up W's LSA; without one, or without a link back, there is no link.
         let (ends, place) = self.find(to);
         let back = ends_at(slice_or_none(ends), own.vertex);
         if back.is_empty() {
@@ -178,8 +183,18 @@ impl<'a> Side<'a> {
             place,
             ends: back,
         };
-        push_links(alloc, self.local, own, other, out)?;
-        push_links(alloc, self.local, other, own, into)?;
+        let there = Pair {
+            local: self.local,
+            from: own,
+            to: other,
+        };
+        there.list_links(alloc, &mut row.out)?;
+        let here = Pair {
+            local: self.local,
+            from: other,
+            to: own,
+        };
+        here.list_links(alloc, &mut row.into)?;
         Ok(())
     }
 }

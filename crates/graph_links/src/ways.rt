@@ -1,8 +1,7 @@
 //! The ways from a router to a vertex that it leads to.
-ghost use Rattle.std.specs.Prelude.{◌<◌, ◌≢◌, ◌↔◌, ◌∷◌, [], OnOk, IfOk, Contains};
+ghost use Rattle.std.specs.Prelude.{◌<◌, ◌≢◌, ◌∷◌, [], OnOk, IfOk};
 ghost use Rattle.std.specs.List.{AllPairs};
-ghost use Rattle.graph_links.specs.Pairs.{Adds, IsWay, IsWayOver};
-ghost use Rattle.graph_links.specs.declared.ways.Way.{Way as WayValue};
+ghost use Rattle.graph_links.specs.Pairs.{AddsRootWays, AddsWays, AreWays};
 
 use crate::end::End;
 use crate::link::Up;
@@ -26,7 +25,7 @@ pub(crate) fn ways_over(
     router: u32,
     ends: &[End],
 ) -> Result<SmallVec<Way, 2>, Memory>
-    ensures exact { IfOk result (λ ways. (w : WayValue) → Contains ways.items w ↔ IsWayOver local.entry.root local.entry.interfaces.now router ends.now w) }
+    ensures exact { IfOk result (λ ways. AreWays local.entry router ends.now ways.items) }
     ensures each_once { IfOk result (λ ways. AllPairs (λ v w. v ≢ w) ways.items) }
 {
     let mut ways = all_ways(alloc, local, router, ends)?;
@@ -42,30 +41,30 @@ fn all_ways(
     router: u32,
     ends: &[End],
 ) -> Result<SmallVec<Way, 2>, Memory>
-    ensures { IfOk result (λ ways. (w : WayValue) → Contains ways.items w ↔ IsWayOver local.entry.root local.entry.interfaces.now router ends.now w) }
+    ensures { IfOk result (λ ways. AreWays local.entry router ends.now ways.items) }
 {
     let mut ways = SmallVec::new(alloc);
     for end in ends {
-        push_over(local, router, *end, &mut ways)?;
+        list_over(local, router, *end, &mut ways)?;
     }
     Ok(ways)
 }
 
-/// Adds the ways of a router over one of its ends: none where the metric is 0, else one, or at the root
+/// Lists the ways of a router over one of its ends: none if the metric is 0, else one, or at the root
 /// one for each interface that has the address.
-fn push_over(
+fn list_over(
     local: Local<'_>,
     router: u32,
     end: End,
     ways: &mut SmallVec<Way, 2>,
 ) -> Result<(), Memory>
-    ensures { OnOk result (Adds ways.old.items ways.new.items (IsWay local.entry.root local.entry.interfaces.now router end)) }
+    ensures { OnOk result (AddsWays local.entry router end ways.old.items ways.new.items) }
 {
     if end.metric == 0 {
         return Ok(());
     }
     if router == local.root {
-        return push_over_interfaces(local.interfaces, router, end, ways);
+        return list_over_interfaces(local.interfaces, router, end, ways);
     }
     ways.push(Way {
         cost: end.metric,
@@ -74,31 +73,31 @@ fn push_over(
     Ok(())
 }
 
-/// Adds a way of the root over one of its ends for each interface that has the address.
-fn push_over_interfaces(
+/// Lists a way of the root over one of its ends for each interface that has the address.
+fn list_over_interfaces(
     interfaces: &[Up],
     root: u32,
     end: End,
     ways: &mut SmallVec<Way, 2>,
 ) -> Result<(), Memory>
     requires { 0 < end.metric }
-    ensures { OnOk result (Adds ways.old.items ways.new.items (IsWay root interfaces.now root end)) }
+    ensures { OnOk result (AddsRootWays root interfaces.now end ways.old.items ways.new.items) }
 {
     for up in interfaces {
-        push_over_interface(*up, root, end, ways)?;
+        list_over_interface(*up, root, end, ways)?;
     }
     Ok(())
 }
 
-/// Adds a way of the root over one of its ends if the interface has the address.
-fn push_over_interface(
+/// Lists a way of the root over one of its ends if the interface has the address.
+fn list_over_interface(
     up: Up,
     root: u32,
     end: End,
     ways: &mut SmallVec<Way, 2>,
 ) -> Result<(), Memory>
     requires { 0 < end.metric }
-    ensures { OnOk result (Adds ways.old.items ways.new.items (IsWay root (up ∷ []) root end)) }
+    ensures { OnOk result (AddsRootWays root (up ∷ []) end ways.old.items ways.new.items) }
 {
     if up.address != end.detail {
         return Ok(());

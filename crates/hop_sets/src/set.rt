@@ -86,7 +86,7 @@ impl HopSet {
         ensures added { OnOk result ((h : NextHop) → Contains self.new h ↔ (Contains self.old h ⊎ (h ≡ hop))) }
         ensures unchanged { OnErr result (self.new ≡ self.old) }
 
-        // It fails only where a third or later next hop finds no memory.
+        // It fails only if a third or later next hop finds no memory.
         ensures few { length self.old < 2 → IsOk result }
         ensures there { Contains self.old hop → IsOk result }
     {
@@ -96,7 +96,7 @@ impl HopSet {
         }
     }
 
-    /// Adds the next hops of another set, in time that is linear in both. After an error the set is
+    /// Adds the next hops of another set, in time that is linear in both. If memory runs out, the set is
     /// as it was.
     pub fn unite(&mut self, other: &HopSet) -> Result<(), Memory>
         ensures united { OnOk result ((h : NextHop) → Contains self.new h ↔ (Contains self.old h ⊎ Contains other.now h)) }
@@ -110,7 +110,7 @@ impl HopSet {
         Ok(())
     }
 
-    /// The same next hops. Up to two take no memory.
+    /// A copy. Up to two next hops take no memory.
     pub fn copy(&self) -> Result<HopSet, Memory>
         ensures same { IfOk result (λ set. set ≡ self.now) }
         ensures few { length self.now < 3 → IsOk result }

@@ -20,7 +20,7 @@ use Rattle.path_choice.specs.Takes.{OfferedBySome}
 use Rattle.path_choice.proofs.Taking.{takes_none, takes_same, taken_chosen}
 use Rattle.offer_index.specs.Advertised.{AdvertisedValue}
 use Rattle.offer_index.specs.Indexes.{OfferIndexValue, IsInGroup}
-use Rattle.offer_index.specs.declared.group.Group.TheVariants.{To}
+use Rattle.offer_index.specs.declared.lsa_group.LsaGroup.TheVariants.{To}
 use Rattle.inter.specs.Choosing.{IsListed, IsChosenIn, TakesPaths, KeyOffers, HopsOffer}
 use Rattle.inter.specs.Inputs.{InterInputsValue}
 use Rattle.inter.specs.Inters.{IsEntryFor}

@@ -2,5 +2,5 @@ pub mod Chosen
 pub mod Following
 pub mod DestOrder
 pub mod Frame
-pub mod Renewed
+pub mod UpdatedEach
 pub mod Right

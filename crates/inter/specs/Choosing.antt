@@ -30,7 +30,7 @@ IsListed i k a = get i.routes k ≡ Some a
 abbrev pub IsChosenIn : InterInputsValue → ℕ → OfferIndexValue → Dest → Option Entry → Type 0
 IsChosenIn v area i d e = IsEntryFor area (OffersBy v area (IsListed i) d) e
 
--- the same by the index of the examined area, none where no area is examined
+-- the entry by the index of the examined area; none where no area is examined
 abbrev pub IsChosenWhere : InterInputsValue → Option ℕ → OfferIndexValue → Dest → Option Entry → Type 0
 IsChosenWhere v None i d e = e ≡ None
 IsChosenWhere v (Some area) i d e = IsChosenIn v area i d e
@@ -48,6 +48,10 @@ TakesPaths offers old new = Takes nat_cmp path_cmp offers old new
 abbrev pub KeyOffers : List AreaIntraValue → ℕ → OfferIndexValue → Key → ℕ → Path → Type 0
 KeyOffers areas area i k cost path = (a : AdvertisedValue) × (distance : ℕ) × (h : NextHop)
     × IsListed i k a × HandsOut B (reached_at areas area k.router) distance h × (cost ≡ distance + a.metric) × (path ≡ through k.router h)
+
+-- what is advertised under each of these keys
+abbrev pub KeysOffer : List Key → List AreaIntraValue → ℕ → OfferIndexValue → ℕ → Path → Type 0
+KeysOffer keys areas area i = OfferedBySome keys (KeyOffers areas area i)
 
 -- a path by the advertiser over each of these next hops
 abbrev pub HopsOffer : List NextHop → ℕ → ℕ → ℕ → Path → Type 0

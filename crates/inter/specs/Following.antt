@@ -8,7 +8,7 @@ use Rattle.ospf_types.specs.declared.key.Scope.{Scope}
 use Rattle.ospf_types.specs.declared.key.Scope.TheVariants.{Area}
 use Rattle.lsdb.specs.Databases.{Database}
 use Rattle.offer_index.specs.Indexes.{OfferIndexValue, IsIndexOf, LsasDifferAmong, GroupLeadsTo, IsLedTo, HasDest}
-use Rattle.offer_index.specs.declared.group.Group.TheVariants.{By}
+use Rattle.offer_index.specs.declared.lsa_group.LsaGroup.TheVariants.{By}
 use Rattle.inter.specs.Inputs.{ExaminedValue, InterInputsValue}
 use Rattle.inter.specs.Inters.{IsIndexFor}
 
@@ -25,7 +25,7 @@ ExaminedDifferAmong keys old new = (x y : ExaminedValue) → old ≡ Some x → 
 abbrev pub IsIndexBefore : ℕ → List (Scope × Key) → Option ExaminedValue → Option ℕ → OfferIndexValue → Type 0
 IsIndexBefore root keys x area i = (before : Option ExaminedValue) × (area ≡ area_of before) × IsIndexFor root before i × ExaminedDifferAmong keys before x
 
--- the same, of this area
+-- the index is that of this area before, from which it differs in no more than is named; empty where none is examined
 abbrev pub IsIndexSince : ℕ → List (Scope × Key) → Option ExaminedValue → OfferIndexValue → Type 0
 IsIndexSince root keys None i = i ≡ record { routes = empty }
 IsIndexSince root keys (Some x) i = (before : Database) × IsIndexOf root (Area x.area) before i × LsasDifferAmong keys (Area x.area) before x.lsas
@@ -37,13 +37,17 @@ abbrev pub AreLed : Option ℕ → Option ℕ → OfferIndexValue → OfferIndex
 AreLed area_before area_after old new dests = (k : Key) → ((area_after ≡ area_before) × (get new.routes k ≡ get old.routes k))
     ⊎ ((d : Dest) → HasDest (get old.routes k) d ⊎ HasDest (get new.routes k) d → Contains dests d)
 
+-- if the destination is a router, the list has all that the router's summaries lead to
+abbrev pub HasAllBehind : OfferIndexValue → Dest → List Dest → Type 0
+HasAllBehind i dest list = (router : ℕ) (d : Dest) → dest ≡ Router router → GroupLeadsTo i (By router) d → Contains list d
+
 -- the list has all of before, the destination if a summary leads to it, and, where it is a router, all that the router's summaries lead to
 pub record IsPushed (i : OfferIndexValue) (dest : Dest) (before after : List Dest) : Type 0 where
   pub kept : (d : Dest) → Contains before d → Contains after d
   pub itself : IsLedTo i dest → Contains after dest
   pub behind : (router : ℕ) (d : Dest) → dest ≡ Router router → GroupLeadsTo i (By router) d → Contains after d
 
--- the same of each of these destinations
+-- the list has all of before, those of these destinations that a summary leads to, and all that the summaries of the routers lead to
 pub record ArePushed (i : OfferIndexValue) (dests : List Dest) (before after : List Dest) : Type 0 where
   pub kept : (d : Dest) → Contains before d → Contains after d
   pub themselves : (d : Dest) → Contains dests d → IsLedTo i d → Contains after d

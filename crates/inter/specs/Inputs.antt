@@ -2,7 +2,7 @@
 use Rattle.std.specs.Prelude.{ℕ, Option, option_map}
 use Rattle.lsdb.specs.Databases.{Database}
 use Rattle.intra.specs.Intras.{IntraValue}
-use Rattle.summaries.specs.Active.{ActiveValue}
+use Rattle.active_ranges.specs.Active.{ActiveValue}
 
 -- the area whose summaries are examined
 pub record ExaminedValue : Type 0 where

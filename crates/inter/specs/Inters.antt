@@ -1,5 +1,5 @@
 -- Inter-area routes as their callers see them: networks, and AS boundary routers.
-use Rattle.std.specs.Prelude.{ℕ, ◌≡◌, Bool, true, false, Option, Some, None}
+use Rattle.std.specs.Prelude.{ℕ, ◌≡◌, Bool, true, false, Option, Some, None, IsSome}
 use Rattle.std.specs.FinMap.{FinMap, get, empty}
 use Rattle.std.specs.List.Sorted.{IsStrictlySortedBy}
 use Rattle.std.specs.Ordering.{nat_cmp}
@@ -28,6 +28,14 @@ pub record InterValue : Type 0 where
 
 abbrev pub spent_routes : InterValue
 spent_routes = record { examined = None; index = record { routes = empty }; entries = empty; spent = true }
+
+-- the routes where nothing is advertised
+abbrev pub no_routes : InterValue
+no_routes = record { examined = None; index = record { routes = empty }; entries = empty; spent = false }
+
+-- the destination has an entry
+abbrev pub HasEntry : InterValue → Dest → Type 0
+HasEntry w d = IsSome (get w.entries d)
 
 -- the entry is the best of the offers through the area, its paths in order; none where nothing is offered
 abbrev pub IsEntryFor : ℕ → (ℕ → Path → Type 0) → Option Entry → Type 0

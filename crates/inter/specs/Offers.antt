@@ -1,5 +1,5 @@
 -- What summaries of the examined area offer to a destination (RFC 2328, 16.2).
-use Rattle.std.specs.Prelude.{ℕ, ◌+◌, ◌≡◌, ◌⊎◌, IsSome, Some}
+use Rattle.std.specs.Prelude.{ℕ, ◌+◌, ◌≡◌, ◌⊎◌, List, IsSome, Some}
 use Rattle.std.specs.FinMap.{get}
 use Rattle.ospf_types.specs.declared.hop.NextHop.{NextHop}
 use Rattle.ospf_types.specs.declared.hop.Path.{Path}
@@ -10,10 +10,10 @@ use Rattle.ospf_types.specs.declared.key.Scope.TheVariants.{Area}
 use Rattle.ospf_types.specs.Inter.{through}
 use Rattle.ospf_types.specs.Intra.{B, E}
 use Rattle.lsdb.specs.Contents.{body_at}
-use Rattle.intra.specs.Intras.{reached_at}
+use Rattle.intra.specs.Intras.{AreaIntraValue, reached_at}
 use Rattle.intra.specs.Reached.{HandsOut}
 use Rattle.offer_index.specs.Advertised.{AdvertisedValue, advertised_at}
-use Rattle.summaries.specs.Active.{IsActiveIn}
+use Rattle.active_ranges.specs.Active.{IsActiveIn}
 use Rattle.inter.specs.Inputs.{ExaminedValue, InterInputsValue}
 
 -- what is advertised under the key offers the distance of its border router and its metric, over that router's next hops
@@ -21,10 +21,14 @@ abbrev pub SummaryOffers : InterInputsValue → ℕ → Key → AdvertisedValue 
 SummaryOffers v area k a cost path = (distance : ℕ) × (h : NextHop)
     × HandsOut B (reached_at v.intra.areas area k.router) distance h × (cost ≡ distance + a.metric) × (path ≡ through k.router h)
 
+-- the router is reached in the area as an AS boundary router
+abbrev pub IsBoundaryIn : List AreaIntraValue → ℕ → ℕ → Type 0
+IsBoundaryIn areas area router = (distance : ℕ) × (h : NextHop) × HandsOut E (reached_at areas area router) distance h
+
 -- what is preferred to summaries: for a network an intra-area route and an active range, for a router that it is reached as AS boundary router in the area
 abbrev pub IsTakenBelow : InterInputsValue → ℕ → Dest → Type 0
 IsTakenBelow v area (Net p) = IsSome (get v.intra.entries p) ⊎ IsActiveIn v.active p
-IsTakenBelow v area (Router r) = (distance : ℕ) × (h : NextHop) × HandsOut E (reached_at v.intra.areas area r) distance h
+IsTakenBelow v area (Router r) = IsBoundaryIn v.intra.areas area r
 
 -- over any relation that says what is advertised under which key
 abbrev pub OffersBy : InterInputsValue → ℕ → (Key → AdvertisedValue → Type 0) → Dest → ℕ → Path → Type 0

@@ -12,7 +12,7 @@ use Rattle.ospf_types.specs.Boundary.{BoundaryInterOffers}
 use Rattle.ospf_types.specs.Ranges.{IsExamined}
 use Rattle.lsdb.specs.Contents.{IsSound}
 use Rattle.intra.specs.Right.{IsRightFor as IsIntraRight}
-use Rattle.summaries.specs.Right.{IsRightFor as AreRangesRight}
+use Rattle.active_ranges.specs.Right.{IsRightFor as AreRangesRight}
 use Rattle.inter.specs.Inputs.{ExaminedValue, InterInputsValue}
 use Rattle.inter.specs.Inters.{InterValue, IsEntryFor}
 
@@ -43,3 +43,7 @@ IsEntryOf s offers e = ((a : Area) × IsExamined s a × IsEntryFor a.id offers e
 pub record IsRightFor (s : Inputs) (w : InterValue) : Type 0 where
   pub networks : (p : Prefix) → IsEntryOf s (InterOffers s p) (get w.entries (Net p))
   pub routers : (r : ℕ) → IsEntryOf s (BoundaryInterOffers s r) (get w.entries (Router r))
+
+-- the routes are right for all that the definitions may say of these inputs
+abbrev pub IsRightWith : InterInputsValue → InterValue → Type 0
+IsRightWith v w = (s : Inputs) → AreInputsOf s v → IsRightFor s w

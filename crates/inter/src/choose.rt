@@ -1,27 +1,23 @@
 //! The entry of a destination: the best of what the summaries for it offer (RFC 2328, 16.2).
-ghost use Rattle.std.specs.Prelude.{◌≡◌, ◌↔◌, ◌^◌, ◌<◌, ℕ, Some, IfOk, OnOk, IsTrue, IsSome};
+ghost use Rattle.std.specs.Prelude.{◌≡◌, ◌↔◌, ◌^◌, ◌<◌, Some, IfOk, OnOk, IsTrue, IsSome};
 ghost use Rattle.std.specs.List.Sorted.{IsStrictlySortedBy};
-ghost use Rattle.ospf_types.specs.declared.hop.NextHop.{NextHop as HopValue};
 ghost use Rattle.ospf_types.specs.Hops.{path_cmp};
 ghost use Rattle.ospf_types.specs.Inter.{through};
-ghost use Rattle.ospf_types.specs.Intra.{E};
 ghost use Rattle.ospf_types.specs.Routes.{entry_of};
-ghost use Rattle.intra.specs.Intras.{reached_at};
-ghost use Rattle.intra.specs.Reached.{HandsOut};
-ghost use Rattle.path_choice.specs.Takes.{OnlyOffer, OfferedBySome};
-ghost use Rattle.inter.specs.Choosing.{IsChosenIn, TakesPaths, KeyOffers, HopsOffer};
-ghost use Rattle.inter.specs.Offers.{IsTakenBelow};
+ghost use Rattle.path_choice.specs.Takes.{OnlyOffer};
+ghost use Rattle.inter.specs.Choosing.{IsChosenIn, TakesPaths, KeyOffers, KeysOffer, HopsOffer};
+ghost use Rattle.inter.specs.Offers.{IsBoundaryIn, IsTakenBelow};
 
 use crate::cost::{InterEntry, SummaryCost};
 use crate::inputs::InterInputs;
 use intra::Intra;
-use offer_index::{Group, OfferIndex};
+use offer_index::{LsaGroup, OfferIndex};
 use ospf_types::entry::{Entry, PathType, Paths};
 use ospf_types::hop::{NextHop, Path};
 use ospf_types::key::{Dest, Key};
 use ospf_types::memory::Memory;
 use path_choice::{Best, Choice};
-use result_map::Renewal;
+use result_map::Choose;
 use std::alloc::Global;
 
 /// What entries are chosen by.
@@ -31,7 +27,7 @@ pub(crate) struct Choosing<'a> {
     pub(crate) index: &'a OfferIndex,
 }
 
-impl<'a> Renewal<Dest, InterEntry, Dest> for Choosing<'a> {
+impl<'a> Choose<Dest, InterEntry, Dest> for Choosing<'a> {
     ghost use Rattle.inter.specs.Choosing.{IsChosenFor};
 
     ghost IsChosen = { λ c d e. IsChosenFor c.inputs.now c.index.now d e };
@@ -60,13 +56,15 @@ fn choose_in(
 ) -> Result<Option<InterEntry>, Memory>
     ensures { IfOk result (IsChosenIn inputs.now area index.now dest.now) }
 {
+    // 16.2 (3) and (6): active ranges and intra-area paths are preferred to summaries.
     if is_taken_below(inputs, area, dest) {
         return Ok(None);
     }
     let mut keys = Vec::new(alloc);
-    index.push_keys(Group::To(*dest), &mut keys)?;
+    index.list_keys(LsaGroup::To(*dest), &mut keys)?;
     let mut best = Best::new(alloc);
     offer_keys(&mut best, inputs.intra, area, index, keys.as_slice())?;
+    // 16.2 (5) and (7): the cheapest paths are installed, all of one cost together.
     match best.into_choice() {
         Some(choice) => Ok(Some(entry(area, choice))),
         None => Ok(None),
@@ -103,7 +101,7 @@ fn is_taken_below(inputs: &InterInputs<'_>, area: u32, dest: &Dest) -> bool
 
 // Whether the router is reached in the area as an AS boundary router.
 fn is_boundary(intra: &Intra, area: u32, router: u32) -> bool
-    ensures { IsTrue result ↔ ((distance : ℕ) × (h : HopValue) × HandsOut E (reached_at intra.now.areas area router) distance h) }
+    ensures { IsTrue result ↔ IsBoundaryIn intra.now.areas area router }
 {
     match intra.router(area, router) {
         Some(reached) => reached.is_boundary() && !reached.hops().is_empty(),
@@ -119,7 +117,8 @@ fn offer_keys(
     index: &OfferIndex,
     keys: &[Key],
 ) -> Result<(), Memory>
-    ensures { OnOk result (TakesPaths (OfferedBySome keys.now (KeyOffers intra.now.areas area index.now)) best.old best.new) }
+    ensures { OnOk result
+        (TakesPaths (KeysOffer keys.now intra.now.areas area index.now) best.old best.new) }
 {
     for key in keys {
         offer_key(best, intra, area, index, *key)?;
@@ -135,11 +134,13 @@ fn offer_key(
     index: &OfferIndex,
     key: Key,
 ) -> Result<(), Memory>
-    ensures { OnOk result (TakesPaths (KeyOffers intra.now.areas area index.now key) best.old best.new) }
+    ensures { OnOk result
+        (TakesPaths (KeyOffers intra.now.areas area index.now key) best.old best.new) }
 {
     let Some(route) = index.route(key) else {
         return Ok(());
     };
+    // 16.2 (4): the border router must be reached in the area. The cost is its distance and the metric.
     let Some(border) = intra.router(area, key.router) else {
         return Ok(());
     };

@@ -1,16 +1,13 @@
 //! How the index follows the LSAs of the examined area, and which destinations may get another entry.
-ghost use Rattle.std.specs.Prelude.{◌≡◌, ℕ, Contains, OnOk};
-ghost use Rattle.std.specs.FinMap as map;
-ghost use Rattle.ospf_types.specs.declared.key.Dest.{Dest as DestValue};
-ghost use Rattle.ospf_types.specs.declared.key.Dest.TheVariants as dest_value;
-ghost use Rattle.offer_index.specs.declared.group.Group.TheVariants as group_value;
-ghost use Rattle.offer_index.specs.Indexes.{AreTouched, GroupLeadsTo, IsLedTo};
-ghost use Rattle.inter.specs.Following.{IsIndexBefore, IsIndexSince, AreLed, IsPushed, ArePushed};
+ghost use Rattle.std.specs.Prelude.{◌≡◌, Contains, OnOk};
+ghost use Rattle.offer_index.specs.Indexes.{AreTouched, IsLedTo, empty_index};
+ghost use Rattle.offer_index.specs.Lists.{KeepsAll};
+ghost use Rattle.inter.specs.Following.{IsIndexBefore, IsIndexSince, AreLed, HasAllBehind, IsPushed, ArePushed};
 ghost use Rattle.inter.specs.Inputs.{examined_area};
 ghost use Rattle.inter.specs.Inters.{IsIndexFor};
 
 use crate::inputs::InterInputs;
-use offer_index::{Affected, Group, OfferIndex};
+use offer_index::{ChangedOffers, LsaGroup, OfferIndex};
 use ospf_types::key::{Dest, Key, Scope};
 use ospf_types::memory::Memory;
 
@@ -20,11 +17,12 @@ pub(crate) fn follow_examined(
     index: &mut OfferIndex,
     inputs: &InterInputs<'_>,
     keys: &[(Scope, Key)],
-    affected: &mut Affected,
+    affected: &mut ChangedOffers,
 ) -> Result<(), Memory>
     requires { IsIndexBefore inputs.now.root keys.now inputs.now.examined area index.old }
     ensures index { OnOk result (IsIndexFor inputs.now.root inputs.now.examined index.new) }
-    ensures led { OnOk result (AreLed area (examined_area inputs.now) index.old index.new affected.new.dests) }
+    ensures led { OnOk result
+        (AreLed area (examined_area inputs.now) index.old index.new affected.new.dests) }
 {
     if area == inputs.area() {
         return follow_named(index, inputs, keys, affected);
@@ -33,12 +31,12 @@ pub(crate) fn follow_examined(
     follow_all(index, inputs, affected)
 }
 
-// The same where this area was examined before.
+// The index takes what the named LSAs say, where this area was examined before.
 fn follow_named(
     index: &mut OfferIndex,
     inputs: &InterInputs<'_>,
     keys: &[(Scope, Key)],
-    affected: &mut Affected,
+    affected: &mut ChangedOffers,
 ) -> Result<(), Memory>
     requires { IsIndexSince inputs.now.root keys.now inputs.now.examined index.old }
     ensures index { OnOk result (IsIndexFor inputs.now.root inputs.now.examined index.new) }
@@ -53,13 +51,13 @@ fn follow_named(
     }
 }
 
-// The same where the index has nothing.
+// The index takes what all LSAs of the area say, where it has nothing.
 fn follow_all(
     index: &mut OfferIndex,
     inputs: &InterInputs<'_>,
-    affected: &mut Affected,
+    affected: &mut ChangedOffers,
 ) -> Result<(), Memory>
-    requires { index.old ≡ record { routes = map.empty } }
+    requires { index.old ≡ empty_index }
     ensures index { OnOk result (IsIndexFor inputs.now.root inputs.now.examined index.new) }
     ensures touched { OnOk result (AreTouched index.old index.new affected.old affected.new) }
 {
@@ -98,7 +96,7 @@ fn push_dest(index: &OfferIndex, dest: &Dest, dests: &mut Vec<Dest>) -> Result<(
 
 // Adds the destination if a summary leads to it.
 fn push_led(index: &OfferIndex, dest: &Dest, dests: &mut Vec<Dest>) -> Result<(), Memory>
-    ensures kept { OnOk result ((d : DestValue) → Contains dests.old.items d → Contains dests.new.items d) }
+    ensures kept { OnOk result (KeepsAll dests.old.items dests.new.items) }
     ensures itself { OnOk result (IsLedTo index.now dest.now → Contains dests.new.items dest.now) }
 {
     if index.leads_to(*dest) {
@@ -109,11 +107,11 @@ fn push_led(index: &OfferIndex, dest: &Dest, dests: &mut Vec<Dest>) -> Result<()
 
 // Adds what the router's summaries lead to, where the destination is a router.
 fn push_behind(index: &OfferIndex, dest: &Dest, dests: &mut Vec<Dest>) -> Result<(), Memory>
-    ensures kept { OnOk result ((d : DestValue) → Contains dests.old.items d → Contains dests.new.items d) }
-    ensures behind { OnOk result ((router : ℕ) (d : DestValue) → dest.now ≡ dest_value.Router router → GroupLeadsTo index.now (group_value.By router) d → Contains dests.new.items d) }
+    ensures kept { OnOk result (KeepsAll dests.old.items dests.new.items) }
+    ensures behind { OnOk result (HasAllBehind index.now dest.now dests.new.items) }
 {
     match *dest {
-        Dest::Router(router) => index.push_dests(Group::By(router), dests),
+        Dest::Router(router) => index.list_dests(LsaGroup::By(router), dests),
         Dest::Net(_) => Ok(()),
     }
 }

@@ -1,10 +1,10 @@
 ghost use Rattle.std.specs.Prelude.{◌≡◌};
 ghost use Rattle.inter.specs.Inputs.{examined_area};
 
+use active_ranges::ActiveRanges;
 use intra::Intra;
 use lsdb::Database;
 use std::marker::Model;
-use summaries::ActiveRanges;
 
 /// The area whose summaries are examined: the backbone where two areas are active, or the only active one.
 #[derive(Drop)]
@@ -45,7 +45,7 @@ impl<'a> Model for InterInputs<'a> {
     ghost use Rattle.ospf_types.specs.Keys.{key_code};
     ghost use Rattle.lsdb.specs.Databases.{Database as Lsas};
     ghost use Rattle.intra.specs.contracts.intra.Intra as intra_routes;
-    ghost use Rattle.summaries.specs.contracts.active.ActiveRanges as active_ranges;
+    ghost use Rattle.active_ranges.specs.contracts.active.ActiveRanges as active_ranges;
     ghost use Rattle.inter.specs.Inputs.{InterInputsValue};
 
     ghost Value = { InterInputsValue };

@@ -1,22 +1,21 @@
-ghost use Rattle.std.specs.Prelude.{◌≡◌, ◌≢◌, ◌↔◌, ◌<◌, Contains, IsSome, IfOk, IfSome, OnOk, OnErr, None, false, option_copied};
+ghost use Rattle.std.specs.Prelude.{◌≡◌, ◌≢◌, ◌<◌, IfOk, IfSome, OnOk, OnErr, None, option_copied};
 ghost use Rattle.std.specs.FinMap as map;
 ghost use Rattle.std.specs.List.{AllPairs};
 ghost use Rattle.std.specs.List.Sorted.{IsStrictlySortedBy};
-ghost use Rattle.ospf_types.specs.declared.key.Dest.{Dest as DestValue};
-ghost use Rattle.ospf_types.specs.Inputs.{Inputs as Definitions};
 ghost use Rattle.ospf_types.specs.Keys.{dest_cmp};
-ghost use Rattle.inter.specs.Inputs.{InterInputsValue, examined_area};
-ghost use Rattle.inter.specs.Inters.{IsInterOf, most_cost, spent_routes};
-ghost use Rattle.inter.specs.Changes.{InputsDifferAmong, DiffersAt};
+ghost use Rattle.active_ranges.specs.Lists.{HasJust};
+ghost use Rattle.inter.specs.Inputs.{examined_area};
+ghost use Rattle.inter.specs.Inters.{HasEntry, IsInterOf, most_cost, no_routes, spent_routes};
+ghost use Rattle.inter.specs.Changes.{AreRoutesBehind, DiffersAt};
 ghost use Rattle.inter.specs.Following.{IsIndexBefore, IsFollowed};
-ghost use Rattle.inter.specs.Right.{AreInputsOf, IsRightFor};
+ghost use Rattle.inter.specs.Right.{IsRightWith};
 
 use crate::choose::Choosing;
 use crate::cost::InterEntry;
 use crate::follow::{follow_examined, push_named};
 use crate::inputs::InterInputs;
 use intra::Dirty;
-use offer_index::{Affected, OfferIndex};
+use offer_index::{ChangedOffers, OfferIndex};
 use ospf_types::entry::Entry;
 use ospf_types::key::Dest;
 use ospf_types::memory::Memory;
@@ -72,7 +71,7 @@ impl Inter {
         hashing: RandomState,
     ) -> Result<Inter, Memory>
         ensures kept { IfOk result (IsInterOf inputs.now) }
-        ensures right { IfOk result (λ inter. (s : Definitions) → AreInputsOf s inputs.now → IsRightFor s inter) }
+        ensures right { IfOk result (IsRightWith inputs.now) }
     {
         let mut inter = Inter::blank(alloc, hashing);
         let dirty = Dirty {
@@ -85,19 +84,20 @@ impl Inter {
         Ok(inter)
     }
 
-    /// Works out again what may differ, and answers the destinations whose entry does, ascending, each once. Where memory
-    /// is refused, all is spent: nothing is answered any more, and only `build` makes another.
+    /// Works out again what may differ, and answers the destinations whose entry does, ascending, each once. If memory
+    /// runs out, all is spent: nothing is answered any more, and only `build` makes another.
     pub fn update(
         &mut self,
         alloc: Global,
         inputs: &InterInputs<'_>,
         dirty: &Dirty,
     ) -> Result<Vec<Dest>, Memory>
-        requires before { (before : InterInputsValue) × IsInterOf before self.old × InputsDifferAmong dirty.now.keys.items dirty.now.dests.items before inputs.now }
+        requires before { AreRoutesBehind dirty.now.keys.items dirty.now.dests.items inputs.now
+            self.old }
         ensures kept { OnOk result (IsInterOf inputs.now self.new) }
-        ensures right { OnOk result ((s : Definitions) → AreInputsOf s inputs.now → IsRightFor s self.new) }
+        ensures right { OnOk result (IsRightWith inputs.now self.new) }
         ensures in_order { IfOk result (λ dests. IsStrictlySortedBy dest_cmp dests.items) }
-        ensures exact { IfOk result (λ dests. (d : DestValue) → Contains dests.items d ↔ DiffersAt self.old self.new d) }
+        ensures exact { IfOk result (λ dests. HasJust (DiffersAt self.old self.new) dests.items) }
         ensures spent { OnErr result (self.new ≡ spent_routes) }
     {
         let dests = self.update_parts(alloc, inputs, dirty);
@@ -120,13 +120,13 @@ impl Inter {
 
     /// The destinations that have an entry, in no stated order, each once.
     pub fn dests(&self, alloc: Global) -> Result<Vec<Dest>, Memory>
-        ensures exact { IfOk result (λ dests. (d : DestValue) → Contains dests.items d ↔ IsSome (map.get self.now.entries d)) }
+        ensures exact { IfOk result (λ dests. HasJust (HasEntry self.now) dests.items) }
         ensures each_once { IfOk result (λ dests. AllPairs (λ c d. c ≢ d) dests.items) }
     {
         self.entries.keys(alloc)
     }
 
-    /// Whether an update was refused memory.
+    /// Whether an update ran out of memory.
     pub fn spent(&self) -> bool
         ensures { result ≡ self.now.spent }
     {
@@ -137,7 +137,7 @@ impl Inter {
 impl Inter {
     // The routes where no area is examined.
     fn blank(alloc: Global, hashing: RandomState) -> Inter
-        ensures { result ≡ record { examined = None; index = record { routes = map.empty }; entries = map.empty; spent = false } }
+        ensures { result ≡ no_routes }
     {
         Inter {
             hashing,
@@ -148,22 +148,23 @@ impl Inter {
         }
     }
 
-    // The same; after an error some parts followed and others did not.
+    // Updates each part in turn. Out of memory, some parts have followed and others have not.
     fn update_parts(
         &mut self,
         alloc: Global,
         inputs: &InterInputs<'_>,
         dirty: &Dirty,
     ) -> Result<Vec<Dest>, Memory>
-        requires before { (before : InterInputsValue) × IsInterOf before self.old × InputsDifferAmong dirty.now.keys.items dirty.now.dests.items before inputs.now }
+        requires before { AreRoutesBehind dirty.now.keys.items dirty.now.dests.items inputs.now
+            self.old }
         ensures kept { OnOk result (IsInterOf inputs.now self.new) }
         ensures in_order { IfOk result (λ dests. IsStrictlySortedBy dest_cmp dests.items) }
-        ensures exact { IfOk result (λ dests. (d : DestValue) → Contains dests.items d ↔ DiffersAt self.old self.new d) }
+        ensures exact { IfOk result (λ dests. HasJust (DiffersAt self.old self.new) dests.items) }
     {
         let dests = self.follow(alloc, inputs, dirty)?;
         let index = &self.index;
         let mut named = Vec::new(alloc);
-        self.entries.renew_all(
+        self.entries.update_each(
             alloc,
             dests.as_slice(),
             &Choosing { inputs, index },
@@ -179,14 +180,16 @@ impl Inter {
         inputs: &InterInputs<'_>,
         dirty: &Dirty,
     ) -> Result<Vec<Dest>, Memory>
-        requires { IsIndexBefore inputs.now.root dirty.now.keys.items inputs.now.examined self.old.examined self.old.index }
+        requires { IsIndexBefore inputs.now.root dirty.now.keys.items inputs.now.examined
+            self.old.examined self.old.index }
         ensures examined { OnOk result (self.new.examined ≡ examined_area inputs.now) }
         ensures entries { OnOk result (self.new.entries ≡ self.old.entries) }
         ensures spent { OnOk result (self.new.spent ≡ self.old.spent) }
         ensures in_order { IfOk result (λ dests. IsStrictlySortedBy dest_cmp dests.items) }
-        ensures followed { IfOk result (λ dests. IsFollowed dirty.now.dests.items inputs.now self.old.examined self.old.index self.new.index dests.items) }
+        ensures followed { IfOk result (λ dests. IsFollowed dirty.now.dests.items inputs.now
+            self.old.examined self.old.index self.new.index dests.items) }
     {
-        let mut affected = Affected::none(alloc);
+        let mut affected = ChangedOffers::none(alloc);
         follow_examined(
             self.examined,
             &mut self.index,

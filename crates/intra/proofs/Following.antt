@@ -20,7 +20,7 @@ use Rattle.intra.specs.Inputs.{AreaValue, distance_at, hops_at}
 use Rattle.intra.specs.Reached.{ReachedValue, has_bit, has_bits, reached_by}
 use Rattle.intra.specs.Indexes.{IndexValue, IsIndex, IsIndexOf, IsOfferedFor, AreTouched}
 use Rattle.intra.specs.Intras.{AreaIntraValue}
-use Rattle.intra.specs.Following.{LsasDifferAmong, NamesVertex, NamesIn, IsCurrent, IsTaken, HasOffered, IsGathered, IsRenewed, IsRouterNamed, flags_in, router_now, with_index_of}
+use Rattle.intra.specs.Following.{LsasDifferAmong, NamesVertex, NamesIn, IsCurrent, IsTaken, HasOffered, IsGathered, AreRoutersUpdated, IsRouterNamed, flags_in, router_now, with_index_of}
 use Rattle.ospf_types.proofs.VertexOrder.{vertex_total, vertex_exact}
 pub use Rattle.result_map.proofs.KeyedMaps.{one_or_other}
 
@@ -160,9 +160,9 @@ no_bits root router (Some f) (Some d) hops plain =
     ]
 
 module _ (root : ℕ) (a : AreaValue) where
-  -- nothing was to be renewed
-  pub renewed_none : (names : ℕ → Type 0) (i : AreaIntraValue) (rs : List ℕ) → ((r : ℕ) → names r → ⊥) → IsRenewed root a names i i rs rs
-  renewed_none names i rs none = record {
+  -- nothing was to be updated
+  pub updated_none : (names : ℕ → Type 0) (i : AreaIntraValue) (rs : List ℕ) → ((r : ℕ) → names r → ⊥) → AreRoutersUpdated root a names i i rs rs
+  updated_none names i rs none = record {
     id = refl;
     index = refl;
     each = λ r. inr (refl, none r);
@@ -170,8 +170,8 @@ module _ (root : ℕ) (a : AreaValue) where
   }
 
   -- the router is as it is to be
-  pub renewed_same : (router : ℕ) (i : AreaIntraValue) (rs : List ℕ) → get i.reached router ≡ router_now root a i.index router → IsRenewed root a (λ r. r ≡ router) i i rs rs
-  renewed_same router i rs is = record {
+  pub updated_same : (router : ℕ) (i : AreaIntraValue) (rs : List ℕ) → get i.reached router ≡ router_now root a i.index router → AreRoutersUpdated root a (λ r. r ≡ router) i i rs rs
+  updated_same router i rs is = record {
     id = refl;
     index = refl;
     each = λ r. elim (cases_eq r router) [
@@ -181,11 +181,11 @@ module _ (root : ℕ) (a : AreaValue) where
     exact = λ r. (λ c. inl c, λ w. elim w [ inl c ↦ c | inr other ↦ absurd (other refl) ]);
   }
 
-  -- the router is renewed
-  pub renewed_one : (router : ℕ) (old new : AreaIntraValue) (rs after : List ℕ) → new.id ≡ old.id → new.index ≡ old.index → get new.reached router ≡ router_now root a old.index router
+  -- the router is updated
+  pub updated_one : (router : ℕ) (old new : AreaIntraValue) (rs after : List ℕ) → new.id ≡ old.id → new.index ≡ old.index → get new.reached router ≡ router_now root a old.index router
       → ((r : ℕ) → r ≢ router → get new.reached r ≡ get old.reached r) → get old.reached router ≢ router_now root a old.index router → after ≡ rs ++ router ∷ []
-      → IsRenewed root a (λ r. r ≡ router) old new rs after
-  renewed_one router old new rs after id index is others differs pushed = record {
+      → AreRoutersUpdated root a (λ r. r ≡ router) old new rs after
+  updated_one router old new rs after id index is others differs pushed = record {
     id = id;
     index = index;
     each = λ r. elim (cases_eq r router) [
@@ -208,8 +208,8 @@ module _ (root : ℕ) (a : AreaValue) where
   }
 
   -- a vertex of which nothing is kept, and by its bits nothing is to be
-  pub renewed_out : (v : Vertex) (i : AreaIntraValue) (rs : List ℕ) → has_bits (flags_in i.index v) ≡ false → ((router : ℕ) → v ≡ Router router → get i.reached router ≡ None) → IsRenewed root a (λ r. v ≡ Router r) i i rs rs
-  renewed_out v i rs plain none = record {
+  pub updated_out : (v : Vertex) (i : AreaIntraValue) (rs : List ℕ) → has_bits (flags_in i.index v) ≡ false → ((router : ℕ) → v ≡ Router router → get i.reached router ≡ None) → AreRoutersUpdated root a (λ r. v ≡ Router r) i i rs rs
+  updated_out v i rs plain none = record {
     id = refl;
     index = refl;
     each = λ r. elim (one_or_other vertex_total vertex_exact (Router r) v) [
@@ -220,9 +220,9 @@ module _ (root : ℕ) (a : AreaValue) where
   }
 
   -- one after the other
-  pub renewed_then : (P Q R : ℕ → Type 0) (old mid new : AreaIntraValue) (before between after : List ℕ) → ((r : ℕ) → R r ↔ (P r ⊎ Q r))
-      → IsRenewed root a P old mid before between → IsRenewed root a Q mid new between after → IsRenewed root a R old new before after
-  renewed_then P Q R old mid new before between after parts first second = record {
+  pub updated_then : (P Q R : ℕ → Type 0) (old mid new : AreaIntraValue) (before between after : List ℕ) → ((r : ℕ) → R r ↔ (P r ⊎ Q r))
+      → AreRoutersUpdated root a P old mid before between → AreRoutersUpdated root a Q mid new between after → AreRoutersUpdated root a R old new before after
+  updated_then P Q R old mid new before between after parts first second = record {
     id = second.id ∙ first.id;
     index = second.index ∙ first.index;
     each = each;
@@ -266,37 +266,37 @@ module _ (root : ℕ) (a : AreaValue) where
         ]
       ]
 
-  pub renewed_by : (P R : ℕ → Type 0) (old new : AreaIntraValue) (before after : List ℕ) → ((r : ℕ) → R r ↔ P r) → IsRenewed root a P old new before after → IsRenewed root a R old new before after
-  renewed_by P R old new before after same renewed = record {
-    id = renewed.id;
-    index = renewed.index;
-    each = λ r. elim (renewed.each r) [
+  pub updated_by : (P R : ℕ → Type 0) (old new : AreaIntraValue) (before after : List ℕ) → ((r : ℕ) → R r ↔ P r) → AreRoutersUpdated root a P old new before after → AreRoutersUpdated root a R old new before after
+  updated_by P R old new before after same updated = record {
+    id = updated.id;
+    index = updated.index;
+    each = λ r. elim (updated.each r) [
       | inl is ↦ inl (is.0, (same r).1 is.1)
       | inr kept ↦ inr (kept.0, λ named. kept.1 ((same r).0 named))
     ];
-    exact = renewed.exact;
+    exact = updated.exact;
   }
 
 -- ---- all of an area
 
--- the same of equal lists and numbers
+-- under other names of equal lists and numbers
 pub by_keys : (root : ℕ) (a : AreaValue) (keys given : List (Scope × Key)) (area id : ℕ) (old new : AreaIntraValue) (before after : List ℕ) → id ≡ area → given ≡ keys
-    → IsRenewed root a (λ r. IsOfSome given (NamesVertex id) (Router r)) old new before after → IsRenewed root a (λ r. IsOfSome keys (NamesVertex area) (Router r)) old new before after
-by_keys root a keys given area id old new before after same all renewed =
-    subst (λ (n : ℕ). IsRenewed root a (λ r. IsOfSome keys (NamesVertex n) (Router r)) old new before after) same
-    (subst (λ (ks : List (Scope × Key)). IsRenewed root a (λ r. IsOfSome ks (NamesVertex id) (Router r)) old new before after) all renewed)
+    → AreRoutersUpdated root a (λ r. IsOfSome given (NamesVertex id) (Router r)) old new before after → AreRoutersUpdated root a (λ r. IsOfSome keys (NamesVertex area) (Router r)) old new before after
+by_keys root a keys given area id old new before after same all updated =
+    subst (λ (n : ℕ). AreRoutersUpdated root a (λ r. IsOfSome keys (NamesVertex n) (Router r)) old new before after) same
+    (subst (λ (ks : List (Scope × Key)). AreRoutersUpdated root a (λ r. IsOfSome ks (NamesVertex id) (Router r)) old new before after) all updated)
 
 pub by_vertices : (root : ℕ) (a : AreaValue) (vertices given : List (ℕ × Vertex)) (area id : ℕ) (old new : AreaIntraValue) (before after : List ℕ) → id ≡ area → given ≡ vertices
-    → IsRenewed root a (λ r. IsOfSome given (NamesIn id) (Router r)) old new before after → IsRenewed root a (λ r. IsOfSome vertices (NamesIn area) (Router r)) old new before after
-by_vertices root a vertices given area id old new before after same all renewed =
-    subst (λ (n : ℕ). IsRenewed root a (λ r. IsOfSome vertices (NamesIn n) (Router r)) old new before after) same
-    (subst (λ (vs : List (ℕ × Vertex)). IsRenewed root a (λ r. IsOfSome vs (NamesIn id) (Router r)) old new before after) all renewed)
+    → AreRoutersUpdated root a (λ r. IsOfSome given (NamesIn id) (Router r)) old new before after → AreRoutersUpdated root a (λ r. IsOfSome vertices (NamesIn area) (Router r)) old new before after
+by_vertices root a vertices given area id old new before after same all updated =
+    subst (λ (n : ℕ). AreRoutersUpdated root a (λ r. IsOfSome vertices (NamesIn n) (Router r)) old new before after) same
+    (subst (λ (vs : List (ℕ × Vertex)). AreRoutersUpdated root a (λ r. IsOfSome vs (NamesIn id) (Router r)) old new before after) all updated)
 
 module _ (root : ℕ) (d : Database) (a : AreaValue) (keys : List (Scope × Key)) (vertices : List (ℕ × Vertex)) (interfaces : List ℕ) (names own : Vertex → Type 0) (old mid by_key new : AreaIntraValue)
     (before first second after : List Prefix) (r_before r_mid r_after : List ℕ)
-    (taken : IsTaken d names old mid before first) (keyed : IsRenewed root a (λ r. IsOfSome keys (NamesVertex old.id) (Router r)) mid by_key r_before r_mid)
-    (settled : IsRenewed root a (λ r. IsOfSome vertices (NamesIn old.id) (Router r)) by_key new r_mid r_after) where
-  -- what the index makes of the area, before its routers are renewed
+    (taken : IsTaken d names old mid before first) (keyed : AreRoutersUpdated root a (λ r. IsOfSome keys (NamesVertex old.id) (Router r)) mid by_key r_before r_mid)
+    (settled : AreRoutersUpdated root a (λ r. IsOfSome vertices (NamesIn old.id) (Router r)) by_key new r_mid r_after) where
+  -- what the index makes of the area, before its routers are updated
   mid_is : mid ≡ with_index_of old new
   mid_is = λ i. record { id = taken.id i; index = sym (settled.index ∙ keyed.index) i; reached = taken.reached i }
 
@@ -309,8 +309,8 @@ module _ (root : ℕ) (d : Database) (a : AreaValue) (keys : List (Scope × Key)
       (subst (λ (i : IndexValue). HasOffered i own second after) (settled.index ∙ keyed.index) last) touched in
       subst (λ (m : AreaIntraValue). IsGathered root vertices interfaces old m before after) mid_is here
 
-  pub area_renewed : IsRenewed root a (IsRouterNamed keys vertices old.id) (with_index_of old new) new r_before r_after
-  area_renewed =
-      subst (λ (m : AreaIntraValue). IsRenewed root a (IsRouterNamed keys vertices old.id) m new r_before r_after) mid_is
-      (renewed_then root a (λ r. IsOfSome keys (NamesVertex old.id) (Router r)) (λ r. IsOfSome vertices (NamesIn old.id) (Router r)) (IsRouterNamed keys vertices old.id) mid by_key new r_before r_mid r_after
+  pub area_updated : AreRoutersUpdated root a (IsRouterNamed keys vertices old.id) (with_index_of old new) new r_before r_after
+  area_updated =
+      subst (λ (m : AreaIntraValue). AreRoutersUpdated root a (IsRouterNamed keys vertices old.id) m new r_before r_after) mid_is
+      (updated_then root a (λ r. IsOfSome keys (NamesVertex old.id) (Router r)) (λ r. IsOfSome vertices (NamesIn old.id) (Router r)) (IsRouterNamed keys vertices old.id) mid by_key new r_before r_mid r_after
       (λ r. (λ n. n, λ n. n)) keyed settled)

@@ -242,13 +242,13 @@ entry_same one other same (Some e) is = (is.0, best_same one other same area_cos
 
 -- ---- a network that nothing tells to choose anew
 
--- as far as this area goes: it is offered by the same vertices, none of these is named, and the root is none of them where an interface is named
+-- what holds in this area: it is offered by the same vertices, none of these is named, and the root is none of them where an interface is named
 pub record IsClean (vertices : List (ℕ × Vertex)) (ids : List ℕ) (root : ℕ) (p : Prefix) (area : ℕ) (before after : IndexValue) : Type 0 where
   pub sources : (w : Vertex) (metric : ℕ) → IsSource after w p metric ↔ IsSource before w p metric
   pub unnamed : (w : Vertex) (metric : ℕ) → IsSource after w p metric → Contains vertices (area, w) → ⊥
   pub interfaces : ((id : ℕ) → Contains ids id → ⊥) ⊎ ((metric : ℕ) → IsSource after (Router root) p metric → ⊥)
 
--- the same of each area, with its indexes before and after
+-- this holds of each area, with its indexes before and after
 abbrev pub AreClean : List (ℕ × Vertex) → List ℕ → ℕ → Prefix → List AreaValue → List IndexValue → List IndexValue → Type 0
 AreClean vertices ids root p [] [] [] = Unit {0}
 AreClean vertices ids root p [] (i ∷ is) js = ⊥

@@ -1,16 +1,20 @@
 -- The lists of sources that an index keeps: none is empty, and none has a source twice.
-use Rattle.std.proofs.Common.{◌≡◌, ◌≢◌, ℕ, ◌<◌, List, [], ◌∷◌, ◌++◌, length, take, get_or, Some, None, sym, ap, subst, ◌∙◌, inl, inr, arith}
+use Rattle.std.proofs.Common.{◌≡◌, ◌≢◌, ℕ, ◌<◌, cond, List, [], ◌∷◌, ◌++◌, length, take, get_or, Some, None, sym, ap, subst, ◌∙◌, inl, inr, arith}
 use Rattle.std.specs.FinMap.{get, insert, remove, empty, get-empty}
+use Rattle.std.specs.Map.{lookup}
 use Rattle.std.specs.List.{AllPairs, Contains}
 use Rattle.std.proofs.lemmas.List.{length_push, get_or-take, length-take-le}
 use Rattle.std.proofs.lemmas.List.Elements.{Contains-get_or}
 use Rattle.std.proofs.lemmas.List.Quantifiers.{all_pairs_push}
 use Rattle.ospf_types.specs.declared.prefix.Prefix.{Prefix}
-use Rattle.ospf_types.specs.Network.{network_cmp}
+use Rattle.smallvec.specs.SmallVec.{SmallVec}
+use Rattle.ospf_types.specs.Network.{Network, network_cmp}
+use Rattle.ospf_types.proofs.KeyOrders.{prefixes_equal}
 use Rattle.ospf_types.proofs.Orders.{network_total, network_exact}
 use Rattle.result_map.proofs.KeyedMaps.{one_or_other, set_here, set_elsewhere, gone_here, gone_elsewhere}
 use Rattle.intra.specs.declared.area_index.Source.{Source}
 use Rattle.intra.specs.Indexes.{SourcesByPrefix, AreSourceLists}
+use Rattle.intra.proofs.SourceMaps.{sources_map, sources_written, sources_removed}
 
 abbrev pub IsSourceList : List Source → Type 0
 IsSourceList list = (list ≢ []) × AllPairs (λ a b. a ≢ b) list
@@ -19,7 +23,7 @@ pub none_kept : (m : SourcesByPrefix) → m ≡ empty → AreSourceLists m
 none_kept m is p list stands = absurd (let wrong : Some list ≡ None = sym stands ∙ ap (λ (n : SourcesByPrefix). get n p) is ∙ get-empty network_cmp p in cc)
 
 module _ (old : SourcesByPrefix) (p : Prefix) (are : AreSourceLists old) where
-  -- another list of one prefix
+  -- where one prefix gets another list, all are lists of sources still
   pub kept_with : (list : List Source) → IsSourceList list → AreSourceLists (insert old p list)
   kept_with list is q found stands =
       elim (one_or_other network_total network_exact p q) [
@@ -30,7 +34,7 @@ module _ (old : SourcesByPrefix) (p : Prefix) (are : AreSourceLists old) where
         | inr other ↦ are q found (sym (set_elsewhere network_total network_exact old p q list other) ∙ stands)
       ]
 
-  -- none of it
+  -- where one prefix loses its list, all are lists of sources still
   pub kept_without : (list : List Source) → AreSourceLists (remove (insert old p list) p)
   kept_without list q found stands =
       elim (one_or_other network_total network_exact p q) [
@@ -40,6 +44,15 @@ module _ (old : SourcesByPrefix) (p : Prefix) (are : AreSourceLists old) where
         | inr other ↦
             are q found (sym (set_elsewhere network_total network_exact old p q list other) ∙ sym (gone_elsewhere network_total network_exact (insert old p list) p q other) ∙ stands)
       ]
+
+-- one prefix gets a list in the entries, and then loses it
+pub taken_out : (es fs gs : List (Network × SmallVec Source)) (p : Network) (list : SmallVec Source) → AreSourceLists (sources_map es)
+    → ((q : Network) → lookup (prefixes_equal q) fs ≡ cond (prefixes_equal p q) (Some list) (lookup (prefixes_equal q) es))
+    → ((q : Network) → lookup (prefixes_equal q) gs ≡ cond (prefixes_equal p q) None (lookup (prefixes_equal q) fs))
+    → AreSourceLists (sources_map gs)
+taken_out es fs gs p list are written removed =
+    subst AreSourceLists (sym (sources_removed fs p gs removed ∙ ap (λ (m : SourcesByPrefix). remove m p) (sources_written es p fs list written)))
+    (kept_without (sources_map es) p are list.items)
 
 -- one more source, which is not there
 pub one_more : (had : List Source) (s : Source) → AllPairs (λ a b. a ≢ b) had → (Contains had s → ⊥) → IsSourceList (had ++ s ∷ [])

@@ -13,5 +13,5 @@ pub mod IndexSteps
 pub mod Following
 pub mod Placing
 pub mod SortedOnce
-pub mod Renewing
+pub mod ChosenAnew
 pub mod Updating

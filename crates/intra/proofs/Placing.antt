@@ -17,7 +17,7 @@ use Rattle.lsdb.specs.Databases.{Database}
 use Rattle.intra.specs.Indexes.{IsIndexOf}
 use Rattle.intra.specs.Inputs.{AreaValue}
 use Rattle.intra.specs.Intras.{AreaIntraValue}
-use Rattle.intra.specs.Following.{IsGathered, IsRenewed, IsRouterNamed, LsasDifferAmong, with_index_of}
+use Rattle.intra.specs.Following.{IsGathered, AreRoutersUpdated, IsRouterNamed, LsasDifferAmong, with_index_of}
 use Rattle.intra.specs.Updating.{AreFirst, IsFollowed, IsSettled, IsBroughtTo, IsKeptBefore, HasOtherAmong}
 
 -- nothing is done yet
@@ -110,7 +110,7 @@ followed_from root vertices interfaces before after a i j index was = record {
 
 -- what a step settled
 pub settled_from : (root : ℕ) (keys : List (Scope × Key)) (vertices : List (ℕ × Vertex)) (before after : List ℕ) (a : AreaValue) (i j : AreaIntraValue)
-    → IsRenewed root a (IsRouterNamed keys vertices i.id) i j before after → IsSettled root keys vertices a i j
+    → AreRoutersUpdated root a (IsRouterNamed keys vertices i.id) i j before after → IsSettled root keys vertices a i j
 settled_from root keys vertices before after a i j is = record {
   id = is.id;
   index = is.index;
@@ -129,7 +129,7 @@ kept_before root keys vertices a i is =
 pub items_of_slice : {X : Type 0} (v : Vec X) (xs : List X) → length xs ≡ length v.items → (with_items v xs).items ≡ xs
 items_of_slice v xs e = with_items_is v xs (e ∙ sym v.ok.0)
 
--- the same of equal lists
+-- under other names of equal lists
 pub first_at : (P : AreaValue → AreaIntraValue → AreaIntraValue → Type 0) (areas : List AreaValue) (count : ℕ) {old was new is : List AreaIntraValue} → old ≡ was → new ≡ is → AreFirst P areas old new count → AreFirst P areas was is count
 first_at P areas count {old} {was} {new} {is} before after first = subst (λ (l : List AreaIntraValue). AreFirst P areas was l count) after (subst (λ (l : List AreaIntraValue). AreFirst P areas l new count) before first)
 

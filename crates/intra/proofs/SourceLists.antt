@@ -2,6 +2,7 @@
 use Rattle.std.proofs.Common.{◌≡◌, ◌≢◌, ℕ, Bool, true, false, cond, not, List, [], ◌∷◌, refl, sym, ap, subst, ◌∙◌, ⊎_elim}
 use Rattle.std.specs.Prelude.{◌↔◌}
 use Rattle.std.specs.List.{Contains, filter}
+use Rattle.std.specs.List.Retain.{RetainsInTurn}
 use Rattle.std.proofs.lemmas.Bool.{true≢false}
 use Rattle.ospf_types.specs.declared.entry.Vertex.{Vertex}
 use Rattle.ospf_types.proofs.Elements.{no_element, first_element, later_element, first_or_later}
@@ -28,6 +29,16 @@ module _ {X : Type 0} (test : X → Bool) where
         | false ↦ kept xs y h e
       ])
       (first_or_later x y xs c)
+
+-- where no call of the test changes it or the element, just what passes it stays
+pub retained : {X F : Type 0} (R : F → X → Bool → F → X → Type 0) (test : X → Bool) (f : F)
+    → ((x : X) (b : Bool) (g : F) (y : X) → R f x b g y → (b ≡ test x) × (g ≡ f) × (y ≡ x))
+    → (xs ys : List X) → RetainsInTurn R f xs ys → ys ≡ filter test xs
+retained R test f says [] ys h = h
+retained R test f says (x ∷ xs) ys h =
+    let said = says x h.0 h.1 h.2 h.3 in
+    let rest = retained R test f says xs h.4 (subst (λ g. RetainsInTurn R g xs h.4) said.1 h.5) in
+    h.6 ∙ (λ i. cond (said.0 i) (said.2 i ∷ rest i) (rest i))
 
 -- the source is of another vertex
 abbrev pub is_of_another : Vertex → Source → Bool

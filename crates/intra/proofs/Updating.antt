@@ -25,7 +25,7 @@ use Rattle.intra.specs.Inputs.{AreaValue, InputsValue, distance_at, hops_at}
 use Rattle.intra.specs.Intras.{AreaIntraValue, IntraValue, IsAreaIntra, AreAreaIntras, IsEntryFor, IsIntraOf}
 use Rattle.intra.specs.Offers.{OffersOf}
 use Rattle.intra.specs.Reached.{ReachedByRouter, ReachedValue, IsReachedOf, reached_by}
-use Rattle.intra.specs.Renewing.{AreRenewed}
+use Rattle.intra.specs.ChosenAnew.{AreChosenAnew}
 use Rattle.intra.specs.Updating.{IsKeptBefore, AreKeptBefore, AreFirst, IsFollowed, IsSettled, IsBroughtTo, HasOtherAmong}
 use Rattle.intra.proofs.Following.{one_or_other}
 use Rattle.intra.proofs.Frame.{IsClean, AreClean, indexes_in, indexes_of, indexed_is, entry_same, entry_kept, router_kept}
@@ -164,7 +164,7 @@ listed_or_not p (q ∷ qs) = elim (one_or_other network_total network_exact q p)
 
 module _ (keys : List (Scope × Key)) (vertices : List (ℕ × Vertex)) (ids : List ℕ) (b v : InputsValue) (old new : IntraValue) (news : List AreaIntraValue) (prefixes : List Prefix) (dests : List Dest)
     (was : IsIntraOf b old) (differ : InputsDifferAmong keys vertices ids b v) (first : AreFirst (IsBroughtTo v.root keys vertices ids prefixes) v.areas old.areas news (length v.areas))
-    (renewed : AreRenewed v (record { areas = news; entries = old.entries; spent = old.spent }) new prefixes dests) where
+    (anew : AreChosenAnew v (record { areas = news; entries = old.entries; spent = old.spent }) new prefixes dests) where
   before : AreKeptBefore v.root keys vertices v.areas old.areas
   before = are_before v.root keys vertices b.areas v.areas old.areas (subst (λ (root : ℕ). AreAreaIntras root b.areas old.areas) (sym differ.root) was.areas) differ.areas
 
@@ -179,21 +179,21 @@ module _ (keys : List (Scope × Key)) (vertices : List (ℕ × Vertex)) (ids : L
       elim (listed_or_not p prefixes) [
         | inl there ↦
             let by : IsEntryFor (IndexedOffers v (indexes_in news) v.areas p) (get new.entries p) =
-            subst (λ (kept : List AreaIntraValue). IsEntryFor (IndexedOffers v (indexes_in kept) v.areas p) (get new.entries p)) renewed.areas (renewed.here p there) in
+            subst (λ (kept : List AreaIntraValue). IsEntryFor (IndexedOffers v (indexes_in kept) v.areas p) (get new.entries p)) anew.areas (anew.here p there) in
             entry_same (IndexedOffers v (indexes_in news) v.areas p) (OffersOf v p) (indexed_is v (indexes_in news) indexes p) (get new.entries p) by
         | inr absent ↦
             let clean = clean_of vertices ids v.root p v.areas old.areas news (sym before.as_many) (omega (arith, before.as_many, first.as_many)) (λ k a i j lt.
             let is = first.each k a i j lt in
             one_clean v.root keys vertices ids prefixes (get_or v.areas k a) (get_or old.areas k i) (with_index_of (get_or old.areas k i) (get_or news k j)) (get_or news k j) (before.each k a i lt) is.followed is.settled p absent) in
-            subst (IsEntryFor (OffersOf v p)) (sym (renewed.others p absent))
+            subst (IsEntryFor (OffersOf v p)) (sym (anew.others p absent))
             (entry_kept keys vertices ids b v differ (indexes_in old.areas) (indexes_in news) (indexes_of b.root b.areas old.areas was.areas) indexes p clean (get old.entries p) (was.entries p))
       ]
 
   -- the routes are those of the inputs
   pub updated : IsIntraOf v new
   updated = record {
-    fresh = renewed.spent ∙ was.fresh;
-    areas = subst (λ (kept : List AreaIntraValue). AreAreaIntras v.root v.areas kept) (sym renewed.areas) areas_are;
+    fresh = anew.spent ∙ was.fresh;
+    areas = subst (λ (kept : List AreaIntraValue). AreAreaIntras v.root v.areas kept) (sym anew.areas) areas_are;
     entries = entry_is;
   }
 
@@ -206,9 +206,9 @@ module _ (keys : List (Scope × Key)) (vertices : List (ℕ × Vertex)) (ids : L
           λ c.
               let w = (named r).0 c in
               let lt : w.0 < length v.areas = w.1 in
-              subst (λ (is : List AreaIntraValue). HasOtherRouter old.areas is r) (sym renewed.areas) (step.0 (w.0, omega (arith, lt, length_is), w.2)),
+              subst (λ (is : List AreaIntraValue). HasOtherRouter old.areas is r) (sym anew.areas) (step.0 (w.0, omega (arith, lt, length_is), w.2)),
           λ h.
-              let w = step.1 (subst (λ (is : List AreaIntraValue). HasOtherRouter old.areas is r) renewed.areas h) in
+              let w = step.1 (subst (λ (is : List AreaIntraValue). HasOtherRouter old.areas is r) anew.areas h) in
               let lt : w.0 < length old.areas = w.1 in
               (named r).1 (w.0, omega (arith, lt, length_is), w.2),
         )
@@ -217,17 +217,17 @@ module _ (keys : List (Scope × Key)) (vertices : List (ℕ × Vertex)) (ids : L
     pub exactly : (d : Dest) → Contains (dests ++ map Router routers) d ↔ DiffersAt old new d
     exactly (Net p) = (
       λ c. elim (Contains-append_cases dests (map Router routers) (Net p) c) [
-        | inl net ↦ let w = (renewed.named (Net p)).0 net in let e : p ≡ w.0 = net_of (w.1) in subst (λ (q : Prefix). get new.entries q ≢ get old.entries q) (sym e) w.2
+        | inl net ↦ let w = (anew.named (Net p)).0 net in let e : p ≡ w.0 = net_of (w.1) in subst (λ (q : Prefix). get new.entries q ≢ get old.entries q) (sym e) w.2
         | inr router ↦ let w = mapped_from Router routers (Net p) router in absurd (let wrong : Router w.0 ≡ Net p = w.2 in cc)
       ],
-      λ differs. Contains-append_left dests (map Router routers) (Net p) ((renewed.named (Net p)).1 (p, refl, differs)),
+      λ differs. Contains-append_left dests (map Router routers) (Net p) ((anew.named (Net p)).1 (p, refl, differs)),
     )
       where
         net_of : {q : Prefix} → Net p ≡ Net q → p ≡ q
         net_of {q} e = cc
     exactly (Router r) = (
       λ c. elim (Contains-append_cases dests (map Router routers) (Router r) c) [
-        | inl net ↦ let w = (renewed.named (Router r)).0 net in absurd (let wrong : Router r ≡ Net w.0 = w.1 in cc)
+        | inl net ↦ let w = (anew.named (Router r)).0 net in absurd (let wrong : Router r ≡ Net w.0 = w.1 in cc)
         | inr router ↦
             let w = mapped_from Router routers (Router r) router in
             let e : w.0 ≡ r = (let same : Router w.0 ≡ Router r = w.2 in cc) in
@@ -236,9 +236,9 @@ module _ (keys : List (Scope × Key)) (vertices : List (ℕ × Vertex)) (ids : L
       λ differs. Contains-append_right dests (map Router routers) (Router r) (mapped_element Router routers r ((others r).1 differs)),
     )
 
--- the same of entries that are chosen anew after other steps
-pub renewed_from : (v : InputsValue) (old mid new : IntraValue) (ps qs : List Prefix) (dests : List Dest) → ps ≡ qs → mid.entries ≡ old.entries → mid.spent ≡ old.spent → AreRenewed v mid new ps dests
-    → AreRenewed v (record { areas = mid.areas; entries = old.entries; spent = old.spent }) new qs dests
-renewed_from v old mid new ps qs dests same entries spent renewed =
+-- entries that are chosen anew after other steps
+pub anew_from : (v : InputsValue) (old mid new : IntraValue) (ps qs : List Prefix) (dests : List Dest) → ps ≡ qs → mid.entries ≡ old.entries → mid.spent ≡ old.spent → AreChosenAnew v mid new ps dests
+    → AreChosenAnew v (record { areas = mid.areas; entries = old.entries; spent = old.spent }) new qs dests
+anew_from v old mid new ps qs dests same entries spent anew =
     let start : ◌≡◌ {A = IntraValue} mid (record { areas = mid.areas; entries = old.entries; spent = old.spent }) = (λ i. record { areas = mid.areas; entries = entries i; spent = spent i }) in
-    subst (λ (w : IntraValue). AreRenewed v w new qs dests) start (subst (λ (l : List Prefix). AreRenewed v mid new l dests) same renewed)
+    subst (λ (w : IntraValue). AreChosenAnew v w new qs dests) start (subst (λ (l : List Prefix). AreChosenAnew v mid new l dests) same anew)

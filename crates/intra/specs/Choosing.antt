@@ -1,6 +1,7 @@
 -- What the sources of a prefix in an area offer to it, part by part.
-use Rattle.std.specs.Prelude.{ℕ, ◌≡◌, ◌≤◌, ◌⊎◌, IsTrue, List, Contains, Option, Some, None}
+use Rattle.std.specs.Prelude.{ℕ, ◌≡◌, ◌≤◌, ◌⊎◌, ◌++◌, ◌∷◌, [], IsTrue, List, map, Contains, Option, Some, None}
 use Rattle.ospf_types.specs.declared.config.Interface.{Interface}
+use Rattle.ospf_types.specs.declared.entry.Vertex.TheVariants.{Router}
 use Rattle.ospf_types.specs.declared.hop.NextHop.{NextHop}
 use Rattle.ospf_types.specs.declared.hop.NextHop.TheVariants.{Direct}
 use Rattle.ospf_types.specs.declared.hop.Path.{Path}
@@ -9,19 +10,25 @@ use Rattle.ospf_types.specs.Hops.{path_cmp}
 use Rattle.ospf_types.specs.Intra.{AreaCost, area_cost_cmp, LiesIn, inside_area}
 use Rattle.intra.specs.declared.area_index.Source.{Source}
 use Rattle.path_choice.specs.Choices.{Chosen}
+use Rattle.intra.specs.Indexes.{IndexedOffers}
 use Rattle.intra.specs.Inputs.{AreaValue, InputsValue}
-use Rattle.intra.specs.Offers.{Offering, IsReachedFor, IsNearest, OffersTransit, OffersStub, OffersOwn}
+use Rattle.intra.specs.Intras.{AreaIntraValue}
+use Rattle.intra.specs.Offers.{Offering, IsReachedFor, IsNearest, KeyedOffers, OffersTransit, OffersStub, OffersOwn}
 use Rattle.path_choice.specs.Takes.{Takes, OnlyOffer, OfferedBySome}
 
 -- just these offers of paths were taken
 abbrev pub TakesPaths : (AreaCost → Path → Type 0) → Option (Chosen AreaCost Path) → Option (Chosen AreaCost Path) → Type 0
 TakesPaths offers old new = Takes area_cost_cmp path_cmp offers old new
 
+-- all that the areas offer to a network, by what is kept of them
+abbrev pub IndexOffers : InputsValue → List AreaIntraValue → Prefix → AreaCost → Path → Type 0
+IndexOffers v kept p = IndexedOffers v (map (λ (a : AreaIntraValue). a.index) kept) v.areas p
+
 -- the sources of one prefix offer it
 abbrev pub AmongSources : List Source → Offering
 AmongSources sources v p metric = Contains sources (record { vertex = v; metric = metric })
 
--- one source alone offers it
+-- only one source offers it
 abbrev pub ThisSource : Source → Offering
 ThisSource source v p metric = source ≡ record { vertex = v; metric = metric }
 
@@ -32,6 +39,22 @@ KeyedStubs offered v a p key path = (key.1 ≡ a.id) × (OffersStub offered v.ro
 -- what it offers as a transit network
 abbrev pub KeyedTransit : Offering → AreaValue → Prefix → AreaCost → Path → Type 0
 KeyedTransit offered a p key path = (key.1 ≡ a.id) × OffersTransit offered a p key.0 path
+
+-- what these sources of an area offer to a network
+abbrev pub SourcesOffer : List Source → InputsValue → AreaValue → Prefix → AreaCost → Path → Type 0
+SourcesOffer sources v a p = KeyedOffers (AmongSources sources) v a p
+
+-- what one source of an area offers by stub links
+abbrev pub StubOffers : Source → InputsValue → AreaValue → Prefix → AreaCost → Path → Type 0
+StubOffers source v a p = KeyedStubs (ThisSource source) v a p
+
+-- what these sources of an area offer as transit networks
+abbrev pub TransitOffers : List Source → AreaValue → Prefix → AreaCost → Path → Type 0
+TransitOffers sources a p = KeyedTransit (AmongSources sources) a p
+
+-- the source that a stub link of a router is
+abbrev pub router_source : ℕ → ℕ → Source
+router_source router metric = record { vertex = Router router; metric = metric }
 
 -- a path over each of these next hops
 abbrev pub HopsOffer : List NextHop → AreaCost → AreaCost → Path → Type 0
@@ -47,10 +70,19 @@ pub record IsOver (area : ℕ) (p : Prefix) (i : Interface) : Type 0 where
 abbrev pub InterfaceOffers : Prefix → AreaCost → ℕ × Interface → AreaCost → Path → Type 0
 InterfaceOffers p at e key path = IsOver at.1 p e.1 × OnlyOffer at (inside_area (Direct e.0)) key path
 
+-- a path over each of these interfaces that is one of the area, up and in the network
+abbrev pub InterfacesOffer : List (ℕ × Interface) → Prefix → AreaCost → AreaCost → Path → Type 0
+InterfacesOffer interfaces p at = OfferedBySome interfaces (InterfaceOffers p at)
+
 -- the transit network that stands for the prefix with its distance, or none where none is reached
 abbrev pub FindsNearest : Offering → AreaValue → Prefix → Option (ℕ × ℕ) → Type 0
 FindsNearest offered a p None = (id distance : ℕ) → IsReachedFor offered a p id distance → ⊥
 FindsNearest offered a p (Some found) = IsNearest offered a p found.0 found.1
+
+-- with one more source the nearest transit network is the one that is found, whichever sources came before
+abbrev pub FindsNearestWith : AreaValue → Source → Option (ℕ × ℕ) → Option (ℕ × ℕ) → Type 0
+FindsNearestWith a source nearest found =
+    (before : List Source) (p : Prefix) → FindsNearest (AmongSources before) a p nearest → FindsNearest (AmongSources (before ++ source ∷ [])) a p found
 
 -- of two networks, each a number and a distance: the first is the nearer, or at one distance has the greater number, or is the second
 pub record IsNoFarther (a b : ℕ × ℕ) : Type 0 where

@@ -11,8 +11,9 @@ use Rattle.ospf_types.specs.Lsa.{Body}
 use Rattle.lsdb.specs.Databases.{Database}
 use Rattle.spf.specs.HandedOn.{IsOfSome}
 use Rattle.area_trees.specs.Areas.{body_at, vertex_of, IsStanding}
+use Rattle.intra.specs.declared.dirty.Dirty.{Dirty}
 use Rattle.intra.specs.Inputs.{AreaValue, distance_at, hops_at}
-use Rattle.intra.specs.Indexes.{IndexValue, OfferedValue, IsIndex, IsOfferedFor, IsSource, AreTouched, offers_of}
+use Rattle.intra.specs.Indexes.{IndexValue, OfferedValue, IsIndex, IsIndexOf, IsOfferedFor, IsSource, AreTouched, offers_of}
 use Rattle.intra.specs.Intras.{AreaIntraValue}
 use Rattle.intra.specs.Reached.{ReachedValue, reached_by}
 
@@ -21,6 +22,10 @@ use Rattle.intra.specs.Reached.{ReachedValue, reached_by}
 -- no LSA of the area is used otherwise, but for those that are named
 abbrev pub LsasDifferAmong : List (Scope × Key) → ℕ → Database → Database → Type 0
 LsasDifferAmong keys area before after = (key : Key) → (Contains keys (Area area, key) → ⊥) → body_at after key ≡ body_at before key
+
+-- the index is that of a database from which this one differs in no more than is named
+abbrev pub IsIndexBefore : List (Scope × Key) → Database → AreaIntraValue → Type 0
+IsIndexBefore keys after i = (before : Database) × IsIndexOf before i.index × LsasDifferAmong keys i.id before after
 
 -- the key is one of the area, and its LSA can stand for the vertex
 abbrev pub NamesVertex : ℕ → Scope × Key → Vertex → Type 0
@@ -61,11 +66,32 @@ pub record IsGathered (root : ℕ) (vertices : List (ℕ × Vertex)) (interfaces
   pub named : (v : Vertex) → Contains vertices (old.id, v) → (p : Prefix) (metric : ℕ) → IsSource new.index v p metric → Contains after p
   pub own : (id : ℕ) → Contains interfaces id → (p : Prefix) (metric : ℕ) → IsSource new.index (Router root) p metric → Contains after p
 
+-- the prefixes that may get another entry were gathered, for what is dirty
+abbrev pub IsGatheredFor : ℕ → Dirty → AreaIntraValue → AreaIntraValue → List Prefix → List Prefix → Type 0
+IsGatheredFor root dirty old new before after =
+    IsGathered root dirty.vertices.items dirty.interfaces.items old (with_index_of old new) before after
+
 -- ---- the routers
+
+-- the router is named by its router-LSA
+abbrev pub IsRouterOf : ℕ → Scope × Key → ℕ → Type 0
+IsRouterOf area named router = NamesVertex area named (Router router)
+
+-- the router is named as a vertex
+abbrev pub IsRouterIn : ℕ → ℕ × Vertex → ℕ → Type 0
+IsRouterIn area named router = NamesIn area named (Router router)
+
+-- one of the keys names the router
+abbrev pub IsAmongKeys : List (Scope × Key) → ℕ → ℕ → Type 0
+IsAmongKeys keys area router = IsOfSome keys (NamesVertex area) (Router router)
+
+-- one of the vertices is the router
+abbrev pub IsAmongVertices : List (ℕ × Vertex) → ℕ → ℕ → Type 0
+IsAmongVertices vertices area router = IsOfSome vertices (NamesIn area) (Router router)
 
 -- the router is named in the area, by its router-LSA or as a vertex
 abbrev pub IsRouterNamed : List (Scope × Key) → List (ℕ × Vertex) → ℕ → ℕ → Type 0
-IsRouterNamed keys vertices area router = IsOfSome keys (NamesVertex area) (Router router) ⊎ IsOfSome vertices (NamesIn area) (Router router)
+IsRouterNamed keys vertices area router = IsAmongKeys keys area router ⊎ IsAmongVertices vertices area router
 
 -- the bits of the vertex's LSA, none where it has no LSA
 abbrev pub flags_in : IndexValue → Vertex → Option ℕ
@@ -77,8 +103,13 @@ router_now root a index router =
     reached_by root router (flags_in index (Router router)) (distance_at a (Router router)) (hops_at a (Router router))
 
 -- Only what is kept of routers followed: the named ones are as they are to be, and the others as before. The list has besides those of before just the routers of which something else is kept.
-pub record IsRenewed (root : ℕ) (a : AreaValue) (names : ℕ → Type 0) (old new : AreaIntraValue) (before after : List ℕ) : Type 0 where
+pub record AreRoutersUpdated (root : ℕ) (a : AreaValue) (names : ℕ → Type 0) (old new : AreaIntraValue) (before after : List ℕ) : Type 0 where
   pub id : new.id ≡ old.id
   pub index : new.index ≡ old.index
   pub each : (router : ℕ) → ((get new.reached router ≡ router_now root a old.index router) × names router) ⊎ ((get new.reached router ≡ get old.reached router) × (names router → ⊥))
   pub exact : (router : ℕ) → Contains after router ↔ (Contains before router ⊎ (get new.reached router ≢ get old.reached router))
+
+-- what is kept of routers followed what is dirty, by the index as it is then
+abbrev pub AreRoutersBrought : ℕ → AreaValue → Dirty → AreaIntraValue → AreaIntraValue → List ℕ → List ℕ → Type 0
+AreRoutersBrought root a dirty old new before after =
+    AreRoutersUpdated root a (IsRouterNamed dirty.keys.items dirty.vertices.items old.id) (with_index_of old new) new before after

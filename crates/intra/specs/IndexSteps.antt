@@ -1,7 +1,9 @@
 -- How an index changes as the offers of a vertex are taken out and put in.
-use Rattle.std.specs.Prelude.{ℕ, ◌≡◌, ◌↔◌, ◌⊎◌, List, Contains}
+use Rattle.std.specs.Prelude.{ℕ, ◌≡◌, ◌≢◌, ◌↔◌, ◌⊎◌, List, Contains}
+use Rattle.std.specs.FinMap.{get}
 use Rattle.ospf_types.specs.declared.entry.Vertex.{Vertex}
 use Rattle.ospf_types.specs.declared.prefix.Prefix.{Prefix}
+use Rattle.intra.specs.declared.area_index.Source.{Source}
 use Rattle.intra.specs.declared.offered.Offer.{Offer}
 use Rattle.intra.specs.Indexes.{IndexValue, IsSource}
 
@@ -20,6 +22,22 @@ IsPrefixOf v offers w p = (w ≡ v) × ((metric : ℕ) × Contains offers (recor
 -- one of these offers, by this vertex
 abbrev pub IsOfferOf : Vertex → List Offer → Vertex → Prefix → ℕ → Type 0
 IsOfferOf v offers w p metric = (w ≡ v) × Contains offers (record { prefix = p; metric = metric })
+
+-- this offer, by this vertex
+abbrev pub IsThisOffer : Vertex → Offer → Vertex → Prefix → ℕ → Type 0
+IsThisOffer v offer w p metric = (w ≡ v) × (p ≡ offer.prefix) × (metric ≡ offer.metric)
+
+-- all other vertices offer what they offered
+abbrev pub OtherVerticesStay : IndexValue → IndexValue → Vertex → Type 0
+OtherVerticesStay old new v = (w : Vertex) → w ≢ v → get new.offered w ≡ get old.offered w
+
+-- the sources of the vertex are left out
+abbrev pub AreLeftOut : List Source → List Source → Vertex → Type 0
+AreLeftOut old new v = (w : Vertex) (metric : ℕ) → Contains new (record { vertex = w; metric = metric }) ↔ (Contains old (record { vertex = w; metric = metric }) × (w ≢ v))
+
+-- the two offers are the same, or both their prefixes are named
+abbrev pub AreSameOrNamed : Offer → Offer → List Prefix → Type 0
+AreSameOrNamed one other named = (one ≡ other) ⊎ (Contains named one.prefix × Contains named other.prefix)
 
 -- both lists offer each prefix alike that is not named
 abbrev pub AreAlike : List Prefix → List Offer → List Offer → Type 0

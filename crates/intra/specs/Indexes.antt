@@ -1,7 +1,7 @@
 -- The index of an area: what each vertex offers, and who offers each prefix.
 use Rattle.std.specs.Prelude.{ℕ, ◌≡◌, ◌≢◌, ◌↔◌, ◌⊎◌, List, [], ◌∷◌, Contains, Option, Some, None}
 use Rattle.std.specs.List.{AllPairs}
-use Rattle.std.specs.FinMap.{FinMap, get}
+use Rattle.std.specs.FinMap.{FinMap, empty, get}
 use Rattle.ospf_types.specs.declared.entry.Vertex.{Vertex}
 use Rattle.ospf_types.specs.declared.hop.Path.{Path}
 use Rattle.ospf_types.specs.declared.prefix.Prefix.{Prefix}
@@ -67,6 +67,18 @@ abbrev pub IsOfferedFor : Vertex → Option Body → Option OfferedValue → Typ
 IsOfferedFor v (Some body) (Some o) = IsOfferedBy v body o
 IsOfferedFor v (Some body) None = ⊥
 IsOfferedFor v None o = o ≡ None
+
+-- what stands for a vertex in an index is what the LSA that stands for it offers
+abbrev pub IsOfferedNow : Vertex → Option Lsa → Option OfferedValue → Type 0
+IsOfferedNow v standing offered = IsOfferedFor v (body_of standing) offered
+
+-- the index of no LSAs
+abbrev pub empty_index : IndexValue
+empty_index = record { offered = empty; sources = empty }
+
+-- the vertex offers nothing
+abbrev pub OffersNothing : IndexValue → Vertex → Type 0
+OffersNothing i v = (p : Prefix) (metric : ℕ) → IsSource i v p metric → ⊥
 
 -- who offers a prefix is just who has it among what it offers
 abbrev pub IsIndex : IndexValue → Type 0

@@ -1,6 +1,7 @@
 -- Intra-area routes as their callers see them.
-use Rattle.std.specs.Prelude.{ℕ, ◌==◌, ◌≡◌, Bool, false, List, [], ◌∷◌, Contains, Option, Some, None, IsSome, slice_get, if◌then◌else◌}
-use Rattle.std.specs.FinMap.{FinMap, from_entries, get}
+use Rattle.std.specs.Prelude.{ℕ, ◌==◌, ◌≡◌, ◌≢◌, ◌↔◌, ◌<◌, ◌++◌, Bool, false, true, List, [], ◌∷◌, map, Contains, Option, Some, None, IsSome, is_some, count_by, slice_get, if◌then◌else◌}
+use Rattle.std.specs.FinMap.{FinMap, empty, from_entries, get, insert}
+use Rattle.std.specs.List.{All}
 use Rattle.std.specs.List.Sorted.{IsStrictlySortedBy}
 use Rattle.ospf_types.specs.declared.entry.Entry.{Entry}
 use Rattle.ospf_types.specs.declared.entry.PathType.TheVariants.{Intra}
@@ -12,7 +13,7 @@ use Rattle.ospf_types.specs.Intra.{AreaCost, area_cost_cmp}
 use Rattle.ospf_types.specs.Network.{network_cmp}
 use Rattle.ospf_types.specs.Routes.{entry_of}
 pub use Rattle.path_choice.specs.Costs.{most_cost}
-use Rattle.intra.specs.Indexes.{IndexValue, IsIndexOf}
+use Rattle.intra.specs.Indexes.{IndexValue, IsIndexOf, empty_index}
 use Rattle.intra.specs.Inputs.{AreaValue, InputsValue}
 use Rattle.intra.specs.Offers.{OffersOf}
 use Rattle.intra.specs.Reached.{ReachedByRouter, ReachedValue, IsReachedOf}
@@ -28,6 +29,38 @@ entries_of es = from_entries {K = Prefix} {R = network_cmp} es
 abbrev pub IsEntryAt : List (Prefix × Entry) → Prefix → ℕ → Type 0
 IsEntryAt es p i = (e : Entry) × (slice_get es i ≡ Some (p, e)) × (get (entries_of es) p ≡ Some e)
 
+-- the entry of the network among these
+abbrev pub entry_in : List (Prefix × Entry) → Prefix → Option Entry
+entry_in es p = get (entries_of es) p
+
+-- all other networks have the entry that they had
+abbrev pub OthersStay : List (Prefix × Entry) → List (Prefix × Entry) → Prefix → Type 0
+OthersStay old new network = (p : Prefix) → p ≢ network → entry_in new p ≡ entry_in old p
+
+-- where the answer is `false`, the network had this entry already
+abbrev pub TellsSame : List (Prefix × Entry) → Prefix → Option Entry → Bool → Type 0
+TellsSame old network fresh other = other ≡ false → entry_in old network ≡ fresh
+
+-- where it is `true`, the network had another, or none
+abbrev pub TellsOther : List (Prefix × Entry) → Prefix → Option Entry → Bool → Type 0
+TellsOther old network fresh other = other ≡ true → entry_in old network ≢ fresh
+
+-- each entry costs less than the bound
+abbrev pub AreBelowMost : List (Prefix × Entry) → Type 0
+AreBelowMost es = All (λ e. e.1.cost < most_cost) es
+
+-- the network whose entry stood at the place has this one
+abbrev pub IsWrittenAt : List (Prefix × Entry) → List (Prefix × Entry) → ℕ → Entry → Type 0
+IsWrittenAt old new place e = (p : Prefix) → IsEntryAt old p place → entries_of new ≡ insert (entries_of old) p e
+
+-- just these networks have an entry
+abbrev pub HaveEntries : EntriesByPrefix → List Prefix → Type 0
+HaveEntries entries networks = (p : Prefix) → Contains networks p ↔ IsSome (get entries p)
+
+-- each of these is the entry of its network
+abbrev pub AreEntries : EntriesByPrefix → List (Prefix × Entry) → Type 0
+AreEntries entries es = (p : Prefix) (e : Entry) → Contains es (p, e) → get entries p ≡ Some e
+
 pub record AreaIntraValue : Type 0 where
   pub id : ℕ
   pub index : IndexValue
@@ -38,10 +71,26 @@ pub record IntraValue : Type 0 where
   pub entries : EntriesByPrefix
   pub spent : Bool
 
+-- what is kept of an area without LSAs
+abbrev pub empty_area : ℕ → AreaIntraValue
+empty_area id = record { id = id; index = empty_index; reached = empty }
+
+-- the routes of areas without LSAs
+abbrev pub empty_routes : List AreaValue → IntraValue
+empty_routes areas = record { areas = map (λ (a : AreaValue). empty_area a.id) areas; entries = empty; spent = false }
+
+-- routes that answer nothing, since an update ran out of memory
+abbrev pub spent_value : IntraValue
+spent_value = record { areas = []; entries = empty; spent = true }
+
 -- what is kept of a router in the first area with that Area ID
 abbrev pub reached_at : List AreaIntraValue → ℕ → ℕ → Option ReachedValue
 reached_at [] area router = None
 reached_at (a ∷ areas) area router = if a.id == area then get a.reached router else reached_at areas area router
+
+-- the intra-area entry of a choice
+abbrev pub entry_at : AreaCost → List Path → Entry
+entry_at key paths = entry_of Intra (Some key.1) key.0 0 paths
 
 -- the entry is the best of the offers, its paths in order; none where nothing is offered
 abbrev pub IsEntryFor : (AreaCost → Path → Type 0) → Option Entry → Type 0
@@ -51,6 +100,19 @@ IsEntryFor offers (Some e) = (key : AreaCost) × IsBest area_cost_cmp offers key
 -- something is kept of the router in one of the areas
 abbrev pub IsKeptIn : List AreaIntraValue → ℕ → Type 0
 IsKeptIn areas router = (a : AreaIntraValue) × Contains areas a × IsSome (get a.reached router)
+
+-- just these routers are kept in some area
+abbrev pub AreKept : List AreaIntraValue → List ℕ → Type 0
+AreKept areas routers = (router : ℕ) → Contains routers router ↔ IsKeptIn areas router
+
+-- each router is there as often as there are areas where it is kept
+abbrev pub AreAsOften : List AreaIntraValue → List ℕ → Type 0
+AreAsOften areas routers =
+    (router : ℕ) → count_by (λ (r : ℕ). r == router) routers ≡ count_by (λ (a : AreaIntraValue). is_some (get a.reached router)) areas
+
+-- of all other routers the same is kept
+abbrev pub OtherRoutersStay : AreaIntraValue → AreaIntraValue → ℕ → Type 0
+OtherRoutersStay old new router = (r : ℕ) → r ≢ router → get new.reached r ≡ get old.reached r
 
 -- what is kept of an area is that of its database and its tree
 pub record IsAreaIntra (root : ℕ) (a : AreaValue) (i : AreaIntraValue) : Type 0 where

@@ -10,4 +10,4 @@ pub mod Changes
 pub mod Right
 pub mod Following
 pub mod Updating
-pub mod Renewing
+pub mod ChosenAnew

@@ -56,7 +56,7 @@ OffersOwn offered v a p cost path = (id : ℕ) × (i : Interface)
 abbrev pub AreaOffers : Offering → InputsValue → AreaValue → Prefix → ℕ → Path → Type 0
 AreaOffers offered v a p cost path = OffersTransit offered a p cost path ⊎ OffersStub offered v.root a p cost path ⊎ OffersOwn offered v a p cost path
 
--- the same as an offer at a cost in that area
+-- what an area offers to a network, at a cost in that area
 abbrev pub KeyedOffers : Offering → InputsValue → AreaValue → Prefix → AreaCost → Path → Type 0
 KeyedOffers offered v a p key path = (key.1 ≡ a.id) × AreaOffers offered v a p key.0 path
 

@@ -43,3 +43,7 @@ AreRoutersRight s (b ∷ bs) [] = ⊥
 pub record IsRightFor (s : Inputs) (w : IntraValue) : Type 0 where
   pub entries : (p : Prefix) → IsEntryFor (IntraOffers s p) (get w.entries p)
   pub routers : AreRoutersRight s s.areas w.areas
+
+-- the routes are right wherever the inputs are those of the definitions
+abbrev pub IsRightWherever : InputsValue → IntraValue → Type 0
+IsRightWherever v w = (s : Inputs) → AreInputsOf s v → IsRightFor s w

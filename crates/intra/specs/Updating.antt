@@ -1,24 +1,33 @@
 -- How what is kept of the areas follows the inputs, area by area.
-use Rattle.std.specs.Prelude.{ℕ, ◌≡◌, ◌≢◌, ◌<◌, ◌≤◌, ◌⊎◌, List, [], length, get_or}
+use Rattle.std.specs.Prelude.{ℕ, ◌≡◌, ◌≢◌, ◌↔◌, ◌<◌, ◌≤◌, ◌⊎◌, List, [], Contains, length, get_or}
 use Rattle.std.specs.FinMap.{get}
+use Rattle.std.specs.List.Sorted.{IsStrictlySortedBy}
+use Rattle.std.specs.Ordering.{nat_cmp}
 use Rattle.ospf_types.specs.declared.entry.Vertex.{Vertex}
 use Rattle.ospf_types.specs.declared.key.Key.{Key}
 use Rattle.ospf_types.specs.declared.key.Scope.{Scope}
 use Rattle.ospf_types.specs.declared.prefix.Prefix.{Prefix}
+use Rattle.ospf_types.specs.Network.{network_cmp}
+use Rattle.intra.specs.declared.dirty.Dirty.{Dirty}
+use Rattle.intra.specs.declared.named.Named.{Named}
 use Rattle.intra.specs.Changes.{DiffersAmong}
 use Rattle.intra.specs.Following.{IsGathered, IsRouterNamed, router_now, with_index_of}
 use Rattle.intra.specs.Indexes.{IsIndexOf}
-use Rattle.intra.specs.Inputs.{AreaValue}
+use Rattle.intra.specs.Inputs.{AreaValue, InputsValue}
 use Rattle.intra.specs.Intras.{AreaIntraValue, IsAreaIntra}
 
 -- what is kept is that of an area from which this one differs in no more than is named
 abbrev pub IsKeptBefore : ℕ → List (Scope × Key) → List (ℕ × Vertex) → AreaValue → AreaIntraValue → Type 0
 IsKeptBefore root keys vertices a i = (b : AreaValue) × IsAreaIntra root b i × DiffersAmong keys vertices b a
 
--- the same of each area
+-- what is kept of each area is that of one from which it differs in no more than is named
 pub record AreKeptBefore (root : ℕ) (keys : List (Scope × Key)) (vertices : List (ℕ × Vertex)) (areas : List AreaValue) (kept : List AreaIntraValue) : Type 0 where
   pub as_many : length areas ≡ length kept
   pub each : (k : ℕ) (a : AreaValue) (i : AreaIntraValue) → k < length areas → IsKeptBefore root keys vertices (get_or areas k a) (get_or kept k i)
+
+-- what is kept of each area is that of inputs from which these differ in no more than is dirty
+abbrev pub HaveKeptBefore : Dirty → InputsValue → List AreaIntraValue → Type 0
+HaveKeptBefore dirty v kept = AreKeptBefore v.root dirty.keys.items dirty.vertices.items v.areas kept
 
 -- of the first areas, so many, this holds before and after, and the others are as before
 pub record AreFirst (P : AreaValue → AreaIntraValue → AreaIntraValue → Type 0) (areas : List AreaValue) (old new : List AreaIntraValue) (count : ℕ) : Type 0 where
@@ -45,3 +54,20 @@ pub record IsBroughtTo (root : ℕ) (keys : List (Scope × Key)) (vertices : Lis
 -- in one of the first areas, so many, something else is kept of the router
 abbrev pub HasOtherAmong : ℕ → List AreaIntraValue → List AreaIntraValue → ℕ → Type 0
 HasOtherAmong count old new router = (k : ℕ) × (k < count) × ((i : AreaIntraValue) → get (get_or new k i).reached router ≢ get (get_or old k i).reached router)
+
+-- what is kept of each area is that of the inputs, and the prefixes that may get another entry are among these
+abbrev pub AreBroughtTo : InputsValue → Dirty → List Prefix → List AreaIntraValue → List AreaIntraValue → Type 0
+AreBroughtTo v dirty prefixes old new =
+    AreFirst (IsBroughtTo v.root dirty.keys.items dirty.vertices.items dirty.interfaces.items prefixes) v.areas old new (length v.areas)
+
+-- just those routers are named of which something else is kept in some area
+abbrev pub NamesOthers : List AreaValue → List AreaIntraValue → List AreaIntraValue → Named → Type 0
+NamesOthers areas old new named = (router : ℕ) → Contains named.routers.items router ↔ HasOtherAmong (length areas) old new router
+
+-- the prefixes are named in order, each once
+abbrev pub HasPrefixesInOrder : Named → Type 0
+HasPrefixesInOrder named = IsStrictlySortedBy network_cmp named.prefixes.items
+
+-- the routers are named in order, each once
+abbrev pub HasRoutersInOrder : Named → Type 0
+HasRoutersInOrder named = IsStrictlySortedBy nat_cmp named.routers.items

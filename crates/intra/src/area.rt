@@ -1,18 +1,14 @@
 //! What is kept of an area: the index of its LSAs, and the routers that are reached in it.
-ghost use Rattle.std.specs.Prelude.{◌≡◌, ◌≢◌, ◌↔◌, ◌⊎◌, ◌+◌, ◌==◌, ℕ, List, Contains, Option, None, OnOk, IfOk, IfSome, IfNone, IsSome, IsTrue, false, is_some, count_by, option_copied, if◌then◌else◌};
+ghost use Rattle.std.specs.Prelude.{◌≡◌, OnOk, IfOk, IfSome, IfNone, IsTrue, false, option_copied};
 ghost use Rattle.std.specs.FinMap as map;
 ghost use Rattle.ospf_types.specs.declared.entry.Vertex.{Vertex as VertexValue};
 ghost use Rattle.ospf_types.specs.declared.entry.Vertex.TheVariants as vertex_value;
-ghost use Rattle.ospf_types.specs.declared.prefix.Prefix.{Prefix as PrefixValue};
-ghost use Rattle.lsdb.specs.Databases.{Database as Lsas};
-ghost use Rattle.vertex_graph.specs.Up.{Up as UpValue};
 ghost use Rattle.spf.specs.HandedOn.{IsOfSome};
-ghost use Rattle.area_trees.specs.Areas.{IsAreaTree};
 ghost use Rattle.intra.specs.Indexes.{IsIndex, IsIndexOf};
-ghost use Rattle.intra.specs.Following.{LsasDifferAmong, NamesVertex, NamesIn, IsRouterNamed, IsTaken, HasOffered, IsGathered, IsRenewed, flags_in, with_index_of};
-ghost use Rattle.intra.specs.Inputs.{distance_at, hops_at};
-ghost use Rattle.intra.specs.Reached.{has_bits};
-ghost use Rattle.path_choice.specs.Reached.{reached_by};
+ghost use Rattle.intra.specs.Following.{AreRoutersBrought, AreRoutersUpdated, HasOffered, IsAmongKeys, IsAmongVertices, IsGatheredFor, IsIndexBefore, IsRouterIn, IsRouterOf, IsTaken, NamesIn, NamesVertex, flags_in};
+ghost use Rattle.intra.specs.Inputs.{HasTree};
+ghost use Rattle.intra.specs.Intras.{OtherRoutersStay, empty_area};
+ghost use Rattle.intra.specs.Reached.{HasKeptToo, HasOnceMore, KeepsNone, has_bits, reached_in};
 
 use crate::area_index::AreaIndex;
 use crate::dirty::Dirty;
@@ -72,7 +68,7 @@ impl Model for AreaIntra {
 impl AreaIntra {
     /// What is kept of an area without LSAs.
     pub(crate) fn new(alloc: Global, id: u32, hashing: WordHash) -> AreaIntra
-        ensures { result ≡ record { id = id; index = record { offered = map.empty; sources = map.empty }; reached = map.empty } }
+        ensures { result ≡ empty_area id }
     {
         AreaIntra {
             id,
@@ -107,8 +103,10 @@ impl AreaIntra {
 
     /// Adds the routers of which something is kept, each once.
     pub(crate) fn push_routers(&self, routers: &mut Vec<u32>) -> Result<(), Memory>
-        ensures as_often { OnOk result ((router : ℕ) → count_by (λ r. r == router) routers.new.items ≡ count_by (λ r. r == router) routers.old.items + (if is_some (map.get self.now.reached router) then 1 else 0)) }
-        ensures exact { OnOk result ((router : ℕ) → Contains routers.new.items router ↔ (Contains routers.old.items router ⊎ IsSome (map.get self.now.reached router))) }
+        ensures as_often { OnOk result (HasOnceMore self.now.reached
+            routers.old.items routers.new.items) }
+        ensures exact { OnOk result (HasKeptToo self.now.reached
+            routers.old.items routers.new.items) }
     {
         routers.extend_from_slice(self.reached.keys().as_slice())?;
         Ok(())
@@ -128,14 +126,16 @@ impl AreaIntra {
         dirty: &Dirty,
         named: &mut Named,
     ) -> Result<(), Memory>
-        requires ready { (center : ℕ) × (ups : List UpValue) × IsAreaTree center area.now.lsas ups area.now.tree }
-        requires before { (before : Lsas) × IsIndexOf before self.old.index × LsasDifferAmong dirty.now.keys.items self.old.id before area.now.lsas }
+        requires ready { HasTree area.now }
+        requires before { IsIndexBefore dirty.now.keys.items area.now.lsas self.old }
         ensures index { OnOk result (IsIndexOf area.now.lsas self.new.index) }
-        ensures gathered { OnOk result (IsGathered root dirty.now.vertices.items dirty.now.interfaces.items self.old (with_index_of self.old self.new) named.old.prefixes.items named.new.prefixes.items) }
-        ensures renewed { OnOk result (IsRenewed root area.now (IsRouterNamed dirty.now.keys.items dirty.now.vertices.items self.old.id) (with_index_of self.old self.new) self.new named.old.routers.items named.new.routers.items) }
+        ensures gathered { OnOk result (IsGatheredFor root dirty.now self.old self.new
+            named.old.prefixes.items named.new.prefixes.items) }
+        ensures updated { OnOk result (AreRoutersBrought root area.now dirty.now self.old self.new
+            named.old.routers.items named.new.routers.items) }
     {
         self.follow_keys(area, &dirty.keys, &mut named.prefixes)?;
-        self.renew_by_keys(alloc, root, area, &dirty.keys, &mut named.routers)?;
+        self.update_by_keys(alloc, root, area, &dirty.keys, &mut named.routers)?;
         self.follow_vertices(alloc, root, area, &dirty.vertices, named)?;
         if !dirty.interfaces.is_empty() {
             self.name_prefixes(Vertex::Router(root), &mut named.prefixes)?;
@@ -151,8 +151,9 @@ impl AreaIntra {
         prefixes: &mut Vec<Prefix>,
     ) -> Result<(), Memory>
         requires index { IsIndex self.old.index }
-        requires ready { (center : ℕ) × (ups : List UpValue) × IsAreaTree center area.now.lsas ups area.now.tree }
-        ensures { OnOk result (IsTaken area.now.lsas (IsOfSome keys.now (NamesVertex self.old.id)) self.old self.new prefixes.old.items prefixes.new.items) }
+        requires ready { HasTree area.now }
+        ensures { OnOk result (IsTaken area.now.lsas (IsOfSome keys.now (NamesVertex self.old.id))
+            self.old self.new prefixes.old.items prefixes.new.items) }
     {
         for named in keys {
             self.follow_key(area, *named, prefixes)?;
@@ -168,8 +169,9 @@ impl AreaIntra {
         prefixes: &mut Vec<Prefix>,
     ) -> Result<(), Memory>
         requires index { IsIndex self.old.index }
-        requires ready { (center : ℕ) × (ups : List UpValue) × IsAreaTree center area.now.lsas ups area.now.tree }
-        ensures { OnOk result (IsTaken area.now.lsas (NamesVertex self.old.id named) self.old self.new prefixes.old.items prefixes.new.items) }
+        requires ready { HasTree area.now }
+        ensures { OnOk result (IsTaken area.now.lsas (NamesVertex self.old.id named)
+            self.old self.new prefixes.old.items prefixes.new.items) }
     {
         let Some(vertex) = vertex_in(self.id, named) else {
             return Ok(());
@@ -187,8 +189,12 @@ impl AreaIntra {
         vertices: &[(u32, Vertex)],
         named: &mut Named,
     ) -> Result<(), Memory>
-        ensures offered { OnOk result (HasOffered self.old.index (IsOfSome vertices.now (NamesIn self.old.id)) named.old.prefixes.items named.new.prefixes.items) }
-        ensures renewed { OnOk result (IsRenewed root area.now (λ r. IsOfSome vertices.now (NamesIn self.old.id) (vertex_value.Router r)) self.old self.new named.old.routers.items named.new.routers.items) }
+        ensures offered { OnOk result (HasOffered self.old.index
+            (IsOfSome vertices.now (NamesIn self.old.id))
+            named.old.prefixes.items named.new.prefixes.items) }
+        ensures updated { OnOk result (AreRoutersUpdated root area.now
+            (IsAmongVertices vertices.now self.old.id) self.old self.new
+            named.old.routers.items named.new.routers.items) }
     {
         for vertex in vertices {
             self.follow_named(alloc, root, area, *vertex, named)?;
@@ -205,8 +211,11 @@ impl AreaIntra {
         vertex: (u32, Vertex),
         named: &mut Named,
     ) -> Result<(), Memory>
-        ensures offered { OnOk result (HasOffered self.old.index (NamesIn self.old.id vertex) named.old.prefixes.items named.new.prefixes.items) }
-        ensures renewed { OnOk result (IsRenewed root area.now (λ r. NamesIn self.old.id vertex (vertex_value.Router r)) self.old self.new named.old.routers.items named.new.routers.items) }
+        ensures offered { OnOk result (HasOffered self.old.index (NamesIn self.old.id vertex)
+            named.old.prefixes.items named.new.prefixes.items) }
+        ensures updated { OnOk result (AreRoutersUpdated root area.now
+            (IsRouterIn self.old.id vertex) self.old self.new
+            named.old.routers.items named.new.routers.items) }
     {
         let (id, vertex) = vertex;
         if id != self.id {
@@ -216,7 +225,7 @@ impl AreaIntra {
         if self.stays_out(vertex, flags) {
             return Ok(());
         }
-        self.renew_vertex(alloc, root, area, vertex, flags, &mut named.routers)
+        self.update_vertex(alloc, root, area, vertex, flags, &mut named.routers)
     }
 
     // Adds what the vertex offers. The answer is the bits of its LSA; none where it has no LSA.
@@ -225,7 +234,8 @@ impl AreaIntra {
         vertex: Vertex,
         prefixes: &mut Vec<Prefix>,
     ) -> Result<Option<u8>, Memory>
-        ensures offered { OnOk result (HasOffered self.now.index (λ v. v ≡ vertex) prefixes.old.items prefixes.new.items) }
+        ensures offered { OnOk result (HasOffered self.now.index (λ v. v ≡ vertex)
+            prefixes.old.items prefixes.new.items) }
         ensures flags { IfOk result (λ flags. flags ≡ flags_in self.now.index vertex) }
     {
         match self.index.offered(vertex) {
@@ -238,7 +248,7 @@ impl AreaIntra {
     }
 
     // Takes what the routers with a named router-LSA of the area are now.
-    fn renew_by_keys(
+    fn update_by_keys(
         &mut self,
         alloc: Global,
         root: u32,
@@ -246,16 +256,17 @@ impl AreaIntra {
         keys: &[(Scope, Key)],
         routers: &mut Vec<u32>,
     ) -> Result<(), Memory>
-        ensures { OnOk result (IsRenewed root area.now (λ r. IsOfSome keys.now (NamesVertex self.old.id) (vertex_value.Router r)) self.old self.new routers.old.items routers.new.items) }
+        ensures { OnOk result (AreRoutersUpdated root area.now (IsAmongKeys keys.now self.old.id)
+            self.old self.new routers.old.items routers.new.items) }
     {
         for named in keys {
-            self.renew_by_key(alloc, root, area, *named, routers)?;
+            self.update_by_key(alloc, root, area, *named, routers)?;
         }
         Ok(())
     }
 
     // Takes what the router with this router-LSA is now, where it is one of the area.
-    fn renew_by_key(
+    fn update_by_key(
         &mut self,
         alloc: Global,
         root: u32,
@@ -263,19 +274,20 @@ impl AreaIntra {
         named: (Scope, Key),
         routers: &mut Vec<u32>,
     ) -> Result<(), Memory>
-        ensures { OnOk result (IsRenewed root area.now (λ r. NamesVertex self.old.id named (vertex_value.Router r)) self.old self.new routers.old.items routers.new.items) }
+        ensures { OnOk result (AreRoutersUpdated root area.now (IsRouterOf self.old.id named)
+            self.old self.new routers.old.items routers.new.items) }
     {
         let Some(vertex) = vertex_in(self.id, named) else {
             return Ok(());
         };
         let flags = self.flags(vertex);
-        self.renew_vertex(alloc, root, area, vertex, flags, routers)
+        self.update_vertex(alloc, root, area, vertex, flags, routers)
     }
 
     // Whether nothing is kept of the vertex, and by its bits nothing is to be, as of most vertices.
     fn stays_out(&self, vertex: Vertex, flags: Option<u8>) -> bool
         ensures bits { IsTrue result → has_bits flags ≡ false }
-        ensures none { IsTrue result → (router : ℕ) → vertex ≡ vertex_value.Router router → map.get self.now.reached router ≡ None }
+        ensures none { IsTrue result → KeepsNone self.now.reached vertex }
     {
         if has_bits(flags) {
             return false;
@@ -287,7 +299,7 @@ impl AreaIntra {
     }
 
     // Takes what the vertex with these bits is now, where it is a router.
-    fn renew_vertex(
+    fn update_vertex(
         &mut self,
         alloc: Global,
         root: u32,
@@ -297,16 +309,18 @@ impl AreaIntra {
         routers: &mut Vec<u32>,
     ) -> Result<(), Memory>
         requires { flags ≡ flags_in self.old.index vertex }
-        ensures { OnOk result (IsRenewed root area.now (λ r. vertex ≡ vertex_value.Router r) self.old self.new routers.old.items routers.new.items) }
+        ensures { OnOk result (AreRoutersUpdated root area.now
+            (λ r. vertex ≡ vertex_value.Router r) self.old self.new
+            routers.old.items routers.new.items) }
     {
         match vertex {
-            Vertex::Router(router) => self.renew(alloc, root, area, router, flags, routers),
+            Vertex::Router(router) => self.update_router(alloc, root, area, router, flags, routers),
             Vertex::Network(_) => Ok(()),
         }
     }
 
     // Takes what the router with these bits is now, and adds it where something else is kept.
-    fn renew(
+    fn update_router(
         &mut self,
         alloc: Global,
         root: u32,
@@ -316,7 +330,8 @@ impl AreaIntra {
         routers: &mut Vec<u32>,
     ) -> Result<(), Memory>
         requires { flags ≡ flags_in self.old.index (vertex_value.Router router) }
-        ensures { OnOk result (IsRenewed root area.now (λ r. r ≡ router) self.old self.new routers.old.items routers.new.items) }
+        ensures { OnOk result (AreRoutersUpdated root area.now (λ r. r ≡ router)
+            self.old self.new routers.old.items routers.new.items) }
     {
         let fresh = reached_now(alloc, root, area, router, flags)?;
         if are_same(self.router(router), fresh.as_ref()) {
@@ -342,7 +357,7 @@ impl AreaIntra {
         ensures id { OnOk result (self.new.id ≡ self.old.id) }
         ensures index { OnOk result (self.new.index ≡ self.old.index) }
         ensures here { OnOk result (map.get self.new.reached router ≡ fresh) }
-        ensures others { OnOk result ((r : ℕ) → r ≢ router → map.get self.new.reached r ≡ map.get self.old.reached r) }
+        ensures others { OnOk result (OtherRoutersStay self.old self.new router) }
     {
         match fresh {
             Some(fresh) => {
@@ -356,7 +371,8 @@ impl AreaIntra {
     }
 }
 
-// What is to be kept of the router with these bits. Most routers have none, and are not looked up in the tree.
+// 16.1 (4): what is to be kept of the router with these bits. Most routers have none, and are not looked up in the
+// tree.
 fn reached_now(
     alloc: Global,
     root: u32,
@@ -364,7 +380,7 @@ fn reached_now(
     router: u32,
     flags: Option<u8>,
 ) -> Result<Option<Reached>, Memory>
-    ensures { IfOk result (λ kept. kept ≡ reached_by root router flags (distance_at area.now (vertex_value.Router router)) (hops_at area.now (vertex_value.Router router))) }
+    ensures { IfOk result (λ kept. kept ≡ reached_in root area.now router flags) }
 {
     if !has_bits(flags) {
         return Ok(None);

@@ -1,14 +1,15 @@
-//! The index of an area: what each vertex offers, and who offers each prefix. It follows the area's LSAs alone.
-ghost use Rattle.std.specs.Prelude.{◌≡◌, ◌≢◌, ◌↔◌, ◌⊎◌, ◌∷◌, ℕ, [], List, Option, Some, None, Contains, IfOk, IfSome, IsTrue, OnOk, option_copied};
+//! The index of an area: what each vertex offers, and who offers each prefix. It follows the area's LSAs only.
+ghost use Rattle.std.specs.Prelude.{◌≡◌, ◌≢◌, Some, None, IfOk, IfSome, IsTrue, OnOk, option_copied};
 ghost use Rattle.std.specs.FinMap as map;
 ghost use Rattle.std.specs.List.{AllPairs};
-ghost use Rattle.vertex_graph.specs.Up.{Up as UpValue};
-ghost use Rattle.ospf_types.specs.declared.entry.Vertex.{Vertex as VertexValue};
-ghost use Rattle.ospf_types.specs.Lsa.{Body, key_of};
-ghost use Rattle.area_trees.specs.Areas.{IsAreaTree, IsStanding, vertex_of};
-ghost use Rattle.ospf_types.specs.declared.prefix.Prefix.{Prefix as PrefixValue};
-ghost use Rattle.intra.specs.Indexes.{IsIndex, IsSource, IsOfferedFor, AreTouched, body_of, offers_of, sources_of};
-ghost use Rattle.intra.specs.IndexSteps.{AreGone, HaveCome, IsPrefixOf, IsOfferOf, AreAlike};
+ghost use Rattle.ospf_types.specs.Lsa.{key_of};
+ghost use Rattle.spf.specs.Members.{HasNoDoubles};
+ghost use Rattle.area_trees.specs.Areas.{vertex_of};
+ghost use Rattle.intra.specs.Following.{IsCurrent};
+ghost use Rattle.intra.specs.Inputs.{HasTree};
+ghost use Rattle.intra.specs.Indexes.{AreTouched, IsIndex, IsOfferedNow, IsSource, OffersNothing, empty_index, offers_of, sources_of};
+ghost use Rattle.intra.specs.IndexSteps.{AreAlike, AreGone, AreLeftOut, AreSameOrNamed, HaveCome, IsOfferOf, IsPrefixOf, IsThisOffer, OtherVerticesStay};
+ghost use Rattle.intra.specs.Stubs.{KeepsAll};
 
 use crate::inputs::AreaInputs;
 use crate::offered::{Offer, Offered, offers_in, push_prefixes};
@@ -19,7 +20,9 @@ use ospf_types::entry::Vertex;
 use ospf_types::memory::Memory;
 use ospf_types::prefix::Prefix;
 use path_choice::are_same;
+use smallvec::SmallVec;
 use std::alloc::Global;
+use std::default::MadeWith;
 use std::marker::Model;
 use vertex_map::Placed;
 use word_hash::WordHash;
@@ -32,11 +35,22 @@ pub(crate) struct Source {
     pub(crate) metric: u16,
 }
 
+/// Fills the places of a collection that hold no source.
+impl<A: Drop> MadeWith<A> for Source {
+    fn made_with(_alloc: A) -> Source {
+        Source {
+            vertex: Placed::nowhere(Vertex::Router(0)),
+            metric: 0,
+        }
+    }
+}
+
 /// What each vertex of an area offers, as it was last taken from its LSA, and who offers each prefix.
 pub(crate) struct AreaIndex {
     alloc: Global,
     offered: IndexMap<Vertex, Offered, WordHash>,
-    sources: IndexMap<Prefix, Vec<Source>, WordHash>,
+    // Mostly one vertex offers a prefix, and its source needs no memory of its own.
+    sources: IndexMap<Prefix, SmallVec<Source, 1>, WordHash>,
 }
 
 // proof: one call drops it, in place of a drop of each part wherever one is held.
@@ -77,7 +91,7 @@ impl Model for AreaIndex {
 impl AreaIndex {
     /// The index of no LSAs.
     pub(crate) fn new(alloc: Global, hashing: WordHash) -> AreaIndex
-        ensures { result ≡ record { offered = map.empty; sources = map.empty } }
+        ensures { result ≡ empty_index }
     {
         AreaIndex {
             alloc,
@@ -103,7 +117,7 @@ impl AreaIndex {
         }
     }
 
-    // The same by the hash of the prefix.
+    // Looks for the prefix by its hash, and tells where its sources stand.
     fn find_sources(&self, prefix: Prefix, place: &mut usize) -> &[Source]
         ensures { result.now ≡ sources_of (map.get self.now.sources prefix) }
     {
@@ -125,11 +139,12 @@ impl AreaIndex {
         dirty: &mut Vec<Prefix>,
     ) -> Result<(), Memory>
         requires index { IsIndex self.old }
-        requires ready { (root : ℕ) × (ups : List UpValue) × IsAreaTree root area.now.lsas ups area.now.tree }
+        requires ready { HasTree area.now }
         ensures index { OnOk result (IsIndex self.new) }
-        ensures taken { OnOk result ((body : Option Body) × IsStanding area.now.lsas vertex body × IsOfferedFor vertex body (map.get self.new.offered vertex)) }
-        ensures others { OnOk result ((w : VertexValue) → w ≢ vertex → map.get self.new.offered w ≡ map.get self.old.offered w) }
-        ensures touched { OnOk result (AreTouched self.old self.new dirty.old.items dirty.new.items) }
+        ensures taken { OnOk result (IsCurrent area.now.lsas self.new vertex) }
+        ensures others { OnOk result (OtherVerticesStay self.old self.new vertex) }
+        ensures touched { OnOk result (AreTouched self.old self.new
+            dirty.old.items dirty.new.items) }
     {
         let standing = area.tree.standing(area.database, vertex);
         if are_as_said(self.offered(vertex), vertex, standing) {
@@ -193,7 +208,8 @@ impl AreaIndex {
         requires index { IsIndex self.old }
         requires absent { map.get self.old.offered vertex ≡ None }
         ensures index { OnOk result (IsIndex self.new) }
-        ensures offered { OnOk result (self.new.offered ≡ map.insert self.old.offered vertex fresh) }
+        ensures offered { OnOk result (self.new.offered
+            ≡ map.insert self.old.offered vertex fresh) }
     {
         self.add_sources(&tree.placed(vertex), fresh.offers())?;
         self.offered.insert(vertex, fresh)?;
@@ -202,7 +218,7 @@ impl AreaIndex {
 
     // The vertex offers these prefixes too.
     fn add_sources(&mut self, vertex: &Placed, offers: &[Offer]) -> Result<(), Memory>
-        requires absent { (p : PrefixValue) (metric : ℕ) → IsSource self.old vertex.now p metric → ⊥ }
+        requires absent { OffersNothing self.old vertex.now }
         requires each_once { AllPairs (λ a b. a ≢ b) offers.now }
         ensures offered { OnOk result (self.new.offered ≡ self.old.offered) }
         ensures come { OnOk result (HaveCome (IsOfferOf vertex.now offers.now) self.old self.new) }
@@ -217,7 +233,7 @@ impl AreaIndex {
     fn add_source(&mut self, vertex: &Placed, offer: Offer) -> Result<(), Memory>
         requires { IsSource self.old vertex.now offer.prefix offer.metric → ⊥ }
         ensures offered { OnOk result (self.new.offered ≡ self.old.offered) }
-        ensures come { OnOk result (HaveCome (λ w p metric. (w ≡ vertex.now) × (p ≡ offer.prefix) × (metric ≡ offer.metric)) self.old self.new) }
+        ensures come { OnOk result (HaveCome (IsThisOffer vertex.now offer) self.old self.new) }
     {
         let source = Source {
             vertex: vertex.copy(),
@@ -229,7 +245,7 @@ impl AreaIndex {
                 Ok(())
             }
             None => {
-                let first = list_of(self.alloc, source)?;
+                let first = SmallVec::from_buf(self.alloc, [source]);
                 self.sources.insert(offer.prefix, first)?;
                 Ok(())
             }
@@ -237,19 +253,11 @@ impl AreaIndex {
     }
 }
 
-// A list of one source.
-fn list_of(alloc: Global, source: Source) -> Result<Vec<Source>, Memory>
-    ensures { IfOk result (λ list. list.items ≡ source ∷ []) }
-{
-    let mut list = Vec::with_capacity(alloc, 1)?;
-    list.push(source)?;
-    Ok(list)
-}
-
 // Whether the offers are what the LSA that stands for the vertex says.
 fn are_as_said(offered: Option<&Offered>, vertex: Vertex, standing: Option<&Checked>) -> bool
     requires { IfSome (option_copied standing) (λ lsa. vertex_of (key_of lsa) ≡ Some vertex) }
-    ensures { IsTrue result → IsOfferedFor vertex (body_of (option_copied standing.entry)) (option_copied offered.entry) }
+    ensures { IsTrue result
+        → IsOfferedNow vertex (option_copied standing.entry) (option_copied offered.entry) }
 {
     match (offered, standing) {
         (Some(offered), Some(lsa)) => offered.is_said_by(vertex, lsa),
@@ -265,7 +273,7 @@ fn standing_offers(
     standing: Option<&Checked>,
 ) -> Result<Option<Offered>, Memory>
     requires { IfSome (option_copied standing) (λ lsa. vertex_of (key_of lsa) ≡ Some vertex) }
-    ensures { IfOk result (IsOfferedFor vertex (body_of (option_copied standing.entry))) }
+    ensures { IfOk result (IsOfferedNow vertex (option_copied standing.entry)) }
 {
     match standing {
         Some(lsa) => Ok(Some(offers_in(alloc, vertex, lsa)?)),
@@ -285,7 +293,7 @@ fn listed(offered: Option<&Offered>) -> &[Offer]
 
 // Adds the prefixes of the offers that do not stand at one place of both lists. All others are offered alike.
 fn name_differing(before: &[Offer], after: &[Offer], dirty: &mut Vec<Prefix>) -> Result<(), Memory>
-    ensures kept { OnOk result ((p : PrefixValue) → Contains dirty.old.items p → Contains dirty.new.items p) }
+    ensures kept { OnOk result (KeepsAll dirty.old.items dirty.new.items) }
     ensures alike { OnOk result (AreAlike dirty.new.items before.now after.now) }
 {
     let (mut left, mut right) = (before, after);
@@ -304,8 +312,8 @@ fn name_differing(before: &[Offer], after: &[Offer], dirty: &mut Vec<Prefix>) ->
 
 // Adds the prefixes of the two offers, where they differ.
 fn name_both(one: Offer, other: Offer, dirty: &mut Vec<Prefix>) -> Result<(), Memory>
-    ensures kept { OnOk result ((p : PrefixValue) → Contains dirty.old.items p → Contains dirty.new.items p) }
-    ensures named { OnOk result ((one ≡ other) ⊎ (Contains dirty.new.items one.prefix × Contains dirty.new.items other.prefix)) }
+    ensures kept { OnOk result (KeepsAll dirty.old.items dirty.new.items) }
+    ensures named { OnOk result (AreSameOrNamed one other dirty.new.items) }
 {
     if one == other {
         return Ok(());
@@ -316,9 +324,9 @@ fn name_both(one: Offer, other: Offer, dirty: &mut Vec<Prefix>) -> Result<(), Me
 }
 
 // Leaves out all of the vertex.
-fn leave_out(sources: &mut Vec<Source>, vertex: Vertex)
-    ensures each_once { AllPairs (λ a b. a ≢ b) sources.old.items → AllPairs (λ a b. a ≢ b) sources.new.items }
-    ensures left { (w : VertexValue) (metric : ℕ) → Contains sources.new.items (record { vertex = w; metric = metric }) ↔ (Contains sources.old.items (record { vertex = w; metric = metric }) × (w ≢ vertex)) }
+fn leave_out(sources: &mut SmallVec<Source, 1>, vertex: Vertex)
+    ensures each_once { HasNoDoubles sources.old.items → HasNoDoubles sources.new.items }
+    ensures left { AreLeftOut sources.old.items sources.new.items vertex }
 {
     sources.retain(|source| source.vertex.vertex() != vertex);
 }

@@ -1,19 +1,16 @@
 //! The entry of a network: the best of what the areas offer (RFC 2328, 16.1 and 16.8).
-ghost use Rattle.std.specs.Prelude.{◌≡◌, ◌↔◌, ◌⊎◌, ◌++◌, ◌∷◌, ◌<◌, [], List, Some, IfOk, OnOk, IfSome, IsTrue, map as list_map};
+ghost use Rattle.std.specs.Prelude.{◌≡◌, ◌↔◌, ◌⊎◌, ◌<◌, List, Some, IfOk, OnOk, IfSome, IsTrue};
 ghost use Rattle.std.specs.List.Sorted.{IsStrictlySortedBy};
 ghost use Rattle.ospf_types.specs.declared.entry.Vertex.TheVariants as vertex_value;
 ghost use Rattle.ospf_types.specs.declared.prefix.Prefix.{Prefix as PrefixValue};
 ghost use Rattle.ospf_types.specs.Hops.{path_cmp};
 ghost use Rattle.ospf_types.specs.Intra.{inside_area as path_inside};
-ghost use Rattle.ospf_types.specs.Routes.{entry_of};
 ghost use Rattle.spf.specs.Maps.{most_distance};
 ghost use Rattle.intra.specs.declared.area_index.Source.{Source as SourceValue};
 ghost use Rattle.intra.specs.Inputs.{distance_at, hops_at};
-ghost use Rattle.path_choice.specs.Takes.{OnlyOffer, OfferedBySome};
-ghost use Rattle.intra.specs.Indexes.{IndexedOffers};
-ghost use Rattle.intra.specs.Intras.{IsEntryFor, most_cost};
-ghost use Rattle.intra.specs.Offers.{KeyedOffers};
-ghost use Rattle.intra.specs.Choosing.{TakesPaths, AmongSources, ThisSource, KeyedStubs, KeyedTransit, HopsOffer, InterfaceOffers, IsOver, FindsNearest, IsNoFarther};
+ghost use Rattle.path_choice.specs.Takes.{OnlyOffer};
+ghost use Rattle.intra.specs.Intras.{IsEntryFor, entry_at, most_cost};
+ghost use Rattle.intra.specs.Choosing.{AmongSources, FindsNearest, FindsNearestWith, HopsOffer, IndexOffers, InterfaceOffers, InterfacesOffer, IsNoFarther, IsOver, SourcesOffer, StubOffers, TakesPaths, TransitOffers, router_source};
 
 use crate::area::AreaIntra;
 use crate::area_index::Source;
@@ -37,7 +34,7 @@ pub(crate) fn choose(
     prefix: Prefix,
     place: &mut usize,
 ) -> Result<Option<Entry>, Memory>
-    ensures exact { IfOk result (IsEntryFor (IndexedOffers inputs.now (list_map (λ a. a.index) areas.now) inputs.now.areas prefix)) }
+    ensures exact { IfOk result (IsEntryFor (IndexOffers inputs.now areas.now prefix)) }
     ensures bounded { IfOk result (λ entry. IfSome entry (λ e. e.cost < most_cost)) }
 {
     let mut best = Best::new(alloc);
@@ -51,7 +48,7 @@ pub(crate) fn choose(
 // The intra-area entry of a choice.
 fn entry(choice: Choice<AreaCost, Path>) -> Entry
     requires { IsStrictlySortedBy path_cmp choice.items }
-    ensures value { result ≡ entry_of PathType.Intra (Some choice.key.1) choice.key.0 0 choice.items }
+    ensures value { result ≡ entry_at choice.key choice.items }
     ensures bounded { result.cost < most_cost }
 {
     let (key, paths) = choice.into_parts();
@@ -72,8 +69,9 @@ fn offer_areas(
     prefix: Prefix,
     place: &mut usize,
 ) -> Result<(), Memory>
-    ensures { OnOk result (TakesPaths (IndexedOffers inputs.now (list_map (λ a. a.index) areas.now) inputs.now.areas prefix) best.old best.new) }
+    ensures { OnOk result (TakesPaths (IndexOffers inputs.now areas.now prefix) best.old best.new) }
 {
+    // 16.8: the paths of least cost unite. At one cost the area with the greater Area ID wins.
     for (kept, area) in areas.iter().zip(inputs.areas) {
         let sources = kept.index().sources(prefix, place);
         offer_sources(best, inputs, area, sources, prefix)?;
@@ -89,7 +87,8 @@ fn offer_sources(
     sources: &[Source],
     prefix: Prefix,
 ) -> Result<(), Memory>
-    ensures { OnOk result (TakesPaths (KeyedOffers (AmongSources sources.now) inputs.now area.now prefix) best.old best.new) }
+    ensures { OnOk result (TakesPaths (SourcesOffer sources.now inputs.now area.now prefix)
+        best.old best.new) }
 {
     let mut nearest = None;
     for source in sources {
@@ -108,8 +107,9 @@ fn offer_source(
     prefix: Prefix,
 ) -> Result<Option<(u32, u32)>, Memory>
     requires { IfSome nearest (λ n. n.1 < most_distance) }
-    ensures offered { OnOk result (TakesPaths (KeyedStubs (ThisSource source.now) inputs.now area.now prefix) best.old best.new) }
-    ensures found { IfOk result (λ found. (before : List SourceValue) (p : PrefixValue) → FindsNearest (AmongSources before) area.now p nearest → FindsNearest (AmongSources (before ++ source.now ∷ [])) area.now p found) }
+    ensures offered { OnOk result (TakesPaths (StubOffers source.now inputs.now area.now prefix)
+        best.old best.new) }
+    ensures found { IfOk result (FindsNearestWith area.now source.now nearest) }
     ensures bounded { IfOk result (λ found. IfSome found (λ n. n.1 < most_distance)) }
 {
     match source.vertex.vertex() {
@@ -131,8 +131,11 @@ fn offer_stub(
     prefix: Prefix,
 ) -> Result<(), Memory>
     requires { stub.now.vertex ≡ vertex_value.Router router }
-    ensures { OnOk result (TakesPaths (KeyedStubs (ThisSource (record { vertex = vertex_value.Router router; metric = stub.now.metric })) inputs.now area.now prefix) best.old best.new) }
+    ensures { OnOk result (TakesPaths
+        (StubOffers (router_source router stub.now.metric) inputs.now area.now prefix)
+        best.old best.new) }
 {
+    // 16.1, second stage (1): the distance of the router and the cost of the stub link.
     if router == inputs.root {
         let key = cost_in(area, u32::from(stub.metric));
         return offer_own(best, inputs.interfaces.clone()?, key, prefix);
@@ -153,7 +156,8 @@ fn offer_own(
     key: AreaCost,
     prefix: Prefix,
 ) -> Result<(), Memory>
-    ensures { OnOk result (TakesPaths (OfferedBySome interfaces.entry (InterfaceOffers prefix key)) best.old best.new) }
+    ensures { OnOk result (TakesPaths (InterfacesOffer interfaces.entry prefix key)
+        best.old best.new) }
 {
     for (id, interface) in interfaces {
         offer_over(best, *id, *interface, key, prefix)?;
@@ -169,7 +173,8 @@ fn offer_over(
     key: AreaCost,
     prefix: Prefix,
 ) -> Result<(), Memory>
-    ensures { OnOk result (TakesPaths (InterfaceOffers prefix key (id, interface)) best.old best.new) }
+    ensures { OnOk result (TakesPaths (InterfaceOffers prefix key (id, interface))
+        best.old best.new) }
 {
     if !is_over(key.area(), prefix, interface) {
         return Ok(());
@@ -187,8 +192,8 @@ fn is_over(area: u32, prefix: Prefix, interface: Interface) -> bool
             || (interface.peer > 0 && prefix.contains(interface.peer)))
 }
 
-// Of transit networks with the prefix only the nearest stands for it, and at one distance the one with the greatest
-// Link State ID.
+// 16.1 (4): of transit networks with the prefix only the nearest stands for it, and at one distance the one with the
+// greatest Link State ID.
 fn offer_transit(
     best: &mut Best<AreaCost, Path>,
     area: &AreaInputs<'_>,
@@ -196,7 +201,9 @@ fn offer_transit(
     nearest: Option<(u32, u32)>,
 ) -> Result<(), Memory>
     requires { IfSome nearest (λ n. n.1 < most_distance) }
-    ensures { (sources : List SourceValue) (p : PrefixValue) → FindsNearest (AmongSources sources) area.now p nearest → OnOk result (TakesPaths (KeyedTransit (AmongSources sources) area.now p) best.old best.new) }
+    ensures { (sources : List SourceValue) (p : PrefixValue)
+        → FindsNearest (AmongSources sources) area.now p nearest
+        → OnOk result (TakesPaths (TransitOffers sources area.now p) best.old best.new) }
 {
     match nearest {
         Some((id, distance)) => {
@@ -227,7 +234,7 @@ fn nearest_with(
     source: &Source,
 ) -> Option<(u32, u32)>
     requires { IfSome nearest (λ n. n.1 < most_distance) }
-    ensures found { (before : List SourceValue) (p : PrefixValue) → FindsNearest (AmongSources before) area.now p nearest → FindsNearest (AmongSources (before ++ source.now ∷ [])) area.now p result }
+    ensures found { FindsNearestWith area.now source.now nearest result }
     ensures bounded { IfSome result (λ n. n.1 < most_distance) }
 {
     if source.metric > 0 {
@@ -262,7 +269,7 @@ fn distance(area: &AreaInputs<'_>, vertex: &Placed) -> Option<u32>
     area.tree.distance_at(vertex)
 }
 
-// Its next hops.
+// The next hops of a vertex of the area.
 fn hops<'a>(area: &AreaInputs<'a>, vertex: &Placed) -> &'a [NextHop]
     ensures { result.now ≡ hops_at area.now vertex.now }
 {

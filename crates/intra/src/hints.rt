@@ -38,25 +38,24 @@ impl Hints {
         self.sources.get(place).copied().unwrap_or(NOWHERE) as usize
     }
 
-    /// The entry stays or comes at the place, and its sources stand there; or it went, and the last one took its place.
-    pub(crate) fn keep(&mut self, place: usize, stays: bool, sources: usize) -> Result<(), Memory> {
-        if place >= self.sources.len() {
-            if stays {
-                self.sources.push(number(sources))?;
+    /// Where an index has the sources of the entry at the place; none where the entry went, and the last one took its
+    /// place.
+    pub(crate) fn keep(&mut self, place: usize, sources: Option<usize>) -> Result<(), Memory> {
+        let stands = place < self.sources.len();
+        match sources {
+            Some(sources) if stands => self.sources[place] = number(sources),
+            Some(sources) => self.sources.push(number(sources))?,
+            None if stands => {
+                self.sources.swap_remove(place);
             }
-            return Ok(());
-        }
-        if stays {
-            self.sources[place] = number(sources);
-        } else {
-            self.sources.swap_remove(place);
+            None => {}
         }
         Ok(())
     }
 
-    /// The update answers the next network, and leaves its entry at the place, if there is one.
-    pub(crate) fn leave(&mut self, place: usize, stays: bool) -> Result<(), Memory> {
-        if stays {
+    /// The update answers the next network, and leaves its entry at the place, if it has one.
+    pub(crate) fn leave(&mut self, place: Option<usize>) -> Result<(), Memory> {
+        if let Some(place) = place {
             self.left.push(number(place))?;
         }
         Ok(())

@@ -1,26 +1,17 @@
-ghost use Rattle.std.specs.Prelude.{◌≡◌, ◌≢◌, ◌↔◌, ◌<◌, ◌++◌, ◌==◌, ℕ, [], Some, None, true, false, length, map as list_map, IfOk, OnOk, OnErr, IfNone, IfSome, IsSome, IsTrue, is_some, count_by, Contains, option_copied};
+ghost use Rattle.std.specs.Prelude.{◌≡◌, ◌≢◌, ◌↔◌, ◌<◌, [], Some, None, length, IfOk, OnOk, OnErr, IfNone, IfSome, IsSome, IsTrue, option_copied};
 ghost use Rattle.std.specs.FinMap as map;
-ghost use Rattle.std.specs.List.{All, AllPairs};
-ghost use Rattle.std.specs.Ordering.{nat_cmp};
-ghost use Rattle.std.specs.Map.{keys_of};
-ghost use Rattle.ospf_types.specs.declared.entry.Entry.{Entry as EntryValue};
-ghost use Rattle.ospf_types.specs.declared.key.Dest.TheVariants as dest_value;
-ghost use Rattle.ospf_types.specs.declared.key.Key.{Key as KeyValue};
-ghost use Rattle.ospf_types.specs.declared.key.Scope.{Scope as ScopeValue};
-ghost use Rattle.ospf_types.specs.declared.key.Scope.TheVariants as scope_value;
-ghost use Rattle.ospf_types.specs.declared.prefix.Prefix.{Prefix as PrefixValue};
-ghost use Rattle.ospf_types.specs.Network.{network_cmp};
-ghost use Rattle.intra.specs.Updating.{AreKeptBefore, AreFirst, IsBroughtTo, HasOtherAmong};
-ghost use Rattle.intra.specs.Renewing.{IsRenewed, AreRenewed};
+ghost use Rattle.std.specs.List.{AllPairs};
 ghost use Rattle.std.specs.List.Sorted.{IsStrictlySortedBy};
-ghost use Rattle.ospf_types.specs.declared.prefix.Prefix.{Prefix as PrefixValue};
-ghost use Rattle.ospf_types.specs.declared.key.Dest.{Dest as DestValue};
-ghost use Rattle.ospf_types.specs.Inputs.{Inputs as Definitions};
-ghost use Rattle.intra.specs.Inputs.{AreReady, AreaValue, InputsValue};
-ghost use Rattle.intra.specs.Intras.{IsEntryAt, IsIntraOf, IsKeptIn, entries_of, most_cost, reached_at};
-ghost use Rattle.intra.specs.Changes.{InputsDifferAmong, DiffersAt};
+ghost use Rattle.std.specs.Map.{keys_of};
 ghost use Rattle.ospf_types.specs.Keys.{dest_cmp};
-ghost use Rattle.intra.specs.Right.{AreInputsOf, IsRightFor};
+ghost use Rattle.ospf_types.specs.Network.{network_cmp};
+ghost use Rattle.intra.specs.Changes.{AreDiffering, HasKeysOf, HasKeysOfAll, IsIntraBefore, with_routers};
+ghost use Rattle.intra.specs.ChosenAnew.{AreChosenAnew, IsChosenAnew};
+ghost use Rattle.intra.specs.Inputs.{AreReady};
+ghost use Rattle.intra.specs.Intras.{AreAsOften, AreBelowMost, AreEntries, AreKept, HaveEntries, IsEntryAt, IsIntraOf, IsWrittenAt, OthersStay, TellsOther, TellsSame, empty_routes, entry_in, most_cost, reached_at, spent_value};
+ghost use Rattle.intra.specs.Right.{IsRightWherever};
+ghost use Rattle.intra.specs.Stubs.{KeepsAll};
+ghost use Rattle.intra.specs.Updating.{AreBroughtTo, HasPrefixesInOrder, HasRoutersInOrder, HaveKeptBefore, NamesOthers};
 
 use crate::area::AreaIntra;
 use crate::choose::choose;
@@ -98,7 +89,7 @@ impl Intra {
     pub fn build(alloc: Global, inputs: &Inputs<'_>, hashing: RandomState) -> Result<Intra, Memory>
         requires { AreReady inputs.now }
         ensures kept { IfOk result (IsIntraOf inputs.now) }
-        ensures right { IfOk result (λ intra. (s : Definitions) → AreInputsOf s inputs.now → IsRightFor s intra) }
+        ensures right { IfOk result (IsRightWherever inputs.now) }
     {
         let mut intra = Intra::blank(alloc, inputs.areas, WordHash::new(hashing))?;
         let mut dirty = Dirty {
@@ -113,7 +104,7 @@ impl Intra {
     }
 
     /// Works out again what may differ, and answers the destinations whose result does: networks, and routers of which
-    /// something else is kept in some area; ascending, each once. Where memory is refused, all is spent: nothing is
+    /// something else is kept in some area; ascending, each once. If memory runs out, all is spent: nothing is
     /// answered any more, and only `build` makes another.
     pub fn update(
         &mut self,
@@ -122,12 +113,12 @@ impl Intra {
         dirty: &Dirty,
     ) -> Result<Vec<Dest>, Memory>
         requires ready { AreReady inputs.now }
-        requires before { (before : InputsValue) × IsIntraOf before self.old × InputsDifferAmong dirty.now.keys.items dirty.now.vertices.items dirty.now.interfaces.items before inputs.now }
+        requires before { IsIntraBefore dirty.now inputs.now self.old }
         ensures kept { OnOk result (IsIntraOf inputs.now self.new) }
-        ensures right { OnOk result ((s : Definitions) → AreInputsOf s inputs.now → IsRightFor s self.new) }
+        ensures right { OnOk result (IsRightWherever inputs.now self.new) }
         ensures in_order { IfOk result (λ dests. IsStrictlySortedBy dest_cmp dests.items) }
-        ensures exact { IfOk result (λ dests. (d : DestValue) → Contains dests.items d ↔ DiffersAt self.old self.new d) }
-        ensures spent { OnErr result (self.new ≡ record { areas = []; entries = map.empty; spent = true }) }
+        ensures exact { IfOk result (λ dests. AreDiffering self.old self.new dests.items) }
+        ensures spent { OnErr result (self.new ≡ spent_value) }
     {
         let dests = self.update_parts(alloc, inputs, dirty);
         if dests.is_err() {
@@ -166,7 +157,7 @@ impl Intra {
 
     /// The networks that have an entry, in no stated order.
     pub fn networks(&self, alloc: Global) -> Result<Vec<Prefix>, Memory>
-        ensures exact { IfOk result (λ networks. (p : PrefixValue) → Contains networks.items p ↔ IsSome (map.get self.now.entries p)) }
+        ensures exact { IfOk result (λ networks. HaveEntries self.now.entries networks.items) }
         ensures each_once { IfOk result (λ networks. AllPairs (λ p q. p ≢ q) networks.items) }
     {
         let networks = Vec::from_slice(alloc, self.entries.keys().as_slice())?;
@@ -175,8 +166,8 @@ impl Intra {
 
     /// The networks that have an entry, each with it, in no stated order.
     pub fn entries(&self) -> Slice<'_, Prefix, Entry>
-        ensures exact { (p : PrefixValue) (e : EntryValue) → Contains result (p, e) → map.get self.now.entries p ≡ Some e }
-        ensures keys { (p : PrefixValue) → Contains (keys_of result) p ↔ IsSome (map.get self.now.entries p) }
+        ensures exact { AreEntries self.now.entries result }
+        ensures keys { HaveEntries self.now.entries (keys_of result) }
         ensures each_once { AllPairs (λ p q. p ≢ q) (keys_of result) }
     {
         self.entries.as_slice()
@@ -197,8 +188,8 @@ impl Intra {
     /// The border routers and AS boundary routers that are reached, in no stated order, each as often as there are areas
     /// where it is.
     pub fn routers(&self, alloc: Global) -> Result<Vec<u32>, Memory>
-        ensures as_often { IfOk result (λ routers. (router : ℕ) → count_by (λ r. r == router) routers.items ≡ count_by (λ a. is_some (map.get a.reached router)) self.now.areas) }
-        ensures exact { IfOk result (λ routers. (router : ℕ) → Contains routers.items router ↔ IsKeptIn self.now.areas router) }
+        ensures as_often { IfOk result (λ routers. AreAsOften self.now.areas routers.items) }
+        ensures exact { IfOk result (λ routers. AreKept self.now.areas routers.items) }
     {
         let mut routers = Vec::new(alloc);
         for kept in &self.areas {
@@ -207,7 +198,7 @@ impl Intra {
         Ok(routers)
     }
 
-    /// Whether an update was refused memory.
+    /// Whether memory ran out in an update.
     pub fn spent(&self) -> bool
         ensures { result ≡ self.now.spent }
     {
@@ -218,7 +209,7 @@ impl Intra {
 impl Intra {
     // The routes of areas without LSAs.
     fn blank(alloc: Global, areas: &[AreaInputs<'_>], hashing: WordHash) -> Result<Intra, Memory>
-        ensures { IfOk result (λ intra. intra ≡ record { areas = list_map (λ a. record { id = a.id; index = record { offered = map.empty; sources = map.empty }; reached = map.empty }) areas.now; entries = map.empty; spent = false }) }
+        ensures { IfOk result (λ intra. intra ≡ empty_routes areas.now) }
     {
         let mut kept = Vec::with_capacity(alloc, areas.len())?;
         for area in areas {
@@ -233,7 +224,7 @@ impl Intra {
         })
     }
 
-    // The same; after an error some parts followed and others did not.
+    // Works out again what may differ. After an error some parts followed and others did not.
     fn update_parts(
         &mut self,
         alloc: Global,
@@ -241,14 +232,14 @@ impl Intra {
         dirty: &Dirty,
     ) -> Result<Vec<Dest>, Memory>
         requires ready { AreReady inputs.now }
-        requires before { (before : InputsValue) × IsIntraOf before self.old × InputsDifferAmong dirty.now.keys.items dirty.now.vertices.items dirty.now.interfaces.items before inputs.now }
+        requires before { IsIntraBefore dirty.now inputs.now self.old }
         ensures kept { OnOk result (IsIntraOf inputs.now self.new) }
         ensures in_order { IfOk result (λ dests. IsStrictlySortedBy dest_cmp dests.items) }
-        ensures exact { IfOk result (λ dests. (d : DestValue) → Contains dests.items d ↔ DiffersAt self.old self.new d) }
+        ensures exact { IfOk result (λ dests. AreDiffering self.old self.new dests.items) }
     {
         let named = self.follow(alloc, inputs, dirty)?;
         let mut dests = Vec::with_capacity(alloc, named.prefixes.len())?;
-        self.renew_entries(alloc, inputs, named.prefixes.as_slice(), &mut dests)?;
+        self.update_entries(alloc, inputs, named.prefixes.as_slice(), &mut dests)?;
         add_routers(named.routers.as_slice(), &mut dests)?;
         self.named = named;
         Ok(dests)
@@ -258,13 +249,14 @@ impl Intra {
     // ascending, each once.
     fn follow(&mut self, alloc: Global, inputs: &Inputs<'_>, dirty: &Dirty) -> Result<Named, Memory>
         requires ready { AreReady inputs.now }
-        requires before { AreKeptBefore inputs.now.root dirty.now.keys.items dirty.now.vertices.items inputs.now.areas self.old.areas }
+        requires before { HaveKeptBefore dirty.now inputs.now self.old.areas }
         ensures entries { OnOk result (self.new.entries ≡ self.old.entries) }
         ensures spent { OnOk result (self.new.spent ≡ self.old.spent) }
-        ensures prefixes_in_order { IfOk result (λ named. IsStrictlySortedBy network_cmp named.prefixes.items) }
-        ensures routers_in_order { IfOk result (λ named. IsStrictlySortedBy nat_cmp named.routers.items) }
-        ensures followed { IfOk result (λ named. AreFirst (IsBroughtTo inputs.now.root dirty.now.keys.items dirty.now.vertices.items dirty.now.interfaces.items named.prefixes.items) inputs.now.areas self.old.areas self.new.areas (length inputs.now.areas)) }
-        ensures routers { IfOk result (λ named. (router : ℕ) → Contains named.routers.items router ↔ HasOtherAmong (length inputs.now.areas) self.old.areas self.new.areas router) }
+        ensures prefixes_in_order { IfOk result HasPrefixesInOrder }
+        ensures routers_in_order { IfOk result HasRoutersInOrder }
+        ensures followed { IfOk result (λ named. AreBroughtTo inputs.now dirty.now
+            named.prefixes.items self.old.areas self.new.areas) }
+        ensures routers { IfOk result (NamesOthers inputs.now.areas self.old.areas self.new.areas) }
     {
         let mut named = mem::replace(&mut self.named, Named::new(alloc));
         named.clear();
@@ -280,7 +272,7 @@ impl Intra {
     }
 
     // Chooses the entries of the networks anew, and names those of which it differs.
-    fn renew_entries(
+    fn update_entries(
         &mut self,
         alloc: Global,
         inputs: &Inputs<'_>,
@@ -289,23 +281,25 @@ impl Intra {
     ) -> Result<(), Memory>
         requires in_order { IsStrictlySortedBy network_cmp prefixes.now }
         requires none { dests.old.items ≡ [] }
-        ensures { OnOk result (AreRenewed inputs.now self.old self.new prefixes.now dests.new.items) }
+        ensures { OnOk result (AreChosenAnew inputs.now self.old self.new
+            prefixes.now dests.new.items) }
     {
         for prefix in prefixes {
-            self.renew_entry(alloc, inputs, *prefix, dests)?;
+            self.update_entry(alloc, inputs, *prefix, dests)?;
         }
         Ok(())
     }
 
     // Chooses the entry of the network anew, and names the network where it differs.
-    fn renew_entry(
+    fn update_entry(
         &mut self,
         alloc: Global,
         inputs: &Inputs<'_>,
         prefix: Prefix,
         dests: &mut Vec<Dest>,
     ) -> Result<(), Memory>
-        ensures { OnOk result (IsRenewed inputs.now self.old self.new prefix dests.old.items dests.new.items) }
+        ensures { OnOk result (IsChosenAnew inputs.now self.old self.new
+            prefix dests.old.items dests.new.items) }
     {
         let place = place_of(&self.entries, prefix);
         let at = place.unwrap_or(self.entries.len());
@@ -313,17 +307,17 @@ impl Intra {
         let fresh = choose(alloc, inputs, self.areas.as_slice(), prefix, &mut near)?;
         let stays = fresh.is_some();
         let other = exchange(&mut self.entries, place, prefix, fresh)?;
-        self.hints.keep(at, stays, near)?;
+        self.hints.keep(at, stays.then_some(near))?;
         if !other {
             return Ok(());
         }
-        self.hints.leave(at, stays)?;
+        self.hints.leave(stays.then_some(at))?;
         dests.push(Dest::Net(prefix))?;
         Ok(())
     }
 
     fn spend(&mut self)
-        ensures { self.new ≡ record { areas = []; entries = map.empty; spent = true } }
+        ensures { self.new ≡ spent_value }
     {
         self.areas.clear();
         self.entries.clear();
@@ -334,7 +328,7 @@ impl Intra {
 // Where the entry of the network stands.
 fn place_of(entries: &IndexMap<Prefix, Entry, WordHash>, network: Prefix) -> Option<usize>
     ensures at { IfSome result (IsEntryAt entries.now.entries network) }
-    ensures none { IfNone result (map.get (entries_of entries.now.entries) network ≡ None) }
+    ensures none { IfNone result (entry_in entries.now.entries network ≡ None) }
 {
     match entries.get_full(&network) {
         Some((place, _, _)) => Some(place),
@@ -351,13 +345,13 @@ fn exchange(
     fresh: Option<Entry>,
 ) -> Result<bool, Memory>
     requires at { IfSome place (IsEntryAt entries.old.entries network) }
-    requires none { IfNone place (map.get (entries_of entries.old.entries) network ≡ None) }
+    requires none { IfNone place (entry_in entries.old.entries network ≡ None) }
     requires bounded { IfSome fresh (λ e. e.cost < most_cost) }
-    ensures here { OnOk result (map.get (entries_of entries.new.entries) network ≡ fresh) }
-    ensures others { OnOk result ((p : PrefixValue) → p ≢ network → map.get (entries_of entries.new.entries) p ≡ map.get (entries_of entries.old.entries) p) }
-    ensures same { IfOk result (λ other. other ≡ false → map.get (entries_of entries.old.entries) network ≡ fresh) }
-    ensures other { IfOk result (λ other. other ≡ true → map.get (entries_of entries.old.entries) network ≢ fresh) }
-    ensures below { All (λ e. e.1.cost < most_cost) entries.old.entries → All (λ e. e.1.cost < most_cost) entries.new.entries }
+    ensures here { OnOk result (entry_in entries.new.entries network ≡ fresh) }
+    ensures others { OnOk result (OthersStay entries.old.entries entries.new.entries network) }
+    ensures same { IfOk result (TellsSame entries.old.entries network fresh) }
+    ensures other { IfOk result (TellsOther entries.old.entries network fresh) }
+    ensures below { AreBelowMost entries.old.entries → AreBelowMost entries.new.entries }
 {
     match (place, fresh) {
         (Some(place), Some(entry)) => Ok(set(entries, place, network, entry)),
@@ -382,11 +376,11 @@ fn set(
 ) -> bool
     requires at { IsEntryAt entries.old.entries network place }
     requires bounded { entry.cost < most_cost }
-    ensures here { map.get (entries_of entries.new.entries) network ≡ Some entry }
-    ensures others { (p : PrefixValue) → p ≢ network → map.get (entries_of entries.new.entries) p ≡ map.get (entries_of entries.old.entries) p }
-    ensures same { result ≡ false → map.get (entries_of entries.old.entries) network ≡ Some entry }
-    ensures other { result ≡ true → map.get (entries_of entries.old.entries) network ≢ Some entry }
-    ensures below { All (λ e. e.1.cost < most_cost) entries.old.entries → All (λ e. e.1.cost < most_cost) entries.new.entries }
+    ensures here { entry_in entries.new.entries network ≡ Some entry }
+    ensures others { OthersStay entries.old.entries entries.new.entries network }
+    ensures same { TellsSame entries.old.entries network (Some entry) result }
+    ensures other { TellsOther entries.old.entries network (Some entry) result }
+    ensures below { AreBelowMost entries.old.entries → AreBelowMost entries.new.entries }
 {
     if stands_at(entries, place, network, &entry) {
         return false;
@@ -403,7 +397,7 @@ fn stands_at(
     entry: &Entry,
 ) -> bool
     requires { IsEntryAt entries.now.entries network place }
-    ensures { IsTrue result ↔ (map.get (entries_of entries.now.entries) network ≡ Some entry.now) }
+    ensures { IsTrue result ↔ (entry_in entries.now.entries network ≡ Some entry.now) }
 {
     match entries.get_index(place) {
         Some((_, kept)) => kept.is_same(entry),
@@ -414,10 +408,10 @@ fn stands_at(
 // The network, whose entry stands at the place, has none from now on. The last entry takes the place.
 fn take_out(entries: &mut IndexMap<Prefix, Entry, WordHash>, place: usize, network: Prefix)
     requires { IsEntryAt entries.old.entries network place }
-    ensures there { IsSome (map.get (entries_of entries.old.entries) network) }
-    ensures here { map.get (entries_of entries.new.entries) network ≡ None }
-    ensures others { (p : PrefixValue) → p ≢ network → map.get (entries_of entries.new.entries) p ≡ map.get (entries_of entries.old.entries) p }
-    ensures below { All (λ e. e.1.cost < most_cost) entries.old.entries → All (λ e. e.1.cost < most_cost) entries.new.entries }
+    ensures there { IsSome (entry_in entries.old.entries network) }
+    ensures here { entry_in entries.new.entries network ≡ None }
+    ensures others { OthersStay entries.old.entries entries.new.entries network }
+    ensures below { AreBelowMost entries.old.entries → AreBelowMost entries.new.entries }
 {
     match entries.swap_remove_index(place) {
         Some(_taken) => {}
@@ -428,8 +422,9 @@ fn take_out(entries: &mut IndexMap<Prefix, Entry, WordHash>, place: usize, netwo
 // The entry at the place is this from now on.
 fn write_at(entries: &mut IndexMap<Prefix, Entry, WordHash>, place: usize, entry: Entry)
     requires { place < length entries.old.entries }
-    ensures written { (p : PrefixValue) → IsEntryAt entries.old.entries p place → entries_of entries.new.entries ≡ map.insert (entries_of entries.old.entries) p entry }
-    ensures below { All (λ e. e.1.cost < most_cost) entries.old.entries → entry.cost < most_cost → All (λ e. e.1.cost < most_cost) entries.new.entries }
+    ensures written { IsWrittenAt entries.old.entries entries.new.entries place entry }
+    ensures below { AreBelowMost entries.old.entries
+        → entry.cost < most_cost → AreBelowMost entries.new.entries }
 {
     // proof: no network has two entries.
     let _ = entries.len();
@@ -445,10 +440,11 @@ fn follow_areas(
     named: &mut Named,
 ) -> Result<(), Memory>
     requires ready { AreReady inputs.now }
-    requires before { AreKeptBefore inputs.now.root dirty.now.keys.items dirty.now.vertices.items inputs.now.areas areas.old }
+    requires before { HaveKeptBefore dirty.now inputs.now areas.old }
     requires none { named.old.routers.items ≡ [] }
-    ensures followed { OnOk result (AreFirst (IsBroughtTo inputs.now.root dirty.now.keys.items dirty.now.vertices.items dirty.now.interfaces.items named.new.prefixes.items) inputs.now.areas areas.old areas.new (length inputs.now.areas)) }
-    ensures exact { OnOk result ((router : ℕ) → Contains named.new.routers.items router ↔ HasOtherAmong (length inputs.now.areas) areas.old areas.new router) }
+    ensures followed { OnOk result (AreBroughtTo inputs.now dirty.now
+        named.new.prefixes.items areas.old areas.new) }
+    ensures exact { OnOk result (NamesOthers inputs.now.areas areas.old areas.new named.new) }
 {
     let all = inputs.areas;
     for place in 0..all.len() {
@@ -459,7 +455,7 @@ fn follow_areas(
 
 // Adds the routers as destinations.
 fn add_routers(routers: &[u32], dests: &mut Vec<Dest>) -> Result<(), Memory>
-    ensures { OnOk result (dests.new.items ≡ dests.old.items ++ list_map dest_value.Router routers.now) }
+    ensures { OnOk result (dests.new.items ≡ with_routers dests.old.items routers.now) }
 {
     for router in routers {
         dests.push(Dest::Router(*router))?;
@@ -469,7 +465,7 @@ fn add_routers(routers: &[u32], dests: &mut Vec<Dest>) -> Result<(), Memory>
 
 // Adds the keys of all LSAs of the areas.
 fn push_all_keys(areas: &[AreaInputs<'_>], keys: &mut Vec<(Scope, Key)>) -> Result<(), Memory>
-    ensures { OnOk result ((a : AreaValue) (key : KeyValue) → Contains areas.now a → IsSome (map.get a.lsas key) → Contains keys.new.items (scope_value.Area a.id, key)) }
+    ensures { OnOk result (HasKeysOfAll areas.now keys.new.items) }
 {
     for area in areas {
         push_keys(area.id, area.database, keys)?;
@@ -479,8 +475,8 @@ fn push_all_keys(areas: &[AreaInputs<'_>], keys: &mut Vec<(Scope, Key)>) -> Resu
 
 // Adds the keys of all LSAs of the database, with the scope of its area.
 fn push_keys(area: u32, database: &Database, keys: &mut Vec<(Scope, Key)>) -> Result<(), Memory>
-    ensures kept { OnOk result ((named : ScopeValue × KeyValue) → Contains keys.old.items named → Contains keys.new.items named) }
-    ensures all { OnOk result ((key : KeyValue) → IsSome (map.get database.now.lsas key) → Contains keys.new.items (scope_value.Area area, key)) }
+    ensures kept { OnOk result (KeepsAll keys.old.items keys.new.items) }
+    ensures all { OnOk result (HasKeysOf area database.now.lsas keys.new.items) }
 {
     for key in database.keys() {
         keys.push((Scope::Area(area), *key))?;

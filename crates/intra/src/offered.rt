@@ -1,13 +1,11 @@
 //! What the LSA of a vertex offers: the prefixes of stub links, or that of the transit network.
-ghost use Rattle.std.specs.Prelude.{◌≡◌, ◌≢◌, ◌↔◌, Some, Contains, IfOk, IfSome, IsTrue, OnOk, ℕ};
-ghost use Rattle.std.specs.List.{AllPairs, filter_map, cons_option};
+ghost use Rattle.std.specs.Prelude.{◌≡◌, ◌≢◌, Some, IfOk, IfSome, IsTrue, OnOk};
+ghost use Rattle.std.specs.List.{AllPairs, cons_option};
 ghost use Rattle.ospf_types.specs.Lsa.{key_of};
-ghost use Rattle.lsa_codec.specs.Readers.{flags_of, links_of, prefix_of};
+ghost use Rattle.lsa_codec.specs.Readers.{flags_of, prefix_of};
 ghost use Rattle.area_trees.specs.Areas.{vertex_of};
-ghost use Rattle.ospf_types.specs.declared.prefix.Prefix.{Prefix as PrefixValue};
-ghost use Rattle.intra.specs.declared.offered.Offer.{Offer as OfferValue};
 ghost use Rattle.intra.specs.Indexes.{IsOfferedBy, bits_of};
-ghost use Rattle.intra.specs.Stubs.{offer_of_link, stub_of_link, transit_offers};
+ghost use Rattle.intra.specs.Stubs.{HasPrefixesOf, HaveSameOffers, KeepsAll, offer_of_link, stubs_of, transit_offers};
 
 use lsa_codec::Checked;
 use ospf_types::entry::Vertex;
@@ -100,7 +98,7 @@ impl Offered {
 
 // Whether these are the stub networks of a router-LSA, link by link.
 fn are_stubs(offers: &[Offer], lsa: &Checked) -> bool
-    ensures { IsTrue result → offers.now ≡ filter_map stub_of_link (links_of lsa.now.body) }
+    ensures { IsTrue result → offers.now ≡ stubs_of lsa.now.body }
 {
     let mut left = offers;
     for link in lsa.links() {
@@ -127,8 +125,8 @@ fn after_link<'a>(offers: &'a [Offer], link: Link) -> Option<&'a [Offer]>
 
 /// Adds the prefixes of the offers.
 pub(crate) fn push_prefixes(offers: &[Offer], prefixes: &mut Vec<Prefix>) -> Result<(), Memory>
-    ensures kept { OnOk result ((p : PrefixValue) → Contains prefixes.old.items p → Contains prefixes.new.items p) }
-    ensures offered { OnOk result ((p : PrefixValue) (metric : ℕ) → Contains offers.now (record { prefix = p; metric = metric }) → Contains prefixes.new.items p) }
+    ensures kept { OnOk result (KeepsAll prefixes.old.items prefixes.new.items) }
+    ensures offered { OnOk result (HasPrefixesOf offers.now prefixes.new.items) }
 {
     for offer in offers {
         prefixes.push(offer.prefix)?;
@@ -151,7 +149,7 @@ pub(crate) fn offers_in(alloc: Global, vertex: Vertex, lsa: &Checked) -> Result<
 
 // The stub networks of a router-LSA, each once.
 fn stub_offers(alloc: Global, lsa: &Checked) -> Result<Vec<Offer>, Memory>
-    ensures exact { IfOk result (λ offers. (o : OfferValue) → Contains offers.items o ↔ Contains (filter_map stub_of_link (links_of lsa.now.body)) o) }
+    ensures exact { IfOk result (λ offers. HaveSameOffers offers.items (stubs_of lsa.now.body)) }
     ensures each_once { IfOk result (λ offers. AllPairs (λ a b. a ≢ b) offers.items) }
 {
     let mut offers = each_stub(alloc, lsa)?;
@@ -162,7 +160,7 @@ fn stub_offers(alloc: Global, lsa: &Checked) -> Result<Vec<Offer>, Memory>
 
 // The stub networks of a router-LSA, link by link.
 fn each_stub(alloc: Global, lsa: &Checked) -> Result<Vec<Offer>, Memory>
-    ensures { IfOk result (λ offers. offers.items ≡ filter_map stub_of_link (links_of lsa.now.body)) }
+    ensures { IfOk result (λ offers. offers.items ≡ stubs_of lsa.now.body) }
 {
     let mut offers = Vec::new(alloc);
     for link in lsa.links() {

@@ -23,7 +23,7 @@ pub fn second(ages: &mut [u16]) -> usize
     came + second_one_by_one(&mut ages[first..])
 }
 
-// The same of one vector of ages.
+// A second passes for one vector of ages. The answer is how many came to MaxAge.
 fn second_of_lanes(ages: &mut [u16]) -> usize
     requires full { length ages.old ≡ LANES }
     requires small { All (λ age. age ≤ MaxAge) ages.old }
@@ -36,7 +36,7 @@ fn second_of_lanes(ages: &mut [u16]) -> usize
     next.simd_eq(max_age).to_bitmask().count_ones() as usize
 }
 
-// The same, an age at a time.
+// A second passes, an age at a time. The answer is how many came to MaxAge.
 fn second_one_by_one(ages: &mut [u16]) -> usize
     requires { All (λ age. age ≤ MaxAge) ages.old }
     ensures aged { ages.new ≡ map next_age ages.old }
@@ -51,12 +51,13 @@ fn second_one_by_one(ages: &mut [u16]) -> usize
     came
 }
 
-// The same of one age.
+// A second passes for one age. The answer is whether it came to MaxAge.
 fn second_of(age: &mut u16) -> bool
     requires { age.old ≤ MaxAge }
     ensures aged { age.new ≡ next_age age.old }
     ensures came { result ≡ comes_to_max_age age.old }
 {
+    // 14: the age rises by one, and does not pass MaxAge.
     let next = *age + 1;
     *age = next.min(MAX_AGE);
     next == MAX_AGE

@@ -1,25 +1,24 @@
 //! The rows at which a column has a value.
-ghost use Rattle.std.specs.Prelude.{◌≡◌, ℕ, ◌+◌, ◌≤◌, ◌^◌, ◌++◌, ◌==◌, length, take, vec_len, OnOk, OnErr};
-ghost use Rattle.lanes.specs.Rows.{rows_from, places};
+ghost use Rattle.std.specs.Prelude.{◌≡◌, ℕ, ◌+◌, ◌≤◌, ◌^◌, length, take, vec_len, OnOk, OnErr};
+ghost use Rattle.lanes.specs.Rows.{AddsRows, places_by, places_of, rows_by};
 
 use crate::lane::{LANES, Lane};
 use std::alloc::AllocError;
 
-/// Appends the rows that have this age, ascending. On an error there was no memory for them, and
-/// none was appended.
+/// Appends the rows that have this age, ascending. If memory runs out, none is appended.
 pub fn rows_at(ages: &[u16], age: u16, rows: &mut Vec<u32>) -> Result<(), AllocError>
     requires { length ages.now ≤ 2 ^ 32 }
-    ensures found { OnOk result (rows.new.items ≡ rows.old.items ++ places (λ a. a == age) ages.now) }
+    ensures found { OnOk result (AddsRows rows.old rows.new (places_of age ages.now)) }
     ensures unchanged { OnErr result (rows.new.items ≡ rows.old.items) }
 {
     append_all_or_none(ages, age, rows)
 }
 
-/// Appends the rows that have this router (an Advertising Router), ascending. On an error there was
-/// no memory for them, and none was appended.
+/// Appends the rows that have this router (an Advertising Router), ascending. If memory runs out, none
+/// is appended.
 pub fn rows_of(routers: &[u32], router: u32, rows: &mut Vec<u32>) -> Result<(), AllocError>
     requires { length routers.now ≤ 2 ^ 32 }
-    ensures found { OnOk result (rows.new.items ≡ rows.old.items ++ places (λ r. r == router) routers.now) }
+    ensures found { OnOk result (AddsRows rows.old rows.new (places_of router routers.now)) }
     ensures unchanged { OnErr result (rows.new.items ≡ rows.old.items) }
 {
     append_all_or_none(routers, router, rows)
@@ -32,7 +31,7 @@ fn append_all_or_none<T: Lane>(
     rows: &mut Vec<u32>,
 ) -> Result<(), AllocError>
     requires { length column.now ≤ 2 ^ 32 }
-    ensures found { OnOk result (rows.new.items ≡ rows.old.items ++ places (λ x. T.eq x value) column.now) }
+    ensures found { OnOk result (AddsRows rows.old rows.new (places_by T.eq value column.now)) }
     ensures unchanged { OnErr result (rows.new.items ≡ rows.old.items) }
 {
     let before = rows.len();
@@ -47,7 +46,7 @@ fn append_all_or_none<T: Lane>(
 // that have other values.
 fn append<T: Lane>(column: &[T], value: T, rows: &mut Vec<u32>) -> Result<(), AllocError>
     requires { length column.now ≤ 2 ^ 32 }
-    ensures found { OnOk result (rows.new.items ≡ rows.old.items ++ places (λ x. T.eq x value) column.now) }
+    ensures found { OnOk result (AddsRows rows.old rows.new (places_by T.eq value column.now)) }
     ensures kept { OnErr result (take (vec_len rows.old) rows.new.items ≡ rows.old.items) }
 {
     let mut first = 0;
@@ -61,7 +60,7 @@ fn append<T: Lane>(column: &[T], value: T, rows: &mut Vec<u32>) -> Result<(), Al
     append_one_by_one(&column[first..], first, value, rows)
 }
 
-// The same, a row at a time, numbered from `first` on.
+// Appends the rows that have the value, a row at a time, numbered from `first` on.
 fn append_one_by_one<T: PartialEq + Copy>(
     column: &[T],
     first: usize,
@@ -69,7 +68,7 @@ fn append_one_by_one<T: PartialEq + Copy>(
     rows: &mut Vec<u32>,
 ) -> Result<(), AllocError>
     requires { first + length column.now ≤ 2 ^ 32 }
-    ensures found { OnOk result (rows.new.items ≡ rows.old.items ++ rows_from (λ x. T.eq x value) first column.now) }
+    ensures found { OnOk result (AddsRows rows.old rows.new (rows_by T.eq value first column.now)) }
     ensures kept { OnErr result (take (vec_len rows.old) rows.new.items ≡ rows.old.items) }
 {
     for (place, at) in column.iter().enumerate() {

@@ -9,7 +9,7 @@ use crate::mask::is_mask;
 use byteorder::{BigEndian, ByteOrder};
 use ospf_types::lsa::{BOUNDARY_SUMMARY_LSA, NETWORK_LSA, ROUTER_LSA, SUMMARY_LSA};
 
-/// What is wrong with the body, where the LS type is 1 to 5.
+/// What is wrong with the body, if the LS type is 1 to 5.
 pub(crate) fn body_findings(kind: u8, body: &[u8]) -> Findings
     ensures { result ≡ findings_of kind body.now }
 {

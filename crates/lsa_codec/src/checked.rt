@@ -100,7 +100,7 @@ impl Checked {
     }
 
     /// The link at a place, counted from 0, without its TOS entries; `None` past the last. It takes
-    /// constant time where no link has TOS entries, and else a walk over the links before it.
+    /// constant time if no link has TOS entries, and else a walk over the links before it.
     pub fn link(&self, n: usize) -> Option<Link>
         ensures { result ≡ link_at self.now.body n }
     {

@@ -103,7 +103,7 @@ pub fn sum_of(bytes: &[u8]) -> Option<u16>
     ensures not_zero { IfSome result (λ sum. (0 < sum / 256) × (0 < sum % 256)) }
     // and no other two such bytes make them sound.
     ensures only { IfSome result (λ sum. IsOnlySum bytes.now sum) }
-    // With zeros these alone do: a zero in the place of a 255, unless both bytes are then zero.
+    // With zeros only these do: a zero in the place of a 255, unless both bytes are then zero.
     ensures zeros { IfSome result (λ sum. IsSumUpToZeros bytes.now sum) }
 {
     if bytes.len() < 20 {

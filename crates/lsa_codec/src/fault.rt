@@ -31,7 +31,7 @@ pub enum WireFault {
     LinkType,
     /// The body is cut off, has fewer links than it counts or no external record, or has bytes left over.
     Shape,
-    /// A growth was refused.
+    /// Memory ran out.
     Memory,
 }
 

@@ -1,6 +1,10 @@
 -- A link-state database as a finite map from key to LSA, each at its present age (RFC 2328, 12 to 14).
-use Rattle.std.specs.Prelude.{ℕ, ◌+◌, ◌≡◌, ◌==◌, ◌&&◌, ◌++◌, ◌⊎◌, Bool, true, false, List, [], ◌∷◌, Option, Some, None, map, min, nat_lt, nat_le, is_none, filter, if◌then◌else◌}
+use Rattle.std.specs.Prelude.{ℕ, ◌+◌, ◌≡◌, ◌==◌, ◌&&◌, ◌++◌, ◌⊎◌, Bool, true, false, List, [], ◌∷◌, Option, Some, None, map, min, nat_lt, nat_le, is_none, filter, slice_get, if◌then◌else◌}
 use Rattle.std.specs.FinMap.{FinMap, from_sorted, entries, get, insert, len}
+use Rattle.std.specs.Global.{Vec}
+use Rattle.std.specs.List.{filter_map}
+use Rattle.std.specs.Ordering.{eq_by_cmp}
+use Rattle.indexmap.specs.IndexMap.{swap_remove_by}
 use Rattle.ospf_types.specs.FirstOf.{first_of}
 use Rattle.ospf_types.specs.declared.key.Key.{Key}
 use Rattle.ospf_types.specs.declared.lsa.Newer.{Newer}
@@ -14,6 +18,7 @@ use Rattle.lsdb.specs.declared.refusal.InstallRefusal.TheVariants as install
 use Rattle.lsdb.specs.declared.refusal.PurgeRefusal.{PurgeRefusal}
 use Rattle.lsdb.specs.declared.refusal.PurgeRefusal.TheVariants as purge
 
+-- LSAs by key
 abbrev pub Database : Type 0
 Database = FinMap key_cmp Lsa
 
@@ -37,12 +42,12 @@ all_aged d = from_sorted (map (λ (e : Key × Lsa). (e.0, aged e.1)) (entries d)
 abbrev pub comes_to_max_age : Lsa → Bool
 comes_to_max_age l = l.header.age + 1 == MaxAge
 
--- the LSA changed, where the database has it
+-- the LSA changed, if the database has it
 abbrev pub changed_at : Database → Key → (Lsa → Lsa) → Option Lsa → Database
 changed_at d key change None = d
 changed_at d key change (Some l) = insert d key (change l)
 
--- the LSA under the key, where there is one, at MaxAge (premature ageing, RFC 2328, 14.1)
+-- the LSA under the key, if there is one, at MaxAge (premature ageing, RFC 2328, 14.1)
 abbrev pub aged_out : Database → Key → Database
 aged_out d key = changed_at d key (λ l. with_age l MaxAge) (get d key)
 
@@ -68,7 +73,7 @@ abbrev pub is_same_as : Lsa → Option Lsa → Bool
 is_same_as lsa None = false
 is_same_as lsa (Some held) = is_same (newer_of held.header lsa.header)
 
--- a new key where as many LSAs are held as may be
+-- the LSA has a new key, and as many LSAs are held as may be
 abbrev pub is_full_for : Database → ℕ → Lsa → Bool
 is_full_for d limit lsa = is_none (get d (key_of lsa)) && nat_le limit (len d)
 
@@ -80,7 +85,15 @@ install_refusal_of d limit lsa = first_of (
     ∷ (is_full_for d limit lsa, install.Full)
     ∷ [])
 
--- the refusal is that one, or Memory where there is none
+-- nothing refuses the LSA
+abbrev pub IsInstallable : DatabaseValue → Lsa → Type 0
+IsInstallable d lsa = install_refusal_of d.lsas d.limit lsa ≡ None
+
+-- the database with the LSA in the place of what it has under its key (RFC 2328, 13.2)
+abbrev pub with_lsa : Database → Lsa → Database
+with_lsa d lsa = insert d (key_of lsa) lsa
+
+-- the refusal is that one, or Memory if there is none
 abbrev pub IsInstallRefusal : Database → ℕ → Lsa → InstallRefusal → Type 0
 IsInstallRefusal d limit lsa refusal =
     (install_refusal_of d limit lsa ≡ Some refusal) ⊎ ((refusal ≡ install.Memory) × (install_refusal_of d limit lsa ≡ None))
@@ -90,11 +103,35 @@ abbrev pub purge_refusal_of : Option Lsa → Option PurgeRefusal
 purge_refusal_of None = Some purge.NoLsa
 purge_refusal_of (Some l) = if nat_lt l.header.age MaxAge then Some purge.NotMaxAge else None
 
+-- nothing refuses to purge the LSA under the key
+abbrev pub IsPurgeable : Database → Key → Type 0
+IsPurgeable d key = purge_refusal_of (get d key) ≡ None
+
+-- that is why the LSA under the key is not purged
+abbrev pub IsPurgeRefusal : Database → Key → PurgeRefusal → Type 0
+IsPurgeRefusal d key refusal = purge_refusal_of (get d key) ≡ Some refusal
+
 -- ---- rows
 
 -- a new key's row comes last, and a key that is there keeps its row
 abbrev pub order_with : DatabaseValue → Key → List Key
 order_with d key = if is_none (get d.lsas key) then d.order ++ key ∷ [] else d.order
+
+-- the key's row goes, and the last key takes its place
+abbrev pub order_without : DatabaseValue → Key → List Key
+order_without d key = swap_remove_by (eq_by_cmp key_cmp key) d.order
+
+-- these keys stand behind those that were there
+abbrev pub AddsKeys : (old new : Vec Key) → (found : List Key) → Type 0
+AddsKeys old new found = new.items ≡ old.items ++ found
+
+-- the keys of those of the rows that there are
+abbrev pub keys_in : DatabaseValue → (rows : List ℕ) → List Key
+keys_in d rows = filter_map (slice_get d.order) rows
+
+-- copies of the LSAs under those of the keys that have one, at their present age
+abbrev pub lsas_of_keys : Database → List Key → List Lsa
+lsas_of_keys d keys = filter_map (get d) keys
 
 -- the age of the LSA under the key
 abbrev pub age_of : Option Lsa → ℕ

@@ -1,15 +1,13 @@
-ghost use Rattle.std.specs.Prelude.{◌≡◌, ◌↔◌, false, option_map, option_and_then};
-ghost use Rattle.lsa_codec.specs.Readers.{with_age};
-ghost use Rattle.lsdb.specs.Contents.{contents_of};
+ghost use Rattle.lsdb.specs.Contents.{TellsUseBeside};
 
 use lsa_codec::Checked;
 use lsa_order::contents_differ;
 use ospf_types::lsa::MAX_AGE;
 
 /// Whether what is used of the LSA, Options and body, differs from what is used of the instance that
-/// is held, which has the age in seconds that stands beside it.
+/// is held, which has the age in seconds that stands beside it (RFC 2328, 13.2).
 pub(crate) fn is_used_otherwise(held: Option<(&Checked, u16)>, lsa: &Checked) -> bool
-    ensures { (result ≡ false) ↔ (option_and_then contents_of (option_map (λ found. with_age found.0.now found.1) held.entry) ≡ contents_of lsa.now) }
+    ensures { TellsUseBeside held.entry lsa.now result }
 {
     let age = lsa.header().age;
     let is_used = age < MAX_AGE;

@@ -1,15 +1,11 @@
-ghost use Rattle.std.specs.Prelude.{◌≡◌, ◌+◌, ◌↔◌, ◌<◌, ◌≤◌, ◌++◌, [], ◌∷◌, false, None, Some, IsSome, OnOk, OnErr, IfOk, IfErr, IfSome, nat_le, count_by, length, option_map, is_some, position, slice_get, vec_len, vec_capacity, map as list_map};
+ghost use Rattle.std.specs.Prelude.{◌≡◌, ◌+◌, ◌<◌, ◌≤◌, ◌++◌, [], ◌∷◌, None, Some, IsSome, OnOk, OnErr, IfOk, IfErr, IfSome, nat_le, count_by, length, option_map, is_some, position, slice_get, vec_len, vec_capacity, map as list_map};
 ghost use Rattle.std.specs.FinMap as map;
-ghost use Rattle.std.specs.List.{filter_map};
 ghost use Rattle.std.specs.Option.{option_copied};
-ghost use Rattle.std.specs.Ordering.{eq_by_cmp};
-ghost use Rattle.indexmap.specs.IndexMap.{swap_remove_by};
-ghost use Rattle.ospf_types.specs.Keys.{key_cmp};
 ghost use Rattle.ospf_types.specs.Lsa.{key_of};
 ghost use Rattle.lsa_codec.specs.Readers.{with_age};
-ghost use Rattle.lsdb.specs.Databases.{install_refusal_of, IsInstallRefusal, purge_refusal_of, all_aged, aged_out, comes_to_max_age, order_with, ages_of, keys_by, keys_aged};
+ghost use Rattle.lsdb.specs.Databases.{install_refusal_of, IsInstallable, IsInstallRefusal, IsPurgeRefusal, IsPurgeable, with_lsa, AddsKeys, order_without, keys_in, lsas_of_keys, all_aged, aged_out, comes_to_max_age, order_with, ages_of, keys_by, keys_aged};
 ghost use Rattle.lsdb.specs.Columns.{is_key};
-ghost use Rattle.lsdb.specs.Contents.{used_at, body_at, IsUsedAlike, IsSound, IsOrder};
+ghost use Rattle.lsdb.specs.Contents.{at_age_beside, body_at, IsSound, IsOrder, TellsUseAt, TellsUseOf};
 
 use crate::contents::is_used_otherwise;
 use crate::refusal::{InstallRefusal, NoLsa, PurgeRefusal};
@@ -91,14 +87,14 @@ impl Database {
     /// The LSA under the key, with its present age in seconds. The age in its header is that of the
     /// time when it was put there.
     pub fn get(&self, key: Key) -> Option<(&Checked, u16)>
-        ensures value { option_map (λ found. with_age found.0.now found.1) result ≡ map.get self.now.lsas key }
+        ensures value { at_age_beside result ≡ map.get self.now.lsas key }
         ensures own { IfSome result (λ found. key_of found.0.now ≡ key) }
     {
         let (row, _, lsa) = self.rows.get_full(&key)?;
         Some((lsa, self.ages[row]))
     }
 
-    /// The LSA under the key, where it is below MaxAge, and so used in calculations.
+    /// The LSA under the key, if it is below MaxAge, and so used in calculations.
     pub fn usable(&self, key: Key) -> Option<&Checked>
         ensures body { option_map (λ l. l.now.body) result ≡ body_at self.now.lsas key }
         ensures own { IfSome result (λ l. key_of l.now ≡ key) }
@@ -107,11 +103,12 @@ impl Database {
         if age < MAX_AGE { Some(lsa) } else { None }
     }
 
-    /// Why the LSA would not be installed, memory aside.
+    /// Why the LSA would not be installed, memory aside (RFC 2328, 13.1).
     pub fn install_refusal(&self, lsa: &Checked) -> Option<InstallRefusal>
         ensures { result ≡ install_refusal_of self.now.lsas self.now.limit lsa.now }
     {
         match self.held(lsa.key()) {
+            // 13.1: which of two instances is newer.
             Some(held) => match newer(&held, &lsa.header()) {
                 Newer::First => Some(InstallRefusal::Older),
                 Newer::Same => Some(InstallRefusal::Same),
@@ -127,11 +124,11 @@ impl Database {
     pub fn install(&mut self, lsa: Checked) -> Result<bool, InstallRefusal>
         ensures refused { IfErr result (IsInstallRefusal self.old.lsas self.old.limit lsa) }
         ensures unchanged { OnErr result (self.new ≡ self.old) }
-        ensures accepted { OnOk result (install_refusal_of self.old.lsas self.old.limit lsa ≡ None) }
-        ensures installed { OnOk result (self.new.lsas ≡ map.insert self.old.lsas (key_of lsa) lsa) }
+        ensures accepted { OnOk result (IsInstallable self.old lsa) }
+        ensures installed { OnOk result (self.new.lsas ≡ with_lsa self.old.lsas lsa) }
         ensures order { OnOk result (self.new.order ≡ order_with self.old (key_of lsa)) }
         ensures limit { OnOk result (self.new.limit ≡ self.old.limit) }
-        ensures changed { IfOk result (λ changed. (changed ≡ false) ↔ IsUsedAlike self.old.lsas lsa) }
+        ensures changed { IfOk result (TellsUseOf self.old.lsas lsa) }
     {
         if let Some(refusal) = self.install_refusal(&lsa) {
             return Err(refusal);
@@ -142,15 +139,17 @@ impl Database {
         }
     }
 
-    /// The same where it is known that the LSA is not refused.
+    /// Installs an LSA of which it is known that nothing refuses it (RFC 2328, 13.2). The answer is
+    /// whether what is used of it differs from before.
     pub fn put(&mut self, lsa: Checked) -> Result<bool, Memory>
-        requires { install_refusal_of self.old.lsas self.old.limit lsa ≡ None }
+        requires { IsInstallable self.old lsa }
         ensures unchanged { OnErr result (self.new ≡ self.old) }
-        ensures installed { OnOk result (self.new.lsas ≡ map.insert self.old.lsas (key_of lsa) lsa) }
+        ensures installed { OnOk result (self.new.lsas ≡ with_lsa self.old.lsas lsa) }
         ensures order { OnOk result (self.new.order ≡ order_with self.old (key_of lsa)) }
         ensures limit { OnOk result (self.new.limit ≡ self.old.limit) }
-        ensures changed { IfOk result (λ changed. (changed ≡ false) ↔ IsUsedAlike self.old.lsas lsa) }
+        ensures changed { IfOk result (TellsUseOf self.old.lsas lsa) }
     {
+        // 13.2: the contents are compared, and the LSA takes the place of the instance that is held.
         let (row, changed) = self.compared(&lsa);
         match row {
             Some(row) => self.replace(row, lsa),
@@ -167,10 +166,11 @@ impl Database {
         ensures aged { self.new.lsas ≡ aged_out self.old.lsas key }
         ensures order { self.new.order ≡ self.old.order }
         ensures limit { self.new.limit ≡ self.old.limit }
-        ensures changed { IfOk result (λ changed. (changed ≡ false) ↔ (used_at self.old.lsas key ≡ None)) }
+        ensures changed { IfOk result (TellsUseAt self.old.lsas key) }
     {
         match self.row_of(key) {
             Some(row) => {
+                // 14.1: premature ageing sets the age to MaxAge.
                 let was_used = self.ages[row] < MAX_AGE;
                 self.ages[row] = MAX_AGE;
                 Ok(was_used)
@@ -181,16 +181,17 @@ impl Database {
 
     /// Takes the LSA under the key out, which is at MaxAge (RFC 2328, 14). The last row takes its place.
     pub fn purge(&mut self, key: Key) -> Result<(), PurgeRefusal>
-        ensures refused { IfErr result (λ refusal. purge_refusal_of (map.get self.old.lsas key) ≡ Some refusal) }
+        ensures refused { IfErr result (IsPurgeRefusal self.old.lsas key) }
         ensures unchanged { OnErr result (self.new ≡ self.old) }
-        ensures accepted { OnOk result (purge_refusal_of (map.get self.old.lsas key) ≡ None) }
+        ensures accepted { OnOk result (IsPurgeable self.old.lsas key) }
         ensures purged { OnOk result (self.new.lsas ≡ map.remove self.old.lsas key) }
-        ensures order { OnOk result (self.new.order ≡ swap_remove_by (eq_by_cmp key_cmp key) self.old.order) }
+        ensures order { OnOk result (self.new.order ≡ order_without self.old key) }
         ensures limit { self.new.limit ≡ self.old.limit }
     {
         match self.row_of(key) {
             None => Err(PurgeRefusal::NoLsa),
             Some(row) if self.ages[row] < MAX_AGE => Err(PurgeRefusal::NotMaxAge),
+            // 14: an LSA at MaxAge is taken out.
             Some(row) => {
                 self.rows.swap_remove_index(row);
                 self.ages.swap_remove(row);
@@ -215,7 +216,7 @@ impl Database {
 
     /// Adds the keys of the LSAs of an Advertising Router at the end.
     pub fn by_router(&self, router: u32, keys: &mut Vec<Key>) -> Result<(), Memory>
-        ensures found { OnOk result (keys.new.items ≡ keys.old.items ++ keys_by router self.now) }
+        ensures found { OnOk result (AddsKeys keys.old keys.new (keys_by router self.now)) }
         ensures unchanged { OnErr result (keys.new.items ≡ keys.old.items) }
     {
         let mut rows = Vec::new(*self.routers.allocator());
@@ -225,7 +226,7 @@ impl Database {
 
     /// Adds the keys of the LSAs of an age, in seconds, at the end.
     pub fn at_age(&self, age: u16, keys: &mut Vec<Key>) -> Result<(), Memory>
-        ensures found { OnOk result (keys.new.items ≡ keys.old.items ++ keys_aged age self.now) }
+        ensures found { OnOk result (AddsKeys keys.old keys.new (keys_aged age self.now)) }
         ensures unchanged { OnErr result (keys.new.items ≡ keys.old.items) }
     {
         let mut rows = Vec::new(*self.ages.allocator());
@@ -287,7 +288,7 @@ impl Database {
     fn compared(&self, lsa: &Checked) -> (Option<usize>, bool)
         ensures row { result.0 ≡ position (is_key (key_of lsa.now)) self.now.order }
         ensures found { is_some result.0 ≡ is_some (map.get self.now.lsas (key_of lsa.now)) }
-        ensures changed { (result.1 ≡ false) ↔ IsUsedAlike self.now.lsas lsa.now }
+        ensures changed { TellsUseOf self.now.lsas lsa.now result.1 }
     {
         match self.in_row(lsa.key()) {
             Some((row, held, age)) => (Some(row), is_used_otherwise(Some((held, age)), lsa)),
@@ -297,8 +298,8 @@ impl Database {
 
     // The row of the key, and the LSA there with its present age.
     fn in_row(&self, key: Key) -> Option<(usize, &Checked, u16)>
-        ensures value { option_map (λ found. with_age found.1.now found.2) result ≡ map.get self.now.lsas key }
-        ensures row { option_map (λ found. found.0) result ≡ position (is_key key) self.now.order }
+        ensures value { option_map (λ x. with_age x.1.now x.2) result ≡ map.get self.now.lsas key }
+        ensures row { option_map (λ x. x.0) result ≡ position (is_key key) self.now.order }
     {
         let (row, _, lsa) = self.rows.get_full(&key)?;
         Some((row, lsa, self.ages[row]))
@@ -325,7 +326,7 @@ impl Database {
     // Puts the LSA in the place of the one in the row of its key.
     fn replace(&mut self, row: usize, lsa: Checked)
         requires { position (is_key (key_of lsa)) self.old.order ≡ Some row }
-        ensures installed { self.new.lsas ≡ map.insert self.old.lsas (key_of lsa) lsa }
+        ensures installed { self.new.lsas ≡ with_lsa self.old.lsas lsa }
         ensures order { self.new.order ≡ self.old.order }
         ensures limit { self.new.limit ≡ self.old.limit }
     {
@@ -338,7 +339,7 @@ impl Database {
         requires absent { position (is_key (key_of lsa)) self.old.order ≡ None }
         requires room { map.len self.old.lsas < self.old.limit }
         ensures unchanged { OnErr result (self.new ≡ self.old) }
-        ensures installed { OnOk result (self.new.lsas ≡ map.insert self.old.lsas (key_of lsa) lsa) }
+        ensures installed { OnOk result (self.new.lsas ≡ with_lsa self.old.lsas lsa) }
         ensures order { OnOk result (self.new.order ≡ self.old.order ++ key_of lsa ∷ []) }
         ensures limit { self.new.limit ≡ self.old.limit }
     {
@@ -356,7 +357,7 @@ impl Database {
 
     // Adds the keys of the rows at the end. There is room for all before the first is added.
     fn add_keys(&self, rows: &[u32], keys: &mut Vec<Key>) -> Result<(), Memory>
-        ensures found { OnOk result (keys.new.items ≡ keys.old.items ++ filter_map (slice_get self.now.order) rows.now) }
+        ensures found { OnOk result (AddsKeys keys.old keys.new (keys_in self.now rows.now)) }
         ensures unchanged { OnErr result (keys.new.items ≡ keys.old.items) }
     {
         keys.reserve(rows.len())?;
@@ -370,7 +371,7 @@ impl Database {
 
     // Copies of the LSAs under those keys that have one, at their present age.
     fn copies(&self, keys: &[Key]) -> Result<Vec<Checked>, Memory>
-        ensures { IfOk result (λ lsas. lsas.items ≡ filter_map (map.get self.now.lsas) keys.now) }
+        ensures { IfOk result (λ lsas. lsas.items ≡ lsas_of_keys self.now.lsas keys.now) }
     {
         let mut lsas = Vec::with_capacity(*self.ages.allocator(), keys.len())?;
         for key in keys {

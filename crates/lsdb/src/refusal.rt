@@ -9,11 +9,11 @@ use thiserror::Error;
 pub enum InstallRefusal {
     /// The instance that is held is newer (RFC 2328, 13.1).
     Older,
-    /// The same instance is held.
+    /// The instance that is held is the same (RFC 2328, 13.1).
     Same,
-    /// A new key, where as many LSAs are held as may be.
+    /// The LSA has a new key, and as many LSAs are held as may be.
     Full,
-    /// A growth was refused.
+    /// Memory ran out.
     Memory,
 }
 

@@ -123,8 +123,8 @@ impl<V: Drop> NetworkMap<V> {
         }
     }
 
-    /// Gives the network the value, in place of the one that it had. Only a new network's can be
-    /// refused, and then nothing changes.
+    /// Gives the network the value, in place of the one that it had. Only a new network takes memory. If
+    /// it runs out, nothing changes.
     pub fn insert(&mut self, network: Prefix, value: V) -> Result<(), Memory>
         ensures ok { OnOk result (self.new ≡ map.insert self.old network value) }
         ensures err { OnErr result (self.new ≡ self.old) }
@@ -173,7 +173,7 @@ impl<V: Drop> NetworkMap<V> {
         self.replace(network, value)
     }
 
-    /// Gives a network that has no value the value. Where memory is refused, nothing changes.
+    /// Gives a network that has no value the value. If memory runs out, nothing changes.
     pub fn add(&mut self, network: Prefix, value: V) -> Result<(), Memory>
         requires { map.get self.old network ≡ None }
         ensures ok { OnOk result (self.new ≡ map.insert self.old network value) }
@@ -227,7 +227,7 @@ impl<V: Drop> NetworkMap<V> {
         true
     }
 
-    // Makes fewer slots, where far fewer entries are left. Where memory is refused, they stay.
+    // Makes fewer slots, if far fewer entries are left. If memory runs out, they stay.
     fn shrink(&mut self)
         ensures { self.new ≡ self.old }
     {

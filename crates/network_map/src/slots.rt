@@ -2,7 +2,7 @@
 ghost use Rattle.std.specs.Prelude.{◌≡◌, ◌≢◌, ℕ, ◌+◌, ◌^◌, ◌<◌, ◌≤◌, false, [], None, IfSome, IfOk, IsTrue, OnOk, OnErr, length, slice_index};
 ghost use Rattle.std.specs.List.{slice_get};
 ghost use Rattle.ospf_types.specs.Network.{network_word};
-ghost use Rattle.network_map.specs.Slots.{base_of, home_of, AreFew, AreSlotted, HasNetwork, IsFree, IsMore, IsPlaced, IsReady, IsTaken};
+ghost use Rattle.network_map.specs.Slots.{base_of, home_of, AreBitsFor, AreFew, AreSlotted, HasNetwork, IsFree, IsMissing, IsMore, IsOtherNumber, IsOutOfUse, IsPlaced, IsReady, IsRenumbered, IsTaken, KeepsNumbers, KeepsOthers, LeadsNowhere, LeadsTo};
 
 use crate::home_bits::{HomeBits, homes};
 use ospf_types::prefix::Prefix;
@@ -118,7 +118,7 @@ impl Slots {
         network: Prefix,
     ) -> Option<usize>
         ensures found { IfSome result (λ i. HasNetwork entries.now i network) }
-        ensures missing { result ≡ None → (i : ℕ) → HasNetwork entries.now i network → IsPlaced self.now.numbers.items (home_of hashing self.now.bits network) (base_of hashing self.now.bits network + i) → ⊥ }
+        ensures missing { result ≡ None → IsMissing hashing self.now entries.now network }
     {
         let base = base(hashing, self.bits, network);
         probe(
@@ -130,8 +130,8 @@ impl Slots {
         )
     }
 
-    // Puts the network's entry, which is at the place, into a free slot. Where memory is refused,
-    // nothing changes.
+    // Puts the network's entry, which is at the place, into a free slot. If memory runs out, nothing
+    // changes.
     pub(crate) fn add(
         &mut self,
         hashing: WordHash,
@@ -139,7 +139,7 @@ impl Slots {
         place: usize,
     ) -> Result<(), AllocError>
         requires { IsReady self.old place }
-        ensures placed { OnOk result (IsPlaced self.new.numbers.items (home_of hashing self.new.bits network) (base_of hashing self.new.bits network + place)) }
+        ensures placed { OnOk result (LeadsTo hashing self.new network place) }
         ensures err { OnErr result (self.new.numbers.items ≡ self.old.numbers.items) }
         ensures more { IsMore self.old self.new }
     {
@@ -172,9 +172,9 @@ impl Slots {
     // Takes the slot of the network's entry, which is at the place, out of use.
     fn remove(&mut self, hashing: WordHash, network: Prefix, place: usize)
         requires room { place + 3 ≤ 2 ^ self.old.bits }
-        requires placed { IsPlaced self.old.numbers.items (home_of hashing self.old.bits network) (base_of hashing self.old.bits network + place) }
-        ensures others { (h n : ℕ) → n ≢ base_of hashing self.old.bits network + place → IsPlaced self.old.numbers.items h n → IsPlaced self.new.numbers.items h n }
-        ensures gone { (slot : ℕ) × (slice_index self.old.numbers.items slot ≡ base_of hashing self.old.bits network + place) × (slice_index self.new.numbers.items slot ≡ 1) }
+        requires placed { LeadsTo hashing self.old network place }
+        ensures others { KeepsOthers hashing self.old self.new network place }
+        ensures gone { IsOutOfUse hashing self.old self.new network place }
         ensures length { length self.new.numbers.items ≡ length self.old.numbers.items }
         ensures bits { self.new.bits ≡ self.old.bits }
         ensures used { self.new.used ≡ self.old.used }
@@ -192,9 +192,9 @@ impl Slots {
     fn relocate(&mut self, hashing: WordHash, network: Prefix, from: usize, to: usize)
         requires from { from + 3 ≤ 2 ^ self.old.bits }
         requires to { to + 3 ≤ 2 ^ self.old.bits }
-        requires placed { IsPlaced self.old.numbers.items (home_of hashing self.old.bits network) (base_of hashing self.old.bits network + from) }
-        ensures placed { IsPlaced self.new.numbers.items (home_of hashing self.new.bits network) (base_of hashing self.new.bits network + to) }
-        ensures others { (h n : ℕ) → n ≢ base_of hashing self.old.bits network + from → IsPlaced self.old.numbers.items h n → IsPlaced self.new.numbers.items h n }
+        requires placed { LeadsTo hashing self.old network from }
+        ensures placed { LeadsTo hashing self.new network to }
+        ensures others { KeepsOthers hashing self.old self.new network from }
         ensures length { length self.new.numbers.items ≡ length self.old.numbers.items }
         ensures bits { self.new.bits ≡ self.old.bits }
         ensures used { self.new.used ≡ self.old.used }
@@ -210,7 +210,7 @@ impl Slots {
     }
 }
 
-// Sees to it that there are slots for one entry more. Where memory is refused, they stay.
+// Sees to it that there are slots for one entry more. If memory runs out, they stay.
 pub(crate) fn make_room<V>(
     slots: &mut Slots,
     entries: &[(Prefix, V)],
@@ -230,7 +230,7 @@ pub(crate) fn make_room<V>(
 
 // How many bits the homes of so many entries need, at most one home in five being full.
 fn bits_for(count: usize) -> Option<u32>
-    ensures { IfSome result (λ bits. (bits ≤ 31) × (3 ≤ bits) × (count + 3 ≤ 2 ^ bits) × AreFew bits count) }
+    ensures { IfSome result (AreBitsFor count) }
 {
     for bits in FEWEST..MOST + 1 {
         if count <= homes(bits) / 5 {
@@ -288,7 +288,7 @@ fn probe<V>(
 ) -> Option<usize>
     requires { 2 ≤ base }
     ensures found { IfSome result (λ i. HasNetwork entries.now i network) }
-    ensures missing { result ≡ None → (i : ℕ) → HasNetwork entries.now i network → IsPlaced numbers.now home (base + i) → ⊥ }
+    ensures missing { result ≡ None → LeadsNowhere numbers.now home base entries.now network }
 {
     let mut slot = home;
     while slot < numbers.len() {
@@ -308,7 +308,7 @@ fn probe<V>(
 #[inline]
 fn named<V>(entries: &[(Prefix, V)], number: u32, base: usize, network: Prefix) -> Option<usize>
     ensures found { IfSome result (λ i. HasNetwork entries.now i network) }
-    ensures missing { result ≡ None → (i : ℕ) → HasNetwork entries.now i network → number ≢ base + i }
+    ensures missing { result ≡ None → IsOtherNumber number base entries.now network }
 {
     // A number below the base gives a place past the end.
     let place = (number as usize).wrapping_sub(base);
@@ -360,8 +360,8 @@ fn renumber(numbers: &mut Vec<u32>, home: usize, old: u32, new: u32)
     requires old { old ≢ 0 }
     requires new { new ≢ 0 }
     ensures placed { IsPlaced numbers.new.items home new }
-    ensures others { (h n : ℕ) → n ≢ old → IsPlaced numbers.old.items h n → IsPlaced numbers.new.items h n }
-    ensures set { (slot : ℕ) × (slice_index numbers.old.items slot ≡ old) × (slice_index numbers.new.items slot ≡ new) }
+    ensures others { KeepsNumbers numbers.old.items numbers.new.items old }
+    ensures set { IsRenumbered numbers.old.items numbers.new.items old new }
     ensures length { length numbers.new.items ≡ length numbers.old.items }
 {
     let slot = slot_of(numbers.as_slice(), home, old);

@@ -7,15 +7,15 @@ use Rattle.ospf_types.specs.declared.key.Key.{Key}
 use Rattle.ospf_types.proofs.Orders.{key_total, key_exact}
 use Rattle.result_map.proofs.KeyedMaps.{one_or_other}
 use Rattle.offer_index.specs.Advertised.{AdvertisedValue}
-use Rattle.offer_index.specs.Affected.{AreAdded}
-use Rattle.offer_index.specs.Indexes.{OfferIndexValue, AffectedValue, HasDest, HasForwarding, IsTouchedAt, AreTouched}
+use Rattle.offer_index.specs.ChangedOffers.{AreAdded}
+use Rattle.offer_index.specs.Indexes.{OfferIndexValue, ChangedOffersValue, HasDest, HasForwarding, IsTouchedAt, AreTouched}
 
 -- ---- what one route adds
 
-pub added_none : (v : AffectedValue) → AreAdded None v v
+pub added_none : (v : ChangedOffersValue) → AreAdded None v v
 added_none v = record { dests = λ dest c. c; addresses = λ address c. c; dest = λ dest has. absurd (let wrong : None ≡ Some has.0 = has.1 in cc); forwarding = λ address has. absurd (let wrong : None ≡ Some has.0 = has.1 in cc) }
 
-pub added_some : (a : AdvertisedValue) (before after : AffectedValue) → ((dest : Dest) → Contains before.dests dest → Contains after.dests dest) → Contains after.dests a.dest
+pub added_some : (a : AdvertisedValue) (before after : ChangedOffersValue) → ((dest : Dest) → Contains before.dests dest → Contains after.dests dest) → Contains after.dests a.dest
     → ((address : ℕ) → Contains before.addresses address → Contains after.addresses address) → (0 < a.forwarding → Contains after.addresses a.forwarding) → AreAdded (Some a) before after
 added_some a before after dests dest addresses forwarding =
     record {
@@ -31,11 +31,11 @@ added_some a before after dests dest addresses forwarding =
 -- ---- from one index to the next
 
 -- where nothing is touched
-pub touched_none : (i : OfferIndexValue) (v : AffectedValue) → AreTouched i i v v
+pub touched_none : (i : OfferIndexValue) (v : ChangedOffersValue) → AreTouched i i v v
 touched_none i v = record { dests = λ dest c. c; addresses = λ address c. c; each = λ k. inl refl }
 
 -- another route under one key; what was there and what is there are affected
-pub touched_at : (old new : OfferIndexValue) (key : Key) (before between after : AffectedValue) → AreAdded (get old.routes key) before between → AreAdded (get new.routes key) between after
+pub touched_at : (old new : OfferIndexValue) (key : Key) (before between after : ChangedOffersValue) → AreAdded (get old.routes key) before between → AreAdded (get new.routes key) between after
     → ((k : Key) → k ≢ key → get new.routes k ≡ get old.routes k) → AreTouched old new before after
 touched_at old new key before between after first second others =
     record {
@@ -59,7 +59,7 @@ touched_at old new key before between after first second others =
 
 -- ---- two steps
 
-module _ (v w : AffectedValue) (dests : (dest : Dest) → Contains v.dests dest → Contains w.dests dest) (addresses : (address : ℕ) → Contains v.addresses address → Contains w.addresses address) where
+module _ (v w : ChangedOffersValue) (dests : (dest : Dest) → Contains v.dests dest → Contains w.dests dest) (addresses : (address : ℕ) → Contains v.addresses address → Contains w.addresses address) where
   at_both : (a b c : Option AdvertisedValue) → IsTouchedAt a b v → IsTouchedAt b c w → IsTouchedAt a c w
   at_both a b c (inl same) second = subst (λ (o : Option AdvertisedValue). IsTouchedAt o c w) same second
   at_both a b c (inr first) (inl same) =
@@ -70,7 +70,7 @@ module _ (v w : AffectedValue) (dests : (dest : Dest) → Contains v.dests dest 
         λ address has. elim has [ inl was ↦ addresses address (first.1 address (inl was)) | inr is ↦ second.1 address (inr is) ],
       )
 
-pub touched_both : (a b c : OfferIndexValue) (u v w : AffectedValue) → AreTouched a b u v → AreTouched b c v w → AreTouched a c u w
+pub touched_both : (a b c : OfferIndexValue) (u v w : ChangedOffersValue) → AreTouched a b u v → AreTouched b c v w → AreTouched a c u w
 touched_both a b c u v w first second =
     record {
       dests = λ dest has. second.dests dest (first.dests dest has);

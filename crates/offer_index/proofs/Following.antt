@@ -13,7 +13,7 @@ use Rattle.result_map.proofs.KeyedMaps.{one_or_other}
 use Rattle.lsdb.specs.Contents.{body_at, IsOrder, contents_of}
 use Rattle.lsdb.specs.Databases.{Database, DatabaseValue}
 use Rattle.offer_index.specs.Advertised.{advertised_at}
-use Rattle.offer_index.specs.Indexes.{OfferIndexValue, AffectedValue, IsIndexOf, LsasDifferAmong, AreTouched}
+use Rattle.offer_index.specs.Indexes.{OfferIndexValue, ChangedOffersValue, IsIndexOf, LsasDifferAmong, AreTouched}
 use Rattle.offer_index.proofs.Effects.{touched_none, touched_both}
 
 -- ---- the first of what is left, or a later one
@@ -44,7 +44,7 @@ module _ (root : ℕ) (scope : Scope) (d : Database) where
   abbrev pub IsRightAt : OfferIndexValue → Key → Type 0
   IsRightAt i k = map.get i.routes k ≡ advertised_at root scope k (body_at d k)
 
-  pub record IsFollowed (ahead : Key → Type 0) (old now : OfferIndexValue) (before after : AffectedValue) : Type 0 where
+  pub record IsFollowed (ahead : Key → Type 0) (old now : OfferIndexValue) (before after : ChangedOffersValue) : Type 0 where
     pub right : (k : Key) → (ahead k → ⊥) → IsRightAt now k
     pub touched : AreTouched old now before after
 
@@ -53,12 +53,12 @@ module _ (root : ℕ) (scope : Scope) (d : Database) where
   abbrev pub IsNamed : List (Scope × Key) → Key → Type 0
   IsNamed names k = Contains names (scope, k)
 
-  pub followed_first : (names : List (Scope × Key)) (was : Database) (old : OfferIndexValue) (v : AffectedValue) → IsIndexOf root scope was old → LsasDifferAmong names scope was d → IsFollowed (IsNamed names) old old v v
+  pub followed_first : (names : List (Scope × Key)) (was : Database) (old : OfferIndexValue) (v : ChangedOffersValue) → IsIndexOf root scope was old → LsasDifferAmong names scope was d → IsFollowed (IsNamed names) old old v v
   followed_first names was old v index differ =
       record { right = λ k apart. index k ∙ ap (advertised_at root scope k) (sym (differ k apart)); touched = touched_none old v }
 
   module _ (names : List (Scope × Key)) (i : ℕ) where
-    pub followed_more : (old now next : OfferIndexValue) (u v w : AffectedValue) (named first : Scope × Key) → i < length names → named ≡ get_or names i first → IsFollowed (IsNamed (drop i names)) old now u v
+    pub followed_more : (old now next : OfferIndexValue) (u v w : ChangedOffersValue) (named first : Scope × Key) → i < length names → named ≡ get_or names i first → IsFollowed (IsNamed (drop i names)) old now u v
         → (named.0 ≡ scope → IsRightAt next named.1) → ((k : Key) → named ≢ (scope, k) → map.get next.routes k ≡ map.get now.routes k) → AreTouched now next v w → IsFollowed (IsNamed (drop (i + 1) names)) old next u w
     followed_more old now next u v w named first lt is followed taken others touched =
         record {
@@ -69,7 +69,7 @@ module _ (root : ℕ) (scope : Scope) (d : Database) where
           touched = touched_both old now next u v w followed.touched touched;
         }
 
-    pub followed_all : (old now : OfferIndexValue) (u v : AffectedValue) → length names ≤ i → IsFollowed (IsNamed (drop i names)) old now u v → IsIndexOf root scope d now
+    pub followed_all : (old now : OfferIndexValue) (u v : ChangedOffersValue) → length names ≤ i → IsFollowed (IsNamed (drop i names)) old now u v → IsIndexOf root scope d now
     followed_all old now u v past followed k = followed.right k (none_left names i (scope, k) past)
 
   -- ---- all keys of the database
@@ -77,7 +77,7 @@ module _ (root : ℕ) (scope : Scope) (d : Database) where
   pub nothing_there : (k : Key) → map.get d k ≡ None → advertised_at root scope k (body_at d k) ≡ None
   nothing_there k none = ap (λ (o : Option Lsa). advertised_at root scope k (option_map (λ (used : ℕ × Body). used.1) (option_and_then contents_of o))) none
 
-  pub begun : (all : DatabaseValue) (v : AffectedValue) → all.lsas ≡ d → IsOrder all → (old : OfferIndexValue) → old ≡ record { routes = map.empty } → IsFollowed (Contains all.order) old old v v
+  pub begun : (all : DatabaseValue) (v : ChangedOffersValue) → all.lsas ≡ d → IsOrder all → (old : OfferIndexValue) → old ≡ record { routes = map.empty } → IsFollowed (Contains all.order) old old v v
   begun all v is order old empty =
       record {
         right = λ k apart.
@@ -87,7 +87,7 @@ module _ (root : ℕ) (scope : Scope) (d : Database) where
       }
 
   module _ (keys : List Key) (i : ℕ) where
-    pub gone_on : (old now next : OfferIndexValue) (u v w : AffectedValue) (key first : Key) → i < length keys → key ≡ get_or keys i first → IsFollowed (Contains (drop i keys)) old now u v
+    pub gone_on : (old now next : OfferIndexValue) (u v w : ChangedOffersValue) (key first : Key) → i < length keys → key ≡ get_or keys i first → IsFollowed (Contains (drop i keys)) old now u v
         → IsRightAt next key → ((k : Key) → k ≢ key → map.get next.routes k ≡ map.get now.routes k) → AreTouched now next v w → IsFollowed (Contains (drop (i + 1) keys)) old next u w
     gone_on old now next u v w key first lt is followed taken others touched =
         record {
@@ -98,5 +98,5 @@ module _ (root : ℕ) (scope : Scope) (d : Database) where
           touched = touched_both old now next u v w followed.touched touched;
         }
 
-    pub gone_through : (old now : OfferIndexValue) (u v : AffectedValue) → length keys ≤ i → IsFollowed (Contains (drop i keys)) old now u v → IsIndexOf root scope d now
+    pub gone_through : (old now : OfferIndexValue) (u v : ChangedOffersValue) → length keys ≤ i → IsFollowed (Contains (drop i keys)) old now u v → IsIndexOf root scope d now
     gone_through old now u v past followed k = followed.right k (none_left keys i k past)

@@ -15,6 +15,11 @@ pub record AdvertisedValue : Type 0 where
   pub is_type_2 : Bool
   pub forwarding : ℕ
 
+-- what an LSA says of a destination, at this metric, of this type and with this forwarding address
+abbrev pub route_to : Dest → ℕ → Bool → ℕ → AdvertisedValue
+route_to dest metric is_type_2 forwarding =
+    record { dest = dest; metric = metric; is_type_2 = is_type_2; forwarding = forwarding }
+
 abbrev pub plain : Dest → ℕ → AdvertisedValue
 plain dest metric = record { dest = dest; metric = metric; is_type_2 = false; forwarding = 0 }
 

@@ -1,6 +1,6 @@
 -- The index of what is advertised: by key, and found again by destination, by advertiser and by forwarding address.
-use Rattle.std.specs.Prelude.{ℕ, ◌≡◌, ◌⊎◌, ◌<◌, List, Contains, Option, Some}
-use Rattle.std.specs.FinMap.{FinMap, get}
+use Rattle.std.specs.Prelude.{ℕ, ◌≡◌, ◌≢◌, ◌⊎◌, ◌<◌, List, Contains, Option, Some}
+use Rattle.std.specs.FinMap.{FinMap, get, empty}
 use Rattle.ospf_types.specs.declared.key.Dest.{Dest}
 use Rattle.ospf_types.specs.declared.key.Key.{Key}
 use Rattle.ospf_types.specs.declared.key.Scope.{Scope}
@@ -10,14 +10,30 @@ use Rattle.ospf_types.specs.Keys.{key_cmp}
 use Rattle.lsdb.specs.Contents.{body_at}
 use Rattle.lsdb.specs.Databases.{Database}
 use Rattle.offer_index.specs.Advertised.{AdvertisedValue, advertised_at}
-use Rattle.offer_index.specs.declared.group.Group.{Group}
-use Rattle.offer_index.specs.declared.group.Group.TheVariants.{To, By, Forwarded}
+use Rattle.offer_index.specs.declared.lsa_group.LsaGroup.{LsaGroup}
+use Rattle.offer_index.specs.declared.lsa_group.LsaGroup.TheVariants.{To, By, Forwarded}
 
 abbrev pub AdvertisedByKey : Type 0
 AdvertisedByKey = FinMap key_cmp AdvertisedValue
 
 pub record OfferIndexValue : Type 0 where
   pub routes : AdvertisedByKey
+
+-- the index of no LSAs
+abbrev pub empty_index : OfferIndexValue
+empty_index = record { routes = empty }
+
+-- under the key the index has what the database says
+abbrev pub IsTakenAt : ℕ → Scope → Key → Database → OfferIndexValue → Type 0
+IsTakenAt root scope key d i = get i.routes key ≡ advertised_at root scope key (body_at d key)
+
+-- under the key the two indexes have the same
+abbrev pub IsAlikeAt : OfferIndexValue → OfferIndexValue → Key → Type 0
+IsAlikeAt old new k = get new.routes k ≡ get old.routes k
+
+-- the two indexes differ at most under the key
+abbrev pub AreAlikeBut : Key → OfferIndexValue → OfferIndexValue → Type 0
+AreAlikeBut key old new = (k : Key) → k ≢ key → IsAlikeAt old new k
 
 -- the index is that of the database
 abbrev pub IsIndexOf : ℕ → Scope → Database → OfferIndexValue → Type 0
@@ -27,18 +43,22 @@ IsIndexOf root scope d i = (k : Key) → get i.routes k ≡ advertised_at root s
 abbrev pub LsasDifferAmong : List (Scope × Key) → Scope → Database → Database → Type 0
 LsasDifferAmong keys scope before after = (k : Key) → (Contains keys (scope, k) → ⊥) → body_at after k ≡ body_at before k
 
+-- the index is that of an earlier database, which differs from this one only in the LSAs that are named
+abbrev pub IsIndexBehind : ℕ → Scope → List (Scope × Key) → Database → OfferIndexValue → Type 0
+IsIndexBehind root scope keys d i = (before : Database) × IsIndexOf root scope before i × LsasDifferAmong keys scope before d
+
 -- what is advertised under the key leads to the destination, or is by the router, or has the forwarding address
-abbrev pub IsOfGroup : Group → Key → AdvertisedValue → Type 0
+abbrev pub IsOfGroup : LsaGroup → Key → AdvertisedValue → Type 0
 IsOfGroup (To dest) k a = a.dest ≡ dest
 IsOfGroup (By router) k a = k.router ≡ router
 IsOfGroup (Forwarded address) k a = (0 < address) × (a.forwarding ≡ address)
 
 -- the key is one of the group
-abbrev pub IsInGroup : OfferIndexValue → Group → Key → Type 0
+abbrev pub IsInGroup : OfferIndexValue → LsaGroup → Key → Type 0
 IsInGroup i group k = (a : AdvertisedValue) × (get i.routes k ≡ Some a) × IsOfGroup group k a
 
 -- a member of the group leads to the destination
-abbrev pub GroupLeadsTo : OfferIndexValue → Group → Dest → Type 0
+abbrev pub GroupLeadsTo : OfferIndexValue → LsaGroup → Dest → Type 0
 GroupLeadsTo i group dest = (k : Key) × (a : AdvertisedValue) × (get i.routes k ≡ Some a) × IsOfGroup group k a × (a.dest ≡ dest)
 
 -- something is advertised to the destination
@@ -54,7 +74,7 @@ abbrev pub IsForwardedInto : OfferIndexValue → Prefix → ℕ → Type 0
 IsForwardedInto i p address = IsForwardedTo i address × HasAddress p address
 
 -- destinations and forwarding addresses whose result may differ
-pub record AffectedValue : Type 0 where
+pub record ChangedOffersValue : Type 0 where
   pub dests : List Dest
   pub addresses : List ℕ
 
@@ -66,13 +86,13 @@ abbrev pub HasForwarding : Option AdvertisedValue → ℕ → Type 0
 HasForwarding o address = (a : AdvertisedValue) × (o ≡ Some a) × (a.forwarding ≡ address) × (0 < address)
 
 -- under the key the same is advertised before and after, or what each of the two says is among what may differ
-abbrev pub IsTouchedAt : Option AdvertisedValue → Option AdvertisedValue → AffectedValue → Type 0
+abbrev pub IsTouchedAt : Option AdvertisedValue → Option AdvertisedValue → ChangedOffersValue → Type 0
 IsTouchedAt old new after = (new ≡ old)
     ⊎ (((dest : Dest) → HasDest old dest ⊎ HasDest new dest → Contains after.dests dest)
     × ((address : ℕ) → HasForwarding old address ⊎ HasForwarding new address → Contains after.addresses address))
 
 -- all that was affected before is still, and so is all that the two indexes say otherwise
-pub record AreTouched (old new : OfferIndexValue) (before after : AffectedValue) : Type 0 where
+pub record AreTouched (old new : OfferIndexValue) (before after : ChangedOffersValue) : Type 0 where
   pub dests : (dest : Dest) → Contains before.dests dest → Contains after.dests dest
   pub addresses : (address : ℕ) → Contains before.addresses address → Contains after.addresses address
   pub each : (k : Key) → IsTouchedAt (get old.routes k) (get new.routes k) after

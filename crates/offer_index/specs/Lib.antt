@@ -1,6 +1,7 @@
+pub mod Lists
 pub mod Advertised
 pub mod Indexes
-pub mod Affected
+pub mod ChangedOffers
 pub mod Members
 pub mod Noted
 pub mod Marks

@@ -3,10 +3,10 @@ ghost use Rattle.std.specs.Prelude.{◌≡◌, ◌<◌, ◌↔◌, IsTrue};
 ghost use Rattle.ospf_types.specs.Inter.{LSInfinity};
 ghost use Rattle.ospf_types.specs.Lsa.{key_of};
 ghost use Rattle.lsdb.specs.Contents.{body_at};
-ghost use Rattle.offer_index.specs.Advertised.{unless_useless, summarized as summarized_by, externalized as externalized_by, advertised_at};
+ghost use Rattle.offer_index.specs.Advertised.{route_to, unless_useless, summarized as summarized_by, externalized as externalized_by, advertised_at};
 ghost use Rattle.offer_index.specs.Indexes.{IsOfGroup};
 
-use crate::group::Group;
+use crate::lsa_group::LsaGroup;
 use lsa_codec::Checked;
 use lsdb::Database;
 use ospf_types::key::{Dest, Key, Scope};
@@ -73,13 +73,13 @@ impl Advertised {
     }
 
     // Whether the route is one of the group.
-    pub(crate) fn is_of(self, group: &Group, key: Key) -> bool
+    pub(crate) fn is_of(self, group: &LsaGroup, key: Key) -> bool
         ensures { IsTrue result ↔ IsOfGroup group.now key self }
     {
         match *group {
-            Group::To(dest) => self.dest == dest,
-            Group::By(router) => key.router == router,
-            Group::Forwarded(address) => address != 0 && self.forwarding == address,
+            LsaGroup::To(dest) => self.dest == dest,
+            LsaGroup::By(router) => key.router == router,
+            LsaGroup::Forwarded(address) => address != 0 && self.forwarding == address,
         }
     }
 }
@@ -93,6 +93,7 @@ pub(crate) fn advertised_under(
 ) -> Option<Advertised>
     ensures { result ≡ advertised_at root scope key (body_at database.now.lsas key) }
 {
+    // 16.2 (1), 16.4 (1): an LSA at MaxAge counts for nothing.
     let lsa = database.usable(key)?;
     match scope {
         Scope::Area(_) => summarized(root, key, lsa),
@@ -129,8 +130,10 @@ fn externalized(root: u32, key: Key, lsa: &Checked) -> Option<Advertised>
 
 // The route, unless it is the root's own or not below LSInfinity.
 fn offer(root: u32, key: Key, dest: Dest, metric: u32, external: External) -> Option<Advertised>
-    ensures { result ≡ unless_useless root key metric (record { dest = dest; metric = metric; is_type_2 = external.is_type_2; forwarding = external.forwarding }) }
+    ensures { result ≡ unless_useless root key metric
+        (route_to dest metric external.is_type_2 external.forwarding) }
 {
+    // 16.2 (1) and (2), 16.4 (1) and (2): the metric is below LSInfinity, and another router originated the LSA.
     if key.router == root || metric >= LS_INFINITY {
         return None;
     }

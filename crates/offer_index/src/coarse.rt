@@ -1,10 +1,11 @@
 //! The groups that may have a key, as far as it pays to ask that first.
-ghost use Rattle.std.specs.Prelude.{◌≡◌, ◌≤◌, ℕ, false, OnOk};
-ghost use Rattle.offer_index.specs.declared.group.Group.{Group as GroupValue};
-ghost use Rattle.offer_index.specs.declared.group.Group.TheVariants as group_value;
+ghost use Rattle.std.specs.Prelude.{◌≡◌, false, OnOk};
+ghost use Rattle.offer_index.specs.declared.lsa_group.LsaGroup.{LsaGroup as GroupValue};
+ghost use Rattle.offer_index.specs.declared.lsa_group.LsaGroup.TheVariants as group_value;
 ghost use Rattle.offer_index.specs.Coarse.{MayHave};
+ghost use Rattle.offer_index.specs.Lists.{HasNoneFrom};
 
-use crate::group::Group;
+use crate::lsa_group::LsaGroup;
 use crate::marks::Marks;
 use ospf_types::key::Dest;
 use ospf_types::memory::Memory;
@@ -30,14 +31,14 @@ impl Coarse {
     }
 
     /// The group may have a key from now on.
-    pub(crate) fn note(&mut self, group: &Group) -> Result<(), Memory>
+    pub(crate) fn note(&mut self, group: &LsaGroup) -> Result<(), Memory>
         ensures kept { (g : GroupValue) → MayHave self.old g → MayHave self.new g }
         ensures noted { OnOk result (MayHave self.new group.now) }
     {
         match *group {
-            Group::To(dest) => self.note_dest(dest),
-            Group::By(_) => Ok(()),
-            Group::Forwarded(address) => self.blocks.put(address / 256),
+            LsaGroup::To(dest) => self.note_dest(dest),
+            LsaGroup::By(_) => Ok(()),
+            LsaGroup::Forwarded(address) => self.blocks.put(address / 256),
         }
     }
 
@@ -53,7 +54,8 @@ impl Coarse {
 
     /// Whether the group of a forwarding address from the first to the last may have a key.
     pub(crate) fn may_have_addresses(&self, first: u32, last: u32) -> bool
-        ensures { result ≡ false → (a : ℕ) → first ≤ a → a ≤ last → MayHave self.now (group_value.Forwarded a) → ⊥ }
+        ensures { result ≡ false →
+            HasNoneFrom first last (λ a. MayHave self.now (group_value.Forwarded a)) }
     {
         let block = first / 256;
         if last / 256 != block {

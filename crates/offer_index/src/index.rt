@@ -1,23 +1,18 @@
 //! The index of what is advertised.
-ghost use Rattle.std.specs.Prelude.{◌≡◌, ◌≢◌, ◌↔◌, ◌⊎◌, ◌≤◌, ◌<◌, ◌++◌, ℕ, List, Some, Contains, IsTrue, OnOk, OnErr, option_copied};
+ghost use Rattle.std.specs.Prelude.{◌≡◌, ◌≢◌, ◌↔◌, ◌≤◌, ◌<◌, ℕ, IsTrue, OnOk, OnErr, option_copied};
 ghost use Rattle.std.specs.FinMap as map;
-ghost use Rattle.std.specs.List.{AllPairs};
-ghost use Rattle.ospf_types.specs.declared.key.Dest.{Dest as DestValue};
 ghost use Rattle.ospf_types.specs.declared.key.Key.{Key as KeyValue};
 ghost use Rattle.ospf_types.specs.Address.{HasAddress};
 ghost use Rattle.ospf_types.specs.Keys.{key_cmp};
-ghost use Rattle.lsdb.specs.Contents.{body_at};
-ghost use Rattle.lsdb.specs.Databases.{Database as Lsas};
-ghost use Rattle.offer_index.specs.Advertised.{AdvertisedValue, advertised_at};
-ghost use Rattle.offer_index.specs.declared.group.Group.TheVariants as group_value;
-ghost use Rattle.offer_index.specs.declared.group.Group.{Group as GroupValue};
-ghost use Rattle.offer_index.specs.Indexes.{IsIndexOf, LsasDifferAmong, IsInGroup, IsLedTo, GroupLeadsTo, IsForwardedTo, IsForwardedInto, AreTouched};
-ghost use Rattle.offer_index.specs.Members.{IsMemberBy};
+ghost use Rattle.offer_index.specs.declared.lsa_group.LsaGroup.TheVariants as group_value;
+ghost use Rattle.offer_index.specs.Indexes.{empty_index, IsTakenAt, IsAlikeAt, AreAlikeBut, IsIndexOf, IsIndexBehind, IsInGroup, IsLedTo, GroupLeadsTo, IsForwardedTo, IsForwardedInto, HasDest, AreTouched};
+ghost use Rattle.offer_index.specs.Lists.{HasMore, HasMoreOnce, KeepsAll, HasAll, HasAtMost};
+ghost use Rattle.offer_index.specs.Members.{IsMemberBy, AreRoutesAlikeBut};
 ghost use Rattle.result_map.specs.Results.{result_at};
 
 use crate::advertised::{Advertised, advertised_under};
-use crate::affected::Affected;
-use crate::group::Group;
+use crate::changed_offers::ChangedOffers;
+use crate::lsa_group::LsaGroup;
 use crate::members::Members;
 use lsdb::Database;
 use ospf_types::key::{Dest, Key, Scope};
@@ -66,7 +61,7 @@ impl Model for OfferIndex {
 impl OfferIndex {
     /// The index of no LSAs.
     pub fn new(alloc: Global, hashing: RandomState) -> OfferIndex
-        ensures { result ≡ record { routes = map.empty } }
+        ensures { result ≡ empty_index }
     {
         OfferIndex {
             routes: ResultMap::new(alloc, hashing),
@@ -89,9 +84,9 @@ impl OfferIndex {
         scope: Scope,
         database: &Database,
         keys: &[(Scope, Key)],
-        affected: &mut Affected,
+        affected: &mut ChangedOffers,
     ) -> Result<(), Memory>
-        requires before { (before : Lsas) × IsIndexOf root scope before self.old × LsasDifferAmong keys.now scope before database.now.lsas }
+        requires before { IsIndexBehind root scope keys.now database.now.lsas self.old }
         ensures index { OnOk result (IsIndexOf root scope database.now.lsas self.new) }
         ensures touched { OnOk result (AreTouched self.old self.new affected.old affected.new) }
     {
@@ -107,9 +102,9 @@ impl OfferIndex {
         root: u32,
         scope: Scope,
         database: &Database,
-        affected: &mut Affected,
+        affected: &mut ChangedOffers,
     ) -> Result<(), Memory>
-        requires { self.old ≡ record { routes = map.empty } }
+        requires { self.old ≡ empty_index }
         ensures index { OnOk result (IsIndexOf root scope database.now.lsas self.new) }
         ensures touched { OnOk result (AreTouched self.old self.new affected.old affected.new) }
     {
@@ -120,8 +115,8 @@ impl OfferIndex {
     }
 
     /// Forgets all, and adds what it had to what is affected.
-    pub fn clear(&mut self, affected: &mut Affected) -> Result<(), Memory>
-        ensures cleared { OnOk result (self.new ≡ record { routes = map.empty }) }
+    pub fn clear(&mut self, affected: &mut ChangedOffers) -> Result<(), Memory>
+        ensures cleared { OnOk result (self.new ≡ empty_index) }
         ensures touched { OnOk result (AreTouched self.old self.new affected.old affected.new) }
     {
         self.touch_all(affected)?;
@@ -131,9 +126,10 @@ impl OfferIndex {
     }
 
     /// Adds the keys of the group, in no stated order, each once.
-    pub fn push_keys(&self, group: Group, keys: &mut Vec<Key>) -> Result<(), Memory>
-        ensures exact { OnOk result ((k : KeyValue) → Contains keys.new.items k ↔ (Contains keys.old.items k ⊎ IsInGroup self.now group k)) }
-        ensures each_once { OnOk result ((added : List KeyValue) × (keys.new.items ≡ keys.old.items ++ added) × AllPairs (λ j k. j ≢ k) added) }
+    pub fn list_keys(&self, group: LsaGroup, keys: &mut Vec<Key>) -> Result<(), Memory>
+        ensures exact { OnOk result
+            (HasMore (IsInGroup self.now group) keys.old.items keys.new.items) }
+        ensures each_once { OnOk result (HasMoreOnce keys.old.items keys.new.items) }
     {
         for (_, key) in self.members.among(&group, &group) {
             keys.push(*key)?;
@@ -142,18 +138,20 @@ impl OfferIndex {
     }
 
     /// Adds the destinations that the group leads to; some may stand there twice.
-    pub fn push_dests(&self, group: Group, dests: &mut Vec<Dest>) -> Result<(), Memory>
-        ensures { OnOk result ((d : DestValue) → Contains dests.new.items d ↔ (Contains dests.old.items d ⊎ GroupLeadsTo self.now group d)) }
+    pub fn list_dests(&self, group: LsaGroup, dests: &mut Vec<Dest>) -> Result<(), Memory>
+        ensures { OnOk result
+            (HasMore (GroupLeadsTo self.now group) dests.old.items dests.new.items) }
     {
         for (_, key) in self.members.among(&group, &group) {
-            self.push_dest(*key, dests)?;
+            self.list_dest(*key, dests)?;
         }
         Ok(())
     }
 
     /// Adds the forwarding addresses that lie in the network; some may stand there twice.
-    pub fn push_addresses(&self, network: Prefix, addresses: &mut Vec<u32>) -> Result<(), Memory>
-        ensures { OnOk result ((a : ℕ) → Contains addresses.new.items a ↔ (Contains addresses.old.items a ⊎ IsForwardedInto self.now network a)) }
+    pub fn list_addresses(&self, network: Prefix, addresses: &mut Vec<u32>) -> Result<(), Memory>
+        ensures { OnOk result
+            (HasMore (IsForwardedInto self.now network) addresses.old.items addresses.new.items) }
     {
         let (first, last) = (network.address(), last_address(network));
         if !self.members.may_have_addresses(first, last) {
@@ -183,7 +181,7 @@ impl OfferIndex {
     pub fn has_address(&self, address: u32) -> bool
         ensures { IsTrue result ↔ IsForwardedTo self.now address }
     {
-        let group = Group::Forwarded(address);
+        let group = LsaGroup::Forwarded(address);
         match self.members.among(&group, &group).next() {
             Some(_) => true,
             None => false,
@@ -199,10 +197,12 @@ impl OfferIndex {
         scope: Scope,
         database: &Database,
         named: (Scope, Key),
-        affected: &mut Affected,
+        affected: &mut ChangedOffers,
     ) -> Result<(), Memory>
-        ensures taken { OnOk result (named.0 ≡ scope → map.get self.new.routes named.1 ≡ advertised_at root scope named.1 (body_at database.now.lsas named.1)) }
-        ensures others { OnOk result ((k : KeyValue) → named ≢ (scope, k) → map.get self.new.routes k ≡ map.get self.old.routes k) }
+        ensures taken { OnOk result
+            (named.0 ≡ scope → IsTakenAt root scope named.1 database.now.lsas self.new) }
+        ensures others { OnOk result
+            ((k : KeyValue) → named ≢ (scope, k) → IsAlikeAt self.old self.new k) }
         ensures touched { OnOk result (AreTouched self.old self.new affected.old affected.new) }
     {
         let (of, key) = named;
@@ -219,10 +219,10 @@ impl OfferIndex {
         scope: Scope,
         database: &Database,
         key: Key,
-        affected: &mut Affected,
+        affected: &mut ChangedOffers,
     ) -> Result<(), Memory>
-        ensures taken { OnOk result (map.get self.new.routes key ≡ advertised_at root scope key (body_at database.now.lsas key)) }
-        ensures others { OnOk result ((k : KeyValue) → k ≢ key → map.get self.new.routes k ≡ map.get self.old.routes k) }
+        ensures taken { OnOk result (IsTakenAt root scope key database.now.lsas self.new) }
+        ensures others { OnOk result (AreAlikeBut key self.old self.new) }
         ensures touched { OnOk result (AreTouched self.old self.new affected.old affected.new) }
     {
         let fresh = advertised_under(root, scope, key, database);
@@ -237,10 +237,10 @@ impl OfferIndex {
         &mut self,
         key: Key,
         fresh: Option<Advertised>,
-        affected: &mut Affected,
+        affected: &mut ChangedOffers,
     ) -> Result<(), Memory>
         ensures taken { OnOk result (map.get self.new.routes key ≡ fresh) }
-        ensures others { OnOk result ((k : KeyValue) → k ≢ key → map.get self.new.routes k ≡ map.get self.old.routes k) }
+        ensures others { OnOk result (AreAlikeBut key self.old self.new) }
         ensures touched { OnOk result (AreTouched self.old self.new affected.old affected.new) }
     {
         let old = self.route(key).copied();
@@ -250,7 +250,7 @@ impl OfferIndex {
         Ok(())
     }
 
-    // This is advertised under the key in the place of what was. Where memory is refused, all is as it was.
+    // This is advertised under the key in the place of what was. If memory runs out, all is as it was.
     fn put(
         &mut self,
         key: Key,
@@ -259,7 +259,7 @@ impl OfferIndex {
     ) -> Result<(), Memory>
         requires { map.get self.old.routes key ≡ option_copied old }
         ensures taken { OnOk result (map.get self.new.routes key ≡ option_copied fresh.entry) }
-        ensures others { OnOk result ((k : KeyValue) → k ≢ key → map.get self.new.routes k ≡ map.get self.old.routes k) }
+        ensures others { OnOk result (AreAlikeBut key self.old self.new) }
         ensures unchanged { OnErr result (self.new ≡ self.old) }
     {
         match put_in(&mut self.members, &mut self.routes, key, fresh) {
@@ -275,8 +275,8 @@ impl OfferIndex {
     }
 
     // All that is advertised is affected.
-    fn touch_all(&self, affected: &mut Affected) -> Result<(), Memory>
-        ensures { OnOk result (AreTouched self.now (record { routes = map.empty }) affected.old affected.new) }
+    fn touch_all(&self, affected: &mut ChangedOffers) -> Result<(), Memory>
+        ensures { OnOk result (AreTouched self.now empty_index affected.old affected.new) }
     {
         let keys = self.routes.keys(*affected.dests.allocator())?;
         for key in keys.as_slice() {
@@ -286,8 +286,9 @@ impl OfferIndex {
     }
 
     // Adds what the key leads to.
-    fn push_dest(&self, key: Key, dests: &mut Vec<Dest>) -> Result<(), Memory>
-        ensures { OnOk result ((d : DestValue) → Contains dests.new.items d ↔ (Contains dests.old.items d ⊎ ((a : AdvertisedValue) × (map.get self.now.routes key ≡ Some a) × (a.dest ≡ d)))) }
+    fn list_dest(&self, key: Key, dests: &mut Vec<Dest>) -> Result<(), Memory>
+        ensures { OnOk result
+            (HasMore (HasDest (map.get self.now.routes key)) dests.old.items dests.new.items) }
     {
         let Some(route) = self.route(key) else {
             return Ok(());
@@ -297,29 +298,31 @@ impl OfferIndex {
     }
 }
 
-// The route comes to stand under the key, and the key in the groups that it is of, beside those where it was. Where memory
-// is refused, the routes are as they were, and the key stands in some of the groups.
+// The route comes to stand under the key, and the key in the groups that it is of, beside those where it was. If memory
+// runs out, the routes are as they were, and the key stands in some of the groups.
 fn put_in(
     members: &mut Members,
     routes: &mut ResultMap<Key, Advertised>,
     key: Key,
     fresh: Option<&Advertised>,
 ) -> Result<(), Memory>
-    ensures kept { (m : GroupValue × KeyValue) → Contains members.old m → Contains members.new m }
-    ensures only { (m : GroupValue × KeyValue) → Contains members.new m → Contains members.old m ⊎ IsMemberBy (option_copied fresh.entry) key m }
-    ensures listed { OnOk result ((m : GroupValue × KeyValue) → IsMemberBy (option_copied fresh.entry) key m → Contains members.new m) }
+    ensures kept { KeepsAll members.old members.new }
+    ensures only { HasAtMost (IsMemberBy (option_copied fresh.entry) key) members.old members.new }
+    ensures listed { OnOk result (HasAll (IsMemberBy (option_copied fresh.entry) key) members.new) }
     ensures here { OnOk result (result_at key_cmp routes.new key ≡ option_copied fresh.entry) }
-    ensures others { OnOk result ((k : KeyValue) → k ≢ key → result_at key_cmp routes.new k ≡ result_at key_cmp routes.old k) }
+    ensures others { OnOk result (AreRoutesAlikeBut key routes.old routes.new) }
     ensures unchanged { OnErr result (routes.new.entries ≡ routes.old.entries) }
 {
     members.list(key, fresh)?;
-    routes.renew(key, fresh.copied())?;
+    routes.update(key, fresh.copied())?;
     Ok(())
 }
 
 // Adds the address, if it lies in the network.
 fn push_inside(network: Prefix, address: u32, addresses: &mut Vec<u32>) -> Result<(), Memory>
-    ensures { OnOk result ((a : ℕ) → Contains addresses.new.items a ↔ (Contains addresses.old.items a ⊎ ((a ≡ address) × HasAddress network a))) }
+    ensures { OnOk result
+        (HasMore (λ a. (a ≡ address) × HasAddress network a)
+        addresses.old.items addresses.new.items) }
 {
     if network.contains(address) {
         addresses.push(address)?;

@@ -1,15 +1,14 @@
 //! The keys of each group.
-ghost use Rattle.std.specs.Prelude.{◌≡◌, ◌≢◌, ◌↔◌, ◌⊎◌, ◌≤◌, ℕ, [], false, IsTrue, OnOk, Contains, option_copied};
+ghost use Rattle.std.specs.Prelude.{◌≡◌, ◌≢◌, ◌↔◌, ◌≤◌, ℕ, [], false, IsTrue, OnOk, Contains, option_copied};
 ghost use Rattle.std.specs.List.{All, AllPairs};
-ghost use Rattle.ospf_types.specs.declared.key.Key.{Key as KeyValue};
-ghost use Rattle.offer_index.specs.declared.group.Group.{Group as GroupValue};
-ghost use Rattle.offer_index.specs.declared.group.Group.TheVariants as group_value;
-ghost use Rattle.offer_index.specs.Members.{HasSmallKey, IsSmall, IsNotAfter, IsOf, IsMemberBy};
+ghost use Rattle.offer_index.specs.declared.lsa_group.LsaGroup.TheVariants as group_value;
+ghost use Rattle.offer_index.specs.Lists.{KeepsAll, HasAll, HasAtMost, KeepsThese, KeepsOnly, HasNoneFrom, HasThoseFrom};
+ghost use Rattle.offer_index.specs.Members.{HasSmallKey, IsSmall, IsNotAfter, IsOf, IsMemberBy, IsStillBy, IsNoneBut, HasAllBetween, AreAllBetween};
 ghost use Rattle.offer_index.specs.Noted.{AreNoted, AreNotedBut, HasKey};
 
 use crate::advertised::Advertised;
 use crate::coarse::Coarse;
-use crate::group::Group;
+use crate::lsa_group::LsaGroup;
 use crate::noted::Noted;
 use ospf_types::key::{Dest, Key};
 use ospf_types::memory::Memory;
@@ -33,7 +32,7 @@ const LAST: Key = Key {
 };
 
 /// A group and a key in it.
-pub(crate) type Member = (Group, Key);
+pub(crate) type Member = (LsaGroup, Key);
 
 /// The keys of each group, in the order of the groups.
 pub(crate) struct Members {
@@ -58,8 +57,8 @@ impl Model for Members {
     ghost use Rattle.std.specs.Coded.{codes};
     ghost use Rattle.std.specs.List.{All};
     ghost use Rattle.ospf_types.specs.declared.key.Key.{Key as KeyValue};
-    ghost use Rattle.offer_index.specs.declared.group.Group.{Group as GroupValue};
-    ghost use Rattle.offer_index.specs.contracts.group.Group as group;
+    ghost use Rattle.offer_index.specs.declared.lsa_group.LsaGroup.{LsaGroup as GroupValue};
+    ghost use Rattle.offer_index.specs.contracts.lsa_group.LsaGroup as group;
     ghost use Rattle.offer_index.specs.Members.{HasSmallKey};
 
     ghost Value = { List (GroupValue × KeyValue) };
@@ -86,38 +85,43 @@ impl Members {
         }
     }
 
-    /// Puts the key into each group that the route is of; where memory is refused, into some of them.
+    /// Puts the key into each group that the route is of; if memory runs out, into some of them.
     pub(crate) fn list(&mut self, key: Key, route: Option<&Advertised>) -> Result<(), Memory>
-        ensures kept { (m : GroupValue × KeyValue) → Contains self.old m → Contains self.new m }
-        ensures only { (m : GroupValue × KeyValue) → Contains self.new m → Contains self.old m ⊎ IsMemberBy (option_copied route.entry) key m }
-        ensures listed { OnOk result ((m : GroupValue × KeyValue) → IsMemberBy (option_copied route.entry) key m → Contains self.new m) }
+        ensures kept { KeepsAll self.old self.new }
+        ensures only { HasAtMost (IsMemberBy (option_copied route.entry) key) self.old self.new }
+        ensures listed { OnOk result
+            (HasAll (IsMemberBy (option_copied route.entry) key) self.new) }
     {
         let Some(route) = route else {
             return Ok(());
         };
-        self.add(Group::To(route.dest()), key)?;
-        self.add(Group::By(key.router), key)?;
+        self.add(LsaGroup::To(route.dest()), key)?;
+        self.add(LsaGroup::By(key.router), key)?;
         if route.forwarding() == 0 {
             return Ok(());
         }
-        self.add(Group::Forwarded(route.forwarding()), key)?;
+        self.add(LsaGroup::Forwarded(route.forwarding()), key)?;
         Ok(())
     }
 
     /// Takes the key out of the groups that the one route is of and the other is not.
     pub(crate) fn leave(&mut self, key: Key, gone: Option<&Advertised>, stays: Option<&Advertised>)
-        ensures kept { (m : GroupValue × KeyValue) → Contains self.old m → (IsMemberBy (option_copied gone.entry) key m → IsMemberBy (option_copied stays.entry) key m) → Contains self.new m }
-        ensures only { (m : GroupValue × KeyValue) → Contains self.new m → Contains self.old m × (IsMemberBy (option_copied gone.entry) key m → IsMemberBy (option_copied stays.entry) key m) }
+        ensures kept { KeepsThese
+            (IsStillBy (option_copied gone.entry) (option_copied stays.entry) key)
+            self.old self.new }
+        ensures only { KeepsOnly
+            (IsStillBy (option_copied gone.entry) (option_copied stays.entry) key)
+            self.old self.new }
     {
         let Some(gone) = gone else {
             return;
         };
-        self.leave_group(Group::To(gone.dest()), key, stays);
-        self.leave_group(Group::By(key.router), key, stays);
+        self.leave_group(LsaGroup::To(gone.dest()), key, stays);
+        self.leave_group(LsaGroup::By(key.router), key, stays);
         if gone.forwarding() == 0 {
             return;
         }
-        self.leave_group(Group::Forwarded(gone.forwarding()), key, stays);
+        self.leave_group(LsaGroup::Forwarded(gone.forwarding()), key, stays);
     }
 
     pub(crate) fn clear(&mut self)
@@ -148,7 +152,8 @@ impl Members {
 
     /// Whether the group of a forwarding address from the first to the last may have a key. If not, none has.
     pub(crate) fn may_have_addresses(&self, first: u32, last: u32) -> bool
-        ensures { result ≡ false → (a : ℕ) → first ≤ a → a ≤ last → HasKey self.now (group_value.Forwarded a) → ⊥ }
+        ensures { result ≡ false →
+            HasNoneFrom first last (λ a. HasKey self.now (group_value.Forwarded a)) }
     {
         self.coarse.may_have_addresses(first, last)
     }
@@ -156,16 +161,16 @@ impl Members {
     /// The forwarding addresses from the first to the last whose groups have a key.
     pub(crate) fn addresses(&self, first: u32, last: u32) -> Range<'_, u32>
         requires { first ≤ last }
-        ensures { (a : ℕ) → Contains result a ↔ (HasKey self.now (group_value.Forwarded a) × (first ≤ a) × (a ≤ last)) }
+        ensures { HasThoseFrom first last (λ a. HasKey self.now (group_value.Forwarded a)) result }
     {
         self.noted.addresses(first, last)
     }
 
     /// The keys of the groups from the first to the last.
-    pub(crate) fn among(&self, first: &Group, last: &Group) -> Range<'_, Member>
+    pub(crate) fn among(&self, first: &LsaGroup, last: &LsaGroup) -> Range<'_, Member>
         requires { IsNotAfter first.now last.now }
-        ensures all { (m : GroupValue × KeyValue) → Contains self.now m → IsNotAfter first.now m.0 → IsNotAfter m.0 last.now → Contains result m }
-        ensures only { (m : GroupValue × KeyValue) → Contains result m → Contains self.now m × IsNotAfter first.now m.0 × IsNotAfter m.0 last.now }
+        ensures all { HasAllBetween first.now last.now self.now result }
+        ensures only { AreAllBetween first.now last.now self.now result }
         ensures each_once { AllPairs (λ m n. m ≢ n) result }
     {
         between(&self.members, first, last)
@@ -174,9 +179,9 @@ impl Members {
 
 impl Members {
     // Puts the key into the group.
-    fn add(&mut self, group: Group, key: Key) -> Result<(), Memory>
-        ensures kept { (m : GroupValue × KeyValue) → Contains self.old m → Contains self.new m }
-        ensures only { (m : GroupValue × KeyValue) → Contains self.new m → Contains self.old m ⊎ (m ≡ (group, key)) }
+    fn add(&mut self, group: LsaGroup, key: Key) -> Result<(), Memory>
+        ensures kept { KeepsAll self.old self.new }
+        ensures only { HasAtMost (λ m. m ≡ (group, key)) self.old self.new }
         ensures added { OnOk result (Contains self.new (group, key)) }
     {
         self.coarse.note(&group)?;
@@ -191,9 +196,11 @@ impl Members {
     }
 
     // Takes the key out of the group, unless the route is of it.
-    fn leave_group(&mut self, group: Group, key: Key, stays: Option<&Advertised>)
-        ensures kept { (m : GroupValue × KeyValue) → Contains self.old m → (m ≡ (group, key) → IsOf (option_copied stays.entry) key group) → Contains self.new m }
-        ensures only { (m : GroupValue × KeyValue) → Contains self.new m → Contains self.old m × (m ≡ (group, key) → IsOf (option_copied stays.entry) key group) }
+    fn leave_group(&mut self, group: LsaGroup, key: Key, stays: Option<&Advertised>)
+        ensures kept { KeepsThese
+            (IsNoneBut (option_copied stays.entry) key group) self.old self.new }
+        ensures only { KeepsOnly
+            (IsNoneBut (option_copied stays.entry) key group) self.old self.new }
     {
         if is_of(stays, &group, key) {
             return;
@@ -204,18 +211,22 @@ impl Members {
 }
 
 // The keys of the groups from the first to the last.
-fn between<'a>(members: &'a BTreeSet<Member>, first: &Group, last: &Group) -> Range<'a, Member>
+fn between<'a>(
+    members: &'a BTreeSet<Member>,
+    first: &LsaGroup,
+    last: &LsaGroup,
+) -> Range<'a, Member>
     requires small { All HasSmallKey members.now.keys }
     requires in_order { IsNotAfter first.now last.now }
-    ensures all { (m : GroupValue × KeyValue) → Contains members.now.keys m → IsNotAfter first.now m.0 → IsNotAfter m.0 last.now → Contains result m }
-    ensures only { (m : GroupValue × KeyValue) → Contains result m → Contains members.now.keys m × IsNotAfter first.now m.0 × IsNotAfter m.0 last.now }
+    ensures all { HasAllBetween first.now last.now members.now.keys result }
+    ensures only { AreAllBetween first.now last.now members.now.keys result }
     ensures each_once { AllPairs (λ m n. m ≢ n) result }
 {
     members.range((*first, FIRST)..=(*last, LAST))
 }
 
 // Forgets the group if it has no key.
-fn forget_without_keys(members: &BTreeSet<Member>, noted: &mut Noted, group: &Group)
+fn forget_without_keys(members: &BTreeSet<Member>, noted: &mut Noted, group: &LsaGroup)
     requires small { All HasSmallKey members.now.keys }
     requires before { AreNotedBut group.now members.now.keys noted.old }
     ensures { AreNoted members.now.keys noted.new }
@@ -227,7 +238,7 @@ fn forget_without_keys(members: &BTreeSet<Member>, noted: &mut Noted, group: &Gr
 }
 
 // Whether there is a route, and it is of the group.
-fn is_of(route: Option<&Advertised>, group: &Group, key: Key) -> bool
+fn is_of(route: Option<&Advertised>, group: &LsaGroup, key: Key) -> bool
     ensures { IsTrue result ↔ IsOf (option_copied route.entry) key group.now }
 {
     match route {

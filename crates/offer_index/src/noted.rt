@@ -1,10 +1,11 @@
 //! The groups that have a key, as far as it pays to know that at once: those of destinations and of forwarding addresses.
-ghost use Rattle.std.specs.Prelude.{◌≡◌, ◌≢◌, ◌↔◌, ◌⊎◌, ◌≤◌, ℕ, IsTrue, OnOk, OnErr, Contains};
-ghost use Rattle.offer_index.specs.declared.group.Group.{Group as GroupValue};
-ghost use Rattle.offer_index.specs.declared.group.Group.TheVariants as group_value;
-ghost use Rattle.offer_index.specs.Noted.{IsNotable, IsNoted};
+ghost use Rattle.std.specs.Prelude.{◌≢◌, ◌↔◌, ◌≤◌, ℕ, IsTrue, OnOk, OnErr};
+ghost use Rattle.offer_index.specs.declared.lsa_group.LsaGroup.{LsaGroup as GroupValue};
+ghost use Rattle.offer_index.specs.declared.lsa_group.LsaGroup.TheVariants as group_value;
+ghost use Rattle.offer_index.specs.Lists.{HasThoseFrom};
+ghost use Rattle.offer_index.specs.Noted.{IsNotable, IsNoted, NotesNoMore, NotesAtMost};
 
-use crate::group::Group;
+use crate::lsa_group::LsaGroup;
 use indexmap::IndexSet;
 use ospf_types::key::Dest;
 use ospf_types::memory::Memory;
@@ -41,18 +42,18 @@ impl Noted {
     }
 
     /// Notes the group.
-    pub(crate) fn note(&mut self, group: &Group) -> Result<(), Memory>
+    pub(crate) fn note(&mut self, group: &LsaGroup) -> Result<(), Memory>
         ensures kept { (g : GroupValue) → IsNoted self.old g → IsNoted self.new g }
-        ensures only { (g : GroupValue) → IsNoted self.new g → IsNoted self.old g ⊎ (g ≡ group.now) }
+        ensures only { NotesAtMost group.now self.old self.new }
         ensures noted { OnOk result (IsNotable group.now → IsNoted self.new group.now) }
-        ensures unchanged { OnErr result ((g : GroupValue) → IsNoted self.new g → IsNoted self.old g) }
+        ensures unchanged { OnErr result (NotesNoMore self.old self.new) }
     {
         match *group {
-            Group::To(dest) => {
+            LsaGroup::To(dest) => {
                 self.dests.insert(dest)?;
             }
-            Group::By(_) => {}
-            Group::Forwarded(address) => {
+            LsaGroup::By(_) => {}
+            LsaGroup::Forwarded(address) => {
                 self.addresses.insert(address)?;
             }
         }
@@ -60,17 +61,17 @@ impl Noted {
     }
 
     /// Forgets the group.
-    pub(crate) fn forget(&mut self, group: &Group)
+    pub(crate) fn forget(&mut self, group: &LsaGroup)
         ensures gone { IsNoted self.new group.now → ⊥ }
-        ensures only { (g : GroupValue) → IsNoted self.new g → IsNoted self.old g }
+        ensures only { NotesNoMore self.old self.new }
         ensures kept { (g : GroupValue) → IsNoted self.old g → g ≢ group.now → IsNoted self.new g }
     {
         match *group {
-            Group::To(dest) => {
+            LsaGroup::To(dest) => {
                 self.dests.swap_remove(&dest);
             }
-            Group::By(_) => {}
-            Group::Forwarded(address) => {
+            LsaGroup::By(_) => {}
+            LsaGroup::Forwarded(address) => {
                 self.addresses.remove(&address);
             }
         }
@@ -104,7 +105,7 @@ impl Noted {
     /// The forwarding addresses from the first to the last.
     pub(crate) fn addresses(&self, first: u32, last: u32) -> Range<'_, u32>
         requires { first ≤ last }
-        ensures { (a : ℕ) → Contains result a ↔ (IsNoted self.now (group_value.Forwarded a) × (first ≤ a) × (a ≤ last)) }
+        ensures { HasThoseFrom first last (λ a. IsNoted self.now (group_value.Forwarded a)) result }
     {
         self.addresses.range(first..=last)
     }

@@ -13,7 +13,7 @@ use Rattle.ospf_types.specs.Lsa.{Lsa, MaxAge}
 abbrev pub MaxAgeDiff : ℕ
 MaxAgeDiff = 900
 
--- The greater is newer: the one whose age alone is MaxAge; else, where the ages differ by more than MaxAgeDiff, the younger.
+-- The greater is newer: the only one at MaxAge; else, if the ages differ by more than MaxAgeDiff, the younger (RFC 2328, 13.1).
 abbrev pub age_cmp : ℕ → ℕ → Ordering
 age_cmp x y =
     if x == y then Equal
@@ -34,7 +34,7 @@ newer_by Equal = Same
 abbrev pub newer_of : Header → Header → Newer
 newer_of a b = newer_by (instance_cmp a b)
 
--- the answer that speaks of the same instance where the two are handed in the other way round
+-- the answer that speaks of the same instance if the two are handed in the other way round
 abbrev pub swapped : Newer → Newer
 swapped First = Second
 swapped Second = First

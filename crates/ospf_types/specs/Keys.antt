@@ -15,7 +15,7 @@ use Rattle.ospf_types.specs.Network.{network_cmp, network_word}
 abbrev pub key_cmp : Key → Key → Ordering
 key_cmp a b = ordering_then (nat_cmp a.kind b.kind) (ordering_then (nat_cmp a.id b.id) (nat_cmp a.router b.router))
 
--- as three numbers
+-- a key, coded as three numbers
 abbrev pub key_code : Coded Key
 key_code =
     code_by (ℕ × (ℕ × ℕ)) (coded× coded_ℕ (coded× coded_ℕ coded_ℕ)) (λ k. (k.kind, (k.id, k.router))) (λ p. record { kind = p.0; id = p.1.0; router = p.1.1 }) (λ _. refl)

@@ -13,7 +13,7 @@ pub record Network : Type 0 where
 abbrev pub network_cmp : Network → Network → Ordering
 network_cmp p q = ordering_then (nat_cmp p.address q.address) (nat_cmp p.length q.length)
 
--- as a pair of numbers
+-- a network, coded as a pair of numbers
 abbrev pub network_code : Coded Network
 network_code =
     code_by (ℕ × ℕ) (coded× coded_ℕ coded_ℕ) (λ p. (p.address, p.length)) (λ p. record { address = p.0; length = p.1 }) (λ _. refl)

@@ -1,4 +1,4 @@
--- What becomes of an area's ranges where one is set, or dropped (RFC 2328, 3.5), and what stays.
+-- What becomes of an area's ranges if one is set or dropped (RFC 2328, 3.5), and what stays.
 use Rattle.std.specs.Prelude.{ℕ, ◌==◌, ◌&&◌, Bool, not, List, [], ◌∷◌, map, filter, if◌then◌else◌}
 use Rattle.std.specs.List.{list_any}
 use Rattle.std.specs.Ordering.{is_lt}
@@ -15,7 +15,7 @@ is_same_prefix p q = (p.address == q.address) && (p.length == q.length)
 abbrev pub has_range : Prefix → List Range → Bool
 has_range p ranges = list_any (λ r. is_same_prefix p r.prefix) ranges
 
--- the range, where the other has its prefix; else the other
+-- the range, if the other has its prefix; else the other
 abbrev pub in_place : Range → Range → Range
 in_place r other = if is_same_prefix r.prefix other.prefix then r else other
 
@@ -24,7 +24,7 @@ abbrev pub in_order : Range → List Range → List Range
 in_order r [] = r ∷ []
 in_order r (other ∷ ranges) = if is_lt (network_cmp r.prefix other.prefix) then r ∷ other ∷ ranges else other ∷ in_order r ranges
 
--- A range takes the place of the one with its prefix; where there is none, it comes in order.
+-- A range takes the place of the one with its prefix; if there is none, it comes in order.
 abbrev pub set_range : Range → List Range → List Range
 set_range r ranges = if has_range r.prefix ranges then map (in_place r) ranges else in_order r ranges
 
@@ -36,7 +36,7 @@ drop_range p ranges = filter (λ r. not (is_same_prefix p r.prefix)) ranges
 abbrev pub with_others : AreaConfig → List Range → AreaConfig
 with_others a ranges = record a { ranges = ranges }
 
--- the areas, where the ranges of the one with this Area ID are changed so
+-- the areas, of which the one with this Area ID has its ranges changed so
 abbrev pub with_ranges : List AreaConfig → ℕ → (List Range → List Range) → List AreaConfig
 with_ranges areas id change = map (λ (a : AreaConfig). if a.id == id then with_others a (change a.ranges) else a) areas
 

@@ -49,6 +49,6 @@ area_text (Some area) = address_text area
 abbrev pub entry_text : Entry → List ℕ
 entry_text e = kind_text e.kind ++ codes " " ++ area_text e.area ++ codes " " ++ decimal e.cost ++ codes " " ++ decimal e.cost2 ++ codes " " ++ paths_text e.paths
 
--- the refusal for want of memory
+-- the refusal because memory ran out
 abbrev pub memory_text : List ℕ
 memory_text = codes "30 Memory"

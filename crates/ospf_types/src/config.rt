@@ -5,7 +5,7 @@ use crate::memory::Memory;
 use crate::prefix::Prefix;
 use std::alloc::Global;
 
-/// An interface of the root (RFC 2328, 9). It is on a point-to-point link where it has a peer.
+/// An interface of the root (RFC 2328, 9). It is on a point-to-point link if it has a peer.
 #[derive(Clone, Copy, Debug, PartialEq, Eq, Hash)]
 pub struct Interface {
     /// The Area ID.

@@ -42,7 +42,7 @@ impl Vertex {
 // Above the numbers of routers.
 const NETWORKS: u64 = 1 << 32;
 
-// As one word: a shortest-path search hashes vertices more than it does anything else.
+// A vertex is hashed as one word: a shortest-path search hashes vertices more than anything else.
 impl Hash for Vertex {
     ghost use Rattle.std.specs.Hash as fed;
     ghost use Rattle.std.specs.Cmp.Rules.{hashing};
@@ -135,7 +135,7 @@ pub struct Entry {
     pub kind: PathType,
     /// The Area ID of the area that its paths share; none for an external route.
     pub area: Option<u32>,
-    /// The cost; the distance alone for a type 2 external route.
+    /// The cost; for a type 2 external route only the distance.
     pub cost: u32,
     /// The metric of a type 2 external route, and 0 elsewhere.
     pub cost2: u32,

@@ -102,7 +102,7 @@ impl Prefix {
     }
 }
 
-// As one word: a look-up of an address hashes a network for each length that it tries.
+// A network is hashed as one word: a look-up of an address hashes one for each length that it tries.
 impl Hash for Prefix {
     ghost use Rattle.std.specs.Hash as fed;
     ghost use Rattle.std.specs.Cmp.Rules.{hashing};

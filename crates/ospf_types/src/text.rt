@@ -46,7 +46,7 @@ impl fmt::Display for NextHop {
     }
 }
 
-/// The next hop, and where there is an advertiser its Router ID behind an `@`.
+/// The next hop, and if there is an advertiser, its Router ID behind an `@`.
 impl fmt::Display for Path {
     ghost output = { λ path. Some (path_text path) };
 

@@ -5,7 +5,7 @@ use Rattle.std.proofs.lemmas.List.{append-nil}
 use prog.Atomic.{either}
 use Rattle.logbook.specs.Pages.{Cell, cell, Nib, keeps, gives, adds, no_nib, may_write, step, Moves}
 use Rattle.publication.specs.declared.history.Page.{Page}
-use Rattle.publication.specs.Law.{IsHome, IsKept, AreOthers, Makes, Looks, Adds}
+use Rattle.publication.specs.HistoryRules.{IsHome, IsKept, AreOthers, Makes, Looks, Adds}
 
 abbrev pub shown : List Page → List Page
 shown log = []

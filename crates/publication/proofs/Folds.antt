@@ -16,8 +16,8 @@ use Rattle.route_table.specs.Deltas.{changed, changes_to, Lead}
 use Rattle.route_table.proofs.Folding.{give}
 use Rattle.publication.specs.Lines.{Line}
 use Rattle.publication.specs.Published.{IsTableFor}
-use Rattle.publication.specs.Updates.{updated, gifts, all_of, those_of, ends, whole, deltas, IsRightFace}
-use Rattle.publication.specs.declared.shown.Face.{Face}
+use Rattle.publication.specs.Updates.{updated, gifts, all_of, those_of, ends, whole, deltas, IsRightState}
+use Rattle.publication.specs.declared.shown.ShownState.{ShownState}
 use Rattle.publication.specs.declared.shown.Update.{Update}
 use Rattle.publication.specs.declared.shown.Update.TheVariants as update
 
@@ -25,28 +25,28 @@ abbrev Items : Type 0
 Items = FinMap network_cmp Item
 
 -- no update changes the base
-keeps_one : (f : Face) (u : Update) → (updated f u).base ≡ f.base
+keeps_one : (f : ShownState) (u : Update) → (updated f u).base ≡ f.base
 keeps_one f (update.Change c) = refl
 keeps_one f (update.List l) = refl
 
-keeps_base : (f : Face) (us : List Update) → (fold updated f us).base ≡ f.base
+keeps_base : (f : ShownState) (us : List Update) → (fold updated f us).base ≡ f.base
 keeps_base f [] = refl
 keeps_base f (u ∷ us) = keeps_base (updated f u) us ∙ keeps_one f u
 
 -- changes change the table alone
-changes_fold : (f : Face) (cs : List Change) → fold updated f (map (λ c. update.Change c) cs) ≡ record f { table = fold changed f.table cs }
+changes_fold : (f : ShownState) (cs : List Change) → fold updated f (map (λ c. update.Change c) cs) ≡ record f { table = fold changed f.table cs }
 changes_fold f [] = refl
 changes_fold f (c ∷ cs) = changes_fold (updated f (update.Change c)) cs
 
 -- changes that lead to the items of a table, and then its list
-ends_right : (f : Face) (t : TableValue) (cs : List (Network × Option Item)) (line : Line) → Lead f.table.items t.items cs → IsTableFor f.base line.list t
-    → IsRightFace line f.base (fold updated f (gifts cs ++ ends t.serial line))
+ends_right : (f : ShownState) (t : TableValue) (cs : List (Network × Option Item)) (line : Line) → Lead f.table.items t.items cs → IsTableFor f.base line.list t
+    → IsRightState line f.base (fold updated f (gifts cs ++ ends t.serial line))
 ends_right f t cs line lead right =
     let table : fold changed f.table (changes_to cs) ≡ record f.table { items = t.items } = give f.table t.items cs lead in
     let g : fold updated f (gifts cs) ≡ record f { table = record f.table { items = t.items } } = changes_fold f (changes_to cs) ∙ ap (λ (u : TableValue). record f { table = u }) table in
     let all : fold updated f (gifts cs ++ ends t.serial line) ≡ record { table = t; front = line; base = f.base } =
-    fold-append updated f (gifts cs) (ends t.serial line) ∙ ap (λ (h : Face). fold updated h (ends t.serial line)) g in
-    subst (IsRightFace line f.base) (sym all) (record { right = right; front = refl; base_is = refl })
+    fold-append updated f (gifts cs) (ends t.serial line) ∙ ap (λ (h : ShownState). fold updated h (ends t.serial line)) g in
+    subst (IsRightState line f.base) (sym all) (record { right = right; front = refl; base_is = refl })
 
 abbrev no_items : Items
 no_items = empty
@@ -65,20 +65,20 @@ nothing_leads items = record { given = given; others = λ p. others p (get items
     others p (Some i) is = inr (subst (λ (o : Option Item). Contains (all_of items) (p, o)) (sym is) (mapped_element (λ (e : Network × Item). (e.0, Some e.1)) (entries items) (p, i) (value_at items p i network_exact is)))
 
 -- one more of the networks that are left
-pub laid_one : (before after all : List Update) (c : Network × Option Item) (left : List (Network × Option Item)) → before ++ gifts (c ∷ left) ≡ all → after ≡ before ++ gifts (c ∷ []) → after ++ gifts left ≡ all
-laid_one before after all c left whole is = ap (λ (us : List Update). us ++ gifts left) is ∙ append_assoc before (gifts (c ∷ [])) (gifts left) ∙ whole
+pub appended_one : (before after all : List Update) (c : Network × Option Item) (left : List (Network × Option Item)) → before ++ gifts (c ∷ left) ≡ all → after ≡ before ++ gifts (c ∷ []) → after ++ gifts left ≡ all
+appended_one before after all c left whole is = ap (λ (us : List Update). us ++ gifts left) is ∙ append_assoc before (gifts (c ∷ [])) (gifts left) ∙ whole
 
 -- a whole table, after whatever is pending
-pub gives_whole : (f : Face) (pending : List Update) (t : TableValue) (line : Line) → IsTableFor f.base line.list t → IsRightFace line f.base (fold updated f (pending ++ whole t line))
+pub gives_whole : (f : ShownState) (pending : List Update) (t : TableValue) (line : Line) → IsTableFor f.base line.list t → IsRightState line f.base (fold updated f (pending ++ whole t line))
 gives_whole f pending t line right =
     let g = fold updated f pending in
     let h = updated g (update.Change Clear) in
     let base : h.base ≡ f.base = keeps_base f pending in
     let end = ends_right h t (all_of t.items) line (nothing_leads t.items) (subst (λ (b : Base). IsTableFor b line.list t) (sym base) right) in
     let e = fold-append updated f pending (whole t line) in
-    subst (λ (z : Base × Face). IsRightFace line z.0 z.1) (λ i. (base i, sym e i)) end
+    subst (λ (z : Base × ShownState). IsRightState line z.0 z.1) (λ i. (base i, sym e i)) end
 
 -- what changed, where nothing is pending
-pub gives_changes : (f : Face) (networks : List Network) (t : TableValue) (line : Line) → Lead f.table.items t.items (those_of t.items networks) → IsTableFor f.base line.list t
-    → IsRightFace line f.base (fold updated f (deltas networks t line))
+pub gives_changes : (f : ShownState) (networks : List Network) (t : TableValue) (line : Line) → Lead f.table.items t.items (those_of t.items networks) → IsTableFor f.base line.list t
+    → IsRightState line f.base (fold updated f (deltas networks t line))
 gives_changes f networks t line lead right = ends_right f t (those_of t.items networks) line lead right

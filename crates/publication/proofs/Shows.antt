@@ -7,18 +7,18 @@ use Rattle.publication.specs.declared.shown.Shown.{Shown}
 use Rattle.publication.specs.declared.shown.Update.{Update}
 use Rattle.publication.specs.Lines.{Line}
 use Rattle.publication.specs.Names.{Name}
-use Rattle.publication.specs.Updates.{updated, face_of, IsRightFace}
+use Rattle.publication.specs.Updates.{updated, shown_state_of, IsRightState}
 use Rattle.publication.proofs.Prefixes.{prefix_self}
 use Rattle.publication.specs.Published.{IsShownRight, IsTableFor, name_of, Saw}
 
 -- what the pending updates give is right, and has the name of what is shown
 pub gives_right : (x next : Shown) (us : List Update) (line : Line)
-    → face_of next ≡ fold updated (face_of x) us
-    → IsRightFace line x.base (fold updated (face_of x) us)
+    → shown_state_of next ≡ fold updated (shown_state_of x) us
+    → IsRightState line x.base (fold updated (shown_state_of x) us)
     → line.book ≡ x.front.book
     → (name_of next ≡ name_of x) × IsShownRight next × (next.front ≡ line)
 gives_right x next us line is face book =
-    let right : IsRightFace line x.base (face_of next) = subst (IsRightFace line x.base) (sym is) face in
+    let right : IsRightState line x.base (shown_state_of next) = subst (IsRightState line x.base) (sym is) face in
     let front : next.front ≡ line = right.front in
     let base : next.base ≡ x.base = right.base_is in
     let same_book : next.front.book ≡ x.front.book = ap (λ (l : Line). l.book) front ∙ book in (
@@ -29,9 +29,9 @@ gives_right x next us line is face book =
 
 -- whether it was published or not, the name stays, and the writer knows it if it was
 pub known_after : {U E : Type 0} (r : Result U E) (Q Q' : Type 0) (x y : Shown) (v w : Option Name) (us : List Update) (line : Line)
-    → MatchResult r (λ _. (face_of y ≡ fold updated (face_of x) us) × Q) (λ _. (y ≡ x) × Q')
+    → MatchResult r (λ _. (shown_state_of y ≡ fold updated (shown_state_of x) us) × Q) (λ _. (y ≡ x) × Q')
     → MatchResult r (λ _. Saw v x y w) (λ _. w ≡ v)
-    → IsRightFace line x.base (fold updated (face_of x) us)
+    → IsRightState line x.base (fold updated (shown_state_of x) us)
     → line.book ≡ x.front.book
     → (name_of y ≡ name_of x) × MatchBool (is_ok r) (w ≡ Some (name_of x)) (w ≡ v)
 known_after (Ok u) Q Q' x y v w us line values rule face book =

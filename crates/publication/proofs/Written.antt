@@ -6,7 +6,7 @@ use mathlib.Core.List.{IsPrefix}
 use Rattle.event_state.specs.declared.event.Event.{Event}
 use Rattle.publication.specs.declared.history.Page.{Page}
 use Rattle.publication.proofs.Prefixes.{prefix_shorter, prefix_trans}
-use Rattle.publication.specs.Law.{written, key_after, AreOthers, IsWritten}
+use Rattle.publication.specs.HistoryRules.{written, key_after, AreOthers, IsWritten}
 
 written_joined : (b : Bool) (e : Event) (here later here_first later_first : List Event) (first second : ℕ) (ys : List Page)
     → here ≡ here_first ++ written first ys → later ≡ later_first ++ written second ys
@@ -54,7 +54,7 @@ others_rest : (key : ℕ) (xs ys : List Page) → AreOthers key (xs ++ ys) → A
 others_rest key [] ys all = all
 others_rest key (p ∷ xs) ys all = others_rest key xs ys all.1
 
--- where the pen wrote nothing of a longer log, its author wrote there what it had written
+-- where the pen wrote nothing of a longer log, its one owner wrote there what it had written
 pub stays : (key : ℕ) (v log : List Page) → IsPrefix v log → AreOthers (key_after key v) log → (written key log ≡ written key v) × (key_after key log ≡ key_after key v)
 stays key v log pre all =
     let more = pre.0 in

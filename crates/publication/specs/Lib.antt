@@ -1,7 +1,7 @@
 pub mod Lines
-pub mod Law
+pub mod HistoryRules
 pub mod Names
-pub mod Settings
+pub mod OpeningBases
 pub mod Published
 pub mod Updates
 pub mod Told

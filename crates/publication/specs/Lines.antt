@@ -4,10 +4,10 @@ use Rattle.logbook.specs.Pages.{Book}
 use Rattle.event_state.specs.declared.event.Event.{Event}
 
 -- one author's part of a book, by the key of the author's first pen
-pub record History : Type 0 where
+pub record HistoryBook : Type 0 where
   pub book : Book
   pub first : ℕ
 
 pub record Line : Type 0 where
-  pub book : History
+  pub book : HistoryBook
   pub list : List Event

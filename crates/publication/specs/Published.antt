@@ -1,5 +1,5 @@
 -- The rule of what is published, and what its two steps tell.
-use Rattle.std.specs.Prelude.{◌≡◌, ◌+◌, ℕ, List, length, Option, Some}
+use Rattle.std.specs.Prelude.{◌≡◌, ◌+◌, ℕ, Bool, List, length, Option, Some, MatchBool}
 use mathlib.Core.List.{IsPrefix}
 use mathlib.Core.Option.{some}
 use lib.ListN.{get_elem?}
@@ -10,6 +10,7 @@ use Rattle.event_state.specs.States.{inputs_of}
 use Rattle.route_table.specs.Tables.{TableValue}
 use Rattle.route_table.specs.Right.{IsRoutingTable}
 use Rattle.publication.specs.declared.shown.Shown.{Shown}
+use Rattle.publication.specs.Lines.{Line}
 use Rattle.publication.specs.Names.{Name}
 
 -- each of these events could be taken where it stands
@@ -34,3 +35,15 @@ Holds x views = IsShownRight x × ((seat : ℕ) (n : Name) → get_elem? views s
 -- what is shown after the step is right, and its name is known, and was the name before; its list begins with that of before
 abbrev pub Saw : Option Name → Shown → Shown → Option Name → Type 0
 Saw v x y w = (w ≡ Some (name_of y)) × IsShownRight y × ((n : Name) → v ≡ Some n → n ≡ name_of y) × IsPrefix x.front.list y.front.list
+
+-- where it is done, this list is shown with a table that is right for it; else what was shown before
+abbrev pub IsPublished : Bool → Line → Shown → Shown → Type 0
+IsPublished done list before after = MatchBool done ((after.front ≡ list) × IsShownRight after) (after ≡ before)
+
+-- where it is done, the name is known; else what was known before
+abbrev pub IsKnownAfter : Bool → Name → Option Name → Option Name → Type 0
+IsKnownAfter done name before after = MatchBool done (after ≡ Some name) (after ≡ before)
+
+-- the list that is shown begins with the one before
+abbrev pub HasGrown : Shown → Shown → Type 0
+HasGrown before after = IsPrefix before.front.list after.front.list

@@ -9,20 +9,20 @@ use Rattle.route_table.specs.Tables.{TableValue}
 use Rattle.route_table.specs.Deltas.{changed, changes_to}
 use Rattle.publication.specs.Lines.{Line}
 use Rattle.publication.specs.Published.{IsTableFor}
-use Rattle.publication.specs.declared.shown.Face.{Face}
+use Rattle.publication.specs.declared.shown.ShownState.{ShownState}
 use Rattle.publication.specs.declared.shown.Shown.{Shown}
 use Rattle.publication.specs.declared.shown.Update.{Update}
 use Rattle.publication.specs.declared.shown.Update.TheVariants as update
 
-abbrev pub updated : Face → Update → Face
+abbrev pub updated : ShownState → Update → ShownState
 updated f (update.Change c) = record f { table = changed f.table c }
 updated f (update.List l) = record f { front = l }
 
-abbrev pub face_of : Shown → Face
-face_of s = record { table = s.table; front = s.front; base = s.base }
+abbrev pub shown_state_of : Shown → ShownState
+shown_state_of s = record { table = s.table; front = s.front; base = s.base }
 
 -- its table is right for a list, and it shows that list
-pub record IsRightFace (line : Line) (base : Base) (f : Face) : Type 0 where
+pub record IsRightState (line : Line) (base : Base) (f : ShownState) : Type 0 where
   pub right : IsTableFor base line.list f.table
   pub front : f.front ≡ line
   pub base_is : f.base ≡ base
@@ -50,3 +50,7 @@ whole table line = update.Change Clear ∷ (gifts (all_of table.items) ++ ends t
 -- the updates that carry what changed: one for each of these networks, then the serial
 abbrev pub deltas : List Network → TableValue → Line → List Update
 deltas networks table line = gifts (those_of table.items networks) ++ ends table.serial line
+
+-- these updates have come behind those that were pending
+abbrev pub AreAppended : List Update → List Update → List Update → Type 0
+AreAppended more before after = after ≡ before ++ more

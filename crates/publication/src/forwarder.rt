@@ -7,9 +7,9 @@ ghost use Rattle.publication.specs.Published.{IsLegal, IsTableFor};
 ghost use Rattle.publication.specs.Forwarders.{Sights};
 ghost use Rattle.publication.specs.Unseen.{IsUnseen};
 
-use crate::history::Front;
-use crate::rule::{Sees, ShownReader, ShownReading};
-use crate::setting::Setting;
+use crate::history::HistoryPrefix;
+use crate::opening_base::OpeningBase;
+use crate::rule::{ShownReader, ShownReading, ShowsHistory};
 use crate::told::Told;
 use crate::unseen::Unseen;
 use route_table::Match;
@@ -20,8 +20,8 @@ use std::marker::Model;
 #[derive(Drop)]
 pub struct Forwarder {
     reader: ShownReader,
-    known: Front,
-    base: Setting,
+    known: HistoryPrefix,
+    base: OpeningBase,
 }
 
 impl Model for Forwarder {
@@ -41,8 +41,8 @@ impl Model for Forwarder {
 /// is forgotten blocks the writer for good. It is not `Drop`: end it by `leave`.
 pub struct Seen {
     reading: ShownReading,
-    front: Front,
-    base: Setting,
+    front: HistoryPrefix,
+    base: OpeningBase,
     address: u32,
 }
 
@@ -64,10 +64,13 @@ impl Model for Seen {
 }
 
 impl Forwarder {
-    pub fn of(reader: ShownReader, known: Front, base: Setting) -> Forwarder
+    pub fn of(reader: ShownReader, known: HistoryPrefix, base: OpeningBase) -> Forwarder
         requires named { view reader.place ≡ Some (record { book = known.book; base = base }) }
         requires legal { IsLegal base known.list }
-        ensures { result ≡ record { name = record { book = known.book; base = base }; known = known.list } }
+        ensures { result ≡ record {
+          name = record { book = known.book; base = base };
+          known = known.list;
+        } }
     {
         Forwarder {
             reader,
@@ -107,7 +110,7 @@ impl Forwarder {
             known,
             base,
         } = self;
-        match reader.enter_as::<Sees>() {
+        match reader.enter_as::<ShowsHistory>() {
             Ok(reading) => {
                 let front = reading.get().front.again();
                 if front.len() < known.len() {

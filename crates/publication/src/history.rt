@@ -1,4 +1,4 @@
-//! The history of what was published, which only grows, and to which its author alone adds. It exists in the proofs alone: what is
+//! The history of what was published, which only grows, and to which its one owner alone adds. It exists in the proofs alone: what is
 //! stored is its length.
 //!
 //! The history is a part of a book's log. A page of the log is an event, written by a pen, and it names the pen that may write the next.
@@ -7,7 +7,7 @@
 ghost use Rattle.std.specs.Prelude.{◌≡◌, ◌<◌, ◌≤◌, ◌^◌, ◌++◌, ◌∷◌, ◌⊎◌, [], length};
 ghost use mathlib.Core.List.{IsPrefix};
 ghost use Rattle.logbook.specs.Pages.{may_write};
-ghost use Rattle.publication.specs.Law.{head_of};
+ghost use Rattle.publication.specs.HistoryRules.{head_of};
 
 use event_state::Event;
 use logbook::{Gain, Offer, Opening, Pen, Plain, Play, Rule, Seen, Start, Word};
@@ -21,12 +21,12 @@ pub struct Page {
 }
 
 /// The rule of the book: the word of each pen that wrote is at home.
-pub struct Law;
+pub struct HistoryRule;
 
-impl Rule<Page, u64> for Law {
+impl Rule<Page, u64> for HistoryRule {
     ghost use Rattle.std.specs.Prelude.{[]};
     ghost use base.Fml.{ftrue};
-    ghost use Rattle.publication.specs.Law.{IsKept};
+    ghost use Rattle.publication.specs.HistoryRules.{IsKept};
 
     ghost holds = { λ cells log. IsKept cells log };
 
@@ -42,9 +42,9 @@ impl Rule<Page, u64> for Law {
 }
 
 /// A log of one entry, to which nothing is added: the key of an author's first pen.
-pub struct First;
+pub struct FirstPenRule;
 
-impl Rule<u64, u64> for First {
+impl Rule<u64, u64> for FirstPenRule {
     ghost use Rattle.std.specs.Prelude.{[]};
     ghost use base.Fml.{ftrue};
 
@@ -61,43 +61,43 @@ impl Rule<u64, u64> for First {
     ghost moves = { λ ask before after answer. Unit {0} };
 }
 
-impl Opening<Pen, u64> for First {
+impl Opening<Pen, u64> for FirstPenRule {
     ghost use Rattle.std.specs.Prelude.{[], ◌∷◌};
 
     ghost log = { λ n pen. pen.nib.key ∷ [] };
 }
 
 /// Callers trade nothing.
-pub struct Nothing;
+pub struct NoTrade;
 
-impl Gain<Page, u64> for Nothing {
+impl Gain<Page, u64> for NoTrade {
     ghost use base.Fml.{ftrue};
 
     ghost after = { λ names about answer. ftrue };
 }
 
 /// The step that adds a word, with its pen.
-pub struct Make;
+pub struct AddsWord;
 
-impl Play<Page, u64> for Make {
-    ghost use Rattle.publication.specs.Law.{Makes};
+impl Play<Page, u64> for AddsWord {
+    ghost use Rattle.publication.specs.HistoryRules.{Makes};
 
     ghost then = { Makes };
 }
 
 /// The step that looks at the log, and leaves it as it is.
-pub struct Look;
+pub struct ReadsLog;
 
-impl Play<Page, u64> for Look {
-    ghost use Rattle.publication.specs.Law.{Looks};
+impl Play<Page, u64> for ReadsLog {
+    ghost use Rattle.publication.specs.HistoryRules.{Looks};
 
     ghost then = { Looks };
 }
 
 /// These two steps write no page.
-pub struct Blank;
+pub struct WritesNoPage;
 
-impl Plain<u64, Page, u64> for Blank {
+impl Plain<u64, Page, u64> for WritesNoPage {
     ghost use Rattle.std.specs.Prelude.{None};
     ghost use Rattle.event_state.specs.declared.event.Event.TheVariants.{Second};
 
@@ -108,22 +108,22 @@ impl Plain<u64, Page, u64> for Blank {
 
 /// What an author writes: an event, with its pen and the one that may write the next.
 #[derive(Drop)]
-pub struct Writing<'a> {
+pub struct NewPage<'a> {
     event: &'a Event,
     pen: &'a Pen,
     next: &'a Pen,
 }
 
 /// The step that adds a page.
-pub struct Add;
+pub struct AddsEvent;
 
-impl Play<Page, u64> for Add {
-    ghost use Rattle.publication.specs.Law.{Adds};
+impl Play<Page, u64> for AddsEvent {
+    ghost use Rattle.publication.specs.HistoryRules.{Adds};
 
     ghost then = { Adds };
 }
 
-impl<'a> Plain<Writing<'a>, Page, u64> for Add {
+impl<'a> Plain<NewPage<'a>, Page, u64> for AddsEvent {
     ghost use Rattle.std.specs.Prelude.{None};
 
     ghost ask = { λ w. record { event = w.event.now; pen = w.pen.now.nib.key; next = w.next.now.nib.key } };
@@ -131,24 +131,24 @@ impl<'a> Plain<Writing<'a>, Page, u64> for Add {
     ghost state = { λ w. None };
 }
 
-type Log = Seen<Page, u64, Law>;
+type Log = Seen<Page, u64, HistoryRule>;
 
-type Head = Word<Page, u64, Law>;
+type Head = Word<Page, u64, HistoryRule>;
 
-type FirstPen = Seen<u64, u64, First>;
+type FirstPen = Seen<u64, u64, FirstPenRule>;
 
 /// A beginning of a history, with its length.
 #[derive(Drop)]
-pub struct Front {
+pub struct HistoryPrefix {
     count: u64,
     log: Log,
     first: FirstPen,
 }
 
-impl Model for Front {
+impl Model for HistoryPrefix {
     ghost use Rattle.std.specs.Prelude.{◌≡◌, length};
     ghost use Rattle.publication.specs.Lines.{Line};
-    ghost use Rattle.publication.specs.Law.{line_of};
+    ghost use Rattle.publication.specs.HistoryRules.{line_of};
 
     ghost Value = { Line };
 
@@ -157,7 +157,7 @@ impl Model for Front {
     ghost invariant = { λ f. f.count ≡ length (line_of f.log.book f.first.log f.log.log).list };
 }
 
-impl Front {
+impl HistoryPrefix {
     pub fn len(&self) -> u64
         ensures { result ≡ length self.now.list }
     {
@@ -165,10 +165,10 @@ impl Front {
     }
 
     /// A copy.
-    pub fn again(&self) -> Front
+    pub fn again(&self) -> HistoryPrefix
         ensures { result ≡ self.now }
     {
-        Front {
+        HistoryPrefix {
             count: self.count,
             log: self.log.again(),
             first: self.first.again(),
@@ -176,7 +176,7 @@ impl Front {
     }
 
     /// The longer of two, which the other begins.
-    pub fn longer(&self, other: &Front) -> Front
+    pub fn longer(&self, other: &HistoryPrefix) -> HistoryPrefix
         requires { other.now.book ≡ self.now.book }
         ensures one { (result ≡ self.now) ⊎ (result ≡ other.now) }
         ensures same { length other.now.list ≤ length self.now.list → result ≡ self.now }
@@ -195,7 +195,7 @@ impl Front {
 
 /// The one who adds to a history, with all of it. The pen may write its next page.
 #[derive(Drop)]
-pub struct Author {
+pub struct History {
     head: Head,
     pen: Pen,
     count: u64,
@@ -203,17 +203,17 @@ pub struct Author {
     first: FirstPen,
 }
 
-impl Model for Author {
+impl Model for History {
     ghost use Rattle.std.specs.Prelude.{◌≡◌, length};
     ghost use Rattle.logbook.specs.Pages.{may_write};
     ghost use Rattle.publication.specs.Lines.{Line};
-    ghost use Rattle.publication.specs.Law.{line_of, head_of, IsAuthor};
+    ghost use Rattle.publication.specs.HistoryRules.{line_of, head_of, IsHistory};
 
     ghost Value = { Line };
 
     ghost view = { λ a. line_of a.log.book a.first.log a.log.log };
 
-    ghost invariant = { λ a. (a.head ≡ head_of a.log.book) × (a.count ≡ length (line_of a.log.book a.first.log a.log.log).list) × IsAuthor a.pen.book a.pen.nib a.log.book a.first.log a.log.log };
+    ghost invariant = { λ a. (a.head ≡ head_of a.log.book) × (a.count ≡ length (line_of a.log.book a.first.log a.log.log).list) × IsHistory a.pen.book a.pen.nib a.log.book a.first.log a.log.log };
 }
 
 // A pen that wrote nothing, of a new word.
@@ -222,23 +222,25 @@ fn new_pen(head: &Head, log: &Log) -> Pen
     ensures { (result.book ≡ log.now.book) × (result.nib.right ≡ may_write) }
 {
     let mut log = log.again();
-    let mut offer: Offer<Page, u64, Law, Nothing> = log.plain::<Nothing, u64, Blank>(&0);
+    let mut offer: Offer<Page, u64, HistoryRule, NoTrade> = log.plain::<NoTrade, u64, WritesNoPage>(
+        &0,
+    );
     let mut pen = log.no_pen();
-    head.compare_exchange::<Make, Nothing>(0, 0, &mut log, &mut offer, &mut pen);
+    head.compare_exchange::<AddsWord, NoTrade>(0, 0, &mut log, &mut offer, &mut pen);
     let _word: Head = Word::tracked(0, &mut pen);
     pen
 }
 
-impl Author {
+impl History {
     /// Opens a new history.
-    pub fn open() -> Author
+    pub fn open() -> History
         ensures { result.list ≡ [] }
     {
         let (log, mut first, _second) = Seen::open(Start::alone(), 0, 0);
         let head = Word::tracked(0, &mut first);
         let pen = new_pen(&head, &log);
-        let (first, _pens) = Seen::open_row::<Pen, First>(&pen, Start::alone(), 0);
-        Author {
+        let (first, _pens) = Seen::open_row::<Pen, FirstPenRule>(&pen, Start::alone(), 0);
+        History {
             head,
             pen,
             count: 0,
@@ -253,45 +255,48 @@ impl Author {
         self.count
     }
 
-    pub fn front(&self) -> Front
+    pub fn front(&self) -> HistoryPrefix
         ensures { result ≡ self.now }
     {
-        Front {
+        HistoryPrefix {
             count: self.count,
             log: self.log.again(),
             first: self.first.again(),
         }
     }
 
-    /// A beginning of the history is a beginning of what its author has.
-    pub(crate) fn look(&mut self, front: &Front)
+    /// A beginning of the history is a beginning of what its one owner has.
+    pub(crate) fn look(&mut self, front: &HistoryPrefix)
         requires { front.now.book ≡ self.old.book }
         ensures same { self.new ≡ self.old }
         ensures begun { IsPrefix front.now.list self.old.list }
     {
         // proof: the pen has written nothing of this longer log.
         self.log.learn(&front.log);
-        let mut offer: Offer<Page, u64, Law, Nothing> = self.log.plain::<Nothing, u64, Blank>(&0);
+        let mut offer: Offer<Page, u64, HistoryRule, NoTrade> = self
+            .log
+            .plain::<NoTrade, u64, WritesNoPage>(&0);
         self.head
-            .compare_exchange::<Look, Nothing>(0, 0, &mut self.log, &mut offer, &mut self.pen);
+            .compare_exchange::<ReadsLog, NoTrade>(0, 0, &mut self.log, &mut offer, &mut self.pen);
     }
 
     /// Adds an event.
     pub fn add(&mut self, event: &Event)
         requires { length self.old.list < 2 ^ 62 }
-        ensures { (self.new.book ≡ self.old.book) × (self.new.list ≡ self.old.list ++ event.now ∷ []) }
+        ensures { (self.new.book ≡ self.old.book)
+            × (self.new.list ≡ self.old.list ++ event.now ∷ []) }
     {
         let next = new_pen(&self.head, &self.log);
-        let writing = Writing {
+        let writing = NewPage {
             event,
             pen: &self.pen,
             next: &next,
         };
-        let mut offer: Offer<Page, u64, Law, Nothing> = self
+        let mut offer: Offer<Page, u64, HistoryRule, NoTrade> = self
             .log
-            .plain::<Nothing, Writing<'_>, Add>(&writing);
+            .plain::<NoTrade, NewPage<'_>, AddsEvent>(&writing);
         self.head
-            .compare_exchange::<Add, Nothing>(0, 0, &mut self.log, &mut offer, &mut self.pen);
+            .compare_exchange::<AddsEvent, NoTrade>(0, 0, &mut self.log, &mut offer, &mut self.pen);
         self.pen = next;
         self.count += 1;
     }

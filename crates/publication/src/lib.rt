@@ -4,18 +4,18 @@
 
 mod forwarder;
 mod history;
+mod opening_base;
 mod rule;
-mod setting;
 mod shown;
 mod told;
 mod unseen;
 mod writing;
 
 pub use forwarder::{Forwarder, Seen};
-pub use history::{Author, Front};
-pub use rule::{Named, ShownWriter};
-pub use setting::Setting;
-pub use shown::{Shown, Tag};
+pub use history::{History, HistoryPrefix};
+pub use opening_base::OpeningBase;
+pub use rule::{ShownWriter, TellsName};
+pub use shown::{EngineName, Shown};
 pub use told::Told;
 pub use unseen::Unseen;
 pub use writing::{show, show_changes};

@@ -1,12 +1,12 @@
 //! The rule of what is published: it is right for its list, and each thread that was told a name was told that of its history.
-use crate::shown::{Shown, Tag, Update};
+use crate::shown::{EngineName, Shown, Update};
 use atomic_table::{Join, Split};
 use crossbeam_utils::rule::{Outcome, Protocol};
 use left_right::reader::{Reader, Reading};
 use left_right::writer::Writer;
 
 /// What a thread knows: the name, once it was told.
-pub type View = Option<Tag>;
+pub type View = Option<EngineName>;
 
 pub struct Published;
 
@@ -20,24 +20,24 @@ impl Protocol<Shown, View> for Published {
 }
 
 /// The two steps, to publish and to enter.
-pub struct Sees;
+pub struct ShowsHistory;
 
-impl Outcome<Shown, View> for Sees {
+impl Outcome<Shown, View> for ShowsHistory {
     ghost use Rattle.publication.specs.Published.{Saw};
 
     ghost then = { Saw };
 }
 
 /// A reader is told what the writer knows.
-pub struct Named;
+pub struct TellsName;
 
-impl Split<View> for Named {
+impl Split<View> for TellsName {
     ghost left = { λ v. v };
 
     ghost right = { λ v. v };
 }
 
-impl Join<View> for Named {
+impl Join<View> for TellsName {
     ghost use Rattle.std.specs.Prelude.{None};
 
     ghost both = { λ v w. w };

@@ -1,9 +1,9 @@
 //! What readers are shown: the table, and the list of events that it is right for.
 ghost use Rattle.std.specs.Prelude.{◌≡◌, IfOk};
-ghost use Rattle.publication.specs.Updates.{face_of};
+ghost use Rattle.publication.specs.Updates.{shown_state_of};
 
-use crate::history::Front;
-use crate::setting::Setting;
+use crate::history::HistoryPrefix;
+use crate::opening_base::OpeningBase;
 use event_state::Base;
 use left_right::Absorb;
 use ospf_types::memory::Memory;
@@ -13,12 +13,12 @@ use std::marker::Model;
 
 /// The name of an engine, for contracts alone.
 #[derive(Drop)]
-pub struct Tag {
-    front: Front,
-    base: Setting,
+pub struct EngineName {
+    front: HistoryPrefix,
+    base: OpeningBase,
 }
 
-impl Model for Tag {
+impl Model for EngineName {
     ghost use Rattle.publication.specs.Names.{Name};
 
     ghost Value = { Name };
@@ -26,11 +26,11 @@ impl Model for Tag {
     ghost view = { λ t. record { book = t.front.book; base = t.base } };
 }
 
-impl Tag {
-    pub fn of(front: &Front, base: &Setting) -> Tag
+impl EngineName {
+    pub fn of(front: &HistoryPrefix, base: &OpeningBase) -> EngineName
         ensures { result ≡ record { book = front.now.book; base = base.now } }
     {
-        Tag {
+        EngineName {
             front: front.again(),
             base: base.again(),
         }
@@ -41,16 +41,22 @@ impl Tag {
 #[derive(Drop)]
 pub struct Shown {
     pub table: Table,
-    pub front: Front,
-    pub base: Setting,
+    pub front: HistoryPrefix,
+    pub base: OpeningBase,
     /// How many changes were made to the table since the engine was opened.
     pub changes: u64,
 }
 
 impl Shown {
     /// A copy of the table, with the list that it is right for and the base that the engine began with.
-    pub fn of(alloc: Global, table: &Table, front: &Front, base: &Setting) -> Result<Shown, Memory>
-        ensures { IfOk result (λ shown. face_of shown ≡ record { table = table.now; front = front.now; base = base.now }) }
+    pub fn of(
+        alloc: Global,
+        table: &Table,
+        front: &HistoryPrefix,
+        base: &OpeningBase,
+    ) -> Result<Shown, Memory>
+        ensures { IfOk result (λ shown. shown_state_of shown
+            ≡ record { table = table.now; front = front.now; base = base.now }) }
     {
         Ok(Shown {
             table: copy_of(alloc, table)?,
@@ -61,7 +67,7 @@ impl Shown {
     }
 
     fn count(&mut self)
-        ensures { face_of self.new ≡ face_of self.old }
+        ensures { shown_state_of self.new ≡ shown_state_of self.old }
     {
         self.changes = self.changes.wrapping_add(1);
     }
@@ -80,22 +86,22 @@ fn copy_of(alloc: Global, table: &Table) -> Result<Table, Memory>
 #[derive(Drop)]
 pub enum Update {
     Change(Change),
-    List(Front),
+    List(HistoryPrefix),
 }
 
 /// What the two copies have in common. No value of it is made.
-pub struct Face {
+pub struct ShownState {
     pub table: Table,
-    pub front: Front,
+    pub front: HistoryPrefix,
     pub base: Base,
 }
 
 impl Absorb<Update> for Shown {
-    ghost use Rattle.publication.specs.Updates.{updated, face_of};
+    ghost use Rattle.publication.specs.Updates.{updated, shown_state_of};
 
-    type State = Face;
+    type State = ShownState;
 
-    ghost state = { face_of };
+    ghost state = { shown_state_of };
 
     ghost applied = { updated };
 

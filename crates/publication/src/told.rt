@@ -3,8 +3,8 @@ ghost use Rattle.std.specs.Prelude.{◌≡◌, ◌+◌, length};
 ghost use Rattle.publication.specs.Published.{IsLegal};
 ghost use Rattle.publication.specs.Told.{Heard};
 
-use crate::history::Front;
-use crate::setting::Setting;
+use crate::history::HistoryPrefix;
+use crate::opening_base::OpeningBase;
 use std::fmt;
 use std::marker::Model;
 
@@ -12,8 +12,8 @@ use std::marker::Model;
 /// has no bytes but the list's length and its serial.
 #[derive(Drop)]
 pub struct Told {
-    front: Front,
-    base: Setting,
+    front: HistoryPrefix,
+    base: OpeningBase,
     serial: u64,
 }
 
@@ -38,10 +38,13 @@ impl fmt::Debug for Told {
 }
 
 impl Told {
-    pub fn of(front: Front, base: Setting, serial: u64) -> Told
+    pub fn of(front: HistoryPrefix, base: OpeningBase, serial: u64) -> Told
         requires legal { IsLegal base front.list }
         requires serial { serial ≡ base.serial + length front.list }
-        ensures { result ≡ record { name = record { book = front.book; base = base }; list = front.list } }
+        ensures { result ≡ record {
+          name = record { book = front.book; base = base };
+          list = front.list;
+        } }
     {
         Told {
             front,
@@ -58,7 +61,7 @@ impl Told {
         self.serial
     }
 
-    pub(crate) fn into_front(self) -> Front
+    pub(crate) fn into_front(self) -> HistoryPrefix
         ensures { (result.book ≡ self.name.book) × (result.list ≡ self.list) }
     {
         let Told {

@@ -4,12 +4,12 @@ ghost use Rattle.std.specs.FinMap.{get};
 ghost use mathlib.Core.List.{IsPrefix};
 ghost use Rattle.left_right.specs.Sides.{view};
 ghost use Rattle.route_table.specs.Deltas.{Lead};
-ghost use Rattle.publication.specs.Updates.{gifts, all_of, those_of, ends, whole, deltas, updated, face_of, IsRightFace};
-ghost use Rattle.publication.specs.Published.{IsTableFor, IsShownRight, name_of};
+ghost use Rattle.publication.specs.Updates.{gifts, all_of, those_of, ends, whole, deltas, updated, shown_state_of, AreAppended, IsRightState};
+ghost use Rattle.publication.specs.Published.{HasGrown, IsKnownAfter, IsPublished, IsTableFor, name_of};
 ghost use Rattle.publication.specs.declared.shown.Update.TheVariants as update;
 
-use crate::history::{Author, Front};
-use crate::rule::{Sees, ShownWriter};
+use crate::history::{History, HistoryPrefix};
+use crate::rule::{ShownWriter, ShowsHistory};
 use crate::shown::Update;
 use ospf_types::prefix::Prefix;
 use route_table::{Change, Item, Table};
@@ -17,9 +17,11 @@ use std::alloc::Global;
 use std::sync::Wait;
 
 // Appends the serial of a list, and the list.
-fn lay_end(writer: &mut ShownWriter, serial: u64, front: &Front) -> bool
+fn append_end(writer: &mut ShownWriter, serial: u64, front: &HistoryPrefix) -> bool
     ensures desk { writer.new.desk ≡ writer.old.desk }
-    ensures pending { IsTrue result → drop writer.new.behind writer.new.log.items ≡ drop writer.old.behind writer.old.log.items ++ ends serial front.now }
+    ensures pending { IsTrue result → AreAppended (ends serial front.now)
+        (drop writer.old.behind writer.old.log.items)
+        (drop writer.new.behind writer.new.log.items) }
 {
     if writer
         .append(Update::Change(Change::Serial(serial)))
@@ -31,9 +33,11 @@ fn lay_end(writer: &mut ShownWriter, serial: u64, front: &Front) -> bool
 }
 
 // Appends that the network has this item.
-fn lay_item(writer: &mut ShownWriter, alloc: Global, prefix: Prefix, item: &Item) -> bool
+fn append_item(writer: &mut ShownWriter, alloc: Global, prefix: Prefix, item: &Item) -> bool
     ensures desk { writer.new.desk ≡ writer.old.desk }
-    ensures pending { IsTrue result → drop writer.new.behind writer.new.log.items ≡ drop writer.old.behind writer.old.log.items ++ gifts ((prefix, Some item.now) ∷ []) }
+    ensures pending { IsTrue result → AreAppended (gifts ((prefix, Some item.now) ∷ []))
+        (drop writer.old.behind writer.old.log.items)
+        (drop writer.new.behind writer.new.log.items) }
 {
     match item.change_for(alloc, prefix) {
         Ok(change) => writer.append(Update::Change(change)).is_ok(),
@@ -42,12 +46,14 @@ fn lay_item(writer: &mut ShownWriter, alloc: Global, prefix: Prefix, item: &Item
 }
 
 // Appends each network's item.
-fn lay_items(writer: &mut ShownWriter, alloc: Global, table: &Table) -> bool
+fn append_items(writer: &mut ShownWriter, alloc: Global, table: &Table) -> bool
     ensures desk { writer.new.desk ≡ writer.old.desk }
-    ensures pending { IsTrue result → drop writer.new.behind writer.new.log.items ≡ drop writer.old.behind writer.old.log.items ++ gifts (all_of table.now.items) }
+    ensures pending { IsTrue result → AreAppended (gifts (all_of table.now.items))
+        (drop writer.old.behind writer.old.log.items)
+        (drop writer.new.behind writer.new.log.items) }
 {
     for (prefix, item) in table.items() {
-        if !lay_item(writer, alloc, prefix, item) {
+        if !append_item(writer, alloc, prefix, item) {
             return false;
         }
     }
@@ -55,20 +61,30 @@ fn lay_items(writer: &mut ShownWriter, alloc: Global, table: &Table) -> bool
 }
 
 // Appends that the table is emptied and has these items, and the list that they are right for.
-fn lay_whole(writer: &mut ShownWriter, alloc: Global, table: &Table, front: &Front) -> bool
+fn append_whole(
+    writer: &mut ShownWriter,
+    alloc: Global,
+    table: &Table,
+    front: &HistoryPrefix,
+) -> bool
     ensures desk { writer.new.desk ≡ writer.old.desk }
-    ensures pending { IsTrue result → drop writer.new.behind writer.new.log.items ≡ drop writer.old.behind writer.old.log.items ++ whole table.now front.now }
+    ensures pending { IsTrue result → AreAppended (whole table.now front.now)
+        (drop writer.old.behind writer.old.log.items)
+        (drop writer.new.behind writer.new.log.items) }
 {
     if writer.append(Update::Change(Change::Clear)).is_err() {
         return false;
     }
-    lay_items(writer, alloc, table) && lay_end(writer, table.serial(), front)
+    append_items(writer, alloc, table) && append_end(writer, table.serial(), front)
 }
 
 // Appends what the network has in the table, or that it has nothing.
-fn lay_network(writer: &mut ShownWriter, prefix: Prefix, table: &Table) -> bool
+fn append_network(writer: &mut ShownWriter, prefix: Prefix, table: &Table) -> bool
     ensures desk { writer.new.desk ≡ writer.old.desk }
-    ensures pending { IsTrue result → drop writer.new.behind writer.new.log.items ≡ drop writer.old.behind writer.old.log.items ++ gifts ((prefix, get table.now.items prefix) ∷ []) }
+    ensures pending { IsTrue result → AreAppended
+        (gifts ((prefix, get table.now.items prefix) ∷ []))
+        (drop writer.old.behind writer.old.log.items)
+        (drop writer.new.behind writer.new.log.items) }
 {
     match table.change_for(prefix) {
         Ok(change) => writer.append(Update::Change(change)).is_ok(),
@@ -77,12 +93,14 @@ fn lay_network(writer: &mut ShownWriter, prefix: Prefix, table: &Table) -> bool
 }
 
 // Appends what these networks have in the table.
-fn lay_networks(writer: &mut ShownWriter, networks: &[Prefix], table: &Table) -> bool
+fn append_networks(writer: &mut ShownWriter, networks: &[Prefix], table: &Table) -> bool
     ensures desk { writer.new.desk ≡ writer.old.desk }
-    ensures pending { IsTrue result → drop writer.new.behind writer.new.log.items ≡ drop writer.old.behind writer.old.log.items ++ gifts (those_of table.now.items networks.now) }
+    ensures pending { IsTrue result → AreAppended (gifts (those_of table.now.items networks.now))
+        (drop writer.old.behind writer.old.log.items)
+        (drop writer.new.behind writer.new.log.items) }
 {
     for network in networks {
-        if !lay_network(writer, *network, table) {
+        if !append_network(writer, *network, table) {
             return false;
         }
     }
@@ -90,25 +108,35 @@ fn lay_networks(writer: &mut ShownWriter, networks: &[Prefix], table: &Table) ->
 }
 
 // Appends one change for each of these networks, and the list that the table is right for.
-fn lay_changes(writer: &mut ShownWriter, networks: &[Prefix], table: &Table, front: &Front) -> bool
+fn append_changes(
+    writer: &mut ShownWriter,
+    networks: &[Prefix],
+    table: &Table,
+    front: &HistoryPrefix,
+) -> bool
     ensures desk { writer.new.desk ≡ writer.old.desk }
-    ensures pending { IsTrue result → drop writer.new.behind writer.new.log.items ≡ drop writer.old.behind writer.old.log.items ++ deltas networks.now table.now front.now }
+    ensures pending { IsTrue result → AreAppended (deltas networks.now table.now front.now)
+        (drop writer.old.behind writer.old.log.items)
+        (drop writer.new.behind writer.new.log.items) }
 {
-    lay_networks(writer, networks, table) && lay_end(writer, table.serial(), front)
+    append_networks(writer, networks, table) && append_end(writer, table.serial(), front)
 }
 
 // Publishes what is pending. The answer is false where it was refused, and then readers see what they saw.
-fn publish<R: Wait>(rt: &R, writer: ShownWriter, front: &Front) -> (ShownWriter, bool)
+fn publish<R: Wait>(rt: &R, writer: ShownWriter, front: &HistoryPrefix) -> (ShownWriter, bool)
     requires history { front.now.book ≡ writer.desk.shown.value.front.book }
-    requires laid { IsRightFace front.now writer.desk.shown.value.base (fold updated (face_of writer.desk.shown.value) (drop writer.behind writer.log.items)) }
+    requires appended { IsRightState front.now writer.desk.shown.value.base
+        (fold updated (shown_state_of writer.desk.shown.value) (drop writer.behind writer.log.items)) }
     requires grows { IsPrefix writer.desk.shown.value.front.list front.now.list }
     ensures name { name_of result.0.desk.shown.value ≡ name_of writer.desk.shown.value }
-    ensures shown { MatchBool result.1 ((result.0.desk.shown.value.front ≡ front.now) × IsShownRight result.0.desk.shown.value) (result.0.desk.shown.value ≡ writer.desk.shown.value) }
-    ensures known { MatchBool result.1 (view result.0.desk.place ≡ Some (name_of writer.desk.shown.value)) (view result.0.desk.place ≡ view writer.desk.place) }
-    ensures grows { IsPrefix writer.desk.shown.value.front.list result.0.desk.shown.value.front.list }
+    ensures shown { IsPublished result.1 front.now writer.desk.shown.value
+        result.0.desk.shown.value }
+    ensures known { IsKnownAfter result.1 (name_of writer.desk.shown.value)
+        (view writer.desk.place) (view result.0.desk.place) }
+    ensures grows { HasGrown writer.desk.shown.value result.0.desk.shown.value }
     ensures pending { IsTrue result.1 → drop result.0.behind result.0.log.items ≡ [] }
 {
-    let (writer, done) = writer.publish_as::<Sees, R>(rt);
+    let (writer, done) = writer.publish_as::<ShowsHistory, R>(rt);
     (writer, done.is_ok())
 }
 
@@ -119,21 +147,23 @@ pub fn show<R: Wait>(
     alloc: Global,
     writer: ShownWriter,
     table: &Table,
-    author: &mut Author,
+    history: &mut History,
 ) -> (ShownWriter, bool)
-    requires history { author.old.book ≡ writer.desk.shown.value.front.book }
-    requires right { IsTableFor writer.desk.shown.value.base author.old.list table.now }
+    requires history { history.old.book ≡ writer.desk.shown.value.front.book }
+    requires right { IsTableFor writer.desk.shown.value.base history.old.list table.now }
     ensures name { name_of result.0.desk.shown.value ≡ name_of writer.desk.shown.value }
-    ensures shown { MatchBool result.1 ((result.0.desk.shown.value.front ≡ author.old) × IsShownRight result.0.desk.shown.value) (result.0.desk.shown.value ≡ writer.desk.shown.value) }
-    ensures known { MatchBool result.1 (view result.0.desk.place ≡ Some (name_of writer.desk.shown.value)) (view result.0.desk.place ≡ view writer.desk.place) }
-    ensures author { author.new ≡ author.old }
-    ensures grows { IsPrefix writer.desk.shown.value.front.list result.0.desk.shown.value.front.list }
+    ensures shown { IsPublished result.1 history.old writer.desk.shown.value
+        result.0.desk.shown.value }
+    ensures known { IsKnownAfter result.1 (name_of writer.desk.shown.value)
+        (view writer.desk.place) (view result.0.desk.place) }
+    ensures history { history.new ≡ history.old }
+    ensures grows { HasGrown writer.desk.shown.value result.0.desk.shown.value }
     ensures pending { IsTrue result.1 → drop result.0.behind result.0.log.items ≡ [] }
 {
     let mut writer = writer;
-    author.look(&writer.published().front);
-    let front = author.front();
-    if !lay_whole(&mut writer, alloc, table, &front) {
+    history.look(&writer.published().front);
+    let front = history.front();
+    if !append_whole(&mut writer, alloc, table, &front) {
         return (writer, false);
     }
     publish(rt, writer, &front)
@@ -145,23 +175,26 @@ pub fn show_changes<R: Wait>(
     writer: ShownWriter,
     networks: &[Prefix],
     table: &Table,
-    author: &mut Author,
+    history: &mut History,
 ) -> (ShownWriter, bool)
     requires clean { drop writer.behind writer.log.items ≡ [] }
-    requires history { author.old.book ≡ writer.desk.shown.value.front.book }
-    requires right { IsTableFor writer.desk.shown.value.base author.old.list table.now }
-    requires changes { Lead writer.desk.shown.value.table.items table.now.items (those_of table.now.items networks.now) }
+    requires history { history.old.book ≡ writer.desk.shown.value.front.book }
+    requires right { IsTableFor writer.desk.shown.value.base history.old.list table.now }
+    requires changes { Lead writer.desk.shown.value.table.items table.now.items
+        (those_of table.now.items networks.now) }
     ensures name { name_of result.0.desk.shown.value ≡ name_of writer.desk.shown.value }
-    ensures shown { MatchBool result.1 ((result.0.desk.shown.value.front ≡ author.old) × IsShownRight result.0.desk.shown.value) (result.0.desk.shown.value ≡ writer.desk.shown.value) }
-    ensures known { MatchBool result.1 (view result.0.desk.place ≡ Some (name_of writer.desk.shown.value)) (view result.0.desk.place ≡ view writer.desk.place) }
-    ensures author { author.new ≡ author.old }
-    ensures grows { IsPrefix writer.desk.shown.value.front.list result.0.desk.shown.value.front.list }
+    ensures shown { IsPublished result.1 history.old writer.desk.shown.value
+        result.0.desk.shown.value }
+    ensures known { IsKnownAfter result.1 (name_of writer.desk.shown.value)
+        (view writer.desk.place) (view result.0.desk.place) }
+    ensures history { history.new ≡ history.old }
+    ensures grows { HasGrown writer.desk.shown.value result.0.desk.shown.value }
     ensures pending { IsTrue result.1 → drop result.0.behind result.0.log.items ≡ [] }
 {
     let mut writer = writer;
-    author.look(&writer.published().front);
-    let front = author.front();
-    if !lay_changes(&mut writer, networks, table, &front) {
+    history.look(&writer.published().front);
+    let front = history.front();
+    if !append_changes(&mut writer, networks, table, &front) {
         return (writer, false);
     }
     publish(rt, writer, &front)

@@ -115,6 +115,6 @@ pub record IsFirstFault (bytes : List ℕ) (number : ℕ) (f : Fault) : Type 0 w
   pub lines : AreRightBefore bytes number
   pub faults : (g : Fault) → number_of g < number_of f → ¬ HasFault bytes number g
 
--- want of memory may come at any line that is read, and all others where they are first
+-- memory may run out at any line that is read, and every other fault is the first
 abbrev pub IsFaultOf : List ℕ → LineFault → Type 0
 IsFaultOf bytes l = ((l.fault ≡ fault.Memory) × IsMemoryAt bytes l.line) ⊎ IsFirstFault bytes l.line l.fault

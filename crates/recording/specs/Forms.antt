@@ -159,7 +159,7 @@ IsForm (HasInterfaceLine id i) = IsInterface id i.area i.address i.peer
 IsForm (HasLsaLine at bytes) = IsScope at × AreBytes bytes
 IsForm (BodyLine body) = IsBody body
 
--- ranges change and the journal is rolled in version 3 alone
+-- ranges change and the journal is rolled only in version 3
 abbrev pub IsBodyOf : Version → Body → Type 0
 IsBodyOf v (RangeSetLine area range) = v ≡ Three
 IsBodyOf v (RangeDropLine area prefix) = v ≡ Three

@@ -1,5 +1,5 @@
 -- Where in a recording a line may stand.
-use Rattle.std.specs.Prelude.{ℕ, ◌≡◌, ◌≤◌, ◌-◌, ◌==◌, ◌&&◌, ◌||◌, ◌++◌, Bool, true, false, not, nat_lt, nat_le, List, [], ◌∷◌, length, drop, slice_get, Option, Some, None, is_some, is_none, codes, cond}
+use Rattle.std.specs.Prelude.{ℕ, ◌≡◌, ◌≤◌, ◌-◌, ◌==◌, ◌&&◌, ◌||◌, ◌++◌, Bool, true, false, not, nat_lt, nat_le, List, [], ◌∷◌, length, drop, slice_get, Option, Some, None, MatchOption, is_some, is_none, codes, cond}
 use Rattle.std.specs.List.{flat_map, list_any}
 use Rattle.std.specs.Ordering.{ordering_then}
 use Rattle.std.specs.Str.{bytes_eq}
@@ -119,6 +119,10 @@ abbrev pub is_past_id : Option (ℕ × Interface) → ℕ → Bool
 is_past_id None id = true
 is_past_id (Some last) id = nat_lt last.0 id
 
+-- an interface of this id may stand behind these: no LSA does, and no interface has the id or a greater one
+abbrev pub is_next_interface : List (Scope × Lsa) → List (ℕ × Interface) → ℕ → Bool
+is_next_interface lsas interfaces id = is_none (last_of lsas) && is_past_id (last_of interfaces) id
+
 -- where an LSA stands: by its scope, and then by its key
 abbrev pub place_cmp : Scope × Key → Scope × Key → Ordering
 place_cmp p q = ordering_then (scope_cmp p.0 q.0) (key_cmp p.1 q.1)
@@ -131,18 +135,23 @@ abbrev pub is_past_scope : Option (Scope × Lsa) → Scope → Bool
 is_past_scope None at = true
 is_past_scope (Some last) at = not (is_less (scope_cmp at last.0))
 
+-- how many LSAs of the scope there are; none if the scope is less than that of the last one
+abbrev pub IsRowUnder : List (Scope × Lsa) → Scope → Option ℕ → Type 0
+IsRowUnder lsas at found =
+    MatchOption found (is_past_scope (last_of lsas) at ≡ false) (λ row. (is_past_scope (last_of lsas) at ≡ true) × (row ≡ length (lsas_under lsas at)))
+
 -- the place is greater than that of the last LSA
 abbrev pub is_past_place : Option (Scope × Lsa) → Scope × Key → Bool
 is_past_place None place = true
 is_past_place (Some last) place = is_less (place_cmp (lsa_place last) place)
 
--- The scope tells before the bytes are read, and the key where they are those of an LSA.
+-- The scope tells before the bytes are read, and the key if they are those of an LSA.
 abbrev pub is_past_lsa : Option (Scope × Lsa) → Scope → List ℕ → Bool
 is_past_lsa last at bytes = is_past_scope last at && (is_some (fault_of bytes) || is_past_place last (lsa_place (at, lsa_of bytes)))
 
 -- ---- places
 
--- the version that the first line says; version 1 where it says none
+-- the version that the first line says; version 1 if it says none
 abbrev pub version_of : List (List ℕ) → Version
 version_of [] = One
 version_of (line ∷ lines) = cond (bytes_eq line (codes "abr 3")) Three (cond (bytes_eq line (codes "abr 2")) Two One)
@@ -182,7 +191,7 @@ based b = record { areas = b.config.areas; interfaces = b.interfaces; lsas = b.l
 abbrev pub is_next : Front → Form → Bool
 is_next f (AreaLine id stub) = not f.ended && is_next_area f.areas (AreaLine id stub)
 is_next f (RangeLine area range) = not f.ended && is_next_area f.areas (RangeLine area range)
-is_next f (HasInterfaceLine id interface) = not f.begun && (is_none (last_of f.lsas) && is_past_id (last_of f.interfaces) id)
+is_next f (HasInterfaceLine id interface) = not f.begun && is_next_interface f.lsas f.interfaces id
 is_next f (HasLsaLine at bytes) = not f.begun && is_past_lsa (last_of f.lsas) at bytes
 is_next f _ = false
 

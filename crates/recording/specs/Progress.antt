@@ -1,10 +1,11 @@
 -- How far a text was read as a recording.
-use Rattle.std.specs.Prelude.{ℕ, ◌≡◌, ◌≢◌, ◌+◌, ◌++◌, true, false, List, [], ◌∷◌, length, Some, None, All, map}
+use Rattle.std.specs.Prelude.{ℕ, ◌≡◌, ◌≢◌, ◌+◌, ◌++◌, ◌⊎◌, Bool, true, false, List, [], ◌∷◌, length, Some, None, All, map}
 use Rattle.std.specs.List.{flat_map}
 use Rattle.lsa_codec.specs.Decoding.{lsa_of}
 use Rattle.lsa_codec.specs.Faults.{fault_of}
 use Rattle.lsa_codec.specs.Spelling.{spelling}
 use Rattle.ospf_types.specs.declared.config.AreaConfig.{AreaConfig}
+use Rattle.ospf_types.specs.declared.config.Range.{Range}
 use Rattle.event_state.specs.declared.base.Base.{Base}
 use Rattle.recording.specs.declared.fault.Fault.{Fault}
 use Rattle.recording.specs.declared.fault.Fault.TheVariants as fault
@@ -13,7 +14,7 @@ use Rattle.recording.specs.declared.line.Line.{Line}
 use Rattle.recording.specs.Faults.{parts_of, EndsHeader, HasFault, AreRightBefore, number_of}
 use Rattle.recording.specs.Forms.{Form, Body, HasInterfaceLine, HasLsaLine, BodyLine, Says, AllSay}
 use Rattle.recording.specs.declared.version.Version.{Version}
-use Rattle.recording.specs.Places.{based, body_wire_fault, has_ended, is_of_base, is_next, is_next_area, unfit_at, version_of, wire_fault_in}
+use Rattle.recording.specs.Places.{based, body_wire_fault, has_ended, is_of_base, is_next, is_next_area, is_next_range, unfit_at, version_of, wire_fault_in, with_form}
 use Rattle.recording.specs.Recordings.{RecordingValue, CanSpell, HasKind, HasWholeLsa, AreWhole, IsLineIn, IsOrdered, IsRecording, IsWhole, area_forms, form_of, forms_of, has_forms, header_forms}
 
 -- Each of these says of a text that so many of its lines were taken, and that the parts in `rest` are left.
@@ -44,6 +45,7 @@ headed_base setting areas = record {
   lsas = [];
 }
 
+-- the base with other areas
 abbrev pub with_areas : Base → List AreaConfig → Base
 with_areas b areas = record b { config = record b.config { areas = areas } }
 
@@ -72,6 +74,22 @@ pub record HasLines (text : List ℕ) (taken : ℕ) (rest : List (List ℕ)) (r 
   pub right : AreRightBefore text (taken + 1)
 
 -- ---- a line of the header
+
+-- the line may stand next in the header of this base
+abbrev pub IsNextIn : Base → Form → Type 0
+IsNextIn b form = is_next_area b.config.areas form ≡ true
+
+-- the base has the area or the range that the line adds, and nothing else changed in it
+abbrev pub AddsToHeader : (old new : Base) → Form → Type 0
+AddsToHeader old new form = new ≡ with_areas old (with_form old.config.areas form)
+
+-- the area has the range behind its others, and nothing else changed in it
+abbrev pub AddsRange : (old new : AreaConfig) → Range → Type 0
+AddsRange old new range = new ≡ record old { ranges = old.ranges ++ range ∷ [] }
+
+-- memory ran out, or the range is none that may stand behind those of the last area
+abbrev pub IsRangeRefusal : (last : AreaConfig) (area : ℕ) → Range → Fault → Type 0
+IsRangeRefusal last area range f = (f ≡ fault.Memory) ⊎ ((f ≡ fault.Order) × (is_next_range (Some last) area range ≡ false))
 
 -- a header does not take the form
 abbrev pub IsRefusal : List AreaConfig → Form → Fault → Type 0
@@ -104,6 +122,10 @@ pub record IsTaken (b : Base) (form : Form) : Type 0 where
   pub whole : IsWholeForm form
   pub fit : unfit_at (based b) form ≡ None
 
+-- if the line was added, the base takes it
+abbrev pub IsTakenIf : (added : Bool) → Base → Form → Type 0
+IsTakenIf added b form = added ≡ true → IsTaken b form
+
 -- The base ends here: the next line has its line feed and is none of a base, or there is no next line.
 abbrev pub EndsBase : Version → List (List ℕ) → Type 0
 EndsBase v (line ∷ next ∷ more) = (form : Form) → Says v line form → is_of_base form ≢ true
@@ -133,7 +155,7 @@ IsFaultBehind v line (fault.Config f) = ⊥
 IsFaultBehind v line (fault.Base u) = ⊥
 IsFaultBehind v line fault.Memory = Unit {0}
 
--- why bytes are no LSA, or want of memory
+-- why bytes are no LSA, or that memory ran out
 abbrev pub IsFaultOfBytes : List ℕ → Fault → Type 0
 IsFaultOfBytes bytes fault.Truncated = ⊥
 IsFaultOfBytes bytes fault.Version = ⊥
@@ -150,3 +172,7 @@ pub record IsLineOf (v : Version) (line : List ℕ) (l : Line) : Type 0 where
   pub kind : HasKind l
   pub own : IsLineIn v l
   pub whole : HasWholeLsa l
+
+-- what the line says happened stands behind what happened before
+abbrev pub AddsLine : Version → (text : List ℕ) → (old new : List Line) → Type 0
+AddsLine v text old new = (l : Line) × IsLineOf v text l × (new ≡ old ++ l ∷ [])

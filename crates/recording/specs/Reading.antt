@@ -1,13 +1,17 @@
 -- What a line that was read says.
-use Rattle.std.specs.Prelude.{ℕ, ◌≡◌, ◌≢◌, ◌<◌, ◌≤◌, ◌^◌, ◌⊎◌, ◌++◌, ◌==◌, List, [], ◌∷◌, length, slice_index, Option, Some, None, MatchOption, Result, Ok, Err, All}
+use Rattle.std.specs.Prelude.{ℕ, Bool, cond, ◌≡◌, ◌≢◌, ◌<◌, ◌≤◌, ◌^◌, ◌⊎◌, ◌++◌, ◌==◌, List, [], ◌∷◌, length, slice_index, Option, Some, None, MatchOption, Result, Ok, Err, All}
 use Rattle.std.specs.Borrow.{Bor}
 use Rattle.std.specs.List.{slice_split}
+use Rattle.std.specs.Str.Parse.{AllDigits, digits_value}
 use Rattle.hex.specs.Hex.{decode_of, encode_lower}
 use Rattle.hex.specs.declared.error.FromHexError.{FromHexError}
 use Rattle.ospf_types.specs.declared.config.Interface.{Interface}
+use Rattle.ospf_types.specs.declared.config.Range.{Range}
+use Rattle.ospf_types.specs.declared.key.Key.{Key}
+use Rattle.ospf_types.specs.declared.key.Scope.{Scope}
 use Rattle.recording.specs.declared.form.LineForm.{LineForm}
 use Rattle.recording.specs.declared.form.LineForm.TheVariants as read
-use Rattle.recording.specs.Forms.{Form, VersionLine, RouterLine, CompatLine, SerialLine, AreaLine, RangeLine, HasInterfaceLine, HasLsaLine, BodyLine, InterfaceLine, InstallLine, FlushLine, PurgeLine, RangeSetLine, RangeDropLine, SecondLine, LookupLine, RollLine, IsForm, IsInterface, interface_words, words_of}
+use Rattle.recording.specs.Forms.{Form, VersionLine, RouterLine, CompatLine, SerialLine, AreaLine, RangeLine, HasInterfaceLine, HasLsaLine, BodyLine, InterfaceLine, InstallLine, FlushLine, PurgeLine, RangeSetLine, RangeDropLine, SecondLine, LookupLine, RollLine, AreBytes, IsAddress, IsForm, IsInterface, IsKey, IsPrefix, IsScope, IsSerial, interface_words, key_words, lsa_words, range_words, scope_text, words_of}
 
 abbrev pub bytes_or_none : Result (List ℕ) FromHexError → List ℕ
 bytes_or_none (Ok bytes) = bytes
@@ -66,6 +70,19 @@ Takes {X} spell Legal before after read =
 abbrev pub TakesWord : {X : Type 0} → (X → List ℕ) → (X → Type 0) → (before after : List (List ℕ)) → Option X → Type 0
 TakesWord {X} spell Legal before after read = Takes (λ (x : X). spell x ∷ []) Legal before after read
 
+-- the first of the words was read, and the others are left; none if there is none
+abbrev pub IsFirstWord : (before after : List (List ℕ)) → Option (Bor (List ℕ)) → Type 0
+IsFirstWord before after read = MatchOption read ((before ≡ []) × (after ≡ [])) (λ word. before ≡ word.now ∷ after)
+
+-- the first word if it is true, else the second
+abbrev pub either_word : (first second : List ℕ) → Bool → List ℕ
+either_word first second = λ b. cond b first second
+
+-- the value of a number of at most 64 bits that decimal digits write; none if the text is no such number
+abbrev pub IsDecimalValue : List ℕ → Option ℕ → Type 0
+IsDecimalValue text read =
+    MatchOption read (AllDigits 10 text → 2 ^ 64 ≤ digits_value 10 text) (λ n. AllDigits 10 text × (n ≡ digits_value 10 text) × IsSerial n)
+
 -- an interface with its id
 abbrev pub pair_words : ℕ × Interface → List (List ℕ)
 pair_words x = interface_words x.0 x.1
@@ -86,7 +103,43 @@ IsLowerDigit b = ((48 ≤ b) × (b ≤ 57)) ⊎ ((97 ≤ b) × (b ≤ 102))
 abbrev pub AreDigits : List ℕ → Type 0
 AreDigits text = (bytes : List ℕ) × All (λ b. b < 2 ^ 8) bytes × (text ≡ encode_lower bytes)
 
+-- the digits of bytes are the only word; none if the words are not that
+abbrev pub AreLastDigits : List (List ℕ) → Option (Bor (List ℕ)) → Type 0
+AreLastDigits words read =
+    MatchOption read ((bytes : List ℕ) → AreBytes bytes → words ≢ encode_lower bytes ∷ []) (λ word. AreDigits word.now × (words ≡ word.now ∷ []))
+
+-- ---- fields: each is what the words say, or none where they say no such thing
+
+-- a range of an area
+abbrev pub IsRangeRead : List (List ℕ) → Option (ℕ × Range) → Type 0
+IsRangeRead words read =
+    MatchOption read
+    ((area : ℕ) (range : Range) → IsAddress area → IsPrefix range.prefix → words ≢ range_words area range)
+    (λ p. IsAddress p.0 × IsPrefix p.1.prefix × (words ≡ range_words p.0 p.1))
+
+-- an interface with its id
+abbrev pub IsInterfaceRead : List (List ℕ) → Option (ℕ × Interface) → Type 0
+IsInterfaceRead words read = MatchOption read ((x : ℕ × Interface) → IsPair x → words ≢ pair_words x) (λ x. IsPair x × (words ≡ pair_words x))
+
+-- a database, and the digits of an LSA's bytes
+abbrev pub IsLsaRead : List (List ℕ) → Option (Scope × Bor (List ℕ)) → Type 0
+IsLsaRead words read =
+    MatchOption read
+    ((at : Scope) (bytes : List ℕ) → IsScope at → AreBytes bytes → words ≢ lsa_words at bytes)
+    (λ p. IsScope p.0 × AreBytes (bytes_of p.1.now) × (words ≡ lsa_words p.0 (bytes_of p.1.now)))
+
+-- a database, and the key of an LSA
+abbrev pub IsKeyRead : List (List ℕ) → Option (Scope × Key) → Type 0
+IsKeyRead words read =
+    MatchOption read
+    ((at : Scope) (key : Key) → IsScope at → IsKey key → words ≢ scope_text at ∷ key_words key)
+    (λ p. IsScope p.0 × IsKey p.1 × (words ≡ scope_text p.0 ∷ key_words p.1))
+
 -- ---- forms
+
+-- the `has` line of the LSA whose bytes the digits write
+abbrev pub has_lsa_line : Scope → (digits : List ℕ) → Form
+has_lsa_line at digits = HasLsaLine at (bytes_of digits)
 
 -- the words are those of a line that says this
 pub record SaysWords (words : List (List ℕ)) (form : Form) : Type 0 where

@@ -1,5 +1,5 @@
 -- A recording, and its one text.
-use Rattle.std.specs.Prelude.{ℕ, ◌≡◌, ◌≢◌, ◌++◌, Bool, false, List, [], ◌∷◌, map, None, All}
+use Rattle.std.specs.Prelude.{ℕ, ◌≡◌, ◌≢◌, ◌++◌, Bool, false, List, [], ◌∷◌, map, None, All, Result, MatchResult, String, string_bytes}
 use Rattle.std.specs.List.{flat_map}
 use Rattle.std.specs.List.Sorted.{IsStrictlySortedBy}
 use Rattle.std.specs.Ordering.{nat_cmp}
@@ -7,6 +7,7 @@ use Rattle.ospf_types.specs.declared.config.AreaConfig.{AreaConfig}
 use Rattle.ospf_types.specs.declared.config.Interface.{Interface}
 use Rattle.ospf_types.specs.declared.config.Range.{Range}
 use Rattle.ospf_types.specs.declared.key.Scope.{Scope}
+use Rattle.ospf_types.specs.declared.prefix.Prefix.{Prefix}
 use Rattle.ospf_types.specs.Lsa.{Lsa}
 use Rattle.ospf_types.specs.Network.{network_cmp}
 use Rattle.lsa_codec.specs.Checksum.{IsSound}
@@ -16,6 +17,8 @@ use Rattle.event_state.specs.declared.event.Event.TheVariants as event
 use Rattle.event_state.specs.declared.base.Base.{Base}
 use Rattle.event_state.specs.BaseFaults.{base_fault_of}
 use Rattle.event_state.specs.Steps.{standard_limits}
+use Rattle.recording.specs.declared.fault.Fault.TheVariants as fault
+use Rattle.recording.specs.declared.fault.LineFault.{LineFault}
 use Rattle.recording.specs.declared.line.Line.{Line}
 use Rattle.recording.specs.declared.line.Line.TheVariants as line
 use Rattle.recording.specs.declared.version.Version.{Version}
@@ -28,14 +31,22 @@ pub record RecordingValue : Type 0 where
   pub base : Base
   pub lines : List Line
 
+-- the recording of a base and of what happened then
+abbrev pub recording_of : Version → Base → List Line → RecordingValue
+recording_of v b lines = record { version = v; base = b; lines = lines }
+
 -- ---- the text
+
+-- a range of an area is set
+abbrev pub range_set_line : (area : ℕ) (prefix : Prefix) (advertise : Bool) → Body
+range_set_line area prefix advertise = RangeSetLine area (record { prefix = prefix; advertise = advertise })
 
 abbrev pub event_body : Event → Body
 event_body (event.Install at lsa) = InstallLine at (spelling lsa)
 event_body (event.Flush at key) = FlushLine at key
 event_body (event.Purge at key) = PurgeLine at key
 event_body (event.Interface id area address peer up) = InterfaceLine id area address peer up
-event_body (event.RangeSet area prefix advertise) = RangeSetLine area (record { prefix = prefix; advertise = advertise })
+event_body (event.RangeSet area prefix advertise) = range_set_line area prefix advertise
 event_body (event.RangeDrop area prefix) = RangeDropLine area prefix
 event_body event.Second = SecondLine
 
@@ -60,6 +71,18 @@ abbrev pub setting_forms : Version → Bool → ℕ → List Form
 setting_forms One compat serial = []
 setting_forms Two compat serial = CompatLine compat ∷ []
 setting_forms Three compat serial = CompatLine compat ∷ SerialLine serial ∷ []
+
+-- the first lines in version 1
+abbrev pub first_of_one : (router : ℕ) → List Form
+first_of_one router = VersionLine One ∷ RouterLine router ∷ []
+
+-- the first lines in version 2
+abbrev pub first_of_two : (router : ℕ) (compat : Bool) → List Form
+first_of_two router compat = VersionLine Two ∷ RouterLine router ∷ CompatLine compat ∷ []
+
+-- the first lines in version 3
+abbrev pub first_of_three : (router : ℕ) (compat : Bool) (serial : ℕ) → List Form
+first_of_three router compat serial = VersionLine Three ∷ RouterLine router ∷ CompatLine compat ∷ SerialLine serial ∷ []
 
 abbrev pub first_forms : Version → Base → List Form
 first_forms v b = VersionLine v ∷ RouterLine b.config.router ∷ setting_forms v b.config.compat b.serial
@@ -91,15 +114,31 @@ ended form = line_text form ++ 10 ∷ []
 abbrev pub text_of_forms : List Form → List ℕ
 text_of_forms forms = flat_map ended forms
 
+-- the text is as before, and the lines behind it
+abbrev pub GainsLines : {Z : Type 0} → (old new : String Z) → List Form → Type 0
+GainsLines {Z} old new forms = string_bytes new ≡ string_bytes old ++ text_of_forms forms
+
+-- the text is as before, and the line behind it
+abbrev pub GainsLine : {Z : Type 0} → (old new : String Z) → Form → Type 0
+GainsLine {Z} old new form = string_bytes new ≡ string_bytes old ++ ended form
+
+-- the text is as before, and the line of what happened behind it
+abbrev pub GainsBody : {Z : Type 0} → (old new : String Z) → Body → Type 0
+GainsBody {Z} old new body = GainsLine old new (BodyLine body)
+
 abbrev pub text_of : RecordingValue → List ℕ
 text_of r = text_of_forms (forms_of r)
 
 -- ---- what has a text
 
+-- the ranges of an area ascend by address and then length
+abbrev pub AreByNetworks : List Range → Type 0
+AreByNetworks ranges = IsStrictlySortedBy network_cmp (map (λ (range : Range). range.prefix) ranges)
+
 -- areas ascend by Area ID, and the ranges of each by address and then length
 pub record IsOrdered (areas : List AreaConfig) : Type 0 where
   pub ascending : IsStrictlySortedBy nat_cmp (map (λ a. a.id) areas)
-  pub ranges : All (λ a. IsStrictlySortedBy network_cmp (map (λ (range : Range). range.prefix) a.ranges)) areas
+  pub ranges : All (λ a. AreByNetworks a.ranges) areas
 
 -- the LS type in a key is one of the five
 abbrev pub HasKind : Line → Type 0
@@ -126,6 +165,10 @@ pub record IsBaseOrdered (b : Base) : Type 0 where
   pub areas : IsOrdered b.config.areas
   pub interfaces : AreByIds b.interfaces
   pub lsas : AreByPlaces b.lsas
+
+-- the base is a configuration only: its serial is 0, and it has no interfaces and no LSAs
+abbrev pub HasConfigOnly : Base → Type 0
+HasConfigOnly b = (b.serial ≡ 0) × (b.interfaces ≡ []) × (b.lsas ≡ [])
 
 -- The version has lines for all of the base. In version 1 RFC1583Compatibility is disabled, and only version 3 says a
 -- serial, interfaces and LSAs.
@@ -182,3 +225,7 @@ pub record IsText (bytes : List ℕ) (r : RecordingValue) : Type 0 where
   pub held : AreWhole r.base.lsas
   pub lsas : All HasWholeLsa r.lines
   pub kept : IsRecording r
+
+-- the answer is this recording, or that memory ran out
+abbrev pub IsReadAs : RecordingValue → Result RecordingValue LineFault → Type 0
+IsReadAs r read = MatchResult read (λ found. found ≡ r) (λ e. e.fault ≡ fault.Memory)

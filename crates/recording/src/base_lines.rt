@@ -1,14 +1,13 @@
 //! The base that `has` lines say, one after the other.
-ghost use Rattle.std.specs.Prelude.{◌≡◌, ◌&&◌, ℕ, true, false, Ok, OnOk, IfOk, IfErr, MatchOption, is_none, length};
+ghost use Rattle.std.specs.Prelude.{◌≡◌, true, Ok, OnOk, IfOk, IfErr, is_none};
 ghost use Rattle.std.specs.List.{list_any};
 ghost use Rattle.hex.specs.Hex.{decode_of};
-ghost use Rattle.event_state.specs.Bases.{lsas_under};
 ghost use Rattle.event_state.specs.States.{place_of};
-ghost use Rattle.recording.specs.Forms.{HasInterfaceLine, HasLsaLine};
-ghost use Rattle.recording.specs.Places.{is_of_base, last_of, is_past_id, is_past_scope, is_past_place, has_address, place_cmp, unfit_interface, unfit_under};
-ghost use Rattle.recording.specs.Left.{IsCounted};
-ghost use Rattle.recording.specs.Progress.{IsTaken, IsBaseRefusal, with_has};
-ghost use Rattle.recording.specs.Reading.{said_by, bytes_of, HasDigits};
+ghost use Rattle.recording.specs.Forms.{HasInterfaceLine};
+ghost use Rattle.recording.specs.Places.{IsRowUnder, is_of_base, is_next_interface, last_of, is_past_id, is_past_place, has_address, place_cmp, unfit_interface, unfit_under};
+ghost use Rattle.recording.specs.Left.{AddsForm, IsCounted};
+ghost use Rattle.recording.specs.Progress.{IsTaken, IsTakenIf, IsBaseRefusal};
+ghost use Rattle.recording.specs.Reading.{said_by, bytes_of, has_lsa_line, HasDigits};
 ghost use Rattle.recording.specs.Recordings.{AreByPlaces};
 
 use crate::body::read_lsa;
@@ -34,14 +33,14 @@ pub(crate) struct BaseLines {
 }
 
 impl BaseLines {
-    /// Adds what a line says; `false` where it is no line of a base.
+    /// Adds what a line says; `false` if it is no line of a base.
     pub(crate) fn add(&mut self, alloc: Global, form: &LineForm<'_>) -> Result<bool, Fault>
         requires digits { HasDigits form.now }
         requires counted { IsCounted self.old }
         requires ordered { AreByPlaces self.old.base.lsas }
         ensures base { IfOk result (λ added. added ≡ is_of_base (said_by form.now)) }
-        ensures taken { IfOk result (λ added. added ≡ true → IsTaken self.old.base (said_by form.now)) }
-        ensures new { OnOk result (self.new.base ≡ with_has self.old.base (said_by form.now)) }
+        ensures taken { IfOk result (λ added. IsTakenIf added self.old.base (said_by form.now)) }
+        ensures new { OnOk result (AddsForm self.old self.new (said_by form.now)) }
         ensures counted { OnOk result (IsCounted self.new) }
         ensures fault { IfErr result (IsBaseRefusal self.old.base (said_by form.now)) }
         ensures refused { IfErr result (λ _. is_of_base (said_by form.now) ≡ true) }
@@ -56,7 +55,7 @@ impl BaseLines {
     fn add_interface(&mut self, id: u8, interface: Interface) -> Result<bool, Fault>
         ensures base { IfOk result (λ added. added ≡ true) }
         ensures taken { OnOk result (IsTaken self.old.base (HasInterfaceLine id interface)) }
-        ensures new { OnOk result (self.new.base ≡ with_has self.old.base (HasInterfaceLine id interface)) }
+        ensures new { OnOk result (AddsForm self.old self.new (HasInterfaceLine id interface)) }
         ensures row { OnOk result (self.new.row ≡ self.old.row) }
         ensures fault { IfErr result (IsBaseRefusal self.old.base (HasInterfaceLine id interface)) }
     {
@@ -79,10 +78,10 @@ impl BaseLines {
         requires counted { IsCounted self.old }
         requires ordered { AreByPlaces self.old.base.lsas }
         ensures base { IfOk result (λ added. added ≡ true) }
-        ensures taken { OnOk result (IsTaken self.old.base (HasLsaLine scope (bytes_of digits.now))) }
-        ensures new { OnOk result (self.new.base ≡ with_has self.old.base (HasLsaLine scope (bytes_of digits.now))) }
+        ensures taken { OnOk result (IsTaken self.old.base (has_lsa_line scope digits.now)) }
+        ensures new { OnOk result (AddsForm self.old self.new (has_lsa_line scope digits.now)) }
         ensures counted { OnOk result (IsCounted self.new) }
-        ensures fault { IfErr result (IsBaseRefusal self.old.base (HasLsaLine scope (bytes_of digits.now))) }
+        ensures fault { IfErr result (IsBaseRefusal self.old.base (has_lsa_line scope digits.now)) }
     {
         let Some(row) = self.row_under(scope) else {
             return Err(Fault::Order);
@@ -100,11 +99,11 @@ impl BaseLines {
         Ok(true)
     }
 
-    // How many LSAs of the scope there are; none where it is less than that of the last one.
+    // How many LSAs of the scope there are; none if it is less than that of the last one.
     fn row_under(&self, scope: Scope) -> Option<usize>
         requires counted { IsCounted self.now }
         requires ordered { AreByPlaces self.now.base.lsas }
-        ensures { MatchOption result (is_past_scope (last_of self.now.base.lsas) scope ≡ false) (λ row. (is_past_scope (last_of self.now.base.lsas) scope ≡ true) × (row ≡ length (lsas_under self.now.base.lsas scope))) }
+        ensures { IsRowUnder self.now.base.lsas scope result }
     {
         let Some(last) = self.base.lsas.as_slice().last() else {
             return Some(0);
@@ -119,7 +118,7 @@ impl BaseLines {
 
 // Whether an interface may stand behind what there is: no LSA does, and no interface has this id or a greater one.
 fn is_next_interface(base: &Base, id: u8) -> bool
-    ensures { result ≡ (is_none (last_of base.now.lsas) && is_past_id (last_of base.now.interfaces) id) }
+    ensures { result ≡ is_next_interface base.now.lsas base.now.interfaces id }
 {
     is_first(base.lsas.as_slice()) && is_past_id(base.interfaces.as_slice(), id)
 }

@@ -1,11 +1,10 @@
 //! A line of what happened.
-ghost use Rattle.std.specs.Prelude.{◌≡◌, ◌≤◌, ◌++◌, [], ◌∷◌, length, IsTrue, OnOk, IfOk, IfErr};
+ghost use Rattle.std.specs.Prelude.{◌≡◌, ◌≤◌, length, IsTrue, OnOk, IfOk, IfErr};
 ghost use Rattle.hex.specs.Hex.{decode_of};
 ghost use Rattle.lsa_codec.specs.Spelling.{spelling};
-ghost use Rattle.recording.specs.Progress.{IsLineOf, IsFaultBehind, IsFaultOfBytes};
+ghost use Rattle.recording.specs.Progress.{AddsLine, IsLineOf, IsFaultBehind, IsFaultOfBytes};
 ghost use Rattle.recording.specs.Reading.{bytes_of};
 ghost use Rattle.recording.specs.Recordings.{IsWhole};
-ghost use Rattle.recording.specs.declared.line.Line.{Line};
 
 use crate::decoding::decode;
 use crate::fault::Fault;
@@ -24,7 +23,7 @@ pub(crate) fn add_line(
     room: &mut Vec<u8>,
     lines: &mut Vec<Line>,
 ) -> Result<(), Fault>
-    ensures added { OnOk result ((l : Line) × IsLineOf version line.now l × (lines.new.items ≡ lines.old.items ++ l ∷ [])) }
+    ensures added { OnOk result (AddsLine version line.now lines.old.items lines.new.items) }
     ensures fault { IfErr result (IsFaultBehind version line.now) }
 {
     match read_line(alloc, version, line, room) {

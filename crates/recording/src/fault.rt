@@ -26,7 +26,7 @@ pub enum Fault {
     Config(ConfigFault),
     /// No event could have made what this line and those before it say of the base.
     Base(Unfit),
-    /// A growth was refused.
+    /// Memory ran out.
     Memory,
 }
 
@@ -56,7 +56,7 @@ pub struct LineFault {
     pub fault: Fault,
 }
 
-/// As `line 5: 54 Wire 2 Checksum`.
+/// Prints, for example, `line 5: 54 Wire 2 Checksum`.
 impl fmt::Display for LineFault {
     ghost output = { λ fault. Some (line_fault_text fault) };
 

@@ -1,12 +1,8 @@
 //! A line, read.
-ghost use Rattle.std.specs.Prelude.{◌≡◌, ◌≢◌, ◌↔◌, ◌∷◌, ℕ, List, Ok, codes, IsNone, IsTrue, IfSome, MatchOption};
+ghost use Rattle.std.specs.Prelude.{◌≡◌, ◌↔◌, ◌∷◌, Ok, codes, IsNone, IsTrue, IfSome};
 ghost use Rattle.hex.specs.Hex.{decode_of};
-ghost use Rattle.recording.specs.Forms.{Form, AreBytes, IsOfVersion, Says, IsAddress, IsScope, IsKey, IsPrefix, key_words, lsa_words, range_words, scope_text};
-ghost use Rattle.recording.specs.Reading.{said_by, bytes_of, cut, AreRead, HasDigits, IsPair, pair_words};
-ghost use Rattle.ospf_types.specs.declared.config.Interface.{Interface};
-ghost use Rattle.ospf_types.specs.declared.config.Range.{Range};
-ghost use Rattle.ospf_types.specs.declared.key.Key.{Key};
-ghost use Rattle.ospf_types.specs.declared.key.Scope.{Scope};
+ghost use Rattle.recording.specs.Forms.{Form, IsOfVersion, Says};
+ghost use Rattle.recording.specs.Reading.{said_by, bytes_of, cut, AreRead, HasDigits, IsInterfaceRead, IsKeyRead, IsLsaRead, IsRangeRead};
 
 use crate::version::Version;
 use crate::words::{Words, is};
@@ -72,7 +68,7 @@ pub(crate) enum LineForm<'a> {
     Roll,
 }
 
-/// What the line, without its line feed, says in a recording of the version; none where it has no form there.
+/// What the line, without its line feed, says in a recording of the version; none if it has no form there.
 pub(crate) fn read_form(version: Version, line: &[u8]) -> Option<LineForm<'_>>
     ensures says { IfSome result (λ form. Says version line.now (said_by form)) }
     ensures digits { IfSome result HasDigits }
@@ -319,7 +315,7 @@ fn roll<'a>(words: &mut Words<'a>) -> Option<LineForm<'a>>
 
 // A range of an area, and no word behind it.
 fn range_fields(words: &mut Words<'_>) -> Option<(u32, Range)>
-    ensures { MatchOption result ((area : ℕ) (range : Range) → IsAddress area → IsPrefix range.prefix → words.old ≢ range_words area range) (λ p. IsAddress p.0 × IsPrefix p.1.prefix × (words.old ≡ range_words p.0 p.1)) }
+    ensures { IsRangeRead words.old result }
 {
     let area = words.address()?;
     let prefix = words.prefix()?;
@@ -330,7 +326,7 @@ fn range_fields(words: &mut Words<'_>) -> Option<(u32, Range)>
 
 // An interface with its id, and no word behind it.
 fn interface_fields(words: &mut Words<'_>) -> Option<(u8, Interface)>
-    ensures { MatchOption result ((x : ℕ × Interface) → IsPair x → words.old ≢ pair_words x) (λ x. IsPair x × (words.old ≡ pair_words x)) }
+    ensures { IsInterfaceRead words.old result }
 {
     let pair = words.interface()?;
     words.end()?;
@@ -339,7 +335,7 @@ fn interface_fields(words: &mut Words<'_>) -> Option<(u8, Interface)>
 
 // The digits of an LSA for a database, and no word behind them.
 fn lsa_fields<'a>(words: &mut Words<'a>) -> Option<(Scope, &'a [u8])>
-    ensures says { MatchOption result ((at : Scope) (bytes : List ℕ) → IsScope at → AreBytes bytes → words.old ≢ lsa_words at bytes) (λ p. IsScope p.0 × AreBytes (bytes_of p.1.now) × (words.old ≡ lsa_words p.0 (bytes_of p.1.now))) }
+    ensures says { IsLsaRead words.old result }
     ensures digits { IfSome result (λ p. decode_of p.1.now ≡ Ok (bytes_of p.1.now)) }
 {
     let scope = words.scope()?;
@@ -349,7 +345,7 @@ fn lsa_fields<'a>(words: &mut Words<'a>) -> Option<(Scope, &'a [u8])>
 
 // Which LSA of which database.
 fn key_fields(words: &mut Words<'_>) -> Option<(Scope, Key)>
-    ensures { MatchOption result ((at : Scope) (key : Key) → IsScope at → IsKey key → words.old ≢ scope_text at ∷ key_words key) (λ p. IsScope p.0 × IsKey p.1 × (words.old ≡ scope_text p.0 ∷ key_words p.1)) }
+    ensures { IsKeyRead words.old result }
 {
     let scope = words.scope()?;
     let key = words.key()?;

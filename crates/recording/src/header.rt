@@ -1,8 +1,8 @@
 //! The configuration that the lines of a header say, one after the other, and the serial.
-ghost use Rattle.std.specs.Prelude.{◌≡◌, ◌++◌, ◌∷◌, ◌⊎◌, true, false, [], Some, OnOk, IfOk, IfErr};
+ghost use Rattle.std.specs.Prelude.{◌≡◌, ◌++◌, ◌∷◌, true, [], Some, OnOk, IfOk, IfErr};
 ghost use Rattle.recording.specs.Forms.{AreaLine, RangeLine};
-ghost use Rattle.recording.specs.Places.{is_of_header, is_next_area, with_form, last_of, is_past_area, is_past_range, is_next_range};
-ghost use Rattle.recording.specs.Progress.{IsRefusal, headed_base, with_areas};
+ghost use Rattle.recording.specs.Places.{is_of_header, last_of, is_past_area, is_past_range, is_next_range};
+ghost use Rattle.recording.specs.Progress.{AddsRange, AddsToHeader, IsNextIn, IsRangeRefusal, IsRefusal, headed_base};
 ghost use Rattle.recording.specs.Reading.{said_by};
 
 use crate::fault::Fault;
@@ -27,7 +27,7 @@ pub(crate) struct Setting {
 #[derive(Drop)]
 pub(crate) struct Header {
     setting: Setting,
-    // those to which no range can be added any more
+    // The areas before the last one. No line adds a range to them any more.
     areas: Areas,
     last: Option<AreaConfig>,
 }
@@ -56,11 +56,11 @@ impl Header {
         }
     }
 
-    /// Adds what a line says; `false` where it is no line of a header.
+    /// Adds what a line says; `false` if it is no line of a header.
     pub(crate) fn add(&mut self, alloc: Global, form: &LineForm<'_>) -> Result<bool, Fault>
         ensures header { IfOk result (λ added. added ≡ is_of_header (said_by form.now)) }
-        ensures next { IfOk result (λ added. added ≡ true → is_next_area self.old.config.areas (said_by form.now) ≡ true) }
-        ensures new { OnOk result (self.new ≡ with_areas self.old (with_form self.old.config.areas (said_by form.now))) }
+        ensures next { IfOk result (λ added. added ≡ true → IsNextIn self.old (said_by form.now)) }
+        ensures new { OnOk result (AddsToHeader self.old self.new (said_by form.now)) }
         ensures fault { IfErr result (IsRefusal self.old.config.areas (said_by form.now)) }
         ensures refused { IfErr result (λ _. is_of_header (said_by form.now) ≡ true) }
     {
@@ -73,8 +73,8 @@ impl Header {
 
     fn add_area(&mut self, alloc: Global, id: u32, stub: Option<Stub>) -> Result<bool, Fault>
         ensures header { IfOk result (λ added. added ≡ true) }
-        ensures next { OnOk result (is_next_area self.old.config.areas (AreaLine id stub) ≡ true) }
-        ensures new { OnOk result (self.new ≡ with_areas self.old (with_form self.old.config.areas (AreaLine id stub))) }
+        ensures next { OnOk result (IsNextIn self.old (AreaLine id stub)) }
+        ensures new { OnOk result (AddsToHeader self.old self.new (AreaLine id stub)) }
         ensures fault { IfErr result (IsRefusal self.old.config.areas (AreaLine id stub)) }
     {
         if !is_past_area(&self.last, id) {
@@ -93,8 +93,8 @@ impl Header {
 
     fn add_range(&mut self, area: u32, range: Range) -> Result<bool, Fault>
         ensures header { IfOk result (λ added. added ≡ true) }
-        ensures next { OnOk result (is_next_area self.old.config.areas (RangeLine area range) ≡ true) }
-        ensures new { OnOk result (self.new ≡ with_areas self.old (with_form self.old.config.areas (RangeLine area range))) }
+        ensures next { OnOk result (IsNextIn self.old (RangeLine area range)) }
+        ensures new { OnOk result (AddsToHeader self.old self.new (RangeLine area range)) }
         ensures fault { IfErr result (IsRefusal self.old.config.areas (RangeLine area range)) }
     {
         match &mut self.last {
@@ -145,8 +145,8 @@ pub(crate) fn add_to<T: Drop>(items: &mut Listed<T>, item: T) -> Result<(), Faul
 fn add_range_to(last: &mut AreaConfig, area: u32, range: &Range) -> Result<bool, Fault>
     ensures header { IfOk result (λ added. added ≡ true) }
     ensures next { OnOk result (is_next_range (Some last.old) area range.now ≡ true) }
-    ensures new { OnOk result (last.new ≡ record last.old { ranges = last.old.ranges ++ range.now ∷ [] }) }
-    ensures fault { IfErr result (λ f. (f ≡ Fault.Memory) ⊎ ((f ≡ Fault.Order) × (is_next_range (Some last.old) area range.now ≡ false))) }
+    ensures new { OnOk result (AddsRange last.old last.new range.now) }
+    ensures fault { IfErr result (IsRangeRefusal last.old area range.now) }
 {
     if !is_next_range(last, area, *range) {
         return Err(Fault::Order);

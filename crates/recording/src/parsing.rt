@@ -1,11 +1,10 @@
 //! A recording from its text.
-ghost use Rattle.std.specs.Prelude.{◌≡◌, ◌≢◌, ◌≤◌, ◌+◌, [], ◌∷◌, IsNone, IfSome, OnOk, IfOk, IfErr, MatchResult};
-ghost use Rattle.recording.specs.Recordings.{RecordingValue, IsText};
+ghost use Rattle.std.specs.Prelude.{◌≡◌, ◌≢◌, ◌≤◌, ◌+◌, [], ◌∷◌, IsNone, IfSome, OnOk, IfOk, IfErr};
+ghost use Rattle.recording.specs.Recordings.{RecordingValue, IsReadAs, IsText};
 ghost use Rattle.recording.specs.Faults.{IsFaultOf, IsNoVersion};
-ghost use Rattle.recording.specs.Left.{HasReadAt, HasSettingAt, HasHeaderAt, HasBaseAt, EndsHeaderAt, EndsBaseAt, IsCounted};
-ghost use Rattle.recording.specs.declared.fault.Fault.TheVariants as line_fault;
+ghost use Rattle.recording.specs.Left.{IfMore, HasReadAt, HasRouterAt, HasCompatAt, HasSettingAt, HasHeaderAt, HasBaseAt, EndsHeaderAt, EndsBaseAt, IsCounted};
 ghost use Rattle.recording.specs.declared.version.Version.TheVariants as version_value;
-ghost use Rattle.recording.specs.Forms.{VersionLine, RouterLine, CompatLine, line_text};
+ghost use Rattle.recording.specs.Forms.{VersionLine, line_text};
 
 use crate::base_lines::BaseLines;
 use crate::body::add_line;
@@ -27,7 +26,7 @@ pub fn parse(alloc: Global, bytes: &[u8]) -> Result<Recording, LineFault>
     ensures text { IfOk result (IsText bytes.now) }
     ensures fault { IfErr result (IsFaultOf bytes.now) }
     // Bytes that are the text of a recording are read as it, unless memory runs out.
-    ensures only { (r : RecordingValue) → IsText bytes.now r → MatchResult result (λ found. found ≡ r) (λ e. e.fault ≡ line_fault.Memory) }
+    ensures only { (r : RecordingValue) → IsText bytes.now r → IsReadAs r result }
 {
     parse_text(alloc, bytes)
 }
@@ -85,7 +84,7 @@ fn version_in(line: &[u8]) -> Option<Version>
 // The Router ID, which the second line says, and what is left behind it.
 fn read_router(version: Version, lines: Lines<'_>) -> Result<(u32, Lines<'_>), LineFault>
     requires { HasReadAt version lines (VersionLine version ∷ []) }
-    ensures read { IfOk result (λ found. HasReadAt version found.1 (VersionLine version ∷ RouterLine found.0 ∷ [])) }
+    ensures read { IfOk result (λ found. HasRouterAt version found.1 found.0) }
     ensures text { IfOk result (λ found. found.1.text.now ≡ lines.entry.text.now) }
     ensures fault { IfErr result (IsFaultOf lines.entry.text.now) }
 {
@@ -107,7 +106,7 @@ fn read_setting(
     router: u32,
     lines: Lines<'_>,
 ) -> Result<(Setting, Lines<'_>), LineFault>
-    requires { HasReadAt version lines (VersionLine version ∷ RouterLine router ∷ []) }
+    requires { HasRouterAt version lines router }
     ensures read { IfOk result (λ found. HasSettingAt version found.1 found.0) }
     ensures text { IfOk result (λ found. found.1.text.now ≡ lines.entry.text.now) }
     ensures fault { IfErr result (IsFaultOf lines.entry.text.now) }
@@ -133,9 +132,9 @@ fn read_compat(
     setting: Setting,
     lines: Lines<'_>,
 ) -> Result<(Setting, Lines<'_>), LineFault>
-    requires read { HasReadAt version lines (VersionLine version ∷ RouterLine setting.router ∷ []) }
+    requires read { HasRouterAt version lines setting.router }
     requires later { version ≢ version_value.One }
-    ensures read { IfOk result (λ found. HasReadAt version found.1 (VersionLine version ∷ RouterLine found.0.router ∷ CompatLine found.0.compat ∷ [])) }
+    ensures read { IfOk result (λ found. HasCompatAt version found.1 found.0) }
     ensures serial { IfOk result (λ found. found.0.serial ≡ setting.serial) }
     ensures text { IfOk result (λ found. found.1.text.now ≡ lines.entry.text.now) }
     ensures fault { IfErr result (IsFaultOf lines.entry.text.now) }
@@ -154,7 +153,7 @@ fn read_compat(
 
 // In version 3 the fourth line says the serial.
 fn read_serial(setting: Setting, lines: Lines<'_>) -> Result<(Setting, Lines<'_>), LineFault>
-    requires { HasReadAt version_value.Three lines (VersionLine version_value.Three ∷ RouterLine setting.router ∷ CompatLine setting.compat ∷ []) }
+    requires { HasCompatAt version_value.Three lines setting }
     ensures read { IfOk result (λ found. HasSettingAt version_value.Three found.1 found.0) }
     ensures text { IfOk result (λ found. found.1.text.now ≡ lines.entry.text.now) }
     ensures fault { IfErr result (IsFaultOf lines.entry.text.now) }
@@ -198,7 +197,7 @@ fn read_areas(
     }
 }
 
-// One more line of the header, and what is left behind it; none where the header ends.
+// One more line of the header, and what is left behind it; none if the header ends.
 fn read_header_line<'a>(
     alloc: Global,
     version: Version,
@@ -206,9 +205,9 @@ fn read_header_line<'a>(
     header: &mut Header,
 ) -> Result<Option<Lines<'a>>, LineFault>
     requires { HasHeaderAt version lines header.old }
-    ensures read { IfOk result (λ next. IfSome next (λ after. HasHeaderAt version after header.new)) }
-    ensures text { IfOk result (λ next. IfSome next (λ after. after.text.now ≡ lines.entry.text.now)) }
-    ensures shorter { IfOk result (λ next. IfSome next (λ after. lines.entry.start + 1 ≤ after.start)) }
+    ensures read { IfMore result (λ after. HasHeaderAt version after header.new) }
+    ensures text { IfMore result (λ after. after.text.now ≡ lines.entry.text.now) }
+    ensures shorter { IfMore result (λ after. lines.entry.start + 1 ≤ after.start) }
     ensures end { IfOk result (λ next. IsNone next → EndsHeaderAt version lines.entry) }
     ensures same { IfOk result (λ next. IsNone next → header.new ≡ header.old) }
     ensures fault { IfErr result (IsFaultOf lines.entry.text.now) }
@@ -253,7 +252,7 @@ fn read_base(
     Ok((held.base, left))
 }
 
-// One more line of the base, and what is left behind it; none where it ends.
+// One more line of the base, and what is left behind it; none if the base ends.
 fn read_base_line<'a>(
     alloc: Global,
     version: Version,
@@ -262,10 +261,10 @@ fn read_base_line<'a>(
 ) -> Result<Option<Lines<'a>>, LineFault>
     requires read { HasBaseAt version lines held.old.base }
     requires counted { IsCounted held.old }
-    ensures read { IfOk result (λ next. IfSome next (λ after. HasBaseAt version after held.new.base)) }
+    ensures read { IfMore result (λ after. HasBaseAt version after held.new.base) }
     ensures counted { OnOk result (IsCounted held.new) }
-    ensures text { IfOk result (λ next. IfSome next (λ after. after.text.now ≡ lines.entry.text.now)) }
-    ensures shorter { IfOk result (λ next. IfSome next (λ after. lines.entry.start + 1 ≤ after.start)) }
+    ensures text { IfMore result (λ after. after.text.now ≡ lines.entry.text.now) }
+    ensures shorter { IfMore result (λ after. lines.entry.start + 1 ≤ after.start) }
     ensures end { IfOk result (λ next. IsNone next → EndsBaseAt version lines.entry) }
     ensures same { IfOk result (λ next. IsNone next → held.new.base ≡ held.old.base) }
     ensures fault { IfErr result (IsFaultOf lines.entry.text.now) }

@@ -1,11 +1,10 @@
 //! The text of a recording.
-ghost use Rattle.std.specs.Prelude.{◌≡◌, ◌++◌, ◌∷◌, [], All, OnOk, OnErr, Some, cond, codes, map, string_bytes, take, vec_len};
+ghost use Rattle.std.specs.Prelude.{◌≡◌, ◌++◌, All, OnOk, OnErr, Some, cond, codes, map, take, vec_len};
 ghost use Rattle.std.specs.List.{join_with_byte};
 ghost use Rattle.lsa_codec.specs.Spelling.{spelling};
-ghost use Rattle.recording.specs.Forms.{VersionLine, RouterLine, CompatLine, SerialLine, AreaLine, RangeLine, HasInterfaceLine, HasLsaLine, BodyLine, InterfaceLine, InstallLine, FlushLine, PurgeLine, RangeSetLine, RangeDropLine, LookupLine, IsForm, IsKind, scope_text, stub_words, key_words};
-ghost use Rattle.recording.specs.Recordings.{IsText, IsWhole, AreWhole, HasKind, HasWholeLsa, text_of, text_of_forms, first_forms, header_forms, front_forms, area_forms, interface_form, lsa_form, event_form, form_of, ended};
+ghost use Rattle.recording.specs.Forms.{RouterLine, SerialLine, AreaLine, RangeLine, HasLsaLine, BodyLine, InterfaceLine, InstallLine, FlushLine, PurgeLine, RangeDropLine, LookupLine, IsForm, IsKind, scope_text, stub_words, key_words};
+ghost use Rattle.recording.specs.Recordings.{GainsBody, GainsLine, GainsLines, IsText, IsWhole, AreWhole, HasKind, HasWholeLsa, text_of, first_forms, first_of_one, first_of_two, first_of_three, header_forms, front_forms, area_forms, interface_form, lsa_form, event_form, form_of, range_set_line};
 ghost use Rattle.recording.specs.declared.line.Line.TheVariants as line;
-ghost use Rattle.recording.specs.declared.version.Version.TheVariants as version;
 
 use crate::line::Line;
 use crate::recording::Recording;
@@ -35,7 +34,7 @@ pub fn print(alloc: Global, recording: &Recording, out: &mut Vec<u8>) -> Result<
     appended
 }
 
-// Appends all lines; those before the one for which memory was refused stay.
+// Appends all lines. If memory runs out, those before that line stay.
 fn append_lines(alloc: Global, recording: &Recording, out: &mut Vec<u8>) -> Result<(), Memory>
     ensures ok { OnOk result (out.new.items ≡ out.old.items ++ text_of recording.now) }
     ensures kept { take (vec_len out.old) out.new.items ≡ out.old.items }
@@ -59,7 +58,7 @@ pub fn append_front(
     base: &Base,
     out: &mut String,
 ) -> Result<(), Memory>
-    ensures text { OnOk result (string_bytes out.new ≡ string_bytes out.old ++ text_of_forms (front_forms version base.now)) }
+    ensures text { OnOk result (GainsLines out.old out.new (front_forms version base.now)) }
     ensures forms { OnOk result (All IsForm (front_forms version base.now)) }
     ensures lsas { OnOk result (AreWhole base.now.lsas) }
 {
@@ -71,7 +70,7 @@ pub fn append_front(
 
 // The first lines, and the areas with their ranges.
 fn append_header(version: Version, base: &Base, out: &mut String) -> Result<(), Memory>
-    ensures text { OnOk result (string_bytes out.new ≡ string_bytes out.old ++ text_of_forms (header_forms version base.now)) }
+    ensures text { OnOk result (GainsLines out.old out.new (header_forms version base.now)) }
     ensures forms { OnOk result (All IsForm (header_forms version base.now)) }
 {
     append_first(version, base, out)?;
@@ -82,7 +81,7 @@ fn append_header(version: Version, base: &Base, out: &mut String) -> Result<(), 
 }
 
 fn append_has_interfaces(interfaces: &[(u8, Interface)], out: &mut String) -> Result<(), Memory>
-    ensures text { OnOk result (string_bytes out.new ≡ string_bytes out.old ++ text_of_forms (map interface_form interfaces.now)) }
+    ensures text { OnOk result (GainsLines out.old out.new (map interface_form interfaces.now)) }
     ensures forms { OnOk result (All IsForm (map interface_form interfaces.now)) }
 {
     for listed in interfaces {
@@ -92,7 +91,7 @@ fn append_has_interfaces(interfaces: &[(u8, Interface)], out: &mut String) -> Re
 }
 
 fn append_has_interface(listed: (u8, Interface), out: &mut String) -> Result<(), Memory>
-    ensures text { OnOk result (string_bytes out.new ≡ string_bytes out.old ++ ended (interface_form listed)) }
+    ensures text { OnOk result (GainsLine out.old out.new (interface_form listed)) }
     ensures form { OnOk result (IsForm (interface_form listed)) }
 {
     let (id, interface) = listed;
@@ -107,7 +106,7 @@ fn append_has_interface(listed: (u8, Interface), out: &mut String) -> Result<(),
 }
 
 fn append_has_lsas(alloc: Global, lsas: &[(Scope, Checked)], out: &mut String) -> Result<(), Memory>
-    ensures text { OnOk result (string_bytes out.new ≡ string_bytes out.old ++ text_of_forms (map lsa_form lsas.now)) }
+    ensures text { OnOk result (GainsLines out.old out.new (map lsa_form lsas.now)) }
     ensures forms { OnOk result (All IsForm (map lsa_form lsas.now)) }
     ensures lsas { OnOk result (AreWhole lsas.now) }
 {
@@ -123,7 +122,7 @@ fn append_has_lsa(
     lsa: &Checked,
     out: &mut String,
 ) -> Result<(), Memory>
-    ensures text { OnOk result (string_bytes out.new ≡ string_bytes out.old ++ ended (HasLsaLine scope (spelling lsa.now))) }
+    ensures text { OnOk result (GainsLine out.old out.new (HasLsaLine scope (spelling lsa.now))) }
     ensures form { OnOk result (IsForm (HasLsaLine scope (spelling lsa.now))) }
     ensures lsa { OnOk result (IsWhole lsa.now) }
 {
@@ -136,7 +135,7 @@ fn append_has_lsa(
 
 // The lines that come first, each in its place.
 fn append_first(version: Version, base: &Base, out: &mut String) -> Result<(), Memory>
-    ensures text { OnOk result (string_bytes out.new ≡ string_bytes out.old ++ text_of_forms (first_forms version base.now)) }
+    ensures text { OnOk result (GainsLines out.old out.new (first_forms version base.now)) }
     ensures forms { OnOk result (All IsForm (first_forms version base.now)) }
 {
     let (router, compat) = (base.config.router, base.config.compat);
@@ -148,7 +147,7 @@ fn append_first(version: Version, base: &Base, out: &mut String) -> Result<(), M
 }
 
 fn append_first_of_one(router: u32, out: &mut String) -> Result<(), Memory>
-    ensures text { OnOk result (string_bytes out.new ≡ string_bytes out.old ++ text_of_forms (VersionLine version.One ∷ RouterLine router ∷ [])) }
+    ensures text { OnOk result (GainsLines out.old out.new (first_of_one router)) }
     ensures form { OnOk result (IsForm (RouterLine router)) }
 {
     write!(out, "abr 1\nrouter {}\n", Address(router))?;
@@ -156,7 +155,7 @@ fn append_first_of_one(router: u32, out: &mut String) -> Result<(), Memory>
 }
 
 fn append_first_of_two(router: u32, compat: bool, out: &mut String) -> Result<(), Memory>
-    ensures text { OnOk result (string_bytes out.new ≡ string_bytes out.old ++ text_of_forms (VersionLine version.Two ∷ RouterLine router ∷ CompatLine compat ∷ [])) }
+    ensures text { OnOk result (GainsLines out.old out.new (first_of_two router compat)) }
     ensures form { OnOk result (IsForm (RouterLine router)) }
 {
     let state = enabled_word(compat);
@@ -170,7 +169,7 @@ fn append_first_of_three(
     serial: u64,
     out: &mut String,
 ) -> Result<(), Memory>
-    ensures text { OnOk result (string_bytes out.new ≡ string_bytes out.old ++ text_of_forms (VersionLine version.Three ∷ RouterLine router ∷ CompatLine compat ∷ SerialLine serial ∷ [])) }
+    ensures text { OnOk result (GainsLines out.old out.new (first_of_three router compat serial)) }
     ensures router { OnOk result (IsForm (RouterLine router)) }
     ensures serial { OnOk result (IsForm (SerialLine serial)) }
 {
@@ -190,7 +189,7 @@ fn enabled_word(compat: bool) -> &'static str
 
 // The line of an area, and those of its ranges.
 fn append_area(area: &AreaConfig, out: &mut String) -> Result<(), Memory>
-    ensures text { OnOk result (string_bytes out.new ≡ string_bytes out.old ++ text_of_forms (area_forms area.now)) }
+    ensures text { OnOk result (GainsLines out.old out.new (area_forms area.now)) }
     ensures forms { OnOk result (All IsForm (area_forms area.now)) }
 {
     append_area_line(area.id, area.stub, out)?;
@@ -201,7 +200,7 @@ fn append_area(area: &AreaConfig, out: &mut String) -> Result<(), Memory>
 }
 
 fn append_area_line(id: u32, stub: Option<Stub>, out: &mut String) -> Result<(), Memory>
-    ensures text { OnOk result (string_bytes out.new ≡ string_bytes out.old ++ ended (AreaLine id stub)) }
+    ensures text { OnOk result (GainsLine out.old out.new (AreaLine id stub)) }
     ensures form { OnOk result (IsForm (AreaLine id stub)) }
 {
     write!(out, "area {} {}\n", Address(id), StubField(stub))?;
@@ -209,7 +208,7 @@ fn append_area_line(id: u32, stub: Option<Stub>, out: &mut String) -> Result<(),
 }
 
 fn append_range(area: u32, range: Range, out: &mut String) -> Result<(), Memory>
-    ensures text { OnOk result (string_bytes out.new ≡ string_bytes out.old ++ ended (RangeLine area range)) }
+    ensures text { OnOk result (GainsLine out.old out.new (RangeLine area range)) }
     ensures form { OnOk result (IsForm (RangeLine area range)) }
 {
     let (prefix, shown) = (range.prefix, advertise_word(range.advertise));
@@ -225,7 +224,7 @@ fn advertise_word(advertise: bool) -> &'static str
 
 /// Appends the line of an event.
 pub fn append_event(alloc: Global, event: &Event, out: &mut String) -> Result<(), Memory>
-    ensures text { OnOk result (string_bytes out.new ≡ string_bytes out.old ++ ended (event_form event.now)) }
+    ensures text { OnOk result (GainsLine out.old out.new (event_form event.now)) }
     ensures form { OnOk result (HasKind (line.Event event.now) → IsForm (event_form event.now)) }
     ensures lsa { OnOk result (HasWholeLsa (line.Event event.now)) }
 {
@@ -252,7 +251,7 @@ pub fn append_event(alloc: Global, event: &Event, out: &mut String) -> Result<()
 
 // The line of what happened, or of a look-up.
 pub(crate) fn append_line(alloc: Global, line: &Line, out: &mut String) -> Result<(), Memory>
-    ensures text { OnOk result (string_bytes out.new ≡ string_bytes out.old ++ ended (form_of line.now)) }
+    ensures text { OnOk result (GainsLine out.old out.new (form_of line.now)) }
     ensures form { OnOk result (HasKind line.now → IsForm (form_of line.now)) }
     ensures lsa { OnOk result (HasWholeLsa line.now) }
 {
@@ -269,7 +268,7 @@ fn append_install(
     lsa: &Checked,
     out: &mut String,
 ) -> Result<(), Memory>
-    ensures text { OnOk result (string_bytes out.new ≡ string_bytes out.old ++ ended (BodyLine (InstallLine scope (spelling lsa.now)))) }
+    ensures text { OnOk result (GainsBody out.old out.new (InstallLine scope (spelling lsa.now))) }
     ensures form { OnOk result (IsForm (BodyLine (InstallLine scope (spelling lsa.now)))) }
     ensures lsa { OnOk result (IsWhole lsa.now) }
 {
@@ -281,7 +280,7 @@ fn append_install(
 }
 
 fn append_flush(scope: Scope, key: Key, out: &mut String) -> Result<(), Memory>
-    ensures text { OnOk result (string_bytes out.new ≡ string_bytes out.old ++ ended (BodyLine (FlushLine scope key))) }
+    ensures text { OnOk result (GainsBody out.old out.new (FlushLine scope key)) }
     ensures form { OnOk result (IsKind key.kind → IsForm (BodyLine (FlushLine scope key))) }
 {
     write!(out, "flush {} {}\n", ScopeField(scope), KeyField(key))?;
@@ -289,7 +288,7 @@ fn append_flush(scope: Scope, key: Key, out: &mut String) -> Result<(), Memory>
 }
 
 fn append_purge(scope: Scope, key: Key, out: &mut String) -> Result<(), Memory>
-    ensures text { OnOk result (string_bytes out.new ≡ string_bytes out.old ++ ended (BodyLine (PurgeLine scope key))) }
+    ensures text { OnOk result (GainsBody out.old out.new (PurgeLine scope key)) }
     ensures form { OnOk result (IsKind key.kind → IsForm (BodyLine (PurgeLine scope key))) }
 {
     write!(out, "purge {} {}\n", ScopeField(scope), KeyField(key))?;
@@ -304,7 +303,7 @@ fn append_interface(
     up: bool,
     out: &mut String,
 ) -> Result<(), Memory>
-    ensures text { OnOk result (string_bytes out.new ≡ string_bytes out.old ++ ended (BodyLine (InterfaceLine id area address peer up))) }
+    ensures text { OnOk result (GainsBody out.old out.new (InterfaceLine id area address peer up)) }
     ensures form { OnOk result (IsForm (BodyLine (InterfaceLine id area address peer up))) }
 {
     let (area, address, peer) = (Address(area), Address(address), Address(peer));
@@ -325,8 +324,8 @@ fn append_range_set(
     advertise: bool,
     out: &mut String,
 ) -> Result<(), Memory>
-    ensures text { OnOk result (string_bytes out.new ≡ string_bytes out.old ++ ended (BodyLine (RangeSetLine area (record { prefix = prefix; advertise = advertise })))) }
-    ensures form { OnOk result (IsForm (BodyLine (RangeSetLine area (record { prefix = prefix; advertise = advertise })))) }
+    ensures text { OnOk result (GainsBody out.old out.new (range_set_line area prefix advertise)) }
+    ensures form { OnOk result (IsForm (BodyLine (range_set_line area prefix advertise))) }
 {
     let shown = advertise_word(advertise);
     write!(out, "range-set {} {prefix} {shown}\n", Address(area))?;
@@ -334,7 +333,7 @@ fn append_range_set(
 }
 
 fn append_range_drop(area: u32, prefix: Prefix, out: &mut String) -> Result<(), Memory>
-    ensures text { OnOk result (string_bytes out.new ≡ string_bytes out.old ++ ended (BodyLine (RangeDropLine area prefix))) }
+    ensures text { OnOk result (GainsBody out.old out.new (RangeDropLine area prefix)) }
     ensures form { OnOk result (IsForm (BodyLine (RangeDropLine area prefix))) }
 {
     write!(out, "range-drop {} {prefix}\n", Address(area))?;
@@ -342,7 +341,7 @@ fn append_range_drop(area: u32, prefix: Prefix, out: &mut String) -> Result<(), 
 }
 
 fn append_lookup(address: u32, out: &mut String) -> Result<(), Memory>
-    ensures text { OnOk result (string_bytes out.new ≡ string_bytes out.old ++ ended (BodyLine (LookupLine address))) }
+    ensures text { OnOk result (GainsBody out.old out.new (LookupLine address)) }
     ensures form { OnOk result (IsForm (BodyLine (LookupLine address))) }
 {
     write!(out, "lookup {}\n", Address(address))?;

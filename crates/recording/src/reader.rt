@@ -17,7 +17,7 @@ pub(crate) struct Lines<'a> {
 
 impl<'a> Lines<'a> {
     ghost use Rattle.recording.specs.Faults.{parts_of};
-    ghost use Rattle.recording.specs.Left.{left_in, parts_left};
+    ghost use Rattle.recording.specs.Left.{IsNextLine, fault_at, left_in, parts_left};
 
     pub(crate) fn of(text: &'a [u8]) -> Lines<'a>
         ensures text { result.text.now ≡ text.now }
@@ -31,9 +31,9 @@ impl<'a> Lines<'a> {
         }
     }
 
-    /// The next line, without its line feed, and what is left behind it; none where no line feed is left.
+    /// The next line, without its line feed, and what is left behind it; none if no line feed is left.
     pub(crate) fn next(self) -> Option<(&'a [u8], Lines<'a>)>
-        ensures line { IfSome result (λ found. parts_left self.entry ≡ found.0.now ∷ parts_left found.1) }
+        ensures line { IfSome result (λ found. IsNextLine self.entry found.0.now found.1) }
         ensures text { IfSome result (λ found. found.1.text.now ≡ self.entry.text.now) }
         ensures taken { IfSome result (λ found. found.1.taken ≡ self.entry.taken + 1) }
         ensures shorter { IfSome result (λ found. self.entry.start + 1 ≤ found.1.start) }
@@ -49,11 +49,11 @@ impl<'a> Lines<'a> {
         Some((&left[..end], after))
     }
 
-    /// Whether all is taken: what is left otherwise is a line without its line feed.
+    /// Whether all is taken. If not, a line without its line feed is left.
     pub(crate) fn end(self) -> Result<(), LineFault>
         ensures ok { OnOk result (left_in self.entry ≡ []) }
         ensures cut { OnErr result (left_in self.entry ≢ []) }
-        ensures fault { IfErr result (λ e. e ≡ record { line = self.entry.taken + 1; fault = Fault.Truncated }) }
+        ensures fault { IfErr result (λ e. e ≡ fault_at self.entry Fault.Truncated) }
     {
         if self.start == self.text.len() {
             Ok(())
@@ -64,7 +64,7 @@ impl<'a> Lines<'a> {
 
     /// A fault of the next line.
     pub(crate) fn fault(self, fault: Fault) -> LineFault
-        ensures { result ≡ record { line = self.entry.taken + 1; fault = fault } }
+        ensures { result ≡ fault_at self.entry fault }
     {
         LineFault {
             line: self.taken + 1,

@@ -1,12 +1,11 @@
 //! A recording as a value.
-ghost use Rattle.std.specs.Prelude.{◌≡◌, ◌↔◌, [], None, All, IfSome, IsNone, IsTrue, is_none, map};
+ghost use Rattle.std.specs.Prelude.{◌≡◌, ◌↔◌, None, All, IfSome, IsNone, IsTrue, is_none, map};
 ghost use Rattle.std.specs.List.Sorted.{IsStrictlySortedBy};
 ghost use Rattle.std.specs.Ordering.{nat_cmp};
-ghost use Rattle.ospf_types.specs.Network.{network_cmp};
 ghost use Rattle.event_state.specs.BaseFaults.{base_fault_of, unfit_of};
 ghost use Rattle.event_state.specs.Steps.{standard_limits};
 ghost use Rattle.recording.specs.Forms.{IsKind};
-ghost use Rattle.recording.specs.Recordings.{IsRecording, IsBaseOrdered, IsOrdered, AreByIds, AreByPlaces, CanSpell, HasKind, IsEventIn, IsLineIn};
+ghost use Rattle.recording.specs.Recordings.{IsRecording, IsBaseOrdered, IsOrdered, AreByIds, AreByNetworks, AreByPlaces, CanSpell, HasConfigOnly, HasKind, IsEventIn, IsLineIn, recording_of};
 
 use crate::base_lines::compare_places;
 use crate::line::Line;
@@ -52,14 +51,14 @@ impl Model for Recording {
 }
 
 impl Recording {
-    /// The recording, in this version of the format, of a base and of what happened then. `None` where the base has a fault or
+    /// The recording, in this version of the format, of a base and of what happened then. `None` if the base has a fault or
     /// is not in order, an LS type in a key is none of the five, the version is 1 and RFC1583Compatibility is enabled, or it is
     /// 1 or 2 and there is what only version 3 spells: a serial other than 0, an interface or an LSA in the base, an event that
     /// changes a range, or a roll.
     pub fn of(version: Version, base: Base, lines: Vec<Line>) -> Option<Recording>
-        ensures some { IfSome result (λ r. r ≡ record { version = version; base = base; lines = lines.items }) }
+        ensures some { IfSome result (λ r. r ≡ recording_of version base lines.items) }
         ensures kept { IfSome result IsRecording }
-        ensures none { IsNone result → ¬ IsRecording (record { version = version; base = base; lines = lines.items }) }
+        ensures none { IsNone result → ¬ IsRecording (recording_of version base lines.items) }
     {
         let tested = can_spell(version, &base)
             && has_order(&base)
@@ -78,8 +77,8 @@ impl Recording {
 
     // The recording of parts that the caller has tested.
     pub(crate) fn of_tested(version: Version, base: Base, lines: Vec<Line>) -> Recording
-        requires { IsRecording (record { version = version; base = base; lines = lines.items }) }
-        ensures { result ≡ record { version = version; base = base; lines = lines.items } }
+        requires { IsRecording (recording_of version base lines.items) }
+        ensures { result ≡ recording_of version base lines.items }
     {
         Recording {
             version,
@@ -141,15 +140,15 @@ fn can_spell(version: Version, base: &Base) -> bool
     ensures { IsTrue result ↔ CanSpell version base.now }
 {
     match version {
-        Version::One => !base.config.compat && is_unbased(base),
-        Version::Two => is_unbased(base),
+        Version::One => !base.config.compat && has_config_only(base),
+        Version::Two => has_config_only(base),
         Version::Three => true,
     }
 }
 
-// Whether there is a configuration alone.
-fn is_unbased(base: &Base) -> bool
-    ensures { IsTrue result ↔ ((base.now.serial ≡ 0) × (base.now.interfaces ≡ []) × (base.now.lsas ≡ [])) }
+// Whether the base is a configuration only.
+fn has_config_only(base: &Base) -> bool
+    ensures { IsTrue result ↔ HasConfigOnly base.now }
 {
     base.serial == 0 && base.interfaces.is_empty() && base.lsas.is_empty()
 }
@@ -202,7 +201,7 @@ fn areas_ascend(areas: &[AreaConfig]) -> bool
 }
 
 fn all_ranges_ascend(areas: &[AreaConfig]) -> bool
-    ensures { IsTrue result ↔ All (λ a. IsStrictlySortedBy network_cmp (map (λ (range : Range). range.prefix) a.ranges)) areas.now }
+    ensures { IsTrue result ↔ All (λ a. AreByNetworks a.ranges) areas.now }
 {
     areas
         .iter()
@@ -210,7 +209,7 @@ fn all_ranges_ascend(areas: &[AreaConfig]) -> bool
 }
 
 fn ranges_ascend(ranges: &[Range]) -> bool
-    ensures { IsTrue result ↔ IsStrictlySortedBy network_cmp (map (λ range. range.prefix) ranges.now) }
+    ensures { IsTrue result ↔ AreByNetworks ranges.now }
 {
     ranges.is_sorted_by(|a, b| a.prefix.compare(b.prefix).is_lt())
 }

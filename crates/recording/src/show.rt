@@ -7,7 +7,7 @@ pub enum Show {
     Due,
     /// All LSAs at their present age.
     Lsdb,
-    /// The base, where a base was given or a roll made one, and the events that were taken since,
-    /// as a recording, and nothing else.
+    /// A recording, and nothing else: the base, if one was given or a roll made one, and the events
+    /// that were taken since.
     Journal,
 }

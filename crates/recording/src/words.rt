@@ -1,10 +1,8 @@
 //! The words of a line, and what they spell.
-ghost use Rattle.std.specs.Prelude.{◌≡◌, ◌≢◌, ◌≤◌, ◌↔◌, ◌∷◌, ◌^◌, ℕ, List, [], MatchOption, IsTrue, All, cond, decimal};
-ghost use Rattle.std.specs.Str.Parse.{AllDigits, digits_value};
-ghost use Rattle.hex.specs.Hex.{encode_lower};
+ghost use Rattle.std.specs.Prelude.{◌≡◌, ◌≢◌, ◌≤◌, ◌↔◌, [], MatchOption, IsTrue, All, decimal};
 ghost use Rattle.ospf_types.specs.Text.{address_text, prefix_text};
-ghost use Rattle.recording.specs.Forms.{AreBytes, IsAddress, IsKey, IsPrefix, IsScope, IsSerial, IsStub, key_words, scope_text, stub_words, version_word};
-ghost use Rattle.recording.specs.Reading.{cut, IsRead, Takes, TakesWord, AreDigits, IsLowerDigit, IsPair, IsUnpadded, pair_words};
+ghost use Rattle.recording.specs.Forms.{IsAddress, IsKey, IsPrefix, IsScope, IsSerial, IsStub, key_words, scope_text, stub_words, version_word};
+ghost use Rattle.recording.specs.Reading.{cut, either_word, IsRead, Takes, TakesWord, AreDigits, AreLastDigits, IsDecimalValue, IsFirstWord, IsLowerDigit, IsPair, IsUnpadded, pair_words};
 
 use crate::version::Version;
 use memchr::memchr;
@@ -38,7 +36,7 @@ impl<'a> Words<'a> {
     }
 
     pub fn next(&mut self) -> Option<&'a [u8]>
-        ensures { MatchOption result ((self.old ≡ []) × (self.new ≡ [])) (λ word. self.old ≡ word.now ∷ self.new) }
+        ensures { IsFirstWord self.old self.new result }
     {
         let left = self.left?;
         match memchr(b' ', left) {
@@ -101,9 +99,9 @@ impl<'a> Words<'a> {
 
     /// The last word, two hexadecimal digits for each byte.
     pub fn last_digits(&self) -> Option<&'a [u8]>
-        ensures { MatchOption result ((bytes : List ℕ) → AreBytes bytes → self.now ≢ encode_lower bytes ∷ []) (λ word. AreDigits word.now × (self.now ≡ word.now ∷ [])) }
+        ensures { AreLastDigits self.now result }
     {
-        // Where a space is left, it is no digit.
+        // If a space is left, it is no digit.
         let left = self.left?;
         if are_digits(left) { Some(left) } else { None }
     }
@@ -131,7 +129,7 @@ impl<'a> Words<'a> {
 
     /// Whether it is `first`, and not `second`.
     pub fn choice(&mut self, first: &[u8], second: &[u8]) -> Option<bool>
-        ensures { TakesWord (λ b. cond b first.now second.now) (λ _. Unit {0}) self.old self.new result }
+        ensures { TakesWord (either_word first.now second.now) (λ _. Unit {0}) self.old self.new result }
     {
         read_choice(self.next()?, first, second)
     }
@@ -197,7 +195,7 @@ fn read_prefix(word: &[u8]) -> Option<Prefix>
 }
 
 fn read_choice(word: &[u8], first: &[u8], second: &[u8]) -> Option<bool>
-    ensures { IsRead (λ b. cond b first.now second.now) (λ _. Unit {0}) word.now result }
+    ensures { IsRead (either_word first.now second.now) (λ _. Unit {0}) word.now result }
 {
     if is(word, first) {
         Some(true)
@@ -233,7 +231,7 @@ fn read_number(word: &[u8], most: u32) -> Option<u32>
     }
 }
 
-// A number without leading zeros, of which 64 bits have room.
+// A number without leading zeros, if 64 bits have room for it.
 fn read_serial(word: &[u8]) -> Option<u64>
     ensures { IsRead decimal IsSerial word.now result }
 {
@@ -254,9 +252,9 @@ fn is_unpadded(word: &[u8]) -> bool
     }
 }
 
-// What digits write, where 64 bits have room for it.
+// What digits write, if 64 bits have room for it.
 fn decimal_value(word: &[u8]) -> Option<u64>
-    ensures { MatchOption result (AllDigits 10 word.now → 2 ^ 64 ≤ digits_value 10 word.now) (λ n. AllDigits 10 word.now × (n ≡ digits_value 10 word.now) × IsSerial n) }
+    ensures { IsDecimalValue word.now result }
 {
     let mut value: u64 = 0;
     for digit in word {

@@ -83,8 +83,8 @@ some_shown r show.Routes printed c =
     let items : List ℕ = flat_map item_line (entries c.table.items) in
     record { whole = printed ++ serial_line c ++ items; shown = refl; behind = λ _. (serial_line c ++ items, append_assoc printed (serial_line c) items) }
 some_shown r show.Due printed c =
-    let dues : List ℕ = flat_map area_lines c.dues in
-    record { whole = printed ++ serial_line c ++ dues; shown = refl; behind = λ _. (serial_line c ++ dues, append_assoc printed (serial_line c) dues) }
+    let summaries : List ℕ = flat_map area_lines c.summaries in
+    record { whole = printed ++ serial_line c ++ summaries; shown = refl; behind = λ _. (serial_line c ++ summaries, append_assoc printed (serial_line c) summaries) }
 some_shown r show.Lsdb printed c =
     let lsas = some_lsas c in
     let listed : List ℕ = flat_map lsa_line lsas.0 in

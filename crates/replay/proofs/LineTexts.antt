@@ -12,7 +12,7 @@ use Rattle.ospf_types.specs.declared.lsa.Header.{Header}
 use Rattle.ospf_types.specs.Text.{address_text}
 use Rattle.route_table.specs.declared.table.Match.{Match}
 use Rattle.route_table.specs.Texts.{match_text}
-use Rattle.event_core.specs.Due.{Due}
+use Rattle.event_core.specs.DueSummary.{DueSummary}
 use Rattle.replay.specs.Lines.{lookup_line, due_line, dest_text, header_text}
 
 pub lookup_printed : (old new : List ℕ) (number address serial other : ℕ) (found : Match)
@@ -41,6 +41,6 @@ pub header_printed : (old front first space second new seq sum : List ℕ) (h : 
 header_printed old front first space second new seq sum h p q seq_is r s sum_is t = t ∙ rw (s, r, q, p, seq_is, sum_is) (simp append_assoc)
 
 -- the parts of the line of a summary
-pub due_printed : (old front dest new : List ℕ) (area : ℕ) (due : Due) → front ≡ old ++ (codes "due " ++ (address_text area ++ (codes " " ++ (decimal due.kind ++ codes " "))))
+pub due_printed : (old front dest new : List ℕ) (area : ℕ) (due : DueSummary) → front ≡ old ++ (codes "due " ++ (address_text area ++ (codes " " ++ (decimal due.kind ++ codes " "))))
     → dest ≡ front ++ dest_text due.dest → new ≡ dest ++ (codes " " ++ (decimal due.metric ++ codes "\n")) → new ≡ old ++ due_line area due
 due_printed old front dest new area due p q r = r ∙ rw (q, p) (simp append_assoc)

@@ -1,8 +1,8 @@
 -- What is printed line by line: a part of it is written, and the end of it is on the page.
 use Rattle.std.proofs.Common.{◌≡◌, ℕ, suc, ◌<◌, ◌+◌, List, length, get_or, drop, add-one, drop-cons, [], ◌∷◌, ◌++◌, Option, refl, sym, ap, subst, ◌∙◌, append_assoc, append-nil}
 use Rattle.std.specs.List.{flat_map}
-use Rattle.event_core.specs.Dues.{listed}
-use Rattle.event_core.specs.Lists.{AreaDuesValue}
+use Rattle.event_core.specs.DueSummaries.{listed}
+use Rattle.event_core.specs.Lists.{AreaSummariesValue}
 use Rattle.replay.specs.Lines.{area_lines}
 use Rattle.replay.specs.Pages.{Adds, AddsPart}
 use Rattle.replay.specs.Stops.{AreWhole}
@@ -137,9 +137,9 @@ line_next line items i x within is = rw add-one (ap (flat_map line) (drop-cons i
 
 -- ---- the areas, each with the lines of what is due in it
 
-abbrev pub lines_in : AreaDuesValue → List ℕ
+abbrev pub lines_in : AreaSummariesValue → List ℕ
 lines_in w = area_lines (w.area, w.list)
 
-pub lines_listed : (areas : List AreaDuesValue) → flat_map lines_in areas ≡ flat_map area_lines (listed areas)
+pub lines_listed : (areas : List AreaSummariesValue) → flat_map lines_in areas ≡ flat_map area_lines (listed areas)
 lines_listed [] = refl
 lines_listed (w ∷ areas) = ap (λ rest. lines_in w ++ rest) (lines_listed areas)

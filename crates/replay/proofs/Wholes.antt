@@ -15,10 +15,10 @@ use Rattle.route_table.specs.declared.table.Item.TheVariants as item
 use Rattle.route_table.specs.declared.table.Match.{Match}
 use Rattle.route_table.specs.Texts.{match_text}
 use Rattle.event_core.specs.declared.reply.Reply.{Reply}
-use Rattle.event_core.specs.declared.reply.Standing.{Standing}
-use Rattle.event_core.specs.declared.reply.Standing.TheVariants.{Current, Behind}
+use Rattle.event_core.specs.declared.reply.Status.{Status}
+use Rattle.event_core.specs.declared.reply.Status.TheVariants.{Current, Behind}
 use Rattle.event_core.specs.Cores.{CoreValue}
-use Rattle.event_core.specs.Due.{Due}
+use Rattle.event_core.specs.DueSummary.{DueSummary}
 use Rattle.recording.specs.Forms.{Form, line_text, scope_text}
 use Rattle.recording.specs.Recordings.{event_form, ended, text_of_forms}
 use Rattle.replay.specs.declared.page.Stop.{Stop}
@@ -72,7 +72,7 @@ pub lookup_whole : (number address serial : ℕ) (found : Match) → AreWhole (l
 lookup_whole number address serial found =
     inr (line_ended (decimal number ++ codes " lookup " ++ address_text address ++ codes " " ++ decimal serial ++ codes " " ++ match_text found))
 
-standing_whole : (number : ℕ) (state : Standing) → AreWhole (standing_line number state)
+standing_whole : (number : ℕ) (state : Status) → AreWhole (standing_line number state)
 standing_whole number Current = none_whole
 standing_whole number Behind = inr (ends_behind (decimal number) (codes " behind\n") (line_ended (codes " behind")))
 
@@ -91,7 +91,7 @@ pub item_whole : (e : Network × Item) → AreWhole (item_line e)
 item_whole (p, item.Route entry) = inr (line_ended (codes "route " ++ prefix_text p ++ codes " " ++ entry_text entry))
 item_whole (p, item.Discard) = inr (line_ended (codes "discard " ++ prefix_text p))
 
-pub due_whole : (area : ℕ) (due : Due) → AreWhole (due_line area due)
+pub due_whole : (area : ℕ) (due : DueSummary) → AreWhole (due_line area due)
 due_whole area due =
     inr (line_ended (codes "due " ++ address_text area ++ codes " " ++ decimal due.kind ++ codes " " ++ dest_text due.dest ++ codes " " ++ decimal due.metric))
 

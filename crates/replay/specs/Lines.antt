@@ -10,7 +10,7 @@ use Rattle.ospf_types.specs.Lsa.{Lsa}
 use Rattle.ospf_types.specs.Network.{Network}
 use Rattle.ospf_types.specs.Text.{address_text, prefix_text, entry_text}
 use Rattle.std.specs.List.{flat_map}
-use Rattle.event_core.specs.Due.{Due}
+use Rattle.event_core.specs.DueSummary.{DueSummary}
 use Rattle.event_state.specs.declared.base.Base.{Base}
 use Rattle.event_state.specs.declared.refusal.Refusal.{Refusal}
 use Rattle.event_state.specs.Texts.{refusal_text}
@@ -19,8 +19,8 @@ use Rattle.route_table.specs.declared.table.Item.TheVariants as item
 use Rattle.route_table.specs.declared.table.Match.{Match}
 use Rattle.route_table.specs.Texts.{match_text}
 use Rattle.event_core.specs.declared.reply.Reply.{Reply}
-use Rattle.event_core.specs.declared.reply.Standing.{Standing}
-use Rattle.event_core.specs.declared.reply.Standing.TheVariants.{Current, Behind}
+use Rattle.event_core.specs.declared.reply.Status.{Status}
+use Rattle.event_core.specs.declared.reply.Status.TheVariants.{Current, Behind}
 use Rattle.event_core.specs.Cores.{CoreValue}
 use Rattle.recording.specs.Forms.{scope_text}
 use Rattle.event_state.specs.declared.event.Event.{Event}
@@ -43,7 +43,7 @@ abbrev pub behind_line : ℕ → List ℕ
 behind_line number = decimal number ++ codes " behind\n"
 
 -- nothing where the table is that of the state now
-abbrev pub standing_line : ℕ → Standing → List ℕ
+abbrev pub standing_line : ℕ → Status → List ℕ
 standing_line number Current = codes ""
 standing_line number Behind = behind_line number
 
@@ -72,11 +72,11 @@ dest_text (Net p) = prefix_text p
 dest_text (Router router) = address_text router
 
 -- a summary that is due in the area
-abbrev pub due_line : ℕ → Due → List ℕ
+abbrev pub due_line : ℕ → DueSummary → List ℕ
 due_line area due = codes "due " ++ address_text area ++ codes " " ++ decimal due.kind ++ codes " " ++ dest_text due.dest ++ codes " " ++ decimal due.metric ++ codes "\n"
 
 -- what is due in an area
-abbrev pub area_lines : ℕ × List Due → List ℕ
+abbrev pub area_lines : ℕ × List DueSummary → List ℕ
 area_lines e = flat_map (due_line e.0) e.1
 
 -- the key, and what tells an instance from another: sequence number, checksum and present age

@@ -7,6 +7,8 @@ use Rattle.ospf_types.specs.declared.key.Scope.{Scope}
 use Rattle.ospf_types.specs.Lsa.{Lsa}
 use Rattle.event_core.specs.Cores.{CoreValue, state_of}
 use Rattle.event_core.specs.Listings.{AreLsas}
+use Rattle.event_state.specs.declared.base.Base.{Base}
+use Rattle.recording.specs.declared.line.Line.{Line}
 use Rattle.recording.specs.declared.line.Line.TheVariants as line
 use Rattle.recording.specs.Recordings.{RecordingValue, IsText, text_of}
 use Rattle.recording.specs.declared.show.Show.{Show}
@@ -24,6 +26,10 @@ pub record IsRun (r : RecordingValue) (answers : Answers) (printed : List ℕ) (
   pub opening : IsOpened r.base opened
   pub run : Prints opened (first_number r.version r.base) r.lines answers printed closed
 
+-- a recording of the version: a base, and lines
+abbrev pub recording_of : Version → Base → List Line → RecordingValue
+recording_of v base lines = record { version = v; base = base; lines = lines }
+
 -- the recording, of the version, of the base and the events that were taken since
 abbrev pub journal_of : Version → CoreValue → RecordingValue
 journal_of v c = record { version = v; base = c.base; lines = map line.Event c.journal }
@@ -32,7 +38,7 @@ journal_of v c = record { version = v; base = c.base; lines = map line.Event c.j
 -- recording. The journal is shown alone, behind its base, in the version of the recording.
 abbrev pub IsShown : Version → Show → (printed : List ℕ) → CoreValue → (text : List ℕ) → Type 0
 IsShown v show.Routes printed c text = text ≡ printed ++ serial_line c ++ flat_map item_line (entries c.table.items)
-IsShown v show.Due printed c text = text ≡ printed ++ serial_line c ++ flat_map area_lines c.dues
+IsShown v show.Due printed c text = text ≡ printed ++ serial_line c ++ flat_map area_lines c.summaries
 IsShown v show.Lsdb printed c text = (lsas : List (Scope × Lsa)) × AreLsas (state_of c) lsas × (text ≡ printed ++ serial_line c ++ flat_map lsa_line lsas)
 IsShown v show.Journal printed c text = text ≡ text_of (journal_of v c)
 

@@ -13,7 +13,7 @@ pub enum ReplayFault {
     Read,
     /// The output could not be written.
     Write,
-    /// A growth was refused.
+    /// Memory ran out.
     Memory,
     /// What was read is no recording.
     Line(LineFault),

@@ -16,5 +16,5 @@ pub use page::{Stop, fault_of, write_page};
 pub use recording::Show;
 pub use replaying::{read_recording, replay_one};
 pub use running::number_of_first;
-pub use showing::{show_dues, show_events, show_items, show_lsas};
+pub use showing::{show_events, show_items, show_lsas, show_summaries};
 pub use writing::{CannotWrite, write_whole};

@@ -1,4 +1,4 @@
-//! The lines that a replay prints, each appended to a text. Where a growth was refused, the text may
+//! The lines that a replay prints, each appended to a text. If memory runs out, the text may
 //! have a part of the line.
 ghost use Rattle.std.specs.Prelude.{◌≡◌, ◌≤◌, ◌++◌, OnOk, codes, length, string_bytes};
 ghost use Rattle.hex.specs.Hex.{encode_lower};
@@ -7,7 +7,7 @@ ghost use Rattle.route_table.specs.declared.table.Match.{Match};
 ghost use Rattle.route_table.specs.Tables.{IsMatch};
 ghost use Rattle.replay.specs.Lines.{lookup_line, answer_line, roll_line, serial_line, item_line, due_line, dest_text, header_text, lsa_line};
 
-use event_core::{Core, Due, Refusal, Reply, Standing};
+use event_core::{Core, DueSummary, Refusal, Reply, Status};
 use lsa_codec::{Checked, Header};
 use ospf_types::address::Address;
 use ospf_types::key::{Dest, Scope};
@@ -37,12 +37,13 @@ pub fn put_answer(
     answer: Result<Reply, Refusal>,
     text: &mut String,
 ) -> Result<(), Memory>
-    ensures { OnOk result (string_bytes text.new ≡ string_bytes text.old ++ answer_line number answer) }
+    ensures { OnOk result (string_bytes text.new ≡ string_bytes text.old
+        ++ answer_line number answer) }
 {
     match answer {
         Ok(reply) => match reply.state {
-            Standing::Current => {}
-            Standing::Behind => writeln!(text, "{number} behind")?,
+            Status::Current => {}
+            Status::Behind => writeln!(text, "{number} behind")?,
         },
         Err(refusal) => writeln!(text, "{number} refused {refusal}")?,
     }
@@ -55,7 +56,8 @@ pub fn put_roll(
     answer: Result<u64, Refusal>,
     text: &mut String,
 ) -> Result<(), Memory>
-    ensures { OnOk result (string_bytes text.new ≡ string_bytes text.old ++ roll_line number answer) }
+    ensures { OnOk result (string_bytes text.new ≡ string_bytes text.old
+        ++ roll_line number answer) }
 {
     if let Err(refusal) = answer {
         writeln!(text, "{number} refused {refusal}")?;
@@ -74,7 +76,8 @@ pub fn put_serial(core: &Core, text: &mut String) -> Result<(), Memory>
 
 /// A network with its route, or with a discard.
 pub(crate) fn put_item(prefix: Prefix, item: &Item, text: &mut String) -> Result<(), Memory>
-    ensures { OnOk result (string_bytes text.new ≡ string_bytes text.old ++ item_line (prefix, item.now)) }
+    ensures { OnOk result (string_bytes text.new ≡ string_bytes text.old
+        ++ item_line (prefix, item.now)) }
 {
     match item {
         Item::Route(entry) => writeln!(text, "route {prefix} {entry}")?,
@@ -84,7 +87,7 @@ pub(crate) fn put_item(prefix: Prefix, item: &Item, text: &mut String) -> Result
 }
 
 /// A summary that is due in the area.
-pub(crate) fn put_due(area: u32, due: Due, text: &mut String) -> Result<(), Memory>
+pub(crate) fn put_due(area: u32, due: DueSummary, text: &mut String) -> Result<(), Memory>
     ensures { OnOk result (string_bytes text.new ≡ string_bytes text.old ++ due_line area due) }
 {
     let (area, kind, metric) = (Address(area), due.kind, due.metric);
@@ -109,7 +112,8 @@ fn put_dest(dest: Dest, text: &mut String) -> Result<(), Memory>
 
 /// The key of an LSA, and what tells its instances apart.
 pub(crate) fn put_lsa(scope: Scope, lsa: &Checked, text: &mut String) -> Result<(), Memory>
-    ensures { OnOk result (string_bytes text.new ≡ string_bytes text.old ++ lsa_line (scope, lsa.now)) }
+    ensures { OnOk result (string_bytes text.new ≡ string_bytes text.old
+        ++ lsa_line (scope, lsa.now)) }
 {
     put_scope(scope, text)?;
     put_header(&lsa.header(), text)?;
@@ -118,7 +122,8 @@ pub(crate) fn put_lsa(scope: Scope, lsa: &Checked, text: &mut String) -> Result<
 }
 
 fn put_scope(scope: Scope, text: &mut String) -> Result<(), Memory>
-    ensures { OnOk result (string_bytes text.new ≡ string_bytes text.old ++ (codes "lsa " ++ (scope_text scope ++ codes " "))) }
+    ensures { OnOk result (string_bytes text.new ≡ string_bytes text.old
+        ++ (codes "lsa " ++ (scope_text scope ++ codes " "))) }
 {
     match scope {
         Scope::Area(id) => {
@@ -131,7 +136,8 @@ fn put_scope(scope: Scope, text: &mut String) -> Result<(), Memory>
 }
 
 fn put_header(header: &Header, text: &mut String) -> Result<(), Memory>
-    ensures { OnOk result (string_bytes text.new ≡ string_bytes text.old ++ header_text header.now) }
+    ensures { OnOk result (string_bytes text.new ≡ string_bytes text.old
+        ++ header_text header.now) }
 {
     let (kind, age) = (header.kind, header.age);
     let (id, router) = (Address(header.id), Address(header.router));
@@ -146,7 +152,8 @@ fn put_header(header: &Header, text: &mut String) -> Result<(), Memory>
 // At most four bytes.
 fn put_hexadecimal(bytes: &[u8], text: &mut String) -> Result<(), Memory>
     requires { length bytes.now ≤ 4 }
-    ensures { OnOk result (string_bytes text.new ≡ string_bytes text.old ++ encode_lower bytes.now) }
+    ensures { OnOk result (string_bytes text.new ≡ string_bytes text.old
+        ++ encode_lower bytes.now) }
 {
     let mut room = [0; 8];
     let digits = &mut room[..2 * bytes.len()];

@@ -2,13 +2,14 @@
 ghost use Rattle.std.specs.Prelude.{◌+◌, ◌^◌, ◌<◌, length, OnOk, IfErr};
 ghost use Rattle.replay.specs.Lines.{first_number};
 ghost use Rattle.replay.specs.Runs.{IsOpened};
+ghost use Rattle.replay.specs.Outputs.{recording_of};
 ghost use Rattle.replay.specs.Parts.{WritesOutput, WritesPart};
 ghost use Rattle.recording.specs.declared.show.Show.TheVariants as show;
 
 use crate::lines::put_serial;
 use crate::page::{Stop, empty_page, write_page};
 use crate::running::{run_lines, run_silently};
-use crate::showing::{show_dues, show_events, show_items, show_lsas};
+use crate::showing::{show_events, show_items, show_lsas, show_summaries};
 use event_core::Core;
 use recording::{Line, Version, append_front};
 use std::alloc::Global;
@@ -24,8 +25,11 @@ pub(crate) fn print_routes<W: io::Write>(
 ) -> Result<(), Stop>
     requires opened { IsOpened core.old.base core.old }
     requires few { first_number version core.old.base + length lines.items < 2 ^ 64 }
-    ensures ok { OnOk result (WritesOutput (record { version = version; base = core.old.base; lines = lines.items }) show.Routes (W.contents out.old) (W.contents out.new)) }
-    ensures err { IfErr result (λ why. WritesPart why (record { version = version; base = core.old.base; lines = lines.items }) show.Routes (W.contents out.old) (W.contents out.new)) }
+    ensures ok { OnOk result (WritesOutput (recording_of version core.old.base lines.items)
+        show.Routes (W.contents out.old) (W.contents out.new)) }
+    ensures err { IfErr result (λ why. WritesPart why
+        (recording_of version core.old.base lines.items) show.Routes (W.contents out.old)
+        (W.contents out.new)) }
 {
     let mut page = empty_page(alloc)?;
     run_lines(version, core, lines, out, &mut page)?;
@@ -45,13 +49,16 @@ pub(crate) fn print_due<W: io::Write>(
 ) -> Result<(), Stop>
     requires opened { IsOpened core.old.base core.old }
     requires few { first_number version core.old.base + length lines.items < 2 ^ 64 }
-    ensures ok { OnOk result (WritesOutput (record { version = version; base = core.old.base; lines = lines.items }) show.Due (W.contents out.old) (W.contents out.new)) }
-    ensures err { IfErr result (λ why. WritesPart why (record { version = version; base = core.old.base; lines = lines.items }) show.Due (W.contents out.old) (W.contents out.new)) }
+    ensures ok { OnOk result (WritesOutput (recording_of version core.old.base lines.items) show.Due
+        (W.contents out.old) (W.contents out.new)) }
+    ensures err { IfErr result (λ why. WritesPart why
+        (recording_of version core.old.base lines.items) show.Due (W.contents out.old)
+        (W.contents out.new)) }
 {
     let mut page = empty_page(alloc)?;
     run_lines(version, core, lines, out, &mut page)?;
     put_serial(core, &mut page)?;
-    show_dues(core.dues(), out, &mut page)?;
+    show_summaries(core.summaries(), out, &mut page)?;
     write_page(out, &mut page)?;
     Ok(())
 }
@@ -66,8 +73,11 @@ pub(crate) fn print_lsdb<W: io::Write>(
 ) -> Result<(), Stop>
     requires opened { IsOpened core.old.base core.old }
     requires few { first_number version core.old.base + length lines.items < 2 ^ 64 }
-    ensures ok { OnOk result (WritesOutput (record { version = version; base = core.old.base; lines = lines.items }) show.Lsdb (W.contents out.old) (W.contents out.new)) }
-    ensures err { IfErr result (λ why. WritesPart why (record { version = version; base = core.old.base; lines = lines.items }) show.Lsdb (W.contents out.old) (W.contents out.new)) }
+    ensures ok { OnOk result (WritesOutput (recording_of version core.old.base lines.items)
+        show.Lsdb (W.contents out.old) (W.contents out.new)) }
+    ensures err { IfErr result (λ why. WritesPart why
+        (recording_of version core.old.base lines.items) show.Lsdb (W.contents out.old)
+        (W.contents out.new)) }
 {
     let mut page = empty_page(alloc)?;
     run_lines(version, core, lines, out, &mut page)?;
@@ -87,8 +97,11 @@ pub(crate) fn print_journal<W: io::Write>(
     out: &mut W,
 ) -> Result<(), Stop>
     requires { IsOpened core.old.base core.old }
-    ensures ok { OnOk result (WritesOutput (record { version = version; base = core.old.base; lines = lines.items }) show.Journal (W.contents out.old) (W.contents out.new)) }
-    ensures err { IfErr result (λ why. WritesPart why (record { version = version; base = core.old.base; lines = lines.items }) show.Journal (W.contents out.old) (W.contents out.new)) }
+    ensures ok { OnOk result (WritesOutput (recording_of version core.old.base lines.items)
+        show.Journal (W.contents out.old) (W.contents out.new)) }
+    ensures err { IfErr result (λ why. WritesPart why
+        (recording_of version core.old.base lines.items) show.Journal (W.contents out.old)
+        (W.contents out.new)) }
 {
     let mut page = empty_page(alloc)?;
     run_silently(core, lines);

@@ -15,7 +15,7 @@ use std::io;
 pub enum Stop {
     /// The output could not be written.
     Write,
-    /// A growth was refused.
+    /// Memory ran out.
     Memory,
 }
 
@@ -63,8 +63,10 @@ pub fn empty_page(alloc: Global) -> Result<String, Memory>
 
 /// Writes the page where it has become long.
 pub fn spill<W: io::Write>(out: &mut W, page: &mut String) -> Result<(), CannotWrite>
-    ensures ok { OnOk result (Adds (W.contents out.old) (W.contents out.new) (string_bytes page.old) (string_bytes page.new) []) }
-    ensures err { OnErr result (AddsPart stop.Write (W.contents out.old) (W.contents out.new) (string_bytes page.old)) }
+    ensures ok { OnOk result (Adds (W.contents out.old) (W.contents out.new) (string_bytes page.old)
+        (string_bytes page.new) []) }
+    ensures err { OnErr result (AddsPart stop.Write (W.contents out.old) (W.contents out.new)
+        (string_bytes page.old)) }
 {
     if page.len() < LENGTH {
         return Ok(());
@@ -74,9 +76,11 @@ pub fn spill<W: io::Write>(out: &mut W, page: &mut String) -> Result<(), CannotW
 
 /// Writes what is on the page, and empties it.
 pub fn write_page<W: io::Write>(out: &mut W, page: &mut String) -> Result<(), CannotWrite>
-    ensures ok { OnOk result (Adds (W.contents out.old) (W.contents out.new) (string_bytes page.old) (string_bytes page.new) []) }
+    ensures ok { OnOk result (Adds (W.contents out.old) (W.contents out.new) (string_bytes page.old)
+        (string_bytes page.new) []) }
     ensures empty { OnOk result (string_bytes page.new ≡ []) }
-    ensures err { OnErr result (AddsPart stop.Write (W.contents out.old) (W.contents out.new) (string_bytes page.old)) }
+    ensures err { OnErr result (AddsPart stop.Write (W.contents out.old) (W.contents out.new)
+        (string_bytes page.old)) }
 {
     write_whole(out, page.as_bytes())?;
     page.clear();

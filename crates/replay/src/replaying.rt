@@ -9,7 +9,7 @@ ghost use Rattle.replay.specs.Lines.{first_number};
 ghost use Rattle.replay.specs.Runs.{IsOpened};
 ghost use Rattle.replay.specs.Inputs.{ReadsAll};
 ghost use Rattle.replay.specs.declared.page.Stop.TheVariants as stop;
-ghost use Rattle.replay.specs.Outputs.{Replays, ReplaysPart};
+ghost use Rattle.replay.specs.Outputs.{Replays, ReplaysPart, recording_of};
 ghost use Rattle.replay.specs.Parts.{IsRead, IsReadFault, WritesOutput, WritesPart};
 
 use crate::fault::ReplayFault;
@@ -32,11 +32,14 @@ pub fn replay_one<R: io::Read, W: io::Write>(
     out: &mut W,
     show: Show,
 ) -> Result<(), ReplayFault>
-    ensures ok { OnOk result (Replays show (R.remaining input.old) (R.remaining input.new) (W.contents out.old) (W.contents out.new)) }
+    ensures ok { OnOk result (Replays show (R.remaining input.old) (R.remaining input.new)
+        (W.contents out.old) (W.contents out.new)) }
     ensures read { result ≡ Err replay_fault.Read → out.new ≡ out.old }
     ensures line { (f : LineFault) → result ≡ Err (replay_fault.Line f) → (out.new ≡ out.old)
         × ((bytes : List ℕ) × ReadsAll (R.remaining input.old) (R.remaining input.new) bytes × IsFaultOf bytes f) }
-    ensures write { result ≡ Err replay_fault.Write → ReplaysPart stop.Write show (R.remaining input.old) (R.remaining input.new) (W.contents out.old) (W.contents out.new) }
+    ensures write { result ≡ Err replay_fault.Write
+        → ReplaysPart stop.Write show (R.remaining input.old) (R.remaining input.new)
+        (W.contents out.old) (W.contents out.new) }
     ensures memory { result ≡ Err replay_fault.Memory → (out.new ≡ out.old)
         ⊎ ReplaysPart stop.Memory show (R.remaining input.old) (R.remaining input.new) (W.contents out.old) (W.contents out.new) }
 {
@@ -74,9 +77,12 @@ fn print_recording<W: io::Write>(
     show: Show,
 ) -> Result<(), Stop>
     requires few { first_number recording.version recording.base + length recording.lines < 2 ^ 64 }
-    ensures ok { OnOk result (WritesOutput recording show (W.contents out.old) (W.contents out.new)) }
-    ensures write { result ≡ Err stop.Write → WritesPart stop.Write recording show (W.contents out.old) (W.contents out.new) }
-    ensures memory { result ≡ Err stop.Memory → (out.new ≡ out.old) ⊎ WritesPart stop.Memory recording show (W.contents out.old) (W.contents out.new) }
+    ensures ok { OnOk result (WritesOutput recording show (W.contents out.old)
+        (W.contents out.new)) }
+    ensures write { result ≡ Err stop.Write → WritesPart stop.Write recording show
+        (W.contents out.old) (W.contents out.new) }
+    ensures memory { result ≡ Err stop.Memory → (out.new ≡ out.old)
+        ⊎ WritesPart stop.Memory recording show (W.contents out.old) (W.contents out.new) }
 {
     let (version, base, lines) = recording.into_parts();
     let core = open_core(alloc, base, hashing)?;
@@ -103,8 +109,10 @@ fn print_replay<W: io::Write>(
 ) -> Result<(), Stop>
     requires opened { IsOpened core.base core }
     requires few { first_number version core.base + length lines.items < 2 ^ 64 }
-    ensures ok { OnOk result (WritesOutput (record { version = version; base = core.base; lines = lines.items }) show (W.contents out.old) (W.contents out.new)) }
-    ensures err { IfErr result (λ why. WritesPart why (record { version = version; base = core.base; lines = lines.items }) show (W.contents out.old) (W.contents out.new)) }
+    ensures ok { OnOk result (WritesOutput (recording_of version core.base lines.items) show
+        (W.contents out.old) (W.contents out.new)) }
+    ensures err { IfErr result (λ why. WritesPart why (recording_of version core.base lines.items)
+        show (W.contents out.old) (W.contents out.new)) }
 {
     match show {
         Show::Routes => print_routes(alloc, version, &mut core, lines, out),

@@ -22,8 +22,11 @@ pub(crate) fn run_lines<W: io::Write>(
     page: &mut String,
 ) -> Result<(), Stop>
     requires { first_number version core.old.base + length lines.items < 2 ^ 64 }
-    ensures ok { OnOk result (Ran core.old (first_number version core.old.base) lines.items core.new (W.contents out.old) (W.contents out.new) (string_bytes page.old) (string_bytes page.new)) }
-    ensures err { AreWhole (string_bytes page.old) → IfErr result (λ why. RanPart why core.old (first_number version core.old.base) lines.items (W.contents out.old) (W.contents out.new) (string_bytes page.old)) }
+    ensures ok { OnOk result (Ran core.old (first_number version core.old.base) lines.items core.new
+        (W.contents out.old) (W.contents out.new) (string_bytes page.old) (string_bytes page.new)) }
+    ensures err { AreWhole (string_bytes page.old)
+        → IfErr result (λ why. RanPart why core.old (first_number version core.old.base) lines.items
+        (W.contents out.old) (W.contents out.new) (string_bytes page.old)) }
 {
     let mut number = number_of_first(version, core.base());
     for line in lines {
@@ -61,7 +64,8 @@ fn first_lines(version: Version) -> usize
 
 // Runs a line, and appends what comes of it.
 fn run_line(core: &mut Core, number: usize, line: Line, text: &mut String) -> Result<(), Memory>
-    ensures { OnOk result (RanLine core.old number line core.new (string_bytes text.old) (string_bytes text.new)) }
+    ensures { OnOk result (RanLine core.old number line core.new (string_bytes text.old)
+        (string_bytes text.new)) }
 {
     match line {
         Line::Event(event) => put_answer(number, core.apply(event), text),

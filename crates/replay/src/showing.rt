@@ -2,14 +2,14 @@
 ghost use Rattle.std.specs.Prelude.{◌++◌, OnOk, IfErr, string_bytes};
 ghost use Rattle.std.specs.List.{flat_map};
 ghost use Rattle.std.specs.FinMap.{entries};
-ghost use Rattle.event_core.specs.Dues.{lists_of};
+ghost use Rattle.event_core.specs.DueSummaries.{lists_of};
 ghost use Rattle.replay.specs.Lines.{area_lines, due_line, item_line, lsa_line, event_line};
 ghost use Rattle.replay.specs.Pages.{Adds, AddsPart};
 ghost use Rattle.replay.specs.Stops.{AreWhole};
 
 use crate::lines::{put_due, put_item, put_lsa};
 use crate::page::{Stop, spill};
-use event_core::{Due, Dues, Event};
+use event_core::{DueSummaries, DueSummary, Event};
 use lsa_codec::Checked;
 use ospf_types::key::Scope;
 use recording::append_event;
@@ -19,8 +19,11 @@ use std::io;
 
 /// The items of the table.
 pub fn show_items<W: io::Write>(table: &Table, out: &mut W, page: &mut String) -> Result<(), Stop>
-    ensures ok { OnOk result (Adds (W.contents out.old) (W.contents out.new) (string_bytes page.old) (string_bytes page.new) (flat_map item_line (entries table.now.items))) }
-    ensures err { AreWhole (string_bytes page.old) → IfErr result (λ why. AddsPart why (W.contents out.old) (W.contents out.new) (string_bytes page.old ++ flat_map item_line (entries table.now.items))) }
+    ensures ok { OnOk result (Adds (W.contents out.old) (W.contents out.new) (string_bytes page.old)
+        (string_bytes page.new) (flat_map item_line (entries table.now.items))) }
+    ensures err { AreWhole (string_bytes page.old)
+        → IfErr result (λ why. AddsPart why (W.contents out.old) (W.contents out.new)
+        (string_bytes page.old ++ flat_map item_line (entries table.now.items))) }
 {
     for (prefix, item) in table.items() {
         put_item(prefix, item, page)?;
@@ -30,11 +33,18 @@ pub fn show_items<W: io::Write>(table: &Table, out: &mut W, page: &mut String) -
 }
 
 /// What is due in each area.
-pub fn show_dues<W: io::Write>(dues: &Dues, out: &mut W, page: &mut String) -> Result<(), Stop>
-    ensures ok { OnOk result (Adds (W.contents out.old) (W.contents out.new) (string_bytes page.old) (string_bytes page.new) (flat_map area_lines (lists_of dues.now))) }
-    ensures err { AreWhole (string_bytes page.old) → IfErr result (λ why. AddsPart why (W.contents out.old) (W.contents out.new) (string_bytes page.old ++ flat_map area_lines (lists_of dues.now))) }
+pub fn show_summaries<W: io::Write>(
+    summaries: &DueSummaries,
+    out: &mut W,
+    page: &mut String,
+) -> Result<(), Stop>
+    ensures ok { OnOk result (Adds (W.contents out.old) (W.contents out.new) (string_bytes page.old)
+        (string_bytes page.new) (flat_map area_lines (lists_of summaries.now))) }
+    ensures err { AreWhole (string_bytes page.old)
+        → IfErr result (λ why. AddsPart why (W.contents out.old) (W.contents out.new)
+        (string_bytes page.old ++ flat_map area_lines (lists_of summaries.now))) }
 {
-    for area in dues.areas() {
+    for area in summaries.areas() {
         show_area(area.area(), area.as_slice(), out, page)?;
     }
     Ok(())
@@ -43,12 +53,15 @@ pub fn show_dues<W: io::Write>(dues: &Dues, out: &mut W, page: &mut String) -> R
 // What is due in an area.
 fn show_area<W: io::Write>(
     area: u32,
-    list: &[Due],
+    list: &[DueSummary],
     out: &mut W,
     page: &mut String,
 ) -> Result<(), Stop>
-    ensures ok { OnOk result (Adds (W.contents out.old) (W.contents out.new) (string_bytes page.old) (string_bytes page.new) (area_lines (area, list.now))) }
-    ensures err { AreWhole (string_bytes page.old) → IfErr result (λ why. AddsPart why (W.contents out.old) (W.contents out.new) (string_bytes page.old ++ area_lines (area, list.now))) }
+    ensures ok { OnOk result (Adds (W.contents out.old) (W.contents out.new) (string_bytes page.old)
+        (string_bytes page.new) (area_lines (area, list.now))) }
+    ensures err { AreWhole (string_bytes page.old)
+        → IfErr result (λ why. AddsPart why (W.contents out.old) (W.contents out.new)
+        (string_bytes page.old ++ area_lines (area, list.now))) }
 {
     for due in list {
         put_due(area, *due, page)?;
@@ -63,8 +76,11 @@ pub fn show_lsas<W: io::Write>(
     out: &mut W,
     page: &mut String,
 ) -> Result<(), Stop>
-    ensures ok { OnOk result (Adds (W.contents out.old) (W.contents out.new) (string_bytes page.old) (string_bytes page.new) (flat_map lsa_line lsas.items)) }
-    ensures err { AreWhole (string_bytes page.old) → IfErr result (λ why. AddsPart why (W.contents out.old) (W.contents out.new) (string_bytes page.old ++ flat_map lsa_line lsas.items)) }
+    ensures ok { OnOk result (Adds (W.contents out.old) (W.contents out.new) (string_bytes page.old)
+        (string_bytes page.new) (flat_map lsa_line lsas.items)) }
+    ensures err { AreWhole (string_bytes page.old)
+        → IfErr result (λ why. AddsPart why (W.contents out.old) (W.contents out.new)
+        (string_bytes page.old ++ flat_map lsa_line lsas.items)) }
 {
     for (scope, lsa) in lsas {
         put_lsa(scope, &lsa, page)?;
@@ -80,8 +96,11 @@ pub fn show_events<W: io::Write>(
     out: &mut W,
     page: &mut String,
 ) -> Result<(), Stop>
-    ensures ok { OnOk result (Adds (W.contents out.old) (W.contents out.new) (string_bytes page.old) (string_bytes page.new) (flat_map event_line events.now)) }
-    ensures err { AreWhole (string_bytes page.old) → IfErr result (λ why. AddsPart why (W.contents out.old) (W.contents out.new) (string_bytes page.old ++ flat_map event_line events.now)) }
+    ensures ok { OnOk result (Adds (W.contents out.old) (W.contents out.new) (string_bytes page.old)
+        (string_bytes page.new) (flat_map event_line events.now)) }
+    ensures err { AreWhole (string_bytes page.old)
+        → IfErr result (λ why. AddsPart why (W.contents out.old) (W.contents out.new)
+        (string_bytes page.old ++ flat_map event_line events.now)) }
 {
     for event in events {
         append_event(alloc, event, page)?;

@@ -50,7 +50,8 @@ pub fn write_whole<W: io::Write>(out: &mut W, bytes: &[u8]) -> Result<(), Cannot
 // One write.
 fn write_some<W: io::Write>(out: &mut W, bytes: &[u8]) -> Result<Step, CannotWrite>
     ensures bound { IfOk result (λ step. step.count ≤ length bytes.now) }
-    ensures ok { IfOk result (λ step. Appends (W.contents out.old) (W.contents out.new) (take step.count bytes.now)) }
+    ensures ok { IfOk result (λ step. Appends (W.contents out.old) (W.contents out.new)
+        (take step.count bytes.now)) }
     ensures err { OnErr result (Appends (W.contents out.old) (W.contents out.new) []) }
 {
     match out.write(bytes) {

@@ -105,7 +105,7 @@ module _ {K X : Type 0} {cmp : K → K → Ordering} (total : IsTotalOrder cmp) 
   find_none q [] none = refl
   find_none q (e ∷ es) none = ap (λ b. cond b (Some e.1) (find cmp q es)) none.0 ∙ find_none q es none.1
 
-  -- as many keys as entries, where none stands twice
+  -- there are so many keys as entries, where none stands twice
   len_distinct : (es : List (K × X)) → IsDistinct (eq_by_cmp cmp) (keys_of es) → len (map_of es) ≡ length es
   len_distinct [] unique = len-empty cmp X
   len_distinct (e ∷ es) unique =

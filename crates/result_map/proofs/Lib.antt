@@ -1,3 +1,3 @@
 pub mod KeyedMaps
 pub mod KeyLaws
-pub mod Renewing
+pub mod Updating

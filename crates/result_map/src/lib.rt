@@ -2,12 +2,12 @@
 //! chose in a `ResultMap`, and tells the layer above at which keys another result stands now, and nothing else.
 #![tactic(auto)]
 
+mod choose;
 mod keys;
-mod renewal;
 mod results;
 mod same;
 
+pub use choose::Choose;
 pub use keys::ResultKey;
-pub use renewal::Renewal;
 pub use results::ResultMap;
 pub use same::{Same, are_same};

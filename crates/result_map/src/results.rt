@@ -1,12 +1,12 @@
 //! Results by key.
-ghost use Rattle.std.specs.Prelude.{◌≡◌, ◌≢◌, ◌↔◌, [], false, IfOk, OnOk, OnErr, IsTrue, IsSome, Contains, option_copied};
+ghost use Rattle.std.specs.Prelude.{◌≡◌, ◌≢◌, [], IfOk, OnOk, OnErr, option_copied};
 ghost use Rattle.std.specs.List.{AllPairs};
 ghost use Rattle.std.specs.List.Sorted.{IsStrictlySortedBy};
-ghost use Rattle.result_map.specs.Renewing.{AreRenewed, IsRenewed};
-ghost use Rattle.result_map.specs.Results.{result_at};
+ghost use Rattle.result_map.specs.Results.{AreKeysOf, OthersStay, TellsDifference, TellsSame, result_at};
+ghost use Rattle.result_map.specs.Updating.{AreUpdated, IsUpdated};
 
+use crate::choose::Choose;
 use crate::keys::ResultKey;
-use crate::renewal::Renewal;
 use crate::same::{Same, are_same};
 use indexmap::IndexMap;
 use ospf_types::memory::Memory;
@@ -56,20 +56,20 @@ impl<K: ResultKey, V: Same + Drop> ResultMap<K, V> {
 
     /// The keys that have a result, in no stated order.
     pub fn keys(&self, alloc: Global) -> Result<Vec<K>, Memory>
-        ensures exact { IfOk result (λ keys. (k : K) → Contains keys.items k ↔ IsSome (result_at K.order self.now k)) }
+        ensures exact { IfOk result (λ keys. AreKeysOf K.order self.now keys.items) }
         ensures each_once { IfOk result (λ keys. AllPairs (λ j k. j ≢ k) keys.items) }
     {
         let keys = Vec::from_slice(alloc, self.entries.keys().as_slice())?;
         Ok(keys)
     }
 
-    /// The result at the key is the fresh one from now on. The answer tells whether it differs from the one before. Where
-    /// memory is refused, nothing changes.
-    pub fn renew(&mut self, key: K, fresh: Option<V>) -> Result<bool, Memory>
+    /// The result at the key is the fresh one from now on. The answer tells whether it differs from the one before. If
+    /// memory runs out, nothing changes.
+    pub fn update(&mut self, key: K, fresh: Option<V>) -> Result<bool, Memory>
         ensures here { OnOk result (result_at K.order self.new key ≡ fresh) }
-        ensures others { OnOk result ((k : K) → k ≢ key → result_at K.order self.new k ≡ result_at K.order self.old k) }
-        ensures differs { IfOk result (λ differs. IsTrue differs ↔ (result_at K.order self.old key ≢ result_at K.order self.new key)) }
-        ensures stays { IfOk result (λ differs. differs ≡ false → result_at K.order self.new key ≡ result_at K.order self.old key) }
+        ensures others { OnOk result (OthersStay K.order self.old self.new key) }
+        ensures differs { IfOk result (TellsDifference K.order self.old self.new key) }
+        ensures stays { IfOk result (TellsSame K.order self.old self.new key) }
         ensures err { OnErr result (self.new.entries ≡ self.old.entries) }
     {
         if are_same(self.get(key), fresh.as_ref()) {
@@ -80,19 +80,20 @@ impl<K: ResultKey, V: Same + Drop> ResultMap<K, V> {
     }
 
     /// Chooses the results at the keys anew, and names the keys at which another stands now. The keys ascend, each
-    /// once. Where memory is refused, some results were chosen anew and others were not.
-    pub fn renew_all<N: Drop, R: Renewal<K, V, N>>(
+    /// once. If memory runs out, some results were chosen anew and others were not.
+    pub fn update_each<N: Drop, R: Choose<K, V, N>>(
         &mut self,
         alloc: Global,
         keys: &[K],
-        renewal: &R,
+        by: &R,
         named: &mut Vec<N>,
     ) -> Result<(), Memory>
         requires { IsStrictlySortedBy K.order keys.now }
-        ensures { OnOk result (AreRenewed K.order (R.IsChosen renewal.now) R.named_as self.old self.new keys.now named.old.items named.new.items) }
+        ensures { OnOk result (AreUpdated K.order (R.IsChosen by.now) R.named_as
+            self.old self.new keys.now named.old.items named.new.items) }
     {
         for key in keys {
-            self.renew_one(alloc, *key, renewal, named)?;
+            self.update_one(alloc, *key, by, named)?;
         }
         Ok(())
     }
@@ -105,18 +106,19 @@ impl<K: ResultKey, V: Same + Drop> ResultMap<K, V> {
     }
 
     // Chooses the result at the key anew, and names the key where another stands now.
-    fn renew_one<N: Drop, R: Renewal<K, V, N>>(
+    fn update_one<N: Drop, R: Choose<K, V, N>>(
         &mut self,
         alloc: Global,
         key: K,
-        renewal: &R,
+        by: &R,
         named: &mut Vec<N>,
     ) -> Result<(), Memory>
-        ensures { OnOk result (IsRenewed K.order (R.IsChosen renewal.now) R.named_as self.old self.new key named.old.items named.new.items) }
+        ensures { OnOk result (IsUpdated K.order (R.IsChosen by.now) R.named_as
+            self.old self.new key named.old.items named.new.items) }
     {
-        let fresh = renewal.choose(alloc, key)?;
-        if self.renew(key, fresh)? {
-            named.push(renewal.name(key))?;
+        let fresh = by.choose(alloc, key)?;
+        if self.update(key, fresh)? {
+            named.push(by.name(key))?;
         }
         Ok(())
     }
@@ -124,7 +126,7 @@ impl<K: ResultKey, V: Same + Drop> ResultMap<K, V> {
     // This is the result at the key.
     fn put(&mut self, key: K, fresh: Option<V>) -> Result<(), Memory>
         ensures here { OnOk result (result_at K.order self.new key ≡ fresh) }
-        ensures others { OnOk result ((k : K) → k ≢ key → result_at K.order self.new k ≡ result_at K.order self.old k) }
+        ensures others { OnOk result (OthersStay K.order self.old self.new key) }
         ensures err { OnErr result (self.new.entries ≡ self.old.entries) }
     {
         match fresh {

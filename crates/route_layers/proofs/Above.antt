@@ -26,8 +26,8 @@ use Rattle.lsdb.specs.Contents.{IsSound, body_at}
 use Rattle.area_trees.specs.Areas.{AreaTreeValue}
 use Rattle.intra.specs.Intras.{AreaIntraValue, IntraValue, AreAreaIntras, reached_at}
 use Rattle.intra.specs.Right.{IsRightFor}
-use Rattle.summaries.specs.Active.{ActiveValue, IsActiveIn}
-use Rattle.summaries.specs.Right.{AreConfigured, IsRightFor as AreRangesRight}
+use Rattle.active_ranges.specs.Active.{ActiveValue, IsActiveIn}
+use Rattle.active_ranges.specs.Right.{AreConfigured, IsRightFor as AreRangesRight}
 use Rattle.inter.specs.Changes.{InputsDifferAmong as InterInputsDiffer}
 use Rattle.inter.specs.Inputs.{ExaminedValue}
 use Rattle.inter.specs.Inters.{InterValue}

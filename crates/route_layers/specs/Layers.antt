@@ -8,9 +8,9 @@ use Rattle.ospf_types.specs.declared.key.Scope.TheVariants.{Area, As}
 use Rattle.ospf_types.specs.Inputs.{Area as InputArea}
 use Rattle.ospf_types.specs.Ranges.{IsExamined}
 use Rattle.intra.specs.Intras.{IntraValue}
-use Rattle.summaries.specs.Active.{ActiveValue}
+use Rattle.active_ranges.specs.Active.{ActiveValue}
 use Rattle.inter.specs.Inputs.{ExaminedValue, InterInputsValue}
-use Rattle.inter.specs.Inters.{InterValue}
+use Rattle.inter.specs.Inters.{InterValue, IsInterOf}
 use Rattle.external.specs.Inputs.{ExternalInputsValue}
 use Rattle.event_state.specs.States.{State, database_of, inputs_of}
 use Rattle.state_trees.specs.Trees.{lsas_in}
@@ -51,3 +51,7 @@ AreActiveIn s areas active = (area : ℕ) → Contains active area ↔ ((a : Are
 -- of all areas
 abbrev pub AreActive : State → List ℕ → Type 0
 AreActive s active = AreActiveIn s s.config.areas active
+
+-- the inter-area routes are those of the state, by the summaries of the area that is examined
+abbrev pub IsInterFor : State → IntraValue → ActiveValue → InterValue → Type 0
+IsInterFor s intra active inter = (examined : Option ExaminedValue) × IsExaminedOf s examined × IsInterOf (inter_inputs s examined intra active) inter

@@ -11,7 +11,7 @@ ghost use Rattle.ospf_types.specs.Keys.{dest_cmp};
 ghost use Rattle.event_state.specs.States.{database_of, inputs_of};
 ghost use Rattle.event_state.specs.Held.{AreFit};
 ghost use Rattle.intra.specs.Right.{IsRightFor};
-ghost use Rattle.summaries.specs.Right.{IsRightFor as AreRangesRight};
+ghost use Rattle.active_ranges.specs.Right.{IsRightFor as AreRangesRight};
 ghost use Rattle.inter.specs.Changes.{DiffersAt as InterDiffersAt, InputsDifferAmong as InterInputsDiffer};
 ghost use Rattle.inter.specs.Inputs.{ExaminedValue, InterInputsValue};
 ghost use Rattle.inter.specs.Inters.{IsInterOf};
@@ -20,10 +20,11 @@ ghost use Rattle.external.specs.Changes.{DiffersAt as ExternalDiffersAt, InputsD
 ghost use Rattle.external.specs.Inputs.{ExternalInputsValue};
 ghost use Rattle.external.specs.Externals.{IsExternalOf};
 ghost use Rattle.external.specs.Right.{IsRightFor as IsExternalRight};
-ghost use Rattle.route_layers.specs.Layers.{AreActive};
+ghost use Rattle.route_layers.specs.Layers.{AreActive, IsInterFor};
 ghost use Rattle.route_layers.specs.Layers.{IsExaminedOf, IsUpAmong, IsUpIn, inter_inputs, external_inputs};
 ghost use Rattle.state_trees.specs.Trees.{lsas_in};
 
+use active_ranges::ActiveRanges;
 use event_state::State;
 use external::{External, ExternalInputs};
 use inter::{Examined, Inter, InterInputs};
@@ -37,7 +38,6 @@ use state_trees::is_up_in;
 use std::alloc::Global;
 use std::collections::btree_map::Iter;
 use std::hash::RandomState;
-use summaries::ActiveRanges;
 
 // The Area ID of the backbone (RFC 2328, 3.1).
 const BACKBONE: u32 = 0;
@@ -53,7 +53,7 @@ pub fn build_inter(
     requires fit { AreFit state.now.config.areas state.now.databases }
     requires routed { IsRightFor (inputs_of state.now) intra.now }
     requires ranged { AreRangesRight (inputs_of state.now) active.now }
-    ensures kept { IfOk result (λ inter. (examined : Option ExaminedValue) × IsExaminedOf state.now examined × IsInterOf (inter_inputs state.now examined intra.now active.now) inter) }
+    ensures kept { IfOk result (IsInterFor state.now intra.now active.now) }
     ensures right { IfOk result (IsInterRight (inputs_of state.now)) }
 {
     let inputs = InterInputs {
@@ -79,10 +79,11 @@ pub fn follow_inter(
     requires ranged { AreRangesRight (inputs_of state.now) active.now }
     requires before { (before : InterInputsValue) × IsInterOf before inter.old
         × ((examined : Option ExaminedValue) → IsExaminedOf state.now examined → InterInputsDiffer dirty.now.keys.items dirty.now.dests.items before (inter_inputs state.now examined intra.now active.now)) }
-    ensures kept { OnOk result ((examined : Option ExaminedValue) × IsExaminedOf state.now examined × IsInterOf (inter_inputs state.now examined intra.now active.now) inter.new) }
+    ensures kept { OnOk result (IsInterFor state.now intra.now active.now inter.new) }
     ensures right { OnOk result (IsInterRight (inputs_of state.now) inter.new) }
     ensures in_order { IfOk result (λ dests. IsStrictlySortedBy dest_cmp dests.items) }
-    ensures exact { IfOk result (λ dests. (d : DestValue) → Contains dests.items d ↔ InterDiffersAt inter.old inter.new d) }
+    ensures exact { IfOk result (λ dests. (d : DestValue)
+        → Contains dests.items d ↔ InterDiffersAt inter.old inter.new d) }
 {
     let inputs = InterInputs {
         root: state.config().router,
@@ -106,7 +107,8 @@ pub fn build_external(
     requires routed { IsRightFor (inputs_of state.now) intra.now }
     requires ranged { AreRangesRight (inputs_of state.now) active.now }
     requires between { IsInterRight (inputs_of state.now) inter.now }
-    ensures kept { IfOk result (IsExternalOf (external_inputs state.now intra.now active.now inter.now)) }
+    ensures kept { IfOk result (IsExternalOf
+        (external_inputs state.now intra.now active.now inter.now)) }
     ensures right { IfOk result (IsExternalRight (inputs_of state.now)) }
 {
     let areas = area_ids(alloc, state)?;
@@ -137,11 +139,15 @@ pub fn follow_external(
     requires routed { IsRightFor (inputs_of state.now) intra.now }
     requires ranged { AreRangesRight (inputs_of state.now) active.now }
     requires between { IsInterRight (inputs_of state.now) inter.now }
-    requires before { (before : ExternalInputsValue) × IsExternalOf before external.old × ExternalInputsDiffer dirty.now.keys.items dirty.now.dests.items before (external_inputs state.now intra.now active.now inter.now) }
-    ensures kept { OnOk result (IsExternalOf (external_inputs state.now intra.now active.now inter.now) external.new) }
+    requires before { (before : ExternalInputsValue) × IsExternalOf before external.old
+        × ExternalInputsDiffer dirty.now.keys.items dirty.now.dests.items before
+        (external_inputs state.now intra.now active.now inter.now) }
+    ensures kept { OnOk result (IsExternalOf
+        (external_inputs state.now intra.now active.now inter.now) external.new) }
     ensures right { OnOk result (IsExternalRight (inputs_of state.now) external.new) }
     ensures in_order { IfOk result (λ dests. IsStrictlySortedBy dest_cmp dests.items) }
-    ensures exact { IfOk result (λ dests. (d : DestValue) → Contains dests.items d ↔ ExternalDiffersAt external.old external.new d) }
+    ensures exact { IfOk result (λ dests. (d : DestValue)
+        → Contains dests.items d ↔ ExternalDiffersAt external.old external.new d) }
 {
     let areas = area_ids(alloc, state)?;
     let config = state.config();
@@ -208,7 +214,8 @@ fn examined(state: &State) -> Option<Examined<'_>>
 // Its Area ID.
 fn examined_area(state: &State) -> Option<u32>
     requires { AreFit state.now.config.areas state.now.databases }
-    ensures some { IfSome result (λ area. (a : Area) × IsExamined (inputs_of state.now) a × (a.id ≡ area)) }
+    ensures some { IfSome result (λ area.
+        (a : Area) × IsExamined (inputs_of state.now) a × (a.id ≡ area)) }
     ensures none { IfNone result ((a : Area) → IsExamined (inputs_of state.now) a → ⊥) }
 {
     let mut active = None;
@@ -255,7 +262,8 @@ fn is_last_up_in(left: &mut Iter<'_, u8, Interface>, area: u32) -> bool
 
 // The backbone, where it is configured.
 fn backbone(state: &State) -> Option<u32>
-    ensures some { IfSome result (λ id. (id ≡ 0) × ((a : AreaConfig) × Contains state.now.config.areas a × (a.id ≡ 0))) }
+    ensures some { IfSome result (λ id. (id ≡ 0)
+        × ((a : AreaConfig) × Contains state.now.config.areas a × (a.id ≡ 0))) }
     ensures none { IfNone result ((a : AreaConfig) → Contains state.now.config.areas a → a.id ≢ 0) }
 {
     for area in state.config().areas.as_slice() {

@@ -1,7 +1,6 @@
 //! A network and the item that a table is to have for it.
 ghost use Rattle.std.specs.Prelude.{◌≡◌, ◌↔◌, IfOk, IsTrue, IsFalse, IsSome, Some, option_copied};
-ghost use Rattle.std.specs.FinMap as map;
-ghost use Rattle.route_table.specs.Changes.{IsNewItem};
+ghost use Rattle.route_table.specs.Changes.{HasPlaceFor, IsNewItem};
 ghost use Rattle.route_table.specs.declared.table.Item.TheVariants as item;
 
 use crate::table::{Item, Table};
@@ -18,7 +17,7 @@ const NOWHERE: usize = usize::MAX;
 #[derive(Debug, Drop)]
 pub struct NewItem {
     pub(crate) network: Prefix,
-    // Where the table has the item that this one replaces. Where that is wrong, it is looked for.
+    // Where the table has the item that this one replaces. If that is wrong, it is looked for.
     pub(crate) place: usize,
     pub(crate) item: Option<Item>,
 }
@@ -56,14 +55,14 @@ impl NewItem {
     // Whether it has an item, and the table may have none for the network.
     pub(crate) fn needs_place(&self, table: &Table) -> bool
         ensures needed { IsTrue result → IsSome self.now.1 }
-        ensures has_place { IsFalse result → IsSome self.now.1 → IsSome (map.get table.now.items self.now.0) }
+        ensures has_place { IsFalse result → HasPlaceFor table.now.items self.now }
     {
         self.item.is_some() && !table.has_at(self.place, self.network)
     }
 }
 
 impl Table {
-    /// The item, or none, as what the table is to have for the network; nothing where it has just that. It
+    /// The item, or none, as what the table is to have for the network; nothing if it has just that. It
     /// looks for the network once, and a change to the new item does not look for it again.
     pub fn new_item(&self, network: Prefix, item: Option<Item>) -> Option<NewItem>
         ensures { IsNewItem self.now.items network item result }
@@ -82,8 +81,8 @@ impl Table {
         })
     }
 
-    /// The route as what the table is to have for the network; nothing where it has just that. A copy is made only where
-    /// the table has something else.
+    /// The route as what the table is to have for the network; nothing if it has just that. A copy is made only if the
+    /// table has something else.
     pub fn new_route(
         &self,
         alloc: Global,

@@ -4,7 +4,7 @@ ghost use Rattle.std.specs.FinMap as map;
 ghost use Rattle.std.specs.List.Sorted.{IsStrictlySortedBy};
 ghost use Rattle.std.specs.Map.{keys_of};
 ghost use Rattle.ospf_types.specs.Network.{network_cmp};
-ghost use Rattle.route_table.specs.Tables.{IsMatch, StandsAs};
+ghost use Rattle.route_table.specs.Tables.{IsMatch, StandsAs, table_with};
 
 use ospf_types::entry::Entry;
 use ospf_types::memory::Memory;
@@ -158,6 +158,7 @@ impl Table {
     pub fn lookup(&self, address: u32) -> Match<'_>
         ensures { IsMatch self.now.items address result }
     {
+        // 11.1: the longest match decides, and a discard counts like a route.
         match self.items.longest(address) {
             Some((prefix, item)) => match_of(prefix, item),
             None => Match::None,
@@ -165,18 +166,18 @@ impl Table {
     }
 
     /// Sets the network's item, in place of the one that it had. That one's memory serves for it, so
-    /// only a new network's item can be refused.
+    /// memory can run out only for a new network.
     pub fn set(&mut self, prefix: Prefix, item: Item) -> Result<(), Memory>
-        ensures ok { OnOk result (self.new ≡ record self.old { items = map.insert self.old.items prefix item }) }
+        ensures ok { OnOk result (self.new ≡ table_with self.old prefix item) }
         ensures err { OnErr result (self.new ≡ self.old) }
         ensures absent { OnErr result (map.get self.old.items prefix ≡ None) }
     {
         self.items.insert(prefix, item)
     }
 
-    // What `set` does, with no look-up where the network's item stands at the place.
+    // What `set` does, with no look-up if the network's item stands at the place.
     pub(crate) fn set_at(&mut self, place: usize, prefix: Prefix, item: Item) -> Result<(), Memory>
-        ensures ok { OnOk result (self.new ≡ record self.old { items = map.insert self.old.items prefix item }) }
+        ensures ok { OnOk result (self.new ≡ table_with self.old prefix item) }
         ensures err { OnErr result (self.new ≡ self.old) }
         ensures absent { OnErr result (map.get self.old.items prefix ≡ None) }
     {

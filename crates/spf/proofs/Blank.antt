@@ -13,7 +13,7 @@ use Rattle.vertex_graph.specs.Graphs.{GraphValue, LinksOf, AreLinksFrom}
 use Rattle.spf.specs.Changes.{link_value}
 use Rattle.spf.specs.Parts.{LinksBefore, AreLost, hops_of}
 use Rattle.spf.specs.TreeValues.{TreeValue, IsTreeBefore, IsBegun, blank_value}
-use Rattle.spf.proofs.Renewed.{graph_links}
+use Rattle.spf.proofs.CarriedOut.{graph_links}
 
 -- nothing has a distance
 pub unset : (v : Vertex) (d : ℕ) → get blank_value.distances v ≡ Some d → ⊥
@@ -46,7 +46,7 @@ module _ {g : GraphValue} {came : List Link} where
   -- nothing is lost
   pub blank_lost : AreLost g [] came (get blank_value.distances) [] []
   blank_lost = record {
-    losing = record {
+    losing_support = record {
       held = record { held = λ to d at. absurd (unset to d at) };
       dear = record { dear = λ to d none. absurd (no_element to none) };
       told = record { went = λ from to cost label other least. absurd (no_element _ least.taken); led = λ from to cost label d e none. absurd (no_element from none) };

@@ -5,10 +5,10 @@ use Rattle.ospf_types.specs.declared.entry.Vertex.TheVariants.{Router}
 use Rattle.ospf_types.specs.declared.label.Label.{Label}
 use Rattle.ospf_types.specs.Distances.{Links}
 use Rattle.spf.specs.Repairs.{AreGone, AreCome, IsReset}
-use Rattle.spf.specs.Loops.{AreLosing}
+use Rattle.spf.specs.Loops.{AreLosingSupport}
 use Rattle.ospf_types.proofs.Elements.{no_element}
 use Rattle.spf.proofs.QueuedDistances.{Starts, AsRoot, AsKept, starts}
-use Rattle.spf.proofs.LosingLoop.{losing_start}
+use Rattle.spf.proofs.LoseSupportLoop.{lose_support_start}
 use Rattle.spf.proofs.Whole.{NoLinks, no_distances, blank_tree}
 
 module _ (after : Links) (root : ℕ) (has_root : Type 0) where
@@ -17,8 +17,8 @@ module _ (after : Links) (root : ℕ) (has_root : Type 0) where
   none_went = record { went = λ from to cost label taken. absurd taken }
 
   -- nothing is lost
-  pub none_lost : AreLosing NoLinks after NoLinks root ⊥ has_root no_distances [] [] []
-  none_lost = losing_start (blank_tree root).distances none_went [] [] (λ from to cost label other least. absurd least.taken) (λ v none. absurd (no_element v none))
+  pub none_lost : AreLosingSupport NoLinks after NoLinks root ⊥ has_root no_distances [] [] []
+  none_lost = lose_support_start (blank_tree root).distances none_went [] [] (λ from to cost label other least. absurd least.taken) (λ v none. absurd (no_element v none))
 
   -- Only the root has a distance at the start, so it is enough that its links came.
   pub root_came : (come : Links) (start : Vertex → Option ℕ) → has_root ⊎ (has_root → ⊥) → IsReset root has_root no_distances [] start

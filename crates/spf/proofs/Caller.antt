@@ -19,7 +19,7 @@ use Rattle.spf.proofs.Before.{earlier_is}
 use Rattle.spf.proofs.Blank.{unset, hopless}
 use Rattle.spf.proofs.Hops.{has_hop, no_hop_of_root}
 use Rattle.spf.proofs.OptionCases.{cases_value}
-use Rattle.spf.proofs.Renewed.{graph_links}
+use Rattle.spf.proofs.CarriedOut.{graph_links}
 use Rattle.spf.proofs.SameLinks.{same_back, tree_same, links_same}
 use Rattle.spf.proofs.Values.{root_zero, root_has, within_path}
 

@@ -7,7 +7,7 @@ use Rattle.ospf_types.specs.declared.label.Label.{Label}
 use Rattle.ospf_types.specs.Distances.{Links}
 use Rattle.tree_parts.specs.Members.{IsAdded}
 use Rattle.spf.specs.Repairs.{IsDue, Moved, Went, Came, OutOfLost, OutOfMoved, OutOfWritten}
-use Rattle.spf.specs.Loops.{IsHanded, AreDue, AreQueuedDue}
+use Rattle.spf.specs.Loops.{IsUpdated, AreDue, AreQueuedDue}
 use Rattle.ospf_types.proofs.Elements.{no_element}
 
 module _ {after gone come : Links} where
@@ -21,7 +21,7 @@ module _ {after gone come : Links} where
   due_more lost more_lost moved more_moved written more_written l m w v (OutOfMoved from cost label taken c) = OutOfMoved from cost label taken (m from c)
   due_more lost more_lost moved more_moved written more_written l m w v (OutOfWritten from cost label taken c) = OutOfWritten from cost label taken (w from c)
 
-  -- What is stale is due: at the start by a link that went, in the first loop by a link out of what is lost, then by a link that came, and in the second loop by a link out of what is moved.
+  -- What is stale is due: at the start by a link that went, while support is lost by a link out of what is lost, then by a link that came, and while distances are relaxed by a link out of what is moved.
   pub due_went : (stale : List Vertex) → ((v : Vertex) → Contains stale v → (from : Vertex) × (cost : ℕ) × (label : Label) × gone from v cost label) → AreDue after gone come [] [] [] stale
   due_went stale by = record { due = λ v c. let w = by v c in Went w.0 w.1 w.2 w.3 }
 
@@ -59,12 +59,12 @@ module _ {after gone come : Links} where
   pub none_due : (lost moved written : List Vertex) → AreDue after gone come lost moved written []
   none_due lost moved written = record { due = λ v none. absurd (no_element v none) }
 
-  -- In each round of the third loop what is taken was queued, and what is put is the head of a link out of what is written.
-  pub due_handed : {root : ℕ} {distance queue more : Vertex → Option ℕ} {now new : Vertex → NextHop → Type 0} (lost moved written wider taken all : List Vertex) (v : Vertex) (k : ℕ)
+  -- In each round of updating next hops what is taken was queued, and what is put is the head of a link out of what is written.
+  pub due_updated : {root : ℕ} {distance queue more : Vertex → Option ℕ} {now new : Vertex → NextHop → Type 0} (lost moved written wider taken all : List Vertex) (v : Vertex) (k : ℕ)
       → AreQueuedDue after gone come lost moved written queue → AreDue after gone come lost moved written taken
-      → IsHanded after root distance queue more now new written wider v k → IsAdded taken all v → ((w : Vertex) → Contains written w → Contains wider w)
+      → IsUpdated after root distance queue more now new written wider v k → IsAdded taken all v → ((w : Vertex) → Contains written w → Contains wider w)
       → AreQueuedDue after gone come lost moved wider more × AreDue after gone come lost moved wider all
-  due_handed lost moved written wider taken all v k q d t added grows =
+  due_updated lost moved written wider taken all v k q d t added grows =
       let wide = due_more lost lost moved moved written wider (λ u x. x) (λ u x. x) grows in (
         record { due = λ w e at. elim (t.put w e at) [ inl was ↦ wide w (q.due w e was.1) | inr p ↦ OutOfWritten v p.0.cost p.0.label p.0.least.taken p.1 ] },
         record { due = λ w c. elim (added.only w c) [ inr was ↦ wide w (d.due w was) | inl same ↦ subst (λ u. IsDue after gone come lost moved wider u) (sym same) (wide v (q.due v k t.waits)) ] },

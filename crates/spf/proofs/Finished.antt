@@ -1,4 +1,4 @@
--- What the second and the third part of a repair come to.
+-- What relaxing and the update of next hops come to.
 use Rattle.std.proofs.Common.{◌≡◌, ◌≢◌, ℕ, ◌+◌, ◌-◌, ◌≤◌, List, [], ◌∷◌, false, length, map, Option, refl, sym, ap, subst, ◌∙◌, ◌⊎◌, inl, inr, arith}
 use Rattle.std.specs.Prelude.{◌↔◌}
 use Rattle.std.specs.FinMap.{get}
@@ -12,20 +12,20 @@ use Rattle.vertex_graph.specs.Link.{Link}
 use Rattle.vertex_graph.specs.Graphs.{GraphValue}
 use Rattle.tree_parts.specs.Maps.{DistanceMap}
 use Rattle.tree_parts.specs.Differing.{IsFarther, IsNearer}
-use Rattle.spf.specs.Parts.{AreLost, AreNeared, AreSettled, hops_of}
-use Rattle.spf.specs.TreeValues.{TreeValue, IsTreeOf, IsTreeBefore, IsBegun, Differs, IsChangedBy, AreChanged, IsBounded, IsWorkDone, IsRenewed, tree_of}
+use Rattle.spf.specs.Parts.{AreLost, IsRelaxedTo, AreSettled, hops_of}
+use Rattle.spf.specs.TreeValues.{TreeValue, IsTreeOf, IsTreeBefore, IsBegun, Differs, IsChangedBy, AreChanged, IsBounded, IsWorkDone, IsCarriedOut, tree_of}
 use Rattle.spf.proofs.Idle.{idle}
-use Rattle.spf.proofs.Renewed.{tree_after, bounded, work_done, changed_by}
+use Rattle.spf.proofs.CarriedOut.{tree_after, bounded, work_done, changed_by}
 
 -- What was taken in both parts is what was moved, and what was taken in the third.
 counted : (moved near taken : ℕ) → near ≡ moved → near ≤ taken → moved + (taken - near) ≡ taken
 counted moved near taken all more = omega arith
 
--- What the second and the third part of a repair leave, once it is begun.
-pub renewed : {g : GraphValue} {gone come : List Link} {t : TreeValue} (u : TreeValue) {lost left stale wider moved written : List Vertex} {near taken hop_sets : ℕ} → IsBegun g gone come t lost stale
-    → AreNeared g come (get t.distances) (get u.distances) lost stale wider moved → left ≡ lost → AreSettled g (get u.distances) (hops_of t.hops) (hops_of u.hops) left moved wider written (taken - near)
-    → near ≡ length moved → near ≤ taken → hop_sets ≡ length written → u.spent ≡ t.spent → IsRenewed g come t u lost stale moved written taken hop_sets
-renewed {g} {gone} {come} {t} u {lost} {left} {stale} {wider} {moved} {written} {near} {taken} {hop_sets} b n same_lost settled all more wrote kept = record {
+-- What relaxing and the update of next hops leave, once a repair is begun.
+pub carried_out : {g : GraphValue} {gone come : List Link} {t : TreeValue} (u : TreeValue) {lost stale wider moved written : List Vertex} {near taken hop_sets : ℕ} → IsBegun g gone come t lost stale
+    → IsRelaxedTo g come (get t.distances) (get u.distances) lost stale wider moved → AreSettled g (get u.distances) (hops_of t.hops) (hops_of u.hops) lost moved wider written (taken - near)
+    → near ≡ length moved → near ≤ taken → hop_sets ≡ length written → u.spent ≡ t.spent → IsCarriedOut g come t u lost stale moved written taken hop_sets
+carried_out {g} {gone} {come} {t} u {lost} {stale} {wider} {moved} {written} {near} {taken} {hop_sets} b n s all more wrote kept = record {
   tree = tree_after u b.before b.losses n s (kept ∙ b.before.fresh);
   bounded = λ went d. let is = bounded u d.before d.losses n s in subst (λ k. IsBounded g went come t k hop_sets) total (subst (λ k. IsBounded g went come t (length moved + (taken - near)) k) (sym wrote) is);
   idle = λ d none. let no = idle [] come u d.before d.losses n s refl none in (sym total ∙ no.0, wrote ∙ no.1);
@@ -33,13 +33,10 @@ renewed {g} {gone} {come} {t} u {lost} {left} {stale} {wider} {moved} {written} 
   differ = changed_by u b.before b.losses n s;
 }
   where
-    s : AreSettled g (get u.distances) (hops_of t.hops) (hops_of u.hops) lost moved wider written (taken - near)
-    s = subst (λ (vs : List Vertex). AreSettled g (get u.distances) (hops_of t.hops) (hops_of u.hops) vs moved wider written (taken - near)) same_lost settled
-
     total : length moved + (taken - near) ≡ taken
     total = counted (length moved) near taken all more
 
--- A repair is begun where the first part left what is lost, of the tree as it stands.
+-- A repair is begun once it is known what lost its support, of the tree as it stands.
 pub begun : {g : GraphValue} {gone come : List Link} (i t : TreeValue) {slice : List Link} {lost stale : List Vertex} → i ≡ t → slice ≡ come → IsTreeBefore g gone come t → AreLost g gone come (get i.distances) lost stale → IsBegun g gone slice t lost stale
 begun {g} {gone} {come} i t {slice} {lost} {stale} view same before losses =
     subst (λ (links : List Link). IsBegun g gone links t lost stale) (sym same) (record { before = before; losses = subst (λ (w : TreeValue). AreLost g gone come (get w.distances) lost stale) view losses })
@@ -94,9 +91,9 @@ pub bare_begun : {g : GraphValue} {gone come : List Link} (t : TreeValue) {lost 
 bare_begun t b = record { before = record { fresh = refl; links = b.before.links; tree = b.before.tree; came = b.before.came }; losses = b.losses }
 
 -- what it comes to is what it comes to of the tree
-renewed_of : {g : GraphValue} {come : List Link} (t u : TreeValue) {lost stale moved written : List Vertex} {taken hop_sets : ℕ} → u.spent ≡ false
-    → IsRenewed g come (tree_of t.distances t.hops) (tree_of u.distances u.hops) lost stale moved written taken hop_sets → IsRenewed g come t u lost stale moved written taken hop_sets
-renewed_of t u fresh r = record {
+carried_out_of : {g : GraphValue} {come : List Link} (t u : TreeValue) {lost stale moved written : List Vertex} {taken hop_sets : ℕ} → u.spent ≡ false
+    → IsCarriedOut g come (tree_of t.distances t.hops) (tree_of u.distances u.hops) lost stale moved written taken hop_sets → IsCarriedOut g come t u lost stale moved written taken hop_sets
+carried_out_of t u fresh r = record {
   tree = record { fresh = fresh; tree = r.tree.tree };
   bounded = λ gone b. let is = r.bounded gone (bare_begun t b) in record { taken_most = is.taken_most; sets_most = is.sets_most };
   idle = λ b none. r.idle (bare_begun t b) none;
@@ -112,10 +109,10 @@ renewed_of t u fresh r = record {
 }
 
 -- what the tree is seen as, and the links that came, given another way
-pub renewed_at : {g : GraphValue} {slice come : List Link} (i t u : TreeValue) {lost stale moved written : List Vertex} {taken hop_sets : ℕ} → i ≡ t → slice ≡ come → u.spent ≡ false
-    → IsRenewed g slice (tree_of i.distances i.hops) (tree_of u.distances u.hops) lost stale moved written taken hop_sets → IsRenewed g come t u lost stale moved written taken hop_sets
-renewed_at {g} {slice} {come} i t u {lost} {stale} {moved} {written} {taken} {hop_sets} view same fresh r =
-    subst (λ (links : List Link). IsRenewed g links t u lost stale moved written taken hop_sets) same (subst (λ (w : TreeValue). IsRenewed g slice w u lost stale moved written taken hop_sets) view (renewed_of i u fresh r))
+pub carried_out_at : {g : GraphValue} {slice come : List Link} (i t u : TreeValue) {lost stale moved written : List Vertex} {taken hop_sets : ℕ} → i ≡ t → slice ≡ come → u.spent ≡ false
+    → IsCarriedOut g slice (tree_of i.distances i.hops) (tree_of u.distances u.hops) lost stale moved written taken hop_sets → IsCarriedOut g come t u lost stale moved written taken hop_sets
+carried_out_at {g} {slice} {come} i t u {lost} {stale} {moved} {written} {taken} {hop_sets} view same fresh r =
+    subst (λ (links : List Link). IsCarriedOut g links t u lost stale moved written taken hop_sets) same (subst (λ (w : TreeValue). IsCarriedOut g slice w u lost stale moved written taken hop_sets) view (carried_out_of i u fresh r))
 
 -- The list is that of what differs, where the root and what was lost were remembered as the tree was.
 pub changed_list : (i t u : TreeValue) (root at_root : ℕ) (lost at_lost left moved written changed : List Vertex) (remembered slice : List (Vertex × Option ℕ)) → i ≡ t → at_root ≡ root → at_lost ≡ lost → left ≡ lost → slice ≡ remembered

@@ -31,7 +31,7 @@ use Rattle.spf.proofs.OfSome.{of_none, of_more, of_all}
 pub union_none : (old : List NextHop) (Given : NextHop → Type 0) → ((h : NextHop) → Given h → ⊥) → IsUnion old old Given
 union_none old Given none = record { union = λ h. (λ c. inl c, λ w. elim w [ inl c ↦ c | inr given ↦ absurd (none h given) ]) }
 
--- the same is given under another name
+-- what is given, under another name
 pub union_same : (old new : List NextHop) (P Q : NextHop → Type 0) → ((h : NextHop) → P h ↔ Q h) → IsUnion old new P → IsUnion old new Q
 union_same old new P Q same u = record {
   union = λ h. (
@@ -63,7 +63,7 @@ module _ {A : Type 0} (P : A → NextHop → Type 0) where
   union_more xs i x old mid new lt is before here =
       union_same old new (λ h. IsOfSome (take i xs) P h ⊎ P x h) (IsOfSome (take (i + 1) xs) P) (λ h. let m = of_more P xs i x h lt is in (m.1, m.0)) (union_both old mid new (IsOfSome (take i xs) P) (P x) before here)
 
-  -- the same, where an element is read with a default
+  -- one element more, where it is read with a default
   pub union_turn : (xs : List A) (i : ℕ) (d : A) (old mid new : List NextHop) → i < length xs → IsUnion old mid (IsOfSome (take i xs) P) → IsUnion mid new (P (get_or xs i d)) → IsUnion old new (IsOfSome (take (i + 1) xs) P)
   union_turn xs i d old mid new lt before here = union_more xs i (get_or xs i d) old mid new lt (get_or_default xs i d (get_or xs i d) lt) before here
 
@@ -84,8 +84,8 @@ pub no_first : (old : List NextHop) (to : Vertex) (label : Label) → [] ≡ fir
 no_first old to label is = union_none old (FirstOnly to label) (λ h given. no_element h (subst (λ (hs : List NextHop). Contains hs h) (sym is) ((first_hops_are to label h).1 given)))
 
 -- a network is not attached at these, so they stay
-pub handed_whole : (tail : List NextHop) (label : Label) (h : NextHop) → ((interface : ℕ) → Contains tail (hop.Direct interface) → ⊥) → Contains tail h ↔ IsOfSome tail (IsHandedOn label) h
-handed_whole tail label h none = (
+pub handed_on_whole : (tail : List NextHop) (label : Label) (h : NextHop) → ((interface : ℕ) → Contains tail (hop.Direct interface) → ⊥) → Contains tail h ↔ IsOfSome tail (IsHandedOn label) h
+handed_on_whole tail label h none = (
   λ c. (h, c, stays h c),
   λ w. subst (λ (g : NextHop). Contains tail g) (same w.0 w.1 h w.2) w.1,
 )
@@ -96,14 +96,14 @@ handed_whole tail label h none = (
     stays (hop.Router i a) c = refl
 
     same : (g : NextHop) → Contains tail g → (k : NextHop) → HandsOn g label k → g ≡ k
-    same (hop.Direct i) c k handed = absurd (none i c)
-    same (hop.Peer i) c k handed = sym handed
-    same (hop.Router i a) c k handed = sym handed
+    same (hop.Direct i) c k handed_on = absurd (none i c)
+    same (hop.Peer i) c k handed_on = sym handed_on
+    same (hop.Router i a) c k handed_on = sym handed_on
 
 -- so they are added as they are
 pub union_whole : (tail : List NextHop) (label : Label) (old new : List NextHop) → ((interface : ℕ) → Contains tail (hop.Direct interface) → ⊥) → ((h : NextHop) → Contains new h ↔ (Contains old h ⊎ Contains tail h))
     → IsUnion old new (IsOfSome tail (IsHandedOn label))
-union_whole tail label old new none united = union_same old new (Contains tail) (IsOfSome tail (IsHandedOn label)) (λ h. handed_whole tail label h none) (record { union = united })
+union_whole tail label old new none united = union_same old new (Contains tail) (IsOfSome tail (IsHandedOn label)) (λ h. handed_on_whole tail label h none) (record { union = united })
 
 -- a next hop other than that of a network that is attached stays
 pub union_stays : (old new : List NextHop) (g : NextHop) (label : Label) → ((x : ℕ) × (g ≡ hop.Peer x)) ⊎ ((x : ℕ) × (y : ℕ) × (g ≡ hop.Router x y)) → ((h : NextHop) → Contains new h ↔ (Contains old h ⊎ (h ≡ g))) → IsUnion old new (HandsOn g label)

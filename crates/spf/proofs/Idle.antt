@@ -10,11 +10,11 @@ use Rattle.ospf_types.proofs.Elements.{no_element, first_element}
 use Rattle.vertex_graph.specs.Link.{Link}
 use Rattle.vertex_graph.specs.Graphs.{GraphValue, LinksOf, HasRoot}
 use Rattle.spf.specs.Changes.{SameLinks}
-use Rattle.spf.specs.Parts.{HadRoot, LinksBefore, AreLost, AreNeared, AreSettled, hops_of}
+use Rattle.spf.specs.Parts.{HadRoot, LinksBefore, AreLost, IsRelaxedTo, AreSettled, hops_of}
 use Rattle.spf.specs.Repairs.{Between}
 use Rattle.spf.specs.TreeValues.{TreeValue, IsTreeBefore}
 use Rattle.spf.proofs.LostVertices.{leads_more}
-use Rattle.spf.proofs.Renewed.{graph_links, distances_after}
+use Rattle.spf.proofs.CarriedOut.{graph_links, distances_after}
 use Rattle.spf.proofs.SameLinks.{hop_same}
 use Rattle.spf.proofs.Values.{within_path}
 
@@ -36,7 +36,7 @@ first_link link root v [] leads other = absurd (other (sym leads))
 first_link link root v (step ∷ way) leads other = record { to = step.to; cost = step.cost; label = step.label; taken = leads.0 }
 
 module _ {g : GraphValue} {t : TreeValue} (u : TreeValue) {lost stale wider moved written : List Vertex} {count : ℕ} (b : IsTreeBefore g [] [] t) (l : AreLost g [] [] (get t.distances) lost stale)
-    (n : AreNeared g [] (get t.distances) (get u.distances) lost stale wider moved) (s : AreSettled g (get u.distances) (hops_of t.hops) (hops_of u.hops) lost moved wider written count) where
+    (n : IsRelaxedTo g [] (get t.distances) (get u.distances) lost stale wider moved) (s : AreSettled g (get u.distances) (hops_of t.hops) (hops_of u.hops) lost moved wider written count) where
   -- the links are the same
   same : SameLinks (LinksBefore g [] []) (LinksOf g)
   same from to cost label = (λ was. elim was [ inl stands ↦ stands.0 | inr none ↦ absurd (no_element _ none) ], λ is. inl (is, λ none. no_element _ none))
@@ -48,11 +48,11 @@ module _ {g : GraphValue} {t : TreeValue} (u : TreeValue) {lost stale wider move
   -- nothing is lost
   none_lost : (v : Vertex) → Contains lost v → ⊥
   none_lost v c =
-      let r = l.losing.reached v c in
+      let r = l.losing_support.reached v c in
       let at = b.tree.distances.right v r.number r.at in
       let out = first_link (LinksBefore g [] []) g.root v at.reached.0 at.reached.1.1 r.other in
       let has : HasRoot g = ((graph_links g).out_of_root out.to out.cost out.label ((same (Router g.root) out.to out.cost out.label).0 out.taken)).has in
-      let less = l.losing.dear.dear v r.number c r.at at.reached.0 (
+      let less = l.losing_support.dear.dear v r.number c r.at at.reached.0 (
         (at.reached.1.0, has),
         leads_more (LinksBefore g [] []) (Between (LinksBefore g [] []) (LinksOf g)) g.root (λ from to cost label was. (was, (same from to cost label).0 was)) (Router g.root) v at.reached.0 at.reached.1.1,
       ) in
@@ -61,15 +61,15 @@ module _ {g : GraphValue} {t : TreeValue} (u : TreeValue) {lost stale wider move
   -- nothing is moved
   none_moved : (v : Vertex) → Contains moved v → ⊥
   none_moved v c =
-      let e = n.nearing.ended.reached v c in
-      let other = n.nearing.moved_other v c in
+      let e = n.relaxing.ended.reached v c in
+      let other = n.relaxing.moved_other v c in
       let at = (distances_after u b l n).right v e.0 e.1 in
       let out = first_link (LinksOf g) g.root v at.reached.0 at.reached.1.1 other in
       let was = within_path b.tree.distances v at.reached.0 (
         had out,
         leads_more (LinksOf g) (LinksBefore g [] []) g.root (λ from to cost label is. (same from to cost label).1 is) (Router g.root) v at.reached.0 at.reached.1.1,
       ) in
-      let less = n.nearing.ended.nearer v was.number e.0 c (n.reset.kept v other (none_lost v) ∙ was.is) e.1 in
+      let less = n.relaxing.ended.nearer v was.number e.0 c (n.reset.kept v other (none_lost v) ∙ was.is) e.1 in
       omega (arith, less, was.most, at.reached.2)
 
   -- nothing is written
@@ -105,9 +105,9 @@ module _ {g : GraphValue} {t : TreeValue} (u : TreeValue) {lost stale wider move
   no_work : (length moved + count ≡ 0) × (length written ≡ 0)
   no_work = (omega (arith, no_elements moved none_moved, no_elements s.taken none_taken, s.count), no_elements written none_written)
 
--- The same of lists that are empty.
+-- A repair is idle where the lists are empty.
 pub idle : {g : GraphValue} (gone come : List Link) {t : TreeValue} (u : TreeValue) {lost stale wider moved written : List Vertex} {count : ℕ} → IsTreeBefore g gone come t → AreLost g gone come (get t.distances) lost stale
-    → AreNeared g come (get t.distances) (get u.distances) lost stale wider moved → AreSettled g (get u.distances) (hops_of t.hops) (hops_of u.hops) lost moved wider written count
+    → IsRelaxedTo g come (get t.distances) (get u.distances) lost stale wider moved → AreSettled g (get u.distances) (hops_of t.hops) (hops_of u.hops) lost moved wider written count
     → gone ≡ [] → come ≡ [] → (length moved + count ≡ 0) × (length written ≡ 0)
 idle [] [] u b l n s none_gone none_came = no_work u b l n s
 idle (x ∷ gone) come u b l n s none_gone none_came = absurd cc

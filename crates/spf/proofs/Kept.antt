@@ -15,7 +15,7 @@ use Rattle.ospf_types.proofs.Paths.{hop_eq-Decides}
 use Rattle.tree_parts.specs.Maps.{AreHopsInOrder}
 use Rattle.spf.specs.TreeValues.{TreeValue, Differs, AreChanged, AreOthersKept, listed_hops}
 use Rattle.spf.proofs.Before.{cases_decided}
-use Rattle.spf.proofs.Renewed.{cases_distance}
+use Rattle.spf.proofs.CarriedOut.{cases_distance}
 use Rattle.spf.proofs.Finished.{with_changed}
 
 -- what is one or the other, and is not not, is
@@ -59,7 +59,7 @@ others_kept old new were are changed v other =
       is_so (cases_hops (listed_hops after) (listed_hops before)) (λ fails. alike (λ both. fails (same_listed after before (listed_in_order after (are v)) (listed_in_order before (were v)) both.1))),
     )
 
--- The same once the vertices were listed.
+-- What is kept once the vertices were listed.
 pub others_listed : (was view new : TreeValue) (changed : List Vertex) → view ≡ new → AreHopsInOrder was.hops → AreHopsInOrder new.hops → AreChanged was (with_changed view changed) changed → AreOthersKept was (with_changed view changed)
 others_listed was view new changed view_is were are exact =
     others_kept was (with_changed view changed) were (subst (λ (t : TreeValue). AreHopsInOrder t.hops) (sym view_is) are) exact

@@ -18,13 +18,13 @@ use Rattle.tree_parts.proofs.Elements.{added_end, cases_vertex}
 use Rattle.tree_parts.proofs.VertexMaps.{set_here, set_elsewhere, gone_here, gone_elsewhere}
 use Rattle.spf.specs.Trees.{AreLinks, rank}
 use Rattle.spf.specs.Repairs.{IsReset, IsOffered}
-use Rattle.spf.specs.Loops.{IsOpened, AreNearing, IsTaken}
+use Rattle.spf.specs.Loops.{IsOpened, AreRelaxing, IsTaken}
 use Rattle.spf.specs.Changes.{Among, link_value}
 use Rattle.spf.specs.Offers.{OverReached, OutOf, Into, AreMade}
-use Rattle.spf.specs.Parts.{AreStarted, IsStaleNow, AreNeared}
+use Rattle.spf.specs.Parts.{AreStarted, IsStaleNow, IsRelaxedTo}
 use Rattle.spf.proofs.AreaLinks.{area_links}
 use Rattle.spf.proofs.GraphVertices.{IsThere, root_or_not, reached_there, no_more}
-use Rattle.spf.proofs.NearingLoop.{nearing_started, nearing_taken, fresh}
+use Rattle.spf.proofs.RelaxLoop.{relax_started, relax_taken, fresh}
 use Rattle.spf.proofs.Offering.{made_both}
 use Rattle.spf.proofs.Taken.{queued_distance}
 use Rattle.spf.proofs.Values.{none_within}
@@ -123,7 +123,7 @@ module _ (queue : Queue) (v : Vertex) (k : ℕ) (first : IsFirst queue v k) wher
 
 -- While distances are sought: what holds of them, of those that moved and of what is stale.
 pub record AreSought (g : GraphValue) (came : List Link) (start : DistanceMap) (stale : List Vertex) (distances : DistanceMap) (queue : Queue) (moved wider : List Vertex) : Type 0 where
-  pub nearing : AreNearing (LinksOf g) (Among came) g.root (HasRoot g) (get start) (get distances) (get queue) moved wider
+  pub relaxing : AreRelaxing (LinksOf g) (Among came) g.root (HasRoot g) (get start) (get distances) (get queue) moved wider
   pub apart : HasNoDoubles moved
   pub widens : (v : Vertex) → Contains stale v → Contains wider v
   pub why : (v : Vertex) → Contains wider v → IsStaleNow g came stale moved v
@@ -140,7 +140,7 @@ module _ (g : GraphValue) (came : List Link) where
       → AreSought g came start stale start more moved wider
   sought_at_start {old} {stale} {wide} {wider} lost cleared offered moved start none queue more root cleared_is offered_is none_is moved_is root_is s links reset_cleared into_offered over_root =
       subst (λ (vs : List Vertex). AreSought g came start stale start more vs wider) (sym moved_is) (record {
-        nearing = nearing_started graph_links (root_or_not g) s reset (opened came links reset into over);
+        relaxing = relax_started graph_links (root_or_not g) s reset (opened came links reset into over);
         apart = no_doubles_nil;
         widens = widens_at_start came links reset into over;
         why = λ v c. elim (stale_at_start came links reset into over v c) [ inl was ↦ inl was | inr new ↦ inr (inl new) ];
@@ -160,7 +160,7 @@ module _ (g : GraphValue) (came : List Link) where
   module _ {start distances : DistanceMap} {queue : Queue} {stale wide moved : List Vertex} (s : AreSought g came start stale distances queue moved wide) where
     -- each that moved is a vertex of the graph
     moved_there : (v : Vertex) → Contains moved v → IsThere g v
-    moved_there v m = let at = s.nearing.ended.reached v m in reached_there g s.nearing.real v at.0 at.1 (s.nearing.moved_other v m)
+    moved_there v m = let at = s.relaxing.ended.reached v m in reached_there g s.relaxing.real v at.0 at.1 (s.relaxing.moved_other v m)
 
     -- so no more moved than the graph has
     pub moved_most : length moved ≤ len g.ends
@@ -169,16 +169,16 @@ module _ (g : GraphValue) (came : List Link) where
     module _ (v : Vertex) (k : ℕ) (first : IsFirst queue v k) where
       -- what is taken has not moved
       pub unmoved : Contains moved v → ⊥
-      unmoved = fresh s.nearing v k first.waits
+      unmoved = fresh s.relaxing v k first.waits
 
       -- and is queued at its distance
       pub taken_right : IsDistance (LinksOf g) g.root (HasRoot g) v k
-      taken_right = queued_distance s.nearing v k first.waits (least_first queue v k first)
+      taken_right = queued_distance s.relaxing v k first.waits (least_first queue v k first)
 
       -- a round
       pub sought_more : (new : DistanceMap) (rest more : Queue) (all : List Vertex) {wider : List Vertex} → all ≡ moved ++ v ∷ [] → rest ≡ remove queue v → new ≡ insert distances v k → AreMade (OutOf (LinksOf g) g.root v k) (get new) (get rest) (get more) wide wider → AreSought g came start stale new more all wider
       sought_more new rest more all {wider} all_is rest_is new_is a = subst (λ (vs : List Vertex). AreSought g came start stale new more vs wider) (sym all_is) (record {
-        nearing = nearing_taken s.nearing graph_links (get new) (get more) (moved ++ v ∷ []) wider v k (taken queue v k first (LinksOf g) g.root distances new rest more rest_is new_is a) (added_end v moved);
+        relaxing = relax_taken s.relaxing graph_links (get new) (get more) (moved ++ v ∷ []) wider v k (taken queue v k first (LinksOf g) g.root distances new rest more rest_is new_is a) (added_end v moved);
         apart = no_doubles_push moved v s.apart unmoved;
         widens = λ w c. a.widens w (s.widens w c);
         why = λ w c. elim (a.why w c) [
@@ -194,12 +194,12 @@ module _ (g : GraphValue) (came : List Link) where
       })
 
   -- at the end
-  pub neared_at_end : {old : Vertex → Option ℕ} {stale wider moved : List Vertex} (lost cleared : List Vertex) (start distances : DistanceMap) (queue : Queue)
-      → cleared ≡ lost → IsReset g.root (HasRoot g) old cleared (get start) → queue ≡ empty → AreSought g came start stale distances queue moved wider → AreNeared g came old (get distances) lost stale wider moved
-  neared_at_end {old} {wider = wider} {moved = moved} lost cleared start distances queue cleared_is reset none s = record {
+  pub relax_leaves : {old : Vertex → Option ℕ} {stale wider moved : List Vertex} (lost cleared : List Vertex) (start distances : DistanceMap) (queue : Queue)
+      → cleared ≡ lost → IsReset g.root (HasRoot g) old cleared (get start) → queue ≡ empty → AreSought g came start stale distances queue moved wider → IsRelaxedTo g came old (get distances) lost stale wider moved
+  relax_leaves {old} {wider = wider} {moved = moved} lost cleared start distances queue cleared_is reset none s = record {
     start = start;
     reset = subst (λ (vs : List Vertex). IsReset g.root (HasRoot g) old vs (get start)) cleared_is reset;
-    nearing = subst (λ (q : Vertex → Option ℕ). AreNearing (LinksOf g) (Among came) g.root (HasRoot g) (get start) (get distances) q moved wider) (λ i v. (ap (λ (q : Queue). get q v) none ∙ get-empty vertex_cmp v) i) s.nearing;
+    relaxing = subst (λ (q : Vertex → Option ℕ). AreRelaxing (LinksOf g) (Among came) g.root (HasRoot g) (get start) (get distances) q moved wider) (λ i v. (ap (λ (q : Queue). get q v) none ∙ get-empty vertex_cmp v) i) s.relaxing;
     apart = s.apart;
     widens = s.widens;
     why = s.why;

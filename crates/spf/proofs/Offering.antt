@@ -15,6 +15,7 @@ use Rattle.vertex_queue.proofs.Ranks.{lessened_here, lessened_elsewhere}
 use Rattle.tree_parts.specs.Members.{IsAdded}
 use Rattle.tree_parts.proofs.Elements.{cases_vertex}
 use Rattle.tree_parts.proofs.VertexMaps.{set_here}
+use Rattle.spf.specs.declared.relax.Pending.{Pending}
 use Rattle.spf.specs.Changes.{link_value}
 use Rattle.spf.specs.Trees.{IsWithin}
 use Rattle.spf.specs.Offers.{Offers, OneOffer, OverLink, OverLinks, OverReached, OutOf, Into, AreMade}
@@ -136,7 +137,7 @@ made_both {queue = queue} {more = more} a b either from_first from_second = reco
   ];
 }
 
--- the same offers, said in another way
+-- equal offers, said in another way
 pub made_same : {first all : Offers} {distance queue more : Vertex → Option ℕ} {stale wider : List Vertex}
     → AreMade first distance queue more stale wider → ((v : Vertex) (e : ℕ) → all v e → first v e) → ((v : Vertex) (e : ℕ) → first v e → all v e) → AreMade all distance queue more stale wider
 made_same a into from = record {
@@ -149,9 +150,8 @@ made_same a into from = record {
 }
 
 -- under another name
-pub made_renamed : {offers : Offers} {distance before : Vertex → Option ℕ} {stale : List Vertex} {q r : Queue} {s t : List Vertex} → r ≡ q → t ≡ s → AreMade offers distance before (get q) stale s → AreMade offers distance before (get r) stale t
-made_renamed {offers} {distance} {before} {stale} {q} {r} {s} {t} queue_is stale_is a =
-    subst (λ (x : Queue). AreMade offers distance before (get x) stale t) (sym queue_is) (subst (λ (x : List Vertex). AreMade offers distance before (get q) stale x) (sym stale_is) a)
+pub made_renamed : {offers : Offers} {distance before : Vertex → Option ℕ} {stale : List Vertex} {v w : Pending} → w ≡ v → AreMade offers distance before (get v.queue) stale v.stale → AreMade offers distance before (get w.queue) stale w.stale
+made_renamed {offers} {distance} {before} {stale} is a = subst (λ (x : Pending). AreMade offers distance before (get x.queue) stale x.stale) (sym is) a
 
 -- ---- over links
 

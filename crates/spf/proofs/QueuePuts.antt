@@ -22,7 +22,7 @@ module _ (distance : Vertex → Option ℕ) where
   pub put_none : (queue : Vertex → Option ℕ) (Due : Vertex → Type 0) → ((v : Vertex) → Due v → ⊥) → ArePut distance Due queue queue
   put_none queue Due none = record { keeps = λ v waits. waits; all = λ v due. absurd (none v due); only = λ v k at. inl at }
 
-  -- the same is due under another name
+  -- what is due, under another name
   pub put_same : (queue more : Vertex → Option ℕ) (P Q : Vertex → Type 0) → ((v : Vertex) → P v ↔ Q v) → ArePut distance P queue more → ArePut distance Q queue more
   put_same queue more P Q same p = record {
     keeps = p.keeps;
@@ -74,7 +74,7 @@ module _ (distance : Vertex → Option ℕ) where
     put_more xs i x queue mid more lt is before here =
         put_same queue more (λ v. IsOfSome (take i xs) P v ⊎ P x v) (IsOfSome (take (i + 1) xs) P) (λ v. let m = of_more P xs i x v lt is in (m.1, m.0)) (put_both queue mid more (IsOfSome (take i xs) P) (P x) before here)
 
-    -- the same, where an element is read with a default
+    -- one element more, where it is read with a default
     pub put_turn : (xs : List A) (i : ℕ) (d : A) (queue mid more : Vertex → Option ℕ) → i < length xs → ArePut distance (IsOfSome (take i xs) P) queue mid → ArePut distance (P (get_or xs i d)) mid more → ArePut distance (IsOfSome (take (i + 1) xs) P) queue more
     put_turn xs i d queue mid more lt before here = put_more xs i (get_or xs i d) queue mid more lt (get_or_default xs i d (get_or xs i d) lt) before here
 

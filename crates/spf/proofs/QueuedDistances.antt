@@ -13,7 +13,7 @@ use Rattle.spf.proofs.Values.{none_within, distances_from_local}
 use Rattle.spf.proofs.Ranks.{rank_grows, rank_falls}
 use Rattle.spf.proofs.LostVertices.{path_more, path_to_root, kept_path}
 
--- the same value under another name
+-- an equal value under another name
 pub within_same : (x y : Option ℕ) (limit : ℕ) → x ≡ y → IsWithin x limit → IsWithin y limit
 within_same x y limit same within = record { number = within.number; is = sym same ∙ within.is; most = within.most }
 

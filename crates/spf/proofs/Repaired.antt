@@ -11,12 +11,12 @@ use Rattle.tree_parts.specs.Members.{HasNoDoubles}
 use Rattle.tree_parts.proofs.Elements.{cases_contains}
 use Rattle.spf.specs.Trees.{AreLinks, IsTree}
 use Rattle.spf.specs.Repairs.{AreGone, AreCome, AreChanges, IsReset, IsEmptyQueue, IsQueued, AreToldLost, AreOwed}
-use Rattle.spf.specs.Loops.{AreLosing, AreNearing, AreHanding, AreDue}
+use Rattle.spf.specs.Loops.{AreLosingSupport, AreRelaxing, AreUpdatingNextHops, AreDue}
 use Rattle.spf.proofs.Settling.{right_at_start}
 use Rattle.spf.proofs.Bounds.{written_differs, lost_differs, taken_bound, written_bound}
 use Rattle.spf.proofs.Whole.{tree_unions}
-use Rattle.spf.proofs.NearingLoop.{nearing_end}
-use Rattle.spf.proofs.HandingLoop.{handing_start, handing_end}
+use Rattle.spf.proofs.RelaxLoop.{relax_end}
+use Rattle.spf.proofs.UpdateNextHopsLoop.{update_next_hops_start, update_next_hops_end}
 
 -- what is told of the lost stays so where more is stale
 pub told_wider : {after gone : Links} {root : ℕ} {old : Vertex → Option ℕ} {lost : List Vertex} (stale wider : List Vertex) → AreToldLost after gone root old lost stale → ((v : Vertex) → Contains stale v → Contains wider v)
@@ -28,18 +28,18 @@ told_wider stale wider t widens = record {
 
 module _ {before after gone come : Links} {root : ℕ} {had_root has_root : Type 0} {old start distance queue : Vertex → Option ℕ} {sets : Vertex → NextHop → Type 0} {lost told moved stale : List Vertex}
     (links_before : AreLinks before root had_root) (links : AreLinks after root has_root) (was : IsTree before root had_root old sets)
-    (l : AreLosing before after gone root had_root has_root old lost [] told) (reset : IsReset root has_root old lost start)
-    (n : AreNearing after come root has_root start distance queue moved stale) (none : IsEmptyQueue queue) where
-  -- Between the second loop and the third: all that was moved or is stale is queued, and the sets of what is reached are as they were.
-  pub handing_open : AreGone before after gone → AreCome before after come start → ((v : Vertex) → Contains told v → Contains stale v)
+    (l : AreLosingSupport before after gone root had_root has_root old lost [] told) (reset : IsReset root has_root old lost start)
+    (n : AreRelaxing after come root has_root start distance queue moved stale) (none : IsEmptyQueue queue) where
+  -- Between relaxing and updating next hops: all that was moved or is stale is queued, and the sets of what is reached are as they were.
+  pub update_next_hops_opened : AreGone before after gone → AreCome before after come start → ((v : Vertex) → Contains told v → Contains stale v)
       → (now : Vertex → NextHop → Type 0) (again : Vertex → Option ℕ)
       → ((v : Vertex) (d : ℕ) → distance v ≡ Some d → (h : NextHop) → now v h ↔ sets v h)
       → ((v : Vertex) (d : ℕ) → distance v ≡ Some d → v ≢ Router root → Contains moved v ⊎ Contains stale v → IsQueued again v)
       → ((v : Vertex) (k : ℕ) → again v ≡ Some k → (distance v ≡ Some k) × (v ≢ Router root))
-      → AreHanding after root distance again now now [] []
-  handing_open are_gone are_come widens now again same waits queued =
-      handing_start distance again now
-      (right_at_start are_gone are_come links_before links was.distances (nearing_end n none) reset n.ended (told_wider told stale l.told widens) n.told none sets now again (tree_unions was) same waits)
+      → AreUpdatingNextHops after root distance again now now [] []
+  update_next_hops_opened are_gone are_come widens now again same waits queued =
+      update_next_hops_start distance again now
+      (right_at_start are_gone are_come links_before links was.distances (relax_end n none) reset n.ended (told_wider told stale l.told widens) n.told none sets now again (tree_unions was) same waits)
       queued
 
   -- what is neither lost nor moved has its old distance
@@ -56,16 +56,16 @@ module _ {before after gone come : Links} {root : ℕ} {had_root has_root : Type
     ]
   ]
 
-  -- At the end of the third loop the tree is that of the links after.
-  pub tree_after : {begun now : Vertex → NextHop → Type 0} {again : Vertex → Option ℕ} {taken written : List Vertex} → AreHanding after root distance again begun now taken written → IsEmptyQueue again
+  -- Once next hops are updated the tree is that of the links after.
+  pub tree_after : {begun now : Vertex → NextHop → Type 0} {again : Vertex → Option ℕ} {taken written : List Vertex} → AreUpdatingNextHops after root distance again begun now taken written → IsEmptyQueue again
       → ((h : NextHop) → begun (Router root) h → ⊥) → ((to : Vertex) → distance to ≡ None → (h : NextHop) → begun to h → ⊥)
       → IsTree after root has_root distance now
-  tree_after h none_again blank_root blank = handing_end h links (nearing_end n none) none_again blank_root blank
+  tree_after h none_again blank_root blank = update_next_hops_end h links (relax_end n none) none_again blank_root blank
 
   -- And the work of all three is bounded: what is taken from the queues, and the sets that are written, those of lost vertices that stay unreached among them.
   module _ {begun now : Vertex → NextHop → Type 0} {again : Vertex → Option ℕ} {taken written : List Vertex} {first second heads first_out second_out : List Vertex} (changes : AreChanges before after gone come)
       (owed : AreOwed root before after gone come had_root has_root first second heads first_out second_out)
-      (h : AreHanding after root distance again begun now taken written) (after_tree : IsTree after root has_root distance now)
+      (h : AreUpdatingNextHops after root distance again begun now taken written) (after_tree : IsTree after root has_root distance now)
       (same : (v : Vertex) (d : ℕ) → distance v ≡ Some d → (g : NextHop) → begun v g ↔ sets v g) where
     -- what was written differs
     written_once : (v : Vertex) → Contains written v → Contains (first ++ second) v

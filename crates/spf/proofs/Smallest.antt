@@ -12,14 +12,14 @@ use Rattle.ospf_types.specs.Distances.{Links, FirstOnly}
 use Rattle.tree_parts.proofs.Elements.{added_front}
 use Rattle.spf.specs.Trees.{AreLinks, IsTree, IsGiven}
 use Rattle.spf.specs.Repairs.{IsReset}
-use Rattle.spf.specs.Loops.{AreLosing, AreNearing, IsOpened, IsTaken, AreHanding, IsHanded}
+use Rattle.spf.specs.Loops.{AreLosingSupport, AreRelaxing, IsOpened, IsTaken, AreUpdatingNextHops, IsUpdated}
 use Rattle.ospf_types.proofs.Elements.{no_element, first_element}
 use Rattle.spf.proofs.Whole.{NoLinks, no_distances, blank_tree, no_links}
 use Rattle.spf.proofs.Building.{none_went, none_lost, root_came}
-use Rattle.spf.proofs.LosingLoop.{losing_start, losing_lost}
-use Rattle.spf.proofs.NearingLoop.{nearing_start, nearing_taken}
-use Rattle.spf.proofs.HandingLoop.{handing_taken}
-use Rattle.spf.proofs.Repaired.{handing_open, tree_after}
+use Rattle.spf.proofs.LoseSupportLoop.{lose_support_start, lose_support_lost}
+use Rattle.spf.proofs.RelaxLoop.{relax_start, relax_taken}
+use Rattle.spf.proofs.UpdateNextHopsLoop.{update_next_hops_taken}
+use Rattle.spf.proofs.Repaired.{update_next_hops_opened, tree_after}
 
 -- the one link, from router 0 to router 1
 abbrev one_link : Links
@@ -105,9 +105,9 @@ opened = record {
   tells = λ from to cost label t other least. absurd (differ (sym t.1 ∙ (only_started to (least.near + cost) least.head).0));
 }
 
--- the second loop begins
-begun : AreNearing one_link one_link 0 (Unit {0}) start start queue [] []
-begun = nearing_start (no_links 0) links (inl tt) (blank_tree 0).distances (root_came one_link 0 (Unit {0}) one_link start (inl tt) reset (λ to cost label t. t)) (none_lost one_link 0 (Unit {0})) reset opened
+-- relaxing begins
+begun : AreRelaxing one_link one_link 0 (Unit {0}) start start queue [] []
+begun = relax_start (no_links 0) links (inl tt) (blank_tree 0).distances (root_came one_link 0 (Unit {0}) one_link start (inl tt) reset (λ to cost label t. t)) (none_lost one_link 0 (Unit {0})) reset opened
 
 -- router 1 is taken
 taken : IsTaken one_link 0 start queue distance empty [] [] (Router 1) 1
@@ -122,9 +122,9 @@ taken = record {
   tells = λ to cost label t. absurd (differ t.0);
 }
 
--- and the second loop ends
-ended : AreNearing one_link one_link 0 (Unit {0}) start distance empty (Router 1 ∷ []) []
-ended = nearing_taken begun links distance empty (Router 1 ∷ []) [] (Router 1) 1 taken (added_front (Router 1) [])
+-- and relaxing ends
+ended : AreRelaxing one_link one_link 0 (Unit {0}) start distance empty (Router 1 ∷ []) []
+ended = relax_taken begun links distance empty (Router 1 ∷ []) [] (Router 1) 1 taken (added_front (Router 1) [])
 
 -- no next hops
 abbrev blank : Vertex → NextHop → Type 0
@@ -137,9 +137,9 @@ hops (Router (suc zero)) h = h ≡ hop.Peer 7
 hops (Router (suc (suc n))) h = ⊥
 hops (Network n) h = ⊥
 
--- the third loop begins
-opened_hops : AreHanding one_link 0 distance queue blank blank [] []
-opened_hops = handing_open (no_links 0) links (blank_tree 0) (none_lost one_link 0 (Unit {0})) reset ended (λ v. refl) (none_went one_link 0 (Unit {0})) (root_came one_link 0 (Unit {0}) one_link start (inl tt) reset (λ to cost label t. t))
+-- the update of next hops begins
+opened_hops : AreUpdatingNextHops one_link 0 distance queue blank blank [] []
+opened_hops = update_next_hops_opened (no_links 0) links (blank_tree 0) (none_lost one_link 0 (Unit {0})) reset ended (λ v. refl) (none_went one_link 0 (Unit {0})) (root_came one_link 0 (Unit {0}) one_link start (inl tt) reset (λ to cost label t. t))
     (λ v c. c) blank queue (λ v d at h. (λ x. x, λ x. x)) waits (λ v k at. let w = only_queued v k at in (rw w.0 (rw w.1 refl), λ e. differ (sym w.0 ∙ e)))
   where
     waits : (v : Vertex) (d : ℕ) → distance v ≡ Some d → v ≢ Router 0 → Contains (Router 1 ∷ []) v ⊎ Contains [] v → (k : ℕ) × (queue v ≡ Some k)
@@ -156,8 +156,8 @@ given_peer h g = elim g.gives [
 ]
 
 -- router 1 is written
-handed : IsHanded one_link 0 distance queue empty blank hops [] (Router 1 ∷ []) (Router 1) 1
-handed = record {
+updated : IsUpdated one_link 0 distance queue empty blank hops [] (Router 1 ∷ []) (Router 1) 1
+updated = record {
   waits = refl;
   least = λ w e at. let i = only_queued w e at in rw i.0 (rw i.1 (omega arith));
   union = λ h. (λ x. record { from = Router 0; cost = 1; label = Over 7; least = record { taken = (refl, refl, refl, refl); near = 0; tail = refl; head = refl }; gives = inl (refl, x) }, given_peer h);
@@ -180,7 +180,7 @@ handed = record {
 
 -- and the tree is that of the link
 tree : IsTree one_link 0 (Unit {0}) distance hops
-tree = tree_after (no_links 0) links (blank_tree 0) (none_lost one_link 0 (Unit {0})) reset ended (λ v. refl) (handing_taken opened_hops links empty hops (Router 1 ∷ []) (Router 1 ∷ []) (Router 1) 1 handed (added_front (Router 1) [])) (λ v. refl) (λ h x. x) (λ to none h x. x)
+tree = tree_after (no_links 0) links (blank_tree 0) (none_lost one_link 0 (Unit {0})) reset ended (λ v. refl) (update_next_hops_taken opened_hops links empty hops (Router 1 ∷ []) (Router 1 ∷ []) (Router 1) 1 updated (added_front (Router 1) [])) (λ v. refl) (λ h x. x) (λ to none h x. x)
 
 -- the link goes again: its head is suspected
 abbrev suspected : List Vertex
@@ -190,15 +190,15 @@ suspected = Router 1 ∷ []
 only_suspect : (v : Vertex) → Contains suspected v → v ≡ Router 1
 only_suspect v c = elim ((added_front (Router 1) []).only v c) [ inl same ↦ same | inr none ↦ absurd (no_element v none) ]
 
--- the first loop begins
-losing : AreLosing one_link NoLinks one_link 0 (Unit {0}) (Unit {0}) distance [] suspected suspected
-losing = losing_start tree.distances (record { went = λ from to cost label t. inr t }) suspected suspected
+-- losing support begins
+losing_support : AreLosingSupport one_link NoLinks one_link 0 (Unit {0}) (Unit {0}) distance [] suspected suspected
+losing_support = lose_support_start tree.distances (record { went = λ from to cost label t. inr t }) suspected suspected
     (λ from to cost label other least. let here : Contains suspected to = rw least.taken.1 (first_element (Router 1) []) in (here, here))
     (λ v c. rw (only_suspect v c) (record { number = 1; at = refl; other = differ }))
 
 -- router 1 is lost
-lost : AreLosing one_link NoLinks one_link 0 (Unit {0}) (Unit {0}) distance suspected [] suspected
-lost = losing_lost tree.distances [] suspected [] suspected [] suspected suspected (Router 1) losing (added_front (Router 1) []) (record {
+lost : AreLosingSupport one_link NoLinks one_link 0 (Unit {0}) (Unit {0}) distance suspected [] suspected
+lost = lose_support_lost tree.distances [] suspected [] suspected [] suspected suspected (Router 1) losing_support (added_front (Router 1) []) (record {
   unsupported = λ d at s. absurd s.taken;
   adds = added_front (Router 1) [];
   waits = λ w c. c;
@@ -221,9 +221,9 @@ reset_again = record { rooted = λ has. refl; rootless = λ none. absurd (none t
 no_links_again : AreLinks NoLinks 0 (Unit {0})
 no_links_again = record { out_of_router = λ router to cost label t. absurd t; out_of_network = λ network to cost label t. absurd t; out_of_root = λ to cost label t. absurd t }
 
--- nothing is offered, so the second loop ends at once
-nearing_again : AreNearing NoLinks NoLinks 0 (Unit {0}) start start empty [] suspected
-nearing_again = nearing_start links no_links_again (inl tt) tree.distances (record { came = λ from to cost label d t. absurd t }) lost reset_again (record {
+-- nothing is offered, so relaxing ends at once
+relax_again : AreRelaxing NoLinks NoLinks 0 (Unit {0}) start start empty [] suspected
+relax_again = relax_start links no_links_again (inl tt) tree.distances (record { came = λ from to cost label d t. absurd t }) lost reset_again (record {
   into_lost = λ from to cost label d c other t. absurd t;
   over_new = λ from to cost label d t. absurd t;
   offered = λ to k at. absurd cc;
@@ -233,7 +233,7 @@ nearing_again = nearing_start links no_links_again (inl tt) tree.distances (reco
 
 -- and nothing is queued for its next hops: the root stays alone
 root_alone : IsTree NoLinks 0 (Unit {0}) start blank
-root_alone = tree_after links no_links_again tree lost reset_again nearing_again (λ v. refl) opened_again (λ v. refl) (λ h x. x) (λ to none h x. x)
+root_alone = tree_after links no_links_again tree lost reset_again relax_again (λ v. refl) opened_again (λ v. refl) (λ h x. x) (λ to none h x. x)
   where
     none_reached : (v : Vertex) (d : ℕ) → start v ≡ Some d → v ≢ Router 0 → ⊥
     none_reached v d at other = other (only_started v d at).0
@@ -243,6 +243,6 @@ root_alone = tree_after links no_links_again tree lost reset_again nearing_again
     same (Router (suc n)) d at h = absurd cc
     same (Network n) d at h = absurd cc
 
-    opened_again : AreHanding NoLinks 0 start empty blank blank [] []
-    opened_again = handing_open links no_links_again tree lost reset_again nearing_again (λ v. refl) (record { went = λ from to cost label t. inr t }) (record { came = λ from to cost label d t. absurd t })
+    opened_again : AreUpdatingNextHops NoLinks 0 start empty blank blank [] []
+    opened_again = update_next_hops_opened links no_links_again tree lost reset_again relax_again (λ v. refl) (record { went = λ from to cost label t. inr t }) (record { came = λ from to cost label d t. absurd t })
         (λ v c. c) blank empty same (λ v d at other c. absurd (none_reached v d at other)) (λ v k at. absurd cc)

@@ -21,8 +21,8 @@ use Rattle.spf.specs.Parts.{IsBefore, AreLost}
 use Rattle.spf.specs.Repairs.{IsSupported}
 use Rattle.spf.specs.Suspects.{Supports, WasLeast, MaySupport, IsHead, AreToldOf, AreWithin, IsJudged, AreSuspected}
 use Rattle.spf.proofs.Before.{earlier_changes}
-use Rattle.spf.proofs.Falling.{losing_falls}
-use Rattle.spf.proofs.LosingLoop.{losing_start, losing_passed, losing_lost}
+use Rattle.spf.proofs.Falling.{lose_support_falls}
+use Rattle.spf.proofs.LoseSupportLoop.{lose_support_start, lose_support_passed, lose_support_lost}
 
 -- ---- who is told
 
@@ -112,7 +112,7 @@ told_both First Then All lost stale wide wider suspects some more split first th
   apart = λ apart. b.apart (a.apart apart);
 }
 
--- as many, said otherwise
+-- the count, said otherwise
 told_same : (A B : Vertex → Type 0) (lost stale wider suspects more : List Vertex) → ((v : Vertex) → A v → B v) → ((v : Vertex) → B v → A v)
     → AreToldOf A lost stale wider suspects more → AreToldOf B lost stale wider suspects more
 told_same A B lost stale wider suspects more to from a = record {
@@ -199,7 +199,7 @@ module _ (g : GraphValue) (old : Vertex → Option ℕ) (lost suspects stale : L
   pub judged_lost : (more again wider : List Vertex) (fresh : Bool) (d : ℕ) (links : List Link) → (Contains lost v → ⊥) → old v ≡ Some d → (IsSupported (LinksOf g) old lost v d → ⊥) → AreLinksFrom g v links
       → IsWithMember lost more v fresh → AreWithin more suspects stale → AreToldOf (IsHead (MaySupport g.root old d) links) more stale wider suspects again → IsJudged g old lost more suspects again stale wider v
   judged_lost more again wider fresh d links new at not_supported exact with within told = inr (record {
-    losing = record {
+    judged = record {
       unsupported = λ e is supported. not_supported (subst (λ n. IsSupported (LinksOf g) old lost v n) (sym (same_distance e is)) supported);
       adds = member_added lost more v fresh with;
       waits = told.waits;
@@ -232,7 +232,7 @@ module _ (g : GraphValue) (gone come : List Link) (old : Vertex → Option ℕ) 
   -- at the start the heads of the least links that went are told
   pub suspected_at_start : (suspects stale : List Vertex) → AreToldOf (IsHead (WasLeast g.root old) gone) [] [] stale [] suspects → AreSuspected g gone come old [] suspects stale
   suspected_at_start suspects stale told = record {
-    losing = losing_start is.distances (record { went = (earlier_changes (LinksOf g) gone come).went }) suspects stale
+    losing_support = lose_support_start is.distances (record { went = (earlier_changes (LinksOf g) gone come).went }) suspects stale
         (λ from to cost label other least.
         let t = told.told to (link_value from to cost label, least.taken, (other, least.near, least.tail, least.head), refl) in
         (elim t.1 [ inl none ↦ absurd (no_element to none) | inr waits ↦ waits ], t.0))
@@ -266,19 +266,19 @@ module _ (g : GraphValue) (gone come : List Link) (old : Vertex → Option ℕ) 
         subst (λ (vs : List Vertex). AreSuspected g gone come old vs again wider) (sym p.lost_same)
         (subst (λ (vs : List Vertex). AreSuspected g gone come old lost vs wider) (sym p.suspects_same)
         (subst (λ (vs : List Vertex). AreSuspected g gone come old lost rest vs) (sym p.stale_same) (record {
-          losing = losing_passed is.distances lost rest suspects stale v s.losing one_out p.passed;
+          losing_support = lose_support_passed is.distances lost rest suspects stale v s.losing_support one_out p.passed;
           why = s.why;
           within = (within_popped lost suspects rest stale v popped s.within).0;
           lost_apart = s.lost_apart;
           suspects_apart = rest_apart s.suspects_apart;
         })))
     suspected_next s (inr n) = record {
-      losing = losing_lost is.distances lost more rest suspects again stale wider v s.losing one_out n.losing;
+      losing_support = lose_support_lost is.distances lost more rest suspects again stale wider v s.losing_support one_out n.judged;
       why = λ w c. elim (n.why w c) [
-        | inr out ↦ inr (v, out.0, out.1, out.2, n.losing.adds.here)
+        | inr out ↦ inr (v, out.0, out.1, out.2, n.judged.adds.here)
         | inl was ↦ elim (s.why w was) [
           | inl went ↦ inl went
-          | inr out ↦ inr (out.0, out.1, out.2, out.3, n.losing.adds.grows out.0 out.4)
+          | inr out ↦ inr (out.0, out.1, out.2, out.3, n.judged.adds.grows out.0 out.4)
         ]
       ];
       within = n.within;
@@ -288,16 +288,16 @@ module _ (g : GraphValue) (gone come : List Link) (old : Vertex → Option ℕ) 
 
 -- with no suspect left
 pub lost_at_end : (g : GraphValue) (gone come : List Link) (old : Vertex → Option ℕ) (lost stale : List Vertex) → AreSuspected g gone come old lost [] stale → AreLost g gone come old lost stale
-lost_at_end g gone come old lost stale s = record { losing = s.losing; why = s.why }
+lost_at_end g gone come old lost stale s = record { losing_support = s.losing_support; why = s.why }
 
 -- No more are lost, and no more suspected, than have a distance. So each round comes nearer to the end.
 pub suspects_fall : (g : GraphValue) (gone come : List Link) (m : DistanceMap) (lost more suspects rest again stale wider : List Vertex) (v : Vertex) → suspects ≡ rest ++ v ∷ []
     → IsJudged g (get m) lost more rest again stale wider v → AreSuspected g gone come (get m) more again wider
     → (len m - length more) * (len m + 1) + length again < (len m - length lost) * (len m + 1) + length suspects
 suspects_fall g gone come m lost more suspects rest again stale wider v popped judged s =
-    losing_falls (len m) (length lost) (length more) (length suspects) (length again)
-    (len_most m more s.lost_apart (λ w c. let r = s.losing.reached w c in (r.number, r.at)))
-    (len_most m again s.suspects_apart (λ w c. let r = s.losing.suspected w c in (r.number, r.at)))
+    lose_support_falls (len m) (length lost) (length more) (length suspects) (length again)
+    (len_most m more s.lost_apart (λ w c. let r = s.losing_support.reached w c in (r.number, r.at)))
+    (len_most m again s.suspects_apart (λ w c. let r = s.losing_support.suspected w c in (r.number, r.at)))
     (elim judged [
       | inl p ↦
           let fewer : length again < length suspects = omega (arith, ap length p.suspects_same, ap length popped, length-append rest (v ∷ [])) in

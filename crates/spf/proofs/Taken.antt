@@ -4,7 +4,7 @@ use Rattle.ospf_types.specs.declared.entry.Vertex.{Vertex}
 use Rattle.ospf_types.specs.declared.entry.Vertex.TheVariants.{Router, Network}
 use Rattle.ospf_types.specs.Distances.{Links, TakenLink, Leads, IsPath, cost_of, IsDistance}
 use Rattle.spf.specs.Trees.{rank}
-use Rattle.spf.specs.Loops.{AreNearing, IsTaken}
+use Rattle.spf.specs.Loops.{AreRelaxing, IsTaken}
 use Rattle.spf.proofs.Paths.{cost_of-cons}
 
 -- what has no greater rank is no farther, at another vertex too
@@ -15,7 +15,7 @@ no_farther (Network a) (Router b) k e most = omega arith
 no_farther (Network a) (Network b) k e most = omega arith
 
 module _ {after come : Links} {root : ℕ} {has_root : Type 0} {start distance queue : Vertex → Option ℕ} {moved stale : List Vertex}
-    (n : AreNearing after come root has_root start distance queue moved stale) where
+    (n : AreRelaxing after come root has_root start distance queue moved stale) where
   module _ (v : Vertex) (k : ℕ) (waits : queue v ≡ Some k) (least : (w : Vertex) (e : ℕ) → queue w ≡ Some e → rank v k ≤ rank w e) where
     -- a way from a reached vertex costs, with its distance, as much as the vertex of least rank is queued at: it leads over what is reached, or over what is queued as far
     way_as_long : (from : Vertex) (d : ℕ) (way : List TakenLink) → distance from ≡ Some d → Leads after root from way v → k ≤ d + cost_of way

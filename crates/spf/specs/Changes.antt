@@ -17,7 +17,7 @@ Among links from to cost label = Contains links (link_value from to cost label)
 abbrev pub Earlier : Links → List Link → List Link → Links
 Earlier after gone come from to cost label = (after from to cost label × (Among come from to cost label → ⊥)) ⊎ Among gone from to cost label
 
--- the same links
+-- both relations have the same links
 abbrev pub SameLinks : Links → Links → Type 0
 SameLinks A B = (from to : Vertex) (cost : ℕ) (label : Label) → A from to cost label ↔ B from to cost label
 

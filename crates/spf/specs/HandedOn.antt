@@ -1,4 +1,4 @@
--- What the steps of the third part do: what a link gives, what is put into the queue, what is written at one vertex.
+-- The steps that update next hops: what a link gives, what is put into the queue, what is written at one vertex.
 use Rattle.std.specs.Prelude.{◌↔◌, ◌⊎◌, ℕ, ◌+◌, ◌≡◌, ◌≢◌, ◌++◌, ◌∷◌, List, [], length, Contains, Option, Some, None}
 use Rattle.ospf_types.specs.declared.entry.Vertex.{Vertex}
 use Rattle.ospf_types.specs.declared.entry.Vertex.TheVariants.{Router}
@@ -10,10 +10,11 @@ use Rattle.vertex_graph.specs.Graphs.{GraphValue, LinksOf}
 use Rattle.vertex_graph.specs.Link.{Link}
 use Rattle.vertex_queue.specs.Queues.{Queue}
 use Rattle.tree_parts.specs.Members.{HasNoDoubles}
-use Rattle.tree_parts.specs.Maps.{HopMap}
-use Rattle.spf.specs.Loops.{IsReached, AreHanding}
-use Rattle.spf.specs.Parts.{IsTakenBy}
+use Rattle.tree_parts.specs.Maps.{DistanceMap, HopMap}
+use Rattle.spf.specs.Loops.{IsReached, AreUpdatingNextHops}
+use Rattle.spf.specs.Parts.{IsTakenBy, hops_of}
 use Rattle.spf.specs.Repairs.{IsQueued}
+use Rattle.spf.specs.TreeValues.{listed_hops}
 use Rattle.spf.specs.Trees.{IsLeast, IsGiven, Gives, HandsOn}
 
 -- some element of the list has the property
@@ -28,6 +29,10 @@ pub record IsLeastLink (distance : Vertex → Option ℕ) (l : Link) : Type 0 wh
   pub tail : distance l.from ≡ Some near
   pub head : distance l.to ≡ Some (near + l.cost)
 
+-- the vertex is at this distance
+abbrev pub HasDistance : DistanceMap → Vertex → ℕ → Type 0
+HasDistance distances v d = get distances v ≡ Some d
+
 -- what the link gives its head, if it is a least link
 abbrev pub IsGivenOver : ℕ → (Vertex → Option ℕ) → (Vertex → NextHop → Type 0) → Link → NextHop → Type 0
 IsGivenOver root distance hops l h = IsLeastLink distance l × Gives root hops l.from l.to l.label h
@@ -39,6 +44,27 @@ IsHandedOn label g h = HandsOn g label h
 -- the set has what it had, and what is given
 pub record IsUnion (old new : List NextHop) (Given : NextHop → Type 0) : Type 0 where
   pub union : (h : NextHop) → Contains new h ↔ (Contains old h ⊎ Given h)
+
+-- the set has what it had, and what the link gives its head
+abbrev pub IsUnionOver : ℕ → DistanceMap → HopMap → Link → List NextHop → List NextHop → Type 0
+IsUnionOver root distances hops l old new = IsUnion old new (IsGivenOver root (get distances) (hops_of hops) l)
+
+-- the set has just what the least links of the graph into the vertex give it
+abbrev pub AreGiven : GraphValue → DistanceMap → HopMap → Vertex → List NextHop → Type 0
+AreGiven g distances hops v set =
+    (h : NextHop) → Contains set h ↔ IsGiven (LinksOf g) g.root (get distances) (hops_of hops) v h
+
+-- both are the same next hops; no set is as an empty one
+abbrev pub HaveSameHops : Option (List NextHop) → List NextHop → Type 0
+HaveSameHops before after = (h : NextHop) → Contains (listed_hops before) h ↔ Contains after h
+
+-- the new set has what the two sets have
+abbrev pub AreUnited : List NextHop → List NextHop → List NextHop → Type 0
+AreUnited one other new = (h : NextHop) → Contains new h ↔ (Contains one h ⊎ Contains other h)
+
+-- some next hop is directly attached
+abbrev pub HasDirect : List NextHop → Type 0
+HasDirect hops = (interface : ℕ) × Contains hops (NextHop.Direct interface)
 
 -- ---- what is put into the queue
 
@@ -60,6 +86,24 @@ IsHeadOver root distance l v = IsLeastLink distance l × (v ≡ l.to) × (v ≢ 
 abbrev pub IsLeastHead : Links → ℕ → (Vertex → Option ℕ) → Vertex → Vertex → Type 0
 IsLeastHead link root distance from to = ((cost : ℕ) × (label : Label) × IsLeast link distance from to cost label) × (to ≢ Router root)
 
+-- those of the vertices that are reached are put into the queue, but not the root
+abbrev pub AreReachedPut : ℕ → DistanceMap → List Vertex → Queue → Queue → Type 0
+AreReachedPut root distances vertices old new =
+    ArePut (get distances) (IsOfSome vertices (IsReachedAt root (get distances))) (get old) (get new)
+
+-- the vertex is put into the queue if it is reached and not the root
+abbrev pub IsReachedPut : ℕ → DistanceMap → Vertex → Queue → Queue → Type 0
+IsReachedPut root distances v old new = ArePut (get distances) (IsReachedAt root (get distances) v) (get old) (get new)
+
+-- the heads of the least links of the graph out of the vertex are put into the queue, but not the root
+abbrev pub AreHeadsPut : GraphValue → DistanceMap → Vertex → Queue → Queue → Type 0
+AreHeadsPut g distances v old new =
+    ArePut (get distances) (IsLeastHead (LinksOf g) g.root (get distances) v) (get old) (get new)
+
+-- the link's head is put into the queue if that is a least link, but not the root
+abbrev pub IsHeadPut : ℕ → DistanceMap → Link → Queue → Queue → Type 0
+IsHeadPut root distances l old new = ArePut (get distances) (IsHeadOver root (get distances) l) (get old) (get new)
+
 -- ---- what is written
 
 -- What is in the list and is not reached is written, each once, and has no next hops. The others stay.
@@ -69,6 +113,10 @@ pub record AreBlanked (distance : Vertex → Option ℕ) (vertices : List Vertex
   pub blank : (v : Vertex) → Contains written v → get new v ≡ None
   pub kept : (v : Vertex) → (Contains written v → ⊥) → get new v ≡ get old v
 
+-- what is lost and not reached is written, and has no next hops
+abbrev pub AreBlank : DistanceMap → List Vertex → HopMap → HopMap → List Vertex → Type 0
+AreBlank distances lost old new written = AreBlanked (get distances) lost old new written
+
 -- The vertex has what its least links give it. If that is another set, it was written, and the heads of its least links are put into the queue.
 pub record IsSettled (link : Links) (root : ℕ) (distance : Vertex → Option ℕ) (queue more : Queue) (now new : Vertex → NextHop → Type 0) (written wider : List Vertex) (v : Vertex) : Type 0 where
   pub union : (h : NextHop) → new v h ↔ IsGiven link root distance now v h
@@ -76,11 +124,16 @@ pub record IsSettled (link : Links) (root : ℕ) (distance : Vertex → Option �
   pub outcome : ((wider ≡ written ++ v ∷ []) × (((h : NextHop) → new v h ↔ now v h) → ⊥) × ArePut distance (IsLeastHead link root distance v) (get queue) (get more))
       ⊎ ((wider ≡ written) × ((h : NextHop) → new v h ↔ now v h) × (more ≡ queue))
 
+-- the vertex has what the least links of the graph give it, where next hops and what was written are from before to after
+abbrev pub IsSettledIn : GraphValue → DistanceMap → Vertex → Queue → Queue → HopMap → HopMap → List Vertex → List Vertex → Type 0
+IsSettledIn g distances v queue more old new written wider =
+    IsSettled (LinksOf g) g.root (get distances) queue more (hops_of old) (hops_of new) written wider v
+
 -- While vertices wait: those that were taken, and those that were written since what is lost is blank. The counts are those of the start and now.
 pub record IsAmidst (g : GraphValue) (distance : Vertex → Option ℕ) (begun now : Vertex → NextHop → Type 0) (queue : Queue) (blanked moved stale written : List Vertex) (start number sets : ℕ) : Type 0 where
   pub taken : List Vertex
   pub set : List Vertex
-  pub handing : AreHanding (LinksOf g) g.root distance (get queue) begun now taken set
+  pub updating : AreUpdatingNextHops (LinksOf g) g.root distance (get queue) begun now taken set
   pub whole : written ≡ blanked ++ set
   pub unreached : (v : Vertex) → Contains blanked v → distance v ≡ None
   pub apart : HasNoDoubles taken

@@ -1,4 +1,4 @@
--- The invariants of the three loops of a repair, each as one record, and what one round of each does.
+-- The loops of a repair: losing support, relaxing, updating next hops. Each has its invariant as one record, and another for what one round does.
 use Rattle.std.specs.Prelude.{◌↔◌, ℕ, ◌+◌, ◌≡◌, ◌≢◌, ◌<◌, ◌≤◌, ◌⊎◌, List, Contains, Option, Some}
 use Rattle.ospf_types.specs.declared.entry.Vertex.{Vertex}
 use Rattle.ospf_types.specs.declared.entry.Vertex.TheVariants.{Router}
@@ -15,8 +15,8 @@ pub record IsReached (root : ℕ) (value : Vertex → Option ℕ) (v : Vertex) :
   pub at : value v ≡ Some number
   pub other : v ≢ Router root
 
--- while suspects are left: what is lost, what is suspected and what is stale
-pub record AreLosing (before after gone : Links) (root : ℕ) (had_root has_root : Type 0) (old : Vertex → Option ℕ) (lost suspects stale : List Vertex) : Type 0 where
+-- losing support, while suspects are left: what is lost, what is suspected and what is stale
+pub record AreLosingSupport (before after gone : Links) (root : ℕ) (had_root has_root : Type 0) (old : Vertex → Option ℕ) (lost suspects stale : List Vertex) : Type 0 where
   pub held : AreHeld after root old lost suspects
   pub dear : AreDear (Between before after) root (had_root × has_root) old lost
   pub told : AreToldLost after gone root old lost stale
@@ -41,8 +41,8 @@ pub record IsOpened (after come : Links) (root : ℕ) (lost : List Vertex) (star
   pub less : (v : Vertex) (k d : ℕ) → queue v ≡ Some k → start v ≡ Some d → k < d
   pub tells : (from to : Vertex) (cost : ℕ) (label : Label) → come from to cost label → to ≢ Router root → IsLeast after start from to cost label → Contains stale to
 
--- while distances are queued
-pub record AreNearing (after come : Links) (root : ℕ) (has_root : Type 0) (start distance queue : Vertex → Option ℕ) (moved stale : List Vertex) : Type 0 where
+-- relaxing, while distances are queued
+pub record AreRelaxing (after come : Links) (root : ℕ) (has_root : Type 0) (start distance queue : Vertex → Option ℕ) (moved stale : List Vertex) : Type 0 where
   pub rooted : has_root → distance (Router root) ≡ Some 0
   pub real : AreReal after root has_root distance
   pub queued_real : AreReal after root has_root queue
@@ -75,8 +75,8 @@ pub record IsTaken (link : Links) (root : ℕ) (distance queue new more : Vertex
   pub widens : (w : Vertex) → Contains stale w → Contains wider w
   pub tells : (to : Vertex) (cost : ℕ) (label : Label) → link v to cost label → to ≢ Router root → new to ≡ Some (k + cost) → Contains wider to
 
--- while next hops are queued: the sets at the start and now
-pub record AreHanding (link : Links) (root : ℕ) (distance queue : Vertex → Option ℕ) (sets now : Vertex → NextHop → Type 0) (taken written : List Vertex) : Type 0 where
+-- updating next hops, while vertices are queued: the sets at the start and now
+pub record AreUpdatingNextHops (link : Links) (root : ℕ) (distance queue : Vertex → Option ℕ) (sets now : Vertex → NextHop → Type 0) (taken written : List Vertex) : Type 0 where
   pub right : AreRightOrQueued link root distance queue now
   pub forward : AreForward distance queue taken
   pub queued : (v : Vertex) (k : ℕ) → queue v ≡ Some k → (distance v ≡ Some k) × (v ≢ Router root)
@@ -95,7 +95,7 @@ pub record IsPutAgain (link : Links) (root : ℕ) (distance : Vertex → Option 
   pub at : distance to ≡ Some e
 
 -- The vertex of least rank is taken from the queue, and its set becomes what its least links give. If that is another set, it is written, and the heads of the least links out of it are queued.
-pub record IsHanded (link : Links) (root : ℕ) (distance queue more : Vertex → Option ℕ) (now new : Vertex → NextHop → Type 0) (written wider : List Vertex) (v : Vertex) (k : ℕ) : Type 0 where
+pub record IsUpdated (link : Links) (root : ℕ) (distance queue more : Vertex → Option ℕ) (now new : Vertex → NextHop → Type 0) (written wider : List Vertex) (v : Vertex) (k : ℕ) : Type 0 where
   pub waits : queue v ≡ Some k
   pub least : (w : Vertex) (e : ℕ) → queue w ≡ Some e → rank v k ≤ rank w e
   pub union : (h : NextHop) → new v h ↔ IsGiven link root distance now v h

@@ -1,10 +1,14 @@
 -- What links offer vertices: each a distance at which it can be reached. A nearer one is queued; over one that is as near the vertex has another least link.
 use Rattle.std.specs.Prelude.{ℕ, ◌+◌, ◌≡◌, ◌≢◌, ◌<◌, ◌⊎◌, List, Contains, Option, Some, None}
+use Rattle.std.specs.FinMap.{get}
 use Rattle.ospf_types.specs.declared.entry.Vertex.{Vertex}
 use Rattle.ospf_types.specs.declared.entry.Vertex.TheVariants.{Router}
 use Rattle.ospf_types.specs.declared.label.Label.{Label}
 use Rattle.ospf_types.specs.Distances.{Links}
 use Rattle.vertex_graph.specs.Link.{Link}
+use Rattle.vertex_graph.specs.Graphs.{GraphValue, LinksOf}
+use Rattle.tree_parts.specs.Maps.{DistanceMap}
+use Rattle.spf.specs.declared.relax.Pending.{Pending}
 use Rattle.spf.specs.Trees.{IsWithin}
 
 -- vertices, each with a distance
@@ -43,6 +47,31 @@ pub record AreMade (offers : Offers) (distance queue more : Vertex → Option �
   pub widens : (v : Vertex) → Contains stale v → Contains wider v
   pub tells : (v : Vertex) (e : ℕ) → offers v e → distance v ≡ Some e → Contains wider v
   pub why : (v : Vertex) → Contains wider v → Contains stale v ⊎ ((e : ℕ) × offers v e × (distance v ≡ Some e))
+
+-- the offers were made to what waits, where vertices have these distances
+abbrev pub AreMadeIn : Offers → DistanceMap → Pending → Pending → Type 0
+AreMadeIn offers distances old new = AreMade offers (get distances) (get old.queue) (get new.queue) old.stale new.stale
+
+-- the offers were made, whatever the distances are, if the vertex is this far
+abbrev pub AreMadeAt : Offers → Vertex → Option ℕ → Pending → Pending → Type 0
+AreMadeAt offers v far old new =
+    (distance : Vertex → Option ℕ) → distance v ≡ far → AreMade offers distance (get old.queue) (get new.queue) old.stale new.stale
+
+-- what these links offer where their tails have a distance
+abbrev pub OverReachedIn : ℕ → DistanceMap → List Link → Offers
+OverReachedIn root distances links = OverReached root (get distances) links
+
+-- what the links of the graph out of a vertex at the distance offer
+abbrev pub OutOfIn : GraphValue → Vertex → ℕ → Offers
+OutOfIn g v near = OutOf (LinksOf g) g.root v near
+
+-- what the links of the graph into these vertices offer
+abbrev pub IntoIn : GraphValue → DistanceMap → List Vertex → Offers
+IntoIn g distances vertices = Into (LinksOf g) g.root (get distances) vertices
+
+-- the head of each link is this far
+abbrev pub AreHeadsAt : DistanceMap → List Link → Option ℕ → Type 0
+AreHeadsAt distances links far = (l : Link) → Contains links l → get distances l.to ≡ far
 
 -- what is lost has no distance, the others keep theirs
 pub record IsCleared (old : Vertex → Option ℕ) (lost : List Vertex) (new : Vertex → Option ℕ) : Type 0 where

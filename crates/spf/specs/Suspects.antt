@@ -1,19 +1,35 @@
--- What is done with vertices that are suspected to have lost their distance, in the first part of a repair.
-use Rattle.std.specs.Prelude.{◌⊎◌, ℕ, ◌+◌, ◌≡◌, ◌≢◌, ◌≤◌, ◌++◌, ◌∷◌, List, [], Contains, Option, Some}
+-- Losing support: what is done with vertices that are suspected to have lost their distance.
+use Rattle.std.specs.Prelude.{◌↔◌, ◌⊎◌, ℕ, ◌+◌, ◌≡◌, ◌≢◌, ◌≤◌, ◌++◌, ◌∷◌, Bool, List, [], Contains, IsTrue, Option, Some}
+use Rattle.std.specs.FinMap.{get}
+use Rattle.std.specs.List.{All}
 use Rattle.ospf_types.specs.declared.entry.Vertex.{Vertex}
 use Rattle.ospf_types.specs.declared.entry.Vertex.TheVariants.{Router}
 use Rattle.ospf_types.specs.declared.label.Label.{Label}
 use Rattle.vertex_graph.specs.Link.{Link}
 use Rattle.vertex_graph.specs.Graphs.{GraphValue, LinksOf, HasRoot}
+use Rattle.tree_parts.specs.Maps.{DistanceMap}
 use Rattle.tree_parts.specs.Members.{HasNoDoubles}
+use Rattle.spf.specs.declared.lose_support.Search.{Search}
 use Rattle.spf.specs.Changes.{Among}
-use Rattle.spf.specs.Loops.{AreLosing, IsLost}
+use Rattle.spf.specs.Loops.{AreLosingSupport, IsLost}
 use Rattle.spf.specs.Parts.{LinksBefore, HadRoot, IsStaleBy}
 use Rattle.spf.specs.Repairs.{IsSupported}
 
 -- the link's tail is reached and not lost, and over the link its head is no farther than the limit
 abbrev pub Supports : (Vertex → Option ℕ) → List Vertex → ℕ → Link → Type 0
 Supports old lost limit l = (near : ℕ) × (old l.from ≡ Some near) × (Contains lost l.from → ⊥) × (near + l.cost ≤ limit)
+
+-- no link supports its head within the limit
+abbrev pub NoneSupports : DistanceMap → List Vertex → ℕ → List Link → Type 0
+NoneSupports distances lost limit links = All (λ l. Supports (get distances) lost limit l → ⊥) links
+
+-- some link does
+abbrev pub SomeSupports : DistanceMap → List Vertex → ℕ → List Link → Type 0
+SomeSupports distances lost limit links = (l : Link) × Contains links l × Supports (get distances) lost limit l
+
+-- the answer tells whether a link of the graph supports the vertex within the limit
+abbrev pub TellsSupport : GraphValue → DistanceMap → List Vertex → Vertex → ℕ → Bool → Type 0
+TellsSupport g distances lost v limit supported = IsTrue supported ↔ IsSupported (LinksOf g) (get distances) lost v limit
 
 -- the link is a least one into a vertex other than the root
 abbrev pub WasLeast : ℕ → (Vertex → Option ℕ) → Link → Type 0
@@ -36,6 +52,18 @@ pub record AreToldOf (Told : Vertex → Type 0) (lost stale wider suspects more 
   pub suspects_only : (v : Vertex) → Contains more v → Contains suspects v ⊎ Told v
   pub apart : HasNoDoubles suspects → HasNoDoubles more
 
+-- the search told each vertex of which this holds, and no other
+abbrev pub AreToldIn : (Vertex → Type 0) → Search → Search → Type 0
+AreToldIn Told old new = AreToldOf Told old.lost old.pending.stale new.pending.stale old.suspects new.suspects
+
+-- it told the heads of the least links among these
+abbrev pub AreHeadsTold : ℕ → DistanceMap → List Link → Search → Search → Type 0
+AreHeadsTold root distances links old new = AreToldIn (IsHead (WasLeast root (get distances)) links) old new
+
+-- it told the heads of these links that a vertex at the distance might have supported
+abbrev pub AreHeadsBeyondTold : ℕ → DistanceMap → ℕ → List Link → Search → Search → Type 0
+AreHeadsBeyondTold root distances near links old new = AreToldIn (IsHead (MaySupport root (get distances) near) links) old new
+
 -- what is lost or suspected is stale
 abbrev pub AreWithin : List Vertex → List Vertex → List Vertex → Type 0
 AreWithin lost suspects stale = (v : Vertex) → Contains lost v ⊎ Contains suspects v → Contains stale v
@@ -49,7 +77,7 @@ pub record IsPassed (g : GraphValue) (old : Vertex → Option ℕ) (lost more su
 
 -- a suspect without support is lost, and the heads of its links are told
 pub record IsLostNow (g : GraphValue) (old : Vertex → Option ℕ) (lost more suspects again stale wider : List Vertex) (v : Vertex) : Type 0 where
-  pub losing : IsLost (LinksOf g) g.root old lost more suspects again stale wider v
+  pub judged : IsLost (LinksOf g) g.root old lost more suspects again stale wider v
   pub why : (w : Vertex) → Contains wider w → Contains stale w ⊎ ((cost : ℕ) × (label : Label) × LinksOf g v w cost label)
   pub fresh : Contains lost v → ⊥
   pub end : more ≡ lost ++ v ∷ []
@@ -60,9 +88,14 @@ pub record IsLostNow (g : GraphValue) (old : Vertex → Option ℕ) (lost more s
 abbrev pub IsJudged : GraphValue → (Vertex → Option ℕ) → List Vertex → List Vertex → List Vertex → List Vertex → List Vertex → List Vertex → Vertex → Type 0
 IsJudged g old lost more suspects again stale wider v = IsPassed g old lost more suspects again stale wider v ⊎ IsLostNow g old lost more suspects again stale wider v
 
+-- what the search finds of a suspect
+abbrev pub IsJudgedIn : GraphValue → DistanceMap → Search → Search → Vertex → Type 0
+IsJudgedIn g distances old new v =
+    IsJudged g (get distances) old.lost new.lost old.suspects new.suspects old.pending.stale new.pending.stale v
+
 -- while suspects are left
 pub record AreSuspected (g : GraphValue) (gone come : List Link) (old : Vertex → Option ℕ) (lost suspects stale : List Vertex) : Type 0 where
-  pub losing : AreLosing (LinksBefore g gone come) (LinksOf g) (Among gone) g.root (HadRoot g.root old) (HasRoot g) old lost suspects stale
+  pub losing_support : AreLosingSupport (LinksBefore g gone come) (LinksOf g) (Among gone) g.root (HadRoot g.root old) (HasRoot g) old lost suspects stale
   pub why : (v : Vertex) → Contains stale v → IsStaleBy g gone lost v
   pub within : AreWithin lost suspects stale
   pub lost_apart : HasNoDoubles lost

@@ -1,5 +1,5 @@
 -- A shortest-path tree as its callers see it, and what a repair promises of it.
-use Rattle.std.specs.Prelude.{◌↔◌, ◌⊎◌, ℕ, ◌+◌, ◌*◌, ◌≡◌, ◌≢◌, ◌≤◌, Bool, false, List, [], ◌∷◌, length, Contains, Option, Some, None}
+use Rattle.std.specs.Prelude.{◌↔◌, ◌⊎◌, ℕ, ◌+◌, ◌*◌, ◌≡◌, ◌≢◌, ◌≤◌, Bool, false, true, List, [], ◌∷◌, length, Contains, Option, Some, None}
 use Rattle.std.specs.FinMap.{get, empty}
 use Rattle.std.specs.List.Sorted.{IsStrictlySortedBy}
 use Rattle.ospf_types.specs.declared.entry.Vertex.{Vertex}
@@ -10,7 +10,11 @@ use Rattle.vertex_graph.specs.Link.{Link}
 use Rattle.vertex_graph.specs.Graphs.{GraphValue, LinksOf, HasRoot}
 use Rattle.tree_parts.specs.Differing.{IsNearer}
 use Rattle.tree_parts.specs.Members.{HasNoDoubles}
+use Rattle.tree_parts.specs.Counts.{no_work}
 use Rattle.tree_parts.specs.Maps.{DistanceMap, HopMap}
+use Rattle.tree_parts.specs.declared.touched.Touched.{Touched}
+use Rattle.spf.specs.declared.lose_support.Search.{Search}
+use Rattle.spf.specs.declared.workspace.Workspace.{Workspace}
 use Rattle.spf.specs.Changes.{Among}
 use Rattle.spf.specs.Parts.{HadRoot, LinksBefore, AreLost, hops_of}
 use Rattle.spf.specs.Repairs.{AreOwed}
@@ -44,6 +48,10 @@ pub record IsBegun (g : GraphValue) (gone come : List Link) (t : TreeValue) (los
   pub before : IsTreeBefore g gone come t
   pub losses : AreLost g gone come (get t.distances) lost stale
 
+-- a repair is begun for some links that went
+abbrev pub IsBegunWith : GraphValue → List Link → TreeValue → Search → Type 0
+IsBegunWith g come t search = (gone : List Link) × IsBegun g gone come t search.lost search.pending.stale
+
 -- the vertex has another distance or other next hops
 abbrev pub Differs : TreeValue → TreeValue → Vertex → Type 0
 Differs old new v = ((get new.distances v ≡ get old.distances v) × ((h : NextHop) → hops_of new.hops v h ↔ hops_of old.hops v h)) → ⊥
@@ -73,6 +81,14 @@ pub record IsBounded (g : GraphValue) (gone come : List Link) (old : TreeValue) 
       → AreOwed g.root (LinksBefore g gone come) (LinksOf g) (Among gone) (Among come) (HadRoot g.root (get old.distances)) (HasRoot g) first second heads first_out second_out
       → hop_sets ≤ length first + length second
 
+-- the work of a repair, counted, is bounded by what differs
+abbrev pub IsBoundedBy : GraphValue → List Link → List Link → TreeValue → Touched → Type 0
+IsBoundedBy g gone come old touched = IsBounded g gone come old touched.taken touched.hop_sets
+
+-- there was no work, unless some link went or came
+abbrev pub IsIdleUnless : List Link → List Link → Touched → Type 0
+IsIdleUnless gone come touched = gone ≡ [] → come ≡ [] → touched ≡ no_work
+
 -- a vertex other than the root that is reached
 abbrev pub IsReachedIn : GraphValue → TreeValue → Vertex → Type 0
 IsReachedIn g t v = ((d : ℕ) × (get t.distances v ≡ Some d)) × (v ≢ Router g.root)
@@ -87,7 +103,7 @@ IsWritten g old new v = HasOtherHops old new v ⊎ (IsReachedIn g old v × (get 
 
 -- And it is what differs.
 -- No fewer are taken than are reached at another distance than before, and besides as many as are reached and differ; and no more than twice as many as are reached.
--- As many sets are written as there are vertices that have other next hops, or are reached no more.
+-- A set is written for each vertex that has other next hops or is reached no more.
 pub record IsWorkDone (g : GraphValue) (old new : TreeValue) (taken hop_sets : ℕ) : Type 0 where
   pub taken_least : (moved differing : List Vertex) → HasNoDoubles moved → HasNoDoubles differing
       → ((v : Vertex) → Contains moved v → IsReachedIn g new v × (get new.distances v ≢ get old.distances v))
@@ -98,6 +114,10 @@ pub record IsWorkDone (g : GraphValue) (old new : TreeValue) (taken hop_sets : �
   pub written_exact : (v : Vertex) → Contains written v ↔ IsWritten g old new v
   pub sets_are : hop_sets ≡ length written
 
+-- the work of a repair, counted
+abbrev pub IsRepairWork : GraphValue → TreeValue → TreeValue → Touched → Type 0
+IsRepairWork g old new touched = IsWorkDone g old new touched.taken touched.hop_sets
+
 -- Of building a tree: twice as many vertices are taken as are reached, the root left out, each once for its distance and once for its next hops; and as many sets are written.
 pub record IsWorkForAll (g : GraphValue) (t : TreeValue) (taken hop_sets : ℕ) : Type 0 where
   pub reached : List Vertex
@@ -106,13 +126,22 @@ pub record IsWorkForAll (g : GraphValue) (t : TreeValue) (taken hop_sets : ℕ) 
   pub taken_are : taken ≡ 2 * length reached
   pub sets_are : hop_sets ≡ length reached
 
+-- the work of building a tree, counted
+abbrev pub IsBuildWork : GraphValue → TreeValue → Touched → Type 0
+IsBuildWork g t touched = IsWorkForAll g t touched.taken touched.hop_sets
+
 -- What a repair that is begun comes to, with what was moved and what was written: the tree, its work, and why vertices differ.
-pub record IsRenewed (g : GraphValue) (come : List Link) (old new : TreeValue) (lost stale moved written : List Vertex) (taken hop_sets : ℕ) : Type 0 where
+pub record IsCarriedOut (g : GraphValue) (come : List Link) (old new : TreeValue) (lost stale moved written : List Vertex) (taken hop_sets : ℕ) : Type 0 where
   pub tree : IsTreeOf g new
   pub bounded : (gone : List Link) → IsBegun g gone come old lost stale → IsBounded g gone come old taken hop_sets
   pub idle : IsBegun g [] come old lost stale → come ≡ [] → (taken ≡ 0) × (hop_sets ≡ 0)
   pub work : IsWorkDone g old new taken hop_sets
   pub differ : (v : Vertex) → IsChangedBy g.root old new lost moved written v ↔ Differs old new v
+
+-- what a repair that is begun comes to, by what is found before and after
+abbrev pub ComesTo : GraphValue → List Link → TreeValue → TreeValue → Workspace → Workspace → Touched → Type 0
+ComesTo g come old new before after touched =
+    IsCarriedOut g come old new before.search.lost before.search.pending.stale after.moved after.writer.written touched.taken touched.hop_sets
 
 -- the tree of these distances and next hops
 abbrev pub tree_of : DistanceMap → HopMap → TreeValue
@@ -121,3 +150,11 @@ tree_of distances hops = record { distances = distances; hops = hops; changed = 
 -- the tree of no links
 abbrev pub blank_value : TreeValue
 blank_value = record { distances = empty; hops = empty; changed = []; spent = false }
+
+-- a tree that answers nothing, since a repair ran out of memory
+abbrev pub spent_value : TreeValue
+spent_value = record { distances = empty; hops = empty; changed = []; spent = true }
+
+-- the tree with no vertex that changed
+abbrev pub at_rest : TreeValue → TreeValue
+at_rest t = record { distances = t.distances; hops = t.hops; changed = []; spent = t.spent }

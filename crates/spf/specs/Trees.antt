@@ -96,7 +96,7 @@ abbrev pub rank : Vertex → ℕ → ℕ
 rank (Router r) d = 2 * d + 1
 rank (Network n) d = 2 * d
 
--- What a link hands on of a next hop of its tail, by its label. A network that is attached to the root becomes the addresses there.
+-- What a link hands on of a next hop of its tail, by its label (RFC 2328, 16.1.1: what its head inherits from the parent). A network that is attached to the root becomes the addresses there.
 abbrev pub HandsOn : NextHop → Label → NextHop → Type 0
 HandsOn (hop.Direct i) (At addresses) h = (address : ℕ) × Contains addresses address × (h ≡ hop.Router i address)
 HandsOn (hop.Direct i) (Over other) h = ⊥

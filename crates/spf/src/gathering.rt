@@ -1,13 +1,9 @@
 //! What the least links into a vertex give it, of the next hops of their tails (RFC 2328, 16.1.1).
-ghost use Rattle.std.specs.Prelude.{◌≡◌, ◌↔◌, ◌⊎◌, ℕ, IfSome, IfNone, IsTrue, IfOk, OnOk, Contains, Some, option_copied, option_to_list};
+ghost use Rattle.std.specs.Prelude.{◌≡◌, ◌↔◌, IfSome, IfNone, IsTrue, IfOk, OnOk, Some, option_copied, option_to_list};
 ghost use Rattle.std.specs.FinMap as map;
 ghost use Rattle.ospf_types.specs.Distances.{FirstOnly};
-ghost use Rattle.ospf_types.specs.declared.hop.NextHop.{NextHop as Hop};
-ghost use Rattle.vertex_graph.specs.Graphs.{LinksOf, AreLinksTo};
-ghost use Rattle.spf.specs.HandedOn.{IsOfSome, IsLeastLink, IsGivenOver, IsHandedOn, IsUnion};
-ghost use Rattle.spf.specs.Parts.{hops_of};
-ghost use Rattle.spf.specs.TreeValues.{listed_hops};
-ghost use Rattle.spf.specs.Trees.{IsGiven, HandsOn, first_hops};
+ghost use Rattle.spf.specs.HandedOn.{AreGiven, AreUnited, HasDirect, HaveSameHops, IsHandedOn, IsLeastLink, IsOfSome, IsUnion, IsUnionOver};
+ghost use Rattle.spf.specs.Trees.{HandsOn, first_hops};
 
 use crate::places::is_at_root;
 use hop_sets::HopSet;
@@ -19,59 +15,57 @@ use tree_parts::{Distances, HopColumns};
 use vertex_graph::{Graph, Link, LinkLabel};
 use vertex_map::Placed;
 
-/// The next hops that the least links among those into a vertex, which is this far, give it.
-pub(crate) fn gather(
-    alloc: Global,
-    graph: &Graph,
-    distances: &Distances,
-    hops: &HopColumns,
-    vertex: &Placed,
-    links: &[Link],
-    far: u32,
-) -> Result<HopSet, Memory>
-    requires far { map.get distances.now vertex.now ≡ Some far }
-    requires links { AreLinksTo graph.now vertex.now links.now }
-    ensures { IfOk result (λ set. (h : Hop) → Contains set h ↔ IsGiven (LinksOf graph.now) graph.now.root (map.get distances.now) (hops_of hops.now) vertex.now h) }
-{
-    let root = graph.root();
-    let mut set = HopSet::new(alloc);
-    for link in links {
-        add_given(root, distances, hops, link, far, &mut set)?;
+/// A tree whose next hops are being updated: the distances are those after, and each next hop is of before or after.
+#[derive(Clone, Copy)]
+pub(crate) struct TreeInUpdate<'a> {
+    pub(crate) graph: &'a Graph,
+    pub(crate) distances: &'a Distances,
+    pub(crate) hops: &'a HopColumns,
+}
+
+impl TreeInUpdate<'_> {
+    /// The next hops that the least links into a vertex, which is this far, give it.
+    pub(crate) fn gather(self, alloc: Global, vertex: &Placed, far: u32) -> Result<HopSet, Memory>
+        requires { map.get self.distances.now vertex.now ≡ Some far }
+        ensures { IfOk result (AreGiven self.entry.graph.now
+            self.entry.distances.now self.entry.hops.now vertex.now) }
+    {
+        let root = self.graph.root();
+        let mut set = HopSet::new(alloc);
+        for link in self.graph.links_into(vertex) {
+            self.add_given(root, link, far, &mut set)?;
+        }
+        Ok(set)
     }
-    Ok(set)
+
+    // Adds what a link gives its head, which is this far, if it is a least link.
+    fn add_given(self, root: u32, link: &Link, far: u32, set: &mut HopSet) -> Result<(), Memory>
+        requires { map.get self.distances.now link.now.to ≡ Some far }
+        ensures { OnOk result
+            (IsUnionOver root self.entry.distances.now self.entry.hops.now link.now
+            set.old set.new) }
+    {
+        if !is_least(self.distances, link, far) {
+            return Ok(());
+        }
+        // 16.1.1: out of the root the interface of the link, else what the tail has.
+        if is_at_root(root, &link.from) {
+            return add_first(link.to.vertex(), &link.label, set);
+        }
+        match self.hops.get(&link.from) {
+            Some(tail) => add_handed_on(tail, &link.label, set),
+            None => Ok(()),
+        }
+    }
 }
 
 /// Whether both are the same next hops.
 pub(crate) fn are_same(before: Option<&HopSet>, after: &HopSet) -> bool
-    ensures { IsTrue result ↔ ((h : Hop) → Contains (listed_hops (option_copied before.entry)) h ↔ Contains after.now h) }
+    ensures { IsTrue result ↔ HaveSameHops (option_copied before.entry) after.now }
 {
     match before {
         Some(before) => before.as_slice() == after.as_slice(),
         None => after.is_empty(),
-    }
-}
-
-// Adds what a link gives its head, which is this far, if it is a least link.
-fn add_given(
-    root: u32,
-    distances: &Distances,
-    hops: &HopColumns,
-    link: &Link,
-    far: u32,
-    set: &mut HopSet,
-) -> Result<(), Memory>
-    requires { map.get distances.now link.now.to ≡ Some far }
-    ensures { OnOk result (IsUnion set.old set.new (IsGivenOver root (map.get distances.now) (hops_of hops.now) link.now)) }
-{
-    if !is_least(distances, link, far) {
-        return Ok(());
-    }
-    if is_at_root(root, &link.from) {
-        return add_first(link.to.vertex(), &link.label, set);
-    }
-    match hops.get(&link.from) {
-        Some(tail) => add_handed_on(tail, &link.label, set),
-        None => Ok(()),
     }
 }
 
@@ -123,7 +117,7 @@ fn add_handed_on(tail: &HopSet, label: &LinkLabel, set: &mut HopSet) -> Result<(
 
 // Adds all of these next hops. Most often they are the first.
 fn unite(tail: &HopSet, set: &mut HopSet) -> Result<(), Memory>
-    ensures { OnOk result ((h : Hop) → Contains set.new h ↔ (Contains set.old h ⊎ Contains tail.now h)) }
+    ensures { OnOk result (AreUnited set.old tail.now set.new) }
 {
     if set.is_empty() {
         *set = tail.copy()?;
@@ -133,7 +127,7 @@ fn unite(tail: &HopSet, set: &mut HopSet) -> Result<(), Memory>
 }
 
 fn has_direct(hops: &[NextHop]) -> bool
-    ensures { IsTrue result ↔ ((interface : ℕ) × Contains hops.now (NextHop.Direct interface)) }
+    ensures { IsTrue result ↔ HasDirect hops.now }
 {
     hops.iter().any(|hop| matches!(hop, NextHop::Direct(_)))
 }
@@ -143,6 +137,7 @@ fn add_handed(hop: NextHop, label: &LinkLabel, set: &mut HopSet) -> Result<(), M
     ensures { OnOk result (IsUnion set.old set.new (HandsOn hop label.now)) }
 {
     match hop {
+        // 16.1.1: behind a network that is attached to the root, the router's address on that network.
         NextHop::Direct(interface) => add_addresses(interface, label, set),
         NextHop::Peer(_) | NextHop::Router(_, _) => set.put(hop),
     }

@@ -4,11 +4,11 @@
 #![tactic(auto)]
 
 mod gathering;
-mod handing;
-mod losing;
-mod nearing;
+mod lose_support;
 mod places;
+mod relax;
 mod tree;
+mod update_next_hops;
 mod workspace;
 
 pub use tree::Tree;

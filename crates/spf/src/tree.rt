@@ -1,12 +1,13 @@
-ghost use Rattle.std.specs.Prelude.{◌≡◌, ◌<◌, [], true, OnOk, OnErr, IfOk, IfSome};
+ghost use Rattle.std.specs.Prelude.{◌≡◌, ◌<◌, [], OnOk, OnErr, IfOk, IfSome};
 ghost use Rattle.std.specs.FinMap as map;
 ghost use Rattle.std.specs.List.Sorted.{IsStrictlySortedBy};
 ghost use Rattle.ospf_types.specs.Hops.{hop_cmp};
 ghost use Rattle.tree_parts.specs.Maps.{most_distance};
-ghost use Rattle.spf.specs.TreeValues.{IsTreeOf, IsTreeBefore, AreChanged, AreOthersKept, IsBounded, IsWorkDone, IsWorkForAll, listed_hops};
+ghost use Rattle.spf.specs.TreeValues.{AreChanged, AreOthersKept, IsBoundedBy, IsBuildWork, IsIdleUnless, IsRepairWork, IsTreeBefore, IsTreeOf, at_rest, listed_hops, spent_value};
 
-use crate::losing::lose;
+use crate::lose_support::lose_support;
 use crate::places::{root_of, tail_of};
+use crate::relax::LinksAfter;
 use crate::workspace::Workspace;
 use ospf_types::entry::Vertex;
 use ospf_types::hop::NextHop;
@@ -70,7 +71,7 @@ impl Tree {
     ) -> Result<(Tree, Touched), Memory>
         ensures tree { IfOk result (λ built. IsTreeOf graph.now built.0) }
         ensures changed { IfOk result (λ built. built.0.changed ≡ []) }
-        ensures work { IfOk result (λ built. IsWorkForAll graph.now built.0 built.1.taken built.1.hop_sets) }
+        ensures work { IfOk result (λ built. IsBuildWork graph.now built.0 built.1) }
     {
         let hashing = WordHash::new(hashing);
         let mut distances = Distances::with_room(alloc, hashing, graph.len())?;
@@ -79,7 +80,15 @@ impl Tree {
         let root = Vertex::Router(graph.root());
         let came = graph.links_from(root);
         let root = tail_of(came, root);
-        let touched = workspace.renew(alloc, graph, &root, came, &mut distances, &mut hops)?;
+        let touched = workspace.update_distances_and_hops(
+            LinksAfter {
+                graph,
+                root: &root,
+                came,
+            },
+            &mut distances,
+            &mut hops,
+        )?;
         let tree = Tree {
             distances,
             hops,
@@ -92,8 +101,8 @@ impl Tree {
         Ok((tree, touched))
     }
 
-    /// Brings a tree that is right for the links before to those of the graph, and answers the work. Where memory
-    /// is refused, the tree is spent: it answers nothing, and only `build` makes another.
+    /// Brings a tree that is right for the links before to those of the graph, and answers the work. If memory
+    /// runs out, the tree is spent: it answers nothing, and only `build` makes another.
     pub fn repair(
         &mut self,
         alloc: Global,
@@ -104,13 +113,14 @@ impl Tree {
         ensures tree { OnOk result (IsTreeOf graph.now self.new) }
         ensures changed { OnOk result (AreChanged self.old self.new self.new.changed) }
         ensures others { OnOk result (AreOthersKept self.old self.new) }
-        ensures bounded { IfOk result (λ touched. IsBounded graph.now changes.now.gone.items changes.now.came.items self.old touched.taken touched.hop_sets) }
-        ensures idle { IfOk result (λ touched. changes.now.gone.items ≡ [] → changes.now.came.items ≡ [] → touched ≡ record { taken = 0; hop_sets = 0 }) }
-        ensures work { IfOk result (λ touched. IsWorkDone graph.now self.old self.new touched.taken touched.hop_sets) }
-        ensures spent { OnErr result (self.new ≡ record { distances = map.empty; hops = map.empty; changed = []; spent = true }) }
+        ensures bounded { IfOk result (IsBoundedBy graph.now
+            changes.now.gone.items changes.now.came.items self.old) }
+        ensures idle { IfOk result (IsIdleUnless changes.now.gone.items changes.now.came.items) }
+        ensures work { IfOk result (IsRepairWork graph.now self.old self.new) }
+        ensures spent { OnErr result (self.new ≡ spent_value) }
     {
         self.trim(graph);
-        let repaired = self.repair_parts(alloc, graph, changes);
+        let repaired = self.repair_parts(graph, changes);
         match &repaired {
             Ok(_) => self.workspace.give_back(alloc),
             Err(_) => self.spend(),
@@ -120,7 +130,7 @@ impl Tree {
 
     /// Says that no link went or came: no vertex changed.
     pub fn rest(&mut self)
-        ensures { self.new ≡ record { distances = self.old.distances; hops = self.old.hops; changed = []; spent = self.old.spent } }
+        ensures { self.new ≡ at_rest self.old }
     {
         self.changed.clear();
     }
@@ -164,7 +174,7 @@ impl Tree {
         }
     }
 
-    /// Whether a repair was refused memory. A spent tree may not be repaired.
+    /// Whether memory ran out in a repair. A spent tree may not be repaired.
     pub fn spent(&self) -> bool
         ensures { result ≡ self.now.spent }
     {
@@ -182,42 +192,39 @@ impl Tree {
 impl Tree {
     // All parts of a repair, and the vertices that they changed. After an error the tree is neither of the links
     // before nor of those after.
-    fn repair_parts(
-        &mut self,
-        alloc: Global,
-        graph: &Graph,
-        changes: &LinkChanges,
-    ) -> Result<Touched, Memory>
+    fn repair_parts(&mut self, graph: &Graph, changes: &LinkChanges) -> Result<Touched, Memory>
         requires { IsTreeBefore graph.now changes.now.gone.items changes.now.came.items self.old }
         ensures tree { OnOk result (IsTreeOf graph.now self.new) }
         ensures changed { OnOk result (AreChanged self.old self.new self.new.changed) }
         ensures others { OnOk result (AreOthersKept self.old self.new) }
-        ensures bounded { IfOk result (λ touched. IsBounded graph.now changes.now.gone.items changes.now.came.items self.old touched.taken touched.hop_sets) }
-        ensures idle { IfOk result (λ touched. changes.now.gone.items ≡ [] → changes.now.came.items ≡ [] → touched ≡ record { taken = 0; hop_sets = 0 }) }
-        ensures work { IfOk result (λ touched. IsWorkDone graph.now self.old self.new touched.taken touched.hop_sets) }
+        ensures bounded { IfOk result (IsBoundedBy graph.now
+            changes.now.gone.items changes.now.came.items self.old) }
+        ensures idle { IfOk result (IsIdleUnless changes.now.gone.items changes.now.came.items) }
+        ensures work { IfOk result (IsRepairWork graph.now self.old self.new) }
     {
-        lose(graph, changes, &self.distances, &mut self.workspace.search)?;
+        lose_support(graph, changes, &self.distances, &mut self.workspace.search)?;
         self.root = root_of(graph, &self.root);
         remember(
             &self.distances,
             &self.root,
-            self.workspace.search.losses.lost.as_slice(),
+            self.workspace.search.lost.as_slice(),
             &mut self.workspace.remembered,
         )?;
-        let touched = self.workspace.renew(
-            alloc,
-            graph,
-            &self.root,
-            changes.came.as_slice(),
+        let touched = self.workspace.update_distances_and_hops(
+            LinksAfter {
+                graph,
+                root: &self.root,
+                came: changes.came.as_slice(),
+            },
             &mut self.distances,
             &mut self.hops,
         )?;
         list_differing(
             self.workspace.remembered.as_slice(),
             &self.distances,
-            &self.workspace.search.losses.lost,
+            &self.workspace.search.lost,
             &self.workspace.moved,
-            &self.workspace.written,
+            &self.workspace.writer.written,
             &mut self.workspace.listing,
             &mut self.changed,
         )?;
@@ -236,7 +243,7 @@ impl Tree {
 
     // Takes all out of the tree.
     fn spend(&mut self)
-        ensures { self.new ≡ record { distances = map.empty; hops = map.empty; changed = []; spent = true } }
+        ensures { self.new ≡ spent_value }
     {
         self.distances.clear();
         self.hops.clear();

@@ -1,17 +1,15 @@
 //! What a repair finds on its way.
-ghost use Rattle.std.specs.Prelude.{◌≡◌, [], List, OnOk, IfOk};
+ghost use Rattle.std.specs.Prelude.{◌≡◌, [], OnOk, IfOk};
 ghost use Rattle.std.specs.FinMap as map;
-ghost use Rattle.vertex_graph.specs.Link.{Link as LinkValue};
 ghost use Rattle.tree_parts.specs.Maps.{AreHopsInOrder};
-ghost use Rattle.spf.specs.TreeValues.{IsBegun, IsRenewed, tree_of};
+ghost use Rattle.spf.specs.TreeValues.{ComesTo, IsBegunWith, tree_of};
 
-use crate::handing::hand;
-use crate::losing::Search;
-use crate::nearing::near;
+use crate::lose_support::Search;
+use crate::relax::LinksAfter;
+use crate::update_next_hops::{HopWriter, Relaxed};
 use ospf_types::memory::Memory;
 use std::alloc::Global;
 use tree_parts::{Distances, HopColumns, Listing, Touched, VertexList};
-use vertex_graph::{Graph, Link};
 use vertex_map::Placed;
 use vertex_queue::Queue;
 use word_hash::WordHash;
@@ -24,9 +22,8 @@ pub(crate) struct Workspace {
     pub(crate) search: Search,
     // The root and what was lost, each with its distance before.
     pub(crate) remembered: Vec<(Placed, Option<u32>)>,
-    queue: Queue,
     pub(crate) moved: VertexList,
-    pub(crate) written: VertexList,
+    pub(crate) writer: HopWriter,
     pub(crate) listing: Listing,
     hashing: WordHash,
 }
@@ -37,9 +34,8 @@ impl Drop for Workspace {
         let Workspace {
             search: _search,
             remembered: _remembered,
-            queue: _queue,
             moved: _moved,
-            written: _written,
+            writer: _writer,
             listing: _listing,
             hashing: _,
         } = self;
@@ -49,80 +45,70 @@ impl Drop for Workspace {
 impl Workspace {
     /// Nothing is found yet.
     pub(crate) fn new(alloc: Global, hashing: WordHash) -> Workspace
-        ensures lost { result.search.losses.lost ≡ [] }
-        ensures stale { result.search.losses.stale ≡ [] }
+        ensures lost { result.search.lost ≡ [] }
+        ensures stale { result.search.pending.stale ≡ [] }
     {
         Workspace {
             search: Search::new(alloc, hashing),
             remembered: Vec::new(alloc),
-            queue: Queue::new(alloc, hashing),
             moved: VertexList::new(alloc),
-            written: VertexList::new(alloc),
+            writer: HopWriter::new(alloc),
             listing: Listing::new(alloc),
             hashing,
         }
     }
 
-    /// The second and the third part of a repair, once it is known what is lost. The root is looked for at the place.
-    pub(crate) fn renew(
+    /// Brings distances and next hops to those after, once it is known what is lost: the second and the third part of a
+    /// repair.
+    pub(crate) fn update_distances_and_hops(
         &mut self,
-        alloc: Global,
-        graph: &Graph,
-        place: &Placed,
-        came: &[Link],
+        after: LinksAfter<'_>,
         distances: &mut Distances,
         hops: &mut HopColumns,
     ) -> Result<Touched, Memory>
-        requires begun { (gone : List LinkValue) × IsBegun graph.now gone came.now (tree_of distances.old hops.old) self.old.search.losses.lost self.old.search.losses.stale }
-        ensures renewed { IfOk result (λ touched. IsRenewed graph.now came.now (tree_of distances.old hops.old) (tree_of distances.new hops.new) self.old.search.losses.lost self.old.search.losses.stale self.new.moved self.new.written touched.taken touched.hop_sets) }
-        ensures lost { OnOk result (self.new.search.losses.lost ≡ self.old.search.losses.lost) }
+        requires begun { IsBegunWith after.graph.now after.came.now
+            (tree_of distances.old hops.old) self.old.search }
+        ensures carried_out { IfOk result (ComesTo after.entry.graph.now after.entry.came.now
+            (tree_of distances.old hops.old) (tree_of distances.new hops.new) self.old self.new) }
+        ensures lost { OnOk result (self.new.search.lost ≡ self.old.search.lost) }
         ensures remembered { self.new.remembered ≡ self.old.remembered }
         ensures were_in_order { AreHopsInOrder hops.old }
         ensures in_order { OnOk result (AreHopsInOrder hops.new) }
     {
         let _ = hops.len();
-        let mut touched = Touched::none();
-        // proof: nothing waits, as a tree is not repaired once it was refused memory.
-        empty(&mut self.queue);
-        near(
-            graph,
-            place,
-            came,
-            &mut self.search.losses,
+        // proof: nothing waits, as a tree is not repaired once memory ran out.
+        empty(&mut self.search.pending.queue);
+        let touched = self
+            .search
+            .pending
+            .relax(after, &self.search.lost, distances, &mut self.moved)?;
+        self.writer.touched = touched;
+        let relaxed = Relaxed {
+            graph: after.graph,
             distances,
-            &mut self.queue,
-            &mut self.moved,
-            &mut touched,
-        )?;
-        hand(
-            alloc,
-            graph,
-            distances,
-            &self.search.losses,
-            &self.moved,
-            hops,
-            &mut self.queue,
-            &mut self.written,
-            &mut touched,
-        )?;
+            lost: &self.search.lost,
+            moved: &self.moved,
+        };
+        self.writer
+            .update_next_hops(relaxed, &mut self.search.pending, hops)?;
         let _ = hops.len();
-        Ok(touched)
+        Ok(self.writer.touched)
     }
 
     /// Gives up the places of vertices that do not wait, where there are more than so many.
     pub(crate) fn trim(&mut self, most: usize) {
-        self.queue.trim(most);
+        self.search.pending.queue.trim(most);
     }
 
     /// Gives back the memory that only a large repair needs.
     pub(crate) fn give_back(&mut self, alloc: Global) {
-        if self.search.losses.stale.len() > MOST_KEPT {
-            self.search = Search::new(alloc, self.hashing);
+        if self.search.pending.stale.len() > MOST_KEPT {
+            self.search.give_back(alloc, self.hashing);
             self.remembered = Vec::new(alloc);
         }
-        if self.moved.len().max(self.written.len()) > MOST_KEPT {
+        if self.moved.len().max(self.writer.written.len()) > MOST_KEPT {
             self.moved = VertexList::new(alloc);
-            self.written = VertexList::new(alloc);
+            self.writer.written = VertexList::new(alloc);
             self.listing = Listing::new(alloc);
         }
     }

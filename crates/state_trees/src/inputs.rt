@@ -18,7 +18,8 @@ pub fn area_inputs<'a>(
     trees: &'a [AreaTree],
 ) -> Result<Vec<AreaInputs<'a>>, Memory>
     requires { length trees.now ≡ length state.now.config.areas }
-    ensures { IfOk result (λ areas. areas.items ≡ areas_with state.now state.now.config.areas trees.now) }
+    ensures { IfOk result (λ areas.
+        areas.items ≡ areas_with state.now state.now.config.areas trees.now) }
 {
     let mut areas = Vec::with_capacity(alloc, trees.len())?;
     for (area, tree) in state.config().areas.as_slice().iter().zip(trees) {

@@ -28,8 +28,10 @@ pub fn build_trees(
     hashing: RandomState,
 ) -> Result<(Vec<AreaTree>, Touched), Memory>
     requires few { state.now.limits.area_lsas ≤ most_routers }
-    ensures right { IfOk result (λ built. AreTreesOf state.now state.now.config.areas built.0.items) }
-    ensures work { IfOk result (λ built. (works : List TouchedValue) × AreWorksForAll built.0.items works × IsTotal works built.1) }
+    ensures right { IfOk result (λ built.
+        AreTreesOf state.now state.now.config.areas built.0.items) }
+    ensures work { IfOk result (λ built. (works : List TouchedValue)
+        × AreWorksForAll built.0.items works × IsTotal works built.1) }
 {
     let mut trees = Vec::new(alloc);
     let mut work = Touched::none();
@@ -51,7 +53,8 @@ fn build_tree(
     requires few { state.now.limits.area_lsas ≤ most_routers }
     requires there { IsSome (place_of state.now.config.areas (Scope.Area area)) }
     ensures right { IfOk result (λ built. IsTreeFor state.now area built.0) }
-    ensures work { IfOk result (λ built. IsWorkForAll built.0.area.graph built.0.tree built.1.taken built.1.hop_sets) }
+    ensures work { IfOk result (λ built. IsWorkForAll built.0.area.graph built.0.tree
+        built.1.taken built.1.hop_sets) }
 {
     let Some(database) = state.database(Scope::Area(area)) else {
         unreachable!()
@@ -72,8 +75,10 @@ pub fn follow_trees(
     vertices: &mut Vec<(u32, Vertex)>,
 ) -> Result<Touched, Memory>
     requires few { state.now.limits.area_lsas ≤ most_routers }
-    requires before { (before : StateValue) × AreTreesOf before before.config.areas trees.old × StatesDifferAmong keys.now interfaces.now true before state.now }
-    ensures { IfOk result (λ work. AreFollowed state.now state.now.config.areas trees.old trees.new vertices.new.items work) }
+    requires before { (before : StateValue) × AreTreesOf before before.config.areas trees.old
+        × StatesDifferAmong keys.now interfaces.now true before state.now }
+    ensures { IfOk result (λ work. AreFollowed state.now state.now.config.areas
+        trees.old trees.new vertices.new.items work) }
 {
     let mut work = Touched::none();
     for (place, area) in state.config().areas.as_slice().iter().enumerate() {
@@ -96,11 +101,14 @@ fn follow_tree(
 ) -> Result<Touched, Memory>
     requires few { state.now.limits.area_lsas ≤ most_routers }
     requires there { IsSome (place_of state.now.config.areas (Scope.Area area)) }
-    requires before { (before : StateValue) × IsTreeFor before area tree.old × StatesDifferAmong keys.now interfaces.now true before state.now }
+    requires before { (before : StateValue) × IsTreeFor before area tree.old
+        × StatesDifferAmong keys.now interfaces.now true before state.now }
     ensures right { OnOk result (IsTreeFor state.now area tree.new) }
     ensures others { OnOk result (AreOthersKept tree.old.tree tree.new.tree) }
-    ensures bounded { IfOk result (λ touched. IsWorkBounded tree.old tree.new touched.taken touched.hop_sets) }
-    ensures work { IfOk result (λ touched. IsWorkDone tree.new.area.graph tree.old.tree tree.new.tree touched.taken touched.hop_sets) }
+    ensures bounded { IfOk result (λ touched.
+        IsWorkBounded tree.old tree.new touched.taken touched.hop_sets) }
+    ensures work { IfOk result (λ touched. IsWorkDone tree.new.area.graph
+        tree.old.tree tree.new.tree touched.taken touched.hop_sets) }
 {
     if !interfaces.is_empty() {
         let ups = ups(alloc, state, area)?;
@@ -115,7 +123,8 @@ fn follow_tree(
 
 // The keys of the area.
 fn keys_of(alloc: Global, area: u32, keys: &[(Scope, Key)]) -> Result<Vec<Key>, Memory>
-    ensures { IfOk result (λ found. (key : KeyValue) → Contains found.items key ↔ Contains keys.now (Scope.Area area, key)) }
+    ensures { IfOk result (λ found. (key : KeyValue)
+        → Contains found.items key ↔ Contains keys.now (Scope.Area area, key)) }
 {
     let mut found = Vec::new(alloc);
     for (scope, key) in keys {
@@ -135,7 +144,8 @@ fn is_area(scope: Scope, area: u32) -> bool
 
 // Adds the vertices that differ, with the Area ID.
 fn push_changed(area: u32, tree: &AreaTree, vertices: &mut Vec<(u32, Vertex)>) -> Result<(), Memory>
-    ensures { OnOk result (vertices.new.items ≡ vertices.old.items ++ list_map (λ v. (area, v)) tree.now.tree.changed) }
+    ensures { OnOk result (vertices.new.items
+        ≡ vertices.old.items ++ list_map (λ v. (area, v)) tree.now.tree.changed) }
 {
     for vertex in tree.changed() {
         vertices.push((area, *vertex))?;

@@ -1,18 +1,14 @@
-mod Ascending
-mod Following
-pub mod Greatest
-pub mod Members
-mod Naming
-pub mod Reconfigured
+pub mod Adding
+pub mod Frame
+pub mod GivenParts
+pub mod Throughs
+pub mod HopsStay
+pub mod Entries
+pub mod Areas
+pub mod Told
 pub mod Right
-pub mod Searching
-mod Activity
-mod Grouped
-mod Kept
-mod Placed
-mod Lists
-mod Standing
-mod Turning
-mod Weighing
-mod Inside
-mod Taken
+pub mod Comparing
+pub mod Turns
+pub mod Carried
+pub mod Unserved
+pub mod Untouched

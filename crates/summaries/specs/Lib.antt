@@ -1,4 +1,11 @@
-pub mod Active
-pub mod Following
-pub mod Grouped
+pub mod Inputs
+pub mod Giving
+pub mod Candidates
+pub mod DueSummaries
+pub mod Carrying
+pub mod Touched
+pub mod Changes
+pub mod Planning
 pub mod Right
+pub use Rattle.summary_lists.specs.Lists
+pub use Rattle.summary_lists.specs.declared.due.DueSummary

@@ -1,12 +1,12 @@
-//! Address ranges at area boundaries (RFC 2328, 3.5 and 16.2): which are active, and the networks that each has. They
-//! follow the intra-area routes.
+//! Due summaries (RFC 2328, 12.4.3): the summary-LSAs that an area border router is to send into each of its areas. They
+//! follow the routes: what may differ is worked out again, and nothing else.
 #![tactic(auto)]
 
-mod active;
-mod member;
-mod named;
-mod networks;
-mod within;
+mod giving;
+mod inputs;
+mod summaries;
+mod touched;
 
-pub use active::ActiveRanges;
-pub use member::Member;
+pub use inputs::SummaryInputs;
+pub use summaries::{DueSummaries, Plan};
+pub use summary_lists::{AreaSummaries, DueSummary};

@@ -9,11 +9,7 @@ use Rattle.std.proofs.lemmas.Bool.Decides.{Decides-eqb}
 use Rattle.std.proofs.lemmas.List.Elements.{Contains-append_left, Contains-push, Contains-push_cases}
 use Rattle.ospf_types.specs.declared.entry.Vertex.{Vertex}
 use Rattle.tree_parts.specs.Maps.{DistanceMap}
-use Rattle.tree_parts.specs.Differing.{IsFarther, IsNearer}
-
--- the list has what it had at the start, and that of which this holds
-abbrev pub IsGrown : List Vertex → List Vertex → (Vertex → Type 0) → Type 0
-IsGrown now start Holds = (v : Vertex) → Contains now v ↔ (Contains start v ⊎ Holds v)
+use Rattle.tree_parts.specs.Differing.{IsFarther, IsGrown, IsNearer}
 
 -- where it holds of one more, and that is pushed
 pub grown_push : (now start : List Vertex) (Was Is : Vertex → Type 0) (w : Vertex) → IsGrown now start Was → ((v : Vertex) → Is v ↔ (Was v ⊎ (v ≡ w))) → IsGrown (now ++ w ∷ []) start Is

@@ -16,7 +16,7 @@ use Rattle.ospf_types.specs.declared.entry.Vertex.TheVariants.{Router, Network}
 use Rattle.ospf_types.specs.contracts.entry.VertexOrd.TheImpl as derived_order
 use Rattle.ospf_types.specs.Vertices.{vertex_cmp}
 use Rattle.ospf_types.proofs.VertexOrder.{vertex_total, vertex_exact, vertices_equal, vertices_order}
-use Rattle.tree_parts.proofs.Grown.{IsGrown}
+use Rattle.tree_parts.specs.Differing.{IsGrown}
 
 -- what compares equal
 then_equal : (o : Ordering) → o ≡ ordering_then o Equal

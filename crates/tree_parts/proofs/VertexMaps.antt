@@ -58,7 +58,7 @@ module _ {X : Type 0} where
   find_none q [] none = refl
   find_none q (e ∷ es) none = ap (λ b. cond b (Some e.1) (find vertex_cmp q es)) none.0 ∙ find_none q es none.1
 
-  -- as many vertices as entries, where none stands twice
+  -- there are so many vertices as entries, where none stands twice
   len_distinct : (es : List (Vertex × X)) → IsDistinct (eq_by_cmp vertex_cmp) (keys_of es) → len (map_of es) ≡ length es
   len_distinct [] unique = len-empty vertex_cmp X
   len_distinct (e ∷ es) unique =

@@ -3,3 +3,4 @@ pub mod Members
 pub mod Differing
 pub mod Marks
 pub mod Keys
+pub mod Counts

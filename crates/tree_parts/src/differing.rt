@@ -1,10 +1,8 @@
 //! Which vertices a repair changed.
-ghost use Rattle.std.specs.Prelude.{◌≡◌, ◌↔◌, ◌⊎◌, ◌++◌, ◌∷◌, OnOk, Contains, map as list_map};
-ghost use Rattle.std.specs.FinMap as map;
+ghost use Rattle.std.specs.Prelude.{◌≡◌, ◌++◌, ◌∷◌, OnOk};
 ghost use Rattle.std.specs.List.Sorted.{IsStrictlySortedBy};
-ghost use Rattle.ospf_types.specs.declared.entry.Vertex.{Vertex as VertexValue};
 ghost use Rattle.ospf_types.specs.Vertices.{vertex_cmp};
-ghost use Rattle.tree_parts.specs.Differing.{IsFarther, IsNearer};
+ghost use Rattle.tree_parts.specs.Differing.{HasExactly, IsDiffering, IsFarther, IsGrown, IsNearer, with_distances};
 
 use crate::distances::Distances;
 use crate::listing::Listing;
@@ -22,7 +20,8 @@ pub fn remember(
     lost: &[Placed],
     remembered: &mut Vec<(Placed, Option<u32>)>,
 ) -> Result<(), Memory>
-    ensures { OnOk result (remembered.new.items ≡ list_map (λ v. (v, map.get distances.now v)) (root.now ∷ lost.now)) }
+    ensures { OnOk result (remembered.new.items
+        ≡ with_distances distances.now (root.now ∷ lost.now)) }
 {
     remembered.clear();
     remembered.push((root.copy(), distances.get(root)))?;
@@ -44,7 +43,8 @@ pub fn list_differing(
     changed: &mut Vec<Vertex>,
 ) -> Result<(), Memory>
     ensures in_order { OnOk result (IsStrictlySortedBy vertex_cmp changed.new.items) }
-    ensures exact { OnOk result ((v : VertexValue) → Contains changed.new.items v ↔ (IsFarther remembered.now distances.now v ⊎ (IsNearer moved.now lost.now v ⊎ Contains written.now v))) }
+    ensures exact { OnOk result (HasExactly changed.new.items
+        (IsDiffering remembered.now distances.now lost.now moved.now written.now)) }
 {
     listing.clear();
     add_all(listing, written.as_slice())?;
@@ -69,7 +69,8 @@ fn add_farther(
     remembered: &[(Placed, Option<u32>)],
     distances: &Distances,
 ) -> Result<(), Memory>
-    ensures { OnOk result ((v : VertexValue) → Contains listing.new v ↔ (Contains listing.old v ⊎ IsFarther remembered.now distances.now v)) }
+    ensures { OnOk result (IsGrown listing.new listing.old
+        (IsFarther remembered.now distances.now)) }
 {
     for (vertex, distance) in remembered {
         if distances.get(vertex) != *distance {
@@ -81,7 +82,7 @@ fn add_farther(
 
 // Adds those that moved and were not lost.
 fn add_nearer(listing: &mut Listing, moved: &[Placed], lost: &Members) -> Result<(), Memory>
-    ensures { OnOk result ((v : VertexValue) → Contains listing.new v ↔ (Contains listing.old v ⊎ IsNearer moved.now lost.now v)) }
+    ensures { OnOk result (IsGrown listing.new listing.old (IsNearer moved.now lost.now)) }
 {
     for vertex in moved {
         if !lost.has(vertex) {

@@ -48,7 +48,7 @@ impl Distances {
         Ok(Distances { by_vertex })
     }
 
-    /// A tree looks up the distance of a vertex; none where it is not reached.
+    /// The distance of a vertex; none where it is not reached.
     #[inline]
     pub fn get(&self, vertex: &Placed) -> Option<u32>
         ensures value { result ≡ map.get self.now vertex.now }
@@ -57,7 +57,7 @@ impl Distances {
         self.by_vertex.get(vertex).copied()
     }
 
-    /// The same of a vertex whose place is not known: it is looked up by its hash.
+    /// The distance of a vertex whose place is not known: it is looked up by its hash.
     pub fn find(&self, vertex: Vertex) -> Option<u32>
         ensures value { result ≡ map.get self.now vertex }
         ensures bounded { IfSome result (λ distance. distance < most_distance) }

@@ -57,7 +57,7 @@ impl HopColumns {
         self.by_vertex.get(vertex)
     }
 
-    /// The same of a vertex whose place is not known: it is looked up by its hash.
+    /// Lends the next hops of a vertex whose place is not known: it is looked up by its hash.
     pub fn find(&self, vertex: Vertex) -> Option<&HopSet>
         ensures { option_copied result ≡ map.get self.now vertex }
     {

@@ -1,9 +1,9 @@
 //! Vertices that are put in order.
-ghost use Rattle.std.specs.Prelude.{◌≡◌, ◌↔◌, ◌<◌, ◌^◌, ◌++◌, ◌∷◌, [], ℕ, OnOk, OnErr, Contains, map as list_map};
+ghost use Rattle.std.specs.Prelude.{◌≡◌, ◌<◌, ◌^◌, ◌++◌, ◌∷◌, [], ℕ, OnOk, OnErr, Contains};
 ghost use Rattle.std.specs.List.Sorted.{IsStrictlySortedBy};
-ghost use Rattle.ospf_types.specs.declared.entry.Vertex.{Vertex as VertexValue};
 ghost use Rattle.ospf_types.specs.Vertices.{vertex_cmp};
-ghost use Rattle.tree_parts.specs.Keys.{vertex_at};
+ghost use Rattle.tree_parts.specs.Differing.{HaveSameVertices};
+ghost use Rattle.tree_parts.specs.Keys.{vertex_at, with_keys};
 
 use ospf_types::entry::Vertex;
 use ospf_types::memory::Memory;
@@ -66,7 +66,7 @@ impl Listing {
     /// Puts the vertices, ascending, each once, in the place of what a list has.
     pub fn list(&mut self, vertices: &mut Vec<Vertex>) -> Result<(), Memory>
         ensures in_order { OnOk result (IsStrictlySortedBy vertex_cmp vertices.new.items) }
-        ensures same { OnOk result ((v : VertexValue) → Contains vertices.new.items v ↔ Contains self.old v) }
+        ensures same { OnOk result (HaveSameVertices vertices.new.items self.old) }
     {
         self.keys.sort_unstable();
         self.keys.dedup();
@@ -78,7 +78,7 @@ impl Listing {
 // Adds the vertices that have these keys.
 fn push_vertices(keys: &[u64], vertices: &mut Vec<Vertex>) -> Result<(), Memory>
     requires { (k : ℕ) → Contains keys.now k → k < 2 ^ 33 }
-    ensures { OnOk result (vertices.new.items ≡ vertices.old.items ++ list_map vertex_at keys.now) }
+    ensures { OnOk result (vertices.new.items ≡ with_keys vertices.old.items keys.now) }
 {
     for key in keys {
         vertices.push(vertex_of(*key))?;

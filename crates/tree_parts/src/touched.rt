@@ -1,6 +1,7 @@
 //! The work of a tree, counted.
 ghost use Rattle.std.specs.Prelude.{◌≡◌, ◌+◌, ◌^◌, ◌<◌, IfSome, IfNone, OnOk, OnErr};
 ghost use Rattle.std.specs.FinMap as map;
+ghost use Rattle.tree_parts.specs.Counts.{no_work, with_hop_sets, with_taken};
 ghost use Rattle.tree_parts.specs.Maps.{with_hops};
 ghost use Rattle.vertex_queue.specs.Queues.{IsFirst};
 
@@ -22,7 +23,7 @@ pub struct Touched {
 impl Touched {
     /// No work.
     pub fn none() -> Touched
-        ensures { result ≡ record { taken = 0; hop_sets = 0 } }
+        ensures { result ≡ no_work }
     {
         Touched {
             taken: 0,
@@ -38,7 +39,7 @@ impl Touched {
         ensures uncounted { IfNone result (self.new ≡ self.old) }
         ensures first { IfSome result (λ p. IsFirst queue.old p.0 p.1) }
         ensures rest { IfSome result (λ p. queue.new ≡ map.remove queue.old p.0) }
-        ensures counted { IfSome result (λ p. self.new ≡ record { taken = self.old.taken + 1; hop_sets = self.old.hop_sets }) }
+        ensures counted { IfSome result (λ p. self.new ≡ with_taken self.old (self.old.taken + 1)) }
     {
         let first = queue.take()?;
         self.taken += 1;
@@ -54,7 +55,7 @@ impl Touched {
     ) -> Result<(), Memory>
         requires { self.old.hop_sets + 1 < 2 ^ 64 }
         ensures written { OnOk result (sets.new ≡ with_hops sets.old vertex.now hops) }
-        ensures counted { OnOk result (self.new ≡ record { taken = self.old.taken; hop_sets = self.old.hop_sets + 1 }) }
+        ensures counted { OnOk result (self.new ≡ with_hop_sets self.old (self.old.hop_sets + 1)) }
     {
         match hops {
             Some(hops) => sets.set(vertex, hops)?,

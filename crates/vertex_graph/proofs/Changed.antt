@@ -40,7 +40,7 @@ missing : (v : Vertex) (es : List (Vertex × List End)) → AllByRecursion (λ k
 missing v [] none = refl
 missing v (e ∷ es) none = ap (λ b. cond b (Some e.1) (find vertex_cmp v es)) none.0 ∙ missing v es none.1
 
--- as many vertices as entries, where none stands twice
+-- there are as many vertices as entries, if none stands twice
 len_is : (es : List (Vertex × List End)) → IsDistinct is_vertex (keys_of es) → len (from_entries {R = vertex_cmp} es) ≡ length es
 len_is [] unique = len-empty vertex_cmp (List End)
 len_is (e ∷ es) unique =

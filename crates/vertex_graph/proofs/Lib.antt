@@ -1,6 +1,6 @@
 pub mod PairLinks
 pub mod Untouched
-pub mod Handing
+pub mod HandedIn
 pub mod Changed
 pub mod Metrics
 pub mod Outcomes

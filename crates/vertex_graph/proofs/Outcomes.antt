@@ -13,7 +13,7 @@ use Rattle.graph_links.specs.Sides.{RowList, StagedList, row_ends, ends_after, e
 use Rattle.graph_links.specs.Sides.{IsChanged}
 use Rattle.vertex_graph.specs.Stagings.{IsHandedIn, AreTouched}
 use Rattle.vertex_graph.proofs.Changed.{get_graph, IsUntouched, leads_new, changed_rows, changed_exact, ends_untouched, ups_untouched, ends_alike, few_alike, map_alike}
-use Rattle.vertex_graph.proofs.Handing.{graph_in_order, handed_in_order, handed_ends, handed_few, handed_replaced}
+use Rattle.vertex_graph.proofs.HandedIn.{graph_in_order, handed_in_order, handed_ends, handed_few, handed_replaced}
 
 -- a graph's vertices lead to ends in order
 pub rows_in_order : (root : ℕ) (rows : RowList) (ups : List Up) → AreRows root rows ups → IsInOrder (row_ends rows)

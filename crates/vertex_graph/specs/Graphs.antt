@@ -1,5 +1,5 @@
 -- A graph of an area as its callers see it, and the links that it has (RFC 2328, 16.1).
-use Rattle.std.specs.Prelude.{◌↔◌, ◌⊎◌, ℕ, ◌≡◌, ◌≢◌, ◌≤◌, ◌<◌, List, [], map, length, Contains, Option, Some, None, IsSome, option_map}
+use Rattle.std.specs.Prelude.{◌↔◌, ◌⊎◌, ℕ, ◌≡◌, ◌≢◌, ◌≤◌, ◌<◌, List, [], ◌∷◌, map, length, Contains, Option, Some, None, IsSome, option_map}
 use Rattle.std.specs.List.{AllPairs}
 use Rattle.std.specs.List.Sorted.{IsStrictlySortedBy}
 use Rattle.std.specs.FinMap.{FinMap, get}
@@ -14,6 +14,7 @@ use Rattle.ospf_types.specs.Links.{View, IsLinkOf, IsVertexOf}
 use Rattle.ospf_types.specs.Lsa.{Body, RouterLink}
 use Rattle.ospf_types.specs.Vertices.{vertex_cmp}
 use Rattle.graph_links.specs.declared.link.Link.{Link}
+use Rattle.graph_links.specs.declared.link.LinkChanges.{LinkChanges}
 use Rattle.graph_links.specs.declared.link.Up.{Up}
 use Rattle.graph_links.specs.declared.end.End.{End}
 use Rattle.graph_links.specs.EndOrder.{end_cmp, listed_end}
@@ -80,18 +81,22 @@ AreFew IsThere = (routers : List ℕ) → AllPairs (λ x y. x ≢ y) routers →
 abbrev pub HasFewRouters : GraphValue → Type 0
 HasFewRouters g = AreFew (λ r. IsSome (get g.ends (Router r)))
 
--- each vertex has its ends in order, and a network leads to routers alone
+-- each vertex has its ends in order, and a network leads only to routers
 pub record HasEnds (g : GraphValue) : Type 0 where
   pub in_order : (v : Vertex) (ends : List End) → get g.ends v ≡ Some ends → IsStrictlySortedBy end_cmp ends
   pub listed : (n : ℕ) (ends : List End) (e : End) → get g.ends (Network n) ≡ Some ends → Contains ends e → (router : ℕ) × (e ≡ listed_end router)
 
--- what is handed in: a vertex with the body of its LSA, or with none where the LSA goes
+-- what is handed in: a vertex with the body of its LSA, or with none if the LSA goes
 abbrev pub Handed : Type 0
 Handed = Vertex × Option Body
 
 -- what a slice hands in
 abbrev pub handed_of : List (Vertex × Option (Bor Checked)) → List Handed
 handed_of = map (λ p. (p.0, option_map (λ lsa. lsa.now.body) p.1))
+
+-- what is handed in for one vertex: its LSA, or none
+abbrev pub handed_in : Vertex → Option (Bor Checked) → List Handed
+handed_in v lsa = (v, option_map (λ (l : Bor Checked). l.now.body) lsa) ∷ []
 
 -- no vertex is handed in twice
 abbrev pub AreApartHanded : List Handed → Type 0
@@ -119,3 +124,7 @@ pub record AreExact (old new : GraphValue) (gone come : List Link) : Type 0 wher
   pub came : (l : Link) → Contains come l ↔ (LinksOf new l.from l.to l.cost l.label × (LinksOf old l.from l.to l.cost l.label → ⊥))
   pub went_once : AllPairs (λ k l. k ≢ l) gone
   pub came_once : AllPairs (λ k l. k ≢ l) come
+
+-- a change names exactly the links that went and those that came
+abbrev pub AreLinkChanges : GraphValue → GraphValue → LinkChanges → Type 0
+AreLinkChanges old new changes = AreExact old new changes.gone.items changes.came.items

@@ -1,3 +1,4 @@
+pub mod Changes
 pub mod Ends
 pub mod Graphs
 pub mod Rows

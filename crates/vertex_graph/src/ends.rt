@@ -52,6 +52,7 @@ fn end_of(link: Link) -> Option<End>
     let to = match link.kind {
         LinkKind::PointToPoint => Vertex::Router(link.id),
         LinkKind::Transit => Vertex::Network(link.id),
+        // 16.1 (2) (a): links to stub networks are left to the second stage.
         LinkKind::Stub | LinkKind::Virtual => return None,
     };
     Some(End {

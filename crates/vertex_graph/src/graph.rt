@@ -1,12 +1,12 @@
 //! The graph of an area: the vertices that are there, and their links.
-ghost use Rattle.std.specs.Prelude.{◌≡◌, ◌≢◌, ◌↔◌, [], ◌∷◌, IsTrue, OnOk, OnErr, IfOk, option_copied, option_map};
+ghost use Rattle.std.specs.Prelude.{◌≡◌, ◌≢◌, ◌↔◌, [], IsTrue, OnOk, OnErr, IfOk, option_copied};
 ghost use Rattle.std.specs.List.{AllPairs};
 ghost use Rattle.std.specs.FinMap as map;
 ghost use Rattle.ospf_types.specs.Vertices.{vertex_cmp};
-ghost use Rattle.vertex_graph.specs.Graphs.{HasRoot, AreLinksFrom, AreLinksTo, HasFewRouters, HasCheapLinks, handed_of, AreApartHanded, AreFewAfter, IsReplaced, AreExact, HasEnds};
+ghost use Rattle.vertex_graph.specs.Graphs.{AreApartHanded, AreFewAfter, AreLinkChanges, AreLinksFrom, AreLinksTo, HasCheapLinks, HasEnds, HasFewRouters, HasRoot, IsReplaced, handed_of, handed_in};
 ghost use Rattle.graph_links.specs.Pairs.{AreCheap};
 
-use crate::change::change;
+use crate::change::Change;
 use crate::staging::{Staging, stage, stage_root};
 use graph_links::{Link, LinkChanges, Local, Room, Row, Rows, Up};
 use indexmap::IndexMap;
@@ -97,7 +97,7 @@ impl Graph {
         self.rows.contains_key(&Vertex::Router(self.root))
     }
 
-    /// The links out of a vertex, each once, none where it is not there.
+    /// The links out of a vertex, each once, none if it is not there.
     pub fn links_from(&self, vertex: Vertex) -> &[Link]
         ensures exact { AreLinksFrom self.now vertex result.now }
         ensures each_once { AllPairs (λ k l. k ≢ l) result.now }
@@ -109,7 +109,7 @@ impl Graph {
         }
     }
 
-    /// The links into a vertex, each once, none where it is not there.
+    /// The links into a vertex, each once, none if it is not there.
     pub fn links_to(&self, vertex: Vertex) -> &[Link]
         ensures exact { AreLinksTo self.now vertex result.now }
         ensures each_once { AllPairs (λ k l. k ≢ l) result.now }
@@ -121,7 +121,7 @@ impl Graph {
         }
     }
 
-    /// The same as `links_from` of a vertex that is looked for at its place first.
+    /// The links out of a vertex that comes with its place, each once. Mostly nothing is hashed.
     pub fn links_out_of(&self, vertex: &Placed) -> &[Link]
         ensures exact { AreLinksFrom self.now vertex.now result.now }
         ensures each_once { AllPairs (λ k l. k ≢ l) result.now }
@@ -133,7 +133,7 @@ impl Graph {
         }
     }
 
-    /// The same as `links_to` of a vertex that is looked for at its place first.
+    /// The links into a vertex that comes with its place, each once. Mostly nothing is hashed.
     pub fn links_into(&self, vertex: &Placed) -> &[Link]
         ensures exact { AreLinksTo self.now vertex.now result.now }
         ensures each_once { AllPairs (λ k l. k ≢ l) result.now }
@@ -157,7 +157,7 @@ impl Graph {
 
     /// Puts the LSA of each vertex in the place of what it had, and takes out the vertices without one.
     /// Answers the links that went and came. They are usable LSAs (below MaxAge), and for a network that of the
-    /// greatest Advertising Router. Where memory is refused, the graph stays as it was.
+    /// greatest Advertising Router. If memory runs out, the graph stays as it was.
     pub fn replace_all(
         &mut self,
         lsas: &[(Vertex, Option<&Checked>)],
@@ -165,52 +165,59 @@ impl Graph {
         requires apart { AreApartHanded (handed_of lsas.now) }
         requires few { AreFewAfter self.old (handed_of lsas.now) }
         ensures replaced { OnOk result (IsReplaced self.old self.new (handed_of lsas.now)) }
-        ensures exact { IfOk result (λ changes. AreExact self.old self.new changes.gone.items changes.came.items) }
+        ensures exact { IfOk result (AreLinkChanges self.old self.new) }
         ensures unchanged { OnErr result (self.new ≡ self.old) }
     {
         let alloc = *self.interfaces.allocator();
         stage(alloc, &self.rows, lsas, &mut self.staging)?;
-        let local = Local {
-            root: self.root,
-            interfaces: &self.interfaces,
+        let change = Change {
+            local: Local {
+                root: self.root,
+                interfaces: &self.interfaces,
+            },
+            staging: &self.staging,
         };
-        let changes = change(alloc, &mut self.rows, local, &self.staging, &mut self.room)?;
+        let changes = change.make(alloc, &mut self.rows, &mut self.room)?;
         Ok(changes)
     }
 
-    /// The same for one vertex.
+    /// Puts the LSA in the place of what the vertex had, or takes out the vertex without one. Answers the links
+    /// that went and came. If memory runs out, the graph stays as it was.
     pub fn replace(&mut self, vertex: Vertex, lsa: Option<&Checked>) -> Result<LinkChanges, Memory>
-        requires few { AreFewAfter self.old ((vertex, option_map (λ l. l.now.body) lsa) ∷ []) }
-        ensures replaced { OnOk result (IsReplaced self.old self.new ((vertex, option_map (λ l. l.now.body) lsa.entry) ∷ [])) }
-        ensures exact { IfOk result (λ changes. AreExact self.old self.new changes.gone.items changes.came.items) }
+        requires few { AreFewAfter self.old (handed_in vertex lsa) }
+        ensures replaced { OnOk result (IsReplaced self.old self.new (handed_in vertex lsa.entry)) }
+        ensures exact { IfOk result (AreLinkChanges self.old self.new) }
         ensures unchanged { OnErr result (self.new ≡ self.old) }
     {
         self.replace_all(&[(vertex, lsa)])
     }
 
     /// Takes these as the area's interfaces that are up, in the place of all before. Answers the links
-    /// that went and came. Where memory is refused, the graph stays as it was.
+    /// that went and came. If memory runs out, the graph stays as it was.
     pub fn interfaces(&mut self, interfaces: &[Up]) -> Result<LinkChanges, Memory>
         ensures root { self.new.root ≡ self.old.root }
         ensures ends { self.new.ends ≡ self.old.ends }
         ensures interfaces { OnOk result (self.new.interfaces ≡ interfaces.now) }
-        ensures exact { IfOk result (λ changes. AreExact self.old self.new changes.gone.items changes.came.items) }
+        ensures exact { IfOk result (AreLinkChanges self.old self.new) }
         ensures unchanged { OnErr result (self.new ≡ self.old) }
     {
         let alloc = *self.interfaces.allocator();
         let ups = Vec::from_slice(alloc, interfaces)?;
         stage_root(alloc, &self.rows, self.root, &mut self.staging)?;
-        let local = Local {
-            root: self.root,
-            interfaces: &ups,
+        let change = Change {
+            local: Local {
+                root: self.root,
+                interfaces: &ups,
+            },
+            staging: &self.staging,
         };
-        let changes = change(alloc, &mut self.rows, local, &self.staging, &mut self.room)?;
+        let changes = change.make(alloc, &mut self.rows, &mut self.room)?;
         self.interfaces = ups;
         Ok(changes)
     }
 }
 
-// The vertex's row. Where another's is at the vertex's place, it is looked up by its hash.
+// The vertex's row. If another's is at the vertex's place, it is looked up by its hash.
 fn row_at<'a>(rows: &'a Rows, vertex: &Placed) -> Option<&'a Row>
     ensures { option_copied result ≡ map.find vertex_cmp vertex.now rows.now.entries }
 {

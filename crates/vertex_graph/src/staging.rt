@@ -1,15 +1,12 @@
 //! What is handed in, before anything changes.
-ghost use Rattle.std.specs.Prelude.{◌≡◌, ◌≢◌, ◌↔◌, ◌⊎◌, None, [], IsTrue, OnOk, IfOk, Contains, option_copied, option_map};
+ghost use Rattle.std.specs.Prelude.{◌≡◌, ◌≢◌, ◌↔◌, None, [], IsTrue, OnOk, IfOk, Contains};
 ghost use Rattle.std.specs.List.{AllPairs};
 ghost use Rattle.std.specs.FinMap.{find};
 ghost use Rattle.ospf_types.specs.declared.entry.Vertex.{Vertex as VertexValue};
 ghost use Rattle.ospf_types.specs.declared.entry.Vertex.TheVariants.{Router};
 ghost use Rattle.ospf_types.specs.Vertices.{vertex_cmp};
-ghost use Rattle.graph_links.specs.declared.row.Row.{Row as RowValue};
 ghost use Rattle.vertex_graph.specs.Graphs.{handed_of, AreApartHanded};
-ghost use Rattle.graph_links.specs.Pairs.{Names};
-ghost use Rattle.graph_links.specs.Sides.{row_ends, ends_after, ends_or};
-ghost use Rattle.vertex_graph.specs.Stagings.{IsHandedIn, IsGivenEnds, IsStaged, AreTouched, IsWithin, TouchesOthers};
+ghost use Rattle.vertex_graph.specs.Stagings.{HasTouched, IsGivenBy, IsWithin, LeadsAlike, StagesAll, StagesOne, TouchesCome, TouchesGone, TouchesNeighbours, TouchesOthers, TouchesUnless};
 
 use crate::ends::ends_of;
 use graph_links::{
@@ -79,9 +76,8 @@ pub(crate) fn stage(
     staging: &mut Staging,
 ) -> Result<(), Memory>
     requires apart { AreApartHanded (handed_of lsas.now) }
-    ensures handed { OnOk result (IsHandedIn (row_ends rows.now.entries) (ends_after rows.now.entries staging.new.ends.entries)
-        (handed_of lsas.now)) }
-    ensures touched { OnOk result (AreTouched (row_ends rows.now.entries) (ends_after rows.now.entries staging.new.ends.entries) staging.new.touched.items) }
+    ensures handed { OnOk result (StagesAll rows.now.entries (handed_of lsas.now) staging.new) }
+    ensures touched { OnOk result (HasTouched rows.now.entries staging.new) }
     ensures once { OnOk result (AllPairs (λ v w. v ≢ w) staging.new.touched.items) }
 {
     staging.clear(alloc);
@@ -102,13 +98,13 @@ fn keep_once(touched: &mut Vec<Placed>)
     touched.dedup_by_key(|one| one.vertex());
 }
 
-// Where the vertex leads by its LSA, none where the LSA goes.
+// Where the vertex leads by its LSA, none if the LSA goes.
 fn given_ends(
     alloc: Global,
     vertex: Vertex,
     lsa: Option<&Checked>,
 ) -> Result<Option<Vec<End>>, Memory>
-    ensures { IfOk result (λ ends. IsGivenEnds vertex (option_map (λ l. l.now.body) lsa.entry) (option_map (λ e. e.items) ends)) }
+    ensures { IfOk result (IsGivenBy vertex lsa.entry) }
 {
     match lsa {
         Some(lsa) => {
@@ -127,9 +123,9 @@ fn stage_one(
     staging: &mut Staging,
 ) -> Result<(), Memory>
     requires new { find vertex_cmp vertex staging.old.ends.entries ≡ None }
-    requires touched { AreTouched (row_ends rows.now.entries) (ends_after rows.now.entries staging.old.ends.entries) staging.old.touched.items }
-    ensures ends { OnOk result (IsStaged rows.now.entries vertex (option_map (λ e. e.items) ends) staging.old.ends.entries staging.new.ends.entries) }
-    ensures touched { OnOk result (AreTouched (row_ends rows.now.entries) (ends_after rows.now.entries staging.new.ends.entries) staging.new.touched.items) }
+    requires touched { HasTouched rows.now.entries staging.old }
+    ensures ends { OnOk result (StagesOne rows.now.entries vertex ends staging.old staging.new) }
+    ensures touched { OnOk result (HasTouched rows.now.entries staging.new) }
 {
     let (row, place) = find_row(rows, &Placed::nowhere(vertex));
     let after = slice_of(&ends);
@@ -144,7 +140,7 @@ fn stage_one(
 
 // Whether a vertex leads where it did.
 fn is_same(before: Option<&[End]>, after: Option<&[End]>) -> bool
-    ensures { IsTrue result → option_map (λ e. e.now) before.entry ≡ option_map (λ e. e.now) after.entry }
+    ensures { IsTrue result → LeadsAlike before.entry after.entry }
 {
     match (before, after) {
         (Some(before), Some(after)) => before == after,
@@ -169,8 +165,8 @@ fn touch_both(
 ) -> Result<(), Memory>
     ensures own { OnOk result (Contains touched.new.items vertex.now) }
     ensures kept { OnOk result (IsWithin touched.old.items touched.new.items) }
-    ensures gone { OnOk result (TouchesOthers (ends_or (option_map (λ (r : RowValue). r.ends.items) (option_copied before.entry))) after.now touched.new.items) }
-    ensures came { OnOk result (TouchesOthers after.now (ends_or (option_map (λ (r : RowValue). r.ends.items) (option_copied before.entry))) touched.new.items) }
+    ensures gone { OnOk result (TouchesGone before.entry after.now touched.new.items) }
+    ensures came { OnOk result (TouchesCome before.entry after.now touched.new.items) }
 {
     let ends = slice_or_none(ends_of_row(before));
     let links = out_links(before);
@@ -199,7 +195,7 @@ fn touch_end(
     touched: &mut Vec<Placed>,
 ) -> Result<(), Memory>
     ensures kept { OnOk result (IsWithin touched.old.items touched.new.items) }
-    ensures other { OnOk result (Contains others.entry.ends.now end ⊎ Contains touched.new.items end.to) }
+    ensures other { OnOk result (TouchesUnless end others.entry.ends.now touched.new.items) }
 {
     if has_at(others.ends, place, end) || has_end(others.ends, end) {
         return Ok(());
@@ -264,7 +260,7 @@ pub(crate) fn stage_root(
 ) -> Result<(), Memory>
     ensures ends { OnOk result (staging.new.ends.entries ≡ []) }
     ensures root { OnOk result (Contains staging.new.touched.items (Router root)) }
-    ensures neighbours { OnOk result ((v : VertexValue) → Names (ends_or (row_ends rows.now.entries (Router root))) v → Contains staging.new.touched.items v) }
+    ensures neighbours { OnOk result (TouchesNeighbours rows.now.entries root staging.new) }
     ensures once { OnOk result (AllPairs (λ v w. v ≢ w) staging.new.touched.items) }
 {
     staging.clear(alloc);

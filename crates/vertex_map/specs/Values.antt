@@ -1,6 +1,6 @@
 -- The values that entries have, where an entry may have none. An entry is a vertex, its place, and its value.
-use Rattle.std.specs.Prelude.{◌≡◌, ℕ, List, [], ◌∷◌, Option, Some, None, slice_get}
-use Rattle.std.specs.FinMap.{FinMap, empty, insert, remove}
+use Rattle.std.specs.Prelude.{◌≡◌, ℕ, Bool, List, [], ◌∷◌, Option, Some, None, is_some, slice_get}
+use Rattle.std.specs.FinMap.{FinMap, empty, get, insert, remove}
 use Rattle.ospf_types.specs.declared.entry.Vertex.{Vertex}
 use Rattle.ospf_types.specs.Vertices.{vertex_cmp}
 
@@ -23,3 +23,15 @@ module _ {V : Type 0} where
   -- the vertex's entry stands there
   abbrev pub IsAt : List (Vertex × (ℕ × Option V)) → Vertex → ℕ → Type 0
   IsAt es v i = (p : ℕ × Option V) × (slice_get es i ≡ Some (v, p))
+
+  -- whether the vertex has a value
+  abbrev pub is_valued : List (Vertex × (ℕ × Option V)) → Vertex → Bool
+  is_valued es v = is_some (get (values_of es) v)
+
+  -- the vertex whose entry stands at the place has this value or none, and each other vertex what it had
+  abbrev pub WritesAt : ℕ → Option V → List (Vertex × (ℕ × Option V)) → List (Vertex × (ℕ × Option V)) → Type 0
+  WritesAt place value old new = (v : Vertex) → IsAt old v place → values_of new ≡ with_value (values_of old) v value
+
+  -- the vertex has no value, and each other vertex what it had
+  abbrev pub TakesOut : Vertex → List (Vertex × (ℕ × Option V)) → List (Vertex × (ℕ × Option V)) → Type 0
+  TakesOut v old new = values_of new ≡ remove (values_of old) v

@@ -1,5 +1,5 @@
 //! Values by vertex. A vertex comes with the place where its entry mostly stands, and is looked up by
-//! its hash where another stands there.
+//! its hash if another stands there.
 #![tactic(auto)]
 
 mod placed;

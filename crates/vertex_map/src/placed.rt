@@ -48,7 +48,7 @@ impl Placed {
         }
     }
 
-    /// The same vertex, with the same place.
+    /// Another with this vertex and this place.
     #[inline]
     pub fn copy(&self) -> Placed
         ensures { result ≡ self.now }

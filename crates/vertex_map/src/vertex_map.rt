@@ -1,8 +1,7 @@
 //! The map.
 ghost use Rattle.std.specs.Prelude.{◌≡◌, ◌↔◌, ◌<◌, ◌+◌, ◌^◌, cond, length, is_some, IfOk, IfSome, OnOk, OnErr, IsTrue, option_copied};
 ghost use Rattle.std.specs.FinMap as map;
-ghost use Rattle.vertex_map.specs.Values.{values_of, with_value, inner, IsAt};
-ghost use Rattle.ospf_types.specs.declared.entry.Vertex.{Vertex};
+ghost use Rattle.vertex_map.specs.Values.{IsAt, TakesOut, WritesAt, inner, is_valued, values_of};
 
 use crate::placed::{NOWHERE, Placed};
 use indexmap::IndexMap;
@@ -12,7 +11,7 @@ use std::alloc::Global;
 use std::marker::Model;
 use word_hash::WordHash;
 
-/// Values by vertex. A look-up reads the entry at the vertex's place. Where that is another's, the
+/// Values by vertex. A look-up reads the entry at the vertex's place. If that is another's, the
 /// vertex is looked up by its hash.
 pub struct VertexMap<V> {
     // Each vertex with the place that it has or waits for, and its value. A vertex whose value was taken
@@ -109,8 +108,7 @@ impl<V: Drop> VertexMap<V> {
         Ok(VertexMap { entries, len: 0 })
     }
 
-    /// Gives the vertex the value, in place of the one that it had. Where memory is refused, nothing
-    /// changes.
+    /// Gives the vertex the value, in place of the one that it had. If memory runs out, nothing changes.
     pub fn insert(&mut self, vertex: &Placed, value: V) -> Result<(), Memory>
         ensures ok { OnOk result (self.new ≡ map.insert self.old vertex.now value) }
         ensures err { OnErr result (self.new ≡ self.old) }
@@ -143,21 +141,21 @@ impl<V: Drop> VertexMap<V> {
         self.len = 0;
     }
 
-    /// Gives up the entries that have no value, where there are more than so many entries. They are kept
+    /// Gives up the entries that have no value, if there are more than so many entries. They are kept
     /// for their places, so whoever owns the map calls this now and then with the number of vertices
     /// that there may be.
     pub fn trim(&mut self, most: usize)
         ensures { self.new ≡ self.old }
     {
-        // Where all have a value there is nothing to give up.
+        // If all have a value, there is nothing to give up.
         if self.entries.len() > most.max(self.len) {
             tidy(&mut self.entries);
             settle_all(&mut self.entries);
         }
     }
 
-    // The same as `insert`, by the vertex's hash. Its entry has the place from then on, or waits for it
-    // where it is beyond all entries.
+    // Gives the vertex the value; its entry is looked up by the vertex's hash. The entry has the place from
+    // then on, or waits for it if it is beyond all entries.
     fn put(&mut self, vertex: Vertex, number: u32, value: V) -> Result<(), Memory>
         ensures ok { OnOk result (self.new ≡ map.insert self.old vertex value) }
         ensures err { OnErr result (self.new ≡ self.old) }
@@ -171,7 +169,7 @@ impl<V: Drop> VertexMap<V> {
     }
 }
 
-// The number, or where it is that of no place the one that the vertex's entry has.
+// The number, or if it is that of no place, the one that the vertex's entry has.
 fn known_number<V>(
     entries: &IndexMap<Vertex, (u32, Option<V>), WordHash>,
     vertex: Vertex,
@@ -193,7 +191,7 @@ fn standing<V>(
     vertex: &Placed,
 ) -> Option<(usize, bool)>
     ensures at { IfSome result (λ p. IsAt entries.now.entries vertex.now p.0) }
-    ensures had { IfSome result (λ p. p.1 ≡ is_some (map.get (values_of entries.now.entries) vertex.now)) }
+    ensures had { IfSome result (λ p. p.1 ≡ is_valued entries.now.entries vertex.now) }
 {
     let place = vertex.place();
     match entries.get_index(place) {
@@ -210,7 +208,7 @@ fn write_at<V: Drop>(
     kept: (u32, Option<V>),
 )
     requires { place < length entries.old.entries }
-    ensures { (v : Vertex) → IsAt entries.old.entries v place → values_of entries.new.entries ≡ with_value (values_of entries.old.entries) v kept.1 }
+    ensures { WritesAt place kept.1 entries.old.entries entries.new.entries }
 {
     // proof: no vertex has two entries.
     let _ = entries.len();
@@ -222,8 +220,8 @@ fn take<V: Drop>(
     entries: &mut IndexMap<Vertex, (u32, Option<V>), WordHash>,
     vertex: &Placed,
 ) -> bool
-    ensures taken { values_of entries.new.entries ≡ map.remove (values_of entries.old.entries) vertex.now }
-    ensures had { result ≡ is_some (map.get (values_of entries.old.entries) vertex.now) }
+    ensures taken { TakesOut vertex.now entries.old.entries entries.new.entries }
+    ensures had { result ≡ is_valued entries.old.entries vertex.now }
 {
     match standing(entries, vertex) {
         Some((place, had)) => {
@@ -234,13 +232,13 @@ fn take<V: Drop>(
     }
 }
 
-// The same, by the vertex's hash.
+// Takes the vertex's value out, and says whether it had one; its entry is looked up by the vertex's hash.
 fn take_by_hash<V: Drop>(
     entries: &mut IndexMap<Vertex, (u32, Option<V>), WordHash>,
     vertex: Vertex,
 ) -> bool
-    ensures taken { values_of entries.new.entries ≡ map.remove (values_of entries.old.entries) vertex }
-    ensures had { result ≡ is_some (map.get (values_of entries.old.entries) vertex) }
+    ensures taken { TakesOut vertex entries.old.entries entries.new.entries }
+    ensures had { result ≡ is_valued entries.old.entries vertex }
 {
     let Some((place, _, kept)) = entries.get_full(&vertex) else {
         return false;

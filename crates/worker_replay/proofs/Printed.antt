@@ -5,7 +5,7 @@ use Rattle.event_state.specs.declared.refusal.Refusal.{Refusal}
 use Rattle.route_table.specs.Tables.{TableValue}
 use Rattle.engine.specs.Reply.{Reply}
 use Rattle.publication.specs.Names.{Name}
-use Rattle.desk.specs.Answers.{AreAnswered}
+use Rattle.engine_state.specs.Answers.{AreAnswered}
 use Rattle.recording.specs.declared.line.Line.{Line}
 use Rattle.recording.specs.declared.line.Line.TheVariants as line
 use Rattle.replay.specs.Lines.{lookup_line, answer_line}

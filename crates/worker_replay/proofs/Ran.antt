@@ -13,7 +13,7 @@ use Rattle.engine.specs.Opens.{IsRolledSerial}
 use Rattle.publication.specs.Forwarders.{Looker, Sighted, Sights}
 use Rattle.publication.specs.Names.{Name}
 use Rattle.publication.specs.Published.{IsTableFor}
-use Rattle.desk.specs.Answers.{AreAnswered}
+use Rattle.engine_state.specs.Answers.{AreAnswered}
 use Rattle.recording.specs.declared.line.Line.{Line}
 use Rattle.recording.specs.Recordings.{RecordingValue}
 use Rattle.recording.specs.declared.version.Version.{Version}

@@ -7,15 +7,15 @@ use mathlib.Core.List.{IsPrefix}
 use Rattle.event_state.specs.declared.event.Event.{Event}
 use Rattle.event_state.specs.declared.refusal.Refusal.{Refusal}
 use Rattle.engine.specs.Reply.{Reply}
-use Rattle.engine.specs.Standing.TheVariants.{Current, Behind}
+use Rattle.engine.specs.Status.TheVariants.{Current, Behind}
 use Rattle.publication.specs.Forwarders.{Looker}
 use Rattle.publication.specs.Names.{Name}
 use Rattle.publication.specs.Published.{IsLegal}
 use Rattle.publication.specs.Told.{Heard}
 use Rattle.publication.proofs.Prefixes.{prefix_trans}
-use Rattle.desk.specs.Answers.{AreAnswered, IsAnswered}
-use Rattle.desk.specs.declared.answer.Answer.{Answer}
-use Rattle.desk.specs.declared.answer.Refused.{Refused}
+use Rattle.engine_state.specs.Answers.{AreAnswered, IsAnswered}
+use Rattle.engine_state.specs.declared.answer.Answer.{Answer}
+use Rattle.engine_state.specs.declared.answer.Refused.{Refused}
 use Rattle.worker_replay.specs.Runs.{Answers, IsAfter, told_of, reply_of}
 use Rattle.worker_replay.specs.Parts.{IsOf}
 

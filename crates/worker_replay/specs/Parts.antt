@@ -11,8 +11,8 @@ use Rattle.engine.specs.Cores.{CoreValue}
 use Rattle.publication.specs.Forwarders.{Looker}
 use Rattle.publication.specs.Names.{Name}
 use Rattle.publication.specs.Published.{IsTableFor}
-use Rattle.desk.specs.declared.answer.Answer.{Answer}
-use Rattle.desk.specs.declared.answer.Refused.{Refused}
+use Rattle.engine_state.specs.declared.answer.Answer.{Answer}
+use Rattle.engine_state.specs.declared.answer.Refused.{Refused}
 use Rattle.recording.specs.Recordings.{RecordingValue}
 use Rattle.recording.specs.declared.line.Line.{Line}
 use Rattle.recording.specs.declared.line.Line.TheVariants as line

@@ -15,9 +15,9 @@ use Rattle.engine.specs.Opens.{IsRolledSerial}
 use Rattle.publication.specs.Names.{Name}
 use Rattle.publication.specs.Published.{IsTableFor}
 use Rattle.publication.specs.Told.{Heard}
-use Rattle.desk.specs.Answers.{AreAnswered}
-use Rattle.desk.specs.declared.answer.Answer.{Answer}
-use Rattle.desk.specs.declared.answer.Refused.{Refused}
+use Rattle.engine_state.specs.Answers.{AreAnswered}
+use Rattle.engine_state.specs.declared.answer.Answer.{Answer}
+use Rattle.engine_state.specs.declared.answer.Refused.{Refused}
 use Rattle.recording.specs.declared.line.Line.{Line}
 use Rattle.recording.specs.declared.line.Line.TheVariants as line
 use Rattle.recording.specs.Recordings.{RecordingValue}

@@ -59,8 +59,10 @@ fn set_apart(
     events: &mut Vec<Event>,
     asks: &mut Vec<Ask>,
 ) -> Result<bool, Memory>
-    ensures events { OnOk result (reverse events.new.items ≡ events_of (line ∷ []) ++ reverse events.old.items) }
-    ensures asks { OnOk result (reverse asks.new.items ≡ ask_of line rolls ∷ reverse asks.old.items) }
+    ensures events { OnOk result (reverse events.new.items ≡ events_of (line ∷ [])
+        ++ reverse events.old.items) }
+    ensures asks { OnOk result (reverse asks.new.items
+        ≡ ask_of line rolls ∷ reverse asks.old.items) }
     ensures rolls { IfOk result (λ now. now ≡ (is_roll line || rolls)) }
 {
     match line {

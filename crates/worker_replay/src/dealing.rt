@@ -2,7 +2,7 @@
 ghost use Rattle.std.specs.Prelude.{◌≡◌, ◌<◌, List, [], ◌∷◌, length, map, reverse, IfOk, OnOk};
 ghost use Rattle.event_state.specs.declared.event.Event.{Event as EventValue};
 ghost use Rattle.publication.specs.Names.{Name};
-ghost use Rattle.desk.specs.Answers.{AreAnswered};
+ghost use Rattle.engine_state.specs.Answers.{AreAnswered};
 ghost use Rattle.worker_replay.specs.Dealing.{IsDealt, AreAnsweredDealt, AreTaken};
 
 use engine::{Answer, Event, Refused};
@@ -19,7 +19,8 @@ pub(crate) fn deal(
     count: usize,
 ) -> Result<Vec<Vec<Event>>, Memory>
     requires { 0 < count }
-    ensures dealt { IfOk result (λ lists. IsDealt events.items (map (λ list. list.items) lists.items)) }
+    ensures dealt { IfOk result (λ lists. IsDealt events.items
+        (map (λ list. list.items) lists.items)) }
     ensures count { IfOk result (λ lists. length lists.items ≡ count) }
 {
     let mut events = events;
@@ -31,7 +32,8 @@ pub(crate) fn deal(
 }
 
 fn empty_lists(alloc: Global, count: usize) -> Result<Vec<Vec<Event>>, Memory>
-    ensures empty { IfOk result (λ lists. IsDealt [] (map (λ list. reverse list.items) lists.items)) }
+    ensures empty { IfOk result (λ lists. IsDealt []
+        (map (λ list. reverse list.items) lists.items)) }
     ensures count { IfOk result (λ lists. length lists.items ≡ count) }
 {
     let mut lists = Vec::with_capacity(alloc, count)?;
@@ -45,7 +47,10 @@ fn empty_lists(alloc: Global, count: usize) -> Result<Vec<Vec<Event>>, Memory>
 // Each list is kept backwards.
 fn deal_before(lists: &mut Vec<Vec<Event>>, event: Event) -> Result<(), Memory>
     requires { 0 < length lists.old.items }
-    ensures dealt { (events : List EventValue) → IsDealt events (map (λ list. reverse list.items) lists.old.items) → OnOk result (IsDealt (event ∷ events) (map (λ list. reverse list.items) lists.new.items)) }
+    ensures dealt { (events : List EventValue)
+        → IsDealt events (map (λ list. reverse list.items) lists.old.items)
+        → OnOk result (IsDealt (event ∷ events)
+        (map (λ list. reverse list.items) lists.new.items)) }
     ensures count { length lists.new.items ≡ length lists.old.items }
 {
     lists.rotate_right(1);
@@ -55,7 +60,9 @@ fn deal_before(lists: &mut Vec<Vec<Event>>, event: Event) -> Result<(), Memory>
 
 /// The answers to so many events, in the order of the events, whose lists had been dealt in turn.
 pub(crate) fn collect(alloc: Global, lists: Vec<Answers>, count: usize) -> Result<Answers, Memory>
-    ensures { IfOk result (λ answers. (name : Name) (events : List EventValue) → length events ≡ count → AreAnsweredDealt name events (map (λ list. list.items) lists.items) → AreAnswered name events answers.items) }
+    ensures { IfOk result (λ answers. (name : Name) (events : List EventValue) → length events
+        ≡ count → AreAnsweredDealt name events (map (λ list. list.items) lists.items)
+        → AreAnswered name events answers.items) }
 {
     let mut lists = each_reversed(alloc, lists)?;
     let mut answers = Vec::with_capacity(alloc, count)?;
@@ -70,7 +77,9 @@ pub(crate) fn collect(alloc: Global, lists: Vec<Answers>, count: usize) -> Resul
 
 // Takes the first answer of the first list, which is the last list then. Each list is kept backwards.
 fn take_next(lists: &mut Vec<Answers>) -> Option<Result<Answer, Refused>>
-    ensures { (name : Name) (events : List EventValue) → AreAnsweredDealt name events (map (λ list. reverse list.items) lists.old.items) → AreTaken name events result (map (λ list. reverse list.items) lists.new.items) }
+    ensures { (name : Name) (events : List EventValue)
+        → AreAnsweredDealt name events (map (λ list. reverse list.items) lists.old.items)
+        → AreTaken name events result (map (λ list. reverse list.items) lists.new.items) }
 {
     if lists.is_empty() {
         return None;
@@ -81,8 +90,10 @@ fn take_next(lists: &mut Vec<Answers>) -> Option<Result<Answer, Refused>>
 }
 
 fn each_reversed<T: Drop>(alloc: Global, lists: Vec<Vec<T>>) -> Result<Vec<Vec<T>>, Memory>
-    ensures items { IfOk result (λ now. map (λ list. list.items) now.items ≡ map (λ list. reverse list.items) lists.items) }
-    ensures backwards { IfOk result (λ now. map (λ list. reverse list.items) now.items ≡ map (λ list. list.items) lists.items) }
+    ensures items { IfOk result (λ now. map (λ list. list.items) now.items
+        ≡ map (λ list. reverse list.items) lists.items) }
+    ensures backwards { IfOk result (λ now. map (λ list. reverse list.items) now.items
+        ≡ map (λ list. list.items) lists.items) }
     ensures count { IfOk result (λ now. length now.items ≡ length lists.items) }
 {
     let mut now = Vec::with_capacity(alloc, lists.len())?;

@@ -13,7 +13,9 @@ use lsa_codec::Checked;
 use ospf_types::key::Scope;
 use ospf_types::memory::Memory;
 use recording::{Version, append_front};
-use replay::{Show, Stop, put_serial, show_dues, show_events, show_items, show_lsas, write_page};
+use replay::{
+    Show, Stop, put_serial, show_events, show_items, show_lsas, show_summaries, write_page,
+};
 use std::alloc::Global;
 use std::io;
 
@@ -26,9 +28,14 @@ pub(crate) fn write_output<W: io::Write>(
     out: &mut W,
     show: Show,
 ) -> Result<(), Stop>
-    ensures ok { OnOk result (Writes version show (string_bytes printed) core.now (W.contents out.old) (W.contents out.new)) }
-    ensures write { AreWhole (string_bytes printed) → result ≡ Err stop.Write → WritesPart stop.Write version show (string_bytes printed) core.now (W.contents out.old) (W.contents out.new) }
-    ensures memory { AreWhole (string_bytes printed) → result ≡ Err stop.Memory → (out.new ≡ out.old) ⊎ WritesPart stop.Memory version show (string_bytes printed) core.now (W.contents out.old) (W.contents out.new) }
+    ensures ok { OnOk result (Writes version show (string_bytes printed) core.now
+        (W.contents out.old) (W.contents out.new)) }
+    ensures write { AreWhole (string_bytes printed) → result ≡ Err stop.Write
+        → WritesPart stop.Write version show (string_bytes printed) core.now (W.contents out.old)
+        (W.contents out.new) }
+    ensures memory { AreWhole (string_bytes printed) → result ≡ Err stop.Memory
+        → (out.new ≡ out.old) ⊎ WritesPart stop.Memory version show (string_bytes printed) core.now
+        (W.contents out.old) (W.contents out.new) }
 {
     let mut page = printed;
     match show {
@@ -46,8 +53,13 @@ pub(crate) fn write_output<W: io::Write>(
 }
 
 fn write_routes<W: io::Write>(core: &Core, page: &mut String, out: &mut W) -> Result<(), Stop>
-    ensures ok { OnOk result ((v : VersionValue) → Writes v show_value.Routes (string_bytes page.old) core.now (W.contents out.old) (W.contents out.new)) }
-    ensures err { AreWhole (string_bytes page.old) → IfErr result (λ why. (v : VersionValue) → WritesPart why v show_value.Routes (string_bytes page.old) core.now (W.contents out.old) (W.contents out.new)) }
+    ensures ok { OnOk result ((v : VersionValue)
+        → Writes v show_value.Routes (string_bytes page.old) core.now (W.contents out.old)
+        (W.contents out.new)) }
+    ensures err { AreWhole (string_bytes page.old)
+        → IfErr result (λ why. (v : VersionValue)
+        → WritesPart why v show_value.Routes (string_bytes page.old) core.now (W.contents out.old)
+        (W.contents out.new)) }
 {
     put_serial(core, page)?;
     show_items(core.table(), out, page)?;
@@ -56,11 +68,16 @@ fn write_routes<W: io::Write>(core: &Core, page: &mut String, out: &mut W) -> Re
 }
 
 fn write_due<W: io::Write>(core: &Core, page: &mut String, out: &mut W) -> Result<(), Stop>
-    ensures ok { OnOk result ((v : VersionValue) → Writes v show_value.Due (string_bytes page.old) core.now (W.contents out.old) (W.contents out.new)) }
-    ensures err { AreWhole (string_bytes page.old) → IfErr result (λ why. (v : VersionValue) → WritesPart why v show_value.Due (string_bytes page.old) core.now (W.contents out.old) (W.contents out.new)) }
+    ensures ok { OnOk result ((v : VersionValue)
+        → Writes v show_value.Due (string_bytes page.old) core.now (W.contents out.old)
+        (W.contents out.new)) }
+    ensures err { AreWhole (string_bytes page.old)
+        → IfErr result (λ why. (v : VersionValue)
+        → WritesPart why v show_value.Due (string_bytes page.old) core.now (W.contents out.old)
+        (W.contents out.new)) }
 {
     put_serial(core, page)?;
-    show_dues(core.dues(), out, page)?;
+    show_summaries(core.summaries(), out, page)?;
     write_page(out, page)?;
     Ok(())
 }
@@ -72,8 +89,12 @@ fn write_lsdb<W: io::Write>(
     out: &mut W,
 ) -> Result<(), Stop>
     requires { AreLsas (state_of core.now) lsas.items }
-    ensures ok { OnOk result ((v : VersionValue) → Writes v show_value.Lsdb (string_bytes page.old) core.now (W.contents out.old) (W.contents out.new)) }
-    ensures err { AreWhole (string_bytes page.old) → IfErr result (λ why. (v : VersionValue) → WritesPart why v show_value.Lsdb (string_bytes page.old) core.now (W.contents out.old) (W.contents out.new)) }
+    ensures ok { OnOk result ((v : VersionValue) → Writes v show_value.Lsdb (string_bytes page.old)
+        core.now (W.contents out.old) (W.contents out.new)) }
+    ensures err { AreWhole (string_bytes page.old)
+        → IfErr result (λ why. (v : VersionValue)
+        → WritesPart why v show_value.Lsdb (string_bytes page.old) core.now (W.contents out.old)
+        (W.contents out.new)) }
 {
     put_serial(core, page)?;
     show_lsas(lsas, out, page)?;
@@ -90,8 +111,10 @@ fn write_journal<W: io::Write>(
     out: &mut W,
 ) -> Result<(), Stop>
     requires { string_bytes page.old ≡ [] }
-    ensures ok { OnOk result (Writes version show_value.Journal [] core.now (W.contents out.old) (W.contents out.new)) }
-    ensures err { IfErr result (λ why. WritesPart why version show_value.Journal [] core.now (W.contents out.old) (W.contents out.new)) }
+    ensures ok { OnOk result (Writes version show_value.Journal [] core.now (W.contents out.old)
+        (W.contents out.new)) }
+    ensures err { IfErr result (λ why. WritesPart why version show_value.Journal [] core.now
+        (W.contents out.old) (W.contents out.new)) }
 {
     append_front(alloc, version, core.base(), page)?;
     show_events(alloc, core.journal(), out, page)?;

@@ -27,7 +27,8 @@ pub(crate) fn put_lines(
 ) -> Result<(), Memory>
     requires replies { HasAllReplies asks.items replies.now }
     requires few { first + length asks.items < 2 ^ 64 }
-    ensures { OnOk result (AppendsAll seen.now.table seen.now.table.serial first asks.items replies.now rolled (string_bytes text.old) (string_bytes text.new)) }
+    ensures { OnOk result (AppendsAll seen.now.table seen.now.table.serial first asks.items
+        replies.now rolled (string_bytes text.old) (string_bytes text.new)) }
 {
     let mut number = first;
     let mut left = replies;
@@ -38,7 +39,7 @@ pub(crate) fn put_lines(
     Ok(())
 }
 
-// The same of one line. The replies that are left are handed back.
+// Appends what one line prints. The replies that are left are handed back.
 fn put_line<'a>(
     number: usize,
     ask: Ask,
@@ -48,7 +49,8 @@ fn put_line<'a>(
     text: &mut String,
 ) -> Result<&'a [Result<Reply, Refusal>], Memory>
     requires { HasAllReplies (ask ∷ []) replies.now }
-    ensures { IfOk result (λ rest. AppendsLine seen.now.table seen.now.table.serial number ask replies.now rest.now rolled (string_bytes text.old) (string_bytes text.new)) }
+    ensures { IfOk result (λ rest. AppendsLine seen.now.table seen.now.table.serial number ask
+        replies.now rest.now rolled (string_bytes text.old) (string_bytes text.new)) }
 {
     match ask {
         Ask::Event => {
@@ -82,7 +84,8 @@ fn put_lookup(number: usize, address: u32, seen: &Seen, text: &mut String) -> Re
 
 // The answer to the roll, in the place of the last line that asks for it.
 fn put_rolled(number: usize, is_last: bool, rolled: Rolled, text: &mut String) -> Result<(), Memory>
-    ensures { OnOk result (string_bytes text.new ≡ string_bytes text.old ++ rolled_line is_last number rolled) }
+    ensures { OnOk result (string_bytes text.new ≡ string_bytes text.old
+        ++ rolled_line is_last number rolled) }
 {
     if !is_last {
         return Ok(());

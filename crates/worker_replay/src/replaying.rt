@@ -33,14 +33,18 @@ pub fn replay_many<S: Threads + Wait + Sync, R: io::Read, W: io::Write>(
     workers: usize,
 ) -> Result<(), ManyFault>
     requires { AreWorkers workers }
-    ensures ok { OnOk result (Replays show (R.remaining input.old) (R.remaining input.new) (W.contents out.old) (W.contents out.new)) }
+    ensures ok { OnOk result (Replays show (R.remaining input.old) (R.remaining input.new)
+        (W.contents out.old) (W.contents out.new)) }
     ensures read { result ≡ Err (many_fault.Replay replay_fault.Read) → out.new ≡ out.old }
-    ensures line { (f : LineFault) → result ≡ Err (many_fault.Replay (replay_fault.Line f)) → (out.new ≡ out.old)
+    ensures line { (f : LineFault) → result ≡ Err (many_fault.Replay (replay_fault.Line f))
+        → (out.new ≡ out.old)
         × ((bytes : List ℕ) × ReadsAll (R.remaining input.old) (R.remaining input.new) bytes × IsFaultOf bytes f) }
     ensures spawn { result ≡ Err many_fault.Spawn → out.new ≡ out.old }
     ensures place { result ≡ Err many_fault.Place → out.new ≡ out.old }
     ensures no_entry { result ≡ Err many_fault.NoEntry → out.new ≡ out.old }
-    ensures write { result ≡ Err (many_fault.Replay replay_fault.Write) → ReplaysPart stop.Write show (R.remaining input.old) (R.remaining input.new) (W.contents out.old) (W.contents out.new) }
+    ensures write { result ≡ Err (many_fault.Replay replay_fault.Write)
+        → ReplaysPart stop.Write show (R.remaining input.old) (R.remaining input.new)
+        (W.contents out.old) (W.contents out.new) }
     ensures memory { result ≡ Err (many_fault.Replay replay_fault.Memory) → (out.new ≡ out.old)
         ⊎ ReplaysPart stop.Memory show (R.remaining input.old) (R.remaining input.new) (W.contents out.old) (W.contents out.new) }
 {

@@ -2,7 +2,7 @@
 ghost use Rattle.std.specs.Prelude.{◌≡◌, ◌<◌, ◌≤◌, ◌+◌, ◌^◌, length, IfOk, IfErr, IfSome, None, MatchResult, is_some, string_bytes};
 ghost use Rattle.event_state.specs.BaseFaults.{base_fault_of};
 ghost use Rattle.event_state.specs.Steps.{standard_limits};
-ghost use Rattle.desk.specs.Answers.{AreAnswered};
+ghost use Rattle.engine_state.specs.Answers.{AreAnswered};
 ghost use Rattle.engine.specs.Opens.{IsRolledSerial};
 ghost use Rattle.replay.specs.Lines.{first_number};
 ghost use Rattle.worker_replay.specs.Runs.{IsNotRolled};
@@ -82,7 +82,8 @@ fn run_lines<S: Threads + Wait + Sync>(
     requires workers { AreWorkers workers }
     requires named { forwarder.name ≡ engine.now }
     requires few { first + length lines.items < 2 ^ 64 }
-    ensures printed { IfOk result (λ text. HasPrinted engine.now lines.items first (string_bytes text)) }
+    ensures printed { IfOk result (λ text. HasPrinted engine.now lines.items first
+        (string_bytes text)) }
     ensures fault { IfErr result IsRunFault }
 {
     let Apart {
@@ -99,7 +100,8 @@ fn run_lines<S: Threads + Wait + Sync>(
 // Rolls the engine, if it is asked for.
 fn roll<S: Wait>(rt: &S, engine: &Engine, is_asked: bool) -> Rolled
     ensures asked { is_some result ≡ is_asked }
-    ensures answer { IfSome result (λ answer. MatchResult answer (IsRolledSerial engine.now.base) IsNotRolled) }
+    ensures answer { IfSome result (λ answer. MatchResult answer (IsRolledSerial engine.now.base)
+        IsNotRolled) }
 {
     if is_asked {
         Some(engine.roll(rt))
@@ -141,7 +143,8 @@ fn look(
 ) -> Result<String, ManyFault>
     requires replies { HasAllReplies asks.items replies.items }
     requires few { first + length asks.items < 2 ^ 64 }
-    ensures looks { IfOk result (λ text. Looks forwarder first asks.items replies.items rolled (string_bytes text)) }
+    ensures looks { IfOk result (λ text. Looks forwarder first asks.items replies.items rolled
+        (string_bytes text)) }
     ensures fault { IfErr result IsRunFault }
 {
     let mut text = String::new(alloc);

@@ -3,7 +3,7 @@ use Rattle.std.proofs.Common.{ℕ, List, Option, sym, subst}
 use Rattle.std.proofs.lemmas.Result.{IfOk-weaker}
 use Rattle.ospf_types.specs.declared.config.AreaConfig.{AreaConfig}
 use Rattle.ospf_types.specs.declared.prefix.Prefix.{Prefix}
-use Rattle.summaries.specs.Active.{AreRangesOf, RangesDifferAt}
+use Rattle.active_ranges.specs.Active.{AreRangesOf, RangesDifferAt}
 use Rattle.calculation.proofs.Named.{all_of_named}
 use Rattle.calculation.proofs.calculation.follow_range.Goals as goal
 

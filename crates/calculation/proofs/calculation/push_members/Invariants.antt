@@ -1,6 +1,6 @@
 use Rattle.std.proofs.Common.{◌≡◌, ◌++◌, map, take}
 use Rattle.ospf_types.specs.declared.key.Dest.TheVariants.{Net}
-use Rattle.summaries.specs.declared.member.Member.{Member}
+use Rattle.active_ranges.specs.declared.member.Member.{Member}
 use Rattle.calculation.proofs.calculation.push_members.Given as goal
 
 abbrev pub invariant-loop-member : goal.invariant-loop-member

@@ -13,8 +13,8 @@ use Rattle.external.proofs.external.boundary_routers.Goals as goal
 
 pub returns : goal.returns
 returns c = λ r preference h offered.
-    let pushed = c.in_ok-push_routers.ensures in
-    let routers = c.push_routers.new.routers.items in
+    let pushed = c.in_ok-list_routers.ensures in
+    let routers = c.list_routers.new.routers.items in
     let there : Contains routers r = elim (offering c.args.inputs.now r preference h offered) [
       | inl kept ↦ pushed.kept r ((c.in_ok-routers.ensures.exact r).1 (subst (λ (v : ExternalInputsValue). IsKeptIn v.intra.areas r) (sym c.inputs.view_is) kept))
       | inr some ↦

@@ -8,8 +8,8 @@ use Rattle.graph_links.proofs.changes.changed_links.Given as goal
 
 abbrev pub invariant-loop-one : goal.invariant-loop-one
 invariant-loop-one l = record {
-  gone : AreOfFresh (IsTaken l.rows.entries) (take l.one-index l.fresh) l.gone.items;
-  came : AreOfFresh (IsBrought l.rows.entries) (take l.one-index l.fresh) l.came.items;
-  gone_once : Apart (map (λ (f : Fresh). f.vertex) l.fresh) → AreApart l.gone.items;
-  came_once : Apart (map (λ (f : Fresh). f.vertex) l.fresh) → AreApart l.came.items;
+  gone : AreOfFresh (IsTaken l.rows.entries) (take l.one-index l.fresh) l.changes.gone.items;
+  came : AreOfFresh (IsBrought l.rows.entries) (take l.one-index l.fresh) l.changes.came.items;
+  gone_once : Apart (map (λ (f : Fresh). f.vertex) l.fresh) → AreApart l.changes.gone.items;
+  came_once : Apart (map (λ (f : Fresh). f.vertex) l.fresh) → AreApart l.changes.came.items;
 }

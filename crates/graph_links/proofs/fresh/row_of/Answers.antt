@@ -1,5 +1,6 @@
-use Rattle.std.proofs.Common.{◌≡◌, ◌⊎◌, ◌<◌, ◌-◌, List, get_or, length, refl, sym, subst, arith}
+use Rattle.std.proofs.Common.{◌≡◌, ◌⊎◌, ◌<◌, ◌-◌, List, get_or, length, refl, sym, ap, subst, ◌∙◌, arith}
 use Rattle.std.specs.Prelude.{◌↔◌, Contains}
+use Rattle.std.specs.Global.{Vec}
 use Rattle.std.specs.List.{slice_range}
 use Rattle.std.specs.List.Sorted.{IsStrictlySortedBy}
 use Rattle.std.proofs.lemmas.List.Elements.{All-nil}
@@ -37,8 +38,8 @@ past_from-past-requires-clause-split c =
     let sorted : IsStrictlySortedBy end_cmp ends = subst (IsStrictlySortedBy end_cmp) (sym c.requires.ends) (c.requires.in_order c.args.all.vertex) in
     cut_first ends i (listed_end 0) (get_or ends i (listed_end 0)).to sorted c.loop-first.invariant.cut c.loop-first-test.true refl
 
-pub push_both-requires-clause-own : goal.push_both-requires-clause-own
-push_both-requires-clause-own c =
+pub list_both-requires-clause-own : goal.list_both-requires-clause-own
+list_both-requires-clause-own c =
     let ends : List End = c.args.all.ends.now in
     let i = c.loop-first.first in
     let to : Vertex = (get_or ends i (listed_end 0)).to in
@@ -77,22 +78,22 @@ loop-first-preserved c =
     let names = names_more to ends i past (listed_end 0) c.loop-first-test.true refl within low c.past_from-past.ensures.split in
     let out : List Link = c.loop-first.row.out.items in
     let into : List Link = c.loop-first.row.into.items in
-    let pushed = c.in_ok-push_both.ensures in
+    let listed = c.in_ok-list_both.ensures in
     let is : c.next_placed-other.result ≡ to = c.next_placed-other.ensures in
-    let out_new : List Link = c.push_both.new.out.items in
-    let into_new : List Link = c.push_both.new.into.items in
-    let more_out = subst (λ (w : Vertex). (l : Link) → Contains out_new l ↔ (Contains out l ⊎ IsOutTo L v l w)) is pushed.out in
-    let more_into = subst (λ (w : Vertex). (l : Link) → Contains into_new l ↔ (Contains into l ⊎ IsIntoFrom L v l w)) is pushed.into in
-    let out_apart = subst (λ (w : Vertex). KeepsApart v w out out_new) is pushed.out_apart in
-    let into_apart = subst (λ (w : Vertex). KeepsApart w v into into_new) is pushed.into_apart in
+    let out_new : List Link = c.list_both.new.row.out.items in
+    let into_new : List Link = c.list_both.new.row.into.items in
+    let more_out = subst (λ (w : Vertex). (l : Link) → Contains out_new l ↔ (Contains out l ⊎ IsOutTo L v l w)) is listed.out in
+    let more_into = subst (λ (w : Vertex). (l : Link) → Contains into_new l ↔ (Contains into l ⊎ IsIntoFrom L v l w)) is listed.into in
+    let out_apart = subst (λ (w : Vertex). KeepsApart v w out out_new) is listed.out_apart in
+    let into_apart = subst (λ (w : Vertex). KeepsApart w v into into_new) is listed.into_apart in
     record {
-      ends = c.loop-first.invariant.ends;
+      ends = ap (λ (es : Vec End). es.items) c.list_both.ensures.ends ∙ c.loop-first.invariant.ends;
       within = within;
       cut = cut_past to ends past c.past_from-past.ensures.split;
       out = walked_more (IsLinkOut L v) (λ (k : Link). k.to) ends to i past out out_new (λ (l : Link). IsOutTo L v l to) names (λ l. (λ h. ((h.0, h.2), h.1), λ h. (h.0.0, h.1, h.0.1))) more_out c.loop-first.invariant.out;
       into = walked_more (IsLinkInto L v) (λ (k : Link). k.from) ends to i past into into_new (λ (l : Link). IsIntoFrom L v l to) names (λ l. (λ h. ((h.1, h.2), h.0), λ h. (h.1, h.0.0, h.0.1))) more_into c.loop-first.invariant.into;
-      out_cheap = pushed.out_cheap c.loop-first.invariant.out_cheap;
-      into_cheap = pushed.into_cheap c.loop-first.invariant.into_cheap;
+      out_cheap = listed.out_cheap c.loop-first.invariant.out_cheap;
+      into_cheap = listed.into_cheap c.loop-first.invariant.into_cheap;
       out_once = out_apart c.loop-first.invariant.out_once (λ l early from at. walked_others (IsLinkOut L v) (λ (k : Link). k.to) ends to i out c.loop-first.invariant.within low c.loop-first.invariant.out l early at);
       into_once = into_apart c.loop-first.invariant.into_once (λ l early from at. walked_others (IsLinkInto L v) (λ (k : Link). k.from) ends to i into c.loop-first.invariant.within low c.loop-first.invariant.into l early from);
     }

@@ -7,4 +7,4 @@ use Rattle.graph_links.proofs.pair.each_once.Goals as goal
 
 pub loop-end-preserved : goal.loop-end-preserved
 loop-end-preserved c =
-    rest_on c.loop-end.details c.push_once.new.details c.loop-end.last c.args.ends.now c.loop-end.end-index (listed_end 0) (dedup eqb (map (λ (e : End). e.detail) c.args.ends.now)) c.loop-end-test.true c.loop-end.invariant c.in_ok-push_once.ensures
+    rest_on c.loop-end.details c.list_once.new.details c.loop-end.last c.args.ends.now c.loop-end.end-index (listed_end 0) (dedup eqb (map (λ (e : End). e.detail) c.args.ends.now)) c.loop-end-test.true c.loop-end.invariant c.in_ok-list_once.ensures

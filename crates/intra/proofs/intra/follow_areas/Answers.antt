@@ -6,7 +6,7 @@ use Rattle.std.specs.List.{Contains}
 use Rattle.spf.proofs.OfSome.{contains_at}
 use Rattle.intra.specs.Inputs.{AreaValue, InputsValue}
 use Rattle.intra.specs.Intras.{AreaIntraValue}
-use Rattle.intra.specs.Following.{IsGathered, IsRenewed, IsRouterNamed, with_index_of}
+use Rattle.intra.specs.Following.{IsGathered, AreRoutersUpdated, IsRouterNamed, with_index_of}
 use Rattle.intra.specs.Updating.{IsBroughtTo, IsKeptBefore, HasOtherAmong}
 use Rattle.intra.proofs.Placing.{first_more, first_weaker, brought_grown, followed_from, settled_from, kept_before, other_more}
 use Rattle.intra.proofs.intra.follow_areas.Goals as goal
@@ -55,11 +55,11 @@ loop-place-preserved c =
     let within : place < length now = omega (arith, there, c.requires.before.as_many, so_far.brought.as_many) in
     let here = get_or_default now place c.index-areas-place.result _ within in
     let gathered = subst (λ (root : ℕ). IsGathered root vertices interfaces i (with_index_of i j) before.prefixes.items after.prefixes.items) root c.in_ok-follow.ensures.gathered in
-    let renewed = subst (λ (root : ℕ). IsRenewed root a (IsRouterNamed keys vertices i.id) (with_index_of i j) j before.routers.items after.routers.items) root c.in_ok-follow.ensures.renewed in
+    let updated = subst (λ (root : ℕ). AreRoutersUpdated root a (IsRouterNamed keys vertices i.id) (with_index_of i j) j before.routers.items after.routers.items) root c.in_ok-follow.ensures.updated in
     let P = IsBroughtTo v.root keys vertices interfaces in
     let step : P after.prefixes.items a i j = record {
       followed = followed_from v.root vertices interfaces before.prefixes.items after.prefixes.items a i (with_index_of i j) c.in_ok-follow.ensures.index gathered;
-      settled = settled_from v.root keys vertices before.routers.items after.routers.items a (with_index_of i j) j renewed;
+      settled = settled_from v.root keys vertices before.routers.items after.routers.items a (with_index_of i j) j updated;
     } in
     record {
       brought = first_more (P after.prefixes.items) v.areas first now place a i j there within at here step
@@ -67,7 +67,7 @@ loop-place-preserved c =
       exact = λ r.
           let more = other_more first now place r i j within here so_far.brought.rest in
           let was = so_far.exact r in
-          let is = renewed.exact r in (
+          let is = updated.exact r in (
             λ d. more.1 (elim (is.0 d) [ inl held ↦ inl (was.0 held) | inr other ↦ inr other ]),
             λ w. is.1 (elim (more.0 w) [ inl held ↦ inl (was.1 held) | inr other ↦ inr other ]),
           );

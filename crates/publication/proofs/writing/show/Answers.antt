@@ -3,14 +3,14 @@ use Rattle.publication.specs.declared.shown.Shown.{Shown}
 use Rattle.publication.specs.declared.shown.Update.{Update}
 use Rattle.publication.specs.Lines.{Line}
 use Rattle.publication.specs.Published.{IsTableFor}
-use Rattle.publication.specs.Updates.{updated, face_of, IsRightFace}
+use Rattle.publication.specs.Updates.{updated, shown_state_of, IsRightState}
 use Rattle.publication.proofs.Folds.{gives_whole}
 use Rattle.publication.proofs.writing.show.Goals as goal
 
-pub publish-requires-clause-laid : goal.publish-requires-clause-laid
-publish-requires-clause-laid g c =
+pub publish-requires-clause-appended : goal.publish-requires-clause-appended
+publish-requires-clause-appended g c =
     let w = c.args.writer in
     let front = c.front-front.ensures ∙ c.look.ensures.same in
-    let same = ap (λ d. d.shown.value) c.lay_whole.ensures.desk in
-    subst (λ (z : Shown × List Update). IsRightFace c.front-front.result z.0.base (fold updated (face_of z.0) z.1)) (λ i. (sym same i, sym (c.if-not-lay_whole.ensures.pending refl) i))
-    (gives_whole (face_of w.desk.shown.value) (drop w.behind w.log.items) c.args.table.now c.front-front.result (subst (λ (l : Line). IsTableFor w.desk.shown.value.base l.list c.args.table.now) (sym front) c.requires.right))
+    let same = ap (λ d. d.shown.value) c.append_whole.ensures.desk in
+    subst (λ (z : Shown × List Update). IsRightState c.front-front.result z.0.base (fold updated (shown_state_of z.0) z.1)) (λ i. (sym same i, sym (c.if-not-append_whole.ensures.pending refl) i))
+    (gives_whole (shown_state_of w.desk.shown.value) (drop w.behind w.log.items) c.args.table.now c.front-front.result (subst (λ (l : Line). IsTableFor w.desk.shown.value.base l.list c.args.table.now) (sym front) c.requires.right))

@@ -3,15 +3,15 @@ use Rattle.publication.specs.declared.shown.Shown.{Shown}
 use Rattle.publication.specs.declared.shown.Update.{Update}
 use Rattle.publication.specs.Lines.{Line}
 use Rattle.publication.specs.Published.{IsTableFor}
-use Rattle.publication.specs.Updates.{updated, face_of, deltas, IsRightFace}
+use Rattle.publication.specs.Updates.{updated, shown_state_of, deltas, IsRightState}
 use Rattle.publication.proofs.Folds.{gives_changes}
 use Rattle.publication.proofs.writing.show_changes.Goals as goal
 
-pub publish-requires-clause-laid : goal.publish-requires-clause-laid
-publish-requires-clause-laid g c =
+pub publish-requires-clause-appended : goal.publish-requires-clause-appended
+publish-requires-clause-appended g c =
     let w = c.args.writer in
     let front = c.front-front.ensures ∙ c.look.ensures.same in
-    let same = ap (λ d. d.shown.value) c.lay_changes.ensures.desk in
-    let laid = c.if-not-lay_changes.ensures.pending refl ∙ ap (λ us. us ++ deltas c.args.networks.now c.args.table.now c.front-front.result) c.requires.clean in
-    subst (λ (z : Shown × List Update). IsRightFace c.front-front.result z.0.base (fold updated (face_of z.0) z.1)) (λ i. (sym same i, sym laid i))
-    (gives_changes (face_of w.desk.shown.value) c.args.networks.now c.args.table.now c.front-front.result c.requires.changes (subst (λ (l : Line). IsTableFor w.desk.shown.value.base l.list c.args.table.now) (sym front) c.requires.right))
+    let same = ap (λ d. d.shown.value) c.append_changes.ensures.desk in
+    let appended = c.if-not-append_changes.ensures.pending refl ∙ ap (λ us. us ++ deltas c.args.networks.now c.args.table.now c.front-front.result) c.requires.clean in
+    subst (λ (z : Shown × List Update). IsRightState c.front-front.result z.0.base (fold updated (shown_state_of z.0) z.1)) (λ i. (sym same i, sym appended i))
+    (gives_changes (shown_state_of w.desk.shown.value) c.args.networks.now c.args.table.now c.front-front.result c.requires.changes (subst (λ (l : Line). IsTableFor w.desk.shown.value.base l.list c.args.table.now) (sym front) c.requires.right))

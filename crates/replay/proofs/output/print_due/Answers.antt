@@ -1,6 +1,6 @@
 use Rattle.std.proofs.Common.{ℕ, List, ◌++◌, ap, inl}
 use Rattle.std.specs.List.{flat_map}
-use Rattle.event_core.specs.Due.{Due}
+use Rattle.event_core.specs.DueSummary.{DueSummary}
 use Rattle.replay.specs.Lines.{serial_line, area_lines}
 use Rattle.recording.specs.declared.show.Show.TheVariants as show
 use Rattle.replay.specs.declared.page.Stop.TheVariants as stop
@@ -22,20 +22,20 @@ returns-in_err-put_serial-clause-err g c =
     err_as _ c.from_residual-in_err-put_serial.result stop.Memory c.from_residual-in_err-put_serial.ensures.1
     (run_cut stop.Memory _ _ _ show.Due _ _ _ c.requires.opened tt c.in_ok-page.ensures (ran_whole _ _ _ _ _ _ _ _ (inl c.in_ok-page.ensures) c.in_ok-run_lines.ensures.ok))
 
-pub returns-in_err-show_dues-clause-err : goal.returns-in_err-show_dues-clause-err
-returns-in_err-show_dues-clause-err g c =
-    err_as _ c.from_residual-in_err-show_dues.result c.in_err-show_dues.field-0.0 c.from_residual-in_err-show_dues.ensures.1
+pub returns-in_err-show_summaries-clause-err : goal.returns-in_err-show_summaries-clause-err
+returns-in_err-show_summaries-clause-err g c =
+    err_as _ c.from_residual-in_err-show_summaries.result c.in_err-show_summaries.field-0.0 c.from_residual-in_err-show_summaries.ensures.1
     (shown_cut _ _ _ _ show.Due _ _ _ _ _ _ _ c.requires.opened c.in_ok-page.ensures c.in_ok-run_lines.ensures.ok c.in_ok-put_serial.ensures
-    (λ printed. ap (λ (lists : List (ℕ × List Due)). (printed ++ serial_line c.run_lines.new.core) ++ flat_map area_lines lists) c.dues.ensures.value) c.in_err-show_dues.field-0.0 c.in_err-show_dues.ensures.err)
+    (λ printed. ap (λ (lists : List (ℕ × List DueSummary)). (printed ++ serial_line c.run_lines.new.core) ++ flat_map area_lines lists) c.summaries.ensures.value) c.in_err-show_summaries.field-0.0 c.in_err-show_summaries.ensures.err)
 
 pub returns-in_err-write_page-clause-err : goal.returns-in_err-write_page-clause-err
 returns-in_err-write_page-clause-err g c =
     err_as _ c.from_residual-in_err-write_page.result stop.Write c.from_residual-in_err-write_page.ensures.1 (whole_cut stop.Write _ _ _ _ _ _
     (shown_whole _ _ _ _ show.Due _ _ _ _ _ _ _ c.requires.opened c.in_ok-page.ensures c.in_ok-run_lines.ensures.ok c.in_ok-put_serial.ensures
-    (λ printed. ap (λ (lists : List (ℕ × List Due)). (printed ++ serial_line c.run_lines.new.core) ++ flat_map area_lines lists) c.dues.ensures.value) _ c.in_ok-show_dues.ensures.ok) c.in_err-write_page.ensures.err)
+    (λ printed. ap (λ (lists : List (ℕ × List DueSummary)). (printed ++ serial_line c.run_lines.new.core) ++ flat_map area_lines lists) c.summaries.ensures.value) _ c.in_ok-show_summaries.ensures.ok) c.in_err-write_page.ensures.err)
 
 pub returns-clause-ok : goal.returns-clause-ok
 returns-clause-ok g c =
     whole_written _ _ _ _ _ _ _
     (shown_whole _ _ _ _ show.Due _ _ _ _ _ _ _ c.requires.opened c.in_ok-page.ensures c.in_ok-run_lines.ensures.ok c.in_ok-put_serial.ensures
-    (λ printed. ap (λ (lists : List (ℕ × List Due)). (printed ++ serial_line c.run_lines.new.core) ++ flat_map area_lines lists) c.dues.ensures.value) _ c.in_ok-show_dues.ensures.ok) c.in_ok-write_page.ensures.ok c.in_ok-write_page.ensures.empty
+    (λ printed. ap (λ (lists : List (ℕ × List DueSummary)). (printed ++ serial_line c.run_lines.new.core) ++ flat_map area_lines lists) c.summaries.ensures.value) _ c.in_ok-show_summaries.ensures.ok) c.in_ok-write_page.ensures.ok c.in_ok-write_page.ensures.empty

@@ -1,8 +1,8 @@
 use Rattle.std.proofs.Common.{◌≡◌, ◌≢◌, ◌+◌, List, ◌++◌, ◌∷◌, [], take, subst, sym, ap, ◌∙◌}
 use Rattle.std.specs.FinMap.{get}
 use Rattle.ospf_types.specs.declared.entry.Vertex.{Vertex}
-use Rattle.tree_parts.specs.Differing.{IsFarther}
-use Rattle.tree_parts.proofs.Grown.{IsGrown, farther_added, farther_passed, grown_at, grown_all, same_unless, other_if}
+use Rattle.tree_parts.specs.Differing.{IsFarther, IsGrown}
+use Rattle.tree_parts.proofs.Grown.{farther_added, farther_passed, grown_at, grown_all, same_unless, other_if}
 use Rattle.tree_parts.proofs.differing.add_farther.Goals as goal
 use Rattle.tree_parts.proofs.differing.add_farther.Goals.{then-ne+in_ok-push, else-ne}
 

@@ -1,6 +1,5 @@
 use Rattle.std.proofs.Common.{take}
-use Rattle.tree_parts.specs.Differing.{IsFarther}
-use Rattle.tree_parts.proofs.Grown.{IsGrown}
+use Rattle.tree_parts.specs.Differing.{IsFarther, IsGrown}
 use Rattle.tree_parts.proofs.differing.add_farther.Given as goal
 
 abbrev pub invariant-loop-vertex : goal.invariant-loop-vertex

@@ -1,7 +1,7 @@
 use Rattle.std.proofs.Common.{◌≡◌, ◌+◌, List, ◌++◌, ◌∷◌, [], take, subst, sym, ap, ◌∙◌}
 use Rattle.ospf_types.specs.declared.entry.Vertex.{Vertex}
-use Rattle.tree_parts.specs.Differing.{IsNearer}
-use Rattle.tree_parts.proofs.Grown.{IsGrown, nearer_added, nearer_passed, grown_at, grown_all}
+use Rattle.tree_parts.specs.Differing.{IsGrown, IsNearer}
+use Rattle.tree_parts.proofs.Grown.{nearer_added, nearer_passed, grown_at, grown_all}
 use Rattle.tree_parts.proofs.differing.add_nearer.Goals as goal
 use Rattle.tree_parts.proofs.differing.add_nearer.Goals.{then-not-has+in_ok-push, else-not-has}
 

@@ -1,6 +1,5 @@
 use Rattle.std.proofs.Common.{take}
-use Rattle.tree_parts.specs.Differing.{IsNearer}
-use Rattle.tree_parts.proofs.Grown.{IsGrown}
+use Rattle.tree_parts.specs.Differing.{IsGrown, IsNearer}
 use Rattle.tree_parts.proofs.differing.add_nearer.Given as goal
 
 abbrev pub invariant-loop-vertex : goal.invariant-loop-vertex

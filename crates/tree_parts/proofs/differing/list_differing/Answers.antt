@@ -1,8 +1,7 @@
 use Rattle.std.proofs.Common.{List, ◌++◌, subst, ◌∙◌}
 use Rattle.std.proofs.lemmas.Result.{on_ok_weaker}
 use Rattle.ospf_types.specs.declared.entry.Vertex.{Vertex}
-use Rattle.tree_parts.specs.Differing.{IsFarther, IsNearer}
-use Rattle.tree_parts.proofs.Grown.{IsGrown}
+use Rattle.tree_parts.specs.Differing.{IsFarther, IsGrown, IsNearer}
 use Rattle.tree_parts.proofs.SortedOnce.{grown_twice}
 use Rattle.tree_parts.proofs.differing.list_differing.Goals as goal
 

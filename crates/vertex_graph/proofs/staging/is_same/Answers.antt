@@ -1,7 +1,7 @@
 use Rattle.std.proofs.Common.{Bor, List, Some, sym, ap, ◌∙◌}
 use Rattle.std.specs.Prelude.{option_map}
 use Rattle.graph_links.specs.declared.end.End.{End}
-use Rattle.vertex_graph.proofs.Handing.{same_ends}
+use Rattle.vertex_graph.proofs.HandedIn.{same_ends}
 use Rattle.vertex_graph.proofs.staging.is_same.Goals as goal
 
 pub returns-in-Some-Some : goal.returns-in-Some-Some

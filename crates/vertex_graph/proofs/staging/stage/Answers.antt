@@ -1,5 +1,5 @@
 use Rattle.graph_links.specs.Sides.{row_ends, ends_after}
-use Rattle.vertex_graph.proofs.Handing.{slice_none, is_new, slice_more, slice_all, touched_alike}
+use Rattle.vertex_graph.proofs.HandedIn.{slice_none, is_new, slice_more, slice_all, touched_alike}
 use Rattle.vertex_graph.proofs.staging.stage.Goals as goal
 
 pub loop-vertex-init : goal.loop-vertex-init

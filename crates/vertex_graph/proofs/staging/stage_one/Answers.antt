@@ -7,7 +7,7 @@ use Rattle.graph_links.specs.declared.row.Row.{Row}
 use Rattle.std.specs.Global.{Vec}
 use Rattle.graph_links.specs.declared.end.End.{End}
 use Rattle.graph_links.specs.Sides.{row_ends, ends_or}
-use Rattle.vertex_graph.proofs.Handing.{staged_by, touched_more, touches_as}
+use Rattle.vertex_graph.proofs.HandedIn.{staged_by, touched_more, touches_as}
 use Rattle.vertex_graph.proofs.staging.stage_one.Goals as goal
 
 pub returns-clause-ends : goal.returns-clause-ends

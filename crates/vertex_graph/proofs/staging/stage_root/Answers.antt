@@ -6,7 +6,7 @@ use Rattle.ospf_types.specs.Vertices.{vertex_cmp}
 use Rattle.graph_links.specs.declared.row.Row.{Row}
 use Rattle.ospf_types.specs.declared.entry.Vertex.TheVariants.{Router}
 use Rattle.graph_links.specs.Sides.{row_ends, ends_or}
-use Rattle.vertex_graph.proofs.Handing.{named_touched}
+use Rattle.vertex_graph.proofs.HandedIn.{named_touched}
 use Rattle.vertex_graph.proofs.staging.stage_root.Goals as goal
 
 pub returns-clause-root : goal.returns-clause-root

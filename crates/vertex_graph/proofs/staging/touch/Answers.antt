@@ -2,7 +2,7 @@ use Rattle.std.proofs.Common.{List, subst}
 use Rattle.std.proofs.lemmas.List.{take_all}
 use Rattle.graph_links.specs.declared.end.End.{End}
 use Rattle.vertex_graph.specs.Stagings.{TouchesOthers}
-use Rattle.vertex_graph.proofs.Handing.{touches_none, touches_more}
+use Rattle.vertex_graph.proofs.HandedIn.{touches_none, touches_more}
 use Rattle.vertex_graph.proofs.staging.touch.Goals as goal
 
 pub loop-place-init : goal.loop-place-init

@@ -2,7 +2,7 @@ use Rattle.std.proofs.Common.{List, ap, subst, ◌∙◌}
 use Rattle.graph_links.specs.declared.end.End.{End}
 use Rattle.graph_links.specs.Sides.{ends_or}
 use Rattle.vertex_graph.specs.Stagings.{TouchesOthers}
-use Rattle.vertex_graph.proofs.Handing.{touches_within}
+use Rattle.vertex_graph.proofs.HandedIn.{touches_within}
 use Rattle.vertex_graph.proofs.staging.touch_both.Goals as goal
 
 pub returns-clause-own : goal.returns-clause-own

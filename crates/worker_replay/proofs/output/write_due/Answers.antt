@@ -1,6 +1,6 @@
 use Rattle.std.proofs.Common.{ℕ, List, ◌++◌, ap, refl, string_bytes}
 use Rattle.std.specs.List.{flat_map}
-use Rattle.engine.specs.Due.{Due}
+use Rattle.engine.specs.DueSummary.{DueSummary}
 use Rattle.replay.specs.Lines.{serial_line, area_lines}
 use Rattle.recording.specs.declared.show.Show.TheVariants as show
 use Rattle.replay.specs.declared.page.Stop.TheVariants as stop
@@ -12,19 +12,19 @@ use Rattle.worker_replay.proofs.output.write_due.Goals as goal
 pub returns-in_err-put_serial-clause-err : goal.returns-in_err-put_serial-clause-err
 returns-in_err-put_serial-clause-err g c = λ whole. err_as _ c.from_residual.result stop.Memory c.from_residual.ensures.1 (λ v. none_written v show.Due _ _ _ _ refl)
 
-pub returns-in_err-show_dues-clause-err : goal.returns-in_err-show_dues-clause-err
-returns-in_err-show_dues-clause-err g c =
-    λ whole. err_as _ c.from_residual-in_err-show_dues.result c.in_err-show_dues.field-0.0 c.from_residual-in_err-show_dues.ensures.1 (λ v. shown_cut v show.Due _ _ _ _ _ _ _ c.in_ok-put_serial.ensures
-    (ap (λ (lists : List (ℕ × List Due)). (string_bytes c.args.page.now ++ serial_line c.args.core.now) ++ flat_map area_lines lists) c.dues.ensures.value)
-    c.in_err-show_dues.field-0.0 (append_whole _ _ whole (serial_whole c.args.core.now)) c.in_err-show_dues.ensures.err)
+pub returns-in_err-show_summaries-clause-err : goal.returns-in_err-show_summaries-clause-err
+returns-in_err-show_summaries-clause-err g c =
+    λ whole. err_as _ c.from_residual-in_err-show_summaries.result c.in_err-show_summaries.field-0.0 c.from_residual-in_err-show_summaries.ensures.1 (λ v. shown_cut v show.Due _ _ _ _ _ _ _ c.in_ok-put_serial.ensures
+    (ap (λ (lists : List (ℕ × List DueSummary)). (string_bytes c.args.page.now ++ serial_line c.args.core.now) ++ flat_map area_lines lists) c.summaries.ensures.value)
+    c.in_err-show_summaries.field-0.0 (append_whole _ _ whole (serial_whole c.args.core.now)) c.in_err-show_summaries.ensures.err)
 
 pub returns-in_err-write_page-clause-err : goal.returns-in_err-write_page-clause-err
 returns-in_err-write_page-clause-err g c =
     λ whole. err_as _ c.from_residual-in_err-write_page.result stop.Write c.from_residual-in_err-write_page.ensures.1 (λ v. end_cut v show.Due _ _ _ _ _ _ _ c.in_ok-put_serial.ensures
-    (ap (λ (lists : List (ℕ × List Due)). (string_bytes c.args.page.now ++ serial_line c.args.core.now) ++ flat_map area_lines lists) c.dues.ensures.value)
-    stop.Write (append_whole _ _ whole (serial_whole c.args.core.now)) _ _ c.in_ok-show_dues.ensures.ok c.in_err-write_page.ensures.err)
+    (ap (λ (lists : List (ℕ × List DueSummary)). (string_bytes c.args.page.now ++ serial_line c.args.core.now) ++ flat_map area_lines lists) c.summaries.ensures.value)
+    stop.Write (append_whole _ _ whole (serial_whole c.args.core.now)) _ _ c.in_ok-show_summaries.ensures.ok c.in_err-write_page.ensures.err)
 
 pub returns-clause-ok : goal.returns-clause-ok
 returns-clause-ok g c =
     λ v. shown_whole v show.Due _ _ _ _ _ _ _ c.in_ok-put_serial.ensures
-    (ap (λ (lists : List (ℕ × List Due)). (string_bytes c.args.page.now ++ serial_line c.args.core.now) ++ flat_map area_lines lists) c.dues.ensures.value) _ _ _ c.in_ok-show_dues.ensures.ok c.in_ok-write_page.ensures.ok c.in_ok-write_page.ensures.empty
+    (ap (λ (lists : List (ℕ × List DueSummary)). (string_bytes c.args.page.now ++ serial_line c.args.core.now) ++ flat_map area_lines lists) c.summaries.ensures.value) _ _ _ c.in_ok-show_summaries.ensures.ok c.in_ok-write_page.ensures.ok c.in_ok-write_page.ensures.empty

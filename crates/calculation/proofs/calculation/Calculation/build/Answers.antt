@@ -3,8 +3,8 @@ use Rattle.ospf_types.specs.declared.config.AreaConfig.{AreaConfig}
 use Rattle.ospf_types.specs.declared.config.Config.{Config}
 use Rattle.area_trees.specs.Areas.{AreaTreeValue}
 use Rattle.intra.specs.Intras.{IsIntraOf}
-use Rattle.summaries.specs.Active.{AreRangesOf}
-use Rattle.summaries.specs.Right.{AreConfigured}
+use Rattle.active_ranges.specs.Active.{AreRangesOf}
+use Rattle.active_ranges.specs.Right.{AreConfigured}
 use Rattle.event_state.specs.States.{inputs_of}
 use Rattle.state_trees.specs.Trees.{inputs_with}
 use Rattle.route_layers.proofs.Above.{configured}

@@ -8,13 +8,13 @@ use Rattle.ospf_types.specs.declared.key.Dest.TheVariants.{Net}
 use Rattle.ospf_types.specs.declared.prefix.Prefix.{Prefix}
 use Rattle.area_trees.specs.Areas.{AreaTreeValue}
 use Rattle.intra.specs.Intras.{IsIntraOf}
-use Rattle.summaries.specs.Active.{AreRangesOf, EntriesDifferAmong, IsRangeNamed, RangesDifferAt}
-use Rattle.summaries.specs.Right.{AreConfigured}
-use Rattle.summaries.specs.declared.member.Member.{Member}
+use Rattle.active_ranges.specs.Active.{AreRangesOf, EntriesDifferAmong, IsRangeNamed, RangesDifferAt}
+use Rattle.active_ranges.specs.Right.{AreConfigured}
+use Rattle.active_ranges.specs.declared.member.Member.{Member}
 use Rattle.event_state.specs.States.{inputs_of}
 use Rattle.calculation.specs.Calculations.{CalculationValue, AreItemsKept}
 use Rattle.state_trees.specs.Trees.{AreTreesOf, inputs_with}
-use Rattle.calculation.specs.Due.{RoutesDifferAmong}
+use Rattle.calculation.specs.Summaries.{RoutesDifferAmong}
 use Rattle.calculation.specs.Followed.{AreLayersBehind, routers_in}
 use Rattle.ospf_types.proofs.RangeChanges.{areas_kept}
 use Rattle.state_trees.proofs.OtherRanges.{apart_kept}

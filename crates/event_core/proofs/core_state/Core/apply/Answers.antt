@@ -7,8 +7,8 @@ use Rattle.calculation.specs.Active.{RangesDifferAt}
 use Rattle.calculation.specs.Trees.{StatesDifferAmong}
 use Rattle.event_core.specs.declared.core_state.Core.TheInside.{Inside}
 use Rattle.event_core.specs.declared.reply.Reply.{Reply}
-use Rattle.event_core.specs.declared.reply.Standing.{Standing}
-use Rattle.event_core.specs.declared.reply.Standing.TheVariants.{Current, Behind}
+use Rattle.event_core.specs.declared.reply.Status.{Status}
+use Rattle.event_core.specs.declared.reply.Status.TheVariants.{Current, Behind}
 use Rattle.event_core.specs.Cores.{CoreValue, IsTaken, HasBoundedWork, NamesChanges}
 use Rattle.event_core.specs.Kept.{IsCoherent, core_of}
 use Rattle.event_state.proofs.Configs.{sound_apart}
@@ -142,12 +142,12 @@ returns-clause-work c =
           let whole = ap length (w.journal-in-Ok.ensures.value ∙ ap (λ (v : State). v.journal) o.state_is) in
           let is = w.self-is ∙ ap (λ (v : State). core_of v now.routes count) o.state_is in
           let all = bounded_ok i.state u i.routes now.routes i.built c.args.event c.self.invariant told.taken told.accepted c.if-is_current.settled count whole w.in-Ok.is o.settled in
-          subst (λ (state : Standing). HasBoundedWork (core_of i.state i.routes i.built) state c.match-settled.self) (sym w.state-is)
+          subst (λ (state : Status). HasBoundedWork (core_of i.state i.routes i.built) state c.match-settled.self) (sym w.state-is)
           (subst (λ (new : CoreValue). HasBoundedWork (core_of i.state i.routes i.built) Current new) (sym is) all)
       | in-Err w ↦
           let is = w.self-is ∙ (λ j. core_of (o.state_is j) now.routes (o.still_is j)) in
           let all = bounded_err i.state u i.routes now.routes i.built c.args.event c.self.invariant told.taken told.accepted c.if-is_current.settled w.in-Err.field-0 w.in-Err.is o.settled in
-          subst (λ (state : Standing). HasBoundedWork (core_of i.state i.routes i.built) state c.match-settled.self) (sym w.state-is)
+          subst (λ (state : Status). HasBoundedWork (core_of i.state i.routes i.built) state c.match-settled.self) (sym w.state-is)
           (subst (λ (new : CoreValue). HasBoundedWork (core_of i.state i.routes i.built) Behind new) (sym is) all)
     ])
 
@@ -165,11 +165,11 @@ returns-clause-changes c =
           let whole = ap length (w.journal-in-Ok.ensures.value ∙ ap (λ (v : State). v.journal) o.state_is) in
           let is = w.self-is ∙ ap (λ (v : State). core_of v now.routes count) o.state_is in
           let all = named_ok i.state u i.routes now.routes i.built c.args.event c.self.invariant told.taken told.accepted c.if-is_current.settled count w.in-Ok.is o.settled in
-          subst (λ (state : Standing). NamesChanges (core_of i.state i.routes i.built) state c.match-settled.self) (sym w.state-is)
+          subst (λ (state : Status). NamesChanges (core_of i.state i.routes i.built) state c.match-settled.self) (sym w.state-is)
           (subst (λ (new : CoreValue). NamesChanges (core_of i.state i.routes i.built) Current new) (sym is) all)
       | in-Err w ↦
           let is = w.self-is ∙ (λ j. core_of (o.state_is j) now.routes (o.still_is j)) in
           let all = named_err i.state u i.routes now.routes i.built c.args.event c.self.invariant told.taken told.accepted c.if-is_current.settled w.in-Err.field-0 w.in-Err.is o.settled in
-          subst (λ (state : Standing). NamesChanges (core_of i.state i.routes i.built) state c.match-settled.self) (sym w.state-is)
+          subst (λ (state : Status). NamesChanges (core_of i.state i.routes i.built) state c.match-settled.self) (sym w.state-is)
           (subst (λ (new : CoreValue). NamesChanges (core_of i.state i.routes i.built) Behind new) (sym is) all)
     ])

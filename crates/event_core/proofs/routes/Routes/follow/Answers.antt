@@ -4,7 +4,7 @@ use Rattle.ospf_types.specs.declared.key.Dest.{Dest}
 use Rattle.ospf_types.specs.declared.prefix.Prefix.{Prefix}
 use Rattle.calculation.specs.Active.{IsRangeNamed}
 use Rattle.calculation.specs.Calculations.{IsCalculationOf, IsTableOf}
-use Rattle.calculation.specs.Due.{AreDuesFor, RoutesDifferAmong}
+use Rattle.calculation.specs.Summaries.{AreSummariesFor, RoutesDifferAmong}
 use Rattle.event_core.specs.Following.{RoutesValue, AreChanges, AreOtherItems}
 use Rattle.event_core.proofs.Followed.{items_followed, changes_followed}
 use Rattle.event_core.proofs.routes.Routes.follow.Goals as goal
@@ -14,11 +14,11 @@ follow-requires-clause-before c =
     let before = c.requires.before in
     (before.0, subst (λ (r : RoutesValue). IsCalculationOf before.0 r.calculation) (sym c.self.view_is) before.1.calculation, before.2, before.3)
 
-pub plan_dues-requires : goal.plan_dues-requires
-plan_dues-requires c =
+pub plan_summaries-requires : goal.plan_summaries-requires
+plan_summaries-requires c =
     let b = c.requires.before in
     let old = c.self.inside in
-    let due = subst (λ (r : RoutesValue). AreDuesFor b.0 r.calculation r.dues) (sym c.self.view_is) b.1.dues in
+    let due = subst (λ (r : RoutesValue). AreSummariesFor b.0 r.calculation r.summaries) (sym c.self.view_is) b.1.summaries in
     let told : List Dest = c.deref-3.result.now in
     let routes = subst (λ (ds : List Dest). RoutesDifferAmong ds old.calculation c.follow.new.self) (sym c.deref-3.ensures.value) c.in_ok-told.ensures.routes in
     let whole = subst (λ (ds : List Dest). IsRangeNamed c.args.named.range ds old.calculation.intra.entries) (sym c.deref-3.ensures.value) c.in_ok-told.ensures.named in
@@ -35,8 +35,8 @@ returns-clause-items c =
     let table = subst (λ (r : RoutesValue). IsTableOf r.calculation r.table.items) (sym c.self.view_is) c.requires.before.1.table in
     items_followed old.calculation c.follow.new.self old.table.items c.change.new.self.items networks c.in_ok-items.items.items c.in_ok-told.ensures.items others table c.in_ok-change.ensures.changed
 
-pub returns-clause-dues : goal.returns-clause-dues
-returns-clause-dues c = c.in_ok-plan.ensures.kept c.carry_out.new.self c.carry_out.ensures
+pub returns-clause-summaries : goal.returns-clause-summaries
+returns-clause-summaries c = c.in_ok-plan.ensures.kept c.carry_out.new.self c.carry_out.ensures
 
 pub returns-clause-exact : goal.returns-clause-exact
 returns-clause-exact c =

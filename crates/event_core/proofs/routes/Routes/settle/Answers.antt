@@ -24,7 +24,7 @@ all c =
     let mid = c.forget.new.self in
     elim c.if-changed.branch [
       | then-changed+in_ok-follow w ↦
-          subst (HasFollowed t keys ids ranged changed old) (sym w.self-is) (followed t keys ids ranged changed old mid c.forget.ensures w.follow.new.self w.in_ok-follow.ensures.calculation w.in_ok-follow.ensures.items w.in_ok-follow.ensures.dues w.in_ok-follow.ensures.exact w.in_ok-follow.ensures.bounded)
+          subst (HasFollowed t keys ids ranged changed old) (sym w.self-is) (followed t keys ids ranged changed old mid c.forget.ensures w.follow.new.self w.in_ok-follow.ensures.calculation w.in_ok-follow.ensures.items w.in_ok-follow.ensures.summaries w.in_ok-follow.ensures.exact w.in_ok-follow.ensures.bounded)
       | else-changed w ↦
           subst (HasFollowed t keys ids ranged changed old) (sym w.self-is) (stayed t keys ids ranged changed old mid c.forget.ensures w.if-changed.false (c.config.ensures.fit (still_apart before.0 t keys ids ranged before.1 before.3)) before.0 (record { fit = before.1; differ = before.3; alike = before.4 }) before.2)
     ]
@@ -36,7 +36,7 @@ inside c = subst (HasFollowed c.args.state.now c.args.named.keys.items c.args.na
 pub returns-clause-right : goal.returns-clause-right
 returns-clause-right c =
     let h = inside c in
-    with_serial c.args.state.now (the_view c.self.inside) c.set_serial.new.self h.calculation h.items h.dues
+    with_serial c.args.state.now (the_view c.self.inside) c.set_serial.new.self h.calculation h.items h.summaries
     (c.set_serial.ensures ∙ ap (λ (n : ℕ). let v : TableValue = record c.self.inside.table { serial = n } in v) c.serial.ensures.value)
 
 pub returns-clause-fit : goal.returns-clause-fit

@@ -5,7 +5,7 @@ use Rattle.ospf_types.specs.declared.key.Dest.{Dest}
 use Rattle.ospf_types.proofs.DerivedOrders.{dest_cmp_is}
 use Rattle.ospf_types.proofs.Orders.{dest_total, dest_exact}
 use Rattle.intra.proofs.SortedOnce.{strictly, same_items}
-use Rattle.offer_index.specs.Indexes.{AffectedValue, OfferIndexValue}
+use Rattle.offer_index.specs.Indexes.{ChangedOffersValue, OfferIndexValue}
 use Rattle.inter.specs.Following.{AreLed, ArePushed, area_of}
 use Rattle.inter.specs.Inters.{InterValue}
 use Rattle.inter.proofs.DestOrder.{dests_order}
@@ -27,6 +27,6 @@ returns-clause-followed c =
     (subst (λ (R : Dest → Dest → Ordering). IsSorted R c.sort_unstable.new.self.items) dest_cmp_is c.sort_unstable.ensures.sorted) c.dedup.ensures.filtered in
     let led = subst (λ (area : Option ℕ). AreLed area (area_of v.examined) old.index new affected) (ap (λ (w : InterValue). w.examined) c.self.view_is)
     (subst (λ (i : OfferIndexValue). AreLed c.self.inside.examined (area_of v.examined) i new affected) (ap (λ (w : InterValue). w.index) c.self.view_is) c.in_ok-follow_examined.ensures.led) in
-    let pushed = subst (λ (ds : List Dest). ArePushed new c.args.dirty.now.dests.items ds c.push_named.new.dests.items) (ap (λ (a : AffectedValue). a.dests) c.affected.view_is)
+    let pushed = subst (λ (ds : List Dest). ArePushed new c.args.dirty.now.dests.items ds c.push_named.new.dests.items) (ap (λ (a : ChangedOffersValue). a.dests) c.affected.view_is)
     (subst (λ (ds : List Dest). ArePushed new ds c.affected.inside.dests.items c.push_named.new.dests.items) c.deref-2.ensures.value c.in_ok-push_named.ensures) in
     followed_from c.args.dirty.now.dests.items v old.examined old.index new affected c.push_named.new.dests.items c.dedup.new.self.items c.in_ok-follow_examined.ensures.index led pushed same

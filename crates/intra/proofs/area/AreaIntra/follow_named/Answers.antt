@@ -14,6 +14,6 @@ returns-then-stays_out-clause-offered c =
 pub returns-clause-offered : goal.returns-clause-offered
 returns-clause-offered c =
     let a = c.args.self.now in
-    on_ok_weaker c.renew_vertex.result
-    (λ renewed. offered_fewer a.index (λ v. v ≡ c.args.vertex.1) (NamesIn a.id c.args.vertex) c.args.named.now.prefixes.items c.name_prefixes.new.prefixes.items (λ v e. sym (ap (λ (named : ℕ × Vertex). named.1) e)) c.in_ok-flags.ensures.offered)
-    c.renew_vertex.ensures
+    on_ok_weaker c.update_vertex.result
+    (λ updated. offered_fewer a.index (λ v. v ≡ c.args.vertex.1) (NamesIn a.id c.args.vertex) c.args.named.now.prefixes.items c.name_prefixes.new.prefixes.items (λ v e. sym (ap (λ (named : ℕ × Vertex). named.1) e)) c.in_ok-flags.ensures.offered)
+    c.update_vertex.ensures

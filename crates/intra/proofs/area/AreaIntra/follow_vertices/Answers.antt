@@ -6,8 +6,8 @@ use Rattle.ospf_types.specs.declared.entry.Vertex.TheVariants.{Router}
 use Rattle.spf.specs.HandedOn.{IsOfSome}
 use Rattle.spf.proofs.OfSome.{of_more}
 use Rattle.intra.specs.Indexes.{IndexValue}
-use Rattle.intra.specs.Following.{HasOffered, IsRenewed, NamesIn}
-use Rattle.intra.proofs.Following.{offered_then, renewed_then}
+use Rattle.intra.specs.Following.{HasOffered, AreRoutersUpdated, NamesIn}
+use Rattle.intra.proofs.Following.{offered_then, updated_then}
 use Rattle.intra.proofs.area.AreaIntra.follow_vertices.Goals as goal
 
 pub loop-vertex-preserved : goal.loop-vertex-preserved
@@ -23,13 +23,13 @@ loop-vertex-preserved c =
     let more = c.follow_named.new.named.prefixes.items in
     let routers = c.loop-vertex.named.routers.items in
     let then = c.follow_named.new.named.routers.items in
-    let offered = subst (λ (j : IndexValue). HasOffered j (names x) prefixes more) so_far.renewed.index (subst (λ (id : ℕ). HasOffered now.index (NamesIn id x) prefixes more) so_far.renewed.id c.in_ok-follow_named.ensures.offered) in
-    let renewed = subst (λ (id : ℕ). IsRenewed c.args.root c.args.area.now (λ r. NamesIn id x (Router r)) now c.follow_named.new.self routers then) so_far.renewed.id c.in_ok-follow_named.ensures.renewed in
+    let offered = subst (λ (j : IndexValue). HasOffered j (names x) prefixes more) so_far.updated.index (subst (λ (id : ℕ). HasOffered now.index (NamesIn id x) prefixes more) so_far.updated.id c.in_ok-follow_named.ensures.offered) in
+    let updated = subst (λ (id : ℕ). AreRoutersUpdated c.args.root c.args.area.now (λ r. NamesIn id x (Router r)) now c.follow_named.new.self routers then) so_far.updated.id c.in_ok-follow_named.ensures.updated in
     let at = get_or_default all i (0, Router 0) _ c.loop-vertex-test.true in
     record {
       offered = offered_then first.index (IsOfSome (take i all) names) (names x) (IsOfSome (take (i + 1) all) names) _ prefixes _ (λ v. (of_more names all i x v c.loop-vertex-test.true at).0) so_far.offered offered;
-      renewed = renewed_then c.args.root c.args.area.now (λ r. IsOfSome (take i all) names (Router r)) (λ r. names x (Router r)) (λ r. IsOfSome (take (i + 1) all) names (Router r)) _ now _ _ routers _
-          (λ r. of_more names all i x (Router r) c.loop-vertex-test.true at) so_far.renewed renewed;
+      updated = updated_then c.args.root c.args.area.now (λ r. IsOfSome (take i all) names (Router r)) (λ r. names x (Router r)) (λ r. IsOfSome (take (i + 1) all) names (Router r)) _ now _ _ routers _
+          (λ r. of_more names all i x (Router r) c.loop-vertex-test.true at) so_far.updated updated;
     }
 
 pub returns-clause-offered : goal.returns-clause-offered
@@ -37,7 +37,7 @@ returns-clause-offered c =
     subst (λ (all : List (ℕ × Vertex)). HasOffered c.args.self.now.index (IsOfSome all (NamesIn c.args.self.now.id)) c.args.named.now.prefixes.items c.loop-vertex.named.prefixes.items)
     (take_all c.loop-vertex.vertex-index c.args.vertices.now c.loop-vertex-test.false) c.loop-vertex.invariant.offered
 
-pub returns-clause-renewed : goal.returns-clause-renewed
-returns-clause-renewed c =
-    subst (λ (all : List (ℕ × Vertex)). IsRenewed c.args.root c.args.area.now (λ r. IsOfSome all (NamesIn c.args.self.now.id) (Router r)) c.args.self.now c.loop-vertex.self c.args.named.now.routers.items c.loop-vertex.named.routers.items)
-    (take_all c.loop-vertex.vertex-index c.args.vertices.now c.loop-vertex-test.false) c.loop-vertex.invariant.renewed
+pub returns-clause-updated : goal.returns-clause-updated
+returns-clause-updated c =
+    subst (λ (all : List (ℕ × Vertex)). AreRoutersUpdated c.args.root c.args.area.now (λ r. IsOfSome all (NamesIn c.args.self.now.id) (Router r)) c.args.self.now c.loop-vertex.self c.args.named.now.routers.items c.loop-vertex.named.routers.items)
+    (take_all c.loop-vertex.vertex-index c.args.vertices.now c.loop-vertex-test.false) c.loop-vertex.invariant.updated

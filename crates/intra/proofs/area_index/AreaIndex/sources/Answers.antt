@@ -12,5 +12,5 @@ returns-in-Some c =
     let es = c.self.inside.sources.entries in
     let own = (prefixes_decided c.in-Some.kept.now c.args.prefix).0 (sym c.if-eq.ensures) in
     let found = subst (λ (p : Prefix). lookup (prefixes_equal p) es ≡ Some c.in-Some.sources.now) own c.in-Some.ensures.value in
-    c.as_slice.ensures.value ∙ ap listed (sym found) ∙ sources_found es c.args.prefix
+    c.as_slice.ensures ∙ ap listed (sym found) ∙ sources_found es c.args.prefix
     ∙ ap (λ (i : IndexValue). sources_of (get i.sources c.args.prefix)) c.self.view_is

@@ -9,8 +9,8 @@ use Rattle.ospf_types.specs.declared.prefix.Prefix.{Prefix}
 use Rattle.intra.specs.Changes.{DiffersAt}
 use Rattle.ospf_types.specs.Keys.{dest_cmp}
 use Rattle.intra.specs.Intras.{AreAreaIntras, IntraValue, IsIntraOf}
-use Rattle.intra.proofs.Updating.{updated, exactly, are_before, renewed_from}
-use Rattle.intra.proofs.Renewing.{dests_sorted}
+use Rattle.intra.proofs.Updating.{updated, exactly, are_before, anew_from}
+use Rattle.intra.proofs.ChosenAnew.{dests_sorted}
 use Rattle.intra.proofs.intra.Intra.update_parts.Goals as goal
 
 pub follow-requires-clause-before : goal.follow-requires-clause-before
@@ -26,20 +26,20 @@ returns-clause-kept c =
     let dirty = c.args.dirty.now in
     let old = c.args.self.now in
     let mid = c.follow.new.self in
-    let new = c.renew_entries.new.self in
+    let new = c.update_entries.new.self in
     let prefixes = c.in_ok-named.named.prefixes.items in
-    let dests = c.renew_entries.new.dests.items in
-    let renewed = renewed_from c.args.inputs.now old mid new c.as_slice.result.now prefixes dests c.as_slice.ensures.value first.entries first.spent c.in_ok-renew_entries.ensures in
-    subst (IsIntraOf c.args.inputs.now) (sym c.self.view_is) (updated dirty.keys.items dirty.vertices.items dirty.interfaces.items b.0 c.args.inputs.now old new mid.areas prefixes dests b.1 b.2 first.followed renewed)
+    let dests = c.update_entries.new.dests.items in
+    let anew = anew_from c.args.inputs.now old mid new c.as_slice.result.now prefixes dests c.as_slice.ensures.value first.entries first.spent c.in_ok-update_entries.ensures in
+    subst (IsIntraOf c.args.inputs.now) (sym c.self.view_is) (updated dirty.keys.items dirty.vertices.items dirty.interfaces.items b.0 c.args.inputs.now old new mid.areas prefixes dests b.1 b.2 first.followed anew)
 
 pub returns-clause-in_order : goal.returns-clause-in_order
 returns-clause-in_order c =
     let prefixes = c.in_ok-named.named.prefixes.items in
     let routers = c.in_ok-named.named.routers.items in
-    let all = c.in_ok-add_routers.ensures ∙ ap (λ (rs : List ℕ). c.renew_entries.new.dests.items ++ map Router rs) c.as_slice-2.ensures.value in
+    let all = c.in_ok-add_routers.ensures ∙ ap (λ (rs : List ℕ). c.update_entries.new.dests.items ++ map Router rs) c.as_slice-2.ensures.value in
     let sorted = dests_sorted prefixes routers c.in_ok-named.ensures.prefixes_in_order c.in_ok-named.ensures.routers_in_order in
     subst (IsStrictlySortedBy dest_cmp) (sym all)
-    (c.in_ok-renew_entries.ensures.in_order (map Router routers) (subst (λ (ps : List Prefix). IsStrictlySortedBy dest_cmp (map Net ps ++ map Router routers)) (sym c.as_slice.ensures.value) sorted))
+    (c.in_ok-update_entries.ensures.in_order (map Router routers) (subst (λ (ps : List Prefix). IsStrictlySortedBy dest_cmp (map Net ps ++ map Router routers)) (sym c.as_slice.ensures.value) sorted))
 
 pub returns-clause-exact : goal.returns-clause-exact
 returns-clause-exact c = λ d.
@@ -48,11 +48,11 @@ returns-clause-exact c = λ d.
     let dirty = c.args.dirty.now in
     let old = c.args.self.now in
     let mid = c.follow.new.self in
-    let new = c.renew_entries.new.self in
+    let new = c.update_entries.new.self in
     let prefixes = c.in_ok-named.named.prefixes.items in
     let routers = c.in_ok-named.named.routers.items in
-    let dests = c.renew_entries.new.dests.items in
-    let renewed = renewed_from c.args.inputs.now old mid new c.as_slice.result.now prefixes dests c.as_slice.ensures.value first.entries first.spent c.in_ok-renew_entries.ensures in
+    let dests = c.update_entries.new.dests.items in
+    let anew = anew_from c.args.inputs.now old mid new c.as_slice.result.now prefixes dests c.as_slice.ensures.value first.entries first.spent c.in_ok-update_entries.ensures in
     let all = c.in_ok-add_routers.ensures ∙ ap (λ (rs : List ℕ). dests ++ map Router rs) c.as_slice-2.ensures.value in
     subst (λ (w : IntraValue). Contains c.add_routers.new.dests.items d ↔ DiffersAt old w d) (sym c.self.view_is) (subst (λ (ds : List Dest). Contains ds d ↔ DiffersAt old new d) (sym all)
-    (exactly dirty.keys.items dirty.vertices.items dirty.interfaces.items b.0 c.args.inputs.now old new mid.areas prefixes dests b.1 b.2 first.followed renewed routers first.routers d))
+    (exactly dirty.keys.items dirty.vertices.items dirty.interfaces.items b.0 c.args.inputs.now old new mid.areas prefixes dests b.1 b.2 first.followed anew routers first.routers d))

@@ -1,6 +1,6 @@
 use Rattle.std.proofs.Common.{◌∙◌, Option, subst, sym}
 use Rattle.offer_index.specs.Advertised.{AdvertisedValue}
-use Rattle.offer_index.specs.Affected.{AreAdded}
+use Rattle.offer_index.specs.ChangedOffers.{AreAdded}
 use Rattle.offer_index.proofs.Effects.{touched_at}
 use Rattle.offer_index.proofs.index.OfferIndex.exchange.Goals as goal
 

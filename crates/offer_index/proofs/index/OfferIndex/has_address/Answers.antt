@@ -1,7 +1,7 @@
 use Rattle.std.proofs.Common.{◌≡◌, true, false, List, refl, sym, subst}
 use Rattle.std.specs.Prelude.{Contains}
 use Rattle.ospf_types.proofs.Elements.{no_element, first_element}
-use Rattle.offer_index.specs.declared.group.Group.TheVariants.{Forwarded}
+use Rattle.offer_index.specs.declared.lsa_group.LsaGroup.TheVariants.{Forwarded}
 use Rattle.offer_index.proofs.Groups.{Member, not_after_itself, neither_after}
 use Rattle.offer_index.proofs.Gathering.{listed_there, listed_of}
 use Rattle.offer_index.proofs.index.OfferIndex.has_address.Goals as goal

@@ -1,5 +1,5 @@
 use Rattle.std.proofs.Common.{ℕ}
-use Rattle.offer_index.specs.declared.group.Group.TheVariants.{Forwarded}
+use Rattle.offer_index.specs.declared.lsa_group.LsaGroup.TheVariants.{Forwarded}
 use Rattle.offer_index.proofs.Gathering.{some_listed}
 use Rattle.offer_index.proofs.index.OfferIndex.has_addresses.Goals as goal
 

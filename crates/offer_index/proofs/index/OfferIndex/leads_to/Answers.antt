@@ -1,4 +1,4 @@
-use Rattle.offer_index.specs.declared.group.Group.TheVariants.{To}
+use Rattle.offer_index.specs.declared.lsa_group.LsaGroup.TheVariants.{To}
 use Rattle.offer_index.proofs.Gathering.{some_listed}
 use Rattle.offer_index.proofs.index.OfferIndex.leads_to.Goals as goal
 

@@ -3,7 +3,7 @@ use Rattle.std.specs.Prelude.{◌↔◌, Contains, IsSome}
 use Rattle.std.specs.FinMap.{get}
 use Rattle.ospf_types.specs.declared.key.Key.{Key}
 use Rattle.offer_index.specs.Advertised.{AdvertisedValue}
-use Rattle.offer_index.specs.Affected.{AreAdded}
+use Rattle.offer_index.specs.ChangedOffers.{AreAdded}
 use Rattle.offer_index.specs.Indexes.{OfferIndexValue}
 use Rattle.offer_index.proofs.Clearing.{none_touched, one_touched, all_touched}
 use Rattle.offer_index.proofs.index.OfferIndex.touch_all.Goals as goal

@@ -1,4 +1,4 @@
-use Rattle.offer_index.specs.declared.group.Group.TheVariants.{Forwarded}
+use Rattle.offer_index.specs.declared.lsa_group.LsaGroup.TheVariants.{Forwarded}
 use Rattle.offer_index.proofs.NotedGroups.{noted_just}
 use Rattle.offer_index.proofs.members.Members.addresses.Goals as goal
 

@@ -1,5 +1,5 @@
 use Rattle.std.proofs.Common.{◌≡◌, true, false, refl}
-use Rattle.offer_index.specs.declared.group.Group.TheVariants.{To}
+use Rattle.offer_index.specs.declared.lsa_group.LsaGroup.TheVariants.{To}
 use Rattle.offer_index.proofs.Covering.{none_among}
 use Rattle.offer_index.proofs.NotedGroups.{noted_just}
 use Rattle.offer_index.proofs.members.Members.has_dest.Goals as goal

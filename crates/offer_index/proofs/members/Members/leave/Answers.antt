@@ -1,7 +1,7 @@
 use Rattle.std.proofs.Common.{◌≡◌, ◌<◌, Some, refl, sym, ap, subst, arith}
 use Rattle.std.specs.Prelude.{option_copied}
 use Rattle.offer_index.specs.Advertised.{AdvertisedValue}
-use Rattle.offer_index.specs.declared.group.Group.TheVariants.{To, By, Forwarded}
+use Rattle.offer_index.specs.declared.lsa_group.LsaGroup.TheVariants.{To, By, Forwarded}
 use Rattle.offer_index.specs.Members.{IsOf}
 use Rattle.offer_index.proofs.Listing.{stays_at, stays_in_each}
 use Rattle.offer_index.proofs.members.Members.leave.Goals as goal

@@ -1,6 +1,6 @@
 use Rattle.std.proofs.Common.{◌<◌, refl, sym, ap, subst, arith, inl}
 use Rattle.std.specs.Prelude.{Contains, option_copied}
-use Rattle.offer_index.specs.declared.group.Group.TheVariants.{To, By, Forwarded}
+use Rattle.offer_index.specs.declared.lsa_group.LsaGroup.TheVariants.{To, By, Forwarded}
 use Rattle.offer_index.specs.Members.{IsOf}
 use Rattle.offer_index.proofs.Listing.{come_by, listed_in_all}
 use Rattle.offer_index.proofs.members.Members.list.Goals as goal

@@ -1,6 +1,6 @@
 use Rattle.std.proofs.Common.{◌∙◌, sym, ap, subst, inl, inr}
 use Rattle.std.specs.Ordering.{eq_by_cmp, nat_cmp}
-use Rattle.offer_index.specs.declared.group.Group.TheVariants.{To, Forwarded}
+use Rattle.offer_index.specs.declared.lsa_group.LsaGroup.TheVariants.{To, Forwarded}
 use Rattle.offer_index.specs.declared.noted.Noted.{Noted}
 use Rattle.offer_index.specs.Noted.{IsNoted}
 use Rattle.offer_index.proofs.DestOrder.{dests_equal}

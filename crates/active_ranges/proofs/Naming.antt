@@ -1,0 +1,111 @@
+-- Lists that get more and more elements.
+use Rattle.std.proofs.Common.{◌≡◌, ℕ, ◌+◌, ◌<◌, ◌≤◌, List, [], ◌∷◌, ◌++◌, length, take, get_or, refl, sym, subst, ◌∙◌, ap, inl, inr}
+use Rattle.std.specs.Prelude.{◌↔◌, Contains}
+use Rattle.std.proofs.lemmas.List.Elements.{Contains-append_left, Contains-push, Contains-push_cases}
+use Rattle.ospf_types.specs.declared.config.AreaConfig.{AreaConfig}
+use Rattle.ospf_types.specs.declared.config.Range.{Range}
+use Rattle.ospf_types.specs.declared.key.Dest.{Dest}
+use Rattle.ospf_types.specs.declared.key.Dest.TheVariants.{Net}
+use Rattle.ospf_types.specs.declared.prefix.Prefix.{Prefix}
+use Rattle.ospf_types.specs.Address.{Covers}
+use Rattle.ospf_types.proofs.Elements.{no_element}
+use Rattle.spf.specs.HandedOn.{IsOfSome}
+use Rattle.spf.proofs.OfSome.{of_none, of_more, of_all}
+use Rattle.active_ranges.specs.declared.member.AreaRange.{AreaRange}
+use Rattle.active_ranges.specs.declared.member.Member.{Member}
+use Rattle.active_ranges.specs.Following.{HasMore, IsNamed, IsNamedAs, IsNamedIn, IsNamedOf}
+
+-- ---- any elements
+
+module _ {B : Type 0} (P Q : B → Type 0) (before after : List B) where
+  -- the same, said otherwise
+  pub more_as : ((y : B) → P y ↔ Q y) → HasMore P before after → HasMore Q before after
+  more_as same is y = (
+    λ c. elim ((is y).0 c) [ inl was ↦ inl was | inr more ↦ inr ((same y).0 more) ],
+    λ w. elim w [ inl was ↦ (is y).1 (inl was) | inr more ↦ (is y).1 (inr ((same y).1 more)) ],
+  )
+
+-- no more
+pub more_none : {B : Type 0} (P : B → Type 0) (ys : List B) → ((y : B) → P y → ⊥) → HasMore P ys ys
+more_none P ys none y = (λ c. inl c, λ w. elim w [ inl was ↦ was | inr more ↦ absurd (none y more) ])
+
+-- one more
+pub more_one : {B : Type 0} (P : B → Type 0) (before after : List B) (x : B) → after ≡ before ++ x ∷ [] → ((y : B) → P y ↔ (y ≡ x)) → HasMore P before after
+more_one {B} P before after x pushed one y = (
+  λ c. elim (Contains-push_cases before x y (subst (λ (ys : List B). Contains ys y) pushed c)) [ inl was ↦ inl was | inr same ↦ inr ((one y).1 (sym same)) ],
+  λ w. subst (λ (ys : List B). Contains ys y) (sym pushed) (elim w [
+    | inl was ↦ Contains-append_left before (x ∷ []) y was
+    | inr more ↦ subst (λ (z : B). Contains (before ++ x ∷ []) z) (sym ((one y).0 more)) (Contains-push before x)
+  ]),
+)
+
+module _ {A B : Type 0} (P : A → B → Type 0) where
+  -- none of no elements
+  pub more_at_first : (ys : List B) → HasMore (IsOfSome [] P) ys ys
+  more_at_first ys = more_none (IsOfSome [] P) ys (λ y w. of_none P y w)
+
+  -- those of one element more
+  pub more_next : (xs : List A) (i : ℕ) (x : A) (a b c : List B) → i < length xs → x ≡ get_or xs i x → HasMore (IsOfSome (take i xs) P) a b → HasMore (P x) b c → HasMore (IsOfSome (take (i + 1) xs) P) a c
+  more_next xs i x a b c lt is first then y =
+      let step = of_more P xs i x y lt is in (
+        λ there. elim ((then y).0 there) [
+          | inr here ↦ inr (step.1 (inr here))
+          | inl mid ↦ elim ((first y).0 mid) [ inl was ↦ inl was | inr some ↦ inr (step.1 (inl some)) ]
+        ],
+        λ w. elim w [
+          | inl was ↦ (then y).1 (inl ((first y).1 (inl was)))
+          | inr more ↦ elim (step.0 more) [ inl some ↦ (then y).1 (inl ((first y).1 (inr some))) | inr here ↦ (then y).1 (inr here) ]
+        ],
+      )
+
+  -- those of all elements
+  pub more_all : (xs : List A) (i : ℕ) (a b : List B) → length xs ≤ i → HasMore (IsOfSome (take i xs) P) a b → HasMore (IsOfSome xs P) a b
+  more_all xs i a b past is = more_as (IsOfSome (take i xs) P) (IsOfSome xs P) a b (λ y. of_all P xs i y past) is
+
+-- ---- members that are named
+
+abbrev pub one_range : ℕ → Range → AreaRange
+one_range area r = record { prefix = r.prefix; area = area }
+
+pub named_of : (range : AreaRange) (dests : List Dest) (m : Member) → IsOfSome dests (IsNamedAs range) m ↔ IsNamedOf range dests m
+named_of range dests m = (
+  λ w. (subst (λ (d : Dest). Contains dests d) w.2.0 w.1, w.2.1, w.2.2, w.2.3),
+  λ n. (Net m.network, n.0, (refl, n.1, n.2, n.3)),
+)
+
+pub named_in : (a : AreaConfig) (dests : List Dest) (m : Member) → IsOfSome a.ranges (λ (r : Range). IsNamedOf (one_range a.id r) dests) m ↔ IsNamedIn a dests m
+named_in a dests m = (
+  λ w. let n = w.2 in (n.0, n.2, (w.0, w.1, n.1), subst (λ (p : Prefix). Covers p m.network) n.1 n.3),
+  λ n. (n.2.0, n.2.1, (n.0, n.2.2, n.1, subst (λ (p : Prefix). Covers p m.network) (sym n.2.2) n.3)),
+)
+
+pub named : (areas : List AreaConfig) (dests : List Dest) (m : Member) → IsOfSome areas (λ (a : AreaConfig). IsNamedIn a dests) m ↔ IsNamed areas dests m
+named areas dests m = (
+  λ w. let n = w.2 in (n.0, (w.0, n.2.0, w.1, n.1, n.2.1, n.2.2), n.3),
+  λ n. let c = n.1 in (c.0, c.2, (n.0, c.3, (c.1, c.4, c.5), n.2)),
+)
+
+-- from no members
+pub all_named : (areas : List AreaConfig) (dests : List Dest) (members : List Member) → HasMore (IsOfSome areas (λ (a : AreaConfig). IsNamedIn a dests)) [] members → (m : Member) → Contains members m ↔ IsNamed areas dests m
+all_named areas dests members more m = (
+  λ c. elim ((more m).0 c) [ inl none ↦ absurd (no_element m none) | inr some ↦ (named areas dests m).0 some ],
+  λ n. (more m).1 (inr ((named areas dests m).1 n)),
+)
+
+-- the network that a range covers is a member of it, and no other is named by it
+pub covered : (range : AreaRange) (dest : Dest) (network : Prefix) → dest ≡ Net network → Covers range.prefix network → (m : Member) → IsNamedAs range dest m ↔ (m ≡ record { range = range.prefix; area = range.area; network = network })
+covered range dest network is covers m = (
+  λ n.
+      let same : network ≡ m.network = same_network (sym is ∙ n.0) in
+      λ i. record { range = (sym n.1) i; area = (sym n.2) i; network = (sym same) i },
+  λ e. (is ∙ ap (λ (x : Member). Net x.network) (sym e), ap (λ (x : Member). x.range) (sym e), ap (λ (x : Member). x.area) (sym e), subst (λ (p : Prefix). Covers range.prefix p) (ap (λ (x : Member). x.network) (sym e)) covers),
+)
+  where
+    same_network : {p q : Prefix} → Net p ≡ Net q → p ≡ q
+    same_network e = cc
+
+pub not_covered : (range : AreaRange) (dest : Dest) (network : Prefix) → dest ≡ Net network → (Covers range.prefix network → ⊥) → (m : Member) → IsNamedAs range dest m → ⊥
+not_covered range dest network is outside m n = outside (subst (λ (p : Prefix). Covers range.prefix p) (same_network (sym n.0 ∙ is)) n.3)
+  where
+    same_network : {p q : Prefix} → Net p ≡ Net q → p ≡ q
+    same_network e = cc

@@ -1,0 +1,8 @@
+-- Ranges of the routes are those of the definitions.
+use Rattle.std.proofs.lemmas.Result.{on_ok_weaker}
+use Rattle.active_ranges.proofs.Right.{ranges_right}
+use Rattle.active_ranges.proofs.active.ActiveRanges.reconfigure.Goals as goal
+
+pub returns-else-is_err-clause-right : goal.returns-else-is_err-clause-right
+returns-else-is_err-clause-right c =
+    on_ok_weaker c.reconfigure_parts-members.result (λ kept s configured right. ranges_right s c.args.areas.now c.args.intra.now.entries c.reconfigure_parts-members.new.self configured right.entries kept) c.reconfigure_parts-members.ensures.kept

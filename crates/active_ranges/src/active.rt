@@ -1,0 +1,478 @@
+//! Active ranges: those that have a member.
+ghost use Rattle.std.specs.Prelude.{◌≡◌, ◌≢◌, ◌↔◌, ℕ, [], Some, None, Contains, IsTrue, IfOk, OnOk, OnErr, option_copied, map as list_map};
+ghost use Rattle.std.specs.FinMap as map;
+ghost use Rattle.std.specs.List.Sorted.{IsStrictlySortedBy};
+ghost use Rattle.ospf_types.specs.declared.key.Dest.TheVariants as dest_value;
+ghost use Rattle.ospf_types.specs.declared.prefix.Prefix.{Prefix as PrefixValue};
+ghost use Rattle.ospf_types.specs.Network.{network_cmp};
+ghost use Rattle.active_ranges.specs.Active.{AreRangesOf, AreRangesBehind, AreRangesButAt, DiffersAt, HasCost, IsActiveIn, IsMemberWithin, spent_ranges};
+ghost use Rattle.active_ranges.specs.Following.{AreAlikeBut, AreFollowed, AreNotedOf, AreOfRange, AreTakenIn, HasCostBy, HasLeft, IsCostIn, IsMemberIn, IsTold, IsTurnedAmong, prefixes_of, ranges_in};
+ghost use Rattle.active_ranges.specs.Grouped.{member_of};
+ghost use Rattle.active_ranges.specs.Lists.{HasJust, HasMore, IsGreatestBelow};
+ghost use Rattle.active_ranges.specs.Right.{IsRightWith};
+
+use crate::member::{AreaRange, Member};
+use crate::named::named_members;
+use crate::networks::Networks;
+use crate::within::{costs_within, is_configured};
+use intra::Intra;
+use ospf_types::config::AreaConfig;
+use ospf_types::entry::Entry;
+use ospf_types::key::Dest;
+use ospf_types::memory::Memory;
+use ospf_types::prefix::Prefix;
+use std::alloc::Global;
+use std::collections::BTreeMap;
+use std::marker::Model;
+
+/// The ranges of the areas that are active: each with the networks that it has, at the cost of their entries.
+pub struct ActiveRanges {
+    ranges: BTreeMap<AreaRange, Networks>,
+    spent: bool,
+}
+
+// proof: one call drops it, in place of a drop of each part wherever one is held.
+impl Drop for ActiveRanges {
+    fn drop(self) {
+        let ActiveRanges {
+            ranges: _ranges,
+            spent: _,
+        } = self;
+    }
+}
+
+impl Model for ActiveRanges {
+    ghost use Rattle.std.specs.FinMap as map;
+    ghost use Rattle.std.specs.Coded.{Coded, codes};
+    ghost use Rattle.active_ranges.specs.Active.{ActiveValue, CostsByMember, member_code};
+    ghost use Rattle.active_ranges.specs.Grouped.{members_in};
+
+    ghost Value = { ActiveValue };
+
+    ghost coded = { let members : Coded CostsByMember = map.code member_code (Prim.hlevel codes) in Prim.hlevel (codes, members) };
+
+    ghost view = { λ a. record { members = map.from_entries (members_in a.ranges.entries); spent = a.spent } };
+}
+
+// The prefix of a range, and whether a range with it was active.
+#[derive(Clone, Copy, PartialEq, Eq)]
+struct Noted {
+    prefix: Prefix,
+    active: bool,
+}
+
+impl ActiveRanges {
+    /// The active ranges by these routes, from scratch.
+    pub fn build(alloc: Global, areas: &[AreaConfig], intra: &Intra) -> Result<ActiveRanges, Memory>
+        ensures kept { IfOk result (AreRangesOf areas.now intra.now.entries) }
+        ensures right { IfOk result (IsRightWith areas.now intra.now) }
+    {
+        let mut active = ActiveRanges {
+            ranges: BTreeMap::new(alloc),
+            spent: false,
+        };
+        let networks = intra.networks(alloc)?;
+        let dests = as_dests(alloc, networks.as_slice())?;
+        active.update(alloc, areas, intra, dests.as_slice())?;
+        Ok(active)
+    }
+
+    /// Follows the routes, of which those of the named networks may differ. The answer is the prefixes of ranges that
+    /// became active, or no longer are, ascending, each once. If memory runs out, all is spent, and only `build`
+    /// makes another.
+    pub fn update(
+        &mut self,
+        alloc: Global,
+        areas: &[AreaConfig],
+        intra: &Intra,
+        dests: &[Dest],
+    ) -> Result<Vec<Prefix>, Memory>
+        requires before { AreRangesBehind areas.now dests.now intra.now.entries self.old }
+        ensures kept { OnOk result (AreRangesOf areas.now intra.now.entries self.new) }
+        ensures right { OnOk result (IsRightWith areas.now intra.now self.new) }
+        ensures in_order { IfOk result (λ prefixes. IsStrictlySortedBy network_cmp prefixes.items) }
+        ensures exact { IfOk result
+            (λ prefixes. HasJust (DiffersAt self.old self.new) prefixes.items) }
+        ensures spent { OnErr result (self.new ≡ spent_ranges) }
+    {
+        let prefixes = self.update_parts(alloc, areas, intra, dests);
+        if prefixes.is_err() {
+            self.spend();
+        }
+        prefixes
+    }
+
+    /// Follows a range that was set or dropped, which is named by its Area ID and its prefix; the routes stay. The answer is
+    /// the networks of the area that the prefix covers, as members of the range. If memory runs out, all is spent, and
+    /// only `build` makes another.
+    pub fn reconfigure(
+        &mut self,
+        alloc: Global,
+        areas: &[AreaConfig],
+        intra: &Intra,
+        named: (u32, Prefix),
+    ) -> Result<Vec<Member>, Memory>
+        requires before { AreRangesButAt named areas.now intra.now.entries self.old }
+        ensures kept { OnOk result (AreRangesOf areas.now intra.now.entries self.new) }
+        ensures right { OnOk result (IsRightWith areas.now intra.now self.new) }
+        ensures exact { IfOk result
+            (λ members. HasJust (IsMemberWithin intra.now.entries named.0 named.1) members.items) }
+        ensures spent { OnErr result (self.new ≡ spent_ranges) }
+    {
+        let members = self.reconfigure_parts(alloc, areas, intra, named);
+        if members.is_err() {
+            self.spend();
+        }
+        members
+    }
+
+    /// Whether the prefix is that of an active range of some area.
+    pub fn contains(&self, prefix: Prefix) -> bool
+        ensures { IsTrue result ↔ IsActiveIn self.now prefix }
+    {
+        // 16.2 (3): a range is active if it has a network with an intra-area path.
+        for (range, networks) in self.ranges.range(AreaRange::least_of(prefix)..) {
+            if range.prefix != prefix {
+                return false;
+            }
+            if !networks.is_empty() {
+                return true;
+            }
+        }
+        false
+    }
+
+    /// The greatest cost below the limit that a network of the area's range with this prefix has.
+    pub fn costliest(&self, range: Prefix, area: u32, limit: u32) -> Option<u32>
+        ensures { IsGreatestBelow limit (HasCost self.now range area) result }
+    {
+        let area_range = AreaRange {
+            prefix: range,
+            area,
+        };
+        let networks = self.ranges.get(&area_range)?;
+        // 12.4.3: a range is advertised at the greatest cost of its networks.
+        networks.costliest(limit)
+    }
+
+    /// The prefixes of active ranges, ascending, each once.
+    pub fn prefixes(&self, alloc: Global) -> Result<Vec<Prefix>, Memory>
+        ensures in_order { IfOk result (λ prefixes. IsStrictlySortedBy network_cmp prefixes.items) }
+        ensures exact { IfOk result (λ prefixes. HasJust (IsActiveIn self.now) prefixes.items) }
+    {
+        let mut prefixes = Vec::new(alloc);
+        for (range, networks) in self.ranges.iter() {
+            push_active(range.prefix, networks, &mut prefixes)?;
+        }
+        Ok(ascending(prefixes))
+    }
+
+    /// Whether an update ran out of memory.
+    pub fn spent(&self) -> bool
+        ensures { result ≡ self.now.spent }
+    {
+        self.spent
+    }
+}
+
+impl ActiveRanges {
+    // Follows the routes; after an error some members followed and others did not.
+    fn update_parts(
+        &mut self,
+        alloc: Global,
+        areas: &[AreaConfig],
+        intra: &Intra,
+        dests: &[Dest],
+    ) -> Result<Vec<Prefix>, Memory>
+        requires before { AreRangesBehind areas.now dests.now intra.now.entries self.old }
+        ensures kept { OnOk result (AreRangesOf areas.now intra.now.entries self.new) }
+        ensures in_order { IfOk result (λ prefixes. IsStrictlySortedBy network_cmp prefixes.items) }
+        ensures exact { IfOk result
+            (λ prefixes. HasJust (DiffersAt self.old self.new) prefixes.items) }
+    {
+        let named = named_members(alloc, areas, dests)?;
+        let touched = ranges_of(alloc, named.as_slice())?;
+        let noted = self.noted(alloc, touched.as_slice())?;
+        self.follow(alloc, intra, named.as_slice())?;
+        let turned = self.turned(alloc, noted.as_slice())?;
+        Ok(turned)
+    }
+
+    // Follows the range; after an error some members followed and others did not.
+    fn reconfigure_parts(
+        &mut self,
+        alloc: Global,
+        areas: &[AreaConfig],
+        intra: &Intra,
+        named: (u32, Prefix),
+    ) -> Result<Vec<Member>, Memory>
+        requires before { AreRangesButAt named areas.now intra.now.entries self.old }
+        ensures kept { OnOk result (AreRangesOf areas.now intra.now.entries self.new) }
+        ensures exact { IfOk result
+            (λ members. HasJust (IsMemberWithin intra.now.entries named.0 named.1) members.items) }
+    {
+        let (area, range) = named;
+        let had = self.members_in(alloc, area, range)?;
+        if had.is_empty() {
+            return self.reconfigure_by_entries(alloc, areas, intra, named);
+        }
+        // Where the range has members, they are all that it can have.
+        if !is_configured(areas, area, range) {
+            self.leave(area, range);
+        }
+        Ok(had)
+    }
+
+    // Follows the range by the entries of all networks; after an error its members may have followed.
+    fn reconfigure_by_entries(
+        &mut self,
+        alloc: Global,
+        areas: &[AreaConfig],
+        intra: &Intra,
+        named: (u32, Prefix),
+    ) -> Result<Vec<Member>, Memory>
+        requires before { AreRangesButAt named areas.now intra.now.entries self.old }
+        ensures kept { OnOk result (AreRangesOf areas.now intra.now.entries self.new) }
+        ensures exact { IfOk result
+            (λ members. HasJust (IsMemberWithin intra.now.entries named.0 named.1) members.items) }
+    {
+        let (area, range) = named;
+        let costs = costs_within(alloc, intra, area, range)?;
+        if is_configured(areas, area, range) {
+            self.take_in(alloc, named, costs.as_slice())?;
+        } else {
+            self.leave(area, range);
+        }
+        let members = members_of(alloc, costs.as_slice())?;
+        Ok(members)
+    }
+
+    // The members of the area's range.
+    fn members_in(&self, alloc: Global, area: u32, range: Prefix) -> Result<Vec<Member>, Memory>
+        ensures { IfOk result (λ members. HasJust (IsMemberIn self.now area range) members.items) }
+    {
+        let area_range = AreaRange {
+            prefix: range,
+            area,
+        };
+        match self.ranges.get(&area_range) {
+            Some(networks) => networks.as_members(alloc, area_range),
+            None => Ok(Vec::new(alloc)),
+        }
+    }
+
+    // Whether ranges with the prefixes are active now.
+    fn noted(&self, alloc: Global, prefixes: &[Prefix]) -> Result<Vec<Noted>, Memory>
+        ensures listed { IfOk result (λ noted. prefixes_of noted.items ≡ prefixes.now) }
+        ensures exact { IfOk result (λ noted. AreNotedOf self.now noted.items) }
+    {
+        let mut noted = Vec::new(alloc);
+        for prefix in prefixes {
+            noted.push(Noted {
+                prefix: *prefix,
+                active: self.contains(*prefix),
+            })?;
+        }
+        Ok(noted)
+    }
+
+    // The prefixes of which what was noted is no longer so.
+    fn turned(&self, alloc: Global, noted: &[Noted]) -> Result<Vec<Prefix>, Memory>
+        requires { IsStrictlySortedBy network_cmp (prefixes_of noted.now) }
+        ensures in_order { IfOk result (λ prefixes. IsStrictlySortedBy network_cmp prefixes.items) }
+        ensures exact { IfOk result
+            (λ prefixes. HasJust (IsTurnedAmong self.now noted.now) prefixes.items) }
+    {
+        let mut prefixes = Vec::new(alloc);
+        for note in noted {
+            self.push_turned(*note, &mut prefixes)?;
+        }
+        Ok(prefixes)
+    }
+
+    // Adds the prefix, where what was noted of it is no longer so.
+    fn push_turned(&self, note: Noted, prefixes: &mut Vec<Prefix>) -> Result<(), Memory>
+        ensures { OnOk result (IsTold self.now note prefixes.old.items prefixes.new.items) }
+    {
+        if note.active == self.contains(note.prefix) {
+            return Ok(());
+        }
+        prefixes.push(note.prefix)?;
+        Ok(())
+    }
+
+    // The members take the costs of the entries.
+    fn follow(&mut self, alloc: Global, intra: &Intra, named: &[Member]) -> Result<(), Memory>
+        ensures { OnOk result (AreFollowed intra.now.entries named.now self.old self.new) }
+    {
+        for member in named {
+            self.follow_member(alloc, intra, *member)?;
+        }
+        Ok(())
+    }
+
+    // The area's range has these members, and no others.
+    fn take_in(
+        &mut self,
+        alloc: Global,
+        named: (u32, Prefix),
+        costs: &[(Member, u32)],
+    ) -> Result<(), Memory>
+        requires within { AreOfRange named.0 named.1 costs.now }
+        ensures { OnOk result (AreTakenIn named.0 named.1 costs.now self.old self.new) }
+    {
+        let (area, prefix) = named;
+        let networks = Networks::of(alloc, costs)?;
+        self.ranges.insert(AreaRange { prefix, area }, networks)?;
+        Ok(())
+    }
+
+    // Drops the members of the area's range.
+    fn leave(&mut self, area: u32, range: Prefix)
+        ensures { HasLeft area range self.old self.new }
+    {
+        let range = AreaRange {
+            prefix: range,
+            area,
+        };
+        self.ranges.remove(&range);
+    }
+
+    // The member takes the cost of its network's entry, where that is one through the member's area.
+    fn follow_member(&mut self, alloc: Global, intra: &Intra, member: Member) -> Result<(), Memory>
+        ensures spent { OnOk result (self.new.spent ≡ self.old.spent) }
+        ensures here { OnOk result (HasCostBy intra.now.entries self.new member) }
+        ensures others { OnOk result (AreAlikeBut member self.old self.new) }
+    {
+        let Member {
+            range: prefix,
+            area,
+            network,
+        } = member;
+        let cost = cost_in(intra.get(network), area);
+        self.put(alloc, AreaRange { prefix, area }, network, cost)
+    }
+
+    // Gives the network of the range this cost. With none it is no member.
+    fn put(
+        &mut self,
+        alloc: Global,
+        range: AreaRange,
+        network: Prefix,
+        cost: Option<u32>,
+    ) -> Result<(), Memory>
+        ensures spent { OnOk result (self.new.spent ≡ self.old.spent) }
+        ensures here { OnOk result (map.get self.new.members (member_of range network) ≡ cost) }
+        ensures others { OnOk result (AreAlikeBut (member_of range network) self.old self.new) }
+    {
+        if !self.ranges.contains_key(&range) {
+            return self.put_first(alloc, range, network, cost);
+        }
+        let Some(networks) = self.ranges.get_mut(&range) else {
+            unreachable!()
+        };
+        networks.put(network, cost)
+    }
+
+    // Gives the range its first network at this cost, or nothing.
+    fn put_first(
+        &mut self,
+        alloc: Global,
+        range: AreaRange,
+        network: Prefix,
+        cost: Option<u32>,
+    ) -> Result<(), Memory>
+        requires none { (p : PrefixValue) → map.get self.old.members (member_of range p) ≡ None }
+        ensures spent { OnOk result (self.new.spent ≡ self.old.spent) }
+        ensures here { OnOk result (map.get self.new.members (member_of range network) ≡ cost) }
+        ensures others { OnOk result (AreAlikeBut (member_of range network) self.old self.new) }
+    {
+        let Some(cost) = cost else {
+            return Ok(());
+        };
+        let mut networks = Networks::new(alloc);
+        networks.put(network, Some(cost))?;
+        self.ranges.insert(range, networks)?;
+        Ok(())
+    }
+
+    fn spend(&mut self)
+        ensures { self.new ≡ spent_ranges }
+    {
+        self.ranges.clear();
+        self.spent = true;
+    }
+}
+
+// The prefixes of the members' ranges, ascending, each once.
+fn ranges_of(alloc: Global, members: &[Member]) -> Result<Vec<Prefix>, Memory>
+    ensures in_order { IfOk result (λ prefixes. IsStrictlySortedBy network_cmp prefixes.items) }
+    ensures exact { IfOk result
+        (λ prefixes. HasJust (Contains (ranges_in members.now)) prefixes.items) }
+{
+    let prefixes = each_range(alloc, members)?;
+    Ok(ascending(prefixes))
+}
+
+// The prefixes, ascending, each once.
+fn ascending(mut prefixes: Vec<Prefix>) -> Vec<Prefix>
+    ensures in_order { IsStrictlySortedBy network_cmp result.items }
+    ensures same { (p : PrefixValue) → Contains result.items p ↔ Contains prefixes.items p }
+{
+    prefixes.sort_unstable();
+    prefixes.dedup();
+    prefixes
+}
+
+// The prefix of each member's range.
+fn each_range(alloc: Global, members: &[Member]) -> Result<Vec<Prefix>, Memory>
+    ensures { IfOk result (λ prefixes. prefixes.items ≡ ranges_in members.now) }
+{
+    let prefixes = members.iter().map(|member| member.range).collect(alloc)?;
+    Ok(prefixes)
+}
+
+// The members without their costs.
+fn members_of(alloc: Global, costs: &[(Member, u32)]) -> Result<Vec<Member>, Memory>
+    ensures { IfOk result (λ members. members.items ≡ list_map (λ x. x.0) costs.now) }
+{
+    let members = costs.iter().map(|pair| pair.0).collect(alloc)?;
+    Ok(members)
+}
+
+// The networks as destinations.
+fn as_dests(alloc: Global, networks: &[Prefix]) -> Result<Vec<Dest>, Memory>
+    ensures { IfOk result (λ dests. dests.items ≡ list_map dest_value.Net networks.now) }
+{
+    let dests = networks
+        .iter()
+        .map(|network| Dest::Net(*network))
+        .collect(alloc)?;
+    Ok(dests)
+}
+
+/// The cost of an entry that is one through the area.
+pub(crate) fn cost_in(entry: Option<&Entry>, area: u32) -> Option<u32>
+    ensures { (cost : ℕ) → (result ≡ Some cost) ↔ IsCostIn (option_copied entry.entry) area cost }
+{
+    match entry {
+        Some(entry) if entry.area == Some(area) => Some(entry.cost),
+        _ => None,
+    }
+}
+
+// Adds the prefix, where the range has a network.
+fn push_active(
+    prefix: Prefix,
+    networks: &Networks,
+    prefixes: &mut Vec<Prefix>,
+) -> Result<(), Memory>
+    ensures { OnOk result (HasMore
+        (λ p. (p ≡ prefix) × (networks.now.entries ≢ [])) prefixes.old.items prefixes.new.items) }
+{
+    if networks.is_empty() {
+        return Ok(());
+    }
+    prefixes.push(prefix)?;
+    Ok(())
+}

@@ -1,0 +1,134 @@
+//! The networks of one range, each at the cost of its entry.
+ghost use Rattle.std.specs.Prelude.{◌≡◌, ◌↔◌, [], IsTrue, IfOk, IfErr, OnOk, length, map as list_map};
+ghost use Rattle.std.specs.List.Sorted.{IsStrictlySortedBy};
+ghost use Rattle.std.specs.Map.{keys_of};
+ghost use Rattle.ospf_types.specs.Network.{network_cmp};
+ghost use Rattle.active_ranges.specs.Grouped.{AreMadeOf, IsAt, IsCostOf, IsGapFor, IsPutIn, member_of};
+ghost use Rattle.active_ranges.specs.Lists.{IsGreatestBelow};
+
+use crate::member::{AreaRange, Member};
+use ospf_types::memory::Memory;
+use ospf_types::prefix::Prefix;
+use std::alloc::Global;
+use std::marker::Model;
+
+/// The networks of a range, ascending, each at its cost. They stand side by side, so that going through all costs little.
+#[derive(Drop)]
+pub(crate) struct Networks {
+    list: Vec<(Prefix, u32)>,
+}
+
+impl Model for Networks {
+    ghost use Rattle.std.specs.List.Sorted.{IsStrictlySortedBy};
+    ghost use Rattle.std.specs.Map.{keys_of};
+    ghost use Rattle.ospf_types.specs.Network.{network_cmp};
+    ghost use Rattle.active_ranges.specs.Grouped.{Networks as NetworksValue};
+
+    ghost Value = { NetworksValue };
+
+    ghost view = { λ n. record { entries = n.list.items } };
+
+    ghost invariant = { λ n. IsStrictlySortedBy network_cmp (keys_of n.list.items) };
+}
+
+impl Networks {
+    /// No networks.
+    pub(crate) fn new(alloc: Global) -> Networks
+        ensures { result.entries ≡ [] }
+    {
+        Networks {
+            list: Vec::new(alloc),
+        }
+    }
+
+    /// The networks of members, at their costs.
+    pub(crate) fn of(alloc: Global, costs: &[(Member, u32)]) -> Result<Networks, Memory>
+        ensures { IfOk result (AreMadeOf (list_map (λ x. (x.0.network, x.1)) costs.now)) }
+    {
+        let mut networks = Networks {
+            list: Vec::with_capacity(alloc, costs.len())?,
+        };
+        for (member, cost) in costs {
+            networks.put(member.network, Some(*cost))?;
+        }
+        Ok(networks)
+    }
+
+    /// Gives the network this cost. With none it is taken out.
+    pub(crate) fn put(&mut self, network: Prefix, cost: Option<u32>) -> Result<(), Memory>
+        ensures { OnOk result (IsPutIn self.old network cost self.new) }
+    {
+        let place = self.place(network);
+        let Some(cost) = cost else {
+            if let Ok(at) = place {
+                self.list.remove(at);
+            }
+            return Ok(());
+        };
+        match place {
+            Ok(at) => self.list[at] = (network, cost),
+            Err(at) => self.list.insert(at, (network, cost))?,
+        }
+        Ok(())
+    }
+
+    /// Whether there are none.
+    pub(crate) fn is_empty(&self) -> bool
+        ensures { IsTrue result ↔ (self.now.entries ≡ []) }
+    {
+        self.list.is_empty()
+    }
+
+    /// The greatest cost below the limit.
+    pub(crate) fn costliest(&self, limit: u32) -> Option<u32>
+        ensures { IsGreatestBelow limit (IsCostOf self.now) result }
+    {
+        let mut most = None;
+        for (_, cost) in &self.list {
+            if *cost < limit {
+                most = most.max(Some(*cost));
+            }
+        }
+        most
+    }
+
+    /// The networks as members of the range.
+    pub(crate) fn as_members(&self, alloc: Global, range: AreaRange) -> Result<Vec<Member>, Memory>
+        ensures { IfOk result
+            (λ members. members.items ≡ list_map (λ e. member_of range e.0) self.now.entries) }
+    {
+        let members = self
+            .list
+            .iter()
+            .map(|entry| Member {
+                range: range.prefix,
+                area: range.area,
+                network: entry.0,
+            })
+            .collect(alloc)?;
+        Ok(members)
+    }
+
+    // Where the network is, or where it would go. Networks that come in their order go to the end, which is tried first.
+    fn place(&self, network: Prefix) -> Result<usize, usize>
+        ensures found { IfOk result (IsAt self.now.entries network) }
+        ensures absent { IfErr result (IsGapFor self.now.entries network) }
+    {
+        let list = self.list.as_slice();
+        if ends_before(list, network) {
+            return Err(list.len());
+        }
+        list.binary_search_by_key(&network, |entry| entry.0)
+    }
+}
+
+// Whether all networks of the list, which stand in their order, come before this one.
+fn ends_before(list: &[(Prefix, u32)], network: Prefix) -> bool
+    requires { IsStrictlySortedBy network_cmp (keys_of list.now) }
+    ensures { IsTrue result → IsGapFor list.now network (length list.now) }
+{
+    match list.last() {
+        Some((last, _)) => last.cmp(&network).is_lt(),
+        None => true,
+    }
+}

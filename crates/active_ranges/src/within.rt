@@ -1,0 +1,80 @@
+//! The networks of an area that a prefix covers, and their costs.
+ghost use Rattle.std.specs.Prelude.{◌↔◌, IfOk, OnOk, IsTrue};
+ghost use Rattle.active_ranges.specs.Active.{HasRange, IsConfigured};
+ghost use Rattle.active_ranges.specs.Following.{AddsWithin, IsCostWithin};
+ghost use Rattle.active_ranges.specs.Lists.{HasJust};
+
+use crate::active::cost_in;
+use crate::member::Member;
+use intra::Intra;
+use ospf_types::config::AreaConfig;
+use ospf_types::entry::Entry;
+use ospf_types::memory::Memory;
+use ospf_types::prefix::Prefix;
+use std::alloc::Global;
+
+/// The networks of the area that the range's prefix covers, as its members, each at its cost.
+pub(crate) fn costs_within(
+    alloc: Global,
+    intra: &Intra,
+    area: u32,
+    range: Prefix,
+) -> Result<Vec<(Member, u32)>, Memory>
+    ensures { IfOk result
+        (λ costs. HasJust (IsCostWithin intra.now.entries area range) costs.items) }
+{
+    let entries = intra.entries();
+    let mut costs = Vec::new(alloc);
+    for place in 0..entries.len() {
+        let Some((network, entry)) = entries.get_index(place) else {
+            unreachable!()
+        };
+        let member = Member {
+            range,
+            area,
+            network: *network,
+        };
+        push_within(entry, member, &mut costs)?;
+    }
+    // What is made of members in their order costs less.
+    costs.sort_unstable_by_key(|(member, _)| member.network);
+    Ok(costs)
+}
+
+// Adds the member, where its network's entry is one of its area, and its range covers the network.
+fn push_within(entry: &Entry, member: Member, costs: &mut Vec<(Member, u32)>) -> Result<(), Memory>
+    ensures { OnOk result (AddsWithin member entry.now costs.old.items costs.new.items) }
+{
+    if !member.range.covers(member.network) {
+        return Ok(());
+    }
+    let Some(cost) = cost_in(Some(entry), member.area) else {
+        return Ok(());
+    };
+    costs.push((member, cost))?;
+    Ok(())
+}
+
+/// Whether the area has a range with the prefix.
+pub(crate) fn is_configured(areas: &[AreaConfig], id: u32, prefix: Prefix) -> bool
+    ensures { IsTrue result ↔ IsConfigured areas.now id prefix }
+{
+    for area in areas {
+        if area.id == id && has_range(area, prefix) {
+            return true;
+        }
+    }
+    false
+}
+
+// Whether a range of the area has the prefix.
+fn has_range(area: &AreaConfig, prefix: Prefix) -> bool
+    ensures { IsTrue result ↔ HasRange area.now prefix }
+{
+    for range in area.ranges.as_slice() {
+        if range.prefix == prefix {
+            return true;
+        }
+    }
+    false
+}

@@ -1,9 +1,0 @@
-use Rattle.std.proofs.Common.{drop}
-use Rattle.due_lists.proofs.Parts.{IsLeft}
-use Rattle.dues.specs.Candidates.{dests_in}
-use Rattle.dues.proofs.Comparing.{AreComparedTo}
-use Rattle.dues.proofs.dues.changes.Given as goal
-
-abbrev pub invariant-loop-candidate : goal.invariant-loop-candidate
-invariant-loop-candidate l =
-    AreComparedTo l.inputs l.area l.list (dests_in l.candidates) l.metrics.items l.candidate-index × IsLeft l.list l.rest (drop l.candidate-index (dests_in l.candidates))

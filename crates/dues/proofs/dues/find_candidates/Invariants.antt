@@ -1,7 +1,0 @@
--- So many destinations have their candidates.
-use Rattle.std.proofs.Common.{◌≡◌, take}
-use Rattle.dues.specs.Candidates.{AreCandidates, dests_in}
-use Rattle.dues.proofs.dues.find_candidates.Given as goal
-
-abbrev pub invariant-loop-dest : goal.invariant-loop-dest
-invariant-loop-dest l = (dests_in l.found.items ≡ take l.dest-index l.dests) × AreCandidates l.inputs l.found.items

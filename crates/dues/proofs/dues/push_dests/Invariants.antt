@@ -1,5 +1,0 @@
-use Rattle.std.proofs.Common.{◌≡◌, ◌++◌, map, take}
-use Rattle.dues.proofs.dues.push_dests.Given as goal
-
-abbrev pub invariant-loop-due : goal.invariant-loop-due
-invariant-loop-due l = l.dests.items ≡ l.fn.dests.items ++ map (λ due. due.dest) (take l.due-index l.list)

@@ -1,0 +1,21 @@
+-- What the slot beside the lock keeps: an engine's state that lies there has the slot's name.
+use Rattle.std.specs.Prelude.{◌≡◌, ◌≢◌, ℕ, [], ◌∷◌, Option, IfSome}
+use mathlib.Core.Option.{some}
+use Rattle.atomic_table.specs.Table.{State, Step, Me}
+use Rattle.engine_state.specs.EngineStates.{Held}
+use Rattle.publication.specs.Names.{Name}
+
+abbrev pub Fits : Name → Option Held → Type 0
+Fits name slot = IfSome slot (λ d. d.name ≡ name)
+
+-- where the word is 0 the slot is at home
+abbrev pub Locks : Name → State (Option Held) Name → Type 0
+Locks name s = (n : ℕ) × (s.words ≡ n ∷ []) × (n ≡ 0 → (x : Option Held) × (s.homes ≡ some x ∷ []) × Fits name x)
+
+-- a swap that finds 0 takes the slot
+abbrev pub Took : Step (Option Held) → Me (Option Held) Name → ℕ → Me (Option Held) Name → Type 0
+Took st m n m' = (n ≡ 0 → (x : Option Held) × (m'.1 ≡ (0, x) ∷ []) × Fits m.0 x) × (n ≢ 0 → m'.1 ≡ [])
+
+-- a store gives it back
+abbrev pub Gave : Step (Option Held) → Me (Option Held) Name → ℕ → Me (Option Held) Name → Type 0
+Gave st m n m' = (x : ℕ × Option Held) → m.1 ≡ x ∷ [] → m'.1 ≡ []

@@ -1,0 +1,368 @@
+//! The engine that threads share.
+ghost use Rattle.std.specs.Prelude.{List, ◌≡◌, ◌⊎◌, ◌↔◌, ◌++◌, [], ◌∷◌, length, All, None, Ok, Err, IfOk, IfErr, IfSome, OnOk, MatchResult};
+ghost use Rattle.event_core.specs.Cores.{IsCore};
+ghost use Rattle.event_core.specs.Configs.{config_fault_of};
+ghost use Rattle.event_state.specs.Bases.{bare};
+ghost use Rattle.event_state.specs.BaseFaults.{base_fault_of};
+ghost use Rattle.event_state.specs.Rolls.{IsRolled};
+ghost use Rattle.event_state.specs.Steps.{standard_limits};
+ghost use Rattle.event_state.specs.declared.event.Event.{Event as EventValue};
+ghost use Rattle.publication.specs.Forwarders.{Looker};
+ghost use Rattle.publication.specs.Published.{IsLegal};
+ghost use Rattle.engine_state.specs.Answers.{IsAnswered, IsDueListOf, IsForArea};
+ghost use Rattle.engine_state.specs.EngineStates.{AreReaders};
+ghost use Rattle.engine.specs.Opens.{AreNew, CanOpen, CanOpenFrom, IsLastFault, IsNewAdded, IsOpenFaultOf, IsOpenFaultFrom, IsRolledFrom, IsRolledSerial, open_fault_of};
+ghost use Rattle.engine.specs.declared.open_fault.OpenFault.TheVariants as open_value;
+ghost use Rattle.event_core.specs.ConfigFault.TheVariants as fault;
+ghost use Rattle.event_state.specs.declared.refusal.Refusal.TheVariants.{Memory as NoMemory, NoArea, NotCurrent};
+
+use crate::open_fault::OpenFault;
+use crate::slot::EngineSlot;
+use engine_state::{Answer, DueList, EngineState, Gate, Open, Refused};
+use event_core::{ConfigFault, Core, Event, Refusal, fault_in};
+use event_state::{Base, BaseFault, Limits, fault_in_base};
+use ospf_types::config::Config;
+use ospf_types::memory::Memory;
+use publication::{Forwarder, Told};
+use std::alloc::{AllocError, Global};
+use std::hash::RandomState;
+use std::marker::Model;
+use std::sync::{Mutex, Wait};
+
+const MOST_READERS: usize = 64;
+
+/// The databases, the routing table and the due summaries of an area border router, for threads that share them. One event
+/// is all between taking and releasing its lock. To a contract the engine is its name: its history, and the base that it began with.
+/// It is not `Drop`: end it by `close`.
+pub struct Engine {
+    alloc: Global,
+    door: Mutex<()>,
+    slot: EngineSlot,
+}
+
+impl Model for Engine {
+    ghost use Rattle.publication.specs.Names.{Name};
+
+    ghost Value = { Name };
+
+    ghost view = { λ e. e.slot };
+}
+
+impl Engine {
+    /// Opens an engine with no interfaces and empty databases, and its forwarders, which have seen the empty list alone.
+    pub fn open<R: Wait>(
+        rt: &R,
+        alloc: Global,
+        config: Config,
+        readers: usize,
+        hashing: RandomState,
+    ) -> Result<(Engine, Vec<Forwarder>), OpenFault>
+        ensures fault { IfErr result (IsOpenFaultOf config readers) }
+        ensures sound { IfOk result (λ _. CanOpen config readers) }
+        ensures base { IfOk result (λ r. r.0.base ≡ bare config) }
+        ensures count { IfOk result (λ r. length r.1.items ≡ readers) }
+        ensures forwarders { IfOk result (λ r. AreNew r.0 r.1.items) }
+    {
+        if let Some(fault) = fault_in(&config) {
+            return Err(OpenFault::Config(fault));
+        }
+        if readers == 0 || readers > MOST_READERS {
+            return Err(OpenFault::Readers);
+        }
+        match Core::open(alloc, config, hashing) {
+            Ok(core) => open_over(rt, alloc, core, readers),
+            Err(fault) => Err(OpenFault::Config(fault)),
+        }
+    }
+
+    /// Opens an engine with the ranges, the interfaces and the LSAs of the base, and its forwarders, which have seen the
+    /// empty list alone. Serials go on from that of the base.
+    pub fn open_from<R: Wait>(
+        rt: &R,
+        alloc: Global,
+        base: Base,
+        readers: usize,
+        hashing: RandomState,
+    ) -> Result<(Engine, Vec<Forwarder>), OpenFault>
+        ensures fault { IfErr result (IsOpenFaultFrom base readers) }
+        ensures sound { IfOk result (λ _. CanOpenFrom base readers) }
+        ensures base { IfOk result (λ r. r.0.base ≡ base) }
+        ensures count { IfOk result (λ r. length r.1.items ≡ readers) }
+        ensures forwarders { IfOk result (λ r. AreNew r.0 r.1.items) }
+    {
+        match fault_in_base(alloc, &base, Limits::STANDARD) {
+            Ok(None) => {}
+            Ok(Some(fault)) => return Err(of_base(fault)),
+            Err(Memory) => return Err(OpenFault::Config(ConfigFault::Memory)),
+        }
+        if readers == 0 || readers > MOST_READERS {
+            return Err(OpenFault::Readers);
+        }
+        open_sound(rt, alloc, base, readers, hashing)
+    }
+
+    /// Takes the event, or refuses it.
+    pub fn submit<R: Wait>(&self, rt: &R, event: Event) -> Result<Answer, Refused>
+        ensures { IsAnswered self.now event result }
+    {
+        self.submit_gated(rt, event, &Open, 0, 0)
+    }
+
+    /// Takes the event, or refuses it. It calls the gate before it takes the lock, under the lock before the publication of a
+    /// taken event, and after the answer, each once.
+    pub fn submit_gated<R: Wait, G: Gate>(
+        &self,
+        rt: &R,
+        event: Event,
+        gate: &G,
+        worker: usize,
+        place: usize,
+    ) -> Result<Answer, Refused>
+        ensures answered { IsAnswered self.now event result }
+        ensures gate { G.came gate.now worker place
+            × IfOk result (λ _. G.passed gate.now worker place)
+            × G.left gate.now worker place }
+    {
+        gate.before(worker, place);
+        let door = self.door.lock(rt);
+        let engine_state = self.slot.take(rt);
+        let (engine_state, answer) = engine_state.submit(rt, event, gate, worker, place);
+        self.slot.put(rt, engine_state);
+        drop(door);
+        gate.after(worker, place);
+        answer
+    }
+
+    /// Builds and publishes what is behind.
+    pub fn catch_up<R: Wait>(&self, rt: &R) -> Option<Told>
+        ensures { IfSome result (λ t. (t.name ≡ self.now) × IsLegal self.now.base t.list) }
+    {
+        let door = self.door.lock(rt);
+        let (engine_state, _state, told) = self.slot.take(rt).catch_up(rt);
+        self.slot.put(rt, engine_state);
+        drop(door);
+        told
+    }
+
+    /// A copy of the summary-LSAs that are due in the area (RFC 2328, 12.4.3).
+    pub fn due<R: Wait>(&self, rt: &R, area: u32) -> Result<DueList, Refusal>
+        ensures due { IfOk result (IsDueListOf self.now area) }
+        ensures area { IsForArea self.now.base.config area result }
+        ensures refused { IfErr result (λ e. (e ≡ NoArea) ⊎ (e ≡ NoMemory)) }
+    {
+        let door = self.door.lock(rt);
+        let engine_state = self.slot.take(rt);
+        let due = engine_state.due(area);
+        self.slot.put(rt, engine_state);
+        drop(door);
+        due
+    }
+
+    /// Makes the state as it is the base, and empties the journal, whose memory is given back: a router that is rolled now and
+    /// then runs for ever. What forwarders see stays, and none of them waits. The answer is the serial, which goes on.
+    /// Refused are, with 37, a table that is not published as it is now, and want of memory; then nothing changes.
+    pub fn roll<R: Wait>(&self, rt: &R) -> Result<u64, Refusal>
+        ensures serial { IfOk result (IsRolledSerial self.now.base) }
+        ensures refused { IfErr result (λ e. (e ≡ NotCurrent) ⊎ (e ≡ NoMemory)) }
+    {
+        let door = self.door.lock(rt);
+        let (engine_state, done) = self.slot.take(rt).roll();
+        self.slot.put(rt, engine_state);
+        drop(door);
+        done
+    }
+
+    pub(crate) fn alloc(&self) -> Global {
+        self.alloc
+    }
+
+    /// Waits for the forwarders that look, and gives the core back. Its base is the state after the events that were rolled,
+    /// and its journal has those since.
+    pub fn close<R: Wait>(self, rt: &R) -> Core
+        ensures core { IsCore result }
+        ensures limits { result.limits ≡ standard_limits }
+        ensures rolled { IsRolledFrom self.base result.base }
+    {
+        let Engine {
+            alloc: _,
+            door,
+            slot,
+        } = self;
+        drop(door);
+        let engine_state = slot.take(rt);
+        slot.close(rt);
+        engine_state.end(rt)
+    }
+}
+
+// The fault of a base, as one of opening.
+fn of_base(fault: BaseFault) -> OpenFault
+    ensures { result ≡ open_fault_of fault }
+{
+    match fault {
+        BaseFault::Config(fault) => OpenFault::Config(fault),
+        BaseFault::Doubled => OpenFault::Doubled,
+        BaseFault::Unfit(unfit) => OpenFault::Unfit(unfit),
+    }
+}
+
+// The engine of a sound base, and so many forwarders.
+fn open_sound<R: Wait>(
+    rt: &R,
+    alloc: Global,
+    base: Base,
+    readers: usize,
+    hashing: RandomState,
+) -> Result<(Engine, Vec<Forwarder>), OpenFault>
+    requires sound { base_fault_of standard_limits base ≡ None }
+    requires readers { AreReaders readers }
+    ensures fault { IfErr result (IsOpenFaultFrom base readers) }
+    ensures base { IfOk result (λ r. r.0.base ≡ base) }
+    ensures count { IfOk result (λ r. length r.1.items ≡ readers) }
+    ensures forwarders { IfOk result (λ r. AreNew r.0 r.1.items) }
+{
+    match Core::open_sound(alloc, base, Limits::STANDARD, hashing) {
+        Ok(core) => open_over(rt, alloc, core, readers),
+        Err(Memory) => Err(OpenFault::Config(ConfigFault::Memory)),
+    }
+}
+
+// The engine over a core that was opened just now, and so many forwarders.
+fn open_over<R: Wait>(
+    rt: &R,
+    alloc: Global,
+    core: Core,
+    readers: usize,
+) -> Result<(Engine, Vec<Forwarder>), OpenFault>
+    requires core { IsCore core }
+    requires begun { core.journal ≡ [] }
+    requires limits { core.limits ≡ standard_limits }
+    requires readers { AreReaders readers }
+    ensures fault { IfErr result IsLastFault }
+    ensures base { IfOk result (λ r. r.0.base ≡ core.base) }
+    ensures count { IfOk result (λ r. length r.1.items ≡ readers) }
+    ensures forwarders { IfOk result (λ r. AreNew r.0 r.1.items) }
+{
+    match EngineState::open(rt, alloc, core, readers) {
+        Ok(engine_state) => begin(rt, alloc, engine_state, readers),
+        Err(_) => Err(OpenFault::Config(ConfigFault::Memory)),
+    }
+}
+
+// The engine of an engine's state, and so many forwarders.
+fn begin<R: Wait>(
+    rt: &R,
+    alloc: Global,
+    engine_state: EngineState,
+    readers: usize,
+) -> Result<(Engine, Vec<Forwarder>), OpenFault>
+    requires { engine_state.published ≡ [] }
+    ensures fault { IfErr result IsLastFault }
+    ensures config { IfOk result (λ r. r.0 ≡ engine_state.name) }
+    ensures count { IfOk result (λ r. length r.1.items ≡ readers) }
+    ensures forwarders { IfOk result (λ r. AreNew r.0 r.1.items) }
+{
+    let mut engine_state = engine_state;
+    match forwarders(&mut engine_state, alloc, readers) {
+        Ok(all) => enter(rt, alloc, engine_state, all),
+        Err(fault) => {
+            drop(engine_state.end(rt));
+            Err(fault)
+        }
+    }
+}
+
+// The engine of an engine's state, beside its forwarders.
+fn enter<R: Wait>(
+    rt: &R,
+    alloc: Global,
+    engine_state: EngineState,
+    all: Vec<Forwarder>,
+) -> Result<(Engine, Vec<Forwarder>), OpenFault>
+    ensures fault { IfErr result (λ e. e ≡ open_value.Config fault.Memory) }
+    ensures config { IfOk result (λ r. r.0 ≡ engine_state.name) }
+    ensures forwarders { IfOk result (λ r. r.1.items ≡ all.items) }
+{
+    match slot_of(rt, alloc, engine_state) {
+        Ok(slot) => Ok((
+            Engine {
+                alloc,
+                door: Mutex::new(()),
+                slot,
+            },
+            all,
+        )),
+        Err(fault) => Err(fault),
+    }
+}
+
+// The slot with the engine's state in it.
+fn slot_of<R: Wait>(
+    rt: &R,
+    alloc: Global,
+    engine_state: EngineState,
+) -> Result<EngineSlot, OpenFault>
+    ensures fault { IfErr result (λ e. e ≡ open_value.Config fault.Memory) }
+    ensures name { IfOk result (λ slot. slot ≡ engine_state.name) }
+{
+    match EngineSlot::open(alloc, &engine_state.tag()) {
+        Ok(slot) => {
+            slot.put(rt, engine_state);
+            Ok(slot)
+        }
+        Err(_) => {
+            drop(engine_state.end(rt));
+            Err(OpenFault::Config(ConfigFault::Memory))
+        }
+    }
+}
+
+fn forwarders(
+    engine_state: &mut EngineState,
+    alloc: Global,
+    count: usize,
+) -> Result<Vec<Forwarder>, OpenFault>
+    requires { engine_state.old.published ≡ [] }
+    ensures same { engine_state.new ≡ engine_state.old }
+    ensures count { IfOk result (λ v. length v.items ≡ count) }
+    ensures forwarders { IfOk result (λ v. AreNew engine_state.old.name v.items) }
+    ensures fault { IfErr result IsLastFault }
+{
+    let mut all = Vec::new(alloc);
+    for _ in 0..count {
+        add_forwarder(engine_state, &mut all)?;
+    }
+    Ok(all)
+}
+
+// Adds one more forwarder.
+fn add_forwarder(engine_state: &mut EngineState, all: &mut Vec<Forwarder>) -> Result<(), OpenFault>
+    requires { engine_state.old.published ≡ [] }
+    ensures same { engine_state.new ≡ engine_state.old }
+    ensures added { OnOk result (IsNewAdded engine_state.old.name all.old.items all.new.items) }
+    ensures fault { IfErr result IsLastFault }
+{
+    keep(placed(engine_state.forwarder())?, all)
+}
+
+// The forwarder, or that there was no place for it.
+fn placed(found: Result<Forwarder, AllocError>) -> Result<Forwarder, OpenFault>
+    ensures { MatchResult found (λ forwarder. result ≡ Ok forwarder)
+        (λ _. result ≡ Err open_value.Place) }
+{
+    match found {
+        Ok(forwarder) => Ok(forwarder),
+        Err(_) => Err(OpenFault::Place),
+    }
+}
+
+// Puts the forwarder behind the others.
+fn keep(forwarder: Forwarder, all: &mut Vec<Forwarder>) -> Result<(), OpenFault>
+    ensures added { OnOk result (all.new.items ≡ all.old.items ++ forwarder ∷ []) }
+    ensures fault { IfErr result (λ e. e ≡ open_value.Config fault.Memory) }
+{
+    match all.push(forwarder) {
+        Ok(()) => Ok(()),
+        Err(_) => Err(OpenFault::Config(ConfigFault::Memory)),
+    }
+}

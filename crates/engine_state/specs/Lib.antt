@@ -1,0 +1,4 @@
+pub mod Answers
+pub mod Gates
+pub mod EngineStates
+pub mod Texts

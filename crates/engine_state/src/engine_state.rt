@@ -1,0 +1,448 @@
+//! What lies under the lock: the core, and the writer of what is published.
+ghost use Rattle.std.specs.Prelude.{List, ◌≡◌, ◌⊎◌, ◌↔◌, ◌≤◌, ◌+◌, ◌<◌, ◌^◌, [], ◌∷◌, ◌++◌, length, drop, false, MatchBool, IfOk, IfErr, IfNone, IsTrue, MatchOption, MatchResult, IfSome, OnOk};
+ghost use mathlib.Core.List.{IsPrefix};
+ghost use Rattle.left_right.specs.Sides.{view as known_to};
+ghost use Rattle.event_state.specs.Steps.{standard_limits};
+ghost use Rattle.event_state.specs.Rolls.{IsRolled};
+ghost use Rattle.event_state.specs.declared.event.Event.{Event as EventValue};
+ghost use Rattle.engine_state.specs.Answers.{Answers, Refusals, IsDueListOf, IsForArea, IsReplyWith};
+ghost use Rattle.event_core.specs.Cores.{IsCore};
+ghost use Rattle.engine_state.specs.EngineStates.{AreReaders, IsAsBefore, IsKept, IsBegun, IsListAfter, IsOpenedOver, IsRollRefusal, IsSplitInto, IsStateOf, IsTokenAt, IsTokenOfAll, KnowsPublished, CanFollow, CatchesUp, Tells, built_serial, last_serial, list_of, published_serial};
+ghost use Rattle.publication.specs.Published.{IsLegal, name_of};
+ghost use Rattle.event_state.specs.declared.refusal.Refusal.TheVariants.{Memory as NoMemory, NoArea};
+ghost use Rattle.event_core.specs.declared.reply.Status.TheVariants.{Current, Behind};
+
+use crate::answer::{Answer, DueList, Refused};
+use crate::gate::Gate;
+use event_core::{Core, Event, Refusal, Reply, Status};
+use ospf_types::memory::Memory;
+use publication::{
+    EngineName, Forwarder, History, HistoryPrefix, OpeningBase, Shown, ShownWriter, TellsName,
+    Told, show, show_changes,
+};
+use std::alloc::{AllocError, Global};
+use std::marker::Model;
+use std::sync::Wait;
+
+// A history of so many events is followed no further: that many take longer than any router runs.
+const MOST_EVENTS: u64 = 1 << 61;
+
+/// Where it is not stale, nothing is pending and the published table is that of the whole journal. Where it is, less is
+/// published, and the next publication begins by emptying the table.
+pub struct EngineState {
+    alloc: Global,
+    core: Core,
+    history: History,
+    // The history as it was at the last roll: it is in the base of the core.
+    rolled: HistoryPrefix,
+    writer: ShownWriter,
+    stale: bool,
+}
+
+impl Model for EngineState {
+    ghost use Rattle.std.specs.Prelude.{◌+◌, drop, length};
+    ghost use Rattle.left_right.specs.Sides.{view as known_to};
+    ghost use Rattle.event_core.specs.Cores.{IsCore};
+    ghost use Rattle.engine_state.specs.EngineStates.{Held, IsKept, IsFresh, list_of};
+    ghost use Rattle.publication.specs.Published.{name_of};
+
+    ghost Value = { Held };
+
+    ghost view = { λ d. record { name = name_of d.writer.desk.shown.value; list = list_of d.rolled d.core; built = length d.rolled.list + d.core.built; published = d.writer.desk.shown.value.front.list } };
+
+    ghost invariant = { λ d. IsCore d.core × IsKept d.core d.history d.rolled d.writer.desk.shown.value (known_to d.writer.desk.place) × IsFresh d.stale d.core d.history d.rolled d.writer.desk.shown.value (drop d.writer.behind d.writer.log.items) };
+}
+
+// Adds what the history lacks of the journal, which stands in it behind what was rolled.
+fn follow(history: &mut History, rolled: &HistoryPrefix, journal: &[Event])
+    requires begun { IsPrefix history.old.list (rolled.now.list ++ journal.now) }
+    requires within { length rolled.now.list ≤ length history.old.list }
+    requires short { length rolled.now.list + length journal.now < 2 ^ 62 }
+    ensures book { history.new.book ≡ history.old.book }
+    ensures whole { history.new.list ≡ rolled.now.list ++ journal.now }
+{
+    let first = (history.len() - rolled.len()) as usize;
+    for k in first..journal.len() {
+        history.add(&journal[k]);
+    }
+}
+
+// Adds what the history lacks of the journal, where all of it was built. The answer is false where it was not.
+fn follow_built(history: &mut History, rolled: &HistoryPrefix, core: &Core) -> bool
+    requires written { IsBegun rolled.now core.now history.old.list }
+    ensures kept { IsCore core.now }
+    ensures book { history.new.book ≡ history.old.book }
+    ensures written { IsBegun rolled.now core.now history.new.list }
+    ensures whole { IsTrue result → (history.new.list ≡ list_of rolled.now core.now)
+        × (core.now.built ≡ length core.now.journal) }
+{
+    let journal = core.journal();
+    let is_long = rolled.len() >= MOST_EVENTS || journal.len() as u64 >= MOST_EVENTS;
+    if is_long || !core.is_current() {
+        return false;
+    }
+    follow(history, rolled, journal);
+    true
+}
+
+// Publishes the table of the whole journal, where it was built. It may be refused.
+fn publish_whole<R: Wait>(
+    rt: &R,
+    alloc: Global,
+    core: Core,
+    history: History,
+    rolled: HistoryPrefix,
+    writer: ShownWriter,
+) -> EngineState
+    requires kept { IsKept core history rolled writer.desk.shown.value
+        (known_to writer.desk.place) }
+    requires behind { length writer.desk.shown.value.front.list < length (list_of rolled core) }
+    ensures same { IsStateOf (name_of writer.desk.shown.value) rolled core result }
+    ensures grows { IsPrefix writer.desk.shown.value.front.list result.published }
+{
+    let mut history = history;
+    if !follow_built(&mut history, &rolled, &core) {
+        return EngineState {
+            alloc,
+            core,
+            history,
+            rolled,
+            writer,
+            stale: true,
+        };
+    }
+    let (writer, done) = show(rt, alloc, writer, core.table(), &mut history);
+    EngineState {
+        alloc,
+        core,
+        history,
+        rolled,
+        writer,
+        stale: !done,
+    }
+}
+
+// Publishes what changed of the table. It may be refused.
+fn publish_changes<R: Wait>(
+    rt: &R,
+    alloc: Global,
+    core: Core,
+    history: History,
+    rolled: HistoryPrefix,
+    writer: ShownWriter,
+) -> EngineState
+    requires kept { IsKept core history rolled writer.desk.shown.value
+        (known_to writer.desk.place) }
+    requires behind { length writer.desk.shown.value.front.list < length (list_of rolled core) }
+    requires follows { CanFollow core writer.desk.shown.value
+        (drop writer.behind writer.log.items) }
+    ensures same { IsStateOf (name_of writer.desk.shown.value) rolled core result }
+    ensures grows { IsPrefix writer.desk.shown.value.front.list result.published }
+{
+    let mut history = history;
+    if !follow_built(&mut history, &rolled, &core) {
+        return EngineState {
+            alloc,
+            core,
+            history,
+            rolled,
+            writer,
+            stale: true,
+        };
+    }
+    let (writer, done) = show_changes(rt, writer, core.changes(), core.table(), &mut history);
+    EngineState {
+        alloc,
+        core,
+        history,
+        rolled,
+        writer,
+        stale: !done,
+    }
+}
+
+// Publishes what changed, or the whole table.
+fn publish<R: Wait>(
+    rt: &R,
+    alloc: Global,
+    core: Core,
+    history: History,
+    rolled: HistoryPrefix,
+    writer: ShownWriter,
+    whole: bool,
+) -> EngineState
+    requires kept { IsKept core history rolled writer.desk.shown.value
+        (known_to writer.desk.place) }
+    requires behind { length writer.desk.shown.value.front.list < length (list_of rolled core) }
+    requires follows { whole ≡ false → CanFollow core writer.desk.shown.value
+        (drop writer.behind writer.log.items) }
+    ensures same { IsStateOf (name_of writer.desk.shown.value) rolled core result }
+    ensures grows { IsPrefix writer.desk.shown.value.front.list result.published }
+{
+    if whole {
+        publish_whole(rt, alloc, core, history, rolled, writer)
+    } else {
+        publish_changes(rt, alloc, core, history, rolled, writer)
+    }
+}
+
+impl EngineState {
+    // A token for the published list, if it has this serial.
+    fn told(&self, serial: u64) -> Option<Told>
+        ensures none { IfNone result (¬ (serial ≡ published_serial self.now)) }
+        ensures some { IfSome result (Tells self.now.name self.now.list serial) }
+        ensures published { IfSome result (λ t. t.list ≡ self.now.published) }
+    {
+        let shown = self.writer.published();
+        if shown.table.serial() != serial {
+            return None;
+        }
+        Some(Told::of(shown.front.again(), shown.base.again(), serial))
+    }
+
+    /// Takes an event, and publishes the table. Between the two it passes the gate.
+    pub fn submit<R: Wait, G: Gate>(
+        self,
+        rt: &R,
+        event: Event,
+        gate: &G,
+        worker: usize,
+        place: usize,
+    ) -> (EngineState, Result<Answer, Refused>)
+        ensures name { result.0.name ≡ self.name }
+        ensures journal { IsListAfter self event result.1 result.0 }
+        ensures answer { MatchResult result.1 (Answers self.name event) (Refusals self.name event) }
+        ensures told { IfErr result.1 (λ r. IsTokenOfAll result.0 r.told) }
+        ensures grows { IsPrefix self.published result.0.published }
+        ensures gate { IfOk result.1 (λ _. G.passed gate.now worker place) }
+    {
+        let EngineState {
+            alloc,
+            mut core,
+            history,
+            rolled,
+            writer,
+            stale,
+        } = self;
+        match core.apply(event) {
+            Ok(reply) => {
+                gate.inside(worker, place);
+                let whole = is_whole(stale, reply.state);
+                let engine_state = publish(rt, alloc, core, history, rolled, writer, whole);
+                let told = engine_state.told(reply.serial);
+                (engine_state, Ok(answer(reply, told)))
+            }
+            Err(refusal) => {
+                let engine_state = EngineState {
+                    alloc,
+                    core,
+                    history,
+                    rolled,
+                    writer,
+                    stale,
+                };
+                let told = engine_state.told(engine_state.core.serial());
+                (engine_state, Err(Refused { refusal, told }))
+            }
+        }
+    }
+
+    // Builds and publishes what is behind. The answer is the core's.
+    fn follow_up<R: Wait>(self, rt: &R) -> (EngineState, Status)
+        ensures same { (result.0.name ≡ self.name) × (result.0.list ≡ self.list) }
+        ensures state { CatchesUp self result.1 result.0 }
+        ensures grows { IsPrefix self.published result.0.published }
+    {
+        if !self.stale {
+            return (self, Status::Current);
+        }
+        let EngineState {
+            alloc,
+            mut core,
+            history,
+            rolled,
+            writer,
+            stale: _,
+        } = self;
+        let state = core.catch_up();
+        let engine_state = publish_whole(rt, alloc, core, history, rolled, writer);
+        (engine_state, state)
+    }
+
+    /// Builds and publishes what is behind. The answer is what the core's `catch_up` answered, and the token of the whole
+    /// journal, if its table is published.
+    pub fn catch_up<R: Wait>(self, rt: &R) -> (EngineState, Status, Option<Told>)
+        ensures same { (result.0.name ≡ self.name) × (result.0.list ≡ self.list) }
+        ensures state { CatchesUp self result.1 result.0 }
+        ensures told { IfSome result.2 (λ t. (t.name ≡ self.name) × (t.list ≡ self.list)) }
+        ensures none { IfNone result.2 (¬ (length result.0.list ≡ length result.0.published)) }
+        ensures grows { IsPrefix self.published result.0.published }
+    {
+        let (engine_state, state) = self.follow_up(rt);
+        let told = engine_state.told(engine_state.core.serial());
+        (engine_state, state, told)
+    }
+
+    /// A copy of what is due in an area.
+    pub fn due(&self, area: u32) -> Result<DueList, Refusal>
+        ensures due { IfOk result (IsDueListOf self.now.name area) }
+        ensures built { IfOk result (λ d. d.serial ≡ built_serial self.now) }
+        ensures told { IfOk result (λ d. IsTokenAt self.now d.serial d.told) }
+        ensures area { IsForArea self.now.name.base.config area result }
+        ensures refused { IfErr result (λ e. (e ≡ NoArea) ⊎ (e ≡ NoMemory)) }
+    {
+        let Some(due) = self.core.due(area) else {
+            return Err(Refusal::NoArea);
+        };
+        let Ok(list) = Vec::from_slice(self.alloc, due) else {
+            return Err(Refusal::Memory);
+        };
+        let serial = self.core.built();
+        let told = self.told(serial);
+        Ok(DueList { serial, list, told })
+    }
+
+    /// Begins with this core, whose journal is empty, and with room for so many readers.
+    pub fn open<R: Wait>(
+        rt: &R,
+        alloc: Global,
+        core: Core,
+        readers: usize,
+    ) -> Result<EngineState, Memory>
+        requires readers { AreReaders readers }
+        requires journal { core.journal ≡ [] }
+        requires limits { core.limits ≡ standard_limits }
+        ensures { IfOk result (IsOpenedOver core) }
+    {
+        let mut history = History::open();
+        let rolled = history.front();
+        let opening = OpeningBase::of(core.base());
+        let first = Shown::of(alloc, core.table(), &history.front(), &opening)?;
+        let second = Shown::of(alloc, core.table(), &history.front(), &opening)?;
+        let writer = ShownWriter::new(alloc, first, second, readers)?;
+        let (writer, done) = show(rt, alloc, writer, core.table(), &mut history);
+        if !done {
+            drop(writer.take(rt));
+            return Err(Memory);
+        }
+        Ok(EngineState {
+            alloc,
+            core,
+            history,
+            rolled,
+            writer,
+            stale: false,
+        })
+    }
+
+    /// Makes the state as it is the base of the core, and empties its journal; what is published stays. The answer is the
+    /// serial, which goes on. Refused are, with 37, a published table that is behind, and want of memory; then everything
+    /// is as it was.
+    pub fn roll(self) -> (EngineState, Result<u64, Refusal>)
+        ensures same { IsAsBefore self result.0 }
+        ensures legal { IfOk result.1 (λ _. IsLegal self.name.base self.list) }
+        ensures serial { IfOk result.1 (λ serial. serial ≡ last_serial self) }
+        ensures current { OnOk result.1 (self.published ≡ self.list) }
+        ensures refused { IfErr result.1 (IsRollRefusal self) }
+    {
+        if self.stale {
+            return (self, Err(Refusal::NotCurrent));
+        }
+        let EngineState {
+            alloc,
+            mut core,
+            history,
+            rolled,
+            writer,
+            stale,
+        } = self;
+        match core.roll() {
+            Ok(serial) => {
+                // proof: what holds of every core.
+                let _ = core.base();
+                let rolled = history.front();
+                let engine_state = EngineState {
+                    alloc,
+                    core,
+                    history,
+                    rolled,
+                    writer,
+                    stale,
+                };
+                (engine_state, Ok(serial))
+            }
+            Err(refusal) => {
+                let engine_state = EngineState {
+                    alloc,
+                    core,
+                    history,
+                    rolled,
+                    writer,
+                    stale,
+                };
+                (engine_state, Err(refusal))
+            }
+        }
+    }
+
+    /// A forwarder that knows what is published.
+    pub fn forwarder(&mut self) -> Result<Forwarder, AllocError>
+        ensures same { self.new ≡ self.old }
+        ensures forwarder { IfOk result (KnowsPublished self.old) }
+    {
+        let mut reader = self.writer.factory().reader()?;
+        reader.learn::<TellsName>(self.writer.tell::<TellsName>());
+        let shown = self.writer.published();
+        Ok(Forwarder::of(reader, shown.front.again(), shown.base.again()))
+    }
+
+    /// The name, to be kept beside the lock.
+    pub fn tag(&self) -> EngineName
+        ensures { result ≡ self.now.name }
+    {
+        let shown = self.writer.published();
+        EngineName::of(&shown.front, &shown.base)
+    }
+
+    /// Waits for the readers, and gives the core back.
+    pub fn end<R: Wait>(self, rt: &R) -> Core
+        ensures core { IsCore result }
+        ensures limits { result.limits ≡ standard_limits }
+        ensures list { IsSplitInto self result }
+    {
+        let EngineState {
+            alloc: _,
+            core,
+            history: _author,
+            rolled: _rolled,
+            writer,
+            stale: _,
+        } = self;
+        drop(writer.take(rt));
+        core
+    }
+}
+
+// Whether the next publication is that of a whole table.
+fn is_whole(stale: bool, state: Status) -> bool
+    ensures { result ≡ false → (stale ≡ false) × (state ≡ Current) }
+{
+    stale || state == Status::Behind
+}
+
+// The reply that is due with a token, or without one.
+fn answer(reply: Reply, told: Option<Told>) -> Answer
+    ensures same { IsReplyWith reply told result }
+    ensures state { MatchOption told (result.reply.state ≡ Behind)
+        (λ _. result.reply.state ≡ Current) }
+{
+    let state = if told.is_some() {
+        Status::Current
+    } else {
+        Status::Behind
+    };
+    Answer {
+        reply: Reply { state, ..reply },
+        told,
+    }
+}

@@ -1,8 +1,0 @@
--- So far what is grouped by those up to here is led to.
-use Rattle.std.proofs.Common.{take}
-use Rattle.offer_index.specs.declared.group.Group.TheVariants.{Forwarded}
-use Rattle.external.specs.Renewing.{AreLed}
-use Rattle.external.proofs.renew.push_forwarded.Given as goal
-
-abbrev pub invariant-loop-address : goal.invariant-loop-address
-invariant-loop-address l = AreLed l.index Forwarded (take l.address-index l.addresses) l.initial.dests.items l.dests.items

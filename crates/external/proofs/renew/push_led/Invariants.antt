@@ -1,7 +1,0 @@
--- So far the networks among the destinations up to here are there that something leads to.
-use Rattle.std.proofs.Common.{take}
-use Rattle.external.specs.Renewing.{AreNetworksLed}
-use Rattle.external.proofs.renew.push_led.Given as goal
-
-abbrev pub invariant-loop-dest : goal.invariant-loop-dest
-invariant-loop-dest l = AreNetworksLed l.index (take l.dest-index l.dests) l.initial.leading.items l.leading.items

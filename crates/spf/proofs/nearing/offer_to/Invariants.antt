@@ -1,7 +1,0 @@
-use Rattle.std.proofs.Common.{take}
-use Rattle.std.specs.FinMap.{get}
-use Rattle.spf.specs.Offers.{OverReached, AreMade}
-use Rattle.spf.proofs.nearing.offer_to.Given as goal
-
-abbrev pub invariant-loop-link : goal.invariant-loop-link
-invariant-loop-link l = AreMade (OverReached l.root (get l.distances) (take l.link-index l.links)) (get l.distances) (get l.initial.queue) (get l.queue) l.initial.stale l.stale

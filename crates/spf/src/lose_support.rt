@@ -1,0 +1,290 @@
+//! The first part of a repair: which vertices lose their distance, since the links that went took all
+//! that supported it. A full calculation has no such step: 16.1 (1) begins it with the root only.
+ghost use Rattle.std.specs.Prelude.{◌≡◌, ◌↔◌, ◌<◌, [], IsTrue, IfSome, IfNone, IfOk, OnOk, Contains, length};
+ghost use Rattle.std.specs.FinMap as map;
+ghost use Rattle.tree_parts.specs.Maps.{most_distance};
+ghost use Rattle.spf.specs.Parts.{AreBefore, AreLostBy};
+ghost use Rattle.spf.specs.Suspects.{AreHeadsBeyondTold, AreHeadsTold, AreToldIn, AreWithin, IsJudgedIn, MaySupport, NoneSupports, SomeSupports, Supports, TellsSupport, WasLeast};
+
+use crate::relax::Pending;
+use crate::workspace::MOST_KEPT;
+use ospf_types::entry::Vertex;
+use ospf_types::memory::Memory;
+use std::alloc::Global;
+use tree_parts::{Distances, Members};
+use vertex_graph::{Graph, Link, LinkChanges};
+use vertex_map::{Placed, VertexMap};
+use word_hash::WordHash;
+
+/// Finds what is lost by the links that went.
+pub(crate) fn lose_support(
+    graph: &Graph,
+    changes: &LinkChanges,
+    distances: &Distances,
+    search: &mut Search,
+) -> Result<(), Memory>
+    requires { AreBefore graph.now changes.now.gone.items changes.now.came.items distances.now }
+    ensures { OnOk result (AreLostBy graph.now changes.now.gone.items changes.now.came.items
+        distances.now search.new) }
+{
+    search.clear(MOST_KEPT);
+    search.suspect_heads(changes.gone.as_slice(), graph.root(), distances)?;
+    while let Some(suspect) = search.suspects.pop() {
+        search.judge(graph, distances, &suspect)?;
+    }
+    Ok(())
+}
+
+/// What is found while vertices are suspected to have lost all that supported them: those that lose their distance, and
+/// those that are looked at again. It is kept for its memory.
+pub(crate) struct Search {
+    pub(crate) lost: Members,
+    pub(crate) pending: Pending,
+    suspects: Members,
+    // At which of the links into a vertex a search for support stopped, if it passed over many.
+    stops: VertexMap<usize>,
+}
+
+// proof: one call drops it, in place of a drop of each part wherever one is held.
+impl Drop for Search {
+    fn drop(self) {
+        let Search {
+            lost: _lost,
+            pending: _pending,
+            suspects: _suspects,
+            stops: _stops,
+        } = self;
+    }
+}
+
+impl Search {
+    pub(crate) fn new(alloc: Global, hashing: WordHash) -> Search
+        ensures lost { result.lost ≡ [] }
+        ensures stale { result.pending.stale ≡ [] }
+        ensures suspects { result.suspects ≡ [] }
+    {
+        Search {
+            lost: Members::new(alloc, hashing),
+            pending: Pending::new(alloc, hashing),
+            suspects: Members::new(alloc, hashing),
+            stops: VertexMap::new(alloc, hashing),
+        }
+    }
+
+    /// Gives back the memory of what was found, but not that of the queue.
+    pub(crate) fn give_back(&mut self, alloc: Global, hashing: WordHash) {
+        self.lost = Members::new(alloc, hashing);
+        self.pending.stale = Members::new(alloc, hashing);
+        self.suspects = Members::new(alloc, hashing);
+        self.stops = VertexMap::new(alloc, hashing);
+    }
+
+    // Takes out what the last search found. No more marks stay than so many.
+    fn clear(&mut self, most: usize)
+        ensures lost { self.new.lost ≡ [] }
+        ensures stale { self.new.pending.stale ≡ [] }
+        ensures suspects { self.new.suspects ≡ [] }
+    {
+        self.lost.clear(most);
+        self.pending.stale.clear(most);
+        self.suspects.clear(most);
+        self.stops.clear();
+    }
+
+    // Suspects the heads of the least links among those that went.
+    fn suspect_heads(
+        &mut self,
+        gone: &[Link],
+        root: u32,
+        distances: &Distances,
+    ) -> Result<(), Memory>
+        requires within { AreWithin self.old.lost self.old.suspects self.old.pending.stale }
+        ensures told { OnOk result (AreHeadsTold root distances.now gone.now self.old self.new) }
+        ensures lost { OnOk result (self.new.lost ≡ self.old.lost) }
+    {
+        for link in gone {
+            if was_least(link, root, distances) {
+                self.suspect(&link.to)?;
+            }
+        }
+        Ok(())
+    }
+
+    // Suspects the heads of the links out of a lost vertex that it might have supported.
+    fn suspect_beyond(
+        &mut self,
+        links: &[Link],
+        root: u32,
+        distances: &Distances,
+        distance: u32,
+    ) -> Result<(), Memory>
+        requires near { distance < most_distance }
+        requires within { AreWithin self.old.lost self.old.suspects self.old.pending.stale }
+        ensures told { OnOk result (AreHeadsBeyondTold root distances.now distance links.now
+            self.old self.new) }
+        ensures lost { OnOk result (self.new.lost ≡ self.old.lost) }
+    {
+        for link in links {
+            if may_support(link, root, distances, distance) {
+                self.suspect(&link.to)?;
+            }
+        }
+        Ok(())
+    }
+
+    // The vertex is stale, and suspected unless it is lost.
+    fn suspect(&mut self, vertex: &Placed) -> Result<(), Memory>
+        requires within { AreWithin self.old.lost self.old.suspects self.old.pending.stale }
+        ensures told { OnOk result (AreToldIn (λ v. vertex.now ≡ v) self.old self.new) }
+        ensures lost { OnOk result (self.new.lost ≡ self.old.lost) }
+    {
+        // One that was not stale is neither lost nor suspected.
+        if self.pending.stale.add(vertex)? {
+            return self.suspects.push(vertex);
+        }
+        if !self.lost.has(vertex) {
+            self.suspects.add(vertex)?;
+        }
+        Ok(())
+    }
+
+    // Finds whether a suspect is lost.
+    fn judge(
+        &mut self,
+        graph: &Graph,
+        distances: &Distances,
+        suspect: &Placed,
+    ) -> Result<(), Memory>
+        requires within { AreWithin self.old.lost self.old.suspects self.old.pending.stale }
+        requires stale { Contains self.old.pending.stale suspect.now }
+        ensures { OnOk result (IsJudgedIn graph.now distances.now self.old self.new suspect.now) }
+    {
+        if self.lost.has(suspect) {
+            return Ok(());
+        }
+        let Some(distance) = distances.get(suspect) else {
+            return Ok(());
+        };
+        let kept = StillReached {
+            distances,
+            lost: &self.lost,
+        };
+        if kept.is_supported(&mut self.stops, graph, suspect, distance)? {
+            return Ok(());
+        }
+        self.lost.push(suspect)?;
+        self.suspect_beyond(
+            graph.links_out_of(suspect),
+            graph.root(),
+            distances,
+            distance,
+        )
+    }
+}
+
+// The vertices that keep their distance: those that were reached and are not lost.
+#[derive(Clone, Copy)]
+struct StillReached<'a> {
+    distances: &'a Distances,
+    lost: &'a Members,
+}
+
+impl StillReached<'_> {
+    // Whether a link into the vertex supports it at its distance. The search goes on where one for the vertex stopped,
+    // if that passed over eight links or more. What that one passed over is read again only before the vertex is lost.
+    fn is_supported(
+        self,
+        stops: &mut VertexMap<usize>,
+        graph: &Graph,
+        vertex: &Placed,
+        distance: u32,
+    ) -> Result<bool, Memory>
+        ensures { IfOk result (TellsSupport graph.now self.entry.distances.now self.entry.lost.now
+            vertex.now distance) }
+    {
+        let links = graph.links_into(vertex);
+        let start = start_of(stops, vertex).min(links.len());
+        let (passed, open) = links.split_at(start);
+        if let Some(place) = self.find_support(open, distance) {
+            note_stop(stops, vertex, start + place, place)?;
+            return Ok(true);
+        }
+        Ok(self.find_support(passed, distance).is_some())
+    }
+
+    // The place of the first link that supports its head at the distance.
+    fn find_support(self, links: &[Link], distance: u32) -> Option<usize>
+        ensures none { IfNone result
+            (NoneSupports self.entry.distances.now self.entry.lost.now distance links.now) }
+        ensures within { IfSome result (λ place. place < length links.now) }
+        ensures found { IfSome result (λ _.
+            SomeSupports self.entry.distances.now self.entry.lost.now distance links.now) }
+    {
+        for (place, link) in links.iter().enumerate() {
+            if self.supports(link, distance) {
+                return Some(place);
+            }
+        }
+        None
+    }
+
+    // Whether the link's tail keeps its distance, and its head is no farther over it than this distance.
+    fn supports(self, link: &Link, distance: u32) -> bool
+        ensures { IsTrue result ↔
+            Supports (map.get self.entry.distances.now) self.entry.lost.now distance link.now }
+    {
+        match self.distances.get(&link.from) {
+            Some(near) => near + u32::from(link.cost) <= distance && !self.lost.has(&link.from),
+            None => false,
+        }
+    }
+}
+
+// Where the search for the vertex's support goes on.
+fn start_of(stops: &VertexMap<usize>, vertex: &Placed) -> usize {
+    if stops.is_empty() {
+        return 0;
+    }
+    stops.get(vertex).copied().unwrap_or(0)
+}
+
+// Notes where a search for support stopped that passed over many links. A few are soon read again, and take no memory.
+fn note_stop(
+    stops: &mut VertexMap<usize>,
+    vertex: &Placed,
+    stop: usize,
+    passed: usize,
+) -> Result<(), Memory> {
+    if passed >= 8 {
+        stops.insert(vertex, stop)?;
+    }
+    Ok(())
+}
+
+// Whether the link is a least one into a vertex other than the root.
+fn was_least(link: &Link, root: u32, distances: &Distances) -> bool
+    ensures { IsTrue result ↔ WasLeast root (map.get distances.now) link.now }
+{
+    if link.to.vertex() == Vertex::Router(root) {
+        return false;
+    }
+    match distances.get(&link.from) {
+        Some(near) => distances.get(&link.to) == Some(near + u32::from(link.cost)),
+        None => false,
+    }
+}
+
+// Whether, over a link whose tail is at the distance, a reached vertex other than the root is no
+// farther than it was.
+fn may_support(link: &Link, root: u32, distances: &Distances, distance: u32) -> bool
+    requires { distance < most_distance }
+    ensures { IsTrue result ↔ MaySupport root (map.get distances.now) distance link.now }
+{
+    if link.to.vertex() == Vertex::Router(root) {
+        return false;
+    }
+    match distances.get(&link.to) {
+        Some(far) => distance + u32::from(link.cost) <= far,
+        None => false,
+    }
+}

@@ -1,0 +1,262 @@
+//! The second part of a repair: the distances after (RFC 2328, 16.1 (2) and (3)), from those that are
+//! kept and the links that came.
+ghost use Rattle.std.specs.Prelude.{◌≡◌, ◌↔◌, ◌^◌, ◌<◌, [], OnOk, IfOk, IsTrue, length};
+ghost use Rattle.std.specs.FinMap as map;
+ghost use Rattle.ospf_types.specs.declared.entry.Vertex.TheVariants.{Router as RouterValue};
+ghost use Rattle.vertex_graph.specs.Graphs.{HasRoot};
+ghost use Rattle.vertex_graph.specs.Pairs.{AreCheap};
+ghost use Rattle.tree_parts.specs.Counts.{no_work, with_taken};
+ghost use Rattle.tree_parts.specs.Maps.{most_distance};
+ghost use Rattle.spf.specs.Offers.{AreHeadsAt, AreMadeAt, AreMadeIn, IntoIn, IsCleared, OneOffer, OutOfIn, OverLink, OverLinks, OverReachedIn};
+ghost use Rattle.spf.specs.Parts.{AreLinksOfGraph, AreReadyToRelax, AreReset, IsRelaxed};
+
+use crate::places::is_at_root;
+use ospf_types::entry::Vertex;
+use ospf_types::memory::Memory;
+use std::alloc::Global;
+use tree_parts::{Distances, Members, Touched, VertexList};
+use vertex_graph::{Graph, Link};
+use vertex_map::Placed;
+use vertex_queue::Queue;
+use word_hash::WordHash;
+
+/// The links after: those of the graph, whose root is looked for at its place, and which of them came.
+#[derive(Clone, Copy)]
+pub(crate) struct LinksAfter<'a> {
+    pub(crate) graph: &'a Graph,
+    pub(crate) root: &'a Placed,
+    pub(crate) came: &'a [Link],
+}
+
+/// The vertices that are looked at again: those that wait in the queue, and the stale ones, whose least links changed.
+pub(crate) struct Pending {
+    pub(crate) queue: Queue,
+    pub(crate) stale: Members,
+}
+
+// proof: one call drops it, in place of a drop of each part wherever one is held.
+impl Drop for Pending {
+    fn drop(self) {
+        let Pending {
+            queue: _queue,
+            stale: _stale,
+        } = self;
+    }
+}
+
+impl Pending {
+    pub(crate) fn new(alloc: Global, hashing: WordHash) -> Pending
+        ensures { result.stale ≡ [] }
+    {
+        Pending {
+            queue: Queue::new(alloc, hashing),
+            stale: Members::new(alloc, hashing),
+        }
+    }
+
+    /// Finds the distances after, and the vertices that moved. Vertices whose least links changed by them become stale.
+    pub(crate) fn relax(
+        &mut self,
+        after: LinksAfter<'_>,
+        lost: &Members,
+        distances: &mut Distances,
+        moved: &mut VertexList,
+    ) -> Result<Touched, Memory>
+        requires started { AreReadyToRelax after.graph.now after.came.now distances.old lost.now }
+        requires links { AreLinksOfGraph after.graph.now after.came.now }
+        requires none_wait { self.old.queue ≡ map.empty }
+        ensures relaxed { OnOk result (IsRelaxed after.entry.graph.now after.entry.came.now
+            distances.old distances.new lost.now self.old self.new moved.new) }
+        ensures none_wait { OnOk result (self.new.queue ≡ map.empty) }
+        ensures counted { IfOk result (λ touched.
+            touched ≡ with_taken no_work (length moved.new)) }
+        ensures small { IfOk result (λ touched. touched.taken < 2 ^ 63) }
+    {
+        let graph = after.graph;
+        let mut touched = Touched::none();
+        reset(graph, after.root, lost.as_slice(), distances)?;
+        self.offer_into(graph, lost.as_slice(), distances)?;
+        self.offer_reached(graph.root(), after.came, distances)?;
+        moved.clear();
+        // 16.1 (3): the vertex closest to the root, a network before a router.
+        while let Some((vertex, distance)) = touched.take(&mut self.queue) {
+            self.reach(graph, &vertex, distance, distances)?;
+            moved.push(&vertex)?;
+            prove!(moved.len() < usize::MAX);
+        }
+        Ok(touched)
+    }
+
+    // 16.1 (2): gives the vertex its distance, and offers the heads of its links what they have over it.
+    fn reach(
+        &mut self,
+        graph: &Graph,
+        vertex: &Placed,
+        distance: u32,
+        distances: &mut Distances,
+    ) -> Result<(), Memory>
+        requires { distance < most_distance }
+        ensures set { OnOk result
+            (distances.new ≡ map.insert distances.old vertex.now distance) }
+        ensures made { OnOk result (AreMadeIn (OutOfIn graph.now vertex.now distance)
+            distances.new self.old self.new) }
+    {
+        let links = graph.links_out_of(vertex);
+        distances.set(vertex, distance)?;
+        self.offer_from(graph.root(), links, distance, distances)
+    }
+
+    // Offers these vertices what they have over links from reached ones.
+    fn offer_into(
+        &mut self,
+        graph: &Graph,
+        vertices: &[Placed],
+        distances: &Distances,
+    ) -> Result<(), Memory>
+        ensures { OnOk result (AreMadeIn (IntoIn graph.now distances.now vertices.now)
+            distances.now self.old self.new) }
+    {
+        let root = graph.root();
+        for vertex in vertices {
+            let links = graph.links_into(vertex);
+            let far = distances.get(vertex);
+            self.offer_to(root, links, far, distances)?;
+        }
+        Ok(())
+    }
+
+    // Offers the head of these links, which is this far, what it has over them, where the tails are reached.
+    fn offer_to(
+        &mut self,
+        root: u32,
+        links: &[Link],
+        far: Option<u32>,
+        distances: &Distances,
+    ) -> Result<(), Memory>
+        requires cheap { AreCheap links.now }
+        requires head { AreHeadsAt distances.now links.now far }
+        ensures { OnOk result (AreMadeIn (OverReachedIn root distances.now links.now)
+            distances.now self.old self.new) }
+    {
+        for link in links {
+            if let Some(near) = distances.get(&link.from) {
+                self.offer_over(root, link, near, far)?;
+            }
+        }
+        Ok(())
+    }
+
+    // Offers the heads of links what they have over them, where the tails are reached.
+    fn offer_reached(
+        &mut self,
+        root: u32,
+        links: &[Link],
+        distances: &Distances,
+    ) -> Result<(), Memory>
+        requires { AreCheap links.now }
+        ensures { OnOk result (AreMadeIn (OverReachedIn root distances.now links.now)
+            distances.now self.old self.new) }
+    {
+        for link in links {
+            if let Some(near) = distances.get(&link.from) {
+                let far = distances.get(&link.to);
+                self.offer_over(root, link, near, far)?;
+            }
+        }
+        Ok(())
+    }
+
+    // Offers the heads of links what they have over them, where the tails are all at one distance.
+    fn offer_from(
+        &mut self,
+        root: u32,
+        links: &[Link],
+        near: u32,
+        distances: &Distances,
+    ) -> Result<(), Memory>
+        requires reached { near < most_distance }
+        requires cheap { AreCheap links.now }
+        ensures { OnOk result (AreMadeIn (OverLinks root links.now near)
+            distances.now self.old self.new) }
+    {
+        for link in links {
+            let far = distances.get(&link.to);
+            self.offer_over(root, link, near, far)?;
+        }
+        Ok(())
+    }
+
+    // Offers the head of a link, which is this far, what it has over it, unless that is the root.
+    fn offer_over(
+        &mut self,
+        root: u32,
+        link: &Link,
+        near: u32,
+        far: Option<u32>,
+    ) -> Result<(), Memory>
+        requires reached { near < most_distance }
+        requires cheap { link.now.cost < 65536 }
+        ensures { OnOk result (AreMadeAt (OverLink root link.now near) link.now.to far
+            self.old self.new) }
+    {
+        if is_at_root(root, &link.to) {
+            return Ok(());
+        }
+        // 16.1 (2d): the cost of the path to the tail, and the cost of the link.
+        self.offer(&link.to, near + u32::from(link.cost), far)
+    }
+
+    // 16.1 (2d): offers a vertex, which is this far, a distance. If that is nearer the vertex is queued; if it is as
+    // near, the vertex is stale.
+    fn offer(&mut self, vertex: &Placed, distance: u32, far: Option<u32>) -> Result<(), Memory>
+        ensures { OnOk result (AreMadeAt (OneOffer vertex.now distance) vertex.now far
+            self.old self.new) }
+    {
+        let Some(least) = far else {
+            return self.queue.put(vertex, distance);
+        };
+        if distance < least {
+            return self.queue.put(vertex, distance);
+        }
+        if distance == least {
+            self.stale.add(vertex)?;
+        }
+        Ok(())
+    }
+}
+
+// The distances from which those after are sought: none of what is lost, and of the root by whether it
+// is a vertex.
+fn reset(
+    graph: &Graph,
+    place: &Placed,
+    lost: &[Placed],
+    distances: &mut Distances,
+) -> Result<(), Memory>
+    ensures { OnOk result (AreReset graph.now distances.old lost.now distances.new) }
+{
+    clear(lost, distances);
+    let root = place.with_vertex(Vertex::Router(graph.root()));
+    if has_root(graph, &root) {
+        distances.set(&root, 0)?;
+    } else {
+        distances.remove(&root);
+    }
+    Ok(())
+}
+
+// Whether the root is a vertex. It is one where links lead out of it, and they are found at its place.
+fn has_root(graph: &Graph, root: &Placed) -> bool
+    requires { root.now ≡ RouterValue graph.now.root }
+    ensures { IsTrue result ↔ HasRoot graph.now }
+{
+    !graph.links_out_of(root).is_empty() || graph.has_root()
+}
+
+fn clear(lost: &[Placed], distances: &mut Distances)
+    ensures { IsCleared (map.get distances.old) lost.now (map.get distances.new) }
+{
+    for vertex in lost {
+        distances.remove(vertex);
+    }
+}

@@ -1,6 +1,0 @@
--- The prefix is that of an active range where one that is still to come has a network.
-use Rattle.summaries.proofs.Activity.{AreLeft}
-use Rattle.summaries.proofs.active.ActiveRanges.contains.Given as goal
-
-abbrev pub invariant-loop-range : goal.invariant-loop-range
-invariant-loop-range l = AreLeft l.self l.prefix l.range-iterator

@@ -1,6 +1,0 @@
--- So far the prefixes of ranges up to here are listed.
-use Rattle.summaries.proofs.Activity.{AreListed}
-use Rattle.summaries.proofs.active.ActiveRanges.prefixes.Given as goal
-
-abbrev pub invariant-loop-range : goal.invariant-loop-range
-invariant-loop-range l = AreListed l.initial.range-iterator l.prefixes.items l.range-iterator

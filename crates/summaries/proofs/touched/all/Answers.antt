@@ -1,0 +1,37 @@
+-- Each part stays as the next ones are added.
+use Rattle.std.proofs.Common.{◌≡◌, List, ℕ, subst, refl, inl, inr}
+use Rattle.std.specs.Prelude.{◌↔◌, Contains, IsSome}
+use Rattle.std.specs.FinMap.{get}
+use Rattle.ospf_types.specs.declared.key.Dest.{Dest}
+use Rattle.ospf_types.specs.declared.key.Dest.TheVariants.{Net, Router}
+use Rattle.ospf_types.specs.declared.prefix.Prefix.{Prefix}
+use Rattle.active_ranges.specs.Active.{IsActiveIn}
+use Rattle.summaries.specs.Inputs.{SummaryInputsValue}
+use Rattle.summaries.specs.Touched.{HasAlso, IsNetOf, IsRouterOf}
+use Rattle.summaries.proofs.Adding.{also_one, all_due}
+use Rattle.summaries.proofs.touched.all.Goals as goal
+
+pub returns : goal.returns
+returns c =
+    let v = c.args.inputs.now in
+    let told = c.inputs.view_is in
+    let first = c.in_ok-dests.dests.items in
+    let second = c.push_networks.new.dests.items in
+    let third = c.push_networks-2.new.dests.items in
+    let fourth = c.push_routers.new.dests.items in
+    let last = c.push.new.self.items in
+    let networks = c.in_ok-networks.field-0.items in
+    let prefixes = c.in_ok-prefixes.field-0.items in
+    let routers = c.in_ok-routers.field-0.items in
+    let default = Net c.default_network.result in
+    let one : HasAlso (IsNetOf networks) first second = subst (λ (ps : List Prefix). HasAlso (IsNetOf ps) first second) c.deref.ensures.value c.in_ok-push_networks.ensures in
+    let two : HasAlso (IsNetOf prefixes) second third = subst (λ (ps : List Prefix). HasAlso (IsNetOf ps) second third) c.deref-2.ensures.value c.in_ok-push_networks-2.ensures in
+    let three : HasAlso (IsRouterOf routers) third fourth = subst (λ (rs : List ℕ). HasAlso (IsRouterOf rs) third fourth) c.deref-3.ensures.value c.in_ok-push_routers.ensures in
+    let four : HasAlso (λ d. d ≡ default) fourth last = also_one (λ (d : Dest). d ≡ default) fourth last default c.in_ok-push.ensures.items (λ d is. is) in
+    let after_second : (d : Dest) → Contains second d → Contains last d = λ d there. four d (inl (three d (inl (two d (inl there))))) in
+    all_due v last
+    (λ d is. after_second d (one d (inl ((subst (λ (w : SummaryInputsValue). Contains first d ↔ IsSome (get w.inter.entries d)) told (c.in_ok-dests.ensures.exact d)).1 is))))
+    (λ p is. after_second (Net p) (one (Net p) (inr (p, (subst (λ (w : SummaryInputsValue). Contains networks p ↔ IsSome (get w.intra.entries p)) told (c.in_ok-networks.ensures.exact p)).1 is, refl))))
+    (λ p is. four (Net p) (inl (three (Net p) (inl (two (Net p) (inr (p, (subst (λ (w : SummaryInputsValue). Contains prefixes p ↔ IsActiveIn w.ranges p) told (c.in_ok-prefixes.ensures.exact p)).1 is, refl)))))))
+    (λ r is. four (Router r) (inl (three (Router r) (inr (r, (subst (λ (w : SummaryInputsValue). Contains routers r ↔ IsSome (get w.external.preferred r)) told (c.in_ok-routers.ensures.exact r)).1 is, refl)))))
+    (subst (λ (p : Prefix). Contains last (Net p)) c.default_network.ensures (four default (inr refl)))

@@ -1,0 +1,94 @@
+-- What gives a summary for a destination, whichever the area.
+use Rattle.std.specs.Prelude.{ℕ, ◌≡◌, ◌≢◌, ◌↔◌, ◌<◌, ◌≤◌, ◌⊎◌, Bool, IsTrue, List, Contains, Option, Some, None, map, length, if◌then◌else◌, ◌==◌}
+use Rattle.std.specs.FinMap.{get}
+use Rattle.ospf_types.specs.declared.config.AreaConfig.{AreaConfig}
+use Rattle.ospf_types.specs.declared.entry.Entry.{Entry}
+use Rattle.ospf_types.specs.declared.key.Dest.{Dest}
+use Rattle.ospf_types.specs.declared.key.Dest.TheVariants.{Net, Router}
+use Rattle.ospf_types.specs.declared.prefix.Prefix.{Prefix}
+use Rattle.ospf_types.specs.Inter.{LSInfinity}
+use Rattle.ospf_types.specs.Summaries.{IsGreatest}
+use Rattle.external.specs.Preferred.{PreferredValue}
+use Rattle.summaries.specs.declared.giving.Candidate.{Candidate}
+use Rattle.summaries.specs.declared.giving.Given.{Given}
+use Rattle.summaries.specs.declared.giving.Through.{Through}
+use Rattle.summaries.specs.Inputs.{SummaryInputsValue}
+use Rattle.summaries.specs.Giving.{Advertises, GivesIn, IsComponentIn, IsDueIn, IsMost, IsNetworkDueIn, IsOutside, IsServed, PreferredGives}
+
+-- it is the one that has the property; none where nothing has it
+abbrev pub IsOnly : {A : Type 0} → (A → Type 0) → Option A → Type 0
+IsOnly {A} P result = (x : A) → (result ≡ Some x) ↔ P x
+
+-- there is an entry, which leads through this area at this finite cost
+abbrev pub LeadsThrough : Option Entry → Through → Type 0
+LeadsThrough entry t = (e : Entry) × (entry ≡ Some e) × (e.area ≡ Some t.area) × (e.cost < LSInfinity) × (e.cost ≡ t.cost)
+
+-- the network's intra-area entry, outside the ranges of its area
+abbrev pub IsIntraThrough : SummaryInputsValue → Prefix → Through → Type 0
+IsIntraThrough v p t = LeadsThrough (get v.intra.entries p) t × IsOutside v.areas t.area p
+
+-- the preferred entry of a router
+abbrev pub IsPreferredThrough : Option PreferredValue → Through → Type 0
+IsPreferredThrough o t = (w : PreferredValue) × (o ≡ Some w) × (w.preference.area ≡ t.area) × (w.preference.cost < LSInfinity) × (w.preference.cost ≡ t.cost)
+
+-- the area, at the greatest cost of its advertised range with the prefix
+abbrev pub IsRangeThrough : SummaryInputsValue → AreaConfig → Prefix → Through → Type 0
+IsRangeThrough v a p t = (t.area ≡ a.id) × Advertises a p × IsGreatest (IsComponentIn v a.id p) t.cost
+
+-- ---- the greatest metrics
+
+-- what has the greatest metric counts in other areas than its own, and what comes next in that
+abbrev pub metric_beside : Option Through → Option ℕ → ℕ → Option ℕ
+metric_beside None next area = next
+metric_beside (Some t) next area = if t.area == area then next else Some t.cost
+
+abbrev pub metric_into : Given → ℕ → Option ℕ
+metric_into g area = metric_beside g.most g.next area
+
+-- what comes next is no greater
+abbrev pub IsOrdered : Given → Type 0
+IsOrdered g = (m : ℕ) → g.next ≡ Some m → (t : Through) × (g.most ≡ Some t) × (m ≤ t.cost)
+
+-- it tells what the network is due at in the area, but for what a stub area is sent
+abbrev pub IsNetworkIn : SummaryInputsValue → ℕ → Prefix → Given → Type 0
+IsNetworkIn v area p g = (m : ℕ) → (metric_into g area ≡ Some m) ↔ IsGreatest (GivesIn v area p) m
+
+-- it tells what an AS boundary router with this preferred entry is due at in each area, but for stub areas
+abbrev pub IsRouterIn : Option PreferredValue → Given → Type 0
+IsRouterIn preferred g = (area m : ℕ) → (metric_into g area ≡ Some m) ↔ PreferredGives preferred area m
+
+-- in each area its metric is the greatest of the other's and of what is given besides
+abbrev pub HasMostOf : Given → (ℕ → ℕ → Type 0) → Given → Type 0
+HasMostOf own more g = (area : ℕ) → IsMost (λ n. (metric_into own area ≡ Some n) ⊎ more area n) (metric_into g area)
+
+-- what gives one for the destination
+abbrev pub AreOf : SummaryInputsValue → Dest → Given → Type 0
+AreOf v (Net p) g = (area : ℕ) → IsNetworkIn v area p g
+AreOf v (Router router) g = IsRouterIn (get v.external.preferred router) g
+
+abbrev pub IsCandidate : SummaryInputsValue → Candidate → Type 0
+IsCandidate v c = AreOf v c.dest c.given
+
+-- with fewer than two active areas nothing is due, and nothing is looked up
+abbrev pub IsCandidateOf : SummaryInputsValue → Candidate → Type 0
+IsCandidateOf v c = 1 < length v.active → IsCandidate v c
+
+abbrev pub AreCandidates : SummaryInputsValue → List Candidate → Type 0
+AreCandidates v cs = (c : Candidate) → Contains cs c → IsCandidateOf v c
+
+abbrev pub dests_in : List Candidate → List Dest
+dests_in cs = map (λ (c : Candidate). c.dest) cs
+
+-- the route leads through another area, at this cost
+abbrev pub CostsInto : Option Through → ℕ → ℕ → Type 0
+CostsInto route area m = (t : Through) × (route ≡ Some t) × (t.area ≢ area) × (t.cost ≡ m)
+
+-- ---- the metric in an area
+
+-- by all inputs whose areas are served so, and for which the candidate is right, its destination is due at this metric
+abbrev pub IsMetricOf : AreaConfig → Bool → Candidate → Option ℕ → Type 0
+IsMetricOf a served c metric = (v : SummaryInputsValue) → (IsTrue served ↔ IsServed v.active a.id) → IsCandidateOf v c → (m : ℕ) → (metric ≡ Some m) ↔ IsDueIn v a c.dest m
+
+-- by all inputs for which this is right of the network, it is due at this metric
+abbrev pub IsNetworkMetricOf : AreaConfig → Given → Prefix → Option ℕ → Type 0
+IsNetworkMetricOf a g p metric = (v : SummaryInputsValue) → IsNetworkIn v a.id p g → (m : ℕ) → (metric ≡ Some m) ↔ IsNetworkDueIn v a.id a.stub p m

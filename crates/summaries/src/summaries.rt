@@ -1,0 +1,325 @@
+ghost use Rattle.std.specs.Prelude.{◌≡◌, ◌++◌, length, map as list_map, IfOk, OnOk, option_map};
+ghost use Rattle.std.specs.List.{flat_map};
+ghost use Rattle.std.specs.List.Sorted.{IsStrictlySortedBy};
+ghost use Rattle.ospf_types.specs.Keys.{dest_cmp};
+ghost use Rattle.summary_lists.specs.Lists.{AreInOrder, AreOfKind};
+ghost use Rattle.summaries.specs.Candidates.{AreCandidates, dests_in};
+ghost use Rattle.summaries.specs.DueSummaries.{AreOfInactive, AreSummariesOf, dests_of, list_in, listed, lists_of};
+ghost use Rattle.summaries.specs.Changes.{AddsChange, AreChangesIn, AreEnough, AreEnoughForAll, AreSummariesBehind};
+ghost use Rattle.summaries.specs.Carrying.{AllFit, AllLead, IsReady, IsCarriedOut, MakesSummariesOf};
+ghost use Rattle.summaries.specs.Planning.{ArePlanned, IsPlannedIn};
+ghost use Rattle.summaries.specs.Right.{IsRightWith};
+
+use crate::giving::{Candidate, find_candidate, is_served, metric};
+use crate::inputs::SummaryInputs;
+use crate::touched::{all, ascending, touched};
+use ospf_types::config::AreaConfig;
+use ospf_types::key::Dest;
+use ospf_types::memory::Memory;
+use smallvec::SmallVec;
+use std::alloc::Global;
+use std::marker::Model;
+use summary_lists::{AreaPlan, AreaSummaries, DueSummary, look_up};
+
+/// What is to change in due summaries, with room for it.
+#[derive(Drop)]
+pub struct Plan {
+    // One an area, or none at all where nothing changes.
+    areas: Vec<AreaPlan>,
+    active: SmallVec<u32, 4>,
+}
+
+impl Model for Plan {
+    ghost use Rattle.std.specs.Coded.{codes};
+    ghost use Rattle.summary_lists.specs.contracts.plan.AreaPlan as area_plan;
+    ghost use Rattle.summaries.specs.Carrying.{PlanValue};
+
+    ghost Value = { PlanValue };
+
+    ghost coded = { Prim.hlevel (codes, area_plan.the_row.coded) };
+
+    ghost view = { λ p. record { areas = p.areas.items; active = p.active.items } };
+}
+
+/// The summaries that an area border router is to send into its areas (RFC 2328, 12.4.3).
+pub struct DueSummaries {
+    areas: Vec<AreaSummaries>,
+    active: SmallVec<u32, 4>,
+    // What a plan looks up; kept for its memory.
+    candidates: Vec<Candidate>,
+}
+
+// proof: one call drops it, in place of a drop of each part wherever one is held.
+impl Drop for DueSummaries {
+    fn drop(self) {
+        let DueSummaries {
+            areas: _areas,
+            active: _active,
+            candidates: _candidates,
+        } = self;
+    }
+}
+
+impl Model for DueSummaries {
+    ghost use Rattle.std.specs.Coded.{codes};
+    ghost use Rattle.summary_lists.specs.contracts.list.AreaSummaries as area_summaries;
+    ghost use Rattle.summaries.specs.DueSummaries.{DueSummariesValue};
+
+    ghost Value = { DueSummariesValue };
+
+    ghost coded = { Prim.hlevel (codes, area_summaries.the_row.coded) };
+
+    ghost view = { λ d. record { areas = d.areas.items; active = d.active.items } };
+}
+
+impl DueSummaries {
+    /// What is due by these inputs, from scratch.
+    pub fn build(alloc: Global, inputs: &SummaryInputs<'_>) -> Result<DueSummaries, Memory>
+        ensures kept { IfOk result (AreSummariesOf inputs.now) }
+        ensures right { IfOk result (IsRightWith inputs.now) }
+    {
+        let mut summaries = DueSummaries::none(alloc, inputs.areas)?;
+        let plan = summaries.plan(alloc, inputs, &[])?;
+        summaries.carry_out(plan);
+        Ok(summaries)
+    }
+
+    /// What is to change where the routes to the named destinations may differ, and one range, if its prefix and the networks
+    /// of its area that it covers are named: the lists stay, and get room for it.
+    pub fn plan(
+        &mut self,
+        alloc: Global,
+        inputs: &SummaryInputs<'_>,
+        dests: &[Dest],
+    ) -> Result<Plan, Memory>
+        requires before { AreSummariesBehind dests.now inputs.now self.old }
+        ensures unchanged { lists_of self.new ≡ lists_of self.old }
+        ensures active { self.new.active ≡ self.old.active }
+        ensures ready { IfOk result (λ plan. IsReady plan self.new) }
+        ensures kept { IfOk result (MakesSummariesOf inputs.now self.new) }
+    {
+        let touched = self.touched(alloc, inputs, dests)?;
+        let active = SmallVec::from_slice(alloc, inputs.active)?;
+        if touched.is_empty() {
+            let areas = Vec::new(alloc);
+            return Ok(Plan { areas, active });
+        }
+        find_candidates(inputs, &touched, &mut self.candidates)?;
+        let areas = plan_areas(alloc, inputs, &mut self.areas, &self.candidates)?;
+        Ok(Plan { areas, active })
+    }
+
+    /// Makes the changes of a plan. It takes no memory.
+    pub fn carry_out(&mut self, plan: Plan)
+        requires { IsReady plan self.old }
+        ensures { IsCarriedOut plan self.old self.new }
+    {
+        let Plan { areas, active } = plan;
+        carry_out_areas(areas, &mut self.areas);
+        self.active = active;
+    }
+
+    /// What is due in each area, in the order of the configuration.
+    pub fn areas(&self) -> &[AreaSummaries]
+        ensures { result.now ≡ self.now.areas }
+    {
+        self.areas.as_slice()
+    }
+
+    /// What is due in the area, ascending by LS type and destination; `None` where no such area is configured.
+    pub fn get(&self, area: u32) -> Option<&[DueSummary]>
+        ensures { option_map (λ list. list.now) result ≡ list_in self.now.areas area }
+    {
+        for summaries in &self.areas {
+            if summaries.area() == area {
+                return Some(summaries.as_slice());
+            }
+        }
+        None
+    }
+}
+
+impl DueSummaries {
+    // Nothing is due in any area.
+    fn none(alloc: Global, areas: &[AreaConfig]) -> Result<DueSummaries, Memory>
+        ensures { IfOk result (AreOfInactive areas.now) }
+    {
+        let mut lists = Vec::with_capacity(alloc, areas.len())?;
+        for area in areas {
+            lists.push(AreaSummaries::none(alloc, area.id))?;
+        }
+        Ok(DueSummaries {
+            areas: lists,
+            active: SmallVec::new(alloc),
+            candidates: Vec::new(alloc),
+        })
+    }
+
+    // The destinations whose summaries may differ, ascending, each once: all where other areas are active than before.
+    fn touched(
+        &self,
+        alloc: Global,
+        inputs: &SummaryInputs<'_>,
+        dests: &[Dest],
+    ) -> Result<Vec<Dest>, Memory>
+        ensures in_order { IfOk result (λ found. IsStrictlySortedBy dest_cmp found.items) }
+        ensures enough { IfOk result
+            (λ found. AreEnough dests.now inputs.now self.now found.items) }
+    {
+        let are_same = self.active.as_slice() == inputs.active;
+        if !are_same {
+            return self.all(alloc, inputs);
+        }
+        // 12.4.3: only an area border router sends summaries.
+        if inputs.active.len() < 2 {
+            return Ok(Vec::new(alloc));
+        }
+        touched(alloc, inputs.areas, dests)
+    }
+
+    // All destinations that are due or may be, ascending, each once.
+    fn all(&self, alloc: Global, inputs: &SummaryInputs<'_>) -> Result<Vec<Dest>, Memory>
+        ensures in_order { IfOk result (λ found. IsStrictlySortedBy dest_cmp found.items) }
+        ensures enough { IfOk result (λ found. AreEnoughForAll inputs.now self.now found.items) }
+    {
+        let mut found = all(alloc, inputs)?;
+        self.push_own(&mut found)?;
+        ascending(found)
+    }
+
+    // Adds what is due in an area.
+    fn push_own(&self, dests: &mut Vec<Dest>) -> Result<(), Memory>
+        ensures { OnOk result
+            (dests.new.items ≡ dests.old.items ++ flat_map dests_of self.now.areas) }
+    {
+        for summaries in &self.areas {
+            push_dests(summaries.as_slice(), dests)?;
+        }
+        Ok(())
+    }
+}
+
+// Adds the destinations.
+fn push_dests(list: &[DueSummary], dests: &mut Vec<Dest>) -> Result<(), Memory>
+    ensures { OnOk result
+        (dests.new.items ≡ dests.old.items ++ list_map (λ due. due.dest) list.now) }
+{
+    for due in list {
+        dests.push(due.dest)?;
+    }
+    Ok(())
+}
+
+// The destinations, each with what may give a summary for it, in the place of those that were found before.
+fn find_candidates(
+    inputs: &SummaryInputs<'_>,
+    dests: &[Dest],
+    found: &mut Vec<Candidate>,
+) -> Result<(), Memory>
+    ensures dests { OnOk result (dests_in found.new.items ≡ dests.now) }
+    ensures right { OnOk result (AreCandidates inputs.now found.new.items) }
+{
+    found.clear();
+    for dest in dests {
+        found.push(find_candidate(inputs, *dest))?;
+    }
+    Ok(())
+}
+
+// What is to change in each of the lists, to these destinations.
+fn plan_areas(
+    alloc: Global,
+    inputs: &SummaryInputs<'_>,
+    lists: &mut [AreaSummaries],
+    candidates: &[Candidate],
+) -> Result<Vec<AreaPlan>, Memory>
+    requires long { length lists.old ≡ length inputs.now.areas }
+    requires right { AreCandidates inputs.now candidates.now }
+    requires in_order { IsStrictlySortedBy dest_cmp (dests_in candidates.now) }
+    ensures same { listed lists.new ≡ listed lists.old }
+    ensures planned { IfOk result (λ plans. ArePlanned inputs.now (dests_in candidates.now)
+        inputs.now.areas lists.old lists.new plans.items) }
+{
+    let mut plans = Vec::with_capacity(alloc, lists.len())?;
+    for (place, area) in inputs.areas.iter().enumerate() {
+        let summaries = &mut lists[place];
+        let plan = plan_area(alloc, inputs, area, summaries, candidates)?;
+        plans.push(plan)?;
+    }
+    Ok(plans)
+}
+
+// Plans one area.
+fn plan_area(
+    alloc: Global,
+    inputs: &SummaryInputs<'_>,
+    area: &AreaConfig,
+    summaries: &mut AreaSummaries,
+    candidates: &[Candidate],
+) -> Result<AreaPlan, Memory>
+    requires right { AreCandidates inputs.now candidates.now }
+    requires in_order { IsStrictlySortedBy dest_cmp (dests_in candidates.now) }
+    ensures area { summaries.new.area ≡ summaries.old.area }
+    ensures list { summaries.new.list ≡ summaries.old.list }
+    ensures planned { IfOk result (λ plan. IsPlannedIn inputs.now (dests_in candidates.now)
+        area.now summaries.old summaries.new plan) }
+{
+    let (metrics, moves) = changes(alloc, inputs, area, summaries.as_slice(), candidates)?;
+    let plan = AreaPlan::of(alloc, metrics, moves, summaries)?;
+    Ok(plan)
+}
+
+// Makes the changes, each in its list. It takes no memory.
+fn carry_out_areas(plans: Vec<AreaPlan>, lists: &mut [AreaSummaries])
+    requires { AllFit plans.items lists.old }
+    ensures { AllLead plans.items lists.old lists.new }
+{
+    for (place, plan) in plans.into_iter().enumerate() {
+        plan.carry_out(&mut lists[place]);
+    }
+}
+
+// Of these destinations those that are due at another metric than the list has, with that metric; and whether some of them
+// come to the list or leave it.
+fn changes(
+    alloc: Global,
+    inputs: &SummaryInputs<'_>,
+    area: &AreaConfig,
+    list: &[DueSummary],
+    candidates: &[Candidate],
+) -> Result<(Vec<(Dest, Option<u32>)>, bool), Memory>
+    requires list { AreInOrder list.now }
+    requires kinds { AreOfKind list.now }
+    requires right { AreCandidates inputs.now candidates.now }
+    requires in_order { IsStrictlySortedBy dest_cmp (dests_in candidates.now) }
+    ensures { IfOk result (λ found. AreChangesIn inputs.now area.now list.now
+        (dests_in candidates.now) found.0.items) }
+{
+    let served = is_served(inputs.active, area.id);
+    let mut metrics = Vec::new(alloc);
+    let mut moves = false;
+    let mut rest = list;
+    for candidate in candidates {
+        let (had, after) = look_up(rest, &candidate.dest);
+        let metric = metric(area, served, candidate);
+        moves |= push_change(candidate.dest, metric, had, &mut metrics)?;
+        rest = after;
+    }
+    Ok((metrics, moves))
+}
+
+// Adds the destination at this metric, unless that is the one that it had. The answer is whether it comes or leaves.
+fn push_change(
+    dest: Dest,
+    metric: Option<u32>,
+    had: Option<u32>,
+    metrics: &mut Vec<(Dest, Option<u32>)>,
+) -> Result<bool, Memory>
+    ensures { OnOk result (AddsChange dest metric had metrics.old.items metrics.new.items) }
+{
+    if metric == had {
+        return Ok(false);
+    }
+    metrics.push((dest, metric))?;
+    Ok(metric.is_some() != had.is_some())
+}

@@ -1,0 +1,150 @@
+//! A graph and its tree, which stay together through each change.
+ghost use Rattle.std.specs.Prelude.{◌≡◌, ◌<◌, IfOk, OnOk, OnErr};
+ghost use Rattle.std.specs.FinMap as map;
+ghost use Rattle.vertex_graph.specs.Graphs.{HasEnds, AreApartHanded, AreFewAfter, handed_of};
+ghost use Rattle.test_trees.specs.Changes.{AreTogether, AreChangesOf, AreChangesTo};
+
+use lsa_codec::Checked;
+use ospf_types::entry::Vertex;
+use ospf_types::memory::Memory;
+use spf::{Touched, Tree};
+use std::alloc::Global;
+use std::hash::RandomState;
+use std::marker::Model;
+use vertex_graph::{Graph, LinkChanges, Up};
+
+/// A graph and the tree of its links.
+#[derive(Drop)]
+pub(crate) struct Trial {
+    graph: Graph,
+    tree: Tree,
+}
+
+impl Model for Trial {
+    ghost use Rattle.std.specs.Prelude.{ℕ};
+    ghost use Rattle.test_trees.specs.Changes.{AreTogether};
+
+    ghost Value = { ℕ };
+
+    ghost view = { λ t. t.graph.root };
+
+    ghost invariant = { λ t. AreTogether t.graph t.tree };
+}
+
+impl Trial {
+    /// The trial of a router, with no vertex and no interface.
+    pub(crate) fn new(alloc: Global, root: u32, hashing: RandomState) -> Result<Trial, Memory> {
+        let graph = Graph::new(alloc, root, hashing);
+        let (tree, _) = Tree::build(alloc, &graph, hashing)?;
+        Ok(Trial { graph, tree })
+    }
+
+    pub(crate) fn graph(&self) -> &Graph {
+        &self.graph
+    }
+
+    pub(crate) fn tree(&self) -> &Tree {
+        &self.tree
+    }
+
+    /// Hands in another LSA of one vertex or of two, or none, and answers the work of the repair. Where the graph is
+    /// refused memory it stays as it was; where the repair is, the tree is spent. A graph of a thousand vertices gets none.
+    pub(crate) fn replace(
+        &mut self,
+        alloc: Global,
+        lsas: &[(Vertex, Option<&Checked>)],
+    ) -> Result<Touched, Memory> {
+        replace(alloc, &mut self.graph, &mut self.tree, lsas)
+    }
+
+    /// Takes these as the interfaces that are up.
+    pub(crate) fn interfaces(&mut self, alloc: Global, ups: &[Up]) -> Result<Touched, Memory> {
+        interfaces(alloc, &mut self.graph, &mut self.tree, ups)
+    }
+}
+
+fn replace(
+    alloc: Global,
+    graph: &mut Graph,
+    tree: &mut Tree,
+    lsas: &[(Vertex, Option<&Checked>)],
+) -> Result<Touched, Memory>
+    requires { AreTogether graph.old tree.old }
+    ensures { AreTogether graph.new tree.new }
+{
+    let changes = hand_in(graph, lsas)?;
+    repair(alloc, graph, tree, &changes)
+}
+
+fn interfaces(
+    alloc: Global,
+    graph: &mut Graph,
+    tree: &mut Tree,
+    ups: &[Up],
+) -> Result<Touched, Memory>
+    requires { AreTogether graph.old tree.old }
+    ensures { AreTogether graph.new tree.new }
+{
+    let changes = put_up(graph, ups)?;
+    repair(alloc, graph, tree, &changes)
+}
+
+/// Hands in LSAs of one or two vertices of a small graph.
+pub(crate) fn hand_in(
+    graph: &mut Graph,
+    lsas: &[(Vertex, Option<&Checked>)],
+) -> Result<LinkChanges, Memory>
+    ensures changes { IfOk result (λ changes. AreChangesOf graph.old graph.new changes.gone.items changes.came.items) }
+    ensures unchanged { OnErr result (graph.new ≡ graph.old) }
+{
+    test_apart(lsas)?;
+    test_size(graph, lsas)?;
+    graph.replace_all(lsas)
+}
+
+fn put_up(graph: &mut Graph, ups: &[Up]) -> Result<LinkChanges, Memory>
+    ensures changes { IfOk result (λ changes. AreChangesOf graph.old graph.new changes.gone.items changes.came.items) }
+    ensures unchanged { OnErr result (graph.new ≡ graph.old) }
+{
+    let _ = graph.root();
+    graph.interfaces(ups)
+}
+
+// Memory for LSAs of one vertex or of two.
+fn test_apart(lsas: &[(Vertex, Option<&Checked>)]) -> Result<(), Memory>
+    ensures { OnOk result (AreApartHanded (handed_of lsas.now)) }
+{
+    match lsas {
+        [_] => Ok(()),
+        [first, second] if first.0 != second.0 => Ok(()),
+        _ => Err(Memory),
+    }
+}
+
+// Memory for a small graph.
+pub(crate) fn test_size(graph: &Graph, lsas: &[(Vertex, Option<&Checked>)]) -> Result<(), Memory>
+    ensures few { OnOk result (AreFewAfter graph.now (handed_of lsas.now)) }
+    ensures ends { OnOk result (HasEnds graph.now) }
+{
+    let _ = graph.root();
+    if graph.len() < 1000 && lsas.len() < 1000 {
+        return Ok(());
+    }
+    Err(Memory)
+}
+
+fn repair(
+    alloc: Global,
+    graph: &Graph,
+    tree: &mut Tree,
+    changes: &LinkChanges,
+) -> Result<Touched, Memory>
+    requires { AreChangesTo graph.now changes.now.gone.items changes.now.came.items tree.old }
+    ensures { AreTogether graph.now tree.new }
+{
+    let _ = graph.root();
+    if tree.spent() {
+        return Err(Memory);
+    }
+    tree.repair(alloc, graph, changes)
+}
