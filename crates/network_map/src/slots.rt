@@ -121,13 +121,13 @@ impl Slots {
         ensures missing { result ≡ None → IsMissing hashing self.now entries.now network }
     {
         let base = base(hashing, self.bits, network);
-        probe(
-            self.numbers.as_slice(),
-            entries,
-            home(hashing, self.bits, network),
+        let home = home(hashing, self.bits, network);
+        let sought = Sought {
+            home,
             base,
             network,
-        )
+        };
+        probe(self.numbers.as_slice(), entries, sought)
     }
 
     // Puts the network's entry, which is at the place, into a free slot. If memory runs out, nothing
@@ -277,26 +277,29 @@ fn number(hashing: WordHash, bits: HomeBits, network: Prefix, place: usize) -> u
     (base(hashing, bits, network) + place) as u32
 }
 
-// The place of the network's entry, found by the numbers from the home on.
-#[inline]
-fn probe<V>(
-    numbers: &[u32],
-    entries: &[(Prefix, V)],
+// The network that a search is for, the slot at which it begins, and the number of an entry at the place 0.
+#[derive(Clone, Copy)]
+struct Sought {
     home: usize,
     base: usize,
     network: Prefix,
-) -> Option<usize>
-    requires { 2 ≤ base }
-    ensures found { IfSome result (λ i. HasNetwork entries.now i network) }
-    ensures missing { result ≡ None → LeadsNowhere numbers.now home base entries.now network }
+}
+
+// The place of the network's entry, found by the numbers from the home on.
+#[inline]
+fn probe<V>(numbers: &[u32], entries: &[(Prefix, V)], sought: Sought) -> Option<usize>
+    requires { 2 ≤ sought.base }
+    ensures found { IfSome result (λ i. HasNetwork entries.now i sought.network) }
+    ensures missing { result ≡ None
+        → LeadsNowhere numbers.now sought.home sought.base entries.now sought.network }
 {
-    let mut slot = home;
+    let mut slot = sought.home;
     while slot < numbers.len() {
         let number = numbers[slot];
         if number == EMPTY {
             return None;
         }
-        if let Some(place) = named(entries, number, base, network) {
+        if let Some(place) = named(entries, number, sought.base, sought.network) {
             return Some(place);
         }
         slot += 1;

@@ -15,7 +15,7 @@ use ospf_types::memory::Memory;
 use std::alloc::Global;
 use std::hash::RandomState;
 use std::marker::Model;
-use tree_parts::differing::{list_differing, remember};
+use tree_parts::differing::{Repaired, remember};
 use tree_parts::{Distances, HopColumns, Touched};
 use vertex_graph::{Graph, LinkChanges};
 use vertex_map::Placed;
@@ -219,15 +219,14 @@ impl Tree {
             &mut self.distances,
             &mut self.hops,
         )?;
-        list_differing(
-            self.workspace.remembered.as_slice(),
-            &self.distances,
-            &self.workspace.search.lost,
-            &self.workspace.moved,
-            &self.workspace.writer.written,
-            &mut self.workspace.listing,
-            &mut self.changed,
-        )?;
+        let repaired = Repaired {
+            remembered: self.workspace.remembered.as_slice(),
+            distances: &self.distances,
+            lost: &self.workspace.search.lost,
+            moved: &self.workspace.moved,
+            written: &self.workspace.writer.written,
+        };
+        repaired.list_differing(&mut self.workspace.listing, &mut self.changed)?;
         Ok(touched)
     }
 

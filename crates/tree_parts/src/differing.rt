@@ -31,26 +31,40 @@ pub fn remember(
     Ok(())
 }
 
-/// Lists the vertices that a repair changed, ascending, each once: those remembered that have another distance now,
-/// those that moved and were not lost, and those whose next hops were written.
-pub fn list_differing(
-    remembered: &[(Placed, Option<u32>)],
-    distances: &Distances,
-    lost: &Members,
-    moved: &VertexList,
-    written: &VertexList,
-    listing: &mut Listing,
-    changed: &mut Vec<Vertex>,
-) -> Result<(), Memory>
-    ensures in_order { OnOk result (IsStrictlySortedBy vertex_cmp changed.new.items) }
-    ensures exact { OnOk result (HasExactly changed.new.items
-        (IsDiffering remembered.now distances.now lost.now moved.now written.now)) }
-{
-    listing.clear();
-    add_all(listing, written.as_slice())?;
-    add_farther(listing, remembered, distances)?;
-    add_nearer(listing, moved.as_slice(), lost)?;
-    listing.list(changed)
+/// What tells which vertices a repair changed, once it is carried out.
+#[derive(Clone, Copy)]
+pub struct Repaired<'a> {
+    /// The root and what was lost, each with its distance before.
+    pub remembered: &'a [(Placed, Option<u32>)],
+    /// The distances now.
+    pub distances: &'a Distances,
+    /// The vertices that had lost their distance.
+    pub lost: &'a Members,
+    /// The vertices that came nearer, and those that got a distance again.
+    pub moved: &'a VertexList,
+    /// The vertices whose next hops were written.
+    pub written: &'a VertexList,
+}
+
+impl<'a> Repaired<'a> {
+    /// Lists the vertices that the repair changed, ascending, each once: those remembered that have another distance
+    /// now, those that moved and were not lost, and those whose next hops were written.
+    pub fn list_differing(
+        self,
+        listing: &mut Listing,
+        changed: &mut Vec<Vertex>,
+    ) -> Result<(), Memory>
+        ensures in_order { OnOk result (IsStrictlySortedBy vertex_cmp changed.new.items) }
+        ensures exact { OnOk result (HasExactly changed.new.items (IsDiffering
+            self.entry.remembered.now self.entry.distances.now
+            self.entry.lost.now self.entry.moved.now self.entry.written.now)) }
+    {
+        listing.clear();
+        add_all(listing, self.written.as_slice())?;
+        add_farther(listing, self.remembered, self.distances)?;
+        add_nearer(listing, self.moved.as_slice(), self.lost)?;
+        listing.list(changed)
+    }
 }
 
 // Adds all of these.

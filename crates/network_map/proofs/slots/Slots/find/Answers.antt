@@ -4,4 +4,4 @@ use Rattle.network_map.proofs.slots.Slots.find.Goals as goal
 
 pub returns-clause-missing : goal.returns-clause-missing
 returns-clause-missing g c = λ none i has placed.
-    c.probe.ensures.missing none i has (placed_as c.as_slice.ensures.value c.home.ensures.value (ap (λ (n : ℕ). n + i) c.base-base.ensures.value) placed)
+    c.probe.ensures.missing none i has (placed_as c.as_slice.ensures.value c.home-home.ensures.value (ap (λ (n : ℕ). n + i) c.base-base.ensures.value) placed)

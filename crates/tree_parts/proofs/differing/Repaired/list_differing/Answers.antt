@@ -3,17 +3,17 @@ use Rattle.std.proofs.lemmas.Result.{on_ok_weaker}
 use Rattle.ospf_types.specs.declared.entry.Vertex.{Vertex}
 use Rattle.tree_parts.specs.Differing.{IsFarther, IsGrown, IsNearer}
 use Rattle.tree_parts.proofs.SortedOnce.{grown_twice}
-use Rattle.tree_parts.proofs.differing.list_differing.Goals as goal
+use Rattle.tree_parts.proofs.differing.Repaired.list_differing.Goals as goal
 
 pub returns-clause-exact : goal.returns-clause-exact
 returns-clause-exact c =
     let once = c.add_farther.new.listing in
     let twice = c.add_nearer.new.listing in
-    let lost = c.args.lost.now in
+    let lost = c.args.self.lost.now in
     on_ok_weaker c.list.result
     (λ same.
-    grown_twice c.args.written.now once twice c.list.new.vertices.items (IsFarther c.args.remembered.now c.args.distances.now) (IsNearer c.args.moved.now lost)
-    (subst (λ (vs : List Vertex). IsGrown once vs (IsFarther c.args.remembered.now c.args.distances.now)) (c.in_ok-add_all.ensures ∙ (λ i. c.clear.ensures i ++ c.as_slice.ensures.value i)) c.in_ok-add_farther.ensures)
+    grown_twice c.args.self.written.now once twice c.list.new.vertices.items (IsFarther c.args.self.remembered.now c.args.self.distances.now) (IsNearer c.args.self.moved.now lost)
+    (subst (λ (vs : List Vertex). IsGrown once vs (IsFarther c.args.self.remembered.now c.args.self.distances.now)) (c.in_ok-add_all.ensures ∙ (λ i. c.clear.ensures i ++ c.as_slice.ensures.value i)) c.in_ok-add_farther.ensures)
     (subst (λ (vs : List Vertex). IsGrown twice once (IsNearer vs lost)) c.as_slice-2.ensures.value c.in_ok-add_nearer.ensures)
     same)
     c.list.ensures.same
