@@ -106,10 +106,10 @@ fn same_back(one: &[Link], other: &[Link]) -> usize
     same
 }
 
-// So many links are compared one by one, where they stand.
+// So many links are a few.
 const FEW: usize = 8;
 
-// Lists copies of the links that are not among others.
+// Lists copies of the links that are not among others. A few others are compared one by one, where they stand.
 fn list_missing(
     alloc: Global,
     has: &[Link],
@@ -122,23 +122,10 @@ fn list_missing(
     if has.is_empty() {
         return Ok(());
     }
-    if others.len() <= FEW {
-        return list_unlike_few(alloc, has, others, links);
+    if others.len() > FEW {
+        let others = by_cost(copies(alloc, others)?);
+        return list_unlike(copies(alloc, has)?, others.as_slice(), links);
     }
-    let others = by_cost(copies(alloc, others)?);
-    list_unlike(copies(alloc, has)?, others.as_slice(), links)
-}
-
-// Lists copies of the links that are not among a few others.
-fn list_unlike_few(
-    alloc: Global,
-    has: &[Link],
-    others: &[Link],
-    links: &mut Vec<Link>,
-) -> Result<(), Memory>
-    ensures missing { OnOk result (AddsUnlike has.now others.now links.old.items links.new.items) }
-    ensures apart { OnOk result (KeepsApartWith has.now links.old.items links.new.items) }
-{
     for link in has {
         list_unless_same(alloc, link, others, links)?;
     }

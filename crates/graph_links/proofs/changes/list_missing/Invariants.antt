@@ -2,7 +2,7 @@
 use Rattle.std.proofs.Common.{◌++◌, drop}
 use Rattle.graph_links.specs.Pairs.{AreApart}
 use Rattle.graph_links.proofs.Taking.{AreMissingUpTo}
-use Rattle.graph_links.proofs.changes.list_unlike_few.Given as goal
+use Rattle.graph_links.proofs.changes.list_missing.Given as goal
 
 abbrev pub invariant-loop-link : goal.invariant-loop-link
 invariant-loop-link l = record {
