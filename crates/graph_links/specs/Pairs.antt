@@ -134,6 +134,10 @@ IsPairLink root ups (Network from) ends (Router to) back cost label =
     Names ends (Router to) × (cost ≡ 0) × Names back (Network from) × ((addresses : List ℕ) × AreDetailsTo (Network from) back addresses × (label ≡ At addresses))
 IsPairLink root ups (Network from) ends (Network to) back cost label = ⊥
 
+-- the pair seen from the other vertex
+abbrev pub turned : Pair → Pair
+turned pair = record { local = pair.local; from = pair.to; to = pair.from }
+
 -- the links from the one vertex to the other are added, where the two have these ends at each other
 abbrev pub AddsBetween : Pair → List Link → List Link → Type 0
 AddsBetween pair old new =

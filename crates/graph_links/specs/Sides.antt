@@ -86,6 +86,10 @@ AddsOut side v w old new = Adds old new (λ (l : Link). IsOutTo (LinksIn side) v
 abbrev pub AddsInto : Side → Vertex → Vertex → List Link → List Link → Type 0
 AddsInto side v w old new = Adds old new (λ (l : Link). IsIntoFrom (LinksIn side) v l w)
 
+-- no link of the row costs more than 16 bits hold, if none did before
+abbrev pub StaysCheap : Row → Row → Type 0
+StaysCheap old new = (AreCheap old.out.items → AreCheap new.out.items) × (AreCheap old.into.items → AreCheap new.into.items)
+
 abbrev pub AreOut : Links → Vertex → List Link → Type 0
 AreOut Link_of v links = (l : Link) → Contains links l ↔ ((l.from ≡ v) × Link_of l.from l.to l.cost l.label)
 

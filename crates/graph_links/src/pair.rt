@@ -1,7 +1,7 @@
 //! The links from one vertex to another.
 ghost use Rattle.std.specs.Prelude.{◌≡◌, ◌<◌, length, OnOk, IsOk, IfOk};
 ghost use Rattle.ospf_types.specs.declared.label.Label.TheVariants.{At};
-ghost use Rattle.graph_links.specs.Pairs.{AddsBetween, AddsBy, AddsOnce, AddsOnto, AddsOver, AddsPlain, AreCheap, KeepsApart, details_of, link_by};
+ghost use Rattle.graph_links.specs.Pairs.{AddsBetween, AddsBy, AddsOnce, AddsOnto, AddsOver, AddsPlain, AreCheap, KeepsApart, details_of, link_by, turned};
 
 use crate::end::End;
 use crate::label::LinkLabel;
@@ -37,6 +37,17 @@ pub(crate) struct Pair<'a> {
 }
 
 impl<'a> Pair<'a> {
+    /// The pair seen from the other vertex.
+    pub(crate) fn turned(self) -> Pair<'a>
+        ensures { result ≡ turned self.entry }
+    {
+        Pair {
+            local: self.local,
+            from: self.to,
+            to: self.from,
+        }
+    }
+
     /// Lists the links from the one vertex to the other, each once.
     pub(crate) fn list_links(&self, alloc: Global, links: &mut Vec<Link>) -> Result<(), Memory>
         ensures listed { OnOk result (AddsBetween self.now links.old.items links.new.items) }

@@ -2,7 +2,7 @@
 ghost use Rattle.std.specs.Prelude.{◌≡◌, OnOk, option_copied, option_map, is_some};
 ghost use Rattle.std.specs.FinMap.{find};
 ghost use Rattle.ospf_types.specs.Vertices.{vertex_cmp};
-ghost use Rattle.graph_links.specs.Pairs.{AreAllAt, AreCheap, KeepsApart};
+ghost use Rattle.graph_links.specs.Pairs.{AreAllAt, KeepsApart};
 ghost use Rattle.graph_links.specs.Sides as sides;
 
 use crate::at_vertex::ends_at;
@@ -163,10 +163,7 @@ impl<'a> Side<'a> {
             self.entry own.entry.vertex to.now row.old.out.items row.new.out.items) }
         ensures into { OnOk result (sides.AddsInto
             self.entry own.entry.vertex to.now row.old.into.items row.new.into.items) }
-        ensures out_cheap { OnOk result
-            (AreCheap row.old.out.items → AreCheap row.new.out.items) }
-        ensures into_cheap { OnOk result
-            (AreCheap row.old.into.items → AreCheap row.new.into.items) }
+        ensures cheap { OnOk result (sides.StaysCheap row.old row.new) }
         ensures out_apart { OnOk result
             (KeepsApart own.entry.vertex to.now row.old.out.items row.new.out.items) }
         ensures into_apart { OnOk result
@@ -189,12 +186,7 @@ impl<'a> Side<'a> {
             to: other,
         };
         there.list_links(alloc, &mut row.out)?;
-        let here = Pair {
-            local: self.local,
-            from: other,
-            to: own,
-        };
-        here.list_links(alloc, &mut row.into)?;
+        there.turned().list_links(alloc, &mut row.into)?;
         Ok(())
     }
 }

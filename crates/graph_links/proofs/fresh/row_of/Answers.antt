@@ -92,8 +92,8 @@ loop-first-preserved c =
       cut = cut_past to ends past c.past_from-past.ensures.split;
       out = walked_more (IsLinkOut L v) (λ (k : Link). k.to) ends to i past out out_new (λ (l : Link). IsOutTo L v l to) names (λ l. (λ h. ((h.0, h.2), h.1), λ h. (h.0.0, h.1, h.0.1))) more_out c.loop-first.invariant.out;
       into = walked_more (IsLinkInto L v) (λ (k : Link). k.from) ends to i past into into_new (λ (l : Link). IsIntoFrom L v l to) names (λ l. (λ h. ((h.1, h.2), h.0), λ h. (h.1, h.0.0, h.0.1))) more_into c.loop-first.invariant.into;
-      out_cheap = listed.out_cheap c.loop-first.invariant.out_cheap;
-      into_cheap = listed.into_cheap c.loop-first.invariant.into_cheap;
+      out_cheap = listed.cheap.0 c.loop-first.invariant.out_cheap;
+      into_cheap = listed.cheap.1 c.loop-first.invariant.into_cheap;
       out_once = out_apart c.loop-first.invariant.out_once (λ l early from at. walked_others (IsLinkOut L v) (λ (k : Link). k.to) ends to i out c.loop-first.invariant.within low c.loop-first.invariant.out l early at);
       into_once = into_apart c.loop-first.invariant.into_once (λ l early from at. walked_others (IsLinkInto L v) (λ (k : Link). k.from) ends to i into c.loop-first.invariant.within low c.loop-first.invariant.into l early from);
     }

@@ -5,7 +5,8 @@ use Rattle.std.proofs.lemmas.Bool.Decides.{nat_tests}
 use Rattle.std.proofs.lemmas.List.{nil_from_length}
 use Rattle.ospf_types.specs.declared.entry.Vertex.{Vertex}
 use Rattle.graph_links.specs.declared.end.End.{End}
-use Rattle.graph_links.specs.Pairs.{AreAllAt, KeepsApart}
+use Rattle.graph_links.specs.declared.pair.Pair.{Pair}
+use Rattle.graph_links.specs.Pairs.{AddsBetween, AreAllAt, KeepsApart}
 use Rattle.graph_links.specs.Sides.{ends_in, ends_or, LinksIn, IsOutTo, IsIntoFrom}
 use Rattle.graph_links.proofs.Linking.{as_listed, none_into, none_out, none_listed, some_at}
 use Rattle.graph_links.proofs.side.Side.list_both.Goals.{In_ok-list_links-2}
@@ -68,11 +69,19 @@ returns-clause-into c =
     let v = c.args.own.vertex in
     let to = c.args.to.now in
     let leading = ends_in side in
+    let listed = subst (λ (p : Pair). AddsBetween p c.args.row.now.into.items c.list_links-2.new.links.items) c.turned.ensures c.in_ok-list_links-2.ensures.listed in
     as_listed side.local.root side.local.interfaces.now leading to v c.vertex.result v (ends_or (leading to)) (ends_or (leading v)) c.args.row.now.into.items c.list_links-2.new.links.items c.vertex.ensures refl refl refl
-    (c.in_ok-list_links-2.ensures.listed (ends_or (leading to)) (ends_or (leading v)) (there c) (own (ends_or (leading v)) c.args.own.ends.now to c.vertex.result c.vertex.ensures c.requires.own))
+    (listed (ends_or (leading to)) (ends_or (leading v)) (there c) (own (ends_or (leading v)) c.args.own.ends.now to c.vertex.result c.vertex.ensures c.requires.own))
 
 pub returns-clause-out_apart : goal.returns-clause-out_apart
 returns-clause-out_apart c = subst (λ (w : Vertex). KeepsApart c.args.own.vertex w c.args.row.now.out.items c.list_links.new.links.items) c.vertex.ensures c.in_ok-list_links.ensures.apart
 
 pub returns-clause-into_apart : goal.returns-clause-into_apart
-returns-clause-into_apart c = subst (λ (w : Vertex). KeepsApart w c.args.own.vertex c.args.row.now.into.items c.list_links-2.new.links.items) c.vertex.ensures c.in_ok-list_links-2.ensures.apart
+returns-clause-into_apart c = subst (λ (w : Vertex). KeepsApart w c.args.own.vertex c.args.row.now.into.items c.list_links-2.new.links.items) c.vertex.ensures
+    (subst (λ (p : Pair). KeepsApart p.from.vertex p.to.vertex c.args.row.now.into.items c.list_links-2.new.links.items) c.turned.ensures c.in_ok-list_links-2.ensures.apart)
+
+pub returns-then-is_empty-clause-cheap : goal.returns-then-is_empty-clause-cheap
+returns-then-is_empty-clause-cheap c = (λ cheap. cheap, λ cheap. cheap)
+
+pub returns-clause-cheap : goal.returns-clause-cheap
+returns-clause-cheap c = (c.in_ok-list_links.ensures.cheap, c.in_ok-list_links-2.ensures.cheap)
