@@ -37,6 +37,10 @@ recording_of v b lines = record { version = v; base = b; lines = lines }
 
 -- ---- the text
 
+-- what a line of an interface that comes or changes says
+abbrev pub interface_line : (id : ℕ) (interface : Interface) → Body
+interface_line id i = InterfaceLine id i.area i.address i.peer i.up
+
 -- a range of an area is set
 abbrev pub range_set_line : (area : ℕ) (prefix : Prefix) (advertise : Bool) → Body
 range_set_line area prefix advertise = RangeSetLine area (record { prefix = prefix; advertise = advertise })

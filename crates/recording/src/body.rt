@@ -13,6 +13,7 @@ use crate::line::Line;
 use crate::version::Version;
 use event_state::Event;
 use lsa_codec::{Checked, WireFault};
+use ospf_types::config::Range;
 use std::alloc::Global;
 
 /// Adds what the line says. The room is for the bytes of its LSA.
@@ -44,18 +45,11 @@ fn read_line(
     ensures read { IfOk result (IsLineOf version line.now) }
     ensures fault { IfErr result (IsFaultBehind version line.now) }
 {
-    let Some(form) = read_form(version, line) else {
-        return Err(Fault::Line);
-    };
+    let form = read_form(version, line).ok_or(Fault::Line)?;
     match form {
-        LineForm::Version(_) => Err(Fault::Order),
-        LineForm::Router(_) => Err(Fault::Order),
-        LineForm::Compat(_) => Err(Fault::Order),
-        LineForm::Serial(_) => Err(Fault::Order),
-        LineForm::Area { .. } => Err(Fault::Order),
-        LineForm::Range { .. } => Err(Fault::Order),
-        LineForm::HasInterface { .. } => Err(Fault::Order),
-        LineForm::HasLsa { .. } => Err(Fault::Order),
+        LineForm::Version(_) | LineForm::Router(_) | LineForm::Compat(_) => Err(Fault::Order),
+        LineForm::Serial(_) | LineForm::Area { .. } | LineForm::Range { .. } => Err(Fault::Order),
+        LineForm::HasInterface { .. } | LineForm::HasLsa { .. } => Err(Fault::Order),
         LineForm::Interface {
             id,
             area,
@@ -75,16 +69,21 @@ fn read_line(
         },
         LineForm::Flush { scope, key } => Ok(Line::Event(Event::Flush { scope, key })),
         LineForm::Purge { scope, key } => Ok(Line::Event(Event::Purge { scope, key })),
-        LineForm::RangeSet { area, range } => Ok(Line::Event(Event::RangeSet {
-            area,
-            prefix: range.prefix,
-            advertise: range.advertise,
-        })),
+        LineForm::RangeSet { area, range } => Ok(range_set(area, range)),
         LineForm::RangeDrop { area, prefix } => Ok(Line::Event(Event::RangeDrop { area, prefix })),
         LineForm::Second => Ok(Line::Event(Event::Second)),
         LineForm::Lookup(address) => Ok(Line::Lookup(address)),
         LineForm::Roll => Ok(Line::Roll),
     }
+}
+
+// The line by which an area has a range.
+fn range_set(area: u32, range: Range) -> Line {
+    Line::Event(Event::RangeSet {
+        area,
+        prefix: range.prefix,
+        advertise: range.advertise,
+    })
 }
 
 /// The LSA whose bytes the digits write. The room is for the bytes.

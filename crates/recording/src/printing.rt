@@ -2,8 +2,8 @@
 ghost use Rattle.std.specs.Prelude.{◌≡◌, ◌++◌, All, OnOk, OnErr, Some, cond, codes, map, take, vec_len};
 ghost use Rattle.std.specs.List.{join_with_byte};
 ghost use Rattle.lsa_codec.specs.Spelling.{spelling};
-ghost use Rattle.recording.specs.Forms.{RouterLine, SerialLine, AreaLine, RangeLine, HasLsaLine, BodyLine, InterfaceLine, InstallLine, FlushLine, PurgeLine, RangeDropLine, LookupLine, IsForm, IsKind, scope_text, stub_words, key_words};
-ghost use Rattle.recording.specs.Recordings.{GainsBody, GainsLine, GainsLines, IsText, IsWhole, AreWhole, HasKind, HasWholeLsa, text_of, first_forms, first_of_one, first_of_two, first_of_three, header_forms, front_forms, area_forms, interface_form, lsa_form, event_form, form_of, range_set_line};
+ghost use Rattle.recording.specs.Forms.{RouterLine, SerialLine, AreaLine, RangeLine, HasLsaLine, BodyLine, InstallLine, FlushLine, PurgeLine, RangeDropLine, LookupLine, IsForm, IsKind, scope_text, stub_words, key_words};
+ghost use Rattle.recording.specs.Recordings.{GainsBody, GainsLine, GainsLines, IsText, IsWhole, AreWhole, HasKind, HasWholeLsa, text_of, first_forms, first_of_one, first_of_two, first_of_three, header_forms, front_forms, area_forms, interface_form, lsa_form, event_form, form_of, interface_line, range_set_line};
 ghost use Rattle.recording.specs.declared.line.Line.TheVariants as line;
 
 use crate::line::Line;
@@ -238,7 +238,15 @@ pub fn append_event(alloc: Global, event: &Event, out: &mut String) -> Result<()
             address,
             peer,
             up,
-        } => append_interface(*id, *area, *address, *peer, *up, out),
+        } => {
+            let interface = Interface {
+                area: *area,
+                address: *address,
+                peer: *peer,
+                up: *up,
+            };
+            append_interface(*id, interface, out)
+        }
         Event::RangeSet {
             area,
             prefix,
@@ -295,19 +303,13 @@ fn append_purge(scope: Scope, key: Key, out: &mut String) -> Result<(), Memory>
     Ok(())
 }
 
-fn append_interface(
-    id: u8,
-    area: u32,
-    address: u32,
-    peer: u32,
-    up: bool,
-    out: &mut String,
-) -> Result<(), Memory>
-    ensures text { OnOk result (GainsBody out.old out.new (InterfaceLine id area address peer up)) }
-    ensures form { OnOk result (IsForm (BodyLine (InterfaceLine id area address peer up))) }
+fn append_interface(id: u8, interface: Interface, out: &mut String) -> Result<(), Memory>
+    ensures text { OnOk result (GainsBody out.old out.new (interface_line id interface)) }
+    ensures form { OnOk result (IsForm (BodyLine (interface_line id interface))) }
 {
-    let (area, address, peer) = (Address(area), Address(address), Address(peer));
-    let state = state_word(up);
+    let (area, address) = (Address(interface.area), Address(interface.address));
+    let peer = Address(interface.peer);
+    let state = state_word(interface.up);
     write!(out, "interface {id} {area} {address} {peer} {state}\n")?;
     Ok(())
 }

