@@ -2,6 +2,8 @@
 ghost use Rattle.std.specs.Prelude.{◌≡◌, ◌≤◌, length, IsTrue, OnOk, IfOk, IfErr};
 ghost use Rattle.hex.specs.Hex.{decode_of};
 ghost use Rattle.lsa_codec.specs.Spelling.{spelling};
+ghost use Rattle.event_state.specs.declared.event.Event.TheVariants as event;
+ghost use Rattle.recording.specs.declared.line.Line.TheVariants as line;
 ghost use Rattle.recording.specs.Progress.{AddsLine, IsLineOf, IsFaultBehind, IsFaultOfBytes};
 ghost use Rattle.recording.specs.Reading.{bytes_of};
 ghost use Rattle.recording.specs.Recordings.{IsWhole};
@@ -45,7 +47,9 @@ fn read_line(
     ensures read { IfOk result (IsLineOf version line.now) }
     ensures fault { IfErr result (IsFaultBehind version line.now) }
 {
-    let form = read_form(version, line).ok_or(Fault::Line)?;
+    let Some(form) = read_form(version, line) else {
+        return Err(Fault::Line);
+    };
     match form {
         LineForm::Version(_) | LineForm::Router(_) | LineForm::Compat(_) => Err(Fault::Order),
         LineForm::Serial(_) | LineForm::Area { .. } | LineForm::Range { .. } => Err(Fault::Order),
@@ -78,7 +82,9 @@ fn read_line(
 }
 
 // The line by which an area has a range.
-fn range_set(area: u32, range: Range) -> Line {
+fn range_set(area: u32, range: Range) -> Line
+    ensures { result ≡ line.Event (event.RangeSet area range.prefix range.advertise) }
+{
     Line::Event(Event::RangeSet {
         area,
         prefix: range.prefix,
