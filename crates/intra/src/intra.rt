@@ -17,7 +17,7 @@ use crate::area::AreaIntra;
 use crate::choose::choose;
 use crate::dirty::Dirty;
 use crate::hints::Hints;
-use crate::inputs::{AreaInputs, Inputs};
+use crate::inputs::{AreaInputs, Inputs, RootedArea};
 use crate::named::Named;
 use indexmap::IndexMap;
 use indexmap::map::Slice;
@@ -262,7 +262,7 @@ impl Intra {
         named.clear();
         self.hints.begin();
         let areas = self.areas.as_mut_slice();
-        follow_areas(alloc, areas, inputs, dirty, &mut named)?;
+        follow_areas(areas, inputs, dirty, &mut named)?;
         // Vertices come in their order, and their prefixes mostly stand in it: few runs, which a stable sort only merges.
         named.prefixes.sort()?;
         named.prefixes.dedup();
@@ -433,7 +433,6 @@ fn write_at(entries: &mut IndexMap<Prefix, Entry, WordHash>, place: usize, entry
 
 // What is kept of each area follows its LSAs, its tree and the interfaces.
 fn follow_areas(
-    alloc: Global,
     areas: &mut [AreaIntra],
     inputs: &Inputs<'_>,
     dirty: &Dirty,
@@ -448,7 +447,11 @@ fn follow_areas(
 {
     let all = inputs.areas;
     for place in 0..all.len() {
-        areas[place].follow(alloc, inputs.root, &all[place], dirty, named)?;
+        let rooted = RootedArea {
+            root: inputs.root,
+            area: &all[place],
+        };
+        areas[place].follow(&rooted, dirty, named)?;
     }
     Ok(())
 }
