@@ -14,7 +14,7 @@ ghost use Rattle.intra.specs.Stubs.{KeepsAll};
 ghost use Rattle.intra.specs.Updating.{AreBroughtTo, HasPrefixesInOrder, HasRoutersInOrder, HaveKeptBefore, NamesOthers};
 
 use crate::area::AreaIntra;
-use crate::choose::choose;
+use crate::choose::{IndexedInputs, choose};
 use crate::dirty::Dirty;
 use crate::hints::Hints;
 use crate::inputs::{AreaInputs, Inputs, RootedArea};
@@ -304,7 +304,11 @@ impl Intra {
         let place = place_of(&self.entries, prefix);
         let at = place.unwrap_or(self.entries.len());
         let mut near = self.hints.sources_at(at);
-        let fresh = choose(alloc, inputs, self.areas.as_slice(), prefix, &mut near)?;
+        let indexed = IndexedInputs {
+            inputs,
+            kept: self.areas.as_slice(),
+        };
+        let fresh = choose(alloc, &indexed, prefix, &mut near)?;
         let stays = fresh.is_some();
         let other = exchange(&mut self.entries, place, prefix, fresh)?;
         self.hints.keep(at, stays.then_some(near))?;
