@@ -25,15 +25,14 @@ use std::alloc::Global;
 use std::collections::btree_map::Iter;
 use vertex_map::Placed;
 
-/// What entries are chosen from.
+/// What entries are chosen from: the inputs, and what is kept of each of their areas.
 #[derive(Drop)]
 pub(crate) struct IndexedInputs<'a> {
     pub(crate) inputs: &'a Inputs<'a>,
-    /// What is kept of each area of the inputs.
     pub(crate) kept: &'a [AreaIntra],
 }
 
-// A network to which one of the areas offers.
+// A network whose entry is chosen, and one of the areas that may offer it.
 #[derive(Drop)]
 struct AreaNetwork<'a> {
     inputs: &'a Inputs<'a>,
