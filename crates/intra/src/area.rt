@@ -12,7 +12,7 @@ ghost use Rattle.intra.specs.Reached.{HasKeptToo, HasOnceMore, KeepsNone, has_bi
 
 use crate::area_index::AreaIndex;
 use crate::dirty::Dirty;
-use crate::inputs::AreaInputs;
+use crate::inputs::{AreaInputs, RootedArea};
 use crate::named::Named;
 use crate::offered::push_prefixes;
 use area_trees::vertex_of;
@@ -28,6 +28,7 @@ use word_hash::WordHash;
 
 /// What is kept of an area.
 pub(crate) struct AreaIntra {
+    alloc: Global,
     id: u32,
     index: AreaIndex,
     reached: IndexMap<u32, Reached, WordHash>,
@@ -37,6 +38,7 @@ pub(crate) struct AreaIntra {
 impl Drop for AreaIntra {
     fn drop(self) {
         let AreaIntra {
+            alloc: _,
             id: _,
             index: _index,
             reached: _reached,
@@ -71,6 +73,7 @@ impl AreaIntra {
         ensures { result ≡ empty_area id }
     {
         AreaIntra {
+            alloc,
             id,
             index: AreaIndex::new(alloc, hashing),
             reached: IndexMap::with_hasher(alloc, hashing),
@@ -120,25 +123,24 @@ impl AreaIntra {
     /// which something else is kept.
     pub(crate) fn follow(
         &mut self,
-        alloc: Global,
-        root: u32,
-        area: &AreaInputs<'_>,
+        rooted: &RootedArea<'_>,
         dirty: &Dirty,
         named: &mut Named,
     ) -> Result<(), Memory>
-        requires ready { HasTree area.now }
-        requires before { IsIndexBefore dirty.now.keys.items area.now.lsas self.old }
-        ensures index { OnOk result (IsIndexOf area.now.lsas self.new.index) }
-        ensures gathered { OnOk result (IsGatheredFor root dirty.now self.old self.new
+        requires ready { HasTree rooted.now.area.now }
+        requires before { IsIndexBefore dirty.now.keys.items rooted.now.area.now.lsas self.old }
+        ensures index { OnOk result (IsIndexOf rooted.now.area.now.lsas self.new.index) }
+        ensures gathered { OnOk result (IsGatheredFor rooted.now.root dirty.now self.old self.new
             named.old.prefixes.items named.new.prefixes.items) }
-        ensures updated { OnOk result (AreRoutersBrought root area.now dirty.now self.old self.new
+        ensures updated { OnOk result (AreRoutersBrought rooted.now.root rooted.now.area.now
+            dirty.now self.old self.new
             named.old.routers.items named.new.routers.items) }
     {
-        self.follow_keys(area, &dirty.keys, &mut named.prefixes)?;
-        self.update_by_keys(alloc, root, area, &dirty.keys, &mut named.routers)?;
-        self.follow_vertices(alloc, root, area, &dirty.vertices, named)?;
+        self.follow_keys(rooted.area, &dirty.keys, &mut named.prefixes)?;
+        self.update_by_keys(rooted, &dirty.keys, &mut named.routers)?;
+        self.follow_vertices(rooted, &dirty.vertices, named)?;
         if !dirty.interfaces.is_empty() {
-            self.name_prefixes(Vertex::Router(root), &mut named.prefixes)?;
+            self.name_prefixes(Vertex::Router(rooted.root), &mut named.prefixes)?;
         }
         Ok(())
     }
@@ -183,21 +185,19 @@ impl AreaIntra {
     // Adds what the named vertices of the area offer, and takes what the routers among them are now.
     fn follow_vertices(
         &mut self,
-        alloc: Global,
-        root: u32,
-        area: &AreaInputs<'_>,
+        rooted: &RootedArea<'_>,
         vertices: &[(u32, Vertex)],
         named: &mut Named,
     ) -> Result<(), Memory>
         ensures offered { OnOk result (HasOffered self.old.index
             (IsOfSome vertices.now (NamesIn self.old.id))
             named.old.prefixes.items named.new.prefixes.items) }
-        ensures updated { OnOk result (AreRoutersUpdated root area.now
+        ensures updated { OnOk result (AreRoutersUpdated rooted.now.root rooted.now.area.now
             (IsAmongVertices vertices.now self.old.id) self.old self.new
             named.old.routers.items named.new.routers.items) }
     {
         for vertex in vertices {
-            self.follow_named(alloc, root, area, *vertex, named)?;
+            self.follow_named(rooted, *vertex, named)?;
         }
         Ok(())
     }
@@ -205,15 +205,13 @@ impl AreaIntra {
     // Adds what the vertex offers, and takes what it is now where it is a router, if it is one of the area.
     fn follow_named(
         &mut self,
-        alloc: Global,
-        root: u32,
-        area: &AreaInputs<'_>,
+        rooted: &RootedArea<'_>,
         vertex: (u32, Vertex),
         named: &mut Named,
     ) -> Result<(), Memory>
         ensures offered { OnOk result (HasOffered self.old.index (NamesIn self.old.id vertex)
             named.old.prefixes.items named.new.prefixes.items) }
-        ensures updated { OnOk result (AreRoutersUpdated root area.now
+        ensures updated { OnOk result (AreRoutersUpdated rooted.now.root rooted.now.area.now
             (IsRouterIn self.old.id vertex) self.old self.new
             named.old.routers.items named.new.routers.items) }
     {
@@ -225,7 +223,7 @@ impl AreaIntra {
         if self.stays_out(vertex, flags) {
             return Ok(());
         }
-        self.update_vertex(alloc, root, area, vertex, flags, &mut named.routers)
+        self.update_vertex(rooted, vertex, flags, &mut named.routers)
     }
 
     // Adds what the vertex offers. The answer is the bits of its LSA; none where it has no LSA.
@@ -250,17 +248,16 @@ impl AreaIntra {
     // Takes what the routers with a named router-LSA of the area are now.
     fn update_by_keys(
         &mut self,
-        alloc: Global,
-        root: u32,
-        area: &AreaInputs<'_>,
+        rooted: &RootedArea<'_>,
         keys: &[(Scope, Key)],
         routers: &mut Vec<u32>,
     ) -> Result<(), Memory>
-        ensures { OnOk result (AreRoutersUpdated root area.now (IsAmongKeys keys.now self.old.id)
-            self.old self.new routers.old.items routers.new.items) }
+        ensures { OnOk result (AreRoutersUpdated rooted.now.root rooted.now.area.now
+            (IsAmongKeys keys.now self.old.id) self.old self.new
+            routers.old.items routers.new.items) }
     {
         for named in keys {
-            self.update_by_key(alloc, root, area, *named, routers)?;
+            self.update_by_key(rooted, *named, routers)?;
         }
         Ok(())
     }
@@ -268,20 +265,19 @@ impl AreaIntra {
     // Takes what the router with this router-LSA is now, where it is one of the area.
     fn update_by_key(
         &mut self,
-        alloc: Global,
-        root: u32,
-        area: &AreaInputs<'_>,
+        rooted: &RootedArea<'_>,
         named: (Scope, Key),
         routers: &mut Vec<u32>,
     ) -> Result<(), Memory>
-        ensures { OnOk result (AreRoutersUpdated root area.now (IsRouterOf self.old.id named)
-            self.old self.new routers.old.items routers.new.items) }
+        ensures { OnOk result (AreRoutersUpdated rooted.now.root rooted.now.area.now
+            (IsRouterOf self.old.id named) self.old self.new
+            routers.old.items routers.new.items) }
     {
         let Some(vertex) = vertex_in(self.id, named) else {
             return Ok(());
         };
         let flags = self.flags(vertex);
-        self.update_vertex(alloc, root, area, vertex, flags, routers)
+        self.update_vertex(rooted, vertex, flags, routers)
     }
 
     // Whether nothing is kept of the vertex, and by its bits nothing is to be, as of most vertices.
@@ -301,20 +297,18 @@ impl AreaIntra {
     // Takes what the vertex with these bits is now, where it is a router.
     fn update_vertex(
         &mut self,
-        alloc: Global,
-        root: u32,
-        area: &AreaInputs<'_>,
+        rooted: &RootedArea<'_>,
         vertex: Vertex,
         flags: Option<u8>,
         routers: &mut Vec<u32>,
     ) -> Result<(), Memory>
         requires { flags ≡ flags_in self.old.index vertex }
-        ensures { OnOk result (AreRoutersUpdated root area.now
+        ensures { OnOk result (AreRoutersUpdated rooted.now.root rooted.now.area.now
             (λ r. vertex ≡ vertex_value.Router r) self.old self.new
             routers.old.items routers.new.items) }
     {
         match vertex {
-            Vertex::Router(router) => self.update_router(alloc, root, area, router, flags, routers),
+            Vertex::Router(router) => self.update_router(rooted, router, flags, routers),
             Vertex::Network(_) => Ok(()),
         }
     }
@@ -322,18 +316,16 @@ impl AreaIntra {
     // Takes what the router with these bits is now, and adds it where something else is kept.
     fn update_router(
         &mut self,
-        alloc: Global,
-        root: u32,
-        area: &AreaInputs<'_>,
+        rooted: &RootedArea<'_>,
         router: u32,
         flags: Option<u8>,
         routers: &mut Vec<u32>,
     ) -> Result<(), Memory>
         requires { flags ≡ flags_in self.old.index (vertex_value.Router router) }
-        ensures { OnOk result (AreRoutersUpdated root area.now (λ r. r ≡ router)
-            self.old self.new routers.old.items routers.new.items) }
+        ensures { OnOk result (AreRoutersUpdated rooted.now.root rooted.now.area.now
+            (λ r. r ≡ router) self.old self.new routers.old.items routers.new.items) }
     {
-        let fresh = reached_now(alloc, root, area, router, flags)?;
+        let fresh = reached_now(self.alloc, rooted, router, flags)?;
         if are_same(self.router(router), fresh.as_ref()) {
             return Ok(());
         }
@@ -375,19 +367,20 @@ impl AreaIntra {
 // tree.
 fn reached_now(
     alloc: Global,
-    root: u32,
-    area: &AreaInputs<'_>,
+    rooted: &RootedArea<'_>,
     router: u32,
     flags: Option<u8>,
 ) -> Result<Option<Reached>, Memory>
-    ensures { IfOk result (λ kept. kept ≡ reached_in root area.now router flags) }
+    ensures { IfOk result (λ kept. kept
+        ≡ reached_in rooted.now.root rooted.now.area.now router flags) }
 {
     if !has_bits(flags) {
         return Ok(None);
     }
     let vertex = Vertex::Router(router);
+    let area = rooted.area;
     let (distance, hops) = (area.tree.distance(vertex), area.tree.hops(vertex));
-    keep(alloc, root, router, flags, distance, hops)
+    keep(alloc, rooted.root, router, flags, distance, hops)
 }
 
 // Whether there are bits, and bit B or bit E is among them.

@@ -25,20 +25,35 @@ use std::alloc::Global;
 use std::collections::btree_map::Iter;
 use vertex_map::Placed;
 
+/// What entries are chosen from: the inputs, and what is kept of each of their areas.
+#[derive(Drop)]
+pub(crate) struct IndexedInputs<'a> {
+    pub(crate) inputs: &'a Inputs<'a>,
+    pub(crate) kept: &'a [AreaIntra],
+}
+
+// A network whose entry is chosen, and one of the areas that may offer it.
+#[derive(Drop)]
+struct AreaNetwork<'a> {
+    inputs: &'a Inputs<'a>,
+    area: &'a AreaInputs<'a>,
+    prefix: Prefix,
+}
+
 /// The entry of the network, by the indexes of the areas; none where nothing is offered. Its sources are looked for at a
 /// place first, and it is told where they stood.
 pub(crate) fn choose(
     alloc: Global,
-    inputs: &Inputs<'_>,
-    areas: &[AreaIntra],
+    indexed: &IndexedInputs<'_>,
     prefix: Prefix,
     place: &mut usize,
 ) -> Result<Option<Entry>, Memory>
-    ensures exact { IfOk result (IsEntryFor (IndexOffers inputs.now areas.now prefix)) }
+    ensures exact { IfOk result
+        (IsEntryFor (IndexOffers indexed.now.inputs.now indexed.now.kept.now prefix)) }
     ensures bounded { IfOk result (λ entry. IfSome entry (λ e. e.cost < most_cost)) }
 {
     let mut best = Best::new(alloc);
-    offer_areas(&mut best, inputs, areas, prefix, place)?;
+    offer_areas(&mut best, indexed, prefix, place)?;
     match best.into_choice() {
         Some(choice) => Ok(Some(entry(choice))),
         None => Ok(None),
@@ -64,17 +79,24 @@ fn entry(choice: Choice<AreaCost, Path>) -> Entry
 // Offers what each area has for the network, by its index.
 fn offer_areas(
     best: &mut Best<AreaCost, Path>,
-    inputs: &Inputs<'_>,
-    areas: &[AreaIntra],
+    indexed: &IndexedInputs<'_>,
     prefix: Prefix,
     place: &mut usize,
 ) -> Result<(), Memory>
-    ensures { OnOk result (TakesPaths (IndexOffers inputs.now areas.now prefix) best.old best.new) }
+    ensures { OnOk result
+        (TakesPaths (IndexOffers indexed.now.inputs.now indexed.now.kept.now prefix)
+            best.old best.new) }
 {
     // 16.8: the paths of least cost unite. At one cost the area with the greater Area ID wins.
-    for (kept, area) in areas.iter().zip(inputs.areas) {
+    let inputs = indexed.inputs;
+    for (kept, area) in indexed.kept.iter().zip(inputs.areas) {
+        let network = AreaNetwork {
+            inputs,
+            area,
+            prefix,
+        };
         let sources = kept.index().sources(prefix, place);
-        offer_sources(best, inputs, area, sources, prefix)?;
+        offer_sources(best, &network, sources)?;
     }
     Ok(())
 }
@@ -82,63 +104,60 @@ fn offer_areas(
 // Offers what these sources of an area have for the network.
 fn offer_sources(
     best: &mut Best<AreaCost, Path>,
-    inputs: &Inputs<'_>,
-    area: &AreaInputs<'_>,
+    network: &AreaNetwork<'_>,
     sources: &[Source],
-    prefix: Prefix,
 ) -> Result<(), Memory>
-    ensures { OnOk result (TakesPaths (SourcesOffer sources.now inputs.now area.now prefix)
-        best.old best.new) }
+    ensures { OnOk result
+        (TakesPaths (SourcesOffer sources.now network.now.inputs.now network.now.area.now
+            network.now.prefix) best.old best.new) }
 {
     let mut nearest = None;
     for source in sources {
-        nearest = offer_source(best, inputs, area, nearest, source, prefix)?;
+        nearest = offer_source(best, network, nearest, source)?;
     }
-    offer_transit(best, area, sources, nearest)
+    offer_transit(best, network.area, sources, nearest)
 }
 
 // Offers the source, where it is a stub link. The answer is the nearest transit network, with this source among others.
 fn offer_source(
     best: &mut Best<AreaCost, Path>,
-    inputs: &Inputs<'_>,
-    area: &AreaInputs<'_>,
+    network: &AreaNetwork<'_>,
     nearest: Option<(u32, u32)>,
     source: &Source,
-    prefix: Prefix,
 ) -> Result<Option<(u32, u32)>, Memory>
     requires { IfSome nearest (λ n. n.1 < most_distance) }
-    ensures offered { OnOk result (TakesPaths (StubOffers source.now inputs.now area.now prefix)
-        best.old best.new) }
-    ensures found { IfOk result (FindsNearestWith area.now source.now nearest) }
+    ensures offered { OnOk result
+        (TakesPaths (StubOffers source.now network.now.inputs.now network.now.area.now
+            network.now.prefix) best.old best.new) }
+    ensures found { IfOk result (FindsNearestWith network.now.area.now source.now nearest) }
     ensures bounded { IfOk result (λ found. IfSome found (λ n. n.1 < most_distance)) }
 {
     match source.vertex.vertex() {
         Vertex::Router(router) => {
-            offer_stub(best, inputs, area, router, source, prefix)?;
+            offer_stub(best, network, router, source)?;
             Ok(nearest)
         }
-        Vertex::Network(_) => Ok(nearest_with(area, nearest, source)),
+        Vertex::Network(_) => Ok(nearest_with(network.area, nearest, source)),
     }
 }
 
 // Offers a stub link of a router.
 fn offer_stub(
     best: &mut Best<AreaCost, Path>,
-    inputs: &Inputs<'_>,
-    area: &AreaInputs<'_>,
+    network: &AreaNetwork<'_>,
     router: u32,
     stub: &Source,
-    prefix: Prefix,
 ) -> Result<(), Memory>
     requires { stub.now.vertex ≡ vertex_value.Router router }
     ensures { OnOk result (TakesPaths
-        (StubOffers (router_source router stub.now.metric) inputs.now area.now prefix)
-        best.old best.new) }
+        (StubOffers (router_source router stub.now.metric) network.now.inputs.now
+            network.now.area.now network.now.prefix) best.old best.new) }
 {
+    let (inputs, area) = (network.inputs, network.area);
     // 16.1, second stage (1): the distance of the router and the cost of the stub link.
     if router == inputs.root {
         let key = cost_in(area, u32::from(stub.metric));
-        return offer_own(best, inputs.interfaces.clone()?, key, prefix);
+        return offer_own(best, inputs.interfaces.clone()?, key, network.prefix);
     }
     match distance(area, &stub.vertex) {
         Some(distance) => {
@@ -160,7 +179,7 @@ fn offer_own(
         best.old best.new) }
 {
     for (id, interface) in interfaces {
-        offer_over(best, *id, *interface, key, prefix)?;
+        offer_over(best, (*id, *interface), key, prefix)?;
     }
     Ok(())
 }
@@ -168,14 +187,14 @@ fn offer_own(
 // Offers a path over the interface, if it is one of the area, is up and lies in the network.
 fn offer_over(
     best: &mut Best<AreaCost, Path>,
-    id: u8,
-    interface: Interface,
+    interface: (u8, Interface),
     key: AreaCost,
     prefix: Prefix,
 ) -> Result<(), Memory>
-    ensures { OnOk result (TakesPaths (InterfaceOffers prefix key (id, interface))
+    ensures { OnOk result (TakesPaths (InterfaceOffers prefix key interface)
         best.old best.new) }
 {
+    let (id, interface) = interface;
     if !is_over(key.area(), prefix, interface) {
         return Ok(());
     }

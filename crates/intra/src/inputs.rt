@@ -35,6 +35,14 @@ impl<'a> Model for AreaInputs<'a> {
     ghost view = { λ a. record { id = a.id; lsas = a.database.now.lsas; tree = a.tree.now } };
 }
 
+/// An area, and the router that calculates: the root of the area's tree.
+#[derive(Drop)]
+pub(crate) struct RootedArea<'a> {
+    /// The Router ID of the root.
+    pub(crate) root: u32,
+    pub(crate) area: &'a AreaInputs<'a>,
+}
+
 /// What intra-area routes are calculated from.
 #[derive(Drop)]
 pub struct Inputs<'a> {

@@ -14,10 +14,10 @@ ghost use Rattle.intra.specs.Stubs.{KeepsAll};
 ghost use Rattle.intra.specs.Updating.{AreBroughtTo, HasPrefixesInOrder, HasRoutersInOrder, HaveKeptBefore, NamesOthers};
 
 use crate::area::AreaIntra;
-use crate::choose::choose;
+use crate::choose::{IndexedInputs, choose};
 use crate::dirty::Dirty;
 use crate::hints::Hints;
-use crate::inputs::{AreaInputs, Inputs};
+use crate::inputs::{AreaInputs, Inputs, RootedArea};
 use crate::named::Named;
 use indexmap::IndexMap;
 use indexmap::map::Slice;
@@ -262,7 +262,7 @@ impl Intra {
         named.clear();
         self.hints.begin();
         let areas = self.areas.as_mut_slice();
-        follow_areas(alloc, areas, inputs, dirty, &mut named)?;
+        follow_areas(areas, inputs, dirty, &mut named)?;
         // Vertices come in their order, and their prefixes mostly stand in it: few runs, which a stable sort only merges.
         named.prefixes.sort()?;
         named.prefixes.dedup();
@@ -304,7 +304,11 @@ impl Intra {
         let place = place_of(&self.entries, prefix);
         let at = place.unwrap_or(self.entries.len());
         let mut near = self.hints.sources_at(at);
-        let fresh = choose(alloc, inputs, self.areas.as_slice(), prefix, &mut near)?;
+        let indexed = IndexedInputs {
+            inputs,
+            kept: self.areas.as_slice(),
+        };
+        let fresh = choose(alloc, &indexed, prefix, &mut near)?;
         let stays = fresh.is_some();
         let other = exchange(&mut self.entries, place, prefix, fresh)?;
         self.hints.keep(at, stays.then_some(near))?;
@@ -433,7 +437,6 @@ fn write_at(entries: &mut IndexMap<Prefix, Entry, WordHash>, place: usize, entry
 
 // What is kept of each area follows its LSAs, its tree and the interfaces.
 fn follow_areas(
-    alloc: Global,
     areas: &mut [AreaIntra],
     inputs: &Inputs<'_>,
     dirty: &Dirty,
@@ -448,7 +451,11 @@ fn follow_areas(
 {
     let all = inputs.areas;
     for place in 0..all.len() {
-        areas[place].follow(alloc, inputs.root, &all[place], dirty, named)?;
+        let rooted = RootedArea {
+            root: inputs.root,
+            area: &all[place],
+        };
+        areas[place].follow(&rooted, dirty, named)?;
     }
     Ok(())
 }

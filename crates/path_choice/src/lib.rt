@@ -7,5 +7,5 @@ mod reached;
 mod same;
 
 pub use choice::{AreaCost, Best, Choice, ExactOrd};
-pub use reached::{Reached, has_bit, keep};
+pub use reached::{Reached, RouterReach, has_bit, keep};
 pub use same::{Same, are_same};

@@ -90,25 +90,35 @@ impl Same for Reached {
     }
 }
 
+/// Where a router is.
+#[derive(Clone, Copy)]
+pub struct RouterReach<'a> {
+    /// The Router ID.
+    pub router: u32,
+    /// Its distance, a sum of metrics; none where it is not reached.
+    pub distance: Option<u32>,
+    /// Its next hops, ascending, each once.
+    pub hops: &'a [NextHop],
+}
+
 /// What is kept of a router, by the bits of its router-LSA, its distance and its next hops.
 pub fn keep(
     alloc: Global,
     root: u32,
-    router: u32,
     flags: Option<u8>,
-    distance: Option<u32>,
-    hops: &[NextHop],
+    reach: RouterReach<'_>,
 ) -> Result<Option<Reached>, Memory>
-    requires { IfSome distance (λ distance. distance < 2 ^ 30) }
-    ensures { IfOk result (λ kept. kept ≡ reached_by root router flags distance hops.now) }
+    requires { IfSome reach.distance (λ distance. distance < 2 ^ 30) }
+    ensures { IfOk result (λ kept. kept
+        ≡ reached_by root reach.entry.router flags reach.entry.distance reach.entry.hops.now) }
 {
-    let (Some(flags), Some(distance)) = (flags, distance) else {
+    let (Some(flags), Some(distance)) = (flags, reach.distance) else {
         return Ok(None);
     };
-    if router == root || !has_bit(flags) {
+    if reach.router == root || !has_bit(flags) {
         return Ok(None);
     }
-    let hops = Vec::from_slice(alloc, hops)?;
+    let hops = Vec::from_slice(alloc, reach.hops)?;
     Ok(Some(Reached {
         flags,
         distance,

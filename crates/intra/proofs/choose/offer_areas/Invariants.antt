@@ -11,4 +11,4 @@ use Rattle.intra.proofs.choose.offer_areas.Given as goal
 -- who takes the offers of the areas that are left has taken them all
 abbrev pub invariant-loop-kept : goal.invariant-loop-kept
 invariant-loop-kept l =
-    (new : Option (Chosen AreaCost Path)) → TakesPaths (IndexedOffers l.inputs (map (λ k. k.index) (iter_rest (zip_first l.kept-iterator))) (iter_rest (zip_second l.kept-iterator)) l.prefix) l.best new → TakesPaths (IndexedOffers l.inputs (map (λ k. k.index) l.areas) l.inputs.areas l.prefix) l.initial.best new
+    (new : Option (Chosen AreaCost Path)) → TakesPaths (IndexedOffers l.indexed.inputs.now (map (λ k. k.index) (iter_rest (zip_first l.kept-iterator))) (iter_rest (zip_second l.kept-iterator)) l.prefix) l.best new → TakesPaths (IndexedOffers l.indexed.inputs.now (map (λ k. k.index) l.indexed.kept.now) l.indexed.inputs.now.areas l.prefix) l.initial.best new

@@ -10,13 +10,13 @@ use Rattle.path_choice.proofs.Taking.{takes_at, takes_past}
 use Rattle.intra.proofs.choose.offer_sources.Goals as goal
 
 pub loop-source-init : goal.loop-source-init
-loop-source-init c = record { offered = λ new takes. takes; found = λ p. nearest_of_none c.args.area.now p; bounded = tt }
+loop-source-init c = record { offered = λ new takes. takes; found = λ p. nearest_of_none c.args.network.now.area.now p; bounded = tt }
 
 pub loop-source-preserved : goal.loop-source-preserved
 loop-source-preserved c =
-    let v = c.args.inputs.now in
-    let a = c.args.area.now in
-    let p = c.args.prefix in
+    let v = c.args.network.now.inputs.now in
+    let a = c.args.network.now.area.now in
+    let p = c.args.network.now.prefix in
     let xs = c.args.sources.now in
     let i = c.loop-source.source-index in
     let x = c.source-item.result in
@@ -31,9 +31,9 @@ loop-source-preserved c =
 
 pub returns : goal.returns
 returns c =
-    let v = c.args.inputs.now in
-    let a = c.args.area.now in
-    let p = c.args.prefix in
+    let v = c.args.network.now.inputs.now in
+    let a = c.args.network.now.area.now in
+    let p = c.args.network.now.prefix in
     let sources = c.args.sources.now in
     let all = c.loop-source.invariant.offered c.loop-source.best (takes_past (λ (s : Source). KeyedStubs (ThisSource s) v a p) sources c.loop-source.source-index c.loop-source.best c.loop-source-test.false) in
     let stubs = takes_sources v a p sources c.args.best.now c.loop-source.best all in

@@ -11,25 +11,25 @@ use Rattle.intra.proofs.choose.offer_stub.Goals as goal
 
 pub returns-then-router-inputs : goal.returns-then-router-inputs
 returns-then-router-inputs c =
-    let a = c.args.area.now in
+    let a = c.args.network.now.area.now in
     let key : c.cost_in-key.result ≡ (c.args.stub.now.metric, a.id) = c.cost_in-key.ensures ∙ (λ i. (c.from.ensures i, a.id)) in
-    let interfaces : c.in_ok-clone.field-0 ≡ c.args.inputs.now.interfaces = c.in_ok-clone.ensures.cases ∙ ap (λ (w : InputsValue). w.interfaces) c.inputs.view_is in
+    let interfaces : c.in_ok-clone.field-0 ≡ c.args.network.now.inputs.now.interfaces = c.in_ok-clone.ensures.cases ∙ ap (λ (w : InputsValue). w.interfaces) c.inputs.view_is in
     on_ok_weaker c.offer_own.result
-    (λ takes. takes_own c.args.inputs.now a c.args.prefix c.args.router c.args.stub.now.metric c.args.best.now c.offer_own.new.best (c.if-router-inputs.true ∙ ap (λ (w : InputsValue). w.root) c.inputs.view_is)
-    (subst (λ (xs : List (ℕ × Interface)). TakesPaths (OfferedBySome xs (InterfaceOffers c.args.prefix (c.args.stub.now.metric, a.id))) c.args.best.now c.offer_own.new.best) interfaces
-    (subst (λ (k : AreaCost). TakesPaths (OfferedBySome c.in_ok-clone.field-0 (InterfaceOffers c.args.prefix k)) c.args.best.now c.offer_own.new.best) key takes)))
+    (λ takes. takes_own c.args.network.now.inputs.now a c.args.network.now.prefix c.args.router c.args.stub.now.metric c.args.best.now c.offer_own.new.best (c.if-router-inputs.true ∙ ap (λ (w : InputsValue). w.root) c.inputs.view_is)
+    (subst (λ (xs : List (ℕ × Interface)). TakesPaths (OfferedBySome xs (InterfaceOffers c.args.network.now.prefix (c.args.stub.now.metric, a.id))) c.args.best.now c.offer_own.new.best) interfaces
+    (subst (λ (k : AreaCost). TakesPaths (OfferedBySome c.in_ok-clone.field-0 (InterfaceOffers c.args.network.now.prefix k)) c.args.best.now c.offer_own.new.best) key takes)))
     c.offer_own.ensures
 
 pub returns-in-Some : goal.returns-in-Some
 returns-in-Some c =
-    let a = c.args.area.now in
+    let a = c.args.network.now.area.now in
     let key : c.cost_in-key-in-Some.result ≡ (c.in-Some.distance + c.args.stub.now.metric, a.id) = c.cost_in-key-in-Some.ensures ∙ (λ i. (c.in-Some.distance + c.from-in-Some.ensures i, a.id)) in
     on_ok_weaker c.offer_hops.result
-    (λ takes. takes_reached c.args.inputs.now a c.args.prefix c.args.router c.args.stub.now.metric (λ is. c.if-router-inputs.false (is ∙ sym (ap (λ (w : InputsValue). w.root) c.inputs.view_is))) c.in-Some.distance c.args.best.now c.offer_hops.new.best (sym (ap (distance_at a) c.requires) ∙ sym c.in-Some.ensures.value)
+    (λ takes. takes_reached c.args.network.now.inputs.now a c.args.network.now.prefix c.args.router c.args.stub.now.metric (λ is. c.if-router-inputs.false (is ∙ sym (ap (λ (w : InputsValue). w.root) c.inputs.view_is))) c.in-Some.distance c.args.best.now c.offer_hops.new.best (sym (ap (distance_at a) c.requires) ∙ sym c.in-Some.ensures.value)
     (subst (λ (hops : List NextHop). TakesPaths (HopsOffer hops (c.in-Some.distance + c.args.stub.now.metric, a.id)) c.args.best.now c.offer_hops.new.best) (c.hops.ensures ∙ ap (hops_at a) c.requires)
     (subst (λ (k : AreaCost). TakesPaths (HopsOffer c.hops.result.now k) c.args.best.now c.offer_hops.new.best) key takes)))
     c.offer_hops.ensures
 
 pub returns-in-None : goal.returns-in-None
 returns-in-None c =
-    takes_unreached c.args.inputs.now c.args.area.now c.args.prefix c.args.router c.args.stub.now.metric (λ is. c.if-router-inputs.false (is ∙ sym (ap (λ (w : InputsValue). w.root) c.inputs.view_is))) c.args.best.now (sym (ap (distance_at c.args.area.now) c.requires) ∙ sym c.in-None.ensures.value)
+    takes_unreached c.args.network.now.inputs.now c.args.network.now.area.now c.args.network.now.prefix c.args.router c.args.stub.now.metric (λ is. c.if-router-inputs.false (is ∙ sym (ap (λ (w : InputsValue). w.root) c.inputs.view_is))) c.args.best.now (sym (ap (distance_at c.args.network.now.area.now) c.requires) ∙ sym c.in-None.ensures.value)

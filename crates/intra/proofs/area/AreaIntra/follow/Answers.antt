@@ -13,10 +13,10 @@ use Rattle.intra.proofs.area.AreaIntra.follow.Goals as goal
 pub returns-in_ok-name_prefixes-clause-index : goal.returns-in_ok-name_prefixes-clause-index
 returns-in_ok-name_prefixes-clause-index c =
     let before = c.requires.before in
-    let taken = subst (λ (keys : List (Scope × Key)). IsTaken c.args.area.now.lsas (IsOfSome keys (NamesVertex c.args.self.now.id)) c.args.self.now c.follow_keys.new.self c.args.named.now.prefixes.items c.follow_keys.new.prefixes.items)
+    let taken = subst (λ (keys : List (Scope × Key)). IsTaken c.args.rooted.now.area.now.lsas (IsOfSome keys (NamesVertex c.args.self.now.id)) c.args.self.now c.follow_keys.new.self c.args.named.now.prefixes.items c.follow_keys.new.prefixes.items)
     c.deref.ensures.value c.in_ok-follow_keys.ensures in
-    subst (IsIndexOf c.args.area.now.lsas) (sym (c.in_ok-follow_vertices.ensures.updated.index ∙ c.in_ok-update_by_keys.ensures.index))
-    (index_followed c.args.dirty.now.keys.items c.args.self.now.id before.0 c.args.area.now.lsas c.args.self.now c.follow_keys.new.self _ _ before.1 before.2 taken)
+    subst (IsIndexOf c.args.rooted.now.area.now.lsas) (sym (c.in_ok-follow_vertices.ensures.updated.index ∙ c.in_ok-update_by_keys.ensures.index))
+    (index_followed c.args.dirty.now.keys.items c.args.self.now.id before.0 c.args.rooted.now.area.now.lsas c.args.self.now c.follow_keys.new.self _ _ before.1 before.2 taken)
 
 pub returns-in_ok-name_prefixes-clause-gathered : goal.returns-in_ok-name_prefixes-clause-gathered
 returns-in_ok-name_prefixes-clause-gathered c =
@@ -25,8 +25,8 @@ returns-in_ok-name_prefixes-clause-gathered c =
     let mid = c.follow_keys.new.self in
     let by_key = c.update_by_keys.new.self in
     let new = c.follow_vertices.new.self in
-    let root = c.args.root in
-    let a = c.args.area.now in
+    let root = c.args.rooted.now.root in
+    let a = c.args.rooted.now.area.now in
     let names = IsOfSome c.deref.result.now (NamesVertex old.id) in
     let before = c.args.named.now in
     let first = c.follow_keys.new.prefixes.items in
@@ -46,8 +46,8 @@ returns-in_ok-name_prefixes-clause-updated c =
     let mid = c.follow_keys.new.self in
     let by_key = c.update_by_keys.new.self in
     let new = c.follow_vertices.new.self in
-    let root = c.args.root in
-    let a = c.args.area.now in
+    let root = c.args.rooted.now.root in
+    let a = c.args.rooted.now.area.now in
     let names = IsOfSome c.deref.result.now (NamesVertex old.id) in
     let before = c.args.named.now in
     let first = c.follow_keys.new.prefixes.items in
@@ -62,10 +62,10 @@ returns-in_ok-name_prefixes-clause-updated c =
 pub returns-else-not-is_empty-clause-index : goal.returns-else-not-is_empty-clause-index
 returns-else-not-is_empty-clause-index c =
     let before = c.requires.before in
-    let taken = subst (λ (keys : List (Scope × Key)). IsTaken c.args.area.now.lsas (IsOfSome keys (NamesVertex c.args.self.now.id)) c.args.self.now c.follow_keys.new.self c.args.named.now.prefixes.items c.follow_keys.new.prefixes.items)
+    let taken = subst (λ (keys : List (Scope × Key)). IsTaken c.args.rooted.now.area.now.lsas (IsOfSome keys (NamesVertex c.args.self.now.id)) c.args.self.now c.follow_keys.new.self c.args.named.now.prefixes.items c.follow_keys.new.prefixes.items)
     c.deref.ensures.value c.in_ok-follow_keys.ensures in
-    subst (IsIndexOf c.args.area.now.lsas) (sym (c.in_ok-follow_vertices.ensures.updated.index ∙ c.in_ok-update_by_keys.ensures.index))
-    (index_followed c.args.dirty.now.keys.items c.args.self.now.id before.0 c.args.area.now.lsas c.args.self.now c.follow_keys.new.self _ _ before.1 before.2 taken)
+    subst (IsIndexOf c.args.rooted.now.area.now.lsas) (sym (c.in_ok-follow_vertices.ensures.updated.index ∙ c.in_ok-update_by_keys.ensures.index))
+    (index_followed c.args.dirty.now.keys.items c.args.self.now.id before.0 c.args.rooted.now.area.now.lsas c.args.self.now c.follow_keys.new.self _ _ before.1 before.2 taken)
 
 pub returns-else-not-is_empty-clause-gathered : goal.returns-else-not-is_empty-clause-gathered
 returns-else-not-is_empty-clause-gathered c =
@@ -74,8 +74,8 @@ returns-else-not-is_empty-clause-gathered c =
     let mid = c.follow_keys.new.self in
     let by_key = c.update_by_keys.new.self in
     let new = c.follow_vertices.new.self in
-    let root = c.args.root in
-    let a = c.args.area.now in
+    let root = c.args.rooted.now.root in
+    let a = c.args.rooted.now.area.now in
     let names = IsOfSome c.deref.result.now (NamesVertex old.id) in
     let before = c.args.named.now in
     let first = c.follow_keys.new.prefixes.items in
@@ -96,8 +96,8 @@ returns-else-not-is_empty-clause-updated c =
     let mid = c.follow_keys.new.self in
     let by_key = c.update_by_keys.new.self in
     let new = c.follow_vertices.new.self in
-    let root = c.args.root in
-    let a = c.args.area.now in
+    let root = c.args.rooted.now.root in
+    let a = c.args.rooted.now.area.now in
     let names = IsOfSome c.deref.result.now (NamesVertex old.id) in
     let before = c.args.named.now in
     let first = c.follow_keys.new.prefixes.items in

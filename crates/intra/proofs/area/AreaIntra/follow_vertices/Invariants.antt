@@ -8,5 +8,5 @@ use Rattle.intra.proofs.area.AreaIntra.follow_vertices.Given as goal
 abbrev pub invariant-loop-vertex : goal.invariant-loop-vertex
 invariant-loop-vertex l = record {
   offered : HasOffered l.initial.self.index (IsOfSome (take l.vertex-index l.vertices) (NamesIn l.initial.self.id)) l.initial.named.prefixes.items l.named.prefixes.items;
-  updated : AreRoutersUpdated l.root l.area (λ r. IsOfSome (take l.vertex-index l.vertices) (NamesIn l.initial.self.id) (Router r)) l.initial.self l.self l.initial.named.routers.items l.named.routers.items;
+  updated : AreRoutersUpdated l.rooted.root l.rooted.area.now (λ r. IsOfSome (take l.vertex-index l.vertices) (NamesIn l.initial.self.id) (Router r)) l.initial.self l.self l.initial.named.routers.items l.named.routers.items;
 }

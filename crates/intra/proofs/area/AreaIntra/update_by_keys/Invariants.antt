@@ -7,4 +7,4 @@ use Rattle.intra.proofs.area.AreaIntra.update_by_keys.Given as goal
 
 abbrev pub invariant-loop-named : goal.invariant-loop-named
 invariant-loop-named l =
-    AreRoutersUpdated l.root l.area (λ r. IsOfSome (take l.named-index l.keys) (NamesVertex l.initial.self.id) (Router r)) l.initial.self l.self l.initial.routers.items l.routers.items
+    AreRoutersUpdated l.rooted.root l.rooted.area.now (λ r. IsOfSome (take l.named-index l.keys) (NamesVertex l.initial.self.id) (Router r)) l.initial.self l.self l.initial.routers.items l.routers.items
