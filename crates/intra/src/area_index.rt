@@ -19,7 +19,7 @@ use lsa_codec::Checked;
 use ospf_types::entry::Vertex;
 use ospf_types::memory::Memory;
 use ospf_types::prefix::Prefix;
-use path_choice::are_same;
+use result_map::are_same;
 use smallvec::SmallVec;
 use std::alloc::Global;
 use std::default::MadeWith;

@@ -12,7 +12,7 @@ use ospf_types::entry::Vertex;
 use ospf_types::lsa::{Link, LinkKind};
 use ospf_types::memory::Memory;
 use ospf_types::prefix::Prefix;
-use path_choice::Same;
+use result_map::Same;
 use std::alloc::Global;
 use std::marker::Model;
 

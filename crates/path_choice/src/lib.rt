@@ -1,11 +1,9 @@
 //! The choice between paths: offers come one at a time, and the best of them stays. Beside it, what is kept of a border
-//! router or AS boundary router that is reached, and whether what is kept is what was worked out anew.
+//! router or AS boundary router that is reached.
 #![tactic(auto)]
 
 mod choice;
 mod reached;
-mod same;
 
 pub use choice::{AreaCost, Best, Choice, ExactOrd};
 pub use reached::{Reached, RouterReach, has_bit, keep};
-pub use same::{Same, are_same};

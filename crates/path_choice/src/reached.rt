@@ -5,9 +5,9 @@ ghost use Rattle.ospf_types.specs.Hops.{hop_cmp};
 ghost use Rattle.ospf_types.specs.Intra.{B, E};
 ghost use Rattle.path_choice.specs.Reached.{reached_by, has_bit};
 
-use crate::same::Same;
 use ospf_types::hop::NextHop;
 use ospf_types::memory::Memory;
+use result_map::Same;
 use std::alloc::Global;
 use std::marker::Model;
 
