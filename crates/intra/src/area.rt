@@ -21,7 +21,7 @@ use ospf_types::entry::Vertex;
 use ospf_types::key::{Key, Scope};
 use ospf_types::memory::Memory;
 use ospf_types::prefix::Prefix;
-use path_choice::{Reached, are_same, has_bit, keep};
+use path_choice::{Reached, RouterReach, are_same, has_bit, keep};
 use std::alloc::Global;
 use std::marker::Model;
 use word_hash::WordHash;
@@ -379,8 +379,12 @@ fn reached_now(
     }
     let vertex = Vertex::Router(router);
     let area = rooted.area;
-    let (distance, hops) = (area.tree.distance(vertex), area.tree.hops(vertex));
-    keep(alloc, rooted.root, router, flags, distance, hops)
+    let reach = RouterReach {
+        router,
+        distance: area.tree.distance(vertex),
+        hops: area.tree.hops(vertex),
+    };
+    keep(alloc, rooted.root, flags, reach)
 }
 
 // Whether there are bits, and bit B or bit E is among them.
