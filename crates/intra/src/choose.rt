@@ -85,7 +85,7 @@ fn offer_areas(
 ) -> Result<(), Memory>
     ensures { OnOk result
         (TakesPaths (IndexOffers indexed.now.inputs.now indexed.now.kept.now prefix)
-            best.old best.new) }
+        best.old best.new) }
 {
     // 16.8: the paths of least cost unite. At one cost the area with the greater Area ID wins.
     let inputs = indexed.inputs;
@@ -109,7 +109,7 @@ fn offer_sources(
 ) -> Result<(), Memory>
     ensures { OnOk result
         (TakesPaths (SourcesOffer sources.now network.now.inputs.now network.now.area.now
-            network.now.prefix) best.old best.new) }
+        network.now.prefix) best.old best.new) }
 {
     let mut nearest = None;
     for source in sources {
@@ -128,7 +128,7 @@ fn offer_source(
     requires { IfSome nearest (λ n. n.1 < most_distance) }
     ensures offered { OnOk result
         (TakesPaths (StubOffers source.now network.now.inputs.now network.now.area.now
-            network.now.prefix) best.old best.new) }
+        network.now.prefix) best.old best.new) }
     ensures found { IfOk result (FindsNearestWith network.now.area.now source.now nearest) }
     ensures bounded { IfOk result (λ found. IfSome found (λ n. n.1 < most_distance)) }
 {
@@ -151,7 +151,7 @@ fn offer_stub(
     requires { stub.now.vertex ≡ vertex_value.Router router }
     ensures { OnOk result (TakesPaths
         (StubOffers (router_source router stub.now.metric) network.now.inputs.now
-            network.now.area.now network.now.prefix) best.old best.new) }
+        network.now.area.now network.now.prefix) best.old best.new) }
 {
     let (inputs, area) = (network.inputs, network.area);
     // 16.1, second stage (1): the distance of the router and the cost of the stub link.
