@@ -18,7 +18,7 @@ use crate::update::{
     list_networks_led_to, list_routers,
 };
 use intra::Dirty;
-use offer_index::{ChangedOffers, OfferIndex};
+use offer_index::{ChangedOffers, OfferIndex, ScopeDatabase};
 use ospf_types::entry::Entry;
 use ospf_types::key::{Dest, Scope};
 use ospf_types::memory::Memory;
@@ -202,13 +202,13 @@ impl External {
             (λ affected. StandsBut inputs.now dirty.now.dests.items affected self.new) }
     {
         let mut affected = ChangedOffers::none(alloc);
-        self.index.follow(
-            inputs.root,
-            Scope::As,
-            inputs.database,
-            dirty.keys.as_slice(),
-            &mut affected,
-        )?;
+        let from = ScopeDatabase {
+            root: inputs.root,
+            scope: Scope::As,
+            database: inputs.database,
+        };
+        self.index
+            .follow(from, dirty.keys.as_slice(), &mut affected)?;
         Ok(affected)
     }
 
@@ -222,8 +222,12 @@ impl External {
         ensures { IfOk result (λ affected. StandsButRouters inputs.now affected self.new) }
     {
         let mut affected = ChangedOffers::none(alloc);
-        self.index
-            .follow_all(inputs.root, Scope::As, inputs.database, &mut affected)?;
+        let from = ScopeDatabase {
+            root: inputs.root,
+            scope: Scope::As,
+            database: inputs.database,
+        };
+        self.index.follow_all(from, &mut affected)?;
         Ok(affected)
     }
 

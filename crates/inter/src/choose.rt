@@ -36,7 +36,7 @@ impl<'a> Choose<Dest, InterEntry, Dest> for Choosing<'a> {
 
     fn choose(&self, alloc: Global, key: Dest) -> Result<Option<InterEntry>, Memory> {
         match self.inputs.area() {
-            Some(area) => choose_in(alloc, self.inputs, area, self.index, &key),
+            Some(area) => self.choose_in(alloc, area, &key),
             None => Ok(None),
         }
     }
@@ -46,28 +46,31 @@ impl<'a> Choose<Dest, InterEntry, Dest> for Choosing<'a> {
     }
 }
 
-// The entry of the destination by the summaries of the area; none where another route is preferred to them.
-fn choose_in(
-    alloc: Global,
-    inputs: &InterInputs<'_>,
-    area: u32,
-    index: &OfferIndex,
-    dest: &Dest,
-) -> Result<Option<InterEntry>, Memory>
-    ensures { IfOk result (IsChosenIn inputs.now area index.now dest.now) }
-{
-    // 16.2 (3) and (6): active ranges and intra-area paths are preferred to summaries.
-    if is_taken_below(inputs, area, dest) {
-        return Ok(None);
-    }
-    let mut keys = Vec::new(alloc);
-    index.list_keys(LsaGroup::To(*dest), &mut keys)?;
-    let mut best = Best::new(alloc);
-    offer_keys(&mut best, inputs.intra, area, index, keys.as_slice())?;
-    // 16.2 (5) and (7): the cheapest paths are installed, all of one cost together.
-    match best.into_choice() {
-        Some(choice) => Ok(Some(entry(area, choice))),
-        None => Ok(None),
+impl Choosing<'_> {
+    // The entry of the destination by the summaries of the area; none where another route is preferred to them.
+    fn choose_in(&self, alloc: Global, area: u32, dest: &Dest) -> Result<Option<InterEntry>, Memory>
+        ensures { IfOk result
+            (IsChosenIn self.now.inputs.now area self.now.index.now dest.now) }
+    {
+        let inputs = self.inputs;
+        // 16.2 (3) and (6): active ranges and intra-area paths are preferred to summaries.
+        if is_taken_below(inputs, area, dest) {
+            return Ok(None);
+        }
+        let mut keys = Vec::new(alloc);
+        self.index.list_keys(LsaGroup::To(*dest), &mut keys)?;
+        let mut best = Best::new(alloc);
+        let offers = SummaryOffers {
+            intra: inputs.intra,
+            area,
+            index: self.index,
+        };
+        offers.offer_keys(&mut best, keys.as_slice())?;
+        // 16.2 (5) and (7): the cheapest paths are installed, all of one cost together.
+        match best.into_choice() {
+            Some(choice) => Ok(Some(entry(area, choice))),
+            None => Ok(None),
+        }
     }
 }
 
@@ -109,46 +112,46 @@ fn is_boundary(intra: &Intra, area: u32, router: u32) -> bool
     }
 }
 
-// Offers what is advertised under each of these keys.
-fn offer_keys(
-    best: &mut Best<SummaryCost, Path>,
-    intra: &Intra,
+// The paths that the summaries of an area offer.
+#[derive(Clone, Copy)]
+struct SummaryOffers<'a> {
+    intra: &'a Intra,
     area: u32,
-    index: &OfferIndex,
-    keys: &[Key],
-) -> Result<(), Memory>
-    ensures { OnOk result
-        (TakesPaths (KeysOffer keys.now intra.now.areas area index.now) best.old best.new) }
-{
-    for key in keys {
-        offer_key(best, intra, area, index, *key)?;
-    }
-    Ok(())
+    index: &'a OfferIndex,
 }
 
-// Offers what is advertised under the key, where its border router is reached.
-fn offer_key(
-    best: &mut Best<SummaryCost, Path>,
-    intra: &Intra,
-    area: u32,
-    index: &OfferIndex,
-    key: Key,
-) -> Result<(), Memory>
-    ensures { OnOk result
-        (TakesPaths (KeyOffers intra.now.areas area index.now key) best.old best.new) }
-{
-    let Some(route) = index.route(key) else {
-        return Ok(());
-    };
-    // 16.2 (4): the border router must be reached in the area. The cost is its distance and the metric.
-    let Some(border) = intra.router(area, key.router) else {
-        return Ok(());
-    };
-    if !border.is_border() {
-        return Ok(());
+impl SummaryOffers<'_> {
+    // Offers what is advertised under each of these keys.
+    fn offer_keys(self, best: &mut Best<SummaryCost, Path>, keys: &[Key]) -> Result<(), Memory>
+        ensures { OnOk result (TakesPaths
+            (KeysOffer keys.now self.entry.intra.now.areas self.entry.area self.entry.index.now)
+            best.old best.new) }
+    {
+        for key in keys {
+            self.offer_key(best, *key)?;
+        }
+        Ok(())
     }
-    let cost = SummaryCost::new(border.distance(), route.metric());
-    offer_hops(best, cost, key.router, border.hops())
+
+    // Offers what is advertised under the key, where its border router is reached.
+    fn offer_key(self, best: &mut Best<SummaryCost, Path>, key: Key) -> Result<(), Memory>
+        ensures { OnOk result (TakesPaths
+            (KeyOffers self.entry.intra.now.areas self.entry.area self.entry.index.now key)
+            best.old best.new) }
+    {
+        let Some(route) = self.index.route(key) else {
+            return Ok(());
+        };
+        // 16.2 (4): the border router must be reached in the area. The cost is its distance and the metric.
+        let Some(border) = self.intra.router(self.area, key.router) else {
+            return Ok(());
+        };
+        if !border.is_border() {
+            return Ok(());
+        }
+        let cost = SummaryCost::new(border.distance(), route.metric());
+        offer_hops(best, cost, key.router, border.hops())
+    }
 }
 
 // Offers a path over each of these next hops.

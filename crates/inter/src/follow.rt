@@ -7,66 +7,72 @@ ghost use Rattle.inter.specs.Inputs.{examined_area};
 ghost use Rattle.inter.specs.Inters.{IsIndexFor};
 
 use crate::inputs::InterInputs;
-use offer_index::{ChangedOffers, LsaGroup, OfferIndex};
+use offer_index::{ChangedOffers, LsaGroup, OfferIndex, ScopeDatabase};
 use ospf_types::key::{Dest, Key, Scope};
 use ospf_types::memory::Memory;
 
-/// The index takes what the LSAs of the examined area say now. It was that of this area, of another or of none.
-pub(crate) fn follow_examined(
-    area: Option<u32>,
-    index: &mut OfferIndex,
-    inputs: &InterInputs<'_>,
-    keys: &[(Scope, Key)],
-    affected: &mut ChangedOffers,
-) -> Result<(), Memory>
-    requires { IsIndexBefore inputs.now.root keys.now inputs.now.examined area index.old }
-    ensures index { OnOk result (IsIndexFor inputs.now.root inputs.now.examined index.new) }
-    ensures led { OnOk result
-        (AreLed area (examined_area inputs.now) index.old index.new affected.new.dests) }
-{
-    if area == inputs.area() {
-        return follow_named(index, inputs, keys, affected);
-    }
-    index.clear(affected)?;
-    follow_all(index, inputs, affected)
-}
-
-// The index takes what the named LSAs say, where this area was examined before.
-fn follow_named(
-    index: &mut OfferIndex,
-    inputs: &InterInputs<'_>,
-    keys: &[(Scope, Key)],
-    affected: &mut ChangedOffers,
-) -> Result<(), Memory>
-    requires { IsIndexSince inputs.now.root keys.now inputs.now.examined index.old }
-    ensures index { OnOk result (IsIndexFor inputs.now.root inputs.now.examined index.new) }
-    ensures touched { OnOk result (AreTouched index.old index.new affected.old affected.new) }
-{
-    match &inputs.examined {
-        Some(examined) => {
-            let scope = Scope::Area(examined.area);
-            index.follow(inputs.root, scope, examined.database, keys, affected)
+impl InterInputs<'_> {
+    /// The index takes what the LSAs of the examined area say now. It was that of this area, of another or of none.
+    pub(crate) fn follow_examined(
+        &self,
+        area: Option<u32>,
+        index: &mut OfferIndex,
+        keys: &[(Scope, Key)],
+        affected: &mut ChangedOffers,
+    ) -> Result<(), Memory>
+        requires { IsIndexBefore self.now.root keys.now self.now.examined area index.old }
+        ensures index { OnOk result (IsIndexFor self.now.root self.now.examined index.new) }
+        ensures led { OnOk result
+            (AreLed area (examined_area self.now) index.old index.new affected.new.dests) }
+    {
+        if area == self.area() {
+            return self.follow_named(index, keys, affected);
         }
-        None => Ok(()),
+        index.clear(affected)?;
+        self.follow_all(index, affected)
     }
-}
 
-// The index takes what all LSAs of the area say, where it has nothing.
-fn follow_all(
-    index: &mut OfferIndex,
-    inputs: &InterInputs<'_>,
-    affected: &mut ChangedOffers,
-) -> Result<(), Memory>
-    requires { index.old ≡ empty_index }
-    ensures index { OnOk result (IsIndexFor inputs.now.root inputs.now.examined index.new) }
-    ensures touched { OnOk result (AreTouched index.old index.new affected.old affected.new) }
-{
-    match &inputs.examined {
-        Some(examined) => {
-            let scope = Scope::Area(examined.area);
-            index.follow_all(inputs.root, scope, examined.database, affected)
+    // The index takes what the named LSAs say, where this area was examined before.
+    fn follow_named(
+        &self,
+        index: &mut OfferIndex,
+        keys: &[(Scope, Key)],
+        affected: &mut ChangedOffers,
+    ) -> Result<(), Memory>
+        requires { IsIndexSince self.now.root keys.now self.now.examined index.old }
+        ensures index { OnOk result (IsIndexFor self.now.root self.now.examined index.new) }
+        ensures touched { OnOk result (AreTouched index.old index.new affected.old affected.new) }
+    {
+        match &self.examined {
+            Some(examined) => {
+                let from = ScopeDatabase {
+                    root: self.root,
+                    scope: Scope::Area(examined.area),
+                    database: examined.database,
+                };
+                index.follow(from, keys, affected)
+            }
+            None => Ok(()),
         }
-        None => Ok(()),
+    }
+
+    // The index takes what all LSAs of the area say, where it has nothing.
+    fn follow_all(&self, index: &mut OfferIndex, affected: &mut ChangedOffers) -> Result<(), Memory>
+        requires { index.old ≡ empty_index }
+        ensures index { OnOk result (IsIndexFor self.now.root self.now.examined index.new) }
+        ensures touched { OnOk result (AreTouched index.old index.new affected.old affected.new) }
+    {
+        match &self.examined {
+            Some(examined) => {
+                let from = ScopeDatabase {
+                    root: self.root,
+                    scope: Scope::Area(examined.area),
+                    database: examined.database,
+                };
+                index.follow_all(from, affected)
+            }
+            None => Ok(()),
+        }
     }
 }
 

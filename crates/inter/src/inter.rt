@@ -12,7 +12,7 @@ ghost use Rattle.inter.specs.Right.{IsRightWith};
 
 use crate::choose::Choosing;
 use crate::cost::InterEntry;
-use crate::follow::{follow_examined, push_named};
+use crate::follow::push_named;
 use crate::inputs::InterInputs;
 use intra::Dirty;
 use offer_index::{ChangedOffers, OfferIndex};
@@ -190,13 +190,7 @@ impl Inter {
             self.old.examined self.old.index self.new.index dests.items) }
     {
         let mut affected = ChangedOffers::none(alloc);
-        follow_examined(
-            self.examined,
-            &mut self.index,
-            inputs,
-            &dirty.keys,
-            &mut affected,
-        )?;
+        inputs.follow_examined(self.examined, &mut self.index, &dirty.keys, &mut affected)?;
         self.examined = inputs.area();
         let mut dests = affected.dests;
         push_named(&self.index, &dirty.dests, &mut dests)?;

@@ -1,5 +1,5 @@
 //! What an LSA advertises.
-ghost use Rattle.std.specs.Prelude.{◌≡◌, ◌<◌, ◌↔◌, IsTrue};
+ghost use Rattle.std.specs.Prelude.{◌≡◌, ◌<◌, ◌↔◌, false, IsTrue};
 ghost use Rattle.ospf_types.specs.Inter.{LSInfinity};
 ghost use Rattle.ospf_types.specs.Lsa.{key_of};
 ghost use Rattle.lsdb.specs.Contents.{body_at};
@@ -84,21 +84,36 @@ impl Advertised {
     }
 }
 
-/// What is advertised under the key: in an area by summary-LSAs, in the AS by AS-external-LSAs (RFC 2328, 16.2 and 16.4).
-pub(crate) fn advertised_under(
-    root: u32,
-    scope: Scope,
-    key: Key,
-    database: &Database,
-) -> Option<Advertised>
-    ensures { result ≡ advertised_at root scope key (body_at database.now.lsas key) }
-{
-    // 16.2 (1), 16.4 (1): an LSA at MaxAge counts for nothing.
-    let lsa = database.usable(key)?;
-    match scope {
-        Scope::Area(_) => summarized(root, key, lsa),
-        Scope::As => externalized(root, key, lsa),
+/// The LSAs of a scope, and the router that reads what they advertise.
+#[derive(Clone, Copy)]
+pub struct ScopeDatabase<'a> {
+    /// The Router ID of that router.
+    pub root: u32,
+    pub scope: Scope,
+    pub database: &'a Database,
+}
+
+impl ScopeDatabase<'_> {
+    /// What is advertised under the key: in an area by summary-LSAs, in the AS by AS-external-LSAs (RFC 2328, 16.2 and 16.4).
+    pub(crate) fn advertised_under(self, key: Key) -> Option<Advertised>
+        ensures { result ≡ advertised_at self.entry.root self.entry.scope key
+            (body_at self.entry.database.now.lsas key) }
+    {
+        // 16.2 (1), 16.4 (1): an LSA at MaxAge counts for nothing.
+        let lsa = self.database.usable(key)?;
+        match self.scope {
+            Scope::Area(_) => summarized(self.root, key, lsa),
+            Scope::As => externalized(self.root, key, lsa),
+        }
     }
+}
+
+// A route as its LSA has it, at a metric that may be LSInfinity.
+#[derive(Clone, Copy)]
+struct LsaRoute {
+    dest: Dest,
+    metric: u32,
+    external: External,
 }
 
 // What a summary-LSA advertises: nothing for the root itself.
@@ -111,9 +126,23 @@ fn summarized(root: u32, key: Key, lsa: &Checked) -> Option<Advertised>
         return None;
     }
     match lsa.prefix() {
-        Some(network) => offer(root, key, Dest::Net(network), metric, NO_EXTERNAL),
+        Some(network) => offer(root, key, summary_route(Dest::Net(network), metric)),
         None if key.id == root => None,
-        None => offer(root, key, Dest::Router(key.id), metric, NO_EXTERNAL),
+        None => offer(root, key, summary_route(Dest::Router(key.id), metric)),
+    }
+}
+
+// The route of a summary-LSA.
+fn summary_route(dest: Dest, metric: u32) -> LsaRoute
+    ensures dest { result.dest ≡ dest }
+    ensures metric { result.metric ≡ metric }
+    ensures type_1 { result.external.is_type_2 ≡ false }
+    ensures direct { result.external.forwarding ≡ 0 }
+{
+    LsaRoute {
+        dest,
+        metric,
+        external: NO_EXTERNAL,
     }
 }
 
@@ -125,23 +154,29 @@ fn externalized(root: u32, key: Key, lsa: &Checked) -> Option<Advertised>
     let external = lsa.external()?;
     let metric = lsa.metric()?;
     let network = lsa.prefix()?;
-    offer(root, key, Dest::Net(network), metric, external)
+    let dest = Dest::Net(network);
+    let route = LsaRoute {
+        dest,
+        metric,
+        external,
+    };
+    offer(root, key, route)
 }
 
 // The route, unless it is the root's own or not below LSInfinity.
-fn offer(root: u32, key: Key, dest: Dest, metric: u32, external: External) -> Option<Advertised>
-    ensures { result ≡ unless_useless root key metric
-        (route_to dest metric external.is_type_2 external.forwarding) }
+fn offer(root: u32, key: Key, route: LsaRoute) -> Option<Advertised>
+    ensures { result ≡ unless_useless root key route.metric
+        (route_to route.dest route.metric route.external.is_type_2 route.external.forwarding) }
 {
     // 16.2 (1) and (2), 16.4 (1) and (2): the metric is below LSInfinity, and another router originated the LSA.
-    if key.router == root || metric >= LS_INFINITY {
+    if key.router == root || route.metric >= LS_INFINITY {
         return None;
     }
     Some(Advertised {
-        dest,
-        metric,
-        is_type_2: external.is_type_2,
-        forwarding: external.forwarding,
+        dest: route.dest,
+        metric: route.metric,
+        is_type_2: route.external.is_type_2,
+        forwarding: route.external.forwarding,
     })
 }
 

@@ -10,11 +10,10 @@ ghost use Rattle.offer_index.specs.Lists.{HasMore, HasMoreOnce, KeepsAll, HasAll
 ghost use Rattle.offer_index.specs.Members.{IsMemberBy, AreRoutesAlikeBut};
 ghost use Rattle.result_map.specs.Results.{result_at};
 
-use crate::advertised::{Advertised, advertised_under};
+use crate::advertised::{Advertised, ScopeDatabase};
 use crate::changed_offers::ChangedOffers;
 use crate::lsa_group::LsaGroup;
 use crate::members::Members;
-use lsdb::Database;
 use ospf_types::key::{Dest, Key, Scope};
 use ospf_types::memory::Memory;
 use ospf_types::prefix::Prefix;
@@ -80,18 +79,18 @@ impl OfferIndex {
     /// have are added to those that are affected. The root's own LSAs advertise nothing to it.
     pub fn follow(
         &mut self,
-        root: u32,
-        scope: Scope,
-        database: &Database,
+        from: ScopeDatabase<'_>,
         keys: &[(Scope, Key)],
         affected: &mut ChangedOffers,
     ) -> Result<(), Memory>
-        requires before { IsIndexBehind root scope keys.now database.now.lsas self.old }
-        ensures index { OnOk result (IsIndexOf root scope database.now.lsas self.new) }
+        requires before { IsIndexBehind from.root from.scope keys.now from.database.now.lsas
+            self.old }
+        ensures index { OnOk result
+            (IsIndexOf from.entry.root from.entry.scope from.entry.database.now.lsas self.new) }
         ensures touched { OnOk result (AreTouched self.old self.new affected.old affected.new) }
     {
         for named in keys {
-            self.follow_named(root, scope, database, *named, affected)?;
+            self.follow_named(from, *named, affected)?;
         }
         Ok(())
     }
@@ -99,17 +98,16 @@ impl OfferIndex {
     /// Takes what all LSAs of the database say, where nothing was taken before.
     pub fn follow_all(
         &mut self,
-        root: u32,
-        scope: Scope,
-        database: &Database,
+        from: ScopeDatabase<'_>,
         affected: &mut ChangedOffers,
     ) -> Result<(), Memory>
         requires { self.old ≡ empty_index }
-        ensures index { OnOk result (IsIndexOf root scope database.now.lsas self.new) }
+        ensures index { OnOk result
+            (IsIndexOf from.entry.root from.entry.scope from.entry.database.now.lsas self.new) }
         ensures touched { OnOk result (AreTouched self.old self.new affected.old affected.new) }
     {
-        for key in database.keys() {
-            self.follow_key(root, scope, database, *key, affected)?;
+        for key in from.database.keys() {
+            self.follow_key(from, *key, affected)?;
         }
         Ok(())
     }
@@ -193,39 +191,37 @@ impl OfferIndex {
     // Takes what the named LSA says now, if it is one of the scope.
     fn follow_named(
         &mut self,
-        root: u32,
-        scope: Scope,
-        database: &Database,
+        from: ScopeDatabase<'_>,
         named: (Scope, Key),
         affected: &mut ChangedOffers,
     ) -> Result<(), Memory>
-        ensures taken { OnOk result
-            (named.0 ≡ scope → IsTakenAt root scope named.1 database.now.lsas self.new) }
+        ensures taken { OnOk result (named.0 ≡ from.entry.scope
+            → IsTakenAt from.entry.root from.entry.scope named.1 from.entry.database.now.lsas
+            self.new) }
         ensures others { OnOk result
-            ((k : KeyValue) → named ≢ (scope, k) → IsAlikeAt self.old self.new k) }
+            ((k : KeyValue) → named ≢ (from.entry.scope, k) → IsAlikeAt self.old self.new k) }
         ensures touched { OnOk result (AreTouched self.old self.new affected.old affected.new) }
     {
         let (of, key) = named;
-        if of != scope {
+        if of != from.scope {
             return Ok(());
         }
-        self.follow_key(root, scope, database, key, affected)
+        self.follow_key(from, key, affected)
     }
 
     // Takes what the LSA under the key says now.
     fn follow_key(
         &mut self,
-        root: u32,
-        scope: Scope,
-        database: &Database,
+        from: ScopeDatabase<'_>,
         key: Key,
         affected: &mut ChangedOffers,
     ) -> Result<(), Memory>
-        ensures taken { OnOk result (IsTakenAt root scope key database.now.lsas self.new) }
+        ensures taken { OnOk result
+            (IsTakenAt from.entry.root from.entry.scope key from.entry.database.now.lsas self.new) }
         ensures others { OnOk result (AreAlikeBut key self.old self.new) }
         ensures touched { OnOk result (AreTouched self.old self.new affected.old affected.new) }
     {
-        let fresh = advertised_under(root, scope, key, database);
+        let fresh = from.advertised_under(key);
         if are_same(self.route(key), fresh.as_ref()) {
             return Ok(());
         }

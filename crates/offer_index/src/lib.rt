@@ -11,7 +11,7 @@ mod marks;
 mod members;
 mod noted;
 
-pub use advertised::Advertised;
+pub use advertised::{Advertised, ScopeDatabase};
 pub use changed_offers::ChangedOffers;
 pub use index::OfferIndex;
 pub use lsa_group::LsaGroup;

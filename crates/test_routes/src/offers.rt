@@ -5,7 +5,7 @@ ghost use Rattle.ospf_types.specs.Lsa.{key_of};
 
 use lsa_codec::Checked;
 use lsdb::Database;
-use offer_index::{ChangedOffers, LsaGroup, OfferIndex};
+use offer_index::{ChangedOffers, LsaGroup, OfferIndex, ScopeDatabase};
 use ospf_types::key::{Dest, Key, Scope};
 use ospf_types::memory::Memory;
 use ospf_types::prefix::Prefix;
@@ -43,7 +43,12 @@ fn summary(rt: &HostRuntime, affected: &mut ChangedOffers) -> Result<OfferIndex,
     let key = lsa.key();
     let database = database_of(rt, lsa)?;
     let mut index = OfferIndex::new(rt.alloc(), RandomState::new(rt)?);
-    index.follow(1, AREA, &database, &[(AREA, key)], affected)?;
+    let from = ScopeDatabase {
+        root: 1,
+        scope: AREA,
+        database: &database,
+    };
+    index.follow(from, &[(AREA, key)], affected)?;
     Ok(index)
 }
 
@@ -52,7 +57,12 @@ fn external(rt: &HostRuntime, affected: &mut ChangedOffers) -> Result<OfferIndex
     let lsa = lsa_codec::read(rt.alloc(), &EXTERNAL)?;
     let database = database_of(rt, lsa)?;
     let mut index = OfferIndex::new(rt.alloc(), RandomState::new(rt)?);
-    index.follow_all(1, Scope::As, &database, affected)?;
+    let from = ScopeDatabase {
+        root: 1,
+        scope: Scope::As,
+        database: &database,
+    };
+    index.follow_all(from, affected)?;
     Ok(index)
 }
 

@@ -7,7 +7,7 @@ use Rattle.offer_index.proofs.index.OfferIndex.follow.Goals as goal
 
 pub loop-named-init : goal.loop-named-init
 loop-named-init c =
-    followed_first c.args.root c.args.scope c.args.database.now.lsas c.args.keys.now c.requires.before.0 c.args.self.now c.args.affected.now c.requires.before.1 c.requires.before.2
+    followed_first c.args.from.root c.args.from.scope c.args.from.database.now.lsas c.args.keys.now c.requires.before.0 c.args.self.now c.args.affected.now c.requires.before.1 c.requires.before.2
 
 pub loop-named-preserved : goal.loop-named-preserved
 loop-named-preserved c =
@@ -15,8 +15,8 @@ loop-named-preserved c =
     let keys = c.args.keys.now in
     let place = c.loop-named.named-index in
     let done = c.in_ok-follow_named.ensures in
-    followed_more c.args.root c.args.scope c.args.database.now.lsas keys place c.args.self.now c.loop-named.self c.follow_named.new.self c.args.affected.now c.loop-named.affected c.follow_named.new.affected (get_or keys place blank) blank c.loop-named-test.true refl c.loop-named.invariant done.taken done.others done.touched
+    followed_more c.args.from.root c.args.from.scope c.args.from.database.now.lsas keys place c.args.self.now c.loop-named.self c.follow_named.new.self c.args.affected.now c.loop-named.affected c.follow_named.new.affected (get_or keys place blank) blank c.loop-named-test.true refl c.loop-named.invariant done.taken done.others done.touched
 
 pub returns-clause-index : goal.returns-clause-index
 returns-clause-index c =
-    followed_all c.args.root c.args.scope c.args.database.now.lsas c.args.keys.now c.loop-named.named-index c.args.self.now c.loop-named.self c.args.affected.now c.loop-named.affected c.loop-named-test.false c.loop-named.invariant
+    followed_all c.args.from.root c.args.from.scope c.args.from.database.now.lsas c.args.keys.now c.loop-named.named-index c.args.self.now c.loop-named.self c.args.affected.now c.loop-named.affected c.loop-named-test.false c.loop-named.invariant

@@ -6,11 +6,11 @@ use Rattle.offer_index.proofs.index.OfferIndex.follow_all.Goals as goal
 
 pub loop-key-init : goal.loop-key-init
 loop-key-init c =
-    let d = c.args.database.now in
+    let d = c.args.from.database.now in
     let i = c.args.self.now in
     let v = c.args.affected.now in
-    let first = begun c.args.root c.args.scope d.lsas d v refl c.keys-key-items.ensures.ordered i c.requires in
-    subst (λ (ks : List Key). IsFollowed c.args.root c.args.scope d.lsas (Contains ks) i i v v) (sym c.keys-key-items.ensures.value) first
+    let first = begun c.args.from.root c.args.from.scope d.lsas d v refl c.keys-key-items.ensures.ordered i c.requires in
+    subst (λ (ks : List Key). IsFollowed c.args.from.root c.args.from.scope d.lsas (Contains ks) i i v v) (sym c.keys-key-items.ensures.value) first
 
 pub loop-key-preserved : goal.loop-key-preserved
 loop-key-preserved c =
@@ -18,8 +18,8 @@ loop-key-preserved c =
     let keys = c.keys-key-items.result.now in
     let place = c.loop-key.key-index in
     let done = c.in_ok-follow_key.ensures in
-    gone_on c.args.root c.args.scope c.args.database.now.lsas keys place c.args.self.now c.loop-key.self c.follow_key.new.self c.args.affected.now c.loop-key.affected c.follow_key.new.affected (get_or keys place blank) blank c.loop-key-test.true refl c.loop-key.invariant done.taken done.others done.touched
+    gone_on c.args.from.root c.args.from.scope c.args.from.database.now.lsas keys place c.args.self.now c.loop-key.self c.follow_key.new.self c.args.affected.now c.loop-key.affected c.follow_key.new.affected (get_or keys place blank) blank c.loop-key-test.true refl c.loop-key.invariant done.taken done.others done.touched
 
 pub returns-clause-index : goal.returns-clause-index
 returns-clause-index c =
-    gone_through c.args.root c.args.scope c.args.database.now.lsas c.keys-key-items.result.now c.loop-key.key-index c.args.self.now c.loop-key.self c.args.affected.now c.loop-key.affected c.loop-key-test.false c.loop-key.invariant
+    gone_through c.args.from.root c.args.from.scope c.args.from.database.now.lsas c.keys-key-items.result.now c.loop-key.key-index c.args.self.now c.loop-key.self c.args.affected.now c.loop-key.affected c.loop-key-test.false c.loop-key.invariant
