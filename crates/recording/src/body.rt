@@ -15,7 +15,7 @@ use crate::line::Line;
 use crate::version::Version;
 use event_state::Event;
 use lsa_codec::{Checked, WireFault};
-use ospf_types::config::Range;
+use ospf_types::config::{Interface, Range};
 use std::alloc::Global;
 
 /// Adds what the line says. The room is for the bytes of its LSA.
@@ -54,19 +54,7 @@ fn read_line(
         LineForm::Version(_) | LineForm::Router(_) | LineForm::Compat(_) => Err(Fault::Order),
         LineForm::Serial(_) | LineForm::Area { .. } | LineForm::Range { .. } => Err(Fault::Order),
         LineForm::HasInterface { .. } | LineForm::HasLsa { .. } => Err(Fault::Order),
-        LineForm::Interface {
-            id,
-            area,
-            address,
-            peer,
-            up,
-        } => Ok(Line::Event(Event::Interface {
-            id,
-            area,
-            address,
-            peer,
-            up,
-        })),
+        LineForm::Interface { id, interface } => Ok(interface_line(id, interface)),
         LineForm::Install { scope, digits } => match read_lsa(alloc, digits, room) {
             Ok(lsa) => Ok(Line::Event(Event::Install { scope, lsa })),
             Err(fault) => Err(fault),
@@ -79,6 +67,20 @@ fn read_line(
         LineForm::Lookup(address) => Ok(Line::Lookup(address)),
         LineForm::Roll => Ok(Line::Roll),
     }
+}
+
+// The line of an interface that comes or changes.
+fn interface_line(id: u8, interface: Interface) -> Line
+    ensures { result ≡ line.Event (event.Interface id
+        interface.area interface.address interface.peer interface.up) }
+{
+    Line::Event(Event::Interface {
+        id,
+        area: interface.area,
+        address: interface.address,
+        peer: interface.peer,
+        up: interface.up,
+    })
 }
 
 // The line by which an area has a range.

@@ -18,51 +18,18 @@ pub(crate) enum LineForm<'a> {
     /// Whether RFC1583Compatibility is enabled.
     Compat(bool),
     Serial(u64),
-    Area {
-        id: u32,
-        stub: Option<Stub>,
-    },
-    Range {
-        area: u32,
-        range: Range,
-    },
-    HasInterface {
-        id: u8,
-        interface: Interface,
-    },
+    Area { id: u32, stub: Option<Stub> },
+    Range { area: u32, range: Range },
+    HasInterface { id: u8, interface: Interface },
     /// The bytes are still hexadecimal digits.
-    HasLsa {
-        scope: Scope,
-        digits: &'a [u8],
-    },
-    Interface {
-        id: u8,
-        area: u32,
-        address: u32,
-        peer: u32,
-        up: bool,
-    },
+    HasLsa { scope: Scope, digits: &'a [u8] },
+    Interface { id: u8, interface: Interface },
     /// The bytes are still hexadecimal digits.
-    Install {
-        scope: Scope,
-        digits: &'a [u8],
-    },
-    Flush {
-        scope: Scope,
-        key: Key,
-    },
-    Purge {
-        scope: Scope,
-        key: Key,
-    },
-    RangeSet {
-        area: u32,
-        range: Range,
-    },
-    RangeDrop {
-        area: u32,
-        prefix: Prefix,
-    },
+    Install { scope: Scope, digits: &'a [u8] },
+    Flush { scope: Scope, key: Key },
+    Purge { scope: Scope, key: Key },
+    RangeSet { area: u32, range: Range },
+    RangeDrop { area: u32, prefix: Prefix },
     Second,
     Lookup(u32),
     Roll,
@@ -209,10 +176,7 @@ fn interface<'a>(words: &mut Words<'a>) -> Option<LineForm<'a>>
     let fields = interface_fields(words)?;
     Some(LineForm::Interface {
         id: fields.0,
-        area: fields.1.area,
-        address: fields.1.address,
-        peer: fields.1.peer,
-        up: fields.1.up,
+        interface: fields.1,
     })
 }
 
