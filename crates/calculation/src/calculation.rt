@@ -42,7 +42,7 @@ use ospf_types::prefix::Prefix;
 use route_layers::{active_areas, build_external, build_inter, follow_external, follow_inter};
 use route_table::{Item, NewItem, Table};
 use spf::Touched;
-use state_trees::{area_inputs, build_trees, follow_trees};
+use state_trees::{ChangedState, area_inputs, build_trees, follow_trees};
 use std::alloc::Global;
 use std::hash::RandomState;
 use std::marker::Model;
@@ -161,7 +161,12 @@ impl Calculation {
             → IsEventWork before state.now told.work) }
     {
         let mut vertices = Vec::new(alloc);
-        let work = follow_trees(alloc, &mut self.trees, state, &keys, &ids, &mut vertices)?;
+        let changed = ChangedState {
+            state,
+            keys: &keys,
+            interfaces: &ids,
+        };
+        let work = follow_trees(alloc, &mut self.trees, changed, &mut vertices)?;
         let mut dirty = Dirty {
             vertices,
             keys,
