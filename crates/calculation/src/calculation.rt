@@ -39,10 +39,10 @@ use ospf_types::entry::Entry;
 use ospf_types::key::{Dest, Key, Scope};
 use ospf_types::memory::Memory;
 use ospf_types::prefix::Prefix;
-use route_layers::{active_areas, build_external, build_inter, follow_external, follow_inter};
+use route_layers::{IntraLayer, active_areas};
 use route_table::{Item, NewItem, Table};
 use spf::Touched;
-use state_trees::{area_inputs, build_trees, follow_trees};
+use state_trees::{ChangedState, area_inputs, build_trees, follow_trees};
 use std::alloc::Global;
 use std::hash::RandomState;
 use std::marker::Model;
@@ -122,8 +122,13 @@ impl Calculation {
         let (trees, work) = build_trees(alloc, state, hashing)?;
         let intra = build_intra(alloc, state, &trees, hashing)?;
         let active = ActiveRanges::build(alloc, state.config().areas.as_slice(), &intra)?;
-        let inter = build_inter(alloc, state, &intra, &active, hashing)?;
-        let external = build_external(alloc, state, &intra, &active, &inter, hashing)?;
+        let below = IntraLayer {
+            state,
+            intra: &intra,
+            active: &active,
+        };
+        let inter = below.build_inter(alloc, hashing)?;
+        let external = below.build_external(alloc, &inter, hashing)?;
         let calculation = Calculation {
             trees,
             intra,
@@ -161,7 +166,12 @@ impl Calculation {
             → IsEventWork before state.now told.work) }
     {
         let mut vertices = Vec::new(alloc);
-        let work = follow_trees(alloc, &mut self.trees, state, &keys, &ids, &mut vertices)?;
+        let changed = ChangedState {
+            state,
+            keys: &keys,
+            interfaces: &ids,
+        };
+        let work = follow_trees(alloc, &mut self.trees, changed, &mut vertices)?;
         let mut dirty = Dirty {
             vertices,
             keys,
@@ -286,12 +296,15 @@ impl Calculation {
         push_networks(&ranges, &mut dests)?;
         push_range(&range, &mut dests)?;
         dirty.dests = dests;
-        let inter = &mut self.inter;
-        let dests = follow_inter(alloc, inter, state, &self.intra, &self.active, dirty)?;
+        let below = IntraLayer {
+            state,
+            intra: &self.intra,
+            active: &self.active,
+        };
+        let dests = below.follow_inter(alloc, &mut self.inter, dirty)?;
         dirty.dests.extend_from_slice(&dests)?;
-        let external = &mut self.external;
-        let (intra, active, inter) = (&self.intra, &self.active, &self.inter);
-        let mut all = follow_external(alloc, external, state, intra, active, inter, dirty)?;
+        let (external, inter) = (&mut self.external, &self.inter);
+        let mut all = below.follow_external(alloc, external, inter, dirty)?;
         push_routers(&all, &mut dirty.dests)?;
         all.extend_from_slice(&dirty.dests)?;
         push_members(&within, &mut dirty.dests)?;

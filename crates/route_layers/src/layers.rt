@@ -42,125 +42,128 @@ use std::hash::RandomState;
 // The Area ID of the backbone (RFC 2328, 3.1).
 const BACKBONE: u32 = 0;
 
-/// The inter-area routes of the state.
-pub fn build_inter(
-    alloc: Global,
-    state: &State,
-    intra: &Intra,
-    active: &ActiveRanges,
-    hashing: RandomState,
-) -> Result<Inter, Memory>
-    requires fit { AreFit state.now.config.areas state.now.databases }
-    requires routed { IsRightFor (inputs_of state.now) intra.now }
-    requires ranged { AreRangesRight (inputs_of state.now) active.now }
-    ensures kept { IfOk result (IsInterFor state.now intra.now active.now) }
-    ensures right { IfOk result (IsInterRight (inputs_of state.now)) }
-{
-    let inputs = InterInputs {
-        root: state.config().router,
-        examined: examined(state),
-        intra,
-        active,
-    };
-    Inter::build(alloc, &inputs, hashing)
+/// The routes of a state within its areas, on which the other routes rest: intra-area routes, and active ranges.
+#[derive(Clone, Copy)]
+pub struct IntraLayer<'a> {
+    pub state: &'a State,
+    pub intra: &'a Intra,
+    pub active: &'a ActiveRanges,
 }
 
-/// The inter-area routes follow the state, the intra-area routes and the active ranges.
-pub fn follow_inter(
-    alloc: Global,
-    inter: &mut Inter,
-    state: &State,
-    intra: &Intra,
-    active: &ActiveRanges,
-    dirty: &Dirty,
-) -> Result<Vec<Dest>, Memory>
-    requires fit { AreFit state.now.config.areas state.now.databases }
-    requires routed { IsRightFor (inputs_of state.now) intra.now }
-    requires ranged { AreRangesRight (inputs_of state.now) active.now }
-    requires before { (before : InterInputsValue) × IsInterOf before inter.old
-        × ((examined : Option ExaminedValue) → IsExaminedOf state.now examined → InterInputsDiffer dirty.now.keys.items dirty.now.dests.items before (inter_inputs state.now examined intra.now active.now)) }
-    ensures kept { OnOk result (IsInterFor state.now intra.now active.now inter.new) }
-    ensures right { OnOk result (IsInterRight (inputs_of state.now) inter.new) }
-    ensures in_order { IfOk result (λ dests. IsStrictlySortedBy dest_cmp dests.items) }
-    ensures exact { IfOk result (λ dests. (d : DestValue)
-        → Contains dests.items d ↔ InterDiffersAt inter.old inter.new d) }
-{
-    let inputs = InterInputs {
-        root: state.config().router,
-        examined: examined(state),
-        intra,
-        active,
-    };
-    inter.update(alloc, &inputs, dirty)
-}
+impl IntraLayer<'_> {
+    /// The inter-area routes of the state.
+    pub fn build_inter(self, alloc: Global, hashing: RandomState) -> Result<Inter, Memory>
+        requires fit { AreFit self.state.now.config.areas self.state.now.databases }
+        requires routed { IsRightFor (inputs_of self.state.now) self.intra.now }
+        requires ranged { AreRangesRight (inputs_of self.state.now) self.active.now }
+        ensures kept { IfOk result
+            (IsInterFor self.entry.state.now self.entry.intra.now self.entry.active.now) }
+        ensures right { IfOk result (IsInterRight (inputs_of self.entry.state.now)) }
+    {
+        let inputs = InterInputs {
+            root: self.state.config().router,
+            examined: examined(self.state),
+            intra: self.intra,
+            active: self.active,
+        };
+        Inter::build(alloc, &inputs, hashing)
+    }
 
-/// The external routes of the state.
-pub fn build_external(
-    alloc: Global,
-    state: &State,
-    intra: &Intra,
-    active: &ActiveRanges,
-    inter: &Inter,
-    hashing: RandomState,
-) -> Result<External, Memory>
-    requires fit { AreFit state.now.config.areas state.now.databases }
-    requires routed { IsRightFor (inputs_of state.now) intra.now }
-    requires ranged { AreRangesRight (inputs_of state.now) active.now }
-    requires between { IsInterRight (inputs_of state.now) inter.now }
-    ensures kept { IfOk result (IsExternalOf
-        (external_inputs state.now intra.now active.now inter.now)) }
-    ensures right { IfOk result (IsExternalRight (inputs_of state.now)) }
-{
-    let areas = area_ids(alloc, state)?;
-    let config = state.config();
-    let inputs = ExternalInputs {
-        root: config.router,
-        compat: config.compat,
-        areas: &areas,
-        database: externals(state),
-        intra,
-        active,
-        inter,
-    };
-    External::build(alloc, &inputs, hashing)
-}
+    /// The inter-area routes follow the state, the intra-area routes and the active ranges.
+    pub fn follow_inter(
+        self,
+        alloc: Global,
+        inter: &mut Inter,
+        dirty: &Dirty,
+    ) -> Result<Vec<Dest>, Memory>
+        requires fit { AreFit self.state.now.config.areas self.state.now.databases }
+        requires routed { IsRightFor (inputs_of self.state.now) self.intra.now }
+        requires ranged { AreRangesRight (inputs_of self.state.now) self.active.now }
+        requires before { (before : InterInputsValue) × IsInterOf before inter.old
+            × ((examined : Option ExaminedValue) → IsExaminedOf self.state.now examined
+            → InterInputsDiffer dirty.now.keys.items dirty.now.dests.items before
+            (inter_inputs self.state.now examined self.intra.now self.active.now)) }
+        ensures kept { OnOk result
+            (IsInterFor self.entry.state.now self.entry.intra.now self.entry.active.now inter.new) }
+        ensures right { OnOk result (IsInterRight (inputs_of self.entry.state.now) inter.new) }
+        ensures in_order { IfOk result (λ dests. IsStrictlySortedBy dest_cmp dests.items) }
+        ensures exact { IfOk result (λ dests. (d : DestValue)
+            → Contains dests.items d ↔ InterDiffersAt inter.old inter.new d) }
+    {
+        let inputs = InterInputs {
+            root: self.state.config().router,
+            examined: examined(self.state),
+            intra: self.intra,
+            active: self.active,
+        };
+        inter.update(alloc, &inputs, dirty)
+    }
 
-/// The external routes follow the state and the layers below.
-pub fn follow_external(
-    alloc: Global,
-    external: &mut External,
-    state: &State,
-    intra: &Intra,
-    active: &ActiveRanges,
-    inter: &Inter,
-    dirty: &Dirty,
-) -> Result<Vec<Dest>, Memory>
-    requires fit { AreFit state.now.config.areas state.now.databases }
-    requires routed { IsRightFor (inputs_of state.now) intra.now }
-    requires ranged { AreRangesRight (inputs_of state.now) active.now }
-    requires between { IsInterRight (inputs_of state.now) inter.now }
-    requires before { (before : ExternalInputsValue) × IsExternalOf before external.old
-        × ExternalInputsDiffer dirty.now.keys.items dirty.now.dests.items before
-        (external_inputs state.now intra.now active.now inter.now) }
-    ensures kept { OnOk result (IsExternalOf
-        (external_inputs state.now intra.now active.now inter.now) external.new) }
-    ensures right { OnOk result (IsExternalRight (inputs_of state.now) external.new) }
-    ensures in_order { IfOk result (λ dests. IsStrictlySortedBy dest_cmp dests.items) }
-    ensures exact { IfOk result (λ dests. (d : DestValue)
-        → Contains dests.items d ↔ ExternalDiffersAt external.old external.new d) }
-{
-    let areas = area_ids(alloc, state)?;
-    let config = state.config();
-    let inputs = ExternalInputs {
-        root: config.router,
-        compat: config.compat,
-        areas: &areas,
-        database: externals(state),
-        intra,
-        active,
-        inter,
-    };
-    external.update(alloc, &inputs, dirty)
+    /// The external routes of the state.
+    pub fn build_external(
+        self,
+        alloc: Global,
+        inter: &Inter,
+        hashing: RandomState,
+    ) -> Result<External, Memory>
+        requires fit { AreFit self.state.now.config.areas self.state.now.databases }
+        requires routed { IsRightFor (inputs_of self.state.now) self.intra.now }
+        requires ranged { AreRangesRight (inputs_of self.state.now) self.active.now }
+        requires between { IsInterRight (inputs_of self.state.now) inter.now }
+        ensures kept { IfOk result (IsExternalOf (external_inputs self.entry.state.now
+            self.entry.intra.now self.entry.active.now inter.now)) }
+        ensures right { IfOk result (IsExternalRight (inputs_of self.entry.state.now)) }
+    {
+        let areas = area_ids(alloc, self.state)?;
+        let config = self.state.config();
+        let inputs = ExternalInputs {
+            root: config.router,
+            compat: config.compat,
+            areas: &areas,
+            database: externals(self.state),
+            intra: self.intra,
+            active: self.active,
+            inter,
+        };
+        External::build(alloc, &inputs, hashing)
+    }
+
+    /// The external routes follow the state and the layers below.
+    pub fn follow_external(
+        self,
+        alloc: Global,
+        external: &mut External,
+        inter: &Inter,
+        dirty: &Dirty,
+    ) -> Result<Vec<Dest>, Memory>
+        requires fit { AreFit self.state.now.config.areas self.state.now.databases }
+        requires routed { IsRightFor (inputs_of self.state.now) self.intra.now }
+        requires ranged { AreRangesRight (inputs_of self.state.now) self.active.now }
+        requires between { IsInterRight (inputs_of self.state.now) inter.now }
+        requires before { (before : ExternalInputsValue) × IsExternalOf before external.old
+            × ExternalInputsDiffer dirty.now.keys.items dirty.now.dests.items before
+            (external_inputs self.state.now self.intra.now self.active.now inter.now) }
+        ensures kept { OnOk result (IsExternalOf (external_inputs self.entry.state.now
+            self.entry.intra.now self.entry.active.now inter.now) external.new) }
+        ensures right { OnOk result
+            (IsExternalRight (inputs_of self.entry.state.now) external.new) }
+        ensures in_order { IfOk result (λ dests. IsStrictlySortedBy dest_cmp dests.items) }
+        ensures exact { IfOk result (λ dests. (d : DestValue)
+            → Contains dests.items d ↔ ExternalDiffersAt external.old external.new d) }
+    {
+        let areas = area_ids(alloc, self.state)?;
+        let config = self.state.config();
+        let inputs = ExternalInputs {
+            root: config.router,
+            compat: config.compat,
+            areas: &areas,
+            database: externals(self.state),
+            intra: self.intra,
+            active: self.active,
+            inter,
+        };
+        external.update(alloc, &inputs, dirty)
+    }
 }
 
 // The database of AS-external-LSAs.

@@ -4,4 +4,4 @@
 
 mod layers;
 
-pub use layers::{active_areas, build_external, build_inter, follow_external, follow_inter};
+pub use layers::{IntraLayer, active_areas};

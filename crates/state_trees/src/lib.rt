@@ -6,4 +6,4 @@ mod inputs;
 mod trees;
 
 pub use inputs::{area_inputs, is_up_in};
-pub use trees::{build_trees, follow_trees};
+pub use trees::{ChangedState, build_trees, follow_trees};

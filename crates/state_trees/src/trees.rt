@@ -63,27 +63,35 @@ fn build_tree(
     AreaTree::build(alloc, state.config().router, database, &ups, hashing)
 }
 
-/// The trees follow the state, which differs from the one before in these LSAs or these interfaces, and may have other
-/// ranges, on which no tree rests. Vertices whose distance or next hops differ are added, each with its Area ID. The
-/// answer is the work.
+/// A state, and the LSAs or the interfaces in which it differs from the one before.
+#[derive(Clone, Copy)]
+pub struct ChangedState<'a> {
+    pub state: &'a State,
+    /// The keys of those LSAs.
+    pub keys: &'a [(Scope, Key)],
+    /// The ids of those interfaces.
+    pub interfaces: &'a [u8],
+}
+
+/// The trees follow the state, which may also have other ranges than the one before: no tree rests on them. Vertices whose
+/// distance or next hops differ are added, each with its Area ID. The answer is the work.
 pub fn follow_trees(
     alloc: Global,
     trees: &mut [AreaTree],
-    state: &State,
-    keys: &[(Scope, Key)],
-    interfaces: &[u8],
+    changed: ChangedState<'_>,
     vertices: &mut Vec<(u32, Vertex)>,
 ) -> Result<Touched, Memory>
-    requires few { state.now.limits.area_lsas ≤ most_routers }
+    requires few { changed.state.now.limits.area_lsas ≤ most_routers }
     requires before { (before : StateValue) × AreTreesOf before before.config.areas trees.old
-        × StatesDifferAmong keys.now interfaces.now true before state.now }
-    ensures { IfOk result (λ work. AreFollowed state.now state.now.config.areas
-        trees.old trees.new vertices.new.items work) }
+        × StatesDifferAmong changed.keys.now changed.interfaces.now true before
+        changed.state.now }
+    ensures { IfOk result (λ work. AreFollowed changed.entry.state.now
+        changed.entry.state.now.config.areas trees.old trees.new vertices.new.items work) }
 {
     let mut work = Touched::none();
-    for (place, area) in state.config().areas.as_slice().iter().enumerate() {
+    for (place, area) in changed.state.config().areas.as_slice().iter().enumerate() {
         let tree = &mut trees[place];
-        let touched = follow_tree(alloc, tree, state, area.id, keys, interfaces)?;
+        let touched = follow_tree(alloc, tree, changed, area.id)?;
         push_changed(area.id, tree, vertices)?;
         work = both(work, touched);
     }
@@ -94,30 +102,29 @@ pub fn follow_trees(
 fn follow_tree(
     alloc: Global,
     tree: &mut AreaTree,
-    state: &State,
+    changed: ChangedState<'_>,
     area: u32,
-    keys: &[(Scope, Key)],
-    interfaces: &[u8],
 ) -> Result<Touched, Memory>
-    requires few { state.now.limits.area_lsas ≤ most_routers }
-    requires there { IsSome (place_of state.now.config.areas (Scope.Area area)) }
+    requires few { changed.state.now.limits.area_lsas ≤ most_routers }
+    requires there { IsSome (place_of changed.state.now.config.areas (Scope.Area area)) }
     requires before { (before : StateValue) × IsTreeFor before area tree.old
-        × StatesDifferAmong keys.now interfaces.now true before state.now }
-    ensures right { OnOk result (IsTreeFor state.now area tree.new) }
+        × StatesDifferAmong changed.keys.now changed.interfaces.now true before
+        changed.state.now }
+    ensures right { OnOk result (IsTreeFor changed.entry.state.now area tree.new) }
     ensures others { OnOk result (AreOthersKept tree.old.tree tree.new.tree) }
     ensures bounded { IfOk result (λ touched.
         IsWorkBounded tree.old tree.new touched.taken touched.hop_sets) }
     ensures work { IfOk result (λ touched. IsWorkDone tree.new.area.graph
         tree.old.tree tree.new.tree touched.taken touched.hop_sets) }
 {
-    if !interfaces.is_empty() {
-        let ups = ups(alloc, state, area)?;
+    if !changed.interfaces.is_empty() {
+        let ups = ups(alloc, changed.state, area)?;
         return tree.interfaces(alloc, &ups);
     }
-    let Some(database) = state.database(Scope::Area(area)) else {
+    let Some(database) = changed.state.database(Scope::Area(area)) else {
         unreachable!()
     };
-    let keys = keys_of(alloc, area, keys)?;
+    let keys = keys_of(alloc, area, changed.keys)?;
     tree.follow(alloc, database, &keys)
 }
 
