@@ -243,7 +243,11 @@ impl Routes {
         let told = self
             .calculation
             .follow(alloc, state, keys, interfaces, range)?;
-        let items = other_items(alloc, &self.calculation, &self.table, &told.networks)?;
+        let behind = TableBehind {
+            table: &self.table,
+            calculation: &self.calculation,
+        };
+        let items = behind.other_items(alloc, &told.networks)?;
         let changes = networks_of(alloc, &items)?;
         let plan = self
             .calculation
@@ -279,42 +283,45 @@ fn from_scratch(
     Ok((calculation, table, summaries, work))
 }
 
-// Those of the networks for which the table has to have another item, each with that item.
-fn other_items(
-    alloc: Global,
-    calculation: &Calculation,
-    table: &Table,
-    networks: &[Prefix],
-) -> Result<Vec<NewItem>, Memory>
-    requires { IsStrictlySortedBy network_cmp networks.now }
-    ensures { IfOk result (λ items.
-        AreOtherItems calculation.now table.now.items networks.now items.items) }
-{
-    let mut items = Vec::with_capacity(alloc, networks.len())?;
-    let mut next = 0;
-    for network in networks {
-        push_other(alloc, calculation, table, *network, &mut next, &mut items)?;
-    }
-    Ok(items)
+// The table, and the calculation that it is to follow.
+#[derive(Clone, Copy)]
+struct TableBehind<'a> {
+    table: &'a Table,
+    calculation: &'a Calculation,
 }
 
-// Adds the item that the table has to have for the network, where it has another one.
-fn push_other(
-    alloc: Global,
-    calculation: &Calculation,
-    table: &Table,
-    network: Prefix,
-    next: &mut usize,
-    items: &mut Vec<NewItem>,
-) -> Result<(), Memory>
-    ensures { OnOk result (IsOneMore calculation.now table.now.items network
-        items.old.items items.new.items) }
-{
-    let Some(item) = calculation.new_item(alloc, table, network, next)? else {
-        return Ok(());
-    };
-    items.push(item)?;
-    Ok(())
+impl TableBehind<'_> {
+    // Those of the networks for which the table has to have another item, each with that item.
+    fn other_items(self, alloc: Global, networks: &[Prefix]) -> Result<Vec<NewItem>, Memory>
+        requires { IsStrictlySortedBy network_cmp networks.now }
+        ensures { IfOk result (λ items. AreOtherItems self.entry.calculation.now
+            self.entry.table.now.items networks.now items.items) }
+    {
+        let mut items = Vec::with_capacity(alloc, networks.len())?;
+        let mut next = 0;
+        for network in networks {
+            self.push_other(alloc, *network, &mut next, &mut items)?;
+        }
+        Ok(items)
+    }
+
+    // Adds the item that the table has to have for the network, where it has another one.
+    fn push_other(
+        self,
+        alloc: Global,
+        network: Prefix,
+        next: &mut usize,
+        items: &mut Vec<NewItem>,
+    ) -> Result<(), Memory>
+        ensures { OnOk result (IsOneMore self.entry.calculation.now self.entry.table.now.items
+            network items.old.items items.new.items) }
+    {
+        let Some(item) = self.calculation.new_item(alloc, self.table, network, next)? else {
+            return Ok(());
+        };
+        items.push(item)?;
+        Ok(())
+    }
 }
 
 // The networks of the items.

@@ -105,7 +105,11 @@ impl DueSummaries {
             return Ok(Plan { areas, active });
         }
         find_candidates(inputs, &touched, &mut self.candidates)?;
-        let areas = plan_areas(alloc, inputs, &mut self.areas, &self.candidates)?;
+        let planning = Planning {
+            inputs,
+            candidates: &self.candidates,
+        };
+        let areas = planning.plan_areas(alloc, &mut self.areas)?;
         Ok(Plan { areas, active })
     }
 
@@ -226,47 +230,81 @@ fn find_candidates(
     Ok(())
 }
 
-// What is to change in each of the lists, to these destinations.
-fn plan_areas(
-    alloc: Global,
-    inputs: &SummaryInputs<'_>,
-    lists: &mut [AreaSummaries],
-    candidates: &[Candidate],
-) -> Result<Vec<AreaPlan>, Memory>
-    requires long { length lists.old ≡ length inputs.now.areas }
-    requires right { AreCandidates inputs.now candidates.now }
-    requires in_order { IsStrictlySortedBy dest_cmp (dests_in candidates.now) }
-    ensures same { listed lists.new ≡ listed lists.old }
-    ensures planned { IfOk result (λ plans. ArePlanned inputs.now (dests_in candidates.now)
-        inputs.now.areas lists.old lists.new plans.items) }
-{
-    let mut plans = Vec::with_capacity(alloc, lists.len())?;
-    for (place, area) in inputs.areas.iter().enumerate() {
-        let summaries = &mut lists[place];
-        let plan = plan_area(alloc, inputs, area, summaries, candidates)?;
-        plans.push(plan)?;
-    }
-    Ok(plans)
+// What a plan is made from: the destinations that may change, each with what may give a summary for it.
+#[derive(Clone, Copy)]
+struct Planning<'a> {
+    inputs: &'a SummaryInputs<'a>,
+    candidates: &'a [Candidate],
 }
 
-// Plans one area.
-fn plan_area(
-    alloc: Global,
-    inputs: &SummaryInputs<'_>,
-    area: &AreaConfig,
-    summaries: &mut AreaSummaries,
-    candidates: &[Candidate],
-) -> Result<AreaPlan, Memory>
-    requires right { AreCandidates inputs.now candidates.now }
-    requires in_order { IsStrictlySortedBy dest_cmp (dests_in candidates.now) }
-    ensures area { summaries.new.area ≡ summaries.old.area }
-    ensures list { summaries.new.list ≡ summaries.old.list }
-    ensures planned { IfOk result (λ plan. IsPlannedIn inputs.now (dests_in candidates.now)
-        area.now summaries.old summaries.new plan) }
-{
-    let (metrics, moves) = changes(alloc, inputs, area, summaries.as_slice(), candidates)?;
-    let plan = AreaPlan::of(alloc, metrics, moves, summaries)?;
-    Ok(plan)
+impl Planning<'_> {
+    // What is to change in each of the lists.
+    fn plan_areas(self, alloc: Global, lists: &mut [AreaSummaries]) -> Result<Vec<AreaPlan>, Memory>
+        requires long { length lists.old ≡ length self.inputs.now.areas }
+        requires right { AreCandidates self.inputs.now self.candidates.now }
+        requires in_order { IsStrictlySortedBy dest_cmp (dests_in self.candidates.now) }
+        ensures same { listed lists.new ≡ listed lists.old }
+        ensures planned { IfOk result (λ plans. ArePlanned self.entry.inputs.now
+            (dests_in self.entry.candidates.now) self.entry.inputs.now.areas
+            lists.old lists.new plans.items) }
+    {
+        let mut plans = Vec::with_capacity(alloc, lists.len())?;
+        let inputs = self.inputs;
+        for (place, area) in inputs.areas.iter().enumerate() {
+            let summaries = &mut lists[place];
+            let plan = self.plan_area(alloc, area, summaries)?;
+            plans.push(plan)?;
+        }
+        Ok(plans)
+    }
+
+    // Plans one area.
+    fn plan_area(
+        self,
+        alloc: Global,
+        area: &AreaConfig,
+        summaries: &mut AreaSummaries,
+    ) -> Result<AreaPlan, Memory>
+        requires right { AreCandidates self.inputs.now self.candidates.now }
+        requires in_order { IsStrictlySortedBy dest_cmp (dests_in self.candidates.now) }
+        ensures area { summaries.new.area ≡ summaries.old.area }
+        ensures list { summaries.new.list ≡ summaries.old.list }
+        ensures planned { IfOk result (λ plan. IsPlannedIn self.entry.inputs.now
+            (dests_in self.entry.candidates.now) area.now summaries.old summaries.new plan) }
+    {
+        let (metrics, moves) = self.changes(alloc, area, summaries.as_slice())?;
+        let plan = AreaPlan::of(alloc, metrics, moves, summaries)?;
+        Ok(plan)
+    }
+
+    // The destinations that are due at another metric than the list has, with that metric; and whether some of them come to
+    // the list or leave it.
+    fn changes(
+        self,
+        alloc: Global,
+        area: &AreaConfig,
+        list: &[DueSummary],
+    ) -> Result<(Vec<(Dest, Option<u32>)>, bool), Memory>
+        requires list { AreInOrder list.now }
+        requires kinds { AreOfKind list.now }
+        requires right { AreCandidates self.inputs.now self.candidates.now }
+        requires in_order { IsStrictlySortedBy dest_cmp (dests_in self.candidates.now) }
+        ensures { IfOk result (λ found. AreChangesIn self.entry.inputs.now area.now list.now
+            (dests_in self.entry.candidates.now) found.0.items) }
+    {
+        let inputs = self.inputs;
+        let served = is_served(inputs.active, area.id);
+        let mut metrics = Vec::new(alloc);
+        let mut moves = false;
+        let mut rest = list;
+        for candidate in self.candidates {
+            let (had, after) = look_up(rest, &candidate.dest);
+            let metric = metric(area, served, candidate);
+            moves |= push_change(candidate.dest, metric, had, &mut metrics)?;
+            rest = after;
+        }
+        Ok((metrics, moves))
+    }
 }
 
 // Makes the changes, each in its list. It takes no memory.
@@ -277,35 +315,6 @@ fn carry_out_areas(plans: Vec<AreaPlan>, lists: &mut [AreaSummaries])
     for (place, plan) in plans.into_iter().enumerate() {
         plan.carry_out(&mut lists[place]);
     }
-}
-
-// Of these destinations those that are due at another metric than the list has, with that metric; and whether some of them
-// come to the list or leave it.
-fn changes(
-    alloc: Global,
-    inputs: &SummaryInputs<'_>,
-    area: &AreaConfig,
-    list: &[DueSummary],
-    candidates: &[Candidate],
-) -> Result<(Vec<(Dest, Option<u32>)>, bool), Memory>
-    requires list { AreInOrder list.now }
-    requires kinds { AreOfKind list.now }
-    requires right { AreCandidates inputs.now candidates.now }
-    requires in_order { IsStrictlySortedBy dest_cmp (dests_in candidates.now) }
-    ensures { IfOk result (λ found. AreChangesIn inputs.now area.now list.now
-        (dests_in candidates.now) found.0.items) }
-{
-    let served = is_served(inputs.active, area.id);
-    let mut metrics = Vec::new(alloc);
-    let mut moves = false;
-    let mut rest = list;
-    for candidate in candidates {
-        let (had, after) = look_up(rest, &candidate.dest);
-        let metric = metric(area, served, candidate);
-        moves |= push_change(candidate.dest, metric, had, &mut metrics)?;
-        rest = after;
-    }
-    Ok((metrics, moves))
 }
 
 // Adds the destination at this metric, unless that is the one that it had. The answer is whether it comes or leaves.

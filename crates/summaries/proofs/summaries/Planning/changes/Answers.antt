@@ -12,7 +12,7 @@ use Rattle.summaries.specs.Candidates.{dests_in}
 use Rattle.summaries.specs.Giving.{IsServed}
 use Rattle.summaries.specs.Inputs.{SummaryInputsValue}
 use Rattle.summaries.proofs.Comparing.{AreComparedTo, none_compared, compared_more, compared_all, later_dests}
-use Rattle.summaries.proofs.summaries.changes.Goals as goal
+use Rattle.summaries.proofs.summaries.Planning.changes.Goals as goal
 
 pub look_up-had-requires-clause-in_order : goal.look_up-had-requires-clause-in_order
 look_up-had-requires-clause-in_order c = c.loop-candidate.invariant.1.in_order
@@ -22,16 +22,16 @@ look_up-had-requires-clause-of_kind c = c.loop-candidate.invariant.1.of_kind
 
 pub loop-candidate-init : goal.loop-candidate-init
 loop-candidate-init c =
-    let dests = dests_in c.args.candidates.now in (
-      subst (λ (ms : Metrics). AreComparedTo c.args.inputs.now c.args.area.now c.args.list.now dests ms 0) (sym c.new-metrics.ensures.items)
-          (none_compared c.args.inputs.now c.args.area.now c.args.list.now dests c.requires.in_order),
+    let dests = dests_in c.args.self.candidates.now in (
+      subst (λ (ms : Metrics). AreComparedTo c.args.self.inputs.now c.args.area.now c.args.list.now dests ms 0) (sym c.new-metrics.ensures.items)
+          (none_compared c.args.self.inputs.now c.args.area.now c.args.list.now dests c.requires.in_order),
       all_left c.args.list.now dests c.requires.list c.requires.kinds,
     )
 
 pub loop-candidate-preserved : goal.loop-candidate-preserved
 loop-candidate-preserved c =
     let list = c.args.list.now in
-    let cands = c.args.candidates.now in
+    let cands = c.args.self.candidates.now in
     let dests = dests_in cands in
     let i = c.loop-candidate.candidate-index in
     let x : Candidate = c.candidate-item.result in
@@ -45,17 +45,17 @@ loop-candidate-preserved c =
     let same = left.same d (first_element d (drop (i + 1) dests)) (due_for d m) (λ k. d) in
     let is = c.look_up-had.ensures.metric m in
     (λ h. same.0 (is.0 h), λ h. is.1 (same.1 h)) in
-    let v = c.args.inputs.now in
+    let v = c.args.self.inputs.now in
     let serves = subst (λ (w : SummaryInputsValue). IsTrue c.is_served-served.result ↔ IsServed w.active c.args.area.now.id) c.inputs.view_is c.is_served-served.ensures in
     let right = c.requires.right x (contains_at cands i x c.loop-candidate-test.true c.candidate-item.is) in (
-      compared_more c.args.inputs.now c.args.area.now list dests c.loop-candidate.metrics.items i d c.metric-metric.result lt at (c.metric-metric.ensures v serves right) was.0 c.push_change.new.metrics.items (c.in_ok-moves.ensures list had),
+      compared_more c.args.self.inputs.now c.args.area.now list dests c.loop-candidate.metrics.items i d c.metric-metric.result lt at (c.metric-metric.ensures v serves right) was.0 c.push_change.new.metrics.items (c.in_ok-moves.ensures list had),
       subst (λ (ds : List DueSummary). IsLeft list ds (drop (i + 1) dests)) (sym c.look_up-had.ensures.after) (left_after list rest d (drop (i + 1) dests) (later_dests dests i d lt at c.requires.in_order) left),
     )
 
 pub returns : goal.returns
 returns c =
-    let cands = c.args.candidates.now in
+    let cands = c.args.self.candidates.now in
     let dests = dests_in cands in
     let i = c.loop-candidate.candidate-index in
     let past : length dests ≤ i = subst (λ (n : ℕ). n ≤ i) (sym (length-map cands (λ (y : Candidate). y.dest))) c.loop-candidate-test.false in
-    compared_all c.args.inputs.now c.args.area.now c.args.list.now dests c.loop-candidate.metrics.items i past c.loop-candidate.invariant.0
+    compared_all c.args.self.inputs.now c.args.area.now c.args.list.now dests c.loop-candidate.metrics.items i past c.loop-candidate.invariant.0

@@ -3,12 +3,12 @@ use Rattle.std.specs.Prelude.{Option}
 use Rattle.ospf_types.specs.declared.prefix.Prefix.{Prefix}
 use Rattle.route_table.specs.declared.table.Item.{Item}
 use Rattle.event_core.proofs.OtherItems.{AreOthersTo, others_none, others_more, others_all}
-use Rattle.event_core.proofs.routes.other_items.Goals as goal
+use Rattle.event_core.proofs.routes.TableBehind.other_items.Goals as goal
 
 pub loop-network-init : goal.loop-network-init
 loop-network-init c =
-    let first = others_none c.args.calculation.now c.args.table.now.items c.args.networks.now c.requires in
-    subst (λ (items : List (Prefix × Option Item)). AreOthersTo c.args.calculation.now c.args.table.now.items c.args.networks.now 0 items) (sym c.in_ok-items.ensures.items) first
+    let first = others_none c.args.self.calculation.now c.args.self.table.now.items c.args.networks.now c.requires in
+    subst (λ (items : List (Prefix × Option Item)). AreOthersTo c.args.self.calculation.now c.args.self.table.now.items c.args.networks.now 0 items) (sym c.in_ok-items.ensures.items) first
 
 pub loop-network-preserved : goal.loop-network-preserved
 loop-network-preserved c =
