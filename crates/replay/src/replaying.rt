@@ -13,11 +13,11 @@ ghost use Rattle.replay.specs.Outputs.{Replays, ReplaysPart, recording_of};
 ghost use Rattle.replay.specs.Parts.{IsRead, IsReadFault, WritesOutput, WritesPart};
 
 use crate::fault::ReplayFault;
-use crate::output::{print_due, print_journal, print_lsdb, print_routes};
+use crate::opened::OpenedRecording;
 use crate::page::{Stop, fault_of};
 use event_core::{Base, Core, Limits};
 use ospf_types::memory::Memory;
-use recording::{Line, Recording, Show, Version, parse};
+use recording::{Recording, Show, parse};
 use std::alloc::Global;
 use std::hash::RandomState;
 use std::io;
@@ -86,7 +86,12 @@ fn print_recording<W: io::Write>(
 {
     let (version, base, lines) = recording.into_parts();
     let core = open_core(alloc, base, hashing)?;
-    print_replay(alloc, version, core, lines, out, show)
+    let opened = OpenedRecording {
+        version,
+        core,
+        lines,
+    };
+    print_replay(alloc, opened, out, show)
 }
 
 // The core that a run begins with. The base of a recording has no fault.
@@ -98,26 +103,23 @@ fn open_core(alloc: Global, base: Base, hashing: RandomState) -> Result<Core, Me
     Ok(core)
 }
 
-// Runs the lines on a core that was opened, and prints what is shown.
+// Runs the lines, and prints what is shown.
 fn print_replay<W: io::Write>(
     alloc: Global,
-    version: Version,
-    mut core: Core,
-    lines: Vec<Line>,
+    recording: OpenedRecording,
     out: &mut W,
     show: Show,
 ) -> Result<(), Stop>
-    requires opened { IsOpened core.base core }
-    requires few { first_number version core.base + length lines.items < 2 ^ 64 }
-    ensures ok { OnOk result (WritesOutput (recording_of version core.base lines.items) show
-        (W.contents out.old) (W.contents out.new)) }
-    ensures err { IfErr result (λ why. WritesPart why (recording_of version core.base lines.items)
-        show (W.contents out.old) (W.contents out.new)) }
+    ensures ok { OnOk result (WritesOutput (recording_of recording.version recording.core.base
+        recording.lines.items) show (W.contents out.old) (W.contents out.new)) }
+    ensures err { IfErr result (λ why. WritesPart why (recording_of recording.version
+        recording.core.base recording.lines.items) show (W.contents out.old)
+        (W.contents out.new)) }
 {
     match show {
-        Show::Routes => print_routes(alloc, version, &mut core, lines, out),
-        Show::Due => print_due(alloc, version, &mut core, lines, out),
-        Show::Lsdb => print_lsdb(alloc, version, &mut core, lines, out),
-        Show::Journal => print_journal(alloc, version, &mut core, lines, out),
+        Show::Routes => recording.print_routes(alloc, out),
+        Show::Due => recording.print_due(alloc, out),
+        Show::Lsdb => recording.print_lsdb(alloc, out),
+        Show::Journal => recording.print_journal(alloc, out),
     }
 }
