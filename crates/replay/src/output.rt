@@ -1,25 +1,48 @@
 //! The output of a replay, printed: the run, and what is shown after it.
 ghost use Rattle.std.specs.Prelude.{OnOk, IfErr};
+ghost use Rattle.replay.specs.Runs.{IsOpened};
 ghost use Rattle.replay.specs.Outputs.{recording_of};
 ghost use Rattle.replay.specs.Parts.{WritesOutput, WritesPart};
-ghost use Rattle.recording.specs.declared.show.Show.TheVariants as show;
+ghost use Rattle.recording.specs.declared.show.Show.TheVariants as show_value;
 
 use crate::lines::put_serial;
 use crate::opened::OpenedRecording;
 use crate::page::{Stop, empty_page, write_page};
 use crate::running::run_silently;
 use crate::showing::{show_events, show_items, show_lsas, show_summaries};
-use recording::append_front;
+use recording::{Show, append_front};
 use std::alloc::Global;
 use std::io;
 
 impl OpenedRecording {
-    /// Runs the lines, and prints the run and the routing table.
-    pub(crate) fn print_routes<W: io::Write>(self, alloc: Global, out: &mut W) -> Result<(), Stop>
+    /// Runs the lines, and prints what `show` names.
+    pub(crate) fn print<W: io::Write>(
+        self,
+        alloc: Global,
+        out: &mut W,
+        show: Show,
+    ) -> Result<(), Stop>
+        requires { IsOpened self.core.base self.core }
         ensures ok { OnOk result (WritesOutput (recording_of self.version self.core.base
-            self.lines.items) show.Routes (W.contents out.old) (W.contents out.new)) }
+            self.lines.items) show (W.contents out.old) (W.contents out.new)) }
         ensures err { IfErr result (λ why. WritesPart why (recording_of self.version
-            self.core.base self.lines.items) show.Routes (W.contents out.old)
+            self.core.base self.lines.items) show (W.contents out.old) (W.contents out.new)) }
+    {
+        match show {
+            Show::Routes => self.print_routes(alloc, out),
+            Show::Due => self.print_due(alloc, out),
+            Show::Lsdb => self.print_lsdb(alloc, out),
+            Show::Journal => self.print_journal(alloc, out),
+        }
+    }
+
+    // Prints the run and the routing table.
+    fn print_routes<W: io::Write>(self, alloc: Global, out: &mut W) -> Result<(), Stop>
+        requires { IsOpened self.core.base self.core }
+        ensures ok { OnOk result (WritesOutput (recording_of self.version self.core.base
+            self.lines.items) show_value.Routes (W.contents out.old) (W.contents out.new)) }
+        ensures err { IfErr result (λ why. WritesPart why (recording_of self.version
+            self.core.base self.lines.items) show_value.Routes (W.contents out.old)
             (W.contents out.new)) }
     {
         let mut page = empty_page(alloc)?;
@@ -30,12 +53,13 @@ impl OpenedRecording {
         Ok(())
     }
 
-    /// Runs the lines, and prints the run and what is due in each area.
-    pub(crate) fn print_due<W: io::Write>(self, alloc: Global, out: &mut W) -> Result<(), Stop>
+    // Prints the run and what is due in each area.
+    fn print_due<W: io::Write>(self, alloc: Global, out: &mut W) -> Result<(), Stop>
+        requires { IsOpened self.core.base self.core }
         ensures ok { OnOk result (WritesOutput (recording_of self.version self.core.base
-            self.lines.items) show.Due (W.contents out.old) (W.contents out.new)) }
+            self.lines.items) show_value.Due (W.contents out.old) (W.contents out.new)) }
         ensures err { IfErr result (λ why. WritesPart why (recording_of self.version
-            self.core.base self.lines.items) show.Due (W.contents out.old)
+            self.core.base self.lines.items) show_value.Due (W.contents out.old)
             (W.contents out.new)) }
     {
         let mut page = empty_page(alloc)?;
@@ -46,12 +70,13 @@ impl OpenedRecording {
         Ok(())
     }
 
-    /// Runs the lines, and prints the run and all LSAs.
-    pub(crate) fn print_lsdb<W: io::Write>(self, alloc: Global, out: &mut W) -> Result<(), Stop>
+    // Prints the run and all LSAs.
+    fn print_lsdb<W: io::Write>(self, alloc: Global, out: &mut W) -> Result<(), Stop>
+        requires { IsOpened self.core.base self.core }
         ensures ok { OnOk result (WritesOutput (recording_of self.version self.core.base
-            self.lines.items) show.Lsdb (W.contents out.old) (W.contents out.new)) }
+            self.lines.items) show_value.Lsdb (W.contents out.old) (W.contents out.new)) }
         ensures err { IfErr result (λ why. WritesPart why (recording_of self.version
-            self.core.base self.lines.items) show.Lsdb (W.contents out.old)
+            self.core.base self.lines.items) show_value.Lsdb (W.contents out.old)
             (W.contents out.new)) }
     {
         let mut page = empty_page(alloc)?;
@@ -63,12 +88,13 @@ impl OpenedRecording {
         Ok(())
     }
 
-    /// Runs the lines, and prints only the base and the events that were taken since, as a recording of the version.
-    pub(crate) fn print_journal<W: io::Write>(self, alloc: Global, out: &mut W) -> Result<(), Stop>
+    // Prints only the base and the events that were taken since, as a recording of the version.
+    fn print_journal<W: io::Write>(self, alloc: Global, out: &mut W) -> Result<(), Stop>
+        requires { IsOpened self.core.base self.core }
         ensures ok { OnOk result (WritesOutput (recording_of self.version self.core.base
-            self.lines.items) show.Journal (W.contents out.old) (W.contents out.new)) }
+            self.lines.items) show_value.Journal (W.contents out.old) (W.contents out.new)) }
         ensures err { IfErr result (λ why. WritesPart why (recording_of self.version
-            self.core.base self.lines.items) show.Journal (W.contents out.old)
+            self.core.base self.lines.items) show_value.Journal (W.contents out.old)
             (W.contents out.new)) }
     {
         let OpenedRecording {

@@ -5,7 +5,7 @@ use Rattle.replay.specs.Lines.{first_number}
 use Rattle.replay.specs.declared.page.Stop.TheVariants as stop
 use Rattle.replay.proofs.Written.{err_as}
 use Rattle.replay.proofs.RunSteps.{running_none, running_more, running_fits, running_all, running_part, running_stopped}
-use Rattle.replay.proofs.running.OpenedRecording.run_lines.Goals as goal
+use Rattle.replay.proofs.opened.OpenedRecording.run_lines.Goals as goal
 
 pub loop-line-init : goal.loop-line-init
 loop-line-init g c = running_none _ _ _ _ _ _ _ (c.number_of_first-number.ensures ∙ ap (first_number c.args.self.version) c.base.ensures.value) (sym c.into_iter-line-iterator.ensures.into_iter_gives.0)

@@ -2,7 +2,7 @@ use Rattle.std.proofs.Common.{string_bytes}
 use Rattle.std.specs.Vec.Iter.{into_iter_items}
 use Rattle.replay.specs.Lines.{first_number}
 use Rattle.replay.proofs.RunSteps.{Running}
-use Rattle.replay.proofs.running.OpenedRecording.run_lines.Given as goal
+use Rattle.replay.proofs.opened.OpenedRecording.run_lines.Given as goal
 
 abbrev pub invariant-loop-line : goal.invariant-loop-line
 invariant-loop-line g l =
