@@ -30,13 +30,18 @@ const MOST_EVENTS: u64 = 1 << 61;
 /// Where it is not stale, nothing is pending and the published table is that of the whole journal. Where it is, less is
 /// published, and the next publication begins by emptying the table.
 pub struct EngineState {
+    parts: EngineParts,
+    stale: bool,
+}
+
+// The core, the history of its events, and the writer of what is published.
+struct EngineParts {
     alloc: Global,
     core: Core,
     history: History,
     // The history as it was at the last roll: it is in the base of the core.
     rolled: HistoryPrefix,
     writer: ShownWriter,
-    stale: bool,
 }
 
 impl Model for EngineState {
@@ -48,9 +53,9 @@ impl Model for EngineState {
 
     ghost Value = { Held };
 
-    ghost view = { λ d. record { name = name_of d.writer.desk.shown.value; list = list_of d.rolled d.core; built = length d.rolled.list + d.core.built; published = d.writer.desk.shown.value.front.list } };
+    ghost view = { λ d. record { name = name_of d.parts.writer.desk.shown.value; list = list_of d.parts.rolled d.parts.core; built = length d.parts.rolled.list + d.parts.core.built; published = d.parts.writer.desk.shown.value.front.list } };
 
-    ghost invariant = { λ d. IsCore d.core × IsKept d.core d.history d.rolled d.writer.desk.shown.value (known_to d.writer.desk.place) × IsFresh d.stale d.core d.history d.rolled d.writer.desk.shown.value (drop d.writer.behind d.writer.log.items) };
+    ghost invariant = { λ d. IsCore d.parts.core × IsKept d.parts.core d.parts.history d.parts.rolled d.parts.writer.desk.shown.value (known_to d.parts.writer.desk.place) × IsFresh d.stale d.parts.core d.parts.history d.parts.rolled d.parts.writer.desk.shown.value (drop d.parts.writer.behind d.parts.writer.log.items) };
 }
 
 // Adds what the history lacks of the journal, which stands in it behind what was rolled.
@@ -85,104 +90,97 @@ fn follow_built(history: &mut History, rolled: &HistoryPrefix, core: &Core) -> b
     true
 }
 
-// Publishes the table of the whole journal, where it was built. It may be refused.
-fn publish_whole<R: Wait>(
-    rt: &R,
-    alloc: Global,
-    core: Core,
-    history: History,
-    rolled: HistoryPrefix,
-    writer: ShownWriter,
-) -> EngineState
-    requires kept { IsKept core history rolled writer.desk.shown.value
-        (known_to writer.desk.place) }
-    requires behind { length writer.desk.shown.value.front.list < length (list_of rolled core) }
-    ensures same { IsStateOf (name_of writer.desk.shown.value) rolled core result }
-    ensures grows { IsPrefix writer.desk.shown.value.front.list result.published }
-{
-    let mut history = history;
-    if !follow_built(&mut history, &rolled, &core) {
-        return EngineState {
+impl EngineParts {
+    // Publishes the table of the whole journal, where it was built. It may be refused.
+    fn publish_whole<R: Wait>(self, rt: &R) -> EngineState
+        requires kept { IsKept self.core self.history self.rolled self.writer.desk.shown.value
+            (known_to self.writer.desk.place) }
+        requires behind { length self.writer.desk.shown.value.front.list
+            < length (list_of self.rolled self.core) }
+        ensures same { IsStateOf (name_of self.writer.desk.shown.value) self.rolled self.core
+            result }
+        ensures grows { IsPrefix self.writer.desk.shown.value.front.list result.published }
+    {
+        let mut parts = self;
+        if !follow_built(&mut parts.history, &parts.rolled, &parts.core) {
+            return EngineState { parts, stale: true };
+        }
+        let EngineParts {
+            alloc,
+            core,
+            mut history,
+            rolled,
+            writer,
+        } = parts;
+        let (writer, done) = show(rt, alloc, writer, core.table(), &mut history);
+        let parts = EngineParts {
             alloc,
             core,
             history,
             rolled,
             writer,
-            stale: true,
         };
+        EngineState {
+            parts,
+            stale: !done,
+        }
     }
-    let (writer, done) = show(rt, alloc, writer, core.table(), &mut history);
-    EngineState {
-        alloc,
-        core,
-        history,
-        rolled,
-        writer,
-        stale: !done,
-    }
-}
 
-// Publishes what changed of the table. It may be refused.
-fn publish_changes<R: Wait>(
-    rt: &R,
-    alloc: Global,
-    core: Core,
-    history: History,
-    rolled: HistoryPrefix,
-    writer: ShownWriter,
-) -> EngineState
-    requires kept { IsKept core history rolled writer.desk.shown.value
-        (known_to writer.desk.place) }
-    requires behind { length writer.desk.shown.value.front.list < length (list_of rolled core) }
-    requires follows { CanFollow core writer.desk.shown.value
-        (drop writer.behind writer.log.items) }
-    ensures same { IsStateOf (name_of writer.desk.shown.value) rolled core result }
-    ensures grows { IsPrefix writer.desk.shown.value.front.list result.published }
-{
-    let mut history = history;
-    if !follow_built(&mut history, &rolled, &core) {
-        return EngineState {
+    // Publishes what changed of the table. It may be refused.
+    fn publish_changes<R: Wait>(self, rt: &R) -> EngineState
+        requires kept { IsKept self.core self.history self.rolled self.writer.desk.shown.value
+            (known_to self.writer.desk.place) }
+        requires behind { length self.writer.desk.shown.value.front.list
+            < length (list_of self.rolled self.core) }
+        requires follows { CanFollow self.core self.writer.desk.shown.value
+            (drop self.writer.behind self.writer.log.items) }
+        ensures same { IsStateOf (name_of self.writer.desk.shown.value) self.rolled self.core
+            result }
+        ensures grows { IsPrefix self.writer.desk.shown.value.front.list result.published }
+    {
+        let mut parts = self;
+        if !follow_built(&mut parts.history, &parts.rolled, &parts.core) {
+            return EngineState { parts, stale: true };
+        }
+        let EngineParts {
+            alloc,
+            core,
+            mut history,
+            rolled,
+            writer,
+        } = parts;
+        let (writer, done) = show_changes(rt, writer, core.changes(), core.table(), &mut history);
+        let parts = EngineParts {
             alloc,
             core,
             history,
             rolled,
             writer,
-            stale: true,
         };
+        EngineState {
+            parts,
+            stale: !done,
+        }
     }
-    let (writer, done) = show_changes(rt, writer, core.changes(), core.table(), &mut history);
-    EngineState {
-        alloc,
-        core,
-        history,
-        rolled,
-        writer,
-        stale: !done,
-    }
-}
 
-// Publishes what changed, or the whole table.
-fn publish<R: Wait>(
-    rt: &R,
-    alloc: Global,
-    core: Core,
-    history: History,
-    rolled: HistoryPrefix,
-    writer: ShownWriter,
-    whole: bool,
-) -> EngineState
-    requires kept { IsKept core history rolled writer.desk.shown.value
-        (known_to writer.desk.place) }
-    requires behind { length writer.desk.shown.value.front.list < length (list_of rolled core) }
-    requires follows { whole ≡ false → CanFollow core writer.desk.shown.value
-        (drop writer.behind writer.log.items) }
-    ensures same { IsStateOf (name_of writer.desk.shown.value) rolled core result }
-    ensures grows { IsPrefix writer.desk.shown.value.front.list result.published }
-{
-    if whole {
-        publish_whole(rt, alloc, core, history, rolled, writer)
-    } else {
-        publish_changes(rt, alloc, core, history, rolled, writer)
+    // Publishes what an event changed, or the whole table. The state is what the event was answered.
+    fn publish<R: Wait>(self, rt: &R, stale: bool, state: Status) -> EngineState
+        requires kept { IsKept self.core self.history self.rolled self.writer.desk.shown.value
+            (known_to self.writer.desk.place) }
+        requires behind { length self.writer.desk.shown.value.front.list
+            < length (list_of self.rolled self.core) }
+        requires follows { stale ≡ false → state ≡ Current
+            → CanFollow self.core self.writer.desk.shown.value
+            (drop self.writer.behind self.writer.log.items) }
+        ensures same { IsStateOf (name_of self.writer.desk.shown.value) self.rolled self.core
+            result }
+        ensures grows { IsPrefix self.writer.desk.shown.value.front.list result.published }
+    {
+        if is_whole(stale, state) {
+            self.publish_whole(rt)
+        } else {
+            self.publish_changes(rt)
+        }
     }
 }
 
@@ -193,7 +191,7 @@ impl EngineState {
         ensures some { IfSome result (Tells self.now.name self.now.list serial) }
         ensures published { IfSome result (λ t. t.list ≡ self.now.published) }
     {
-        let shown = self.writer.published();
+        let shown = self.parts.writer.published();
         if shown.table.serial() != serial {
             return None;
         }
@@ -216,32 +214,17 @@ impl EngineState {
         ensures grows { IsPrefix self.published result.0.published }
         ensures gate { IfOk result.1 (λ _. G.passed gate.now worker place) }
     {
-        let EngineState {
-            alloc,
-            mut core,
-            history,
-            rolled,
-            writer,
-            stale,
-        } = self;
-        match core.apply(event) {
+        let EngineState { mut parts, stale } = self;
+        match parts.core.apply(event) {
             Ok(reply) => {
                 gate.inside(worker, place);
-                let whole = is_whole(stale, reply.state);
-                let engine_state = publish(rt, alloc, core, history, rolled, writer, whole);
+                let engine_state = parts.publish(rt, stale, reply.state);
                 let told = engine_state.told(reply.serial);
                 (engine_state, Ok(answer(reply, told)))
             }
             Err(refusal) => {
-                let engine_state = EngineState {
-                    alloc,
-                    core,
-                    history,
-                    rolled,
-                    writer,
-                    stale,
-                };
-                let told = engine_state.told(engine_state.core.serial());
+                let engine_state = EngineState { parts, stale };
+                let told = engine_state.told(engine_state.parts.core.serial());
                 (engine_state, Err(Refused { refusal, told }))
             }
         }
@@ -257,15 +240,11 @@ impl EngineState {
             return (self, Status::Current);
         }
         let EngineState {
-            alloc,
-            mut core,
-            history,
-            rolled,
-            writer,
+            mut parts,
             stale: _,
         } = self;
-        let state = core.catch_up();
-        let engine_state = publish_whole(rt, alloc, core, history, rolled, writer);
+        let state = parts.core.catch_up();
+        let engine_state = parts.publish_whole(rt);
         (engine_state, state)
     }
 
@@ -279,7 +258,7 @@ impl EngineState {
         ensures grows { IsPrefix self.published result.0.published }
     {
         let (engine_state, state) = self.follow_up(rt);
-        let told = engine_state.told(engine_state.core.serial());
+        let told = engine_state.told(engine_state.parts.core.serial());
         (engine_state, state, told)
     }
 
@@ -291,13 +270,13 @@ impl EngineState {
         ensures area { IsForArea self.now.name.base.config area result }
         ensures refused { IfErr result (λ e. (e ≡ NoArea) ⊎ (e ≡ NoMemory)) }
     {
-        let Some(due) = self.core.due(area) else {
+        let Some(due) = self.parts.core.due(area) else {
             return Err(Refusal::NoArea);
         };
-        let Ok(list) = Vec::from_slice(self.alloc, due) else {
+        let Ok(list) = Vec::from_slice(self.parts.alloc, due) else {
             return Err(Refusal::Memory);
         };
-        let serial = self.core.built();
+        let serial = self.parts.core.built();
         let told = self.told(serial);
         Ok(DueList { serial, list, told })
     }
@@ -325,12 +304,15 @@ impl EngineState {
             drop(writer.take(rt));
             return Err(Memory);
         }
-        Ok(EngineState {
+        let parts = EngineParts {
             alloc,
             core,
             history,
             rolled,
             writer,
+        };
+        Ok(EngineState {
+            parts,
             stale: false,
         })
     }
@@ -348,40 +330,15 @@ impl EngineState {
         if self.stale {
             return (self, Err(Refusal::NotCurrent));
         }
-        let EngineState {
-            alloc,
-            mut core,
-            history,
-            rolled,
-            writer,
-            stale,
-        } = self;
-        match core.roll() {
+        let EngineState { mut parts, stale } = self;
+        match parts.core.roll() {
             Ok(serial) => {
                 // proof: what holds of every core.
-                let _ = core.base();
-                let rolled = history.front();
-                let engine_state = EngineState {
-                    alloc,
-                    core,
-                    history,
-                    rolled,
-                    writer,
-                    stale,
-                };
-                (engine_state, Ok(serial))
+                let _ = parts.core.base();
+                parts.rolled = parts.history.front();
+                (EngineState { parts, stale }, Ok(serial))
             }
-            Err(refusal) => {
-                let engine_state = EngineState {
-                    alloc,
-                    core,
-                    history,
-                    rolled,
-                    writer,
-                    stale,
-                };
-                (engine_state, Err(refusal))
-            }
+            Err(refusal) => (EngineState { parts, stale }, Err(refusal)),
         }
     }
 
@@ -390,9 +347,9 @@ impl EngineState {
         ensures same { self.new ≡ self.old }
         ensures forwarder { IfOk result (KnowsPublished self.old) }
     {
-        let mut reader = self.writer.factory().reader()?;
-        reader.learn::<TellsName>(self.writer.tell::<TellsName>());
-        let shown = self.writer.published();
+        let mut reader = self.parts.writer.factory().reader()?;
+        reader.learn::<TellsName>(self.parts.writer.tell::<TellsName>());
+        let shown = self.parts.writer.published();
         Ok(Forwarder::of(reader, shown.front.again(), shown.base.again()))
     }
 
@@ -400,7 +357,7 @@ impl EngineState {
     pub fn tag(&self) -> EngineName
         ensures { result ≡ self.now.name }
     {
-        let shown = self.writer.published();
+        let shown = self.parts.writer.published();
         EngineName::of(&shown.front, &shown.base)
     }
 
@@ -410,14 +367,14 @@ impl EngineState {
         ensures limits { result.limits ≡ standard_limits }
         ensures list { IsSplitInto self result }
     {
-        let EngineState {
+        let EngineState { parts, stale: _ } = self;
+        let EngineParts {
             alloc: _,
             core,
             history: _author,
             rolled: _rolled,
             writer,
-            stale: _,
-        } = self;
+        } = parts;
         drop(writer.take(rt));
         core
     }

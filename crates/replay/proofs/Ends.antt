@@ -170,6 +170,9 @@ replays_part why s before after old new r read h =
 
 -- ---- the stop of a fault
 
+pub stopped_by : (why known : Stop) (s : Show) (old new : Option (List ℕ)) (r : RecordingValue) → why ≡ known → WritesPart why r s old new → WritesPart known r s old new
+stopped_by why known s old new r is h = subst (λ (w : Stop). WritesPart w r s old new) is h
+
 pub stop_of_write : (why : Stop) (given : ReplayFault) → given ≡ fault_of why → given ≡ fault.Write → why ≡ stop.Write
 stop_of_write stop.Write given is h = refl
 stop_of_write stop.Memory given is h = cc

@@ -3,6 +3,7 @@
 
 mod fault;
 mod lines;
+mod opened;
 mod output;
 mod page;
 mod replaying;

@@ -1,23 +1,17 @@
 //! A replay.
-ghost use Rattle.std.specs.Prelude.{◌≡◌, ◌⊎◌, ◌+◌, ◌^◌, ◌<◌, ℕ, List, length, IfOk, IfErr, OnOk, None};
+ghost use Rattle.std.specs.Prelude.{◌≡◌, ◌⊎◌, ℕ, List, IfOk, IfErr, OnOk};
 ghost use Rattle.recording.specs.Faults.{IsFaultOf};
-ghost use Rattle.event_state.specs.BaseFaults.{base_fault_of};
-ghost use Rattle.event_state.specs.Steps.{standard_limits};
 ghost use Rattle.replay.specs.declared.fault.ReplayFault.TheVariants as replay_fault;
 ghost use Rattle.recording.specs.declared.fault.LineFault.{LineFault};
-ghost use Rattle.replay.specs.Lines.{first_number};
-ghost use Rattle.replay.specs.Runs.{IsOpened};
 ghost use Rattle.replay.specs.Inputs.{ReadsAll};
 ghost use Rattle.replay.specs.declared.page.Stop.TheVariants as stop;
-ghost use Rattle.replay.specs.Outputs.{Replays, ReplaysPart, recording_of};
-ghost use Rattle.replay.specs.Parts.{IsRead, IsReadFault, WritesOutput, WritesPart};
+ghost use Rattle.replay.specs.Outputs.{Replays, ReplaysPart};
+ghost use Rattle.replay.specs.Parts.{IsRead, IsReadFault};
 
 use crate::fault::ReplayFault;
-use crate::output::{print_due, print_journal, print_lsdb, print_routes};
-use crate::page::{Stop, fault_of};
-use event_core::{Base, Core, Limits};
-use ospf_types::memory::Memory;
-use recording::{Line, Recording, Show, Version, parse};
+use crate::opened::OpenedRecording;
+use crate::page::fault_of;
+use recording::{Recording, Show, parse};
 use std::alloc::Global;
 use std::hash::RandomState;
 use std::io;
@@ -44,7 +38,10 @@ pub fn replay_one<R: io::Read, W: io::Write>(
         ⊎ ReplaysPart stop.Memory show (R.remaining input.old) (R.remaining input.new) (W.contents out.old) (W.contents out.new) }
 {
     let recording = read_recording(alloc, input)?;
-    match print_recording(alloc, hashing, recording, out, show) {
+    let Ok(opened) = OpenedRecording::open(alloc, hashing, recording) else {
+        return Err(ReplayFault::Memory);
+    };
+    match opened.print(alloc, out, show) {
         Ok(()) => Ok(()),
         Err(stop) => Err(fault_of(stop)),
     }
@@ -65,59 +62,5 @@ pub fn read_recording<R: io::Read>(alloc: Global, input: &mut R) -> Result<Recor
             io::ErrorKind::OutOfMemory => ReplayFault::Memory,
             _ => ReplayFault::Read,
         }),
-    }
-}
-
-// Runs a recording, and prints what is shown.
-fn print_recording<W: io::Write>(
-    alloc: Global,
-    hashing: RandomState,
-    recording: Recording,
-    out: &mut W,
-    show: Show,
-) -> Result<(), Stop>
-    requires few { first_number recording.version recording.base + length recording.lines < 2 ^ 64 }
-    ensures ok { OnOk result (WritesOutput recording show (W.contents out.old)
-        (W.contents out.new)) }
-    ensures write { result ≡ Err stop.Write → WritesPart stop.Write recording show
-        (W.contents out.old) (W.contents out.new) }
-    ensures memory { result ≡ Err stop.Memory → (out.new ≡ out.old)
-        ⊎ WritesPart stop.Memory recording show (W.contents out.old) (W.contents out.new) }
-{
-    let (version, base, lines) = recording.into_parts();
-    let core = open_core(alloc, base, hashing)?;
-    print_replay(alloc, version, core, lines, out, show)
-}
-
-// The core that a run begins with. The base of a recording has no fault.
-fn open_core(alloc: Global, base: Base, hashing: RandomState) -> Result<Core, Memory>
-    requires { base_fault_of standard_limits base ≡ None }
-    ensures { IfOk result (IsOpened base) }
-{
-    let core = Core::open_sound(alloc, base, Limits::STANDARD, hashing)?;
-    Ok(core)
-}
-
-// Runs the lines on a core that was opened, and prints what is shown.
-fn print_replay<W: io::Write>(
-    alloc: Global,
-    version: Version,
-    mut core: Core,
-    lines: Vec<Line>,
-    out: &mut W,
-    show: Show,
-) -> Result<(), Stop>
-    requires opened { IsOpened core.base core }
-    requires few { first_number version core.base + length lines.items < 2 ^ 64 }
-    ensures ok { OnOk result (WritesOutput (recording_of version core.base lines.items) show
-        (W.contents out.old) (W.contents out.new)) }
-    ensures err { IfErr result (λ why. WritesPart why (recording_of version core.base lines.items)
-        show (W.contents out.old) (W.contents out.new)) }
-{
-    match show {
-        Show::Routes => print_routes(alloc, version, &mut core, lines, out),
-        Show::Due => print_due(alloc, version, &mut core, lines, out),
-        Show::Lsdb => print_lsdb(alloc, version, &mut core, lines, out),
-        Show::Journal => print_journal(alloc, version, &mut core, lines, out),
     }
 }

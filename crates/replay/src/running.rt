@@ -1,5 +1,5 @@
 //! The run of a recording's lines.
-ghost use Rattle.std.specs.Prelude.{◌≡◌, [], ◌∷◌, ◌+◌, ◌^◌, ◌<◌, ◌≤◌, length, OnOk, IfErr, string_bytes};
+ghost use Rattle.std.specs.Prelude.{◌≡◌, [], ◌∷◌, ◌+◌, ◌^◌, ◌<◌, ◌≤◌, length, IfOk, OnOk, IfErr, string_bytes};
 ghost use Rattle.recording.specs.Places.{first_lines};
 ghost use Rattle.replay.specs.Lines.{first_number};
 ghost use Rattle.replay.specs.Pages.{Ran, RanPart, RanLine, IsRunTo};
@@ -7,34 +7,40 @@ ghost use Rattle.replay.specs.Runs.{RollsBy};
 ghost use Rattle.replay.specs.Stops.{AreWhole};
 
 use crate::lines::{put_answer, put_lookup, put_roll};
+use crate::opened::OpenedRecording;
 use crate::page::{Stop, spill};
 use event_core::{Base, Core, Refusal};
 use ospf_types::memory::Memory;
 use recording::{Line, Version};
 use std::io;
 
-/// Runs the lines behind the base, and prints what comes of them.
-pub(crate) fn run_lines<W: io::Write>(
-    version: Version,
-    core: &mut Core,
-    lines: Vec<Line>,
-    out: &mut W,
-    page: &mut String,
-) -> Result<(), Stop>
-    requires { first_number version core.old.base + length lines.items < 2 ^ 64 }
-    ensures ok { OnOk result (Ran core.old (first_number version core.old.base) lines.items core.new
-        (W.contents out.old) (W.contents out.new) (string_bytes page.old) (string_bytes page.new)) }
-    ensures err { AreWhole (string_bytes page.old)
-        → IfErr result (λ why. RanPart why core.old (first_number version core.old.base) lines.items
-        (W.contents out.old) (W.contents out.new) (string_bytes page.old)) }
-{
-    let mut number = number_of_first(version, core.base());
-    for line in lines {
-        run_line(core, number, line, page)?;
-        spill(out, page)?;
-        number += 1;
+impl OpenedRecording {
+    /// Runs the lines behind the base, and prints what comes of them. What is returned is the core after the last line.
+    pub(crate) fn run_lines<W: io::Write>(
+        self,
+        out: &mut W,
+        page: &mut String,
+    ) -> Result<Core, Stop>
+        ensures ok { IfOk result (λ core. Ran self.core (first_number self.version self.core.base)
+            self.lines.items core (W.contents out.old) (W.contents out.new)
+            (string_bytes page.old) (string_bytes page.new)) }
+        ensures err { AreWhole (string_bytes page.old) → IfErr result (λ why.
+            RanPart why self.core (first_number self.version self.core.base) self.lines.items
+            (W.contents out.old) (W.contents out.new) (string_bytes page.old)) }
+    {
+        let OpenedRecording {
+            version,
+            mut core,
+            lines,
+        } = self;
+        let mut number = number_of_first(version, core.base());
+        for line in lines {
+            run_line(&mut core, number, line, page)?;
+            spill(out, page)?;
+            number += 1;
+        }
+        Ok(core)
     }
-    Ok(())
 }
 
 /// The number of the first line behind the base, for which there are the first lines of its version, one for each area and each

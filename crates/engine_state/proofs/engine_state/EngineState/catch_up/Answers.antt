@@ -6,7 +6,7 @@ use Rattle.engine_state.proofs.engine_state.EngineState.catch_up.Goals as goal
 pub returns-clause-told : goal.returns-clause-told
 returns-clause-told g c =
     let kept = c.engine_state.invariant.1 in
-    let i = c.engine_state.inside in
+    let i = c.engine_state.inside.parts in
     let p = c.follow_up-engine_state.ensures in
     let count =
     serial_now i.writer.desk.shown.value.base i.rolled.list i.core kept.base kept.limits i.core c.serial.result refl c.serial.ensures.state
@@ -17,7 +17,7 @@ returns-clause-told g c =
 pub returns-clause-none : goal.returns-clause-none
 returns-clause-none g c =
     let kept = c.engine_state.invariant.1 in
-    let i = c.engine_state.inside in
+    let i = c.engine_state.inside.parts in
     let count =
     serial_now i.writer.desk.shown.value.base i.rolled.list i.core kept.base kept.limits i.core c.serial.result refl c.serial.ensures.state
     ∙ ap (λ (h : Held). h.name.base.serial + length h.list) c.engine_state.view_is in

@@ -17,9 +17,9 @@ use Rattle.engine_state.proofs.engine_state.EngineState.submit.Goals as goal
 
 pub returns-in-Ok-clause-answer : goal.returns-in-Ok-clause-answer
 returns-in-Ok-clause-answer g c =
-    let core = c.self.inside.core in
-    let shown = c.self.inside.writer.desk.shown.value in
-    let rolled = c.self.inside.rolled.list in
+    let core = c.self.inside.parts.core in
+    let shown = c.self.inside.parts.writer.desk.shown.value in
+    let rolled = c.self.inside.parts.rolled.list in
     let name : Name = name_of shown in
     let event = c.args.event in
     let taken = c.in-Ok.ensures.applied in
@@ -33,18 +33,18 @@ returns-in-Ok-clause-answer g c =
 
 pub returns-in-Ok-clause-journal : goal.returns-in-Ok-clause-journal
 returns-in-Ok-clause-journal g c =
-    let core = c.self.inside.core in
-    let rolled = c.self.inside.rolled.list in
+    let core = c.self.inside.parts.core in
+    let rolled = c.self.inside.parts.rolled.list in
     c.publish-engine_state.ensures.same.1 ∙ ap (λ j. rolled ++ j) c.in-Ok.ensures.applied.joins ∙ sym (append_assoc rolled core.journal (c.args.event ∷ [])) ∙ ap (λ (h : Held). h.list ++ c.args.event ∷ []) c.self.view_is
 
 pub returns-in-Err-clause-answer : goal.returns-in-Err-clause-answer
 returns-in-Err-clause-answer g c =
-    let core = c.self.inside.core in
+    let core = c.self.inside.parts.core in
     let refused = c.in-Err.ensures.applied in
     let same = refused.unchanged in
     let kept = c.self.invariant.1 in
-    let shown = c.self.inside.writer.desk.shown.value in
-    let rolled = c.self.inside.rolled in
+    let shown = c.self.inside.parts.writer.desk.shown.value in
+    let rolled = c.self.inside.parts.rolled in
     let list = list_of rolled core in
     let told = c.told-told-in-Err in
     subst (λ (n : Name). Refusals n c.args.event (record { refusal = c.in-Err.refusal; told = told.result })) (ap (λ (h : Held). h.name) c.self.view_is) (
@@ -61,12 +61,12 @@ returns-in-Err-clause-answer g c =
 
 pub returns-in-Err-clause-told : goal.returns-in-Err-clause-told
 returns-in-Err-clause-told g c =
-    let core = c.self.inside.core in
+    let core = c.self.inside.parts.core in
     let told = c.told-told-in-Err in
     let same = c.in-Err.ensures.applied.unchanged in
     let kept = c.self.invariant.1 in
-    let shown = c.self.inside.writer.desk.shown.value in
-    let rolled = c.self.inside.rolled in
+    let shown = c.self.inside.parts.writer.desk.shown.value in
+    let rolled = c.self.inside.parts.rolled in
     let count = serial_now shown.base rolled.list core kept.base kept.limits c.apply.new.self c.serial.result same c.serial.ensures.state in
     told_whole _ told.result (name_of shown) (list_of rolled c.apply.new.self) shown.front.list
     (count ∙ ap (λ (v : CoreValue). shown.base.serial + length (list_of rolled v)) (sym same)) told.ensures.none told.ensures.some told.ensures.published
@@ -76,14 +76,14 @@ returns-in-Ok-clause-grows g c = subst (λ (h : Held). IsPrefix h.published c.pu
 
 pub returns-in-Err-clause-grows : goal.returns-in-Err-clause-grows
 returns-in-Err-clause-grows g c =
-    let shown = c.self.inside.writer.desk.shown.value.front.list in
+    let shown = c.self.inside.parts.writer.desk.shown.value.front.list in
     subst (λ (h : Held). IsPrefix h.published shown) c.self.view_is (prefix_self shown)
 
 pub publish-engine_state-requires-clause-behind : goal.publish-engine_state-requires-clause-behind
 publish-engine_state-requires-clause-behind g c =
-    let core = c.self.inside.core in
-    let rolled = c.self.inside.rolled in
-    let shown = c.self.inside.writer.desk.shown.value in
+    let core = c.self.inside.parts.core in
+    let rolled = c.self.inside.parts.rolled in
+    let shown = c.self.inside.parts.writer.desk.shown.value in
     omega (
       arith,
       prefix_length shown.front.list (list_of rolled core) c.self.invariant.1.published.begins,
@@ -94,17 +94,16 @@ publish-engine_state-requires-clause-behind g c =
     )
 
 pub publish-engine_state-requires-clause-follows : goal.publish-engine_state-requires-clause-follows
-publish-engine_state-requires-clause-follows g c alone =
-    let core = c.self.inside.core in
+publish-engine_state-requires-clause-follows g c fresh_before current =
+    let core = c.self.inside.parts.core in
     let now = c.apply.new.self in
-    let rolled = c.self.inside.rolled in
-    let shown = c.self.inside.writer.desk.shown.value in
+    let rolled = c.self.inside.parts.rolled in
+    let shown = c.self.inside.parts.writer.desk.shown.value in
     let kept = c.self.invariant.1 in
-    let how = c.is_whole-whole.ensures alone in
-    let fresh = subst (λ (b : Bool). IsFresh b core c.self.inside.history rolled shown (drop c.self.inside.writer.behind c.self.inside.writer.log.items)) how.0 c.self.invariant.2 in
+    let fresh = subst (λ (b : Bool). IsFresh b core c.self.inside.parts.history rolled shown (drop c.self.inside.parts.writer.behind c.self.inside.parts.writer.log.items)) fresh_before c.self.invariant.2 in
     let built : core.built ≡ length core.journal = omega (arith, kept.published.built, c.self.invariant.0.within, ap length fresh.1, length-append rolled.list core.journal) in
-    let stands : Stands core Current now = subst (λ (s : Status). Stands core s now) how.1 c.in-Ok.ensures.applied.stands in
-    let named : NamesChanges core Current now = subst (λ (s : Status). NamesChanges core s now) how.1 c.in-Ok.ensures.changes in (
+    let stands : Stands core Current now = subst (λ (s : Status). Stands core s now) current c.in-Ok.ensures.applied.stands in
+    let named : NamesChanges core Current now = subst (λ (s : Status). NamesChanges core s now) current c.in-Ok.ensures.changes in (
       fresh.0,
       stands.0,
       follows rolled.list core now shown c.self.invariant.0 kept.limits kept.right kept.base fresh.1 built (named.0 built),
@@ -113,16 +112,16 @@ publish-engine_state-requires-clause-follows g c alone =
 pub publish-engine_state-requires-clause-kept : goal.publish-engine_state-requires-clause-kept
 publish-engine_state-requires-clause-kept g c =
     let taken = c.in-Ok.ensures.applied in
-    core_kept c.self.inside.core c.apply.new.self c.in-Ok.reply.state _ c.self.inside.rolled _ _ taken.base taken.limits (c.args.event ∷ [], sym taken.joins) taken.stands c.self.invariant.1
+    core_kept c.self.inside.parts.core c.apply.new.self c.in-Ok.reply.state _ c.self.inside.parts.rolled _ _ taken.base taken.limits (c.args.event ∷ [], sym taken.joins) taken.stands c.self.invariant.1
 
 pub invariant_of-engine_state : goal.invariant_of-engine_state
 invariant_of-engine_state g c =
-    let i = c.self.inside in
-    subst (λ (v : CoreValue). IsCore v × IsKept v i.history i.rolled i.writer.desk.shown.value (known_to i.writer.desk.place) × IsFresh i.stale v i.history i.rolled i.writer.desk.shown.value (drop i.writer.behind i.writer.log.items))
+    let i = c.self.inside.parts in
+    subst (λ (v : CoreValue). IsCore v × IsKept v i.history i.rolled i.writer.desk.shown.value (known_to i.writer.desk.place) × IsFresh c.self.inside.stale v i.history i.rolled i.writer.desk.shown.value (drop i.writer.behind i.writer.log.items))
     (sym c.in-Err.ensures.applied.unchanged) c.self.invariant
 
 pub invariant_of-engine_state-in-Err : goal.invariant_of-engine_state-in-Err
 invariant_of-engine_state-in-Err g c =
-    let i = c.self.inside in
-    subst (λ (v : CoreValue). IsCore v × IsKept v i.history i.rolled i.writer.desk.shown.value (known_to i.writer.desk.place) × IsFresh i.stale v i.history i.rolled i.writer.desk.shown.value (drop i.writer.behind i.writer.log.items))
+    let i = c.self.inside.parts in
+    subst (λ (v : CoreValue). IsCore v × IsKept v i.history i.rolled i.writer.desk.shown.value (known_to i.writer.desk.place) × IsFresh c.self.inside.stale v i.history i.rolled i.writer.desk.shown.value (drop i.writer.behind i.writer.log.items))
     (sym c.in-Err.ensures.applied.unchanged) c.self.invariant

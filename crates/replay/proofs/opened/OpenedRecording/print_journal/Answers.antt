@@ -1,7 +1,7 @@
 use Rattle.replay.specs.declared.page.Stop.TheVariants as stop
 use Rattle.replay.proofs.Written.{err_as}
 use Rattle.replay.proofs.Ends.{none_written, journal_whole, journal_cut, whole_cut, whole_written}
-use Rattle.replay.proofs.output.print_journal.Goals as goal
+use Rattle.replay.proofs.opened.OpenedRecording.print_journal.Goals as goal
 
 pub returns-in_err-page-clause-err : goal.returns-in_err-page-clause-err
 returns-in_err-page-clause-err g c = err_as _ c.from_residual.result stop.Memory c.from_residual.ensures.1 (none_written _ _ _ _ _ c.requires)

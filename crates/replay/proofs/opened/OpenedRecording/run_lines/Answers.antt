@@ -5,14 +5,14 @@ use Rattle.replay.specs.Lines.{first_number}
 use Rattle.replay.specs.declared.page.Stop.TheVariants as stop
 use Rattle.replay.proofs.Written.{err_as}
 use Rattle.replay.proofs.RunSteps.{running_none, running_more, running_fits, running_all, running_part, running_stopped}
-use Rattle.replay.proofs.running.run_lines.Goals as goal
+use Rattle.replay.proofs.opened.OpenedRecording.run_lines.Goals as goal
 
 pub loop-line-init : goal.loop-line-init
-loop-line-init g c = running_none _ _ _ _ _ _ _ (c.number_of_first-number.ensures ∙ ap (first_number c.args.version) c.base.ensures.value) (sym c.into_iter-line-iterator.ensures.into_iter_gives.0)
+loop-line-init g c = running_none _ _ _ _ _ _ _ (c.number_of_first-number.ensures ∙ ap (first_number c.args.self.version) c.base.ensures.value) (sym c.into_iter-line-iterator.ensures.into_iter_gives.0)
 
 pub overflow_add-number : goal.overflow_add-number
 overflow_add-number g c =
-    let room : c.loop-line.number + 1 ≤ first_number c.args.version c.args.core.now.base + length c.args.lines.items = running_fits _ _ _ _ _ _ _ _ _ _ _ _ c.loop-line.invariant c.in-Some.ensures.steps.0 in
+    let room : c.loop-line.number + 1 ≤ first_number c.args.self.version c.args.self.core.base + length c.args.self.lines.items = running_fits _ _ _ _ _ _ _ _ _ _ _ _ c.loop-line.invariant c.in-Some.ensures.steps.0 in
     omega arith
 
 pub loop-line-preserved : goal.loop-line-preserved

@@ -1,0 +1,53 @@
+//! A recording that is ready to be run.
+ghost use Rattle.std.specs.Prelude.{◌≡◌, ◌+◌, ◌^◌, ◌<◌, IfOk, None, length};
+ghost use Rattle.event_state.specs.BaseFaults.{base_fault_of};
+ghost use Rattle.event_state.specs.Steps.{standard_limits};
+ghost use Rattle.replay.specs.Lines.{first_number};
+ghost use Rattle.replay.specs.Runs.{IsOpened};
+
+use event_core::{Base, Core, Limits};
+use ospf_types::memory::Memory;
+use recording::{Line, Recording, Version};
+use std::alloc::Global;
+use std::hash::RandomState;
+
+/// A recording whose core was opened, and whose lines are still to be run. They are few enough to be numbered.
+#[derive(Drop)]
+pub(crate) struct OpenedRecording {
+    pub(crate) version: Version,
+    pub(crate) core: Core,
+    pub(crate) lines: Vec<Line>,
+    ghost few: { first_number version core.base + length lines.items < 2 ^ 64 },
+}
+
+impl OpenedRecording {
+    /// Opens a core from the base of the recording.
+    pub(crate) fn open(
+        alloc: Global,
+        hashing: RandomState,
+        recording: Recording,
+    ) -> Result<OpenedRecording, Memory>
+        requires { first_number recording.version recording.base + length recording.lines < 2 ^ 64 }
+        ensures version { IfOk result (λ opened. opened.version ≡ recording.version) }
+        ensures base { IfOk result (λ opened. opened.core.base ≡ recording.base) }
+        ensures lines { IfOk result (λ opened. opened.lines.items ≡ recording.lines) }
+        ensures opened { IfOk result (λ opened. IsOpened opened.core.base opened.core) }
+    {
+        let (version, base, lines) = recording.into_parts();
+        let core = open_core(alloc, base, hashing)?;
+        Ok(OpenedRecording {
+            version,
+            core,
+            lines,
+        })
+    }
+}
+
+// The core that a run begins with. The base of a recording has no fault.
+fn open_core(alloc: Global, base: Base, hashing: RandomState) -> Result<Core, Memory>
+    requires { base_fault_of standard_limits base ≡ None }
+    ensures { IfOk result (IsOpened base) }
+{
+    let core = Core::open_sound(alloc, base, Limits::STANDARD, hashing)?;
+    Ok(core)
+}
