@@ -5,7 +5,7 @@
 
 mod source;
 
-use abr_cli::{Answer, job, run, tell};
+use abr_cli::{Answer, Invocation, job, tell};
 use source::Source;
 use std::hash::RandomState;
 use std::io;
@@ -35,5 +35,6 @@ fn status<S: Threads + Wait + Sync>(rt: &HostRuntime, threads: &S) -> io::Result
     let hashing = RandomState::new(rt)?;
     let mut input = Source::of(rt, &job);
     let (out, faults) = (&mut rt.stdout(), &mut rt.stderr());
-    Ok(run(threads, rt.alloc(), hashing, job, &mut input, out, faults))
+    let called = Invocation { job, hashing };
+    Ok(called.run(threads, rt.alloc(), &mut input, out, faults))
 }

@@ -11,6 +11,6 @@ pub use command_answers::{
 pub use command_line::{Job, OneWords, Usage, job};
 pub use recording::Show;
 pub use replay::{ReplayFault, replay_one};
-pub use replaying::replay;
-pub use running::run;
-pub use worker_replay::{ManyFault, replay_many};
+pub use replaying::Replay;
+pub use running::Invocation;
+pub use worker_replay::{ManyFault, ReplayOptions, replay_many};

@@ -6,36 +6,44 @@ ghost use Rattle.command_line.specs.Command.{AreWorkers};
 ghost use Rattle.abr_cli.specs.Replaying.{fault_from as from_replay, EndsBy, IsEndSaid, IsReplayTold};
 
 use command_answers::{CANNOT_WRITE, CommandFault, NO_MEMORY, line_of, say};
-use replay::{ReplayFault, Show, replay_one};
+use replay::{ReplayFault, replay_one};
 use std::alloc::Global;
 use std::hash::RandomState;
 use std::io;
 use std::sync::Wait;
 use std::thread::Threads;
-use worker_replay::{ManyFault, replay_many};
+use worker_replay::{ManyFault, ReplayOptions, replay_many};
 
-/// Runs the recording that `input` holds, whose name is `file`, with so many workers. Its answers and then
-/// what `show` names are written to `out`, and the fault for which it ends early to `faults`; what is
-/// returned is the status, 0 or 1.
-pub fn replay<S: Threads + Wait + Sync, R: io::Read, W: io::Write, F: io::Write>(
-    rt: &S,
-    alloc: Global,
-    hashing: RandomState,
-    file: &str,
-    workers: usize,
-    show: Show,
-    input: &mut R,
-    out: &mut W,
-    faults: &mut F,
-) -> u8
-    requires { AreWorkers workers }
-    ensures { IsReplayTold file.entry workers show result (R.remaining input.old)
-        (R.remaining input.new) (W.contents out.old) (W.contents out.new) (F.contents faults.old)
-        (F.contents faults.new) }
-{
-    match run_with(rt, alloc, hashing, workers, show, input, out) {
-        Ok(()) => 0,
-        Err(fault) => say_end(alloc, file, fault, faults),
+/// The command `replay`, as it was given.
+#[derive(Clone, Copy)]
+pub struct Replay<'a> {
+    /// The recording's name.
+    pub file: &'a str,
+    pub options: ReplayOptions,
+}
+
+impl Replay<'_> {
+    /// Runs the recording that `input` holds. Its answers and then what the options show are written to `out`, and the fault
+    /// for which it ends early to `faults`; what is returned is the status, 0 or 1.
+    pub fn run<S: Threads + Wait + Sync, R: io::Read, W: io::Write, F: io::Write>(
+        self,
+        rt: &S,
+        alloc: Global,
+        hashing: RandomState,
+        input: &mut R,
+        out: &mut W,
+        faults: &mut F,
+    ) -> u8
+        requires { AreWorkers self.options.workers }
+        ensures { IsReplayTold self.entry.file self.entry.options.workers
+            self.entry.options.show result (R.remaining input.old) (R.remaining input.new)
+            (W.contents out.old) (W.contents out.new) (F.contents faults.old)
+            (F.contents faults.new) }
+    {
+        match run_with(rt, alloc, hashing, self.options, input, out) {
+            Ok(()) => 0,
+            Err(fault) => say_end(alloc, self.file, fault, faults),
+        }
     }
 }
 
@@ -43,19 +51,18 @@ fn run_with<S: Threads + Wait + Sync, R: io::Read, W: io::Write>(
     rt: &S,
     alloc: Global,
     hashing: RandomState,
-    workers: usize,
-    show: Show,
+    options: ReplayOptions,
     input: &mut R,
     out: &mut W,
 ) -> Result<(), ManyFault>
-    requires { AreWorkers workers }
-    ensures { EndsBy workers show result (R.remaining input.old) (R.remaining input.new)
-        (W.contents out.old) (W.contents out.new) }
+    requires { AreWorkers options.workers }
+    ensures { EndsBy options.workers options.show result (R.remaining input.old)
+        (R.remaining input.new) (W.contents out.old) (W.contents out.new) }
 {
-    if workers > 1 {
-        return replay_many(rt, alloc, hashing, input, out, show, workers);
+    if options.workers > 1 {
+        return replay_many(rt, alloc, hashing, options, input, out);
     }
-    match replay_one(alloc, hashing, input, out, show) {
+    match replay_one(alloc, hashing, input, out, options.show) {
         Ok(()) => Ok(()),
         Err(fault) => Err(ManyFault::Replay(fault)),
     }

@@ -1,9 +1,9 @@
 //! What the program does with its words.
 ghost use Rattle.std.specs.Prelude.{IfOk};
 ghost use Rattle.command_line.specs.Command.{IsFit};
-ghost use Rattle.abr_cli.specs.Jobs.{IsDone, IsJobTold};
+ghost use Rattle.abr_cli.specs.Jobs.{IsJobTold};
 
-use crate::replaying::replay;
+use crate::replaying::Replay;
 use command_answers::{answer_usage, decode, one, tell};
 use command_line::{Job, Usage};
 use std::alloc::Global;
@@ -11,49 +11,48 @@ use std::hash::RandomState;
 use std::io;
 use std::sync::Wait;
 use std::thread::Threads;
+use worker_replay::ReplayOptions;
 
-/// Does the job, or says why there is none. A replay reads its recording from `input`, and its workers are
-/// from 1 to 16; answers are written to `out`, and faults and mistakes to `faults`. What is returned is the
-/// status of the program.
-pub fn run<S: Threads + Wait + Sync, R: io::Read, W: io::Write, F: io::Write>(
-    rt: &S,
-    alloc: Global,
-    hashing: RandomState,
-    job: Result<Job<'_>, Usage>,
-    input: &mut R,
-    out: &mut W,
-    faults: &mut F,
-) -> u8
-    requires { IfOk job IsFit }
-    ensures { IsJobTold job.entry result (R.remaining input.old) (R.remaining input.new)
-        (W.contents out.old) (W.contents out.new) (F.contents faults.old) (F.contents faults.new) }
-{
-    match job {
-        Ok(job) => perform(rt, alloc, hashing, job, input, out, faults),
-        Err(usage) => tell(&answer_usage(alloc, usage), out, faults),
-    }
+/// A call of the program: what its words ask for, and the key of its hash maps.
+pub struct Invocation<'a> {
+    pub job: Result<Job<'a>, Usage>,
+    pub hashing: RandomState,
 }
 
-fn perform<S: Threads + Wait + Sync, R: io::Read, W: io::Write, F: io::Write>(
-    rt: &S,
-    alloc: Global,
-    hashing: RandomState,
-    job: Job<'_>,
-    input: &mut R,
-    out: &mut W,
-    faults: &mut F,
-) -> u8
-    requires { IsFit job }
-    ensures { IsDone job.entry result (R.remaining input.old) (R.remaining input.new)
-        (W.contents out.old) (W.contents out.new) (F.contents faults.old) (F.contents faults.new) }
-{
-    match job {
-        Job::One(words) => one(rt, alloc, hashing, &words, out, faults),
-        Job::Decode(word) => decode(alloc, word, out, faults),
-        Job::Replay {
-            file,
-            workers,
-            show,
-        } => replay(rt, alloc, hashing, file, workers, show, input, out, faults),
+impl Invocation<'_> {
+    /// Does the job, or says why there is none. A replay reads its recording from `input`, and its workers are
+    /// from 1 to 16; answers are written to `out`, and faults and mistakes to `faults`. What is returned is the
+    /// status of the program.
+    pub fn run<S: Threads + Wait + Sync, R: io::Read, W: io::Write, F: io::Write>(
+        self,
+        rt: &S,
+        alloc: Global,
+        input: &mut R,
+        out: &mut W,
+        faults: &mut F,
+    ) -> u8
+        requires { IfOk self.job IsFit }
+        ensures { IsJobTold self.entry.job result (R.remaining input.old) (R.remaining input.new)
+            (W.contents out.old) (W.contents out.new) (F.contents faults.old)
+            (F.contents faults.new) }
+    {
+        let Invocation { job, hashing } = self;
+        let job = match job {
+            Ok(job) => job,
+            Err(usage) => return tell(&answer_usage(alloc, usage), out, faults),
+        };
+        match job {
+            Job::One(words) => one(rt, alloc, hashing, &words, out, faults),
+            Job::Decode(word) => decode(alloc, word, out, faults),
+            Job::Replay {
+                file,
+                workers,
+                show,
+            } => {
+                let options = ReplayOptions { workers, show };
+                let replay = Replay { file, options };
+                replay.run(rt, alloc, hashing, input, out, faults)
+            }
+        }
     }
 }

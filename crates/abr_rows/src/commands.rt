@@ -1,6 +1,6 @@
 //! Commands over writers that fail.
 
-use abr_cli::{job, run};
+use abr_cli::{Invocation, job};
 use std::alloc::Global;
 use std::hash::RandomState;
 use std::io;
@@ -32,15 +32,8 @@ fn status<S: Threads + Wait + Sync, W: io::Write, F: io::Write>(
     faults: &mut F,
 ) -> u8 {
     let mut input: &[u8] = b"abr 1\nrouter 1.2.3.4\narea 0.0.0.0 normal\n";
-    run(
-        rt,
-        alloc,
-        hashing,
-        job(alloc, words),
-        &mut input,
-        out,
-        faults,
-    )
+    let job = job(alloc, words);
+    Invocation { job, hashing }.run(rt, alloc, &mut input, out, faults)
 }
 
 // A device that takes nothing.

@@ -2,7 +2,7 @@
 
 use crate::input::Input;
 use crate::row::Row;
-use abr_cli::{job, run};
+use abr_cli::{Invocation, job};
 use std::alloc::{AllocError, Global};
 use std::hash::RandomState;
 use std::sync::Wait;
@@ -21,8 +21,9 @@ pub fn is_as_wanted<S: Threads + Wait + Sync>(
         Input::Unreadable
     };
     let (mut out, mut faults) = (Vec::new(alloc), Vec::new(alloc));
-    let asked = job(alloc, row.words.as_slice());
-    let status = run(rt, alloc, hashing, asked, &mut input, &mut out, &mut faults);
+    let job = job(alloc, row.words.as_slice());
+    let called = Invocation { job, hashing };
+    let status = called.run(rt, alloc, &mut input, &mut out, &mut faults);
     let is_text = row.is_any_text
         || (out.as_slice() == row.output.as_slice() && faults.as_slice() == row.faults.as_slice());
     Ok(status == row.status && is_text)

@@ -3,7 +3,7 @@
 use replay::Show;
 use std::hash::RandomState;
 use std::test::Fail;
-use worker_replay::replay_many;
+use worker_replay::{ReplayOptions, replay_many};
 
 // The events that are taken are so in any order, and the flush is refused in any.
 const RECORDING: &str = "abr 1
@@ -30,15 +30,9 @@ fn look_ups_see_all_events_that_were_taken(rt: HostRuntime) -> Result<(), Fail> 
     let hashing = RandomState::new(&rt)?;
     let mut input = RECORDING.as_bytes();
     let mut out = Vec::new(rt.alloc());
-    replay_many(
-        &rt,
-        rt.alloc(),
-        hashing,
-        &mut input,
-        &mut out,
-        Show::Routes,
-        2,
-    )?;
+    let (workers, show) = (2, Show::Routes);
+    let options = ReplayOptions { workers, show };
+    replay_many(&rt, rt.alloc(), hashing, options, &mut input, &mut out)?;
     assert!(rt; out.as_slice() == ROUTES.as_bytes());
     Ok(())
 }

@@ -12,4 +12,4 @@ mod replaying;
 mod running;
 
 pub use fault::ManyFault;
-pub use replaying::replay_many;
+pub use replaying::{ReplayOptions, replay_many};

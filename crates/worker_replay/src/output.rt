@@ -19,35 +19,44 @@ use replay::{
 use std::alloc::Global;
 use std::io;
 
-/// Writes what `show` names of a core, and before it what was printed of the lines. A journal is written in the version.
-pub(crate) fn write_output<W: io::Write>(
-    alloc: Global,
-    version: Version,
-    core: &Core,
-    printed: String,
-    out: &mut W,
-    show: Show,
-) -> Result<(), Stop>
-    ensures ok { OnOk result (Writes version show (string_bytes printed) core.now
-        (W.contents out.old) (W.contents out.new)) }
-    ensures write { AreWhole (string_bytes printed) → result ≡ Err stop.Write
-        → WritesPart stop.Write version show (string_bytes printed) core.now (W.contents out.old)
-        (W.contents out.new) }
-    ensures memory { AreWhole (string_bytes printed) → result ≡ Err stop.Memory
-        → (out.new ≡ out.old) ⊎ WritesPart stop.Memory version show (string_bytes printed) core.now
-        (W.contents out.old) (W.contents out.new) }
-{
-    let mut page = printed;
-    match show {
-        Show::Routes => write_routes(core, &mut page, out),
-        Show::Due => write_due(core, &mut page, out),
-        Show::Lsdb => match core.lsas() {
-            Ok(lsas) => write_lsdb(core, lsas, &mut page, out),
-            Err(Memory) => Err(Stop::Memory),
-        },
-        Show::Journal => {
-            page.clear();
-            write_journal(alloc, version, core, &mut page, out)
+/// The core that a run left, and the version in which its journal is written.
+#[derive(Clone, Copy)]
+pub(crate) struct RunEnd<'a> {
+    pub(crate) version: Version,
+    pub(crate) core: &'a Core,
+}
+
+impl RunEnd<'_> {
+    /// Writes what `show` names of the core, and before it what was printed of the lines.
+    pub(crate) fn write<W: io::Write>(
+        self,
+        alloc: Global,
+        printed: String,
+        out: &mut W,
+        show: Show,
+    ) -> Result<(), Stop>
+        ensures ok { OnOk result (Writes self.entry.version show (string_bytes printed)
+            self.entry.core.now (W.contents out.old) (W.contents out.new)) }
+        ensures write { AreWhole (string_bytes printed) → result ≡ Err stop.Write
+            → WritesPart stop.Write self.entry.version show (string_bytes printed)
+            self.entry.core.now (W.contents out.old) (W.contents out.new) }
+        ensures memory { AreWhole (string_bytes printed) → result ≡ Err stop.Memory
+            → (out.new ≡ out.old) ⊎ WritesPart stop.Memory self.entry.version show
+            (string_bytes printed) self.entry.core.now (W.contents out.old) (W.contents out.new) }
+    {
+        let RunEnd { version, core } = self;
+        let mut page = printed;
+        match show {
+            Show::Routes => write_routes(core, &mut page, out),
+            Show::Due => write_due(core, &mut page, out),
+            Show::Lsdb => match core.lsas() {
+                Ok(lsas) => write_lsdb(core, lsas, &mut page, out),
+                Err(Memory) => Err(Stop::Memory),
+            },
+            Show::Journal => {
+                page.clear();
+                write_journal(alloc, version, core, &mut page, out)
+            }
         }
     }
 }

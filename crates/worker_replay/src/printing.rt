@@ -15,58 +15,67 @@ use replay::{put_answer, put_roll};
 /// What a roll was answered: the serial, or its refusal. `None` where there was none.
 pub(crate) type Rolled = Option<Result<u64, Refusal>>;
 
-/// Appends what comes of each line: the match of its address in the table that is seen; the answer to the roll, in the place of the last
-/// line that asks for it; or, for an event, the next of the replies. The lines are numbered from `first` on.
-pub(crate) fn put_lines(
-    first: usize,
-    asks: Vec<Ask>,
-    replies: &[Result<Reply, Refusal>],
-    rolled: Rolled,
-    seen: &Seen,
-    text: &mut String,
-) -> Result<(), Memory>
-    requires replies { HasAllReplies asks.items replies.now }
-    requires few { first + length asks.items < 2 ^ 64 }
-    ensures { OnOk result (AppendsAll seen.now.table seen.now.table.serial first asks.items
-        replies.now rolled (string_bytes text.old) (string_bytes text.new)) }
-{
-    let mut number = first;
-    let mut left = replies;
-    for ask in asks {
-        left = put_line(number, ask, left, rolled, seen, text)?;
-        number += 1;
-    }
-    Ok(())
+/// What the lines of a run print from, beside the replies: the answer to the roll, and the table that is seen.
+#[derive(Clone, Copy)]
+pub(crate) struct Outcome<'a> {
+    pub(crate) rolled: Rolled,
+    pub(crate) seen: &'a Seen,
 }
 
-// Appends what one line prints. The replies that are left are handed back.
-fn put_line<'a>(
-    number: usize,
-    ask: Ask,
-    replies: &'a [Result<Reply, Refusal>],
-    rolled: Rolled,
-    seen: &Seen,
-    text: &mut String,
-) -> Result<&'a [Result<Reply, Refusal>], Memory>
-    requires { HasAllReplies (ask ∷ []) replies.now }
-    ensures { IfOk result (λ rest. AppendsLine seen.now.table seen.now.table.serial number ask
-        replies.now rest.now rolled (string_bytes text.old) (string_bytes text.new)) }
-{
-    match ask {
-        Ask::Event => {
-            let [reply, rest @ ..] = replies else {
-                unreachable!()
-            };
-            put_answer(number, *reply, text)?;
-            Ok(rest)
+impl Outcome<'_> {
+    /// Appends what comes of each line: the match of its address in the table that is seen; the answer to the roll, in the place
+    /// of the last line that asks for it; or, for an event, the next of the replies. The lines are numbered from `first` on.
+    pub(crate) fn put_lines(
+        self,
+        first: usize,
+        asks: Vec<Ask>,
+        replies: &[Result<Reply, Refusal>],
+        text: &mut String,
+    ) -> Result<(), Memory>
+        requires replies { HasAllReplies asks.items replies.now }
+        requires few { first + length asks.items < 2 ^ 64 }
+        ensures { OnOk result (AppendsAll self.entry.seen.now.table
+            self.entry.seen.now.table.serial first asks.items replies.now self.entry.rolled
+            (string_bytes text.old) (string_bytes text.new)) }
+    {
+        let mut number = first;
+        let mut left = replies;
+        for ask in asks {
+            left = self.put_line(number, ask, left, text)?;
+            number += 1;
         }
-        Ask::Lookup(address) => {
-            put_lookup(number, address, seen, text)?;
-            Ok(replies)
-        }
-        Ask::Roll { is_last } => {
-            put_rolled(number, is_last, rolled, text)?;
-            Ok(replies)
+        Ok(())
+    }
+
+    // Appends what one line prints. The replies that are left are handed back.
+    fn put_line<'a>(
+        self,
+        number: usize,
+        ask: Ask,
+        replies: &'a [Result<Reply, Refusal>],
+        text: &mut String,
+    ) -> Result<&'a [Result<Reply, Refusal>], Memory>
+        requires { HasAllReplies (ask ∷ []) replies.now }
+        ensures { IfOk result (λ rest. AppendsLine self.entry.seen.now.table
+            self.entry.seen.now.table.serial number ask replies.now rest.now self.entry.rolled
+            (string_bytes text.old) (string_bytes text.new)) }
+    {
+        match ask {
+            Ask::Event => {
+                let [reply, rest @ ..] = replies else {
+                    unreachable!()
+                };
+                put_answer(number, *reply, text)?;
+                Ok(rest)
+            }
+            Ask::Lookup(address) => {
+                put_lookup(number, address, self.seen, text)?;
+                Ok(replies)
+            }
+            Ask::Roll { is_last } => {
+                put_rolled(number, is_last, self.rolled, text)?;
+                Ok(replies)
+            }
         }
     }
 }

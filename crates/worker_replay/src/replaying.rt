@@ -10,7 +10,7 @@ ghost use Rattle.worker_replay.specs.Outputs.{Replays, ReplaysPart};
 ghost use Rattle.worker_replay.specs.Parts.{AreWorkers};
 
 use crate::fault::ManyFault;
-use crate::output::write_output;
+use crate::output::RunEnd;
 use crate::running::run_recording;
 use replay::{Show, fault_of, read_recording};
 use std::alloc::Global;
@@ -18,6 +18,15 @@ use std::hash::RandomState;
 use std::io;
 use std::sync::Wait;
 use std::thread::Threads;
+
+/// The options of a replay.
+#[derive(Clone, Copy, Debug, PartialEq, Eq)]
+pub struct ReplayOptions {
+    /// How many workers there are, 1 to 16.
+    pub workers: usize,
+    /// What is written behind the lines of the run.
+    pub show: Show,
+}
 
 /// Reads its input to the end as a recording, submits its events to an engine from so many threads, and writes what `show`
 /// names. The events of a thread are submitted in their order, those of two threads in any; the look-ups see all that were
@@ -27,13 +36,12 @@ pub fn replay_many<S: Threads + Wait + Sync, R: io::Read, W: io::Write>(
     rt: &S,
     alloc: Global,
     hashing: RandomState,
+    options: ReplayOptions,
     input: &mut R,
     out: &mut W,
-    show: Show,
-    workers: usize,
 ) -> Result<(), ManyFault>
-    requires { AreWorkers workers }
-    ensures ok { OnOk result (Replays show (R.remaining input.old) (R.remaining input.new)
+    requires { AreWorkers options.workers }
+    ensures ok { OnOk result (Replays options.show (R.remaining input.old) (R.remaining input.new)
         (W.contents out.old) (W.contents out.new)) }
     ensures read { result ≡ Err (many_fault.Replay replay_fault.Read) → out.new ≡ out.old }
     ensures line { (f : LineFault) → result ≡ Err (many_fault.Replay (replay_fault.Line f))
@@ -43,18 +51,22 @@ pub fn replay_many<S: Threads + Wait + Sync, R: io::Read, W: io::Write>(
     ensures place { result ≡ Err many_fault.Place → out.new ≡ out.old }
     ensures no_entry { result ≡ Err many_fault.NoEntry → out.new ≡ out.old }
     ensures write { result ≡ Err (many_fault.Replay replay_fault.Write)
-        → ReplaysPart stop.Write show (R.remaining input.old) (R.remaining input.new)
+        → ReplaysPart stop.Write options.show (R.remaining input.old) (R.remaining input.new)
         (W.contents out.old) (W.contents out.new) }
     ensures memory { result ≡ Err (many_fault.Replay replay_fault.Memory) → (out.new ≡ out.old)
-        ⊎ ReplaysPart stop.Memory show (R.remaining input.old) (R.remaining input.new) (W.contents out.old) (W.contents out.new) }
+        ⊎ ReplaysPart stop.Memory options.show (R.remaining input.old) (R.remaining input.new) (W.contents out.old) (W.contents out.new) }
 {
     let recording = match read_recording(alloc, input) {
         Ok(recording) => recording,
         Err(fault) => return Err(ManyFault::Replay(fault)),
     };
     let version = recording.version();
-    let (printed, core) = run_recording(rt, alloc, hashing, recording, workers)?;
-    match write_output(alloc, version, &core, printed, out, show) {
+    let (printed, core) = run_recording(rt, alloc, hashing, recording, options.workers)?;
+    let end = RunEnd {
+        version,
+        core: &core,
+    };
+    match end.write(alloc, printed, out, options.show) {
         Ok(()) => Ok(()),
         Err(stop) => Err(ManyFault::Replay(fault_of(stop))),
     }

@@ -12,7 +12,7 @@ use crate::asking::{Apart, Ask, set_all_apart};
 use crate::dealing::{Answers, collect, deal};
 use crate::fault::ManyFault;
 use crate::learning::{Replies, learn_all};
-use crate::printing::{Rolled, put_lines};
+use crate::printing::{Outcome, Rolled};
 use engine::{Base, ConfigFault, Core, Engine, Event, Forwarder, Open, OpenFault, Refusal};
 use ospf_types::memory::Memory;
 use recording::{Line, Recording};
@@ -37,8 +37,9 @@ pub(crate) fn run_recording<S: Threads + Wait + Sync>(
 {
     let (version, base, lines) = recording.into_parts();
     let first = number_of_first(version, &base);
+    let numbered = NumberedLines { first, lines };
     let (engine, forwarder) = open_engine(rt, alloc, base, hashing)?;
-    let printed = run_lines(rt, alloc, &engine, forwarder, lines, first, workers);
+    let printed = numbered.run(rt, alloc, &engine, forwarder, workers);
     let core = engine.close(rt);
     Ok((printed?, core))
 }
@@ -68,33 +69,48 @@ fn open_engine<S: Wait>(
     }
 }
 
-// Submits the events of the lines, rolls once behind the last of them, if a line asks for it, and then looks once for all
-// look-ups: what the lines print.
-fn run_lines<S: Threads + Wait + Sync>(
-    rt: &S,
-    alloc: Global,
-    engine: &Engine,
-    forwarder: Forwarder,
-    lines: Vec<Line>,
+// The lines of a recording behind its base, numbered from `first` on.
+#[derive(Drop)]
+struct NumberedLines {
     first: usize,
-    workers: usize,
-) -> Result<String, ManyFault>
-    requires workers { AreWorkers workers }
-    requires named { forwarder.name ≡ engine.now }
-    requires few { first + length lines.items < 2 ^ 64 }
-    ensures printed { IfOk result (λ text. HasPrinted engine.now lines.items first
-        (string_bytes text)) }
-    ensures fault { IfErr result IsRunFault }
-{
-    let Apart {
-        events,
-        asks,
-        rolls,
-    } = set_all_apart(alloc, lines)?;
-    let answers = submit(rt, alloc, engine, events, workers)?;
-    let (forwarder, replies) = learn_all(alloc, forwarder, answers)?;
-    let rolled = roll(rt, engine, rolls);
-    look(alloc, forwarder, asks, replies, rolled, first)
+    lines: Vec<Line>,
+}
+
+impl NumberedLines {
+    // Submits the events of the lines, rolls once behind the last of them, if a line asks for it, and then looks once for all
+    // look-ups: what the lines print.
+    fn run<S: Threads + Wait + Sync>(
+        self,
+        rt: &S,
+        alloc: Global,
+        engine: &Engine,
+        forwarder: Forwarder,
+        workers: usize,
+    ) -> Result<String, ManyFault>
+        requires workers { AreWorkers workers }
+        requires named { forwarder.name ≡ engine.now }
+        requires few { self.first + length self.lines.items < 2 ^ 64 }
+        ensures printed { IfOk result (λ text. HasPrinted engine.now self.lines.items self.first
+            (string_bytes text)) }
+        ensures fault { IfErr result IsRunFault }
+    {
+        let NumberedLines { first, lines } = self;
+        let Apart {
+            events,
+            asks,
+            rolls,
+        } = set_all_apart(alloc, lines)?;
+        let answers = submit(rt, alloc, engine, events, workers)?;
+        let (forwarder, replies) = learn_all(alloc, forwarder, answers)?;
+        let rolled = roll(rt, engine, rolls);
+        let answered = AnsweredLines {
+            first,
+            asks,
+            replies,
+            rolled,
+        };
+        answered.look(alloc, forwarder)
+    }
 }
 
 // Rolls the engine, if it is asked for.
@@ -132,27 +148,41 @@ fn submit<S: Threads + Wait + Sync>(
     }
 }
 
-// Looks once at the published table, and prints the lines.
-fn look(
-    alloc: Global,
-    forwarder: Forwarder,
+// What the lines ask, numbered from `first` on, with the answers to the events and to the roll.
+#[derive(Drop)]
+struct AnsweredLines {
+    first: usize,
     asks: Vec<Ask>,
     replies: Replies,
     rolled: Rolled,
-    first: usize,
-) -> Result<String, ManyFault>
-    requires replies { HasAllReplies asks.items replies.items }
-    requires few { first + length asks.items < 2 ^ 64 }
-    ensures looks { IfOk result (λ text. Looks forwarder first asks.items replies.items rolled
-        (string_bytes text)) }
-    ensures fault { IfErr result IsRunFault }
-{
-    let mut text = String::new(alloc);
-    let Ok(seen) = forwarder.lookup(0) else {
-        return Err(ManyFault::NoEntry);
-    };
-    let put = put_lines(first, asks, replies.as_slice(), rolled, &seen, &mut text);
-    drop(seen.leave());
-    put?;
-    Ok(text)
+}
+
+impl AnsweredLines {
+    // Looks once at the published table, and prints the lines.
+    fn look(self, alloc: Global, forwarder: Forwarder) -> Result<String, ManyFault>
+        requires replies { HasAllReplies self.asks.items self.replies.items }
+        requires few { self.first + length self.asks.items < 2 ^ 64 }
+        ensures looks { IfOk result (λ text. Looks forwarder self.first self.asks.items
+            self.replies.items self.rolled (string_bytes text)) }
+        ensures fault { IfErr result IsRunFault }
+    {
+        let AnsweredLines {
+            first,
+            asks,
+            replies,
+            rolled,
+        } = self;
+        let mut text = String::new(alloc);
+        let Ok(seen) = forwarder.lookup(0) else {
+            return Err(ManyFault::NoEntry);
+        };
+        let outcome = Outcome {
+            rolled,
+            seen: &seen,
+        };
+        let put = outcome.put_lines(first, asks, replies.as_slice(), &mut text);
+        drop(seen.leave());
+        put?;
+        Ok(text)
+    }
 }

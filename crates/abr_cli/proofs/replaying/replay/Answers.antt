@@ -1,5 +1,0 @@
-use Rattle.abr_cli.proofs.Ended.{ended_early}
-use Rattle.abr_cli.proofs.replaying.replay.Goals as goal
-
-pub returns-in-Err : goal.returns-in-Err
-returns-in-Err g c = ended_early _ c.args.workers c.in-Err.fault _ _ _ _ _ _ _ _ c.in-Err.ensures c.say_end.ensures

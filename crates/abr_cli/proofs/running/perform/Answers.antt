@@ -1,5 +1,0 @@
-use Rattle.std.proofs.Common.{refl}
-use Rattle.abr_cli.proofs.running.perform.Goals as goal
-
-pub returns-in-Decode : goal.returns-in-Decode
-returns-in-Decode g c = rw c.in-Decode.is (refl, c.decode.ensures)
