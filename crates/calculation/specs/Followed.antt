@@ -2,7 +2,10 @@
 use Rattle.std.specs.Prelude.{ℕ, List, [], ◌∷◌, Option, Some, None, is_some}
 use Rattle.ospf_types.specs.declared.key.Dest.{Dest}
 use Rattle.ospf_types.specs.declared.key.Dest.TheVariants.{Net, Router}
+use Rattle.ospf_types.specs.declared.key.Key.{Key}
+use Rattle.ospf_types.specs.declared.key.Scope.{Scope}
 use Rattle.ospf_types.specs.declared.prefix.Prefix.{Prefix}
+use Rattle.spf.specs.Touched.{Touched}
 use Rattle.area_trees.specs.Areas.{AreaTreeValue}
 use Rattle.intra.specs.declared.dirty.Dirty.{Dirty}
 use Rattle.intra.specs.Changes.{InputsDifferAmong}
@@ -10,6 +13,15 @@ use Rattle.active_ranges.specs.Active.{RangesDifferAt}
 use Rattle.event_state.specs.States.{State}
 use Rattle.calculation.specs.Calculations.{CalculationValue, IsCalculationOf}
 use Rattle.state_trees.specs.Trees.{inputs_with, StatesDifferAmong}
+use Rattle.state_trees.specs.Works.{IsEventWork}
+
+-- a state of which this is the calculation, and from which the state now differs in no more than is named
+abbrev pub IsStateBehind : List (Scope × Key) → List ℕ → Option (ℕ × Prefix) → CalculationValue → State → Type 0
+IsStateBehind keys ids range c t = (s : State) × IsCalculationOf s c × StatesDifferAmong keys ids (is_some range) s t × RangesDifferAt range s.config.areas t.config.areas
+
+-- the work is within what such a state's event takes
+abbrev pub IsWorkSince : List (Scope × Key) → List ℕ → Option (ℕ × Prefix) → CalculationValue → State → Touched → Type 0
+IsWorkSince keys ids range c t work = (s : State) → IsCalculationOf s c → StatesDifferAmong keys ids (is_some range) s t → IsEventWork s t work
 
 -- the layers of routes are those of a state before, of which no more differs than is named, but the trees have followed already
 abbrev pub AreLayersBehind : State → Dirty → Option (ℕ × Prefix) → CalculationValue → Type 0

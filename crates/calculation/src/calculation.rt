@@ -22,10 +22,9 @@ ghost use Rattle.route_table.specs.declared.table.Item.{Item as ItemValue};
 ghost use Rattle.event_state.specs.Held.{AreFit};
 ghost use Rattle.event_state.specs.States.{AreApart, State as StateValue, inputs_of};
 ghost use Rattle.calculation.specs.Calculations.{CalculationValue, IsCalculationOf, IsItemOf, IsNewItemOf, IsTableOf, AreItemsKept, entry_at, entry_else};
-ghost use Rattle.state_trees.specs.Trees.{StatesDifferAmong, AreTreesOf, inputs_with};
+ghost use Rattle.state_trees.specs.Trees.{AreTreesOf, inputs_with};
 ghost use Rattle.calculation.specs.Summaries.{AreSummariesFor, SummariesDifferAmong, RoutesDifferAmong, summary_inputs};
-ghost use Rattle.calculation.specs.Followed.{AreLayersBehind, range_dests, routers_in};
-ghost use Rattle.state_trees.specs.Works.{IsEventWork};
+ghost use Rattle.calculation.specs.Followed.{IsStateBehind, IsWorkSince, AreLayersBehind, range_dests, routers_in};
 ghost use Rattle.calculation.specs.Totals.{IsWorkOfTrees};
 
 use active_ranges::{ActiveRanges, Member};
@@ -150,20 +149,15 @@ impl Calculation {
         range: Option<(u32, Prefix)>,
     ) -> Result<Changed, Memory>
         requires few { state.now.limits.area_lsas ≤ most_routers }
-        requires before { (before : StateValue) × IsCalculationOf before self.old
-            × StatesDifferAmong keys.items ids.items (is_some range) before state.now
-            × RangesDifferAt range before.config.areas state.now.config.areas }
+        requires before { IsStateBehind keys.items ids.items range self.old state.now }
         ensures right { OnOk result (IsCalculationOf state.now self.new) }
-        ensures in_order { IfOk result (λ told.
-            IsStrictlySortedBy network_cmp told.networks.items) }
-        ensures items { IfOk result (λ told. AreItemsKept told.networks.items self.old self.new) }
-        ensures routes { IfOk result (λ told.
-            RoutesDifferAmong told.dests.items self.old self.new) }
-        ensures named { IfOk result (λ told.
-            IsRangeNamed range told.dests.items self.old.intra.entries) }
-        ensures work { IfOk result (λ told. (before : StateValue) → IsCalculationOf before self.old
-            → StatesDifferAmong keys.items ids.items (is_some range) before state.now
-            → IsEventWork before state.now told.work) }
+        ensures in_order { IfOk result (λ out. IsStrictlySortedBy network_cmp out.networks.items) }
+        ensures items { IfOk result (λ out. AreItemsKept out.networks.items self.old self.new) }
+        ensures routes { IfOk result (λ out. RoutesDifferAmong out.dests.items self.old self.new) }
+        ensures named { IfOk result (λ out.
+            IsRangeNamed range out.dests.items self.old.intra.entries) }
+        ensures work { IfOk result (λ out.
+            IsWorkSince keys.items ids.items range self.old state.now out.work) }
     {
         let mut vertices = Vec::new(alloc);
         let changed = ChangedState {
@@ -179,10 +173,9 @@ impl Calculation {
             dests: Vec::new(alloc),
         };
         let networks = self.follow_layers(alloc, state, &mut dirty, range)?;
-        let dests = dirty.dests;
         Ok(Changed {
             networks,
-            dests,
+            dests: dirty.dests,
             work,
         })
     }

@@ -60,7 +60,7 @@ impl Choosing<'_> {
         let mut keys = Vec::new(alloc);
         self.index.list_keys(LsaGroup::To(*dest), &mut keys)?;
         let mut best = Best::new(alloc);
-        let offers = SummaryOffers {
+        let offers = AreaOffers {
             intra: inputs.intra,
             area,
             index: self.index,
@@ -114,13 +114,13 @@ fn is_boundary(intra: &Intra, area: u32, router: u32) -> bool
 
 // The paths that the summaries of an area offer.
 #[derive(Clone, Copy)]
-struct SummaryOffers<'a> {
+struct AreaOffers<'a> {
     intra: &'a Intra,
     area: u32,
     index: &'a OfferIndex,
 }
 
-impl SummaryOffers<'_> {
+impl AreaOffers<'_> {
     // Offers what is advertised under each of these keys.
     fn offer_keys(self, best: &mut Best<SummaryCost, Path>, keys: &[Key]) -> Result<(), Memory>
         ensures { OnOk result (TakesPaths

@@ -30,6 +30,7 @@ use Rattle.recording.specs.Reading.{bytes_of, bytes_or_none}
 use Rattle.recording.specs.declared.version.Version.{Version}
 use Rattle.recording.specs.declared.version.Version.TheVariants.{One, Two, Three}
 use Rattle.recording.specs.Forms.{Form, Body, VersionLine, RouterLine, CompatLine, SerialLine, AreaLine, RangeLine, HasInterfaceLine, HasLsaLine, BodyLine, InterfaceLine, InstallLine, FlushLine, PurgeLine, RangeSetLine, RangeDropLine, SecondLine, LookupLine, RollLine, AreBytes, IsForm, IsBody, IsAddress, IsScope, IsKey, IsPrefix, IsStub, IsInterface, Says, words_of, body_words, interface_words, line_text, lsa_words, range_words, scope_text, stub_words, key_words}
+use Rattle.recording.specs.Recordings.{interface_line}
 
 -- ---- the bytes of words
 
@@ -257,15 +258,12 @@ interface_in words = record {
   up = bytes_eq (get_or words 4 []) (codes "up");
 }
 
-abbrev interface_body : ℕ → Interface → Body
-interface_body id i = InterfaceLine id i.area i.address i.peer i.up
-
 abbrev version_in : List ℕ → Version
 version_in word = cond (bytes_eq word (codes "3")) Three (cond (bytes_eq word (codes "2")) Two One)
 
 abbrev body_behind : List ℕ → List (List ℕ) → Body
 body_behind word words =
-    cond (bytes_eq word (codes "interface")) (interface_body (number_in (get_or words 0 [])) (interface_in words))
+    cond (bytes_eq word (codes "interface")) (interface_line (number_in (get_or words 0 [])) (interface_in words))
     (cond (bytes_eq word (codes "install")) (InstallLine (scope_in (get_or words 0 [])) (bytes_of (get_or words 1 [])))
     (cond (bytes_eq word (codes "flush")) (FlushLine (scope_in (get_or words 0 [])) (key_in (drop 1 words)))
     (cond (bytes_eq word (codes "purge")) (PurgeLine (scope_in (get_or words 0 [])) (key_in (drop 1 words)))
@@ -373,7 +371,7 @@ body_in words = body_behind (get_or words 0 []) (drop 1 words)
 body_again : (body : Body) → IsBody body → body_in (body_words body) ≡ body
 body_again (InterfaceLine id area address peer up) h =
     let i : Interface = record { area = area; address = address; peer = peer; up = up } in
-    ap (λ n. interface_body n (interface_in (interface_words id i))) (number_again id (omega arith)) ∙ ap (interface_body id) (interface_again id i h)
+    ap (λ n. interface_line n (interface_in (interface_words id i))) (number_again id (omega arith)) ∙ ap (interface_line id) (interface_again id i h)
 body_again (InstallLine at bytes) h = ap (λ s. InstallLine s (bytes_of (encode_lower bytes))) (scope_again at h.0) ∙ ap (InstallLine at) (bytes_again bytes h.1)
 body_again (FlushLine at key) h = ap (λ s. FlushLine s (key_in (key_words key))) (scope_again at h.0) ∙ ap (FlushLine at) (key_again key h.1)
 body_again (PurgeLine at key) h = ap (λ s. PurgeLine s (key_in (key_words key))) (scope_again at h.0) ∙ ap (PurgeLine at) (key_again key h.1)

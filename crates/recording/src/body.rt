@@ -54,7 +54,7 @@ fn read_line(
         LineForm::Version(_) | LineForm::Router(_) | LineForm::Compat(_) => Err(Fault::Order),
         LineForm::Serial(_) | LineForm::Area { .. } | LineForm::Range { .. } => Err(Fault::Order),
         LineForm::HasInterface { .. } | LineForm::HasLsa { .. } => Err(Fault::Order),
-        LineForm::Interface { id, interface } => Ok(interface_line(id, interface)),
+        LineForm::Interface { id, interface } => Ok(interface_event(id, interface)),
         LineForm::Install { scope, digits } => match read_lsa(alloc, digits, room) {
             Ok(lsa) => Ok(Line::Event(Event::Install { scope, lsa })),
             Err(fault) => Err(fault),
@@ -70,7 +70,7 @@ fn read_line(
 }
 
 // The line of an interface that comes or changes.
-fn interface_line(id: u8, interface: Interface) -> Line
+fn interface_event(id: u8, interface: Interface) -> Line
     ensures { result ≡ line.Event (event.Interface id
         interface.area interface.address interface.peer interface.up) }
 {

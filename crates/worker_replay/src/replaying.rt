@@ -28,10 +28,10 @@ pub struct ReplayOptions {
     pub show: Show,
 }
 
-/// Reads its input to the end as a recording, submits its events to an engine from so many threads, and writes what `show`
-/// names. The events of a thread are submitted in their order, those of two threads in any; the look-ups see all that were
-/// answered `Current`. Where it ends early nothing is written, but for a failed write, or want of memory while writing: then
-/// a beginning of the output. Something is missing where a write failed, and no line is cut where memory ran out.
+/// Reads its input to the end as a recording, submits its events to an engine from `options.workers` threads, and writes what
+/// `options.show` names. The events of a thread are submitted in their order, those of two threads in any; the look-ups see
+/// all that were answered `Current`. Where it ends early nothing is written, but for a failed write, or want of memory while
+/// writing: then a beginning of the output. Something is missing where a write failed, and no line is cut where memory ran out.
 pub fn replay_many<S: Threads + Wait + Sync, R: io::Read, W: io::Write>(
     rt: &S,
     alloc: Global,

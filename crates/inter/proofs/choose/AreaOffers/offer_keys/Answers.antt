@@ -1,6 +1,6 @@
 use Rattle.path_choice.proofs.Taking.{takes_at, takes_past}
 use Rattle.inter.specs.Choosing.{KeyOffers}
-use Rattle.inter.proofs.choose.SummaryOffers.offer_keys.Goals as goal
+use Rattle.inter.proofs.choose.AreaOffers.offer_keys.Goals as goal
 
 pub loop-key-preserved : goal.loop-key-preserved
 loop-key-preserved c = λ new rest.

@@ -3,7 +3,7 @@ use Rattle.ospf_types.specs.declared.hop.Path.{Path}
 use Rattle.path_choice.specs.Choices.{Chosen}
 use Rattle.path_choice.specs.Takes.{OfferedBySome}
 use Rattle.inter.specs.Choosing.{TakesPaths, KeyOffers}
-use Rattle.inter.proofs.choose.SummaryOffers.offer_keys.Given as goal
+use Rattle.inter.proofs.choose.AreaOffers.offer_keys.Given as goal
 
 -- who takes what is advertised under the keys that are left has taken it all
 abbrev pub invariant-loop-key : goal.invariant-loop-key

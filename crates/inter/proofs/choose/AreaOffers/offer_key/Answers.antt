@@ -4,7 +4,7 @@ use Rattle.std.proofs.lemmas.Result.{on_ok_weaker}
 use Rattle.ospf_types.specs.declared.hop.NextHop.{NextHop}
 use Rattle.inter.specs.Choosing.{TakesPaths, HopsOffer}
 use Rattle.inter.proofs.Chosen.{takes_no_route, takes_unreached, takes_no_border, takes_border}
-use Rattle.inter.proofs.choose.SummaryOffers.offer_key.Goals as goal
+use Rattle.inter.proofs.choose.AreaOffers.offer_key.Goals as goal
 
 pub returns-in_default : goal.returns-in_default
 returns-in_default c = takes_no_route c.args.self.intra.now.areas c.args.self.area c.args.self.index.now c.args.key c.args.best.now (sym c.in_default.ensures)
