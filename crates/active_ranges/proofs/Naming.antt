@@ -1,7 +1,6 @@
--- Lists that get more and more elements.
-use Rattle.std.proofs.Common.{◌≡◌, ℕ, ◌+◌, ◌<◌, ◌≤◌, List, [], ◌∷◌, ◌++◌, length, take, get_or, refl, sym, subst, ◌∙◌, ap, inl, inr}
+-- The members that named networks may be.
+use Rattle.std.proofs.Common.{◌≡◌, ℕ, List, [], refl, sym, subst, ◌∙◌, ap, inl, inr}
 use Rattle.std.specs.Prelude.{◌↔◌, Contains}
-use Rattle.std.proofs.lemmas.List.Elements.{Contains-append_left, Contains-push, Contains-push_cases}
 use Rattle.ospf_types.specs.declared.config.AreaConfig.{AreaConfig}
 use Rattle.ospf_types.specs.declared.config.Range.{Range}
 use Rattle.ospf_types.specs.declared.key.Dest.{Dest}
@@ -9,58 +8,10 @@ use Rattle.ospf_types.specs.declared.key.Dest.TheVariants.{Net}
 use Rattle.ospf_types.specs.declared.prefix.Prefix.{Prefix}
 use Rattle.ospf_types.specs.Address.{Covers}
 use Rattle.ospf_types.proofs.Elements.{no_element}
-use Rattle.spf.specs.HandedOn.{IsOfSome}
-use Rattle.spf.proofs.OfSome.{of_none, of_more, of_all}
+use Rattle.result_map.specs.Lists.{IsOfSome}
 use Rattle.active_ranges.specs.declared.member.AreaRange.{AreaRange}
 use Rattle.active_ranges.specs.declared.member.Member.{Member}
 use Rattle.active_ranges.specs.Following.{HasMore, IsNamed, IsNamedAs, IsNamedIn, IsNamedOf}
-
--- ---- any elements
-
-module _ {B : Type 0} (P Q : B → Type 0) (before after : List B) where
-  -- the same, said otherwise
-  pub more_as : ((y : B) → P y ↔ Q y) → HasMore P before after → HasMore Q before after
-  more_as same is y = (
-    λ c. elim ((is y).0 c) [ inl was ↦ inl was | inr more ↦ inr ((same y).0 more) ],
-    λ w. elim w [ inl was ↦ (is y).1 (inl was) | inr more ↦ (is y).1 (inr ((same y).1 more)) ],
-  )
-
--- no more
-pub more_none : {B : Type 0} (P : B → Type 0) (ys : List B) → ((y : B) → P y → ⊥) → HasMore P ys ys
-more_none P ys none y = (λ c. inl c, λ w. elim w [ inl was ↦ was | inr more ↦ absurd (none y more) ])
-
--- one more
-pub more_one : {B : Type 0} (P : B → Type 0) (before after : List B) (x : B) → after ≡ before ++ x ∷ [] → ((y : B) → P y ↔ (y ≡ x)) → HasMore P before after
-more_one {B} P before after x pushed one y = (
-  λ c. elim (Contains-push_cases before x y (subst (λ (ys : List B). Contains ys y) pushed c)) [ inl was ↦ inl was | inr same ↦ inr ((one y).1 (sym same)) ],
-  λ w. subst (λ (ys : List B). Contains ys y) (sym pushed) (elim w [
-    | inl was ↦ Contains-append_left before (x ∷ []) y was
-    | inr more ↦ subst (λ (z : B). Contains (before ++ x ∷ []) z) (sym ((one y).0 more)) (Contains-push before x)
-  ]),
-)
-
-module _ {A B : Type 0} (P : A → B → Type 0) where
-  -- none of no elements
-  pub more_at_first : (ys : List B) → HasMore (IsOfSome [] P) ys ys
-  more_at_first ys = more_none (IsOfSome [] P) ys (λ y w. of_none P y w)
-
-  -- those of one element more
-  pub more_next : (xs : List A) (i : ℕ) (x : A) (a b c : List B) → i < length xs → x ≡ get_or xs i x → HasMore (IsOfSome (take i xs) P) a b → HasMore (P x) b c → HasMore (IsOfSome (take (i + 1) xs) P) a c
-  more_next xs i x a b c lt is first then y =
-      let step = of_more P xs i x y lt is in (
-        λ there. elim ((then y).0 there) [
-          | inr here ↦ inr (step.1 (inr here))
-          | inl mid ↦ elim ((first y).0 mid) [ inl was ↦ inl was | inr some ↦ inr (step.1 (inl some)) ]
-        ],
-        λ w. elim w [
-          | inl was ↦ (then y).1 (inl ((first y).1 (inl was)))
-          | inr more ↦ elim (step.0 more) [ inl some ↦ (then y).1 (inl ((first y).1 (inr some))) | inr here ↦ (then y).1 (inr here) ]
-        ],
-      )
-
-  -- those of all elements
-  pub more_all : (xs : List A) (i : ℕ) (a b : List B) → length xs ≤ i → HasMore (IsOfSome (take i xs) P) a b → HasMore (IsOfSome xs P) a b
-  more_all xs i a b past is = more_as (IsOfSome (take i xs) P) (IsOfSome xs P) a b (λ y. of_all P xs i y past) is
 
 -- ---- members that are named
 

@@ -21,6 +21,7 @@ use ospf_types::entry::Entry;
 use ospf_types::key::Dest;
 use ospf_types::memory::Memory;
 use ospf_types::prefix::Prefix;
+use result_map::ascending;
 use std::alloc::Global;
 use std::collections::BTreeMap;
 use std::marker::Model;
@@ -412,16 +413,6 @@ fn ranges_of(alloc: Global, members: &[Member]) -> Result<Vec<Prefix>, Memory>
 {
     let prefixes = each_range(alloc, members)?;
     Ok(ascending(prefixes))
-}
-
-// The prefixes, ascending, each once.
-fn ascending(mut prefixes: Vec<Prefix>) -> Vec<Prefix>
-    ensures in_order { IsStrictlySortedBy network_cmp result.items }
-    ensures same { (p : PrefixValue) → Contains result.items p ↔ Contains prefixes.items p }
-{
-    prefixes.sort_unstable();
-    prefixes.dedup();
-    prefixes
 }
 
 // The prefix of each member's range.

@@ -1,42 +1,20 @@
--- The networks among some destinations, and all those that a table may have something for.
---   one_more, one_router_more: one destination more
+-- The routers among some destinations, and all networks that a table may have something for.
+--   one_router_more: one destination more
 --   routers_within: a router that is one of the destinations is one of the routers
---   networks_exact: a network is one of the networks just where it is one of the destinations
---   once_in_order, once_exact: so it is of those that were sorted, and of which each is kept once
 --   nothing_else: a network that no layer lists has no item
 use Rattle.std.proofs.Common.{◌≡◌, ℕ, ◌+◌, ◌<◌, List, [], ◌∷◌, ◌++◌, length, get_or, take, Option, Some, None, refl, sym, ap, subst, ◌∙◌, ⊎_elim}
 use Rattle.std.specs.Prelude.{◌↔◌, IsSome}
 use Rattle.std.specs.FinMap.{get}
 use Rattle.std.specs.List.{Contains}
-use Rattle.std.specs.List.Retain.{IsFiltered, DiffersFromLast}
-use Rattle.std.specs.List.Sorted.{IsSorted, IsStrictlySortedBy, IsPermutation}
 use Rattle.std.proofs.lemmas.List.{take_more}
 use Rattle.std.proofs.lemmas.List.Elements.{Contains-append_left, Contains-append_right}
 use Rattle.ospf_types.specs.declared.key.Dest.{Dest}
 use Rattle.ospf_types.specs.declared.key.Dest.TheVariants.{Net, Router}
 use Rattle.ospf_types.specs.declared.prefix.Prefix.{Prefix}
-use Rattle.ospf_types.specs.Network.{network_cmp}
 use Rattle.ospf_types.proofs.Elements.{no_element, first_element, later_element, first_or_later}
-use Rattle.ospf_types.proofs.KeyOrders.{prefixes_equal, prefixes_order}
-use Rattle.ospf_types.proofs.Orders.{network_total, network_exact}
-use Rattle.intra.proofs.SortedOnce.{strictly, same_items}
 use Rattle.active_ranges.specs.Active.{IsActiveIn}
 use Rattle.calculation.specs.Calculations.{CalculationValue, IsItemOf, entry_else}
 use Rattle.calculation.specs.Followed.{routers_in}
-
-abbrev pub networks_in : List Dest → List Prefix
-networks_in [] = []
-networks_in (Net p ∷ dests) = p ∷ networks_in dests
-networks_in (Router r ∷ dests) = networks_in dests
-
-networks_more : (dests : List Dest) (d : Dest) → networks_in (dests ++ d ∷ []) ≡ networks_in dests ++ networks_in (d ∷ [])
-networks_more [] (Net p) = refl
-networks_more [] (Router r) = refl
-networks_more (Net p ∷ dests) d = ap (λ ps. p ∷ ps) (networks_more dests d)
-networks_more (Router r ∷ dests) d = networks_more dests d
-
-pub one_more : (dests : List Dest) (i : ℕ) (d : Dest) → i < length dests → d ≡ get_or dests i d → networks_in (take (i + 1) dests) ≡ networks_in (take i dests) ++ networks_in (d ∷ [])
-one_more dests i d lt here = ap networks_in (take_more dests i d lt ∙ ap (λ (e : Dest). take i dests ++ e ∷ []) (sym here)) ∙ networks_more (take i dests) d
 
 routers_more : (dests : List Dest) (d : Dest) → routers_in (dests ++ d ∷ []) ≡ routers_in dests ++ routers_in (d ∷ [])
 routers_more [] (Net p) = refl
@@ -56,32 +34,6 @@ routers_within (Router q ∷ dests) r c =
     (λ (e : Router r ≡ Router q). subst (λ (d : Dest). Contains (Router q ∷ routers_in dests) d) (sym e) (first_element (Router q) (routers_in dests)))
     (λ (later : Contains dests (Router r)). later_element (Router q) (Router r) (routers_in dests) (routers_within dests r later))
     (first_or_later (Router q) (Router r) dests c)
-
--- a network is one of the networks just where it is one of the destinations
-pub networks_exact : (dests : List Dest) (p : Prefix) → Contains (networks_in dests) p ↔ Contains dests (Net p)
-networks_exact [] p = (λ c. absurd (no_element p c), λ c. absurd (no_element (Net p) c))
-networks_exact (Net q ∷ dests) p = (
-  λ c. ⊎_elim (λ (e : p ≡ q). subst (λ (x : Prefix). Contains (Net q ∷ dests) (Net x)) (sym e) (first_element (Net q) dests)) (λ (later : Contains (networks_in dests) p). later_element (Net q) (Net p) dests ((networks_exact dests p).0 later)) (first_or_later q p (networks_in dests) c),
-  λ c. ⊎_elim
-      (λ (e : Net p ≡ Net q). let same : p ≡ q = cc in subst (Contains (q ∷ networks_in dests)) (sym same) (first_element q (networks_in dests)))
-      (λ (later : Contains dests (Net p)). later_element q p (networks_in dests) ((networks_exact dests p).1 later))
-      (first_or_later (Net q) (Net p) dests c),
-)
-networks_exact (Router r ∷ dests) p = (
-  λ c. later_element (Router r) (Net p) dests ((networks_exact dests p).0 c),
-  λ c. ⊎_elim (λ (e : Net p ≡ Router r). absurd cc) (λ (later : Contains dests (Net p)). (networks_exact dests p).1 later) (first_or_later (Router r) (Net p) dests c),
-)
-
--- sorted, and each kept once
-module _ (dests : List Dest) (found sorted kept : List Prefix) (is : found ≡ networks_in dests) (moved : IsPermutation found sorted) (in_order : IsSorted network_cmp sorted) (filtered : IsFiltered (DiffersFromLast prefixes_equal) [] sorted kept) where
-  pub once_in_order : IsStrictlySortedBy network_cmp kept
-  once_in_order = strictly network_total network_exact prefixes_order found sorted kept moved in_order filtered
-
-  pub once_exact : (p : Prefix) → Contains kept p ↔ Contains dests (Net p)
-  once_exact p =
-      let same = same_items network_total network_exact prefixes_order found sorted kept moved in_order filtered p in
-      let among = subst (λ (list : List Prefix). Contains list p ↔ Contains dests (Net p)) (sym is) (networks_exact dests p) in
-      (λ c. among.0 (same.0 c), λ c. same.1 (among.1 c))
 
 -- ---- all that the table may have something for
 
@@ -108,7 +60,5 @@ module _ (c : CalculationValue) (intra ranges inter external : List Prefix) (des
         λ is. not (Contains-append_left second external p (Contains-append_left first inter p (Contains-append_right intra ranges p ((active p).1 is)))),
       )
 
-  pub nothing_else : (found sorted kept : List Prefix) → found ≡ all → IsPermutation found sorted → IsSorted network_cmp sorted → IsFiltered (DiffersFromLast prefixes_equal) [] sorted kept
-      → (p : Prefix) → (Contains kept p → ⊥) → IsItemOf c p None
-  nothing_else found sorted kept is moved in_order filtered p not =
-      nothing p (λ among. not ((same_items network_total network_exact prefixes_order found sorted kept moved in_order filtered p).1 (subst (λ (list : List Prefix). Contains list p) (sym is) among)))
+  pub nothing_else : (found kept : List Prefix) → found ≡ all → ((p : Prefix) → Contains kept p ↔ Contains found p) → (p : Prefix) → (Contains kept p → ⊥) → IsItemOf c p None
+  nothing_else found kept is same p not = nothing p (λ among. not ((same p).1 (subst (λ (list : List Prefix). Contains list p) (sym is) among)))

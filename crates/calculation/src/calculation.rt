@@ -38,6 +38,7 @@ use ospf_types::entry::Entry;
 use ospf_types::key::{Dest, Key, Scope};
 use ospf_types::memory::Memory;
 use ospf_types::prefix::Prefix;
+use result_map::{add_networks, ascending, networks_among};
 use route_layers::{IntraLayer, active_areas};
 use route_table::{Item, NewItem, Table};
 use spf::Touched;
@@ -286,7 +287,7 @@ impl Calculation {
         let within = follow_range(alloc, active, areas, &self.intra, &range)?;
         let mut dests = follow_intra(alloc, &mut self.intra, state, &self.trees, dirty)?;
         let ranges = self.active.update(alloc, areas, &self.intra, &dests)?;
-        push_networks(&ranges, &mut dests)?;
+        add_networks(&ranges, &mut dests)?;
         push_range(&range, &mut dests)?;
         dirty.dests = dests;
         let below = IntraLayer {
@@ -360,9 +361,7 @@ impl Calculation {
         networks.extend_from_slice(&self.active.prefixes(alloc)?)?;
         networks.extend_from_slice(&networks_of(alloc, &self.inter.dests(alloc)?)?)?;
         networks.extend_from_slice(&self.external.networks(alloc)?)?;
-        networks.sort_unstable();
-        networks.dedup();
-        Ok(networks)
+        Ok(ascending(networks))
     }
 }
 
@@ -440,17 +439,6 @@ fn build_intra(
     Intra::build(alloc, &inputs, hashing)
 }
 
-// Adds the networks as destinations.
-fn push_networks(networks: &[Prefix], dests: &mut Vec<Dest>) -> Result<(), Memory>
-    ensures { OnOk result (dests.new.items
-        ≡ dests.old.items ++ list_map dest_value.Net networks.now) }
-{
-    for network in networks {
-        dests.push(Dest::Net(*network))?;
-    }
-    Ok(())
-}
-
 // Adds the prefix of the range, if there is one.
 fn push_range(range: &Option<(u32, Prefix)>, dests: &mut Vec<Dest>) -> Result<(), Memory>
     ensures { OnOk result (dests.new.items ≡ dests.old.items ++ range_dests range.now) }
@@ -490,13 +478,6 @@ fn networks_of(alloc: Global, dests: &[Dest]) -> Result<Vec<Prefix>, Memory>
     ensures exact { IfOk result (λ networks. (p : PrefixValue)
         → Contains networks.items p ↔ Contains dests.now (dest_value.Net p)) }
 {
-    let mut networks = Vec::with_capacity(alloc, dests.len())?;
-    for dest in dests {
-        if let Dest::Net(network) = *dest {
-            networks.push(network)?;
-        }
-    }
-    networks.sort_unstable();
-    networks.dedup();
-    Ok(networks)
+    let networks = networks_among(alloc, dests)?;
+    Ok(ascending(networks))
 }

@@ -6,7 +6,5 @@ pub mod RightPreferred
 pub mod RightForwards
 pub mod Right
 pub mod Frame
-pub mod Updated
 pub mod Updating
-pub mod Led
 pub mod OfferingRouters

@@ -4,26 +4,26 @@ use Rattle.std.specs.Prelude.{◌↔◌}
 use Rattle.std.specs.Coded.{Coded, coded_option}
 use Rattle.std.specs.FinMap.{get}
 use Rattle.std.specs.List.{Contains}
-use Rattle.std.proofs.lemmas.List.Elements.{Contains-append_left, Contains-append_right, Contains-append_cases}
 use Rattle.ospf_types.specs.declared.entry.Entry.{Entry}
 use Rattle.ospf_types.specs.declared.hop.Path.{Path}
 use Rattle.ospf_types.specs.declared.key.Dest.{Dest}
 use Rattle.ospf_types.specs.declared.key.Dest.TheVariants.{Net, Router}
 use Rattle.ospf_types.specs.declared.key.Key.{Key}
+use Rattle.ospf_types.specs.declared.key.Scope.TheVariants.{As}
 use Rattle.ospf_types.specs.declared.prefix.Prefix.{Prefix}
 use Rattle.ospf_types.specs.External.{ExternalPreference}
-use Rattle.ospf_types.proofs.Elements.{mapped_element, mapped_from}
+use Rattle.result_map.specs.Lists.{GainsAll, HasMore, IsOfSome}
+use Rattle.result_map.proofs.Among.{net_among, router_among}
 use Rattle.intra.specs.Intras.{EntriesByPrefix}
 use Rattle.offer_index.specs.Advertised.{AdvertisedValue}
-use Rattle.offer_index.specs.Indexes.{ChangedOffersValue}
-use Rattle.offer_index.specs.declared.lsa_group.LsaGroup.TheVariants.{By, Forwarded}
+use Rattle.offer_index.specs.Indexes.{ChangedOffersValue, IsIndexOf, OfferIndexValue}
 use Rattle.external.specs.Changes.{DiffersAt}
-use Rattle.external.specs.Externals.{ExternalValue, IsEntryFor, IsExternalOf, IsForwardIn}
+use Rattle.external.specs.Externals.{ExternalValue, IsEntryFor}
 use Rattle.external.specs.Forwards.{ForwardValue, ForwardsByAddress}
 use Rattle.external.specs.Inputs.{ExternalInputsValue}
 use Rattle.external.specs.Offers.{AdvertisedOffers, ForwardLeads, OffersBy, OffersOf}
-use Rattle.external.specs.Preferred.{PreferredByRouter, PreferredValue, IsPreferredFor, RouterOffers}
-use Rattle.external.specs.Updating.{AreEntriesUpdated, AreForwardsUpdated, AreLed, AreNetworksLed, ArePreferredUpdated, IsListed, StandsBut}
+use Rattle.external.specs.Preferred.{PreferredByRouter, PreferredValue}
+use Rattle.external.specs.Updating.{IsAlso, IsEntryBy, IsLedBy, IsLedByAddress, IsListed, StandsBut}
 use Rattle.external.specs.contracts.forward.Forward as kept_forward
 use Rattle.external.specs.contracts.preferred.Preferred as kept_entry
 use Rattle.external.proofs.Frame.{entry_same}
@@ -52,98 +52,61 @@ advertised_offers k a was is before after preferred forward preference path o =
       o.6,
     )
 
-module _ (v : ExternalInputsValue) (dests : List Dest) (affected : ChangedOffersValue) (old : ExternalValue) (preferred : PreferredByRouter) (forwards : ForwardsByAddress) (entries : EntriesByPrefix)
-    (routers moved : List ℕ) (by_routers led all : List Dest) (stands : StandsBut v dests affected old)
-    (preferred_updated : ArePreferredUpdated v dests old.preferred preferred) (changed : (r : ℕ) → Contains routers r ↔ (get preferred r ≢ get old.preferred r))
-    (forwards_updated : AreForwardsUpdated v old.index dests affected.addresses old.forwards forwards) (elsewhere : (a : ℕ) → Contains moved a ↔ (get forwards a ≢ get old.forwards a))
-    (first : AreLed old.index By routers affected.dests by_routers) (second : AreLed old.index Forwarded moved by_routers led)
-    (third : AreNetworksLed old.index dests led all) (entries_updated : AreEntriesUpdated v old.index preferred forwards all old.entries entries) where
-  preferred_is : (r : ℕ) → IsPreferredFor (RouterOffers v r) (get preferred r)
-  preferred_is r = elim (preferred_updated r) [
-    | inl is ↦ is
-    | inr kept ↦ subst (IsPreferredFor (RouterOffers v r)) (sym kept.1) (stands.preferred r kept.0)
-  ]
+-- by the index, and by the LSAs
+module _ (v : ExternalInputsValue) (i : OfferIndexValue) (index : IsIndexOf v.root As v.lsas i) (preferred : PreferredByRouter) (forwards : ForwardsByAddress) (p : Prefix) where
+  same_offers : (preference : ExternalPreference) (path : Path) → OffersBy v preferred forwards (IsListed i) p preference path ↔ OffersOf v preferred forwards p preference path
+  same_offers preference path = (
+    λ o. (o.0, o.1, sym (index o.0) ∙ o.2, o.3, o.4, o.5),
+    λ o. (o.0, o.1, index o.0 ∙ o.2, o.3, o.4, o.5),
+  )
 
-  forward_is : (a : ℕ) → IsForwardIn v old.index a (get forwards a)
-  forward_is a = elim (forwards_updated a) [
-    | inl is ↦ is
-    | inr kept ↦ subst (IsForwardIn v old.index a) (sym kept.1) (stands.forwards a kept.0)
-  ]
+  pub entry_listed : (e : Option Entry) → IsEntryBy v i preferred forwards p e → IsEntryFor (OffersOf v preferred forwards p) e
+  entry_listed e is = entry_same (OffersBy v preferred forwards (IsListed i) p) (OffersOf v preferred forwards p) same_offers e is
 
-  -- ---- a network to which nothing leads that differs
+  entry_advertised : (e : Option Entry) → IsEntryFor (OffersOf v preferred forwards p) e → IsEntryBy v i preferred forwards p e
+  entry_advertised e is = entry_same (OffersOf v preferred forwards p) (OffersBy v preferred forwards (IsListed i) p) (λ preference path. let both = same_offers preference path in (both.1, both.0)) e is
 
-  module _ (p : Prefix) (absent : Contains all (Net p) → ⊥) where
-    same_preferred : (k : Key) (a : AdvertisedValue) → get old.index.routes k ≡ Some a → a.dest ≡ Net p → get preferred k.router ≡ get old.preferred k.router
-    same_preferred k a listed dest = same_value preferred_coded (get preferred k.router) (get old.preferred k.router) (λ other.
-        let there = first.led k.router ((changed k.router).1 other) (Net p) (k, a, listed, refl, dest) in
-        absent (third.kept (Net p) (second.kept (Net p) there)))
+module _ (v : ExternalInputsValue) (dests : List Dest) (affected : ChangedOffersValue) (old : ExternalValue) (preferred : PreferredByRouter) (forwards : ForwardsByAddress)
+    (routers moved : List ℕ) (named : List Prefix) (by_routers led leading : List Dest) (stands : StandsBut v dests affected old)
+    (changed : (r : ℕ) → Contains routers r ↔ (get preferred r ≢ get old.preferred r)) (elsewhere : (a : ℕ) → Contains moved a ↔ (get forwards a ≢ get old.forwards a)) (are_named : (p : Prefix) → Contains named p ↔ Contains dests (Net p))
+    (first : HasMore (IsOfSome routers (IsLedBy old.index)) affected.dests by_routers) (second : HasMore (IsOfSome moved (IsLedByAddress old.index)) by_routers led) (third : GainsAll (IsOfSome named (IsAlso old.index)) led leading)
+    (p : Prefix) (absent : Contains leading (Net p) → ⊥) where
+  not_led : Contains led (Net p) → ⊥
+  not_led c = absent (third (Net p) (inl c))
 
-    same_forward : (k : Key) (a : AdvertisedValue) → get old.index.routes k ≡ Some a → a.dest ≡ Net p → 0 < a.forwarding → get forwards a.forwarding ≡ get old.forwards a.forwarding
-    same_forward k a listed dest some = same_value forward_coded (get forwards a.forwarding) (get old.forwards a.forwarding) (λ other.
-        let there = second.led a.forwarding ((elsewhere a.forwarding).1 other) (Net p) (k, a, listed, (some, refl), dest) in
-        absent (third.kept (Net p) there))
+  not_by_routers : Contains by_routers (Net p) → ⊥
+  not_by_routers c = not_led ((second (Net p)).1 (inl c))
 
-    offers_after : (preference : ExternalPreference) (path : Path) → OffersOf v old.preferred old.forwards p preference path → OffersOf v preferred forwards p preference path
-    offers_after preference path o =
+  -- to a network to which nothing leads that differs the same is offered
+  same_preferred : (k : Key) (a : AdvertisedValue) → get old.index.routes k ≡ Some a → a.dest ≡ Net p → get preferred k.router ≡ get old.preferred k.router
+  same_preferred k a listed dest = same_value preferred_coded (get preferred k.router) (get old.preferred k.router) (λ other.
+      not_by_routers ((first (Net p)).1 (inr (k.router, (changed k.router).1 other, (k, a, listed, refl, dest)))))
+
+  same_forward : (k : Key) (a : AdvertisedValue) → get old.index.routes k ≡ Some a → a.dest ≡ Net p → 0 < a.forwarding → get forwards a.forwarding ≡ get old.forwards a.forwarding
+  same_forward k a listed dest some = same_value forward_coded (get forwards a.forwarding) (get old.forwards a.forwarding) (λ other.
+      not_led ((second (Net p)).1 (inr (a.forwarding, (elsewhere a.forwarding).1 other, (k, a, listed, (some, refl), dest)))))
+
+  offered_alike : (preference : ExternalPreference) (path : Path) → OffersOf v old.preferred old.forwards p preference path ↔ OffersOf v preferred forwards p preference path
+  offered_alike preference path = (
+    λ o.
         let listed = stands.index o.0 ∙ o.2 in
-        (o.0, o.1, o.2, o.3, o.4, advertised_offers o.0 o.1 (get old.preferred o.0.router) (get preferred o.0.router) (get old.forwards o.1.forwarding) (get forwards o.1.forwarding) (same_preferred o.0 o.1 listed o.3) (same_forward o.0 o.1 listed o.3) preference path o.5)
-
-    offers_before : (preference : ExternalPreference) (path : Path) → OffersOf v preferred forwards p preference path → OffersOf v old.preferred old.forwards p preference path
-    offers_before preference path o =
+        (o.0, o.1, o.2, o.3, o.4, advertised_offers o.0 o.1 (get old.preferred o.0.router) (get preferred o.0.router) (get old.forwards o.1.forwarding) (get forwards o.1.forwarding) (same_preferred o.0 o.1 listed o.3) (same_forward o.0 o.1 listed o.3) preference path o.5),
+    λ o.
         let listed = stands.index o.0 ∙ o.2 in
-        (o.0, o.1, o.2, o.3, o.4, advertised_offers o.0 o.1 (get preferred o.0.router) (get old.preferred o.0.router) (get forwards o.1.forwarding) (get old.forwards o.1.forwarding) (sym (same_preferred o.0 o.1 listed o.3)) (λ some. sym (same_forward o.0 o.1 listed o.3 some)) preference path o.5)
+        (o.0, o.1, o.2, o.3, o.4, advertised_offers o.0 o.1 (get preferred o.0.router) (get old.preferred o.0.router) (get forwards o.1.forwarding) (get old.forwards o.1.forwarding) (sym (same_preferred o.0 o.1 listed o.3)) (λ some. sym (same_forward o.0 o.1 listed o.3 some)) preference path o.5),
+  )
 
-    entry_kept : (e : Option Entry) → IsEntryFor (OffersOf v old.preferred old.forwards p) e → IsEntryFor (OffersOf v preferred forwards p) e
-    entry_kept e is = entry_same (OffersOf v old.preferred old.forwards p) (OffersOf v preferred forwards p) (λ preference path. (offers_after preference path, offers_before preference path)) e is
+  -- so its entry stands
+  pub entry_stands : IsEntryBy v old.index preferred forwards p (get old.entries p)
+  entry_stands =
+      let was = stands.entries p (λ c. not_by_routers ((first (Net p)).1 (inl c))) (λ c leads. absent (third (Net p) (inr (p, (are_named p).1 c, (refl, leads))))) in
+      entry_advertised v old.index stands.index preferred forwards p (get old.entries p) (entry_same (OffersOf v old.preferred old.forwards p) (OffersOf v preferred forwards p) offered_alike (get old.entries p) was)
 
-  -- ---- all networks
-
-  entry_is : (p : Prefix) → IsEntryFor (OffersOf v preferred forwards p) (get entries p)
-  entry_is p = elim (entries_updated p) [
-    | inl is ↦ entry_same (OffersBy v preferred forwards (IsListed old.index) p) (OffersOf v preferred forwards p) (λ preference path. (
-      λ o. (o.0, o.1, sym (stands.index o.0) ∙ o.2, o.3, o.4, o.5),
-      λ o. (o.0, o.1, stands.index o.0 ∙ o.2, o.3, o.4, o.5),
-    )) (get entries p) is
-    | inr kept ↦ subst (IsEntryFor (OffersOf v preferred forwards p)) (sym kept.1) (entry_kept p kept.0 (get old.entries p)
-        (stands.entries p (λ c. kept.0 (third.kept (Net p) (second.kept (Net p) (first.kept (Net p) c)))) (λ c leads. kept.0 (third.led p c leads))))
-  ]
-
-  abbrev pub new : ExternalValue
-  new = record { index = old.index; preferred = preferred; forwards = forwards; entries = entries; spent = old.spent }
-
-  -- the routes are those of the inputs
-  pub updated : IsExternalOf v new
-  updated = record {
-    fresh = stands.fresh;
-    index = stands.index;
-    preferred = preferred_is;
-    forwards = forward_is;
-    entries = entry_is;
-  }
-
-  module _ (named : List Dest) (nets : (d : Dest) → Contains named d ↔ ((p : Prefix) × (d ≡ Net p) × (get entries p ≢ get old.entries p))) where
-    -- just the destinations are named whose result differs
-    pub exactly : (d : Dest) → Contains (named ++ map Router routers) d ↔ DiffersAt old new d
-    exactly (Net p) = (
-      λ c. elim (Contains-append_cases named (map Router routers) (Net p) c) [
-        | inl net ↦ let w = (nets (Net p)).0 net in let e : p ≡ w.0 = net_of (w.1) in subst (λ (q : Prefix). get entries q ≢ get old.entries q) (sym e) w.2
-        | inr router ↦ let w = mapped_from Router routers (Net p) router in absurd (let wrong : Router w.0 ≡ Net p = w.2 in cc)
-      ],
-      λ differs. Contains-append_left named (map Router routers) (Net p) ((nets (Net p)).1 (p, refl, differs)),
-    )
-      where
-        net_of : {q : Prefix} → Net p ≡ Net q → p ≡ q
-        net_of {q} e = cc
-    exactly (Router r) = (
-      λ c. elim (Contains-append_cases named (map Router routers) (Router r) c) [
-        | inl net ↦ let w = (nets (Router r)).0 net in absurd (let wrong : Router r ≡ Net w.0 = w.1 in cc)
-        | inr router ↦
-            let w = mapped_from Router routers (Router r) router in
-            let e : w.0 ≡ r = (let same : Router w.0 ≡ Router r = w.2 in cc) in
-            (changed r).0 (subst (Contains routers) e w.1)
-      ],
-      λ differs. Contains-append_right named (map Router routers) (Router r) (mapped_element Router routers r ((changed r).1 differs)),
-    )
+-- just the destinations are told whose result differs
+pub exactly : (old new : ExternalValue) (networks : List Prefix) (routers : List ℕ) → ((p : Prefix) → Contains networks p ↔ (get new.entries p ≢ get old.entries p)) → ((r : ℕ) → Contains routers r ↔ (get new.preferred r ≢ get old.preferred r))
+    → (d : Dest) → Contains (map Net networks ++ map Router routers) d ↔ DiffersAt old new d
+exactly old new networks routers nets others (Net p) = let among = net_among networks routers p in (λ c. (nets p).0 (among.0 c), λ differs. among.1 ((nets p).1 differs))
+exactly old new networks routers nets others (Router r) = let among = router_among networks routers r in (λ c. (others r).0 (among.0 c), λ differs. among.1 ((others r).1 differs))
 
 -- whether a result differs does not rest on the index
 pub differs_same : (one other new : ExternalValue) → other.preferred ≡ one.preferred → other.entries ≡ one.entries → (d : Dest) → DiffersAt other new d ↔ DiffersAt one new d

@@ -3,11 +3,9 @@ ghost use Rattle.std.specs.Prelude.{◌≡◌, ◌<◌, None, Some, IfOk, OnOk};
 ghost use Rattle.std.specs.FinMap as map;
 ghost use Rattle.std.specs.List.Sorted.{IsStrictlySortedBy};
 ghost use Rattle.ospf_types.specs.Hops.{path_cmp};
-ghost use Rattle.ospf_types.specs.Inter.{through};
 ghost use Rattle.ospf_types.specs.Routes.{entry_of, external_type};
-ghost use Rattle.path_choice.specs.Takes.{OnlyOffer};
 ghost use Rattle.inter.specs.Inters.{most_cost};
-ghost use Rattle.external.specs.Choosing.{TakesPaths, PathsOffer, LeadsOffer, KeyOffers, KeysOffer, NetworkOffers};
+ghost use Rattle.external.specs.Choosing.{TakesPaths, LeadsOffer, KeyOffers, KeysOffer, NetworkOffers};
 ghost use Rattle.external.specs.Forwards.{WayOffers, forwards_in};
 ghost use Rattle.external.specs.Offers.{AdvertisedOffers, ForwardLeads, preference_of};
 ghost use Rattle.external.specs.Preferred.{preferred_in};
@@ -18,11 +16,11 @@ use crate::inputs::ExternalInputs;
 use crate::preferred::Preferred;
 use offer_index::{Advertised, LsaGroup, OfferIndex};
 use ospf_types::entry::{Entry, PathType, Paths};
-use ospf_types::hop::{NextHop, Path};
+use ospf_types::hop::Path;
 use ospf_types::key::{Dest, Key};
 use ospf_types::memory::Memory;
 use ospf_types::prefix::Prefix;
-use path_choice::{Best, Choice, ExactOrd};
+use path_choice::{Best, Choice, ExactOrd, offer_hops};
 use result_map::{Choose, ResultMap};
 use std::alloc::Global;
 use std::marker::Model;
@@ -108,21 +106,14 @@ pub(crate) struct Choosing<'a> {
     pub(crate) forwards: &'a ResultMap<u32, Forward>,
 }
 
-impl<'a> Choose<Prefix, Entry, Dest> for Choosing<'a> {
+impl<'a> Choose<Prefix, Entry> for Choosing<'a> {
     ghost use Rattle.std.specs.FinMap as map;
-    ghost use Rattle.ospf_types.specs.declared.key.Dest.TheVariants.{Net};
     ghost use Rattle.external.specs.Updating.{IsEntryBy};
 
     ghost IsChosen = { λ by network fresh. IsEntryBy by.inputs.now by.index.now (map.from_entries by.preferred.now.entries) (map.from_entries by.forwards.now.entries) network fresh };
 
-    ghost named_as = { Net };
-
     fn choose(&self, alloc: Global, key: Prefix) -> Result<Option<Entry>, Memory> {
         self.choose_entry(alloc, key)
-    }
-
-    fn name(&self, key: Prefix) -> Dest {
-        Dest::Net(key)
     }
 }
 
@@ -204,7 +195,7 @@ impl Choosing<'_> {
         // 16.4 (3): without a forwarding address packets go to the AS boundary router itself.
         if route.forwarding() == 0 {
             let at = ExternalKey::of(route, entry.class(), entry.cost());
-            return offer_hops(best, at, key.router, entry.hops());
+            return offer_hops(best, at, Some(key.router), entry.hops());
         }
         match self.forwards.get(route.forwarding()) {
             Some(forward) => offer_forward(best, key.router, route, forward),
@@ -256,36 +247,5 @@ fn offer_way(
         (TakesPaths (LeadsOffer (WayOffers (Some way.now)) router route) best.old best.new) }
 {
     let at = ExternalKey::of(route, way.class(), way.cost());
-    offer_hops(best, at, router, way.hops())
-}
-
-// Offers a path by the router over each of these next hops.
-fn offer_hops(
-    best: &mut Best<ExternalKey, Path>,
-    at: ExternalKey,
-    router: u32,
-    hops: &[NextHop],
-) -> Result<(), Memory>
-    ensures { OnOk result (TakesPaths (PathsOffer hops.now router at) best.old best.new) }
-{
-    for hop in hops {
-        offer_hop(best, at, router, *hop)?;
-    }
-    Ok(())
-}
-
-// Offers a path by the router over the next hop.
-fn offer_hop(
-    best: &mut Best<ExternalKey, Path>,
-    at: ExternalKey,
-    router: u32,
-    hop: NextHop,
-) -> Result<(), Memory>
-    ensures { OnOk result (TakesPaths (OnlyOffer at (through router hop)) best.old best.new) }
-{
-    let path = Path {
-        hop,
-        advertiser: Some(router),
-    };
-    best.offer(at, path)
+    offer_hops(best, at, Some(router), way.hops())
 }

@@ -14,8 +14,7 @@ use crate::forward::Forward;
 use crate::inputs::ExternalInputs;
 use crate::preferred::Preferred;
 use crate::update::{
-    Forwarding, Preferring, add_routers, list_dests_by_addresses, list_dests_by_routers,
-    list_networks_led_to, list_routers,
+    Forwarding, Preferring, list_dests_by_addresses, list_dests_by_routers, list_networks_led_to,
 };
 use intra::Dirty;
 use offer_index::{ChangedOffers, OfferIndex, ScopeDatabase};
@@ -23,7 +22,7 @@ use ospf_types::entry::Entry;
 use ospf_types::key::{Dest, Scope};
 use ospf_types::memory::Memory;
 use ospf_types::prefix::Prefix;
-use result_map::ResultMap;
+use result_map::{ResultMap, dests_of, networks_among, routers_among};
 use std::alloc::Global;
 use std::hash::RandomState;
 use std::marker::Model;
@@ -249,23 +248,31 @@ impl External {
             addresses,
         } = affected;
         let index = &self.index;
+        let named_networks = networks_among(alloc, dests)?;
+        let named_routers = routers_among(alloc, dests)?;
         // Preferred entries first, then where forwarding addresses lead, then the networks behind what differs.
         let preferring = Preferring { inputs };
-        let routers = preferring.update_preferred(alloc, dests, &mut self.preferred)?;
+        let routers = self.preferred.follow(alloc, named_routers, &preferring)?;
         let forwarding = Forwarding { inputs, index };
-        let moved = forwarding.update_forwards(alloc, dests, addresses, &mut self.forwards)?;
-        list_dests_by_routers(index, routers.as_slice(), &mut leading)?;
-        list_dests_by_addresses(index, moved.as_slice(), &mut leading)?;
-        list_networks_led_to(index, dests, &mut leading)?;
+        let moved = forwarding.update_forwards(
+            alloc,
+            &named_networks,
+            addresses,
+            &mut self.forwards,
+        )?;
+        list_dests_by_routers(index, &routers, &mut leading)?;
+        list_dests_by_addresses(index, &moved, &mut leading)?;
+        list_networks_led_to(index, &named_networks, &mut leading)?;
+        let due = networks_among(alloc, &leading)?;
         let choosing = Choosing {
             inputs,
             index,
             preferred: &self.preferred,
             forwards: &self.forwards,
         };
-        let mut named = choosing.update_entries(alloc, leading.as_slice(), &mut self.entries)?;
-        add_routers(routers.as_slice(), &mut named)?;
-        Ok(named)
+        let networks = self.entries.follow(alloc, due, &choosing)?;
+        let others = dests_of(alloc, &networks, &routers)?;
+        Ok(others)
     }
 
     fn spend(&mut self, alloc: Global)
@@ -285,8 +292,7 @@ fn boundary_routers(alloc: Global, inputs: &ExternalInputs<'_>) -> Result<Vec<De
 {
     let mut routers = inputs.intra.routers(alloc)?;
     let others = inputs.inter.dests(alloc)?;
-    list_routers(others.as_slice(), &mut routers)?;
-    let mut dests = Vec::new(alloc);
-    add_routers(routers.as_slice(), &mut dests)?;
+    routers.extend_from_slice(&routers_among(alloc, &others)?)?;
+    let dests = dests_of(alloc, &[], &routers)?;
     Ok(dests)
 }

@@ -1,6 +1,5 @@
 -- The index follows, and the destinations that may get another entry are gathered.
 use Rattle.std.proofs.Common.{◌≡◌, ℕ, ◌+◌, ◌<◌, ◌≤◌, true, true≢false, List, length, get_or, take, Option, Some, None, refl, sym, ap, subst, ◌∙◌, inl, inr}
-use Rattle.std.specs.Prelude.{◌↔◌}
 use Rattle.std.specs.Option.{option_eq}
 use Rattle.std.specs.FinMap.{get, empty, get-empty}
 use Rattle.std.proofs.Math.Dec.{eqb}
@@ -102,15 +101,15 @@ module _ (i : OfferIndexValue) where
   pub pushed_all : (named : List Dest) (k : ℕ) (old new : List Dest) → length named ≤ k → ArePushed i (take k named) old new → ArePushed i named old new
   pushed_all named k old new past are = subst (λ (ds : List Dest). ArePushed i ds old new) (take_all k named past) are
 
--- what may differ is gathered, and kept once
-pub followed_from : (named : List Dest) (v : InterInputsValue) (area : Option ℕ) (old new : OfferIndexValue) (gathered pushed kept : List Dest) → IsIndexFor v.root v.examined new
-    → AreLed area (area_of v.examined) old new gathered → ArePushed new named gathered pushed → ((d : Dest) → Contains kept d ↔ Contains pushed d) → IsFollowed named v area old new kept
-followed_from named v area old new gathered pushed kept index led all same = record {
+-- what may differ is gathered
+pub followed_from : (named : List Dest) (v : InterInputsValue) (area : Option ℕ) (old new : OfferIndexValue) (gathered pushed : List Dest) → IsIndexFor v.root v.examined new
+    → AreLed area (area_of v.examined) old new gathered → ArePushed new named gathered pushed → IsFollowed named v area old new pushed
+followed_from named v area old new gathered pushed index led all = record {
   index = index;
   led = λ k. elim (led k) [
     | inl still ↦ inl still
-    | inr there ↦ inr (λ d has. (same d).1 (all.kept d (there d has)))
+    | inr there ↦ inr (λ d has. all.kept d (there d has))
   ];
-  themselves = λ d c leads. (same d).1 (all.themselves d c leads);
-  behind = λ router d c leads. (same d).1 (all.behind router d c leads);
+  themselves = all.themselves;
+  behind = all.behind;
 }

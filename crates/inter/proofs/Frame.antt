@@ -2,9 +2,10 @@
 --   entry_same: an entry for the offers is one for the same offers
 --   entry_listed, entry_advertised: what is offered by the index is what the LSAs offer
 --   entry_stays: where nothing differs of what is offered to a destination, its entry stays
---   updated: routes that were those of earlier inputs are those of the present ones
+--   all_stand: destinations that are not named have the entry that they have to have
+--   updated: routes of which each entry is chosen are those of the inputs
 --   blank_is, blank_differs: routes where no area is examined
-use Rattle.std.proofs.Common.{◌≡◌, ℕ, false, List, [], ◌∷◌, Option, Some, None, refl, sym, subst, ◌∙◌, ◌⊎◌, inl, inr}
+use Rattle.std.proofs.Common.{◌≡◌, ℕ, false, List, Option, Some, None, refl, sym, subst, ◌∙◌, ◌⊎◌, inl, inr}
 use Rattle.std.specs.Prelude.{◌↔◌, IsSome}
 use Rattle.std.specs.FinMap.{get, empty, get-empty}
 use Rattle.std.specs.List.{Contains}
@@ -17,11 +18,8 @@ use Rattle.ospf_types.specs.declared.key.Key.{Key}
 use Rattle.ospf_types.specs.declared.key.Scope.{Scope}
 use Rattle.ospf_types.specs.Intra.{B, E}
 use Rattle.ospf_types.specs.Keys.{dest_cmp}
-use Rattle.ospf_types.proofs.Elements.{no_element, first_element, later_element, first_or_later}
-use Rattle.ospf_types.proofs.Orders.{dest_total, dest_exact}
 use Rattle.intra.specs.Intras.{reached_at}
 use Rattle.intra.specs.Reached.{ReachedValue, HandsOut}
-use Rattle.intra.proofs.Following.{one_or_other}
 use Rattle.intra.proofs.Frame.{best_same}
 use Rattle.offer_index.specs.Advertised.{AdvertisedValue}
 use Rattle.offer_index.specs.Indexes.{OfferIndexValue, HasDest}
@@ -29,7 +27,7 @@ use Rattle.inter.specs.Changes.{InputsDifferAmong}
 use Rattle.inter.specs.Choosing.{IsListed, IsChosenWhere, IsChosenFor}
 use Rattle.inter.specs.Following.{area_of, IsFollowed}
 use Rattle.inter.specs.Inputs.{ExaminedValue, InterInputsValue, examined_area}
-use Rattle.inter.specs.Inters.{EntriesByDest, InterValue, IsEntryFor, IsEntryIn, IsIndexFor, IsInterOf}
+use Rattle.inter.specs.Inters.{InterValue, IsEntryFor, IsEntryIn, IsIndexFor, IsInterOf}
 use Rattle.inter.specs.Offers.{IsTakenBelow, OffersBy, OffersOf}
 
 -- ---- the entry of the same offers
@@ -137,39 +135,25 @@ module _ (keys : List (Scope × Key)) (named : List Dest) (v w : InterInputsValu
     borders = λ k a listed dest area. differ.routers k.router (λ c. absent (followed.behind k.router d c (k, a, listed, refl, dest))) area;
   }
 
+  -- what stood there has to stand
+  entry_stands : IsIndexFor v.root v.examined i → (d : Dest) → (Contains dests d → ⊥) → (e : Option Entry) → IsEntryIn v v.examined d e → IsChosenFor w j d e
+  entry_stands index d absent e is = stays v w (area_of v.examined) (area_of w.examined) i j d (not_named d absent) e (entry_advertised v i d v.examined index e is)
+
 -- ---- all of it
 
-listed_or_not : (d : Dest) (ds : List Dest) → Contains ds d ⊎ (Contains ds d → ⊥)
-listed_or_not d [] = inr (λ c. no_element d c)
-listed_or_not d (x ∷ xs) = elim (one_or_other dest_total dest_exact x d) [
-  | inl e ↦ inl (subst (λ (y : Dest). Contains (x ∷ xs) y) (sym e) (first_element x xs))
-  | inr other ↦ elim (listed_or_not d xs) [
-    | inl later ↦ inl (later_element x d xs later)
-    | inr absent ↦ inr (λ c. elim (first_or_later x d xs c) [ inl e ↦ other e | inr later ↦ absent later ])
-  ]
-]
-
--- the entries at these destinations are chosen anew, and the others stay
-pub record AreChosen (v : InterInputsValue) (i : OfferIndexValue) (old new : EntriesByDest) (dests : List Dest) : Type 0 where
-  pub here : (d : Dest) → Contains dests d → IsChosenFor v i d (get new d)
-  pub others : (d : Dest) → (Contains dests d → ⊥) → get new d ≡ get old d
+-- destinations that are not named have the entry that they have to have
+pub all_stand : (keys : List (Scope × Key)) (named : List Dest) (v w : InterInputsValue) (old : InterValue) (j : OfferIndexValue) (dests : List Dest) → IsInterOf v old → InputsDifferAmong keys named v w
+    → IsFollowed named w old.examined old.index j dests → (d : Dest) → (Contains dests d → ⊥) → IsChosenFor w j d (get old.entries d)
+all_stand keys named v w old j dests was differ followed d absent =
+    entry_stands keys named v w differ old.index j dests (subst (λ (area : Option ℕ). IsFollowed named w area old.index j dests) was.examined followed) was.index d absent (get old.entries d) (was.entries d)
 
 -- the routes are those of the inputs
-pub updated : (keys : List (Scope × Key)) (named : List Dest) (v w : InterInputsValue) (old new : InterValue) (dests : List Dest) → IsInterOf v old → InputsDifferAmong keys named v w
-    → new.spent ≡ old.spent → new.examined ≡ examined_area w → IsFollowed named w old.examined old.index new.index dests → AreChosen w new.index old.entries new.entries dests
-    → IsInterOf w new
-updated keys named v w old new dests was differ spent examined followed chosen = record {
-  fresh = spent ∙ was.fresh;
+pub updated : (w : InterInputsValue) (new : InterValue) → new.spent ≡ false → new.examined ≡ examined_area w → IsIndexFor w.root w.examined new.index → ((d : Dest) → IsChosenFor w new.index d (get new.entries d)) → IsInterOf w new
+updated w new fresh examined index chosen = record {
+  fresh = fresh;
   examined = examined;
-  index = followed.index;
-  entries = λ d. elim (listed_or_not d dests) [
-    | inl there ↦ entry_listed w new.index d w.examined followed.index (get new.entries d) (chosen.here d there)
-    | inr absent ↦
-        let since = subst (λ (area : Option ℕ). IsFollowed named w area old.index new.index dests) was.examined followed in
-        let before = entry_advertised v old.index d v.examined was.index (get old.entries d) (was.entries d) in
-        let after = stays v w (area_of v.examined) (area_of w.examined) old.index new.index d (not_named keys named v w differ old.index new.index dests since d absent) (get old.entries d) before in
-        subst (IsEntryIn w w.examined d) (sym (chosen.others d absent)) (entry_listed w new.index d w.examined followed.index (get old.entries d) after)
-  ];
+  index = index;
+  entries = λ d. entry_listed w new.index d w.examined index (get new.entries d) (chosen d);
 }
 
 -- ---- where no area is examined

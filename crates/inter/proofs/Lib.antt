@@ -1,6 +1,4 @@
 pub mod Chosen
 pub mod Following
-pub mod DestOrder
 pub mod Frame
-pub mod UpdatedEach
 pub mod Right

@@ -1,11 +1,9 @@
 //! The entry of a destination: the best of what the summaries for it offer (RFC 2328, 16.2).
-ghost use Rattle.std.specs.Prelude.{◌≡◌, ◌↔◌, ◌^◌, ◌<◌, Some, IfOk, OnOk, IsTrue, IsSome};
+ghost use Rattle.std.specs.Prelude.{◌≡◌, ◌↔◌, Some, IfOk, OnOk, IsTrue, IsSome};
 ghost use Rattle.std.specs.List.Sorted.{IsStrictlySortedBy};
 ghost use Rattle.ospf_types.specs.Hops.{path_cmp};
-ghost use Rattle.ospf_types.specs.Inter.{through};
 ghost use Rattle.ospf_types.specs.Routes.{entry_of};
-ghost use Rattle.path_choice.specs.Takes.{OnlyOffer};
-ghost use Rattle.inter.specs.Choosing.{IsChosenIn, TakesPaths, KeyOffers, KeysOffer, HopsOffer};
+ghost use Rattle.inter.specs.Choosing.{IsChosenIn, TakesPaths, KeyOffers, KeysOffer};
 ghost use Rattle.inter.specs.Offers.{IsBoundaryIn, IsTakenBelow};
 
 use crate::cost::{InterEntry, SummaryCost};
@@ -13,10 +11,10 @@ use crate::inputs::InterInputs;
 use intra::Intra;
 use offer_index::{LsaGroup, OfferIndex};
 use ospf_types::entry::{Entry, PathType, Paths};
-use ospf_types::hop::{NextHop, Path};
+use ospf_types::hop::Path;
 use ospf_types::key::{Dest, Key};
 use ospf_types::memory::Memory;
-use path_choice::{Best, Choice};
+use path_choice::{Best, Choice, offer_hops};
 use result_map::Choose;
 use std::alloc::Global;
 
@@ -27,22 +25,16 @@ pub(crate) struct Choosing<'a> {
     pub(crate) index: &'a OfferIndex,
 }
 
-impl<'a> Choose<Dest, InterEntry, Dest> for Choosing<'a> {
+impl<'a> Choose<Dest, InterEntry> for Choosing<'a> {
     ghost use Rattle.inter.specs.Choosing.{IsChosenFor};
 
     ghost IsChosen = { λ c d e. IsChosenFor c.inputs.now c.index.now d e };
-
-    ghost named_as = { λ d. d };
 
     fn choose(&self, alloc: Global, key: Dest) -> Result<Option<InterEntry>, Memory> {
         match self.inputs.area() {
             Some(area) => self.choose_in(alloc, area, &key),
             None => Ok(None),
         }
-    }
-
-    fn name(&self, key: Dest) -> Dest {
-        key
     }
 }
 
@@ -150,37 +142,6 @@ impl AreaOffers<'_> {
             return Ok(());
         }
         let cost = SummaryCost::new(border.distance(), route.metric());
-        offer_hops(best, cost, key.router, border.hops())
+        offer_hops(best, cost, Some(key.router), border.hops())
     }
-}
-
-// Offers a path over each of these next hops.
-fn offer_hops(
-    best: &mut Best<SummaryCost, Path>,
-    cost: SummaryCost,
-    advertiser: u32,
-    hops: &[NextHop],
-) -> Result<(), Memory>
-    ensures { OnOk result (TakesPaths (HopsOffer hops.now advertiser cost) best.old best.new) }
-{
-    for hop in hops {
-        offer_hop(best, cost, advertiser, *hop)?;
-    }
-    Ok(())
-}
-
-// Offers a path over the next hop.
-fn offer_hop(
-    best: &mut Best<SummaryCost, Path>,
-    cost: SummaryCost,
-    advertiser: u32,
-    hop: NextHop,
-) -> Result<(), Memory>
-    ensures { OnOk result (TakesPaths (OnlyOffer cost (through advertiser hop)) best.old best.new) }
-{
-    let path = Path {
-        hop,
-        advertiser: Some(advertiser),
-    };
-    best.offer(cost, path)
 }

@@ -161,20 +161,15 @@ impl Inter {
         ensures in_order { IfOk result (λ dests. IsStrictlySortedBy dest_cmp dests.items) }
         ensures exact { IfOk result (λ dests. HasJust (DiffersAt self.old self.new) dests.items) }
     {
-        let dests = self.follow(alloc, inputs, dirty)?;
+        let dests = self.follow_index(alloc, inputs, dirty)?;
         let index = &self.index;
-        let mut named = Vec::new(alloc);
-        self.entries.update_each(
-            alloc,
-            dests.as_slice(),
-            &Choosing { inputs, index },
-            &mut named,
-        )?;
-        Ok(named)
+        let choosing = Choosing { inputs, index };
+        let others = self.entries.follow(alloc, dests, &choosing)?;
+        Ok(others)
     }
 
-    // The index follows. The answer is the destinations that may get another entry, ascending, each once.
-    fn follow(
+    // The index follows. The answer is the destinations that may get another entry.
+    fn follow_index(
         &mut self,
         alloc: Global,
         inputs: &InterInputs<'_>,
@@ -185,7 +180,6 @@ impl Inter {
         ensures examined { OnOk result (self.new.examined ≡ examined_area inputs.now) }
         ensures entries { OnOk result (self.new.entries ≡ self.old.entries) }
         ensures spent { OnOk result (self.new.spent ≡ self.old.spent) }
-        ensures in_order { IfOk result (λ dests. IsStrictlySortedBy dest_cmp dests.items) }
         ensures followed { IfOk result (λ dests. IsFollowed dirty.now.dests.items inputs.now
             self.old.examined self.old.index self.new.index dests.items) }
     {
@@ -194,8 +188,6 @@ impl Inter {
         self.examined = inputs.area();
         let mut dests = affected.dests;
         push_named(&self.index, &dirty.dests, &mut dests)?;
-        dests.sort_unstable();
-        dests.dedup();
         Ok(dests)
     }
 

@@ -4,7 +4,6 @@ use Rattle.std.specs.Prelude.{◌↔◌, is_some, if◌then◌else◌}
 use Rattle.std.specs.FinMap.{get}
 use Rattle.std.specs.List.{Contains}
 use Rattle.std.proofs.lemmas.Bool.{cases_eq, eqb-true}
-use Rattle.std.proofs.lemmas.List.Elements.{Contains-append_left, Contains-push, Contains-push_cases}
 use Rattle.ospf_types.specs.declared.entry.Vertex.{Vertex}
 use Rattle.ospf_types.specs.declared.entry.Vertex.TheVariants.{Router, Network}
 use Rattle.ospf_types.specs.declared.key.Key.{Key}
@@ -22,6 +21,7 @@ use Rattle.intra.specs.Indexes.{IndexValue, IsIndex, IsIndexOf, IsOfferedFor, Ar
 use Rattle.intra.specs.Intras.{AreaIntraValue}
 use Rattle.intra.specs.Following.{LsasDifferAmong, NamesVertex, NamesIn, IsCurrent, IsTaken, HasOffered, IsGathered, AreRoutersUpdated, IsRouterNamed, flags_in, router_now, with_index_of}
 use Rattle.ospf_types.proofs.VertexOrder.{vertex_total, vertex_exact}
+use Rattle.result_map.proofs.Adding.{more_one}
 pub use Rattle.result_map.proofs.KeyedMaps.{one_or_other}
 
 -- ---- the index follows
@@ -169,42 +169,31 @@ module _ (root : ℕ) (a : AreaValue) where
     exact = λ r. (λ c. inl c, λ w. elim w [ inl c ↦ c | inr other ↦ absurd (other refl) ]);
   }
 
-  -- the router is as it is to be
-  pub updated_same : (router : ℕ) (i : AreaIntraValue) (rs : List ℕ) → get i.reached router ≡ router_now root a i.index router → AreRoutersUpdated root a (λ r. r ≡ router) i i rs rs
-  updated_same router i rs is = record {
-    id = refl;
-    index = refl;
-    each = λ r. elim (cases_eq r router) [
-      | inl e ↦ inl (subst (λ (x : ℕ). get i.reached x ≡ router_now root a i.index x) (sym e) is, e)
-      | inr other ↦ inr (refl, other)
-    ];
-    exact = λ r. (λ c. inl c, λ w. elim w [ inl c ↦ c | inr other ↦ absurd (other refl) ]);
-  }
-
-  -- the router is updated
+  -- the router is updated, and told where something else is kept
   pub updated_one : (router : ℕ) (old new : AreaIntraValue) (rs after : List ℕ) → new.id ≡ old.id → new.index ≡ old.index → get new.reached router ≡ router_now root a old.index router
-      → ((r : ℕ) → r ≢ router → get new.reached r ≡ get old.reached r) → get old.reached router ≢ router_now root a old.index router → after ≡ rs ++ router ∷ []
+      → ((r : ℕ) → r ≢ router → get new.reached r ≡ get old.reached r)
+      → ((after ≡ rs) × (get new.reached router ≡ get old.reached router)) ⊎ ((after ≡ rs ++ router ∷ []) × (get new.reached router ≢ get old.reached router))
       → AreRoutersUpdated root a (λ r. r ≡ router) old new rs after
-  updated_one router old new rs after id index is others differs pushed = record {
+  updated_one router old new rs after id index is others told = record {
     id = id;
     index = index;
     each = λ r. elim (cases_eq r router) [
       | inl e ↦ inl (subst (λ (x : ℕ). get new.reached x ≡ router_now root a old.index x) (sym e) is, e)
       | inr other ↦ inr (others r other, other)
     ];
-    exact = λ r. (
-      λ c. elim (Contains-push_cases rs router r (subst (λ (l : List ℕ). Contains l r) pushed c)) [
-        | inl was ↦ inl was
-        | inr e ↦ inr (subst (λ (x : ℕ). get new.reached x ≢ get old.reached x) e (λ same. differs (sym same ∙ is)))
-      ],
-      λ w. subst (λ (l : List ℕ). Contains l r) (sym pushed) (elim w [
-        | inl was ↦ Contains-append_left rs (router ∷ []) r was
-        | inr other ↦ elim (cases_eq r router) [
-          | inl e ↦ subst (λ (x : ℕ). Contains (rs ++ router ∷ []) x) (sym e) (Contains-push rs router)
-          | inr apart ↦ absurd (other (others r apart))
-        ]
-      ]),
-    );
+    exact = λ r. elim told [
+      | inl same ↦ subst (λ (l : List ℕ). Contains l r ↔ (Contains rs r ⊎ (get new.reached r ≢ get old.reached r))) (sym same.0) (
+        λ c. inl c,
+        λ w. elim w [
+          | inl c ↦ c
+          | inr other ↦ absurd (other (elim (cases_eq r router) [ inl e ↦ subst (λ (x : ℕ). get new.reached x ≡ get old.reached x) (sym e) same.1 | inr apart ↦ others r apart ]))
+        ],
+      )
+      | inr pushed ↦ more_one (λ (x : ℕ). get new.reached x ≢ get old.reached x) rs after router pushed.0 (λ x. (
+        λ other. elim (cases_eq x router) [ inl e ↦ e | inr apart ↦ absurd (other (others x apart)) ],
+        λ e. subst (λ (y : ℕ). get new.reached y ≢ get old.reached y) (sym e) pushed.1,
+      )) r
+    ];
   }
 
   -- a vertex of which nothing is kept, and by its bits nothing is to be

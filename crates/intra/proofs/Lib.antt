@@ -12,6 +12,5 @@ pub mod KeptSources
 pub mod IndexSteps
 pub mod Following
 pub mod Placing
-pub mod SortedOnce
 pub mod ChosenAnew
 pub mod Updating

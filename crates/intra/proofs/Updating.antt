@@ -3,7 +3,6 @@ use Rattle.std.proofs.Common.{◌≡◌, ◌≢◌, ℕ, zero, suc, ◌<◌, nat
 use Rattle.std.specs.Prelude.{◌↔◌, option_map, option_and_then, if◌then◌else◌}
 use Rattle.std.specs.FinMap.{get}
 use Rattle.std.specs.List.{Contains}
-use Rattle.std.proofs.lemmas.List.Elements.{Contains-append_left, Contains-append_right, Contains-append_cases}
 use Rattle.ospf_types.specs.declared.entry.Vertex.{Vertex}
 use Rattle.ospf_types.specs.declared.entry.Vertex.TheVariants as vertex
 use Rattle.ospf_types.specs.declared.hop.NextHop.{NextHop}
@@ -14,7 +13,7 @@ use Rattle.ospf_types.specs.declared.key.Scope.{Scope}
 use Rattle.ospf_types.specs.declared.key.Scope.TheVariants.{Area}
 use Rattle.ospf_types.specs.declared.prefix.Prefix.{Prefix}
 use Rattle.ospf_types.specs.Lsa.{Body}
-use Rattle.ospf_types.proofs.Elements.{no_element, first_element, later_element, first_or_later, mapped_element, mapped_from}
+use Rattle.ospf_types.proofs.Elements.{no_element, first_element}
 use Rattle.ospf_types.proofs.Orders.{network_total, network_exact}
 use Rattle.lsa_codec.specs.Readers.{flags_of}
 use Rattle.area_trees.specs.Areas.{router_key}
@@ -25,9 +24,10 @@ use Rattle.intra.specs.Inputs.{AreaValue, InputsValue, distance_at, hops_at}
 use Rattle.intra.specs.Intras.{AreaIntraValue, IntraValue, IsAreaIntra, AreAreaIntras, IsEntryFor, IsIntraOf}
 use Rattle.intra.specs.Offers.{OffersOf}
 use Rattle.intra.specs.Reached.{ReachedByRouter, ReachedValue, IsReachedOf, reached_by}
-use Rattle.intra.specs.ChosenAnew.{AreChosenAnew}
+use Rattle.intra.specs.ChosenAnew.{AreEntriesChosenAnew}
 use Rattle.intra.specs.Updating.{IsKeptBefore, AreKeptBefore, AreFirst, IsFollowed, IsSettled, IsBroughtTo, HasOtherAmong}
-use Rattle.intra.proofs.Following.{one_or_other}
+use Rattle.result_map.proofs.Among.{net_among, router_among}
+use Rattle.result_map.proofs.KeyedMaps.{listed_or_not}
 use Rattle.intra.proofs.Frame.{IsClean, AreClean, indexes_in, indexes_of, indexed_is, entry_same, entry_kept, router_kept}
 
 -- ---- area by area
@@ -152,19 +152,9 @@ other_router (i ∷ is) (j ∷ js) r len =
 
 -- ---- all of it
 
-listed_or_not : (p : Prefix) (ps : List Prefix) → Contains ps p ⊎ (Contains ps p → ⊥)
-listed_or_not p [] = inr (λ c. no_element p c)
-listed_or_not p (q ∷ qs) = elim (one_or_other network_total network_exact q p) [
-  | inl e ↦ inl (subst (λ (x : Prefix). Contains (q ∷ qs) x) (sym e) (first_element q qs))
-  | inr other ↦ elim (listed_or_not p qs) [
-    | inl later ↦ inl (later_element q p qs later)
-    | inr absent ↦ inr (λ c. elim (first_or_later q p qs c) [ inl e ↦ other e | inr later ↦ absent later ])
-  ]
-]
-
 module _ (keys : List (Scope × Key)) (vertices : List (ℕ × Vertex)) (ids : List ℕ) (b v : InputsValue) (old new : IntraValue) (news : List AreaIntraValue) (prefixes : List Prefix) (dests : List Dest)
     (was : IsIntraOf b old) (differ : InputsDifferAmong keys vertices ids b v) (first : AreFirst (IsBroughtTo v.root keys vertices ids prefixes) v.areas old.areas news (length v.areas))
-    (anew : AreChosenAnew v (record { areas = news; entries = old.entries; spent = old.spent }) new prefixes dests) where
+    (anew : AreEntriesChosenAnew v (record { areas = news; entries = old.entries; spent = old.spent }) new prefixes dests) where
   before : AreKeptBefore v.root keys vertices v.areas old.areas
   before = are_before v.root keys vertices b.areas v.areas old.areas (subst (λ (root : ℕ). AreAreaIntras root b.areas old.areas) (sym differ.root) was.areas) differ.areas
 
@@ -176,16 +166,14 @@ module _ (keys : List (Scope × Key)) (vertices : List (ℕ × Vertex)) (ids : L
   entry_is : (p : Prefix) → IsEntryFor (OffersOf v p) (get new.entries p)
   entry_is p =
       let indexes = indexes_of v.root v.areas news areas_are in
-      elim (listed_or_not p prefixes) [
+      elim (listed_or_not network_total network_exact p prefixes) [
         | inl there ↦
-            let by : IsEntryFor (IndexedOffers v (indexes_in news) v.areas p) (get new.entries p) =
-            subst (λ (kept : List AreaIntraValue). IsEntryFor (IndexedOffers v (indexes_in kept) v.areas p) (get new.entries p)) anew.areas (anew.here p there) in
-            entry_same (IndexedOffers v (indexes_in news) v.areas p) (OffersOf v p) (indexed_is v (indexes_in news) indexes p) (get new.entries p) by
+            entry_same (IndexedOffers v (indexes_in news) v.areas p) (OffersOf v p) (indexed_is v (indexes_in news) indexes p) (get new.entries p) (anew.entries.here p there)
         | inr absent ↦
             let clean = clean_of vertices ids v.root p v.areas old.areas news (sym before.as_many) (omega (arith, before.as_many, first.as_many)) (λ k a i j lt.
             let is = first.each k a i j lt in
             one_clean v.root keys vertices ids prefixes (get_or v.areas k a) (get_or old.areas k i) (with_index_of (get_or old.areas k i) (get_or news k j)) (get_or news k j) (before.each k a i lt) is.followed is.settled p absent) in
-            subst (IsEntryFor (OffersOf v p)) (sym (anew.others p absent))
+            subst (IsEntryFor (OffersOf v p)) (sym (anew.entries.others p absent))
             (entry_kept keys vertices ids b v differ (indexes_in old.areas) (indexes_in news) (indexes_of b.root b.areas old.areas was.areas) indexes p clean (get old.entries p) (was.entries p))
       ]
 
@@ -213,32 +201,23 @@ module _ (keys : List (Scope × Key)) (vertices : List (ℕ × Vertex)) (ids : L
               (named r).1 (w.0, omega (arith, lt, length_is), w.2),
         )
 
+    named_so : (d : Dest) → Contains (map Net anew.entries.differing ++ map Router routers) d ↔ DiffersAt old new d → Contains (dests ++ map Router routers) d ↔ DiffersAt old new d
+    named_so d is = subst (λ (ds : List Dest). Contains (ds ++ map Router routers) d ↔ DiffersAt old new d) (sym anew.entries.told_as) is
+
     -- just the destinations are named whose result differs
     pub exactly : (d : Dest) → Contains (dests ++ map Router routers) d ↔ DiffersAt old new d
-    exactly (Net p) = (
-      λ c. elim (Contains-append_cases dests (map Router routers) (Net p) c) [
-        | inl net ↦ let w = (anew.named (Net p)).0 net in let e : p ≡ w.0 = net_of (w.1) in subst (λ (q : Prefix). get new.entries q ≢ get old.entries q) (sym e) w.2
-        | inr router ↦ let w = mapped_from Router routers (Net p) router in absurd (let wrong : Router w.0 ≡ Net p = w.2 in cc)
-      ],
-      λ differs. Contains-append_left dests (map Router routers) (Net p) ((anew.named (Net p)).1 (p, refl, differs)),
+    exactly (Net p) = named_so (Net p) (
+      λ c. (anew.entries.exact p).0 ((net_among anew.entries.differing routers p).0 c),
+      λ differs. (net_among anew.entries.differing routers p).1 ((anew.entries.exact p).1 differs),
     )
-      where
-        net_of : {q : Prefix} → Net p ≡ Net q → p ≡ q
-        net_of {q} e = cc
-    exactly (Router r) = (
-      λ c. elim (Contains-append_cases dests (map Router routers) (Router r) c) [
-        | inl net ↦ let w = (anew.named (Router r)).0 net in absurd (let wrong : Router r ≡ Net w.0 = w.1 in cc)
-        | inr router ↦
-            let w = mapped_from Router routers (Router r) router in
-            let e : w.0 ≡ r = (let same : Router w.0 ≡ Router r = w.2 in cc) in
-            (others r).0 (subst (Contains routers) e w.1)
-      ],
-      λ differs. Contains-append_right dests (map Router routers) (Router r) (mapped_element Router routers r ((others r).1 differs)),
+    exactly (Router r) = named_so (Router r) (
+      λ c. (others r).0 ((router_among anew.entries.differing routers r).0 c),
+      λ differs. (router_among anew.entries.differing routers r).1 ((others r).1 differs),
     )
 
 -- entries that are chosen anew after other steps
-pub anew_from : (v : InputsValue) (old mid new : IntraValue) (ps qs : List Prefix) (dests : List Dest) → ps ≡ qs → mid.entries ≡ old.entries → mid.spent ≡ old.spent → AreChosenAnew v mid new ps dests
-    → AreChosenAnew v (record { areas = mid.areas; entries = old.entries; spent = old.spent }) new qs dests
+pub anew_from : (v : InputsValue) (old mid new : IntraValue) (ps qs : List Prefix) (dests : List Dest) → ps ≡ qs → mid.entries ≡ old.entries → mid.spent ≡ old.spent → AreEntriesChosenAnew v mid new ps dests
+    → AreEntriesChosenAnew v (record { areas = mid.areas; entries = old.entries; spent = old.spent }) new qs dests
 anew_from v old mid new ps qs dests same entries spent anew =
     let start : ◌≡◌ {A = IntraValue} mid (record { areas = mid.areas; entries = old.entries; spent = old.spent }) = (λ i. record { areas = mid.areas; entries = entries i; spent = spent i }) in
-    subst (λ (w : IntraValue). AreChosenAnew v w new qs dests) start (subst (λ (l : List Prefix). AreChosenAnew v mid new l dests) same anew)
+    subst (λ (w : IntraValue). AreEntriesChosenAnew v w new qs dests) start (subst (λ (l : List Prefix). AreEntriesChosenAnew v mid new l dests) same anew)

@@ -1,5 +1,5 @@
 -- Intra-area routes as their callers see them.
-use Rattle.std.specs.Prelude.{ℕ, ◌==◌, ◌≡◌, ◌≢◌, ◌↔◌, ◌<◌, ◌++◌, Bool, false, true, List, [], ◌∷◌, map, Contains, Option, Some, None, IsSome, is_some, count_by, slice_get, if◌then◌else◌}
+use Rattle.std.specs.Prelude.{ℕ, ◌==◌, ◌≡◌, ◌≢◌, ◌↔◌, ◌<◌, Bool, false, true, List, [], ◌∷◌, map, Contains, Option, Some, None, IsSome, is_some, count_by, slice_get, if◌then◌else◌}
 use Rattle.std.specs.FinMap.{FinMap, empty, from_entries, get, insert}
 use Rattle.std.specs.List.{All}
 use Rattle.std.specs.List.Sorted.{IsStrictlySortedBy}

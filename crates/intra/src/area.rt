@@ -7,7 +7,7 @@ ghost use Rattle.spf.specs.HandedOn.{IsOfSome};
 ghost use Rattle.intra.specs.Indexes.{IsIndex, IsIndexOf};
 ghost use Rattle.intra.specs.Following.{AreRoutersBrought, AreRoutersUpdated, HasOffered, IsAmongKeys, IsAmongVertices, IsGatheredFor, IsIndexBefore, IsRouterIn, IsRouterOf, IsTaken, NamesIn, NamesVertex, flags_in};
 ghost use Rattle.intra.specs.Inputs.{HasTree};
-ghost use Rattle.intra.specs.Intras.{OtherRoutersStay, empty_area};
+ghost use Rattle.intra.specs.Intras.{empty_area};
 ghost use Rattle.intra.specs.Reached.{HasKeptToo, HasOnceMore, KeepsNone, has_bits, reached_in};
 
 use crate::area_index::AreaIndex;
@@ -16,13 +16,12 @@ use crate::inputs::{AreaInputs, RootedArea};
 use crate::named::Named;
 use crate::offered::push_prefixes;
 use area_trees::vertex_of;
-use indexmap::IndexMap;
 use ospf_types::entry::Vertex;
 use ospf_types::key::{Key, Scope};
 use ospf_types::memory::Memory;
 use ospf_types::prefix::Prefix;
 use path_choice::{Reached, RouterReach, has_bit, keep};
-use result_map::are_same;
+use result_map::ResultMap;
 use std::alloc::Global;
 use std::marker::Model;
 use word_hash::WordHash;
@@ -32,7 +31,7 @@ pub(crate) struct AreaIntra {
     alloc: Global,
     id: u32,
     index: AreaIndex,
-    reached: IndexMap<u32, Reached, WordHash>,
+    reached: ResultMap<u32, Reached>,
 }
 
 // proof: one call drops it, in place of a drop of each part wherever one is held.
@@ -77,7 +76,7 @@ impl AreaIntra {
             alloc,
             id,
             index: AreaIndex::new(alloc, hashing),
-            reached: IndexMap::with_hasher(alloc, hashing),
+            reached: ResultMap::hashed_by(alloc, hashing),
         }
     }
 
@@ -98,11 +97,7 @@ impl AreaIntra {
     pub(crate) fn router(&self, router: u32) -> Option<&Reached>
         ensures { option_copied result ≡ map.get self.now.reached router }
     {
-        // Mostly none is kept, and then nothing is hashed.
-        if self.reached.is_empty() {
-            return None;
-        }
-        self.reached.get(&router)
+        self.reached.get(router)
     }
 
     /// Adds the routers of which something is kept, each once.
@@ -112,7 +107,7 @@ impl AreaIntra {
         ensures exact { OnOk result (HasKeptToo self.now.reached
             routers.old.items routers.new.items) }
     {
-        routers.extend_from_slice(self.reached.keys().as_slice())?;
+        routers.extend_from_slice(self.reached.key_slice())?;
         Ok(())
     }
 }
@@ -327,10 +322,9 @@ impl AreaIntra {
             (λ r. r ≡ router) self.old self.new routers.old.items routers.new.items) }
     {
         let fresh = reached_now(self.alloc, rooted, router, flags)?;
-        if are_same(self.router(router), fresh.as_ref()) {
+        if !self.reached.update(router, fresh)? {
             return Ok(());
         }
-        self.put(router, fresh)?;
         routers.push(router)?;
         Ok(())
     }
@@ -343,24 +337,6 @@ impl AreaIntra {
             Some(offered) => Some(offered.flags()),
             None => None,
         }
-    }
-
-    // This is kept of the router.
-    fn put(&mut self, router: u32, fresh: Option<Reached>) -> Result<(), Memory>
-        ensures id { OnOk result (self.new.id ≡ self.old.id) }
-        ensures index { OnOk result (self.new.index ≡ self.old.index) }
-        ensures here { OnOk result (map.get self.new.reached router ≡ fresh) }
-        ensures others { OnOk result (OtherRoutersStay self.old self.new router) }
-    {
-        match fresh {
-            Some(fresh) => {
-                self.reached.insert(router, fresh)?;
-            }
-            None => {
-                self.reached.swap_remove(&router);
-            }
-        }
-        Ok(())
     }
 }
 

@@ -10,7 +10,7 @@ ghost use Rattle.intra.specs.declared.area_index.Source.{Source as SourceValue};
 ghost use Rattle.intra.specs.Inputs.{distance_at, hops_at};
 ghost use Rattle.path_choice.specs.Takes.{OnlyOffer};
 ghost use Rattle.intra.specs.Intras.{IsEntryFor, entry_at, most_cost};
-ghost use Rattle.intra.specs.Choosing.{AmongSources, FindsNearest, FindsNearestWith, HopsOffer, IndexOffers, InterfaceOffers, InterfacesOffer, IsNoFarther, IsOver, SourcesOffer, StubOffers, TakesPaths, TransitOffers, router_source};
+ghost use Rattle.intra.specs.Choosing.{AmongSources, FindsNearest, FindsNearestWith, IndexOffers, InterfaceOffers, InterfacesOffer, IsNoFarther, IsOver, SourcesOffer, StubOffers, TakesPaths, TransitOffers, router_source};
 
 use crate::area::AreaIntra;
 use crate::area_index::Source;
@@ -20,7 +20,7 @@ use ospf_types::entry::{Entry, PathType, Paths, Vertex};
 use ospf_types::hop::{NextHop, Path};
 use ospf_types::memory::Memory;
 use ospf_types::prefix::Prefix;
-use path_choice::{AreaCost, Best, Choice};
+use path_choice::{AreaCost, Best, Choice, offer_hop, offer_hops};
 use std::alloc::Global;
 use std::collections::btree_map::Iter;
 use vertex_map::Placed;
@@ -162,7 +162,7 @@ fn offer_stub(
     match distance(area, &stub.vertex) {
         Some(distance) => {
             let key = cost_in(area, distance + u32::from(stub.metric));
-            offer_hops(best, key, hops(area, &stub.vertex))
+            offer_hops(best, key, None, hops(area, &stub.vertex))
         }
         None => Ok(()),
     }
@@ -198,7 +198,7 @@ fn offer_over(
     if !is_over(key.area(), prefix, interface) {
         return Ok(());
     }
-    offer_hop(best, key, NextHop::Direct(id))
+    offer_hop(best, key, None, NextHop::Direct(id))
 }
 
 // Whether the interface is one of the area, is up, and lies in the network, by its address or by its peer's.
@@ -227,7 +227,7 @@ fn offer_transit(
     match nearest {
         Some((id, distance)) => {
             let key = cost_in(area, distance);
-            offer_hops(best, key, hops(area, &network_of(sources, id)))
+            offer_hops(best, key, None, hops(area, &network_of(sources, id)))
         }
         None => Ok(()),
     }
@@ -301,29 +301,4 @@ fn cost_in(area: &AreaInputs<'_>, cost: u32) -> AreaCost
     ensures { result ≡ (cost, area.now.id) }
 {
     AreaCost::new(cost, area.id)
-}
-
-// Offers a path over each of these next hops.
-fn offer_hops(
-    best: &mut Best<AreaCost, Path>,
-    key: AreaCost,
-    hops: &[NextHop],
-) -> Result<(), Memory>
-    ensures { OnOk result (TakesPaths (HopsOffer hops.now key) best.old best.new) }
-{
-    for hop in hops {
-        offer_hop(best, key, *hop)?;
-    }
-    Ok(())
-}
-
-// Offers a path over the next hop.
-fn offer_hop(best: &mut Best<AreaCost, Path>, key: AreaCost, hop: NextHop) -> Result<(), Memory>
-    ensures { OnOk result (TakesPaths (OnlyOffer key (path_inside hop)) best.old best.new) }
-{
-    let path = Path {
-        hop,
-        advertiser: None,
-    };
-    best.offer(key, path)
 }

@@ -5,8 +5,8 @@ ghost use Rattle.std.specs.List.Sorted.{IsStrictlySortedBy};
 ghost use Rattle.std.specs.Map.{keys_of};
 ghost use Rattle.ospf_types.specs.Keys.{dest_cmp};
 ghost use Rattle.ospf_types.specs.Network.{network_cmp};
-ghost use Rattle.intra.specs.Changes.{AreDiffering, HasKeysOf, HasKeysOfAll, IsIntraBefore, with_routers};
-ghost use Rattle.intra.specs.ChosenAnew.{AreChosenAnew, IsChosenAnew};
+ghost use Rattle.intra.specs.Changes.{AreDiffering, HasKeysOf, HasKeysOfAll, IsIntraBefore};
+ghost use Rattle.intra.specs.ChosenAnew.{AreEntriesChosenAnew, IsEntryChosenAnew};
 ghost use Rattle.intra.specs.Inputs.{AreReady};
 ghost use Rattle.intra.specs.Intras.{AreAsOften, AreBelowMost, AreEntries, AreKept, HaveEntries, IsEntryAt, IsIntraOf, IsWrittenAt, OthersStay, TellsOther, TellsSame, empty_routes, entry_in, most_cost, reached_at, spent_value};
 ghost use Rattle.intra.specs.Right.{IsRightWherever};
@@ -27,6 +27,7 @@ use ospf_types::key::{Dest, Key, Scope};
 use ospf_types::memory::Memory;
 use ospf_types::prefix::Prefix;
 use path_choice::Reached;
+use result_map::add_routers;
 use std::alloc::Global;
 use std::hash::RandomState;
 use std::marker::Model;
@@ -281,7 +282,7 @@ impl Intra {
     ) -> Result<(), Memory>
         requires in_order { IsStrictlySortedBy network_cmp prefixes.now }
         requires none { dests.old.items ≡ [] }
-        ensures { OnOk result (AreChosenAnew inputs.now self.old self.new
+        ensures { OnOk result (AreEntriesChosenAnew inputs.now self.old self.new
             prefixes.now dests.new.items) }
     {
         for prefix in prefixes {
@@ -298,7 +299,7 @@ impl Intra {
         prefix: Prefix,
         dests: &mut Vec<Dest>,
     ) -> Result<(), Memory>
-        ensures { OnOk result (IsChosenAnew inputs.now self.old self.new
+        ensures { OnOk result (IsEntryChosenAnew inputs.now self.old self.new
             prefix dests.old.items dests.new.items) }
     {
         let place = place_of(&self.entries, prefix);
@@ -456,16 +457,6 @@ fn follow_areas(
             area: &all[place],
         };
         areas[place].follow(&rooted, dirty, named)?;
-    }
-    Ok(())
-}
-
-// Adds the routers as destinations.
-fn add_routers(routers: &[u32], dests: &mut Vec<Dest>) -> Result<(), Memory>
-    ensures { OnOk result (dests.new.items ≡ with_routers dests.old.items routers.now) }
-{
-    for router in routers {
-        dests.push(Dest::Router(*router))?;
     }
     Ok(())
 }

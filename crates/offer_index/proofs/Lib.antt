@@ -1,4 +1,3 @@
-pub mod DestOrder
 pub mod Groups
 pub mod MemberLists
 pub mod Sets

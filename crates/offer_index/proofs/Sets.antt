@@ -8,7 +8,7 @@ use Rattle.std.proofs.lemmas.Map.Lookups.{exact_unsigned}
 use Rattle.std.proofs.lemmas.Map.Views.{tells_apart, Contains-from_any, list_any-from_Contains}
 use Rattle.ospf_types.specs.declared.key.Dest.{Dest}
 use Rattle.ospf_types.proofs.Orders.{dest_total, dest_exact}
-use Rattle.offer_index.proofs.DestOrder.{dests_equal, dests_order}
+use Rattle.result_map.proofs.DestOrder.{dests_equal, dests_order}
 
 -- ---- destinations and numbers are told apart
 

@@ -2,9 +2,10 @@
 //! was offered at it (RFC 2328, 16.1 to 16.4).
 ghost use Rattle.std.specs.Prelude.{◌≡◌, ◌<◌, ◌∷◌, [], None, OnOk, OnErr, IfOk};
 ghost use Rattle.std.specs.List.Sorted.{IsStrictlySortedBy};
+ghost use Rattle.ospf_types.specs.Hops.{path_cmp};
 ghost use Rattle.path_choice.specs.Choices.{HasAlso};
 ghost use Rattle.path_choice.specs.Costs.{most_cost};
-ghost use Rattle.path_choice.specs.Takes.{Takes, OnlyOffer};
+ghost use Rattle.path_choice.specs.Takes.{Takes, HopsOffer, OnlyOffer, path_over};
 
 use ospf_types::hop::{NextHop, Path};
 use ospf_types::memory::Memory;
@@ -247,4 +248,33 @@ impl<K: ExactOrd + Drop, X: ExactOrd + Drop + MadeWith<Global>> Best<K, X> {
     {
         self.choice
     }
+}
+
+/// Offers a path over each of the next hops, all at one key: by the advertising router, if there is one.
+pub fn offer_hops<K: ExactOrd + Copy + Drop>(
+    best: &mut Best<K, Path>,
+    key: K,
+    advertiser: Option<u32>,
+    hops: &[NextHop],
+) -> Result<(), Memory>
+    ensures { OnOk result (Takes K.cmp path_cmp (HopsOffer hops.now advertiser key)
+        best.old best.new) }
+{
+    for hop in hops {
+        offer_hop(best, key, advertiser, *hop)?;
+    }
+    Ok(())
+}
+
+/// Offers a path over the next hop.
+pub fn offer_hop<K: ExactOrd + Copy + Drop>(
+    best: &mut Best<K, Path>,
+    key: K,
+    advertiser: Option<u32>,
+    hop: NextHop,
+) -> Result<(), Memory>
+    ensures { OnOk result (Takes K.cmp path_cmp (OnlyOffer key (path_over advertiser hop))
+        best.old best.new) }
+{
+    best.offer(key, Path { hop, advertiser })
 }

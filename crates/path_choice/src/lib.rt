@@ -5,5 +5,5 @@
 mod choice;
 mod reached;
 
-pub use choice::{AreaCost, Best, Choice, ExactOrd};
+pub use choice::{AreaCost, Best, Choice, ExactOrd, offer_hop, offer_hops};
 pub use reached::{Reached, RouterReach, has_bit, keep};

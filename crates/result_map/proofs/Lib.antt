@@ -1,3 +1,7 @@
+pub mod ChosenAnew
+pub mod DestOrder
+pub mod Adding
+pub mod Among
 pub mod KeyedMaps
 pub mod KeyLaws
-pub mod Updating
+pub mod SortedOnce

@@ -1,2 +1,4 @@
+pub mod Chosen
+pub mod Dests
+pub mod Lists
 pub mod Results
-pub mod Updating

@@ -1,24 +1,17 @@
 //! How results are chosen anew.
-ghost use Rattle.std.specs.Prelude.{◌≡◌, IfOk};
+ghost use Rattle.std.specs.Prelude.{IfOk};
 
 use ospf_types::memory::Memory;
 use std::alloc::Global;
 
-/// What chooses a result anew, and says how its key is told where the result differs.
-pub trait Choose<K, V, N> {
+/// What chooses the result at a key, by all that offers something to it now.
+pub trait Choose<K, V> {
     ghost use Rattle.std.specs.Prelude.{Option};
 
     // The result that has to stand at the key now.
     ghost IsChosen: { Self → K → Option V → Type 0 };
 
-    // How a key is told.
-    ghost named_as: { K → N };
-
-    /// The result at the key, by all that it rests on now.
+    /// The result at the key; none where nothing is offered.
     fn choose(&self, alloc: Global, key: K) -> Result<Option<V>, Memory>
-        ensures { IfOk result (λ fresh. IsChosen self.now key fresh) };
-
-    /// How the key is told.
-    fn name(&self, key: K) -> N
-        ensures { result ≡ named_as key };
+        ensures { IfOk result (IsChosen self.now key) };
 }

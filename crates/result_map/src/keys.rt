@@ -1,4 +1,8 @@
 //! The keys by which results are kept.
+ghost use Rattle.std.specs.Prelude.{Contains};
+ghost use Rattle.std.specs.List.Sorted.{IsStrictlySortedBy};
+ghost use Rattle.result_map.specs.Lists.{HasJust};
+
 use ospf_types::key::{Dest, Key};
 use ospf_types::prefix::Prefix;
 use std::hash::Hash;
@@ -62,4 +66,14 @@ impl ResultKey for u32 {
     ghost ordered = { refl };
 
     ghost exact = { exact_unsigned };
+}
+
+/// The keys, ascending, each once.
+pub fn ascending<K: ResultKey>(mut keys: Vec<K>) -> Vec<K>
+    ensures in_order { IsStrictlySortedBy K.order result.items }
+    ensures same { HasJust (Contains keys.items) result.items }
+{
+    keys.sort_unstable();
+    keys.dedup();
+    keys
 }

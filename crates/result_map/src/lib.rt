@@ -3,11 +3,13 @@
 #![tactic(auto)]
 
 mod choose;
+mod dests;
 mod keys;
 mod results;
 mod same;
 
 pub use choose::Choose;
-pub use keys::ResultKey;
+pub use dests::{add_networks, add_routers, dests_of, networks_among, routers_among};
+pub use keys::{ResultKey, ascending};
 pub use results::ResultMap;
 pub use same::{Same, are_same};

@@ -2,11 +2,12 @@
 ghost use Rattle.std.specs.Prelude.{◌≡◌, ◌≢◌, [], IfOk, OnOk, OnErr, option_copied};
 ghost use Rattle.std.specs.List.{AllPairs};
 ghost use Rattle.std.specs.List.Sorted.{IsStrictlySortedBy};
+ghost use Rattle.result_map.specs.Lists.{HasJust};
 ghost use Rattle.result_map.specs.Results.{AreKeysOf, OthersStay, TellsDifference, TellsSame, result_at};
-ghost use Rattle.result_map.specs.Updating.{AreUpdated, IsUpdated};
+ghost use Rattle.result_map.specs.Chosen.{AreChosen, AreChosenAnew, AreChosenBut, HasOther, IsChosenAnew};
 
 use crate::choose::Choose;
-use crate::keys::ResultKey;
+use crate::keys::{ResultKey, ascending};
 use crate::same::{Same, are_same};
 use indexmap::IndexMap;
 use ospf_types::memory::Memory;
@@ -42,8 +43,15 @@ impl<K: ResultKey, V: Same + Drop> ResultMap<K, V> {
     pub fn new(alloc: Global, hashing: RandomState) -> ResultMap<K, V>
         ensures { result.entries ≡ [] }
     {
+        ResultMap::hashed_by(alloc, WordHash::new(hashing))
+    }
+
+    /// No results, of which the keys are hashed so.
+    pub fn hashed_by(alloc: Global, hashing: WordHash) -> ResultMap<K, V>
+        ensures { result.entries ≡ [] }
+    {
         ResultMap {
-            entries: IndexMap::with_hasher(alloc, WordHash::new(hashing)),
+            entries: IndexMap::with_hasher(alloc, hashing),
         }
     }
 
@@ -51,6 +59,10 @@ impl<K: ResultKey, V: Same + Drop> ResultMap<K, V> {
     pub fn get(&self, key: K) -> Option<&V>
         ensures value { option_copied result ≡ result_at K.order self.now key }
     {
+        // Where there are none, nothing is hashed.
+        if self.entries.is_empty() {
+            return None;
+        }
         self.entries.get(&key)
     }
 
@@ -59,8 +71,16 @@ impl<K: ResultKey, V: Same + Drop> ResultMap<K, V> {
         ensures exact { IfOk result (λ keys. AreKeysOf K.order self.now keys.items) }
         ensures each_once { IfOk result (λ keys. AllPairs (λ j k. j ≢ k) keys.items) }
     {
-        let keys = Vec::from_slice(alloc, self.entries.keys().as_slice())?;
+        let keys = Vec::from_slice(alloc, self.key_slice())?;
         Ok(keys)
+    }
+
+    /// The keys that have a result, where they stand, in no stated order.
+    pub fn key_slice(&self) -> &[K]
+        ensures exact { AreKeysOf K.order self.now result.now }
+        ensures each_once { AllPairs (λ j k. j ≢ k) result.now }
+    {
+        self.entries.keys().as_slice()
     }
 
     /// The result at the key is the fresh one from now on. The answer tells whether it differs from the one before. If
@@ -79,23 +99,26 @@ impl<K: ResultKey, V: Same + Drop> ResultMap<K, V> {
         Ok(true)
     }
 
-    /// Chooses the results at the keys anew, and names the keys at which another stands now. The keys ascend, each
-    /// once. If memory runs out, some results were chosen anew and others were not.
-    pub fn update_each<N: Drop, R: Choose<K, V, N>>(
+    /// Chooses the results at the keys anew, where at all other keys there stands what has to. Then there does at each key. The
+    /// answer is the keys at which another result stands now, ascending, each once. If memory runs out, some results were
+    /// chosen anew and others were not.
+    pub fn follow<R: Choose<K, V>>(
         &mut self,
         alloc: Global,
-        keys: &[K],
+        keys: Vec<K>,
         by: &R,
-        named: &mut Vec<N>,
-    ) -> Result<(), Memory>
-        requires { IsStrictlySortedBy K.order keys.now }
-        ensures { OnOk result (AreUpdated K.order (R.IsChosen by.now) R.named_as
-            self.old self.new keys.now named.old.items named.new.items) }
+    ) -> Result<Vec<K>, Memory>
+        requires { AreChosenBut (R.IsChosen by.now) keys.items (result_at K.order self.old) }
+        ensures chosen { OnOk result (AreChosen (R.IsChosen by.now) (result_at K.order self.new)) }
+        ensures in_order { IfOk result (λ others. IsStrictlySortedBy K.order others.items) }
+        ensures exact { IfOk result (λ others.
+            HasJust (HasOther (result_at K.order self.old) (result_at K.order self.new))
+            others.items) }
     {
-        for key in keys {
-            self.update_one(alloc, *key, by, named)?;
-        }
-        Ok(())
+        let keys = ascending(keys);
+        let mut others = Vec::new(alloc);
+        self.choose_each(alloc, &keys, by, &mut others)?;
+        Ok(others)
     }
 
     /// Takes all results out.
@@ -105,20 +128,39 @@ impl<K: ResultKey, V: Same + Drop> ResultMap<K, V> {
         self.entries.clear();
     }
 
-    // Chooses the result at the key anew, and names the key where another stands now.
-    fn update_one<N: Drop, R: Choose<K, V, N>>(
+    // Chooses the results at the keys anew, which ascend, each once, and adds the keys at which another stands now.
+    fn choose_each<R: Choose<K, V>>(
+        &mut self,
+        alloc: Global,
+        keys: &[K],
+        by: &R,
+        others: &mut Vec<K>,
+    ) -> Result<(), Memory>
+        requires in_order { IsStrictlySortedBy K.order keys.now }
+        requires none { others.old.items ≡ [] }
+        ensures { OnOk result (AreChosenAnew K.order (R.IsChosen by.now) (λ k. k)
+            (result_at K.order self.old) (result_at K.order self.new) keys.now others.new.items) }
+    {
+        for key in keys {
+            self.choose_one(alloc, *key, by, others)?;
+        }
+        Ok(())
+    }
+
+    // Chooses the result at the key anew, and adds the key where another stands now.
+    fn choose_one<R: Choose<K, V>>(
         &mut self,
         alloc: Global,
         key: K,
         by: &R,
-        named: &mut Vec<N>,
+        others: &mut Vec<K>,
     ) -> Result<(), Memory>
-        ensures { OnOk result (IsUpdated K.order (R.IsChosen by.now) R.named_as
-            self.old self.new key named.old.items named.new.items) }
+        ensures { OnOk result (IsChosenAnew (R.IsChosen by.now) (λ k. k) (result_at K.order self.old)
+            (result_at K.order self.new) key others.old.items others.new.items) }
     {
         let fresh = by.choose(alloc, key)?;
         if self.update(key, fresh)? {
-            named.push(by.name(key))?;
+            others.push(key)?;
         }
         Ok(())
     }

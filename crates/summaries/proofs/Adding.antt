@@ -1,9 +1,7 @@
--- Destinations that are added to a list, and which of them may be due.
-use Rattle.std.proofs.Common.{◌≡◌, ℕ, ◌+◌, ◌<◌, ◌≤◌, List, [], ◌∷◌, ◌++◌, length, take, get_or, Option, Some, None, refl, sym, ap, subst, ◌∙◌, inl, inr}
+-- Which of the destinations that are listed may be due.
+use Rattle.std.proofs.Common.{◌≡◌, ℕ, List, Option, Some, None, refl, sym, ap, subst, ◌∙◌, inl, inr}
 use Rattle.std.specs.Prelude.{Contains, IsSome, is_some}
 use Rattle.std.specs.FinMap.{get}
-use Rattle.std.proofs.lemmas.List.{take_all}
-use Rattle.std.proofs.lemmas.List.Elements.{Contains-append_left, Contains-push}
 use Rattle.ospf_types.specs.declared.config.AreaConfig.{AreaConfig}
 use Rattle.ospf_types.specs.declared.config.Stub.{Stub}
 use Rattle.ospf_types.specs.declared.key.Dest.{Dest}
@@ -11,48 +9,15 @@ use Rattle.ospf_types.specs.declared.key.Dest.TheVariants.{Net, Router}
 use Rattle.ospf_types.specs.declared.prefix.Prefix.{Prefix}
 use Rattle.ospf_types.specs.Address.{Covers}
 use Rattle.ospf_types.specs.Summaries.{default_route}
-use Rattle.ospf_types.proofs.Elements.{no_element, contains_more}
 use Rattle.active_ranges.specs.Active.{IsActiveIn}
 use Rattle.summaries.specs.Inputs.{SummaryInputsValue}
 use Rattle.summaries.specs.Giving.{IsDueIn, IsDueTo, IsNetworkDueIn, IsRouterDueIn, GivesIn}
-use Rattle.summaries.specs.Touched.{HasAlso, IsOverIn, IsTouchedBy, IsRangeOver}
-
--- ---- one after the other
-
--- no more is wanted
-pub also_none : (P : Dest → Type 0) (before : List Dest) → ((d : Dest) → P d → ⊥) → HasAlso P before before
-also_none P before none d w = elim w [ inl was ↦ was | inr more ↦ absurd (none d more) ]
-
--- one more
-pub also_one : (P : Dest → Type 0) (before after : List Dest) (x : Dest) → after ≡ before ++ x ∷ [] → ((d : Dest) → P d → d ≡ x) → HasAlso P before after
-also_one P before after x pushed one d w = subst (λ (ds : List Dest). Contains ds d) (sym pushed) (elim w [
-  | inl was ↦ Contains-append_left before (x ∷ []) d was
-  | inr more ↦ subst (λ (y : Dest). Contains (before ++ x ∷ []) y) (sym (one d more)) (Contains-push before x)
-])
-
-module _ {A : Type 0} (P : A → Dest → Type 0) where
-  -- one that comes of some of these
-  abbrev pub IsOfSome : List A → Dest → Type 0
-  IsOfSome xs d = (x : A) × Contains xs x × P x d
-
-  pub also_first : (before : List Dest) → HasAlso (IsOfSome []) before before
-  also_first before = also_none (IsOfSome []) before (λ d w. no_element w.0 w.1)
-
-  pub also_next : (xs : List A) (i : ℕ) (x : A) (a b c : List Dest) → i < length xs → x ≡ get_or xs i x → HasAlso (IsOfSome (take i xs)) a b → HasAlso (P x) b c → HasAlso (IsOfSome (take (i + 1) xs)) a c
-  also_next xs i x a b c lt is first then d w = elim w [
-    | inl was ↦ then d (inl (first d (inl was)))
-    | inr more ↦ elim ((contains_more xs i x more.0 lt is).0 more.1) [
-      | inl before ↦ then d (inl (first d (inr (more.0, before, more.2))))
-      | inr same ↦ then d (inr (subst (λ (y : A). P y d) same more.2))
-    ]
-  ]
-
-  pub also_all : (xs : List A) (i : ℕ) (a b : List Dest) → length xs ≤ i → HasAlso (IsOfSome (take i xs)) a b → HasAlso (IsOfSome xs) a b
-  also_all xs i a b past is = subst (λ (ys : List A). HasAlso (IsOfSome ys) a b) (take_all i xs past) is
+use Rattle.result_map.specs.Lists.{GainsAll, IsOfSome}
+use Rattle.summaries.specs.Touched.{IsOverIn, IsTouchedBy, IsRangeOver}
 
 -- ---- those that are touched
 
-pub all_touched : (areas : List AreaConfig) (dests found : List Dest) → HasAlso (IsOfSome (λ (a : AreaConfig). IsOverIn a.ranges dests) areas) dests found → (d : Dest) → IsTouchedBy areas dests d → Contains found d
+pub all_touched : (areas : List AreaConfig) (dests found : List Dest) → GainsAll (IsOfSome areas (λ (a : AreaConfig). IsOverIn a.ranges dests)) dests found → (d : Dest) → IsTouchedBy areas dests d → Contains found d
 all_touched areas dests found has d touched = elim touched [
   | inl named ↦ has d (inl named)
   | inr over ↦

@@ -1,5 +1,5 @@
 -- The destinations whose summaries may differ where these differ.
-use Rattle.std.specs.Prelude.{ℕ, ◌≡◌, ◌⊎◌, List, Contains}
+use Rattle.std.specs.Prelude.{◌≡◌, ◌⊎◌, List, Contains}
 use Rattle.ospf_types.specs.declared.config.AreaConfig.{AreaConfig}
 use Rattle.ospf_types.specs.declared.config.Range.{Range}
 use Rattle.ospf_types.specs.declared.key.Dest.{Dest}
@@ -16,15 +16,7 @@ IsRangeOver areas dests p = (a : AreaConfig) × (r : Range) × (network : Prefix
 abbrev pub IsTouchedBy : List AreaConfig → List Dest → Dest → Type 0
 IsTouchedBy areas dests d = Contains dests d ⊎ ((p : Prefix) × (d ≡ Net p) × IsRangeOver areas dests p)
 
--- the list has all of these
-abbrev pub HasAll : (Dest → Type 0) → List Dest → Type 0
-HasAll these list = (d : Dest) → these d → Contains list d
-
 -- ---- part by part, as destinations are added
-
--- the list has what it had, and these
-abbrev pub HasAlso : (Dest → Type 0) → List Dest → List Dest → Type 0
-HasAlso also before after = (d : Dest) → Contains before d ⊎ also d → Contains after d
 
 -- a network that the prefix covers
 abbrev pub IsNetIn : Prefix → Dest → Type 0
@@ -38,11 +30,3 @@ IsOver dests p d = (d ≡ Net p) × ((named : Dest) × Contains dests named × I
 -- that of one of these ranges
 abbrev pub IsOverIn : List Range → List Dest → Dest → Type 0
 IsOverIn ranges dests d = (r : Range) × Contains ranges r × IsOver dests r.prefix d
-
--- one of these networks
-abbrev pub IsNetOf : List Prefix → Dest → Type 0
-IsNetOf networks d = (p : Prefix) × Contains networks p × (d ≡ Net p)
-
--- one of these routers
-abbrev pub IsRouterOf : List ℕ → Dest → Type 0
-IsRouterOf routers d = (r : ℕ) × Contains routers r × (d ≡ Router r)

@@ -3,9 +3,9 @@ ghost use Rattle.std.specs.Prelude.{◌↔◌, Contains, IsFalse, IsTrue, IfOk, 
 ghost use Rattle.std.specs.List.Sorted.{IsStrictlySortedBy};
 ghost use Rattle.ospf_types.specs.declared.key.Dest.{Dest as DestValue};
 ghost use Rattle.ospf_types.specs.Keys.{dest_cmp};
-ghost use Rattle.active_ranges.specs.Lists.{HasJust};
+ghost use Rattle.result_map.specs.Lists.{GainsAll, HasAll, HasJust};
 ghost use Rattle.summaries.specs.Changes.{HasAllDue};
-ghost use Rattle.summaries.specs.Touched.{IsTouchedBy, IsOver, IsOverIn, IsNetIn, IsNetOf, IsRouterOf, HasAll, HasAlso};
+ghost use Rattle.summaries.specs.Touched.{IsTouchedBy, IsOver, IsOverIn, IsNetIn};
 
 use crate::giving::default_network;
 use crate::inputs::SummaryInputs;
@@ -13,6 +13,7 @@ use ospf_types::config::AreaConfig;
 use ospf_types::key::Dest;
 use ospf_types::memory::Memory;
 use ospf_types::prefix::Prefix;
+use result_map::{add_networks, add_routers};
 use std::alloc::Global;
 
 /// The named destinations, and the prefixes of the ranges that have one of the named networks; ascending, each once.
@@ -44,7 +45,7 @@ pub(crate) fn ascending(mut dests: Vec<Dest>) -> Result<Vec<Dest>, Memory>
 // Adds the prefixes of the area's ranges that have one of the networks.
 fn push_ranges_of(area: &AreaConfig, dests: &[Dest], found: &mut Vec<Dest>) -> Result<(), Memory>
     ensures { OnOk result
-        (HasAlso (IsOverIn area.now.ranges dests.now) found.old.items found.new.items) }
+        (GainsAll (IsOverIn area.now.ranges dests.now) found.old.items found.new.items) }
 {
     for range in area.ranges.as_slice() {
         push_range(range.prefix, dests, found)?;
@@ -54,7 +55,7 @@ fn push_ranges_of(area: &AreaConfig, dests: &[Dest], found: &mut Vec<Dest>) -> R
 
 // Adds the prefix, where it covers one of the networks.
 fn push_range(prefix: Prefix, dests: &[Dest], found: &mut Vec<Dest>) -> Result<(), Memory>
-    ensures { OnOk result (HasAlso (IsOver dests.now prefix) found.old.items found.new.items) }
+    ensures { OnOk result (GainsAll (IsOver dests.now prefix) found.old.items found.new.items) }
 {
     if !covers_one(prefix, dests) {
         return Ok(());
@@ -90,27 +91,9 @@ pub(crate) fn all(alloc: Global, inputs: &SummaryInputs<'_>) -> Result<Vec<Dest>
     ensures { IfOk result (λ dests. HasAllDue inputs.now dests.items) }
 {
     let mut dests = inputs.inter.dests(alloc)?;
-    push_networks(&inputs.intra.networks(alloc)?, &mut dests)?;
-    push_networks(&inputs.ranges.prefixes(alloc)?, &mut dests)?;
-    push_routers(&inputs.external.routers(alloc)?, &mut dests)?;
+    add_networks(&inputs.intra.networks(alloc)?, &mut dests)?;
+    add_networks(&inputs.ranges.prefixes(alloc)?, &mut dests)?;
+    add_routers(&inputs.external.routers(alloc)?, &mut dests)?;
     dests.push(Dest::Net(default_network()))?;
     Ok(dests)
-}
-
-fn push_networks(networks: &[Prefix], dests: &mut Vec<Dest>) -> Result<(), Memory>
-    ensures { OnOk result (HasAlso (IsNetOf networks.now) dests.old.items dests.new.items) }
-{
-    for network in networks {
-        dests.push(Dest::Net(*network))?;
-    }
-    Ok(())
-}
-
-fn push_routers(routers: &[u32], dests: &mut Vec<Dest>) -> Result<(), Memory>
-    ensures { OnOk result (HasAlso (IsRouterOf routers.now) dests.old.items dests.new.items) }
-{
-    for router in routers {
-        dests.push(Dest::Router(*router))?;
-    }
-    Ok(())
 }

@@ -1,1 +1,2 @@
 mod FirstLsas
+mod Only

@@ -1,48 +1,52 @@
-//! Results by key, chosen anew at given keys.
-use ospf_types::key::Dest;
+//! Results by key, of which all follow what may differ.
 use ospf_types::memory::Memory;
 use result_map::{Choose, ResultMap};
 use std::alloc::Global;
 use std::hash::RandomState;
 use std::test::*;
 
-// The keys below the bound have it as their result.
-struct Below {
-    bound: u32,
+// Only this key has a result.
+struct Only {
+    key: u32,
+    value: u32,
 }
 
-impl Choose<u32, u32, Dest> for Below {
-    ghost use Rattle.std.specs.Prelude.{◌≡◌, Some, None, nat_lt, if◌then◌else◌};
-    ghost use Rattle.ospf_types.specs.declared.key.Dest.TheVariants.{Router};
+impl Choose<u32, u32> for Only {
+    ghost use Rattle.std.specs.Prelude.{◌≡◌, ◌==◌, Some, None, if◌then◌else◌};
 
-    ghost IsChosen = { λ below key fresh. fresh ≡ (if nat_lt key below.bound then Some below.bound else None) };
-
-    ghost named_as = { Router };
+    ghost IsChosen = { λ only key fresh. fresh ≡ (if key == only.key then Some only.value else None) };
 
     fn choose(&self, _alloc: Global, key: u32) -> Result<Option<u32>, Memory> {
-        if key < self.bound {
-            Ok(Some(self.bound))
+        if key == self.key {
+            Ok(Some(self.value))
         } else {
             Ok(None)
         }
     }
-
-    fn name(&self, key: u32) -> Dest {
-        Dest::Router(key)
-    }
 }
 
 #[test]
-fn results_are_chosen_anew_and_named_where_they_differ(rt: HostRuntime) -> Result<(), Fail> {
+fn results_follow_and_those_that_differ_are_told(rt: HostRuntime) -> Result<(), Fail> {
     let alloc = rt.alloc();
     let mut results = ResultMap::new(alloc, RandomState::new(&rt)?);
-    let mut named = Vec::new(alloc);
-    results.update_each(alloc, &[1, 3, 5], &Below { bound: 4 }, &mut named)?;
-    let first = named.as_slice() == [Dest::Router(1), Dest::Router(3)].as_slice();
-    results.update_each(alloc, &[3, 5], &Below { bound: 2 }, &mut named)?;
-    let then = named.len() == 3 && named.get(2) == Some(&Dest::Router(3));
-    let kept = results.keys(alloc)?.as_slice() == [1].as_slice() && results.get(1) == Some(&4);
-    let anew = !results.update(1, Some(4))? && results.update(1, None)?;
-    assert!(rt; first && then && kept && anew && results.get(1).is_none());
+    let first = results.follow(
+        alloc,
+        Vec::from_slice(alloc, &[7, 7])?,
+        &Only { key: 7, value: 1 },
+    )?;
+    let then = results.follow(
+        alloc,
+        Vec::from_slice(alloc, &[9, 7, 9])?,
+        &Only { key: 9, value: 2 },
+    )?;
+    let again = results.follow(
+        alloc,
+        Vec::from_slice(alloc, &[9])?,
+        &Only { key: 9, value: 2 },
+    )?;
+    let told = first.as_slice() == [7].as_slice() && then.as_slice() == [7, 9].as_slice();
+    let kept = results.keys(alloc)?.as_slice() == [9].as_slice() && results.get(9) == Some(&2);
+    let anew = !results.update(9, Some(2))? && results.update(9, None)?;
+    assert!(rt; told && again.is_empty() && kept && anew && results.get(9).is_none());
     Ok(())
 }

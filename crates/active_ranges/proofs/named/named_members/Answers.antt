@@ -2,7 +2,8 @@
 use Rattle.std.proofs.Common.{[]}
 use Rattle.ospf_types.specs.declared.config.AreaConfig.{AreaConfig}
 use Rattle.active_ranges.specs.Following.{IsNamedIn}
-use Rattle.active_ranges.proofs.Naming.{more_next, more_all, all_named}
+use Rattle.result_map.proofs.Adding.{more_next, more_all}
+use Rattle.active_ranges.proofs.Naming.{all_named}
 use Rattle.active_ranges.proofs.named.named_members.Goals as goal
 
 pub loop-area-preserved : goal.loop-area-preserved

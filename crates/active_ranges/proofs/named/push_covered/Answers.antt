@@ -2,7 +2,8 @@
 use Rattle.std.proofs.Common.{true≢false, sym, ◌∙◌}
 use Rattle.active_ranges.specs.Following.{IsNamedAs}
 use Rattle.active_ranges.specs.declared.member.Member.{Member}
-use Rattle.active_ranges.proofs.Naming.{more_none, more_one, covered, not_covered}
+use Rattle.result_map.proofs.Adding.{more_none, more_one}
+use Rattle.active_ranges.proofs.Naming.{covered, not_covered}
 use Rattle.active_ranges.proofs.named.push_covered.Goals as goal
 
 pub returns-then-not-covers : goal.returns-then-not-covers

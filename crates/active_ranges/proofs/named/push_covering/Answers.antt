@@ -1,7 +1,8 @@
 -- One destination more.
-use Rattle.spf.specs.HandedOn.{IsOfSome}
+use Rattle.result_map.specs.Lists.{IsOfSome}
 use Rattle.active_ranges.specs.Following.{IsNamedAs, IsNamedOf}
-use Rattle.active_ranges.proofs.Naming.{more_as, more_next, more_all, named_of}
+use Rattle.result_map.proofs.Adding.{more_as, more_next, more_all}
+use Rattle.active_ranges.proofs.Naming.{named_of}
 use Rattle.active_ranges.proofs.named.push_covering.Goals as goal
 
 pub loop-dest-preserved : goal.loop-dest-preserved

@@ -1,9 +1,10 @@
 -- The members of one range more.
 use Rattle.std.proofs.Common.{List, subst}
 use Rattle.ospf_types.specs.declared.config.Range.{Range}
-use Rattle.spf.specs.HandedOn.{IsOfSome}
+use Rattle.result_map.specs.Lists.{IsOfSome}
 use Rattle.active_ranges.specs.Following.{HasMore, IsNamedIn, IsNamedOf}
-use Rattle.active_ranges.proofs.Naming.{more_as, more_next, more_all, named_in, one_range}
+use Rattle.result_map.proofs.Adding.{more_as, more_next, more_all}
+use Rattle.active_ranges.proofs.Naming.{named_in, one_range}
 use Rattle.active_ranges.proofs.named.push_named.Goals as goal
 
 pub loop-range-preserved : goal.loop-range-preserved

@@ -1,5 +1,5 @@
 -- By the last one.
-use Rattle.std.proofs.Common.{◌≡◌, ℕ, Bool, true, Ordering, refl, sym, ap, ◌∙◌, arith}
+use Rattle.std.proofs.Common.{◌≡◌, true, Ordering, refl, sym, ap, ◌∙◌, arith}
 use Rattle.std.specs.declared.cmp.Ordering.TheVariants.{Less, Equal, Greater}
 use Rattle.std.specs.Ordering.{is_lt}
 use Rattle.ospf_types.specs.Network.{network_cmp}

@@ -1,8 +1,8 @@
--- So far what is grouped by those up to here is led to.
+-- So far those up to here led on.
 use Rattle.std.proofs.Common.{take}
-use Rattle.offer_index.specs.declared.lsa_group.LsaGroup.TheVariants.{Forwarded}
-use Rattle.external.specs.Updating.{AreLed}
+use Rattle.result_map.specs.Lists.{HasMore, IsOfSome}
+use Rattle.external.specs.Updating.{IsLedByAddress}
 use Rattle.external.proofs.update.list_dests_by_addresses.Given as goal
 
 abbrev pub invariant-loop-address : goal.invariant-loop-address
-invariant-loop-address l = AreLed l.index Forwarded (take l.address-index l.addresses) l.initial.dests.items l.dests.items
+invariant-loop-address l = HasMore (IsOfSome (take l.address-index l.addresses) (IsLedByAddress l.index)) l.initial.dests.items l.dests.items

@@ -1,8 +1,8 @@
--- So far what is grouped by those up to here is led to.
+-- So far those up to here led on.
 use Rattle.std.proofs.Common.{take}
-use Rattle.offer_index.specs.declared.lsa_group.LsaGroup.TheVariants.{By}
-use Rattle.external.specs.Updating.{AreLed}
+use Rattle.result_map.specs.Lists.{HasMore, IsOfSome}
+use Rattle.external.specs.Updating.{IsLedBy}
 use Rattle.external.proofs.update.list_dests_by_routers.Given as goal
 
 abbrev pub invariant-loop-router : goal.invariant-loop-router
-invariant-loop-router l = AreLed l.index By (take l.router-index l.routers) l.initial.dests.items l.dests.items
+invariant-loop-router l = HasMore (IsOfSome (take l.router-index l.routers) (IsLedBy l.index)) l.initial.dests.items l.dests.items

@@ -1,17 +1,14 @@
--- The network is the one that is named.
-use Rattle.std.proofs.Common.{◌≡◌, ◌∙◌, subst, sym}
-use Rattle.std.specs.List.{Contains}
-use Rattle.std.proofs.lemmas.Result.{on_ok_weaker}
+-- It is added, or nothing leads to it.
+use Rattle.std.proofs.Common.{true≢false, sym, subst, ◌∙◌}
 use Rattle.ospf_types.specs.declared.key.Dest.TheVariants.{Net}
-use Rattle.ospf_types.specs.declared.prefix.Prefix.{Prefix}
 use Rattle.offer_index.specs.Indexes.{IsLedTo}
+use Rattle.result_map.proofs.Adding.{gains_none, gains_one}
+use Rattle.external.specs.Updating.{IsAlso}
 use Rattle.external.proofs.update.list_if_led_to.Goals as goal
 
-pub returns-in-Net-clause-led : goal.returns-in-Net-clause-led
-returns-in-Net-clause-led c =
-    on_ok_weaker c.list_network_if_led_to.result
-    (λ led p is leads.
-    let named : Net p ≡ Net c.in-Net.network = is ∙ c.in-Net.is in
-    let same : p ≡ c.in-Net.network = cc in
-    subst (λ (q : Prefix). Contains c.list_network_if_led_to.new.leading.items (Net q)) (sym same) (led (subst (λ (q : Prefix). IsLedTo c.args.index.now (Net q)) same leads)))
-    c.list_network_if_led_to.ensures.led
+pub returns-then-not-leads_to : goal.returns-then-not-leads_to
+returns-then-not-leads_to c =
+    gains_none (IsAlso c.args.index.now c.args.network) c.args.leading.now.items (λ d also. true≢false (sym (c.leads_to.ensures.1 (subst (IsLedTo c.args.index.now) also.0 also.1)) ∙ c.if-not-leads_to.true))
+
+pub returns : goal.returns
+returns c = gains_one (IsAlso c.args.index.now c.args.network) c.args.leading.now.items c.push.new.self.items (Net c.args.network) c.in_ok-push.ensures.items (λ d also. also.0)

@@ -1,5 +1,5 @@
 -- Each part stays as the next ones are added.
-use Rattle.std.proofs.Common.{◌≡◌, List, ℕ, subst, refl, inl, inr}
+use Rattle.std.proofs.Common.{◌≡◌, ◌++◌, List, ℕ, map, subst, refl, ap, ◌∙◌, inl, inr}
 use Rattle.std.specs.Prelude.{◌↔◌, Contains, IsSome}
 use Rattle.std.specs.FinMap.{get}
 use Rattle.ospf_types.specs.declared.key.Dest.{Dest}
@@ -7,8 +7,8 @@ use Rattle.ospf_types.specs.declared.key.Dest.TheVariants.{Net, Router}
 use Rattle.ospf_types.specs.declared.prefix.Prefix.{Prefix}
 use Rattle.active_ranges.specs.Active.{IsActiveIn}
 use Rattle.summaries.specs.Inputs.{SummaryInputsValue}
-use Rattle.summaries.specs.Touched.{HasAlso, IsNetOf, IsRouterOf}
-use Rattle.summaries.proofs.Adding.{also_one, all_due}
+use Rattle.result_map.proofs.Adding.{gains_mapped, gains_one}
+use Rattle.summaries.proofs.Adding.{all_due}
 use Rattle.summaries.proofs.touched.all.Goals as goal
 
 pub returns : goal.returns
@@ -16,18 +16,18 @@ returns c =
     let v = c.args.inputs.now in
     let told = c.inputs.view_is in
     let first = c.in_ok-dests.dests.items in
-    let second = c.push_networks.new.dests.items in
-    let third = c.push_networks-2.new.dests.items in
-    let fourth = c.push_routers.new.dests.items in
+    let second = c.add_networks.new.dests.items in
+    let third = c.add_networks-2.new.dests.items in
+    let fourth = c.add_routers.new.dests.items in
     let last = c.push.new.self.items in
     let networks = c.in_ok-networks.field-0.items in
     let prefixes = c.in_ok-prefixes.field-0.items in
     let routers = c.in_ok-routers.field-0.items in
     let default = Net c.default_network.result in
-    let one : HasAlso (IsNetOf networks) first second = subst (λ (ps : List Prefix). HasAlso (IsNetOf ps) first second) c.deref.ensures.value c.in_ok-push_networks.ensures in
-    let two : HasAlso (IsNetOf prefixes) second third = subst (λ (ps : List Prefix). HasAlso (IsNetOf ps) second third) c.deref-2.ensures.value c.in_ok-push_networks-2.ensures in
-    let three : HasAlso (IsRouterOf routers) third fourth = subst (λ (rs : List ℕ). HasAlso (IsRouterOf rs) third fourth) c.deref-3.ensures.value c.in_ok-push_routers.ensures in
-    let four : HasAlso (λ d. d ≡ default) fourth last = also_one (λ (d : Dest). d ≡ default) fourth last default c.in_ok-push.ensures.items (λ d is. is) in
+    let one = gains_mapped Net networks first second (c.in_ok-add_networks.ensures ∙ ap (λ (ps : List Prefix). first ++ map Net ps) c.deref.ensures.value) in
+    let two = gains_mapped Net prefixes second third (c.in_ok-add_networks-2.ensures ∙ ap (λ (ps : List Prefix). second ++ map Net ps) c.deref-2.ensures.value) in
+    let three = gains_mapped Router routers third fourth (c.in_ok-add_routers.ensures ∙ ap (λ (rs : List ℕ). third ++ map Router rs) c.deref-3.ensures.value) in
+    let four = gains_one (λ (d : Dest). d ≡ default) fourth last default c.in_ok-push.ensures.items (λ d is. is) in
     let after_second : (d : Dest) → Contains second d → Contains last d = λ d there. four d (inl (three d (inl (two d (inl there))))) in
     all_due v last
     (λ d is. after_second d (one d (inl ((subst (λ (w : SummaryInputsValue). Contains first d ↔ IsSome (get w.inter.entries d)) told (c.in_ok-dests.ensures.exact d)).1 is))))

@@ -2,11 +2,11 @@
 use Rattle.std.proofs.Common.{List, [], map, sym, subst}
 use Rattle.ospf_types.specs.declared.prefix.Prefix.{Prefix}
 use Rattle.ospf_types.specs.Network.{network_cmp}
-use Rattle.spf.specs.HandedOn.{IsOfSome}
+use Rattle.result_map.specs.Lists.{IsOfSome}
 use Rattle.active_ranges.specs.Following.{HasMore}
 use Rattle.active_ranges.specs.declared.active.Noted.{Noted}
 use Rattle.active_ranges.proofs.Ascending.{IsAscending, ascending_none}
-use Rattle.active_ranges.proofs.Naming.{more_at_first}
+use Rattle.result_map.proofs.Adding.{more_first}
 use Rattle.active_ranges.proofs.Turning.{HasTurnedAt, ascending_told, exact_told, all_told}
 use Rattle.active_ranges.proofs.active.ActiveRanges.turned.Goals as goal
 
@@ -16,7 +16,7 @@ loop-note-init c =
     let left = map (λ (n : Noted). n.prefix) c.args.noted.now in
     record {
       in_order = subst (λ (ps : List Prefix). IsAscending network_cmp ps left) (sym c.new-prefixes.ensures.items) (ascending_none network_cmp left c.requires);
-      exact = subst (λ (ps : List Prefix). HasMore (IsOfSome [] P) [] ps) (sym c.new-prefixes.ensures.items) (more_at_first P []);
+      exact = subst (λ (ps : List Prefix). HasMore (IsOfSome [] P) [] ps) (sym c.new-prefixes.ensures.items) (more_first P []);
     }
 
 pub loop-note-preserved : goal.loop-note-preserved

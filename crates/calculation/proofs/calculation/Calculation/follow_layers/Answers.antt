@@ -84,8 +84,8 @@ follow_inter-requires-clause-before c =
     let listed : c.as_slice-areas.result.now ≡ s.config.areas = c.as_slice-areas.ensures ∙ ap (λ (x : Config). x.areas) c.config.ensures.value in
     let mid = c.follow_range.new.active in
     let mid_are : AreRangesOf s.config.areas old.intra.entries mid = subst (λ (areas : List AreaConfig). AreRangesOf areas old.intra.entries mid) listed c.in_ok-within.ensures.kept in
-    let pushed : c.push_networks.new.dests.items ≡ dests ++ map Net c.in_ok-ranges.ranges.items = c.in_ok-push_networks.ensures ∙ ap (λ (ps : List Prefix). dests ++ map Net ps) c.deref-3.ensures.value in
-    inter_before b.0 s c.args.dirty.now.keys.items c.args.dirty.now.interfaces.items c.args.range b.3 b.5 old b.2 k.trees grown intra kept dests c.in_ok-dests.ensures.exact mid mid_are c.update.new.self c.in_ok-ranges.ranges.items c.in_ok-ranges.ensures.exact c.push_networks.new.dests.items c.push_range.new.dests.items pushed c.in_ok-push_range.ensures
+    let pushed : c.add_networks.new.dests.items ≡ dests ++ map Net c.in_ok-ranges.ranges.items = c.in_ok-add_networks.ensures ∙ ap (λ (ps : List Prefix). dests ++ map Net ps) c.deref-3.ensures.value in
+    inter_before b.0 s c.args.dirty.now.keys.items c.args.dirty.now.interfaces.items c.args.range b.3 b.5 old b.2 k.trees grown intra kept dests c.in_ok-dests.ensures.exact mid mid_are c.update.new.self c.in_ok-ranges.ranges.items c.in_ok-ranges.ensures.exact c.add_networks.new.dests.items c.push_range.new.dests.items pushed c.in_ok-push_range.ensures
 
 pub follow_external-requires-clause-ranged : goal.follow_external-requires-clause-ranged
 follow_external-requires-clause-ranged c =
@@ -106,9 +106,9 @@ follow_external-requires-clause-before c =
     let listed : c.as_slice-areas.result.now ≡ s.config.areas = c.as_slice-areas.ensures ∙ ap (λ (x : Config). x.areas) c.config.ensures.value in
     let mid = c.follow_range.new.active in
     let mid_are : AreRangesOf s.config.areas old.intra.entries mid = subst (λ (areas : List AreaConfig). AreRangesOf areas old.intra.entries mid) listed c.in_ok-within.ensures.kept in
-    let pushed : c.push_networks.new.dests.items ≡ dests ++ map Net c.in_ok-ranges.ranges.items = c.in_ok-push_networks.ensures ∙ ap (λ (ps : List Prefix). dests ++ map Net ps) c.deref-3.ensures.value in
+    let pushed : c.add_networks.new.dests.items ≡ dests ++ map Net c.in_ok-ranges.ranges.items = c.in_ok-add_networks.ensures ∙ ap (λ (ps : List Prefix). dests ++ map Net ps) c.deref-3.ensures.value in
     let more : c.extend_from_slice.new.self.items ≡ c.push_range.new.dests.items ++ c.in_ok-dests-2.dests.items = c.in_ok-extend_from_slice.ensures.items ∙ ap (λ (ds : List Dest). c.push_range.new.dests.items ++ ds) c.deref-4.ensures.value in
-    external_before b.0 s c.args.dirty.now.keys.items c.args.dirty.now.interfaces.items c.args.range b.3 b.5 old b.2 k.trees grown intra kept dests c.in_ok-dests.ensures.exact mid mid_are c.update.new.self c.in_ok-ranges.ranges.items c.in_ok-ranges.ensures.exact c.push_networks.new.dests.items c.push_range.new.dests.items pushed c.in_ok-push_range.ensures c.follow_inter.new.inter c.in_ok-dests-2.dests.items c.in_ok-dests-2.ensures.exact c.extend_from_slice.new.self.items more
+    external_before b.0 s c.args.dirty.now.keys.items c.args.dirty.now.interfaces.items c.args.range b.3 b.5 old b.2 k.trees grown intra kept dests c.in_ok-dests.ensures.exact mid mid_are c.update.new.self c.in_ok-ranges.ranges.items c.in_ok-ranges.ensures.exact c.add_networks.new.dests.items c.push_range.new.dests.items pushed c.in_ok-push_range.ensures c.follow_inter.new.inter c.in_ok-dests-2.dests.items c.in_ok-dests-2.ensures.exact c.extend_from_slice.new.self.items more
 
 pub returns-clause-right : goal.returns-clause-right
 returns-clause-right c =
@@ -158,7 +158,7 @@ layers_kept c =
     let listed : c.as_slice-areas.result.now ≡ s.config.areas = c.as_slice-areas.ensures ∙ ap (λ (x : Config). x.areas) c.config.ensures.value in
     let mid = c.follow_range.new.active in
     let mid_are : AreRangesOf s.config.areas old.intra.entries mid = subst (λ (areas : List AreaConfig). AreRangesOf areas old.intra.entries mid) listed c.in_ok-within.ensures.kept in
-    let pushed : c.push_networks.new.dests.items ≡ dests ++ map Net c.in_ok-ranges.ranges.items = c.in_ok-push_networks.ensures ∙ ap (λ (ps : List Prefix). dests ++ map Net ps) c.deref-3.ensures.value in
+    let pushed : c.add_networks.new.dests.items ≡ dests ++ map Net c.in_ok-ranges.ranges.items = c.in_ok-add_networks.ensures ∙ ap (λ (ps : List Prefix). dests ++ map Net ps) c.deref-3.ensures.value in
     let more : c.extend_from_slice.new.self.items ≡ c.push_range.new.dests.items ++ c.in_ok-dests-2.dests.items = c.in_ok-extend_from_slice.ensures.items ∙ ap (λ (ds : List Dest). c.push_range.new.dests.items ++ ds) c.deref-4.ensures.value in
     let last : List Dest = c.in_ok-all.all.items in
     let over : c.push_routers.new.dests.items ≡ c.extend_from_slice.new.self.items ++ routers_in last = c.in_ok-push_routers.ensures ∙ ap (λ (ds : List Dest). c.extend_from_slice.new.self.items ++ routers_in ds) c.deref-5.ensures.value in
@@ -169,10 +169,10 @@ layers_kept c =
     let ranges : AreRangesOf s.config.areas intra.entries c.update.new.self = subst (λ (areas : List AreaConfig). AreRangesOf areas intra.entries c.update.new.self) listed c.in_ok-ranges.ensures.kept in
     let exact : (p : Prefix) → Contains c.in_ok-networks.networks.items p ↔ Contains c.extend_from_slice-2.new.self.items (Net p) = λ p.
     subst (λ (ds : List Dest). Contains c.in_ok-networks.networks.items p ↔ Contains ds (Net p)) c.deref-8.ensures.value (c.in_ok-networks.ensures.exact p) in
-    let routes = routes_kept b.0 s c.args.dirty.now.keys.items c.args.dirty.now.interfaces.items c.args.range b.3 b.5 old b.2 k.trees grown intra kept dests c.in_ok-dests.ensures.exact mid mid_are c.update.new.self c.in_ok-ranges.ranges.items c.in_ok-ranges.ensures.exact c.push_networks.new.dests.items c.push_range.new.dests.items pushed c.in_ok-push_range.ensures c.follow_inter.new.inter c.in_ok-dests-2.dests.items c.in_ok-dests-2.ensures.exact c.extend_from_slice.new.self.items more c.follow_external.new.external last c.in_ok-all.ensures.exact c.push_routers.new.dests.items over within c.push_members.new.dests.items told c.in_ok-within.ensures.all ranges in
-    let named = range_named b.0 s c.args.dirty.now.keys.items c.args.dirty.now.interfaces.items c.args.range b.3 b.5 old b.2 k.trees grown intra kept dests c.in_ok-dests.ensures.exact mid mid_are c.update.new.self c.in_ok-ranges.ranges.items c.in_ok-ranges.ensures.exact c.push_networks.new.dests.items c.push_range.new.dests.items pushed c.in_ok-push_range.ensures c.follow_inter.new.inter c.in_ok-dests-2.dests.items c.in_ok-dests-2.ensures.exact c.extend_from_slice.new.self.items more c.follow_external.new.external last c.in_ok-all.ensures.exact c.push_routers.new.dests.items over within c.push_members.new.dests.items told c.in_ok-within.ensures.all in
+    let routes = routes_kept b.0 s c.args.dirty.now.keys.items c.args.dirty.now.interfaces.items c.args.range b.3 b.5 old b.2 k.trees grown intra kept dests c.in_ok-dests.ensures.exact mid mid_are c.update.new.self c.in_ok-ranges.ranges.items c.in_ok-ranges.ensures.exact c.add_networks.new.dests.items c.push_range.new.dests.items pushed c.in_ok-push_range.ensures c.follow_inter.new.inter c.in_ok-dests-2.dests.items c.in_ok-dests-2.ensures.exact c.extend_from_slice.new.self.items more c.follow_external.new.external last c.in_ok-all.ensures.exact c.push_routers.new.dests.items over within c.push_members.new.dests.items told c.in_ok-within.ensures.all ranges in
+    let named = range_named b.0 s c.args.dirty.now.keys.items c.args.dirty.now.interfaces.items c.args.range b.3 b.5 old b.2 k.trees grown intra kept dests c.in_ok-dests.ensures.exact mid mid_are c.update.new.self c.in_ok-ranges.ranges.items c.in_ok-ranges.ensures.exact c.add_networks.new.dests.items c.push_range.new.dests.items pushed c.in_ok-push_range.ensures c.follow_inter.new.inter c.in_ok-dests-2.dests.items c.in_ok-dests-2.ensures.exact c.extend_from_slice.new.self.items more c.follow_external.new.external last c.in_ok-all.ensures.exact c.push_routers.new.dests.items over within c.push_members.new.dests.items told c.in_ok-within.ensures.all in
     subst (λ (v : CalculationValue). AreItemsKept c.in_ok-networks.networks.items v (now c) × RoutesDifferAmong c.push_members.new.dests.items v (now c) × IsRangeNamed c.args.range c.push_members.new.dests.items v.intra.entries) c.self.view_is (
-      items_kept b.0 s c.args.dirty.now.keys.items c.args.dirty.now.interfaces.items c.args.range b.3 b.5 old b.2 k.trees grown intra kept dests c.in_ok-dests.ensures.exact mid mid_are c.update.new.self c.in_ok-ranges.ranges.items c.in_ok-ranges.ensures.exact c.push_networks.new.dests.items c.push_range.new.dests.items pushed c.in_ok-push_range.ensures c.follow_inter.new.inter c.in_ok-dests-2.dests.items c.in_ok-dests-2.ensures.exact c.extend_from_slice.new.self.items more c.follow_external.new.external last c.in_ok-all.ensures.exact c.push_routers.new.dests.items over c.extend_from_slice-2.new.self.items all c.in_ok-networks.networks.items exact,
+      items_kept b.0 s c.args.dirty.now.keys.items c.args.dirty.now.interfaces.items c.args.range b.3 b.5 old b.2 k.trees grown intra kept dests c.in_ok-dests.ensures.exact mid mid_are c.update.new.self c.in_ok-ranges.ranges.items c.in_ok-ranges.ensures.exact c.add_networks.new.dests.items c.push_range.new.dests.items pushed c.in_ok-push_range.ensures c.follow_inter.new.inter c.in_ok-dests-2.dests.items c.in_ok-dests-2.ensures.exact c.extend_from_slice.new.self.items more c.follow_external.new.external last c.in_ok-all.ensures.exact c.push_routers.new.dests.items over c.extend_from_slice-2.new.self.items all c.in_ok-networks.networks.items exact,
       record { intra = routes.intra; members = routes.members; inter = routes.inter; preferred = routes.preferred },
       named,
     )

@@ -1,23 +1,60 @@
--- All that was due was chosen anew, and all that differs led on.
-use Rattle.std.proofs.Common.{◌≡◌, ◌++◌, ℕ, List, map, sym, ap, subst, ◌∙◌}
+-- What is not due stands; then all results are chosen, and what differs is told.
+use Rattle.std.proofs.Common.{◌≡◌, ◌++◌, ℕ, List, map, inl, inr, sym, subst, ◌∙◌}
 use Rattle.std.specs.Prelude.{◌↔◌}
-use Rattle.std.specs.FinMap.{from_entries}
+use Rattle.std.specs.FinMap.{from_entries, get}
 use Rattle.std.specs.List.{Contains}
 use Rattle.std.specs.List.Sorted.{IsStrictlySortedBy}
 use Rattle.ospf_types.specs.declared.key.Dest.{Dest}
-use Rattle.ospf_types.specs.declared.key.Dest.TheVariants.{Router}
+use Rattle.ospf_types.specs.declared.key.Dest.TheVariants.{Net, Router}
+use Rattle.ospf_types.specs.declared.prefix.Prefix.{Prefix}
 use Rattle.ospf_types.specs.Keys.{dest_cmp}
-use Rattle.intra.specs.Intras.{EntriesByPrefix}
-use Rattle.offer_index.specs.declared.lsa_group.LsaGroup.TheVariants.{By, Forwarded}
 use Rattle.offer_index.specs.Indexes.{ChangedOffersValue}
+use Rattle.result_map.specs.Lists.{GainsAll, HasMore, IsOfSome}
+use Rattle.result_map.proofs.Among.{dests_sorted}
 use Rattle.external.specs.Changes.{DiffersAt}
 use Rattle.external.specs.Externals.{ExternalValue}
-use Rattle.external.specs.Forwards.{ForwardsByAddress}
-use Rattle.external.specs.Preferred.{PreferredByRouter}
-use Rattle.external.specs.Updating.{AreEntriesUpdated, AreLed, StandsBut}
+use Rattle.external.specs.Updating.{IsAlso, IsLedBy, IsLedByAddress, StandsBut}
 use Rattle.external.specs.contracts.external.External.{the_view}
-use Rattle.external.proofs.Updating.{updated, exactly}
+use Rattle.external.proofs.Updating.{entry_stands, entry_listed, exactly}
 use Rattle.external.proofs.external.External.update_results.Goals as goal
+
+pub follow-requires : goal.follow-requires
+follow-requires c = λ r absent.
+    let v = c.args.inputs.now in
+    let dests = c.args.dests.now in
+    let affected : ChangedOffersValue = record { dests = c.affected.inside.dests.items; addresses = c.affected.inside.addresses.items } in
+    let old : ExternalValue = the_view c.self.inside in
+    let stands : StandsBut v dests affected old = subst (λ (w : ExternalValue). StandsBut v dests affected w) (sym c.self.view_is) (subst (λ (a : ChangedOffersValue). StandsBut v dests a c.args.self.now) (sym c.affected.view_is) c.requires) in
+    stands.preferred r (λ there. absent ((c.in_ok-named_routers.ensures r).1 there))
+
+pub update_forwards-requires : goal.update_forwards-requires
+update_forwards-requires c = λ a not_due.
+    let v = c.args.inputs.now in
+    let dests = c.args.dests.now in
+    let affected : ChangedOffersValue = record { dests = c.affected.inside.dests.items; addresses = c.affected.inside.addresses.items } in
+    let old : ExternalValue = the_view c.self.inside in
+    let stands : StandsBut v dests affected old = subst (λ (w : ExternalValue). StandsBut v dests affected w) (sym c.self.view_is) (subst (λ (a : ChangedOffersValue). StandsBut v dests a c.args.self.now) (sym c.affected.view_is) c.requires) in
+    stands.forwards a (λ due. not_due (elim due [
+      | inl there ↦ inl there
+      | inr w ↦ inr (w.0, subst (λ (ps : List Prefix). Contains ps w.0) (sym c.deref.ensures.value) ((c.in_ok-named_networks.ensures w.0).1 w.1), w.2)
+    ]))
+
+pub follow-requires-2 : goal.follow-requires-2
+follow-requires-2 c = λ p absent.
+    let v = c.args.inputs.now in
+    let dests = c.args.dests.now in
+    let affected : ChangedOffersValue = record { dests = c.affected.inside.dests.items; addresses = c.affected.inside.addresses.items } in
+    let old : ExternalValue = the_view c.self.inside in
+    let stands : StandsBut v dests affected old = subst (λ (w : ExternalValue). StandsBut v dests affected w) (sym c.self.view_is) (subst (λ (a : ChangedOffersValue). StandsBut v dests a c.args.self.now) (sym c.affected.view_is) c.requires) in
+    let by_routers = c.list_dests_by_routers.new.dests.items in
+    let led = c.list_dests_by_addresses.new.dests.items in
+    let leading = c.list_networks_led_to.new.leading.items in
+    let first = subst (λ (ns : List ℕ). HasMore (IsOfSome ns (IsLedBy old.index)) affected.dests by_routers) c.deref-2.ensures.value c.in_ok-list_dests_by_routers.ensures in
+    let second = subst (λ (ns : List ℕ). HasMore (IsOfSome ns (IsLedByAddress old.index)) by_routers led) c.deref-3.ensures.value c.in_ok-list_dests_by_addresses.ensures in
+    let third = subst (λ (ps : List Prefix). GainsAll (IsOfSome ps (IsAlso old.index)) led leading) c.deref-4.ensures.value c.in_ok-list_networks_led_to.ensures in
+    entry_stands v dests affected old (from_entries c.follow.new.self.entries) (from_entries c.update_forwards.new.forwards.entries) c.in_ok-routers.routers.items c.in_ok-moved.moved.items c.in_ok-named_networks.named_networks.items
+    by_routers led leading stands c.in_ok-routers.ensures.exact c.in_ok-moved.ensures.exact c.in_ok-named_networks.ensures first second third p
+    (λ there. absent ((c.in_ok-due.ensures p).1 (subst (λ (ds : List Dest). Contains ds (Net p)) (sym c.deref-5.ensures.value) there)))
 
 pub returns : goal.returns
 returns c =
@@ -25,26 +62,21 @@ returns c =
     let dests = c.args.dests.now in
     let affected : ChangedOffersValue = record { dests = c.affected.inside.dests.items; addresses = c.affected.inside.addresses.items } in
     let old : ExternalValue = the_view c.self.inside in
-    let preferred : PreferredByRouter = from_entries c.update_preferred.new.preferred.entries in
-    let forwards : ForwardsByAddress = from_entries c.update_forwards.new.forwards.entries in
-    let entries : EntriesByPrefix = from_entries c.update_entries.new.entries.entries in
-    let routers = c.in_ok-routers.routers.items in
-    let moved = c.in_ok-moved.moved.items in
-    let by_routers = c.list_dests_by_routers.new.dests.items in
-    let led = c.list_dests_by_addresses.new.dests.items in
-    let named = c.in_ok-named.named.items in
     let stands : StandsBut v dests affected old = subst (λ (w : ExternalValue). StandsBut v dests affected w) (sym c.self.view_is) (subst (λ (a : ChangedOffersValue). StandsBut v dests a c.args.self.now) (sym c.affected.view_is) c.requires) in
-    let first = subst (λ (ns : List ℕ). AreLed old.index By ns affected.dests by_routers) c.as_slice.ensures.value c.in_ok-list_dests_by_routers.ensures in
-    let second = subst (λ (ns : List ℕ). AreLed old.index Forwarded ns by_routers led) c.as_slice-2.ensures.value c.in_ok-list_dests_by_addresses.ensures in
-    let leading = c.list_networks_led_to.new.leading.items in
-    let third = c.in_ok-list_networks_led_to.ensures in
-    let chosen = subst (λ (ds : List Dest). AreEntriesUpdated v old.index preferred forwards ds old.entries entries) c.as_slice-3.ensures.value c.in_ok-named.ensures.updated in
-    let all : c.add_routers.new.dests.items ≡ named ++ map Router routers = c.in_ok-add_routers.ensures ∙ ap (λ (rs : List ℕ). named ++ map Router rs) c.as_slice-4.ensures.value in
+    let new : ExternalValue = the_view (record c.self.inside { preferred = c.follow.new.self; forwards = c.update_forwards.new.forwards; entries = c.follow-2.new.self }) in
+    let routers = c.in_ok-routers.routers.items in
+    let networks = c.in_ok-networks.networks.items in
+    let all : c.in_ok-others.others.items ≡ map Net networks ++ map Router routers = c.in_ok-others.ensures ∙ (λ i. map Net (c.deref-6.ensures.value i) ++ map Router (c.deref-7.ensures.value i)) in
     record {
-      kept = updated v dests affected old preferred forwards entries routers moved by_routers led leading stands c.in_ok-routers.ensures.updated c.in_ok-routers.ensures.exact c.in_ok-moved.ensures.updated c.in_ok-moved.ensures.exact first second third chosen;
-      in_order = subst (IsStrictlySortedBy dest_cmp) (sym all) (c.in_ok-named.ensures.in_order routers c.in_ok-routers.ensures.in_order);
+      kept = record {
+        fresh = stands.fresh;
+        index = stands.index;
+        preferred = c.in_ok-routers.ensures.chosen;
+        forwards = c.in_ok-moved.ensures.chosen;
+        entries = λ p. entry_listed v old.index stands.index new.preferred new.forwards p (get new.entries p) (c.in_ok-networks.ensures.chosen p);
+      };
+      in_order = subst (IsStrictlySortedBy dest_cmp) (sym all) (dests_sorted networks routers c.in_ok-networks.ensures.in_order c.in_ok-routers.ensures.in_order);
       exact = λ d.
-          let is = exactly v dests affected old preferred forwards entries routers moved by_routers led leading stands c.in_ok-routers.ensures.updated c.in_ok-routers.ensures.exact c.in_ok-moved.ensures.updated c.in_ok-moved.ensures.exact first second third chosen named c.in_ok-named.ensures.exact d in
-          subst (λ (ds : List Dest). Contains ds d ↔ DiffersAt c.args.self.now (the_view (record c.self.inside { preferred = c.update_preferred.new.preferred; forwards = c.update_forwards.new.forwards; entries = c.update_entries.new.entries })) d) (sym all)
-          (subst (λ (w : ExternalValue). Contains (named ++ map Router routers) d ↔ DiffersAt w (the_view (record c.self.inside { preferred = c.update_preferred.new.preferred; forwards = c.update_forwards.new.forwards; entries = c.update_entries.new.entries })) d) c.self.view_is is);
+          subst (λ (ds : List Dest). Contains ds d ↔ DiffersAt c.args.self.now new d) (sym all)
+          (subst (λ (w : ExternalValue). Contains (map Net networks ++ map Router routers) d ↔ DiffersAt w new d) c.self.view_is (exactly old new networks routers c.in_ok-networks.ensures.exact c.in_ok-routers.ensures.exact d));
     }

@@ -1,15 +1,26 @@
--- Sorted, each once.
-use Rattle.std.specs.Cmp.{nat_cmp_total}
-use Rattle.std.proofs.lemmas.Map.Lookups.{exact_unsigned}
-use Rattle.ospf_types.proofs.KeyOrders.{numbers_order}
-use Rattle.intra.proofs.SortedOnce.{strictly, same_items}
+-- One network more.
+use Rattle.std.proofs.Common.{true≢false, sym, ◌∙◌, inl, inr}
+use Rattle.result_map.proofs.Adding.{gains_first, gains_next, gains_all}
+use Rattle.external.specs.Forwards.{forwards_in}
+use Rattle.external.specs.Updating.{IsDueInNetwork}
 use Rattle.external.proofs.update.AddressMatches.list_due.Goals as goal
 
-pub returns-clause-in_order : goal.returns-clause-in_order
-returns-clause-in_order c =
-    strictly nat_cmp_total exact_unsigned numbers_order c.list_due_in_dests.new.due.items c.sort_unstable.new.self.items c.dedup.new.self.items c.sort_unstable.ensures.permutation c.sort_unstable.ensures.sorted c.dedup.ensures.filtered
+pub loop-network-init : goal.loop-network-init
+loop-network-init c = gains_first (IsDueInNetwork c.args.self.now.index.now (forwards_in c.args.self.now.forwards.now)) c.args.addresses.items
 
-pub returns-clause-all : goal.returns-clause-all
-returns-clause-all c = λ a due.
-    let same = same_items nat_cmp_total exact_unsigned numbers_order c.list_due_in_dests.new.due.items c.sort_unstable.new.self.items c.dedup.new.self.items c.sort_unstable.ensures.permutation c.sort_unstable.ensures.sorted c.dedup.ensures.filtered in
-    (same a).1 (c.in_ok-list_due_in_dests.ensures a due)
+pub loop-network-preserved : goal.loop-network-preserved
+loop-network-preserved c =
+    gains_next (IsDueInNetwork c.args.self.now.index.now (forwards_in c.args.self.now.forwards.now)) c.args.networks.now c.loop-network.network-index c.network-item.result c.args.addresses.items c.loop-network.due.items c.list_due_in.new.due.items
+    c.loop-network-test.true c.network-item.is c.loop-network.invariant c.in_ok-list_due_in.ensures
+
+pub returns : goal.returns
+returns c = λ a due.
+    gains_all (IsDueInNetwork c.args.self.now.index.now (forwards_in c.args.self.now.forwards.now)) c.args.networks.now c.loop-network.network-index c.args.addresses.items c.loop-network.due.items c.loop-network-test.false c.loop-network.invariant a
+    (elim due [ inl there ↦ inl there | inr w ↦ inr (w.0, w.1, w.2) ])
+
+-- where there is no forwarding address, none lies in a network
+pub returns-then-not-has_addresses : goal.returns-then-not-has_addresses
+returns-then-not-has_addresses c = λ a due. elim due [
+  | inl there ↦ there
+  | inr w ↦ absurd (true≢false (sym (c.has_addresses.ensures.1 (a, w.2.0.0)) ∙ c.if-not-has_addresses.true))
+]

@@ -1,21 +1,29 @@
--- The router is as it is to be, or it is put so and named.
-use Rattle.std.proofs.Common.{ℕ, Option, true≢false, ap, sym, ◌∙◌}
+-- The router is told, or the same is kept of it as before.
+use Rattle.std.proofs.Common.{ℕ, Option, ap, inl, inr, refl, sym, ◌∙◌}
+use Rattle.std.specs.FinMap.{get}
 use Rattle.ospf_types.specs.declared.entry.Vertex.TheVariants.{Router}
 use Rattle.intra.specs.Inputs.{distance_at, hops_at}
+use Rattle.intra.specs.Intras.{AreaIntraValue}
 use Rattle.intra.specs.Reached.{reached_by}
-use Rattle.intra.proofs.Following.{updated_same, updated_one}
+use Rattle.intra.proofs.Following.{updated_one}
 use Rattle.intra.proofs.area.AreaIntra.update_router.Goals as goal
 
-pub returns-then-are_same : goal.returns-then-are_same
-returns-then-are_same c =
-    let by = λ (flags : Option ℕ). reached_by c.args.rooted.now.root c.args.router flags (distance_at c.args.rooted.now.area.now (Router c.args.router)) (hops_at c.args.rooted.now.area.now (Router c.args.router)) in
-    updated_same c.args.rooted.now.root c.args.rooted.now.area.now c.args.router c.args.self.now c.args.routers.now.items
-    (sym c.router.ensures ∙ c.are_same.ensures.0 c.if-are_same.true ∙ c.as_ref.ensures.value ∙ c.in_ok-fresh.ensures ∙ ap by c.requires)
+pub returns-then-not-branch : goal.returns-then-not-branch
+returns-then-not-branch c =
+    let a = c.args.rooted.now.area.now in
+    let router = c.args.router in
+    let by = λ (flags : Option ℕ). reached_by c.args.rooted.now.root router flags (distance_at a (Router router)) (hops_at a (Router router)) in
+    let was = λ (r : ℕ). ap (λ (w : AreaIntraValue). get w.reached r) c.self.view_is in
+    let put = c.in_ok-update.ensures in
+    updated_one c.args.rooted.now.root a router c.args.self.now _ c.args.routers.now.items c.args.routers.now.items (ap (λ (w : AreaIntraValue). w.id) c.self.view_is) (ap (λ (w : AreaIntraValue). w.index) c.self.view_is)
+    (put.here ∙ c.in_ok-fresh.ensures ∙ ap by c.requires) (λ r other. put.others r other ∙ was r) (inl (refl, put.stays c.if-not-branch.true ∙ was router))
 
 pub returns : goal.returns
 returns c =
-    let by = λ (flags : Option ℕ). reached_by c.args.rooted.now.root c.args.router flags (distance_at c.args.rooted.now.area.now (Router c.args.router)) (hops_at c.args.rooted.now.area.now (Router c.args.router)) in
-    let put = c.in_ok-put.ensures in
-    let is = c.in_ok-fresh.ensures ∙ ap by c.requires in
-    updated_one c.args.rooted.now.root c.args.rooted.now.area.now c.args.router c.args.self.now c.put.new.self c.args.routers.now.items c.push.new.self.items put.id put.index (put.here ∙ is) put.others
-    (λ same. true≢false (sym (c.are_same.ensures.1 (c.router.ensures ∙ same ∙ sym is ∙ sym c.as_ref.ensures.value)) ∙ c.if-are_same.false)) c.in_ok-push.ensures.items
+    let a = c.args.rooted.now.area.now in
+    let router = c.args.router in
+    let by = λ (flags : Option ℕ). reached_by c.args.rooted.now.root router flags (distance_at a (Router router)) (hops_at a (Router router)) in
+    let was = λ (r : ℕ). ap (λ (w : AreaIntraValue). get w.reached r) c.self.view_is in
+    let put = c.in_ok-update.ensures in
+    updated_one c.args.rooted.now.root a router c.args.self.now _ c.args.routers.now.items c.push.new.self.items (ap (λ (w : AreaIntraValue). w.id) c.self.view_is) (ap (λ (w : AreaIntraValue). w.index) c.self.view_is)
+    (put.here ∙ c.in_ok-fresh.ensures ∙ ap by c.requires) (λ r other. put.others r other ∙ was r) (inr (c.in_ok-push.ensures.items, λ same. put.differs.0 c.if-not-branch.false (was router ∙ sym same)))

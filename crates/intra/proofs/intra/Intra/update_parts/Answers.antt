@@ -4,13 +4,12 @@ use Rattle.std.specs.Prelude.{◌↔◌}
 use Rattle.std.specs.List.{Contains}
 use Rattle.std.specs.List.Sorted.{IsStrictlySortedBy}
 use Rattle.ospf_types.specs.declared.key.Dest.{Dest}
-use Rattle.ospf_types.specs.declared.key.Dest.TheVariants.{Net, Router}
-use Rattle.ospf_types.specs.declared.prefix.Prefix.{Prefix}
+use Rattle.ospf_types.specs.declared.key.Dest.TheVariants.{Router}
 use Rattle.intra.specs.Changes.{DiffersAt}
 use Rattle.ospf_types.specs.Keys.{dest_cmp}
 use Rattle.intra.specs.Intras.{AreAreaIntras, IntraValue, IsIntraOf}
 use Rattle.intra.proofs.Updating.{updated, exactly, are_before, anew_from}
-use Rattle.intra.proofs.ChosenAnew.{dests_sorted}
+use Rattle.result_map.proofs.Among.{dests_sorted}
 use Rattle.intra.proofs.intra.Intra.update_parts.Goals as goal
 
 pub follow-requires-clause-before : goal.follow-requires-clause-before
@@ -34,12 +33,10 @@ returns-clause-kept c =
 
 pub returns-clause-in_order : goal.returns-clause-in_order
 returns-clause-in_order c =
-    let prefixes = c.in_ok-named.named.prefixes.items in
     let routers = c.in_ok-named.named.routers.items in
-    let all = c.in_ok-add_routers.ensures ∙ ap (λ (rs : List ℕ). c.update_entries.new.dests.items ++ map Router rs) c.as_slice-2.ensures.value in
-    let sorted = dests_sorted prefixes routers c.in_ok-named.ensures.prefixes_in_order c.in_ok-named.ensures.routers_in_order in
-    subst (IsStrictlySortedBy dest_cmp) (sym all)
-    (c.in_ok-update_entries.ensures.in_order (map Router routers) (subst (λ (ps : List Prefix). IsStrictlySortedBy dest_cmp (map Net ps ++ map Router routers)) (sym c.as_slice.ensures.value) sorted))
+    let anew = c.in_ok-update_entries.ensures.entries in
+    let all = c.in_ok-add_routers.ensures ∙ (λ i. anew.told_as i ++ map Router (c.as_slice-2.ensures.value i)) in
+    subst (IsStrictlySortedBy dest_cmp) (sym all) (dests_sorted anew.differing routers anew.in_order c.in_ok-named.ensures.routers_in_order)
 
 pub returns-clause-exact : goal.returns-clause-exact
 returns-clause-exact c = λ d.

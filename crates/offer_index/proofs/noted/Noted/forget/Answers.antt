@@ -3,7 +3,7 @@ use Rattle.std.specs.Ordering.{eq_by_cmp, nat_cmp}
 use Rattle.offer_index.specs.declared.lsa_group.LsaGroup.TheVariants.{To, Forwarded}
 use Rattle.offer_index.specs.declared.noted.Noted.{Noted}
 use Rattle.offer_index.specs.Noted.{IsNoted}
-use Rattle.offer_index.proofs.DestOrder.{dests_equal}
+use Rattle.result_map.proofs.DestOrder.{dests_equal}
 use Rattle.offer_index.proofs.NotedGroups.{kept_each, left_each}
 use Rattle.offer_index.proofs.Sets.{dests_exact, dests_laws, numbers_exact, numbers_laws, taken_gone, taken_only, taken_kept}
 use Rattle.offer_index.proofs.noted.Noted.forget.Goals as goal

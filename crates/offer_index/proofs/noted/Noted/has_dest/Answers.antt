@@ -1,6 +1,6 @@
 use Rattle.std.proofs.Common.{◌≡◌, true, false, sym, subst}
 use Rattle.std.specs.Prelude.{◌↔◌, IsTrue, Contains}
-use Rattle.offer_index.proofs.DestOrder.{dests_equal}
+use Rattle.result_map.proofs.DestOrder.{dests_equal}
 use Rattle.offer_index.proofs.NotedGroups.{none_in}
 use Rattle.offer_index.proofs.Sets.{dests_exact, dests_laws, found}
 use Rattle.offer_index.proofs.noted.Noted.has_dest.Goals as goal
