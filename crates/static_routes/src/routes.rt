@@ -1,0 +1,139 @@
+ghost use Rattle.std.specs.Prelude.{◌≡◌, IfOk, OnOk, true, false, map as list_map, option_copied};
+ghost use Rattle.std.specs.List.Sorted.{IsStrictlySortedBy};
+ghost use Rattle.ospf_types.specs.Network.{network_cmp};
+ghost use Rattle.result_map.specs.Chosen.{HasOther};
+ghost use Rattle.result_map.specs.Lists.{HasJust};
+ghost use Rattle.result_map.specs.Results.{result_at};
+ghost use Rattle.static_routes.specs.Routes.{AreRoutesOf, AreRoutesButAt, IsConfigured, IsLeast, IsLesser};
+
+use ospf_types::memory::Memory;
+use ospf_types::prefix::Prefix;
+use result_map::{Choose, ResultMap};
+use std::alloc::Global;
+use std::hash::RandomState;
+use std::marker::Model;
+
+/// What static routes are chosen from.
+#[derive(Drop)]
+pub struct StaticInputs<'a> {
+    /// The static routes, each a network with a metric.
+    pub configured: &'a [(Prefix, u32)],
+    /// The networks to which another route stands: it is preferred.
+    pub taken: &'a [Prefix],
+}
+
+impl<'a> Choose<Prefix, u32> for StaticInputs<'a> {
+    ghost use Rattle.static_routes.specs.Routes.{IsRouteOf};
+
+    ghost IsChosen = { λ inputs network metric. IsRouteOf inputs.configured.now inputs.taken.now network metric };
+
+    fn choose(&self, _alloc: Global, key: Prefix) -> Result<Option<u32>, Memory> {
+        if self.taken.contains(&key) {
+            return Ok(None);
+        }
+        Ok(least_of(self.configured, key))
+    }
+}
+
+/// The metric of each network that has a static route.
+pub struct StaticRoutes {
+    routes: ResultMap<Prefix, u32>,
+}
+
+// proof: one call drops it, in place of a drop of each part wherever one is held.
+impl Drop for StaticRoutes {
+    fn drop(self) {
+        let StaticRoutes { routes: _routes } = self;
+    }
+}
+
+impl Model for StaticRoutes {
+    ghost use Rattle.std.specs.Prelude.{ℕ};
+    ghost use Rattle.std.specs.Coded.{coded_ℕ};
+    ghost use Rattle.ospf_types.specs.declared.prefix.Prefix.{Prefix as PrefixValue};
+    ghost use Rattle.ospf_types.specs.Network.{network_code};
+    ghost use Rattle.result_map.specs.Results.{Results, results_code};
+
+    ghost Value = { Results PrefixValue ℕ };
+
+    ghost coded = { results_code network_code coded_ℕ };
+
+    ghost view = { λ r. r.routes };
+}
+
+impl StaticRoutes {
+    /// The routes of these inputs, from scratch.
+    pub fn build(
+        alloc: Global,
+        inputs: &StaticInputs<'_>,
+        hashing: RandomState,
+    ) -> Result<StaticRoutes, Memory>
+        ensures { IfOk result (AreRoutesOf inputs.now.configured.now inputs.now.taken.now) }
+    {
+        let mut routes = StaticRoutes {
+            routes: ResultMap::new(alloc, hashing),
+        };
+        let networks = networks_in(alloc, inputs.configured)?;
+        routes.update(alloc, inputs, networks)?;
+        Ok(routes)
+    }
+
+    /// Follows the inputs, where no network but these has another route by them. The answer is the networks that do, ascending,
+    /// each once. If memory runs out, some routes follow and others do not.
+    pub fn update(
+        &mut self,
+        alloc: Global,
+        inputs: &StaticInputs<'_>,
+        networks: Vec<Prefix>,
+    ) -> Result<Vec<Prefix>, Memory>
+        requires { AreRoutesButAt inputs.now.configured.now inputs.now.taken.now
+            networks.items self.old }
+        ensures kept { OnOk result
+            (AreRoutesOf inputs.now.configured.now inputs.now.taken.now self.new) }
+        ensures in_order { IfOk result (λ others. IsStrictlySortedBy network_cmp others.items) }
+        ensures exact { IfOk result (λ others. HasJust
+            (HasOther (result_at network_cmp self.old) (result_at network_cmp self.new))
+            others.items) }
+    {
+        let others = self.routes.follow(alloc, networks, inputs)?;
+        Ok(others)
+    }
+
+    /// The metric of the network's static route; none where it has none, or another route stands.
+    pub fn get(&self, network: Prefix) -> Option<&u32>
+        ensures { option_copied result ≡ result_at network_cmp self.now network }
+    {
+        self.routes.get(network)
+    }
+}
+
+// The networks of the routes.
+fn networks_in(alloc: Global, configured: &[(Prefix, u32)]) -> Result<Vec<Prefix>, Memory>
+    ensures { IfOk result (λ networks. networks.items ≡ list_map (λ x. x.0) configured.now) }
+{
+    let networks = configured.iter().map(|route| route.0).collect(alloc)?;
+    Ok(networks)
+}
+
+// The least metric that is configured for the network.
+fn least_of(configured: &[(Prefix, u32)], network: Prefix) -> Option<u32>
+    ensures { IsLeast (IsConfigured configured.now network) result }
+{
+    let mut least = None;
+    for (other, metric) in configured {
+        least = least_with(least, *other == network, *metric);
+    }
+    least
+}
+
+// The least metric, with this one too where it is one of the network's.
+fn least_with(least: Option<u32>, is_its: bool, metric: u32) -> Option<u32>
+    ensures other { is_its ≡ false → result ≡ least }
+    ensures its { is_its ≡ true → IsLesser least metric result }
+{
+    match least {
+        _ if !is_its => least,
+        Some(least) if least <= metric => Some(least),
+        _ => Some(metric),
+    }
+}
