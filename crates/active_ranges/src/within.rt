@@ -34,7 +34,7 @@ pub(crate) fn costs_within(
             area,
             network: *network,
         };
-        push_within(entry, member, &mut costs)?;
+        push_within(entry.entry(), member, &mut costs)?;
     }
     // What is made of members in their order costs less.
     costs.sort_unstable_by_key(|(member, _)| member.network);

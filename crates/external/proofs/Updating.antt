@@ -67,9 +67,9 @@ module _ (v : ExternalInputsValue) (i : OfferIndexValue) (index : IsIndexOf v.ro
   entry_advertised e is = entry_same (OffersOf v preferred forwards p) (OffersBy v preferred forwards (IsListed i) p) (λ preference path. let both = same_offers preference path in (both.1, both.0)) e is
 
 module _ (v : ExternalInputsValue) (dests : List Dest) (affected : ChangedOffersValue) (old : ExternalValue) (preferred : PreferredByRouter) (forwards : ForwardsByAddress)
-    (routers moved : List ℕ) (named : List Prefix) (by_routers led leading : List Dest) (stands : StandsBut v dests affected old)
-    (changed : (r : ℕ) → Contains routers r ↔ (get preferred r ≢ get old.preferred r)) (elsewhere : (a : ℕ) → Contains moved a ↔ (get forwards a ≢ get old.forwards a)) (are_named : (p : Prefix) → Contains named p ↔ Contains dests (Net p))
-    (first : HasMore (IsOfSome routers (IsLedBy old.index)) affected.dests by_routers) (second : HasMore (IsOfSome moved (IsLedByAddress old.index)) by_routers led) (third : GainsAll (IsOfSome named (IsAlso old.index)) led leading)
+    (routers moved : List ℕ) (by_routers led leading : List Dest) (stands : StandsBut v dests affected old)
+    (changed : (r : ℕ) → Contains routers r ↔ (get preferred r ≢ get old.preferred r)) (elsewhere : (a : ℕ) → Contains moved a ↔ (get forwards a ≢ get old.forwards a))
+    (first : HasMore (IsOfSome routers (IsLedBy old.index)) affected.dests by_routers) (second : HasMore (IsOfSome moved (IsLedByAddress old.index)) by_routers led) (third : GainsAll (IsOfSome dests (IsAlso old.index)) led leading)
     (p : Prefix) (absent : Contains leading (Net p) → ⊥) where
   not_led : Contains led (Net p) → ⊥
   not_led c = absent (third (Net p) (inl c))
@@ -99,7 +99,7 @@ module _ (v : ExternalInputsValue) (dests : List Dest) (affected : ChangedOffers
   -- so its entry stands
   pub entry_stands : IsEntryBy v old.index preferred forwards p (get old.entries p)
   entry_stands =
-      let was = stands.entries p (λ c. not_by_routers ((first (Net p)).1 (inl c))) (λ c leads. absent (third (Net p) (inr (p, (are_named p).1 c, (refl, leads))))) in
+      let was = stands.entries p (λ c. not_by_routers ((first (Net p)).1 (inl c))) (λ c leads. absent (third (Net p) (inr (Net p, c, (refl, leads))))) in
       entry_advertised v old.index stands.index preferred forwards p (get old.entries p) (entry_same (OffersOf v old.preferred old.forwards p) (OffersOf v preferred forwards p) offered_alike (get old.entries p) was)
 
 -- just the destinations are told whose result differs

@@ -34,6 +34,11 @@ IsNoShorter (Some f) p = IsNoShorterThan f.matched p
 abbrev pub IsDueInNetwork : OfferIndexValue → ForwardsByAddress → Prefix → ℕ → Type 0
 IsDueInNetwork i forwards p address = IsForwardedInto i p address × IsNoShorter (get forwards address) p
 
+-- the address lies in the network that the destination is, which is no shorter than its match
+abbrev pub IsDueInDest : OfferIndexValue → ForwardsByAddress → Dest → ℕ → Type 0
+IsDueInDest i forwards (Net p) address = IsDueInNetwork i forwards p address
+IsDueInDest i forwards (Router r) address = ⊥
+
 -- this address, where the network is no shorter than its match
 abbrev pub IsDueAt : ForwardsByAddress → Prefix → ℕ → ℕ → Type 0
 IsDueAt forwards p at address = (address ≡ at) × IsNoShorter (get forwards address) p
@@ -66,9 +71,9 @@ IsLedBy i router d = GroupLeadsTo i (By router) d
 abbrev pub IsLedByAddress : OfferIndexValue → ℕ → Dest → Type 0
 IsLedByAddress i address d = GroupLeadsTo i (Forwarded address) d
 
--- this network, where something leads to it
-abbrev pub IsAlso : OfferIndexValue → Prefix → Dest → Type 0
-IsAlso i p d = (d ≡ Net p) × IsLedTo i d
+-- this one, where something leads to it
+abbrev pub IsAlso : OfferIndexValue → Dest → Dest → Type 0
+IsAlso i also d = (d ≡ also) × IsLedTo i d
 
 -- ---- the whole
 

@@ -112,7 +112,12 @@ impl<'a> Choose<Prefix, Entry> for Choosing<'a> {
 
     ghost IsChosen = { λ by network fresh. IsEntryBy by.inputs.now by.index.now (map.from_entries by.preferred.now.entries) (map.from_entries by.forwards.now.entries) network fresh };
 
-    fn choose(&self, alloc: Global, key: Prefix) -> Result<Option<Entry>, Memory> {
+    fn choose(
+        &self,
+        alloc: Global,
+        key: Prefix,
+        _standing: Option<&Entry>,
+    ) -> Result<Option<Entry>, Memory> {
         self.choose_entry(alloc, key)
     }
 }

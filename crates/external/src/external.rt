@@ -14,7 +14,7 @@ use crate::forward::Forward;
 use crate::inputs::ExternalInputs;
 use crate::preferred::Preferred;
 use crate::update::{
-    Forwarding, Preferring, list_dests_by_addresses, list_dests_by_routers, list_networks_led_to,
+    Forwarding, Preferring, list_dests_by_addresses, list_dests_by_routers, list_dests_led_to,
 };
 use intra::Dirty;
 use offer_index::{ChangedOffers, OfferIndex, ScopeDatabase};
@@ -240,29 +240,23 @@ impl External {
     ) -> Result<Vec<Dest>, Memory>
         requires { StandsBut inputs.now dests.now affected self.old }
         ensures kept { OnOk result (IsExternalOf inputs.now self.new) }
-        ensures in_order { IfOk result (λ named. IsStrictlySortedBy dest_cmp named.items) }
-        ensures exact { IfOk result (λ named. HasJust (DiffersAt self.old self.new) named.items) }
+        ensures in_order { IfOk result (λ others. IsStrictlySortedBy dest_cmp others.items) }
+        ensures exact { IfOk result (λ others. HasJust (DiffersAt self.old self.new) others.items) }
     {
         let ChangedOffers {
             dests: mut leading,
             addresses,
         } = affected;
         let index = &self.index;
-        let named_networks = networks_among(alloc, dests)?;
-        let named_routers = routers_among(alloc, dests)?;
         // Preferred entries first, then where forwarding addresses lead, then the networks behind what differs.
+        let named = routers_among(alloc, dests)?;
         let preferring = Preferring { inputs };
-        let routers = self.preferred.follow(alloc, named_routers, &preferring)?;
+        let routers = self.preferred.follow(alloc, named, &preferring)?;
         let forwarding = Forwarding { inputs, index };
-        let moved = forwarding.update_forwards(
-            alloc,
-            &named_networks,
-            addresses,
-            &mut self.forwards,
-        )?;
+        let moved = forwarding.update_forwards(alloc, dests, addresses, &mut self.forwards)?;
         list_dests_by_routers(index, &routers, &mut leading)?;
         list_dests_by_addresses(index, &moved, &mut leading)?;
-        list_networks_led_to(index, &named_networks, &mut leading)?;
+        list_dests_led_to(index, dests, &mut leading)?;
         let due = networks_among(alloc, &leading)?;
         let choosing = Choosing {
             inputs,

@@ -1,12 +1,13 @@
 //! What is worked out again where something may differ: preferred entries, then where forwarding addresses lead, then networks.
-ghost use Rattle.std.specs.Prelude.{◌↔◌, Contains, IfOk, OnOk, IsTrue, option_copied};
+ghost use Rattle.std.specs.Prelude.{◌↔◌, IfOk, OnOk, IsTrue, option_copied};
 ghost use Rattle.std.specs.Ordering.{nat_cmp};
 ghost use Rattle.result_map.specs.Chosen.{AreChosen, HasOther};
+ghost use Rattle.result_map.specs.Dests.{IsNetworkAmong};
 ghost use Rattle.result_map.specs.Lists.{GainsAll, HasAll, HasJust, HasMore, IsOfSome};
 ghost use Rattle.result_map.specs.Results.{result_at};
 ghost use Rattle.external.specs.Externals.{IsForwardIn};
 ghost use Rattle.external.specs.Forwards.{forwards_in};
-ghost use Rattle.external.specs.Updating.{IsAddressDue, IsAlso, IsDueAt, IsDueInNetwork, IsLedBy, IsLedByAddress, IsNoShorter, IsNoShorterThan, StandsButDue};
+ghost use Rattle.external.specs.Updating.{IsAddressDue, IsAlso, IsDueAt, IsDueInDest, IsDueInNetwork, IsLedBy, IsLedByAddress, IsNoShorter, IsNoShorterThan, StandsButDue};
 
 use crate::forward::{Forward, look_up};
 use crate::inputs::ExternalInputs;
@@ -31,7 +32,12 @@ impl<'a> Choose<u32, Preferred> for Preferring<'a> {
 
     ghost IsChosen = { λ by router fresh. IsPreferredFor (RouterOffers by.inputs.now router) fresh };
 
-    fn choose(&self, alloc: Global, key: u32) -> Result<Option<Preferred>, Memory> {
+    fn choose(
+        &self,
+        alloc: Global,
+        key: u32,
+        _standing: Option<&Preferred>,
+    ) -> Result<Option<Preferred>, Memory> {
         choose_preferred(alloc, self.inputs, key)
     }
 }
@@ -48,7 +54,12 @@ impl<'a> Choose<u32, Forward> for Forwarding<'a> {
 
     ghost IsChosen = { λ by address fresh. IsForwardIn by.inputs.now by.index.now address fresh };
 
-    fn choose(&self, alloc: Global, key: u32) -> Result<Option<Forward>, Memory> {
+    fn choose(
+        &self,
+        alloc: Global,
+        key: u32,
+        _standing: Option<&Forward>,
+    ) -> Result<Option<Forward>, Memory> {
         if !self.index.has_address(key) {
             return Ok(None);
         }
@@ -65,11 +76,11 @@ impl Forwarding<'_> {
     pub(crate) fn update_forwards(
         &self,
         alloc: Global,
-        networks: &[Prefix],
+        named: &[Dest],
         addresses: Vec<u32>,
         forwards: &mut ResultMap<u32, Forward>,
     ) -> Result<Vec<u32>, Memory>
-        requires { StandsButDue self.now.inputs.now self.now.index.now (Contains networks.now)
+        requires { StandsButDue self.now.inputs.now self.now.index.now (IsNetworkAmong named.now)
             addresses.items (forwards_in forwards.old) }
         ensures chosen { OnOk result (AreChosen
             (IsForwardIn self.now.inputs.now self.now.index.now) (result_at nat_cmp forwards.new)) }
@@ -81,7 +92,7 @@ impl Forwarding<'_> {
             index: self.index,
             forwards,
         };
-        let due = matches.list_due(alloc, networks, addresses)?;
+        let due = matches.list_due(alloc, named, addresses)?;
         let moved = forwards.follow(alloc, due, self)?;
         Ok(moved)
     }
@@ -99,20 +110,32 @@ impl AddressMatches<'_> {
     fn list_due(
         &self,
         alloc: Global,
-        networks: &[Prefix],
+        named: &[Dest],
         addresses: Vec<u32>,
     ) -> Result<Vec<u32>, Memory>
-        ensures { IfOk result (λ due. HasAll (IsAddressDue (Contains networks.now) addresses.items
-            self.now.index.now (forwards_in self.now.forwards.now)) due.items) }
+        ensures { IfOk result (λ due. HasAll (IsAddressDue (IsNetworkAmong named.now)
+            addresses.items self.now.index.now (forwards_in self.now.forwards.now)) due.items) }
     {
         let mut due = addresses;
         if !self.index.has_addresses() {
             return Ok(due);
         }
-        for network in networks {
-            self.list_due_in(alloc, *network, &mut due)?;
+        for dest in named {
+            self.list_due_at(alloc, *dest, &mut due)?;
         }
         Ok(due)
+    }
+
+    // Adds the addresses in the network that the destination is, if that is no shorter than their match.
+    fn list_due_at(&self, alloc: Global, dest: Dest, due: &mut Vec<u32>) -> Result<(), Memory>
+        ensures { OnOk result (GainsAll
+            (IsDueInDest self.now.index.now (forwards_in self.now.forwards.now) dest)
+            due.old.items due.new.items) }
+    {
+        match dest {
+            Dest::Net(network) => self.list_due_in(alloc, network, due),
+            Dest::Router(_) => Ok(()),
+        }
     }
 
     // Adds the addresses in the network, if that is no shorter than their match.
@@ -194,33 +217,33 @@ pub(crate) fn list_dests_by_addresses(
     Ok(())
 }
 
-/// Adds those of the networks that something leads to. To the others nothing is offered: they have no entry.
-pub(crate) fn list_networks_led_to(
+/// Adds those of the destinations that something leads to. To the others nothing is offered: they have no entry.
+pub(crate) fn list_dests_led_to(
     index: &OfferIndex,
-    networks: &[Prefix],
+    dests: &[Dest],
     leading: &mut Vec<Dest>,
 ) -> Result<(), Memory>
-    ensures { OnOk result (GainsAll (IsOfSome networks.now (IsAlso index.now))
+    ensures { OnOk result (GainsAll (IsOfSome dests.now (IsAlso index.now))
         leading.old.items leading.new.items) }
 {
-    for network in networks {
-        list_if_led_to(index, *network, leading)?;
+    for dest in dests {
+        list_if_led_to(index, *dest, leading)?;
     }
     Ok(())
 }
 
-// Adds the network if something leads to it.
+// Adds the destination if something leads to it.
 fn list_if_led_to(
     index: &OfferIndex,
-    network: Prefix,
+    dest: Dest,
     leading: &mut Vec<Dest>,
 ) -> Result<(), Memory>
-    ensures { OnOk result (GainsAll (IsAlso index.now network)
+    ensures { OnOk result (GainsAll (IsAlso index.now dest)
         leading.old.items leading.new.items) }
 {
-    if !index.leads_to(Dest::Net(network)) {
+    if !index.leads_to(dest) {
         return Ok(());
     }
-    leading.push(Dest::Net(network))?;
+    leading.push(dest)?;
     Ok(())
 }

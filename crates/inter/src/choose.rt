@@ -30,7 +30,12 @@ impl<'a> Choose<Dest, InterEntry> for Choosing<'a> {
 
     ghost IsChosen = { λ c d e. IsChosenFor c.inputs.now c.index.now d e };
 
-    fn choose(&self, alloc: Global, key: Dest) -> Result<Option<InterEntry>, Memory> {
+    fn choose(
+        &self,
+        alloc: Global,
+        key: Dest,
+        _standing: Option<&InterEntry>,
+    ) -> Result<Option<InterEntry>, Memory> {
         match self.inputs.area() {
             Some(area) => self.choose_in(alloc, area, &key),
             None => Ok(None),

@@ -3,7 +3,6 @@ pub mod Right
 pub mod Sourced
 pub mod Nearest
 pub mod SourceMaps
-pub mod EntryMaps
 pub mod StubOffers
 pub mod OfferTests
 pub mod Often
@@ -12,5 +11,4 @@ pub mod KeptSources
 pub mod IndexSteps
 pub mod Following
 pub mod Placing
-pub mod ChosenAnew
 pub mod Updating

@@ -1,5 +1,5 @@
 -- How often an element stands in a list.
-use Rattle.std.proofs.Common.{◌≡◌, ◌≢◌, ◌==◌, inl, inr, Decides, nat_eq, ℕ, suc, ◌+◌, ◌<◌, Bool, true, false, cond, List, [], ◌∷◌, ◌++◌, length, take, get_or, Option, Some, None, refl, sym, ap, subst, ◌∙◌, arith}
+use Rattle.std.proofs.Common.{◌≡◌, ◌≢◌, ◌==◌, inl, inr, ℕ, suc, ◌+◌, ◌<◌, Bool, true, false, cond, List, [], ◌∷◌, ◌++◌, length, take, get_or, Option, Some, None, refl, sym, ap, subst, ◌∙◌, arith}
 use Rattle.std.specs.Prelude.{◌↔◌, IsSome, is_some, count_by, if◌then◌else◌}
 use Rattle.std.specs.List.{AllPairs, Contains}
 use Rattle.std.proofs.lemmas.Bool.{false≢true}
@@ -29,9 +29,6 @@ module _ {X : Type 0} (test : X → Bool) where
   pub count_more : (xs : List X) (i : ℕ) (x : X) → i < length xs → x ≡ get_or xs i x → count_by test (take (i + 1) xs) ≡ count_by test (take i xs) + (if test x then 1 else 0)
   count_more xs i x lt at =
       ap (count_by test) (take_more xs i x lt ∙ ap (λ (z : X). take i xs ++ z ∷ []) (sym at)) ∙ count_append (take i xs) (x ∷ []) ∙ ap (λ n. count_by test (take i xs) + n) (sym (times_is (x ∷ [])))
-
-pub numbers_decided : (a b : ℕ) → Decides (nat_eq a b) (a ≡ b)
-numbers_decided a b = Decides-eqb a b
 
 -- ---- where none stands twice
 

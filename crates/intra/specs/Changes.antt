@@ -1,5 +1,5 @@
 -- What differs in the inputs, what is named of it, and the destinations whose result differs.
-use Rattle.std.specs.Prelude.{ℕ, ◌≡◌, ◌≢◌, ◌⊎◌, ◌↔◌, ◌++◌, List, [], ◌∷◌, map, Contains, IsSome, None}
+use Rattle.std.specs.Prelude.{ℕ, ◌≡◌, ◌≢◌, ◌⊎◌, ◌↔◌, List, [], ◌∷◌, Contains, IsSome, None}
 use Rattle.std.specs.FinMap.{get}
 use Rattle.ospf_types.specs.declared.config.Interface.{Interface}
 use Rattle.ospf_types.specs.declared.entry.Vertex.{Vertex}
@@ -59,7 +59,3 @@ DiffersAt old new (Router r) = HasOtherRouter old.areas new.areas r
 -- just the result of these destinations differs
 abbrev pub AreDiffering : IntraValue → IntraValue → List Dest → Type 0
 AreDiffering old new dests = (d : Dest) → Contains dests d ↔ DiffersAt old new d
-
--- the destinations with these routers behind them
-abbrev pub with_routers : List Dest → List ℕ → List Dest
-with_routers dests routers = dests ++ map Router routers

@@ -6,7 +6,7 @@ use Rattle.ospf_types.specs.declared.key.Dest.{Dest}
 use Rattle.ospf_types.specs.declared.key.Dest.TheVariants.{Net}
 use Rattle.ospf_types.specs.declared.prefix.Prefix.{Prefix}
 use Rattle.ospf_types.specs.Network.{network_cmp}
-use Rattle.result_map.specs.Chosen.{AreChosenAnew, IsChosenAnew}
+use Rattle.result_map.specs.Chosen.{AreChosenAnew}
 use Rattle.intra.specs.Indexes.{IndexedOffers}
 use Rattle.intra.specs.Inputs.{InputsValue}
 use Rattle.intra.specs.Intras.{AreaIntraValue, IntraValue, IsEntryFor}
@@ -14,12 +14,6 @@ use Rattle.intra.specs.Intras.{AreaIntraValue, IntraValue, IsEntryFor}
 -- the entry is the best of what the indexes of these areas offer to the network
 abbrev pub IsEntryBy : InputsValue → List AreaIntraValue → Prefix → Option Entry → Type 0
 IsEntryBy v areas p e = IsEntryFor (IndexedOffers v (map (λ (a : AreaIntraValue). a.index) areas) v.areas p) e
-
--- only the entry of the network is chosen anew, and the network is named where it differs
-pub record IsEntryChosenAnew (v : InputsValue) (old new : IntraValue) (network : Prefix) (before after : List Dest) : Type 0 where
-  pub areas : new.areas ≡ old.areas
-  pub spent : new.spent ≡ old.spent
-  pub entries : IsChosenAnew (IsEntryBy v old.areas) Net (get old.entries) (get new.entries) network before after
 
 -- only the entries of these networks are chosen anew; the networks with another entry are named, in this order
 pub record AreEntriesChosenAnew (v : InputsValue) (old new : IntraValue) (networks : List Prefix) (dests : List Dest) : Type 0 where

@@ -1,7 +1,6 @@
 -- Intra-area routes as their callers see them.
-use Rattle.std.specs.Prelude.{ℕ, ◌==◌, ◌≡◌, ◌≢◌, ◌↔◌, ◌<◌, Bool, false, true, List, [], ◌∷◌, map, Contains, Option, Some, None, IsSome, is_some, count_by, slice_get, if◌then◌else◌}
-use Rattle.std.specs.FinMap.{FinMap, empty, from_entries, get, insert}
-use Rattle.std.specs.List.{All}
+use Rattle.std.specs.Prelude.{ℕ, ◌==◌, ◌≡◌, ◌↔◌, Bool, false, true, List, [], ◌∷◌, map, Contains, Option, Some, None, IsSome, is_some, count_by, if◌then◌else◌}
+use Rattle.std.specs.FinMap.{FinMap, empty, from_entries, get}
 use Rattle.std.specs.List.Sorted.{IsStrictlySortedBy}
 use Rattle.ospf_types.specs.declared.entry.Entry.{Entry}
 use Rattle.ospf_types.specs.declared.entry.PathType.TheVariants.{Intra}
@@ -24,34 +23,6 @@ EntriesByPrefix = FinMap network_cmp Entry
 -- each network with its entry
 abbrev pub entries_of : List (Prefix × Entry) → EntriesByPrefix
 entries_of es = from_entries {K = Prefix} {R = network_cmp} es
-
--- the entry of the network stands there
-abbrev pub IsEntryAt : List (Prefix × Entry) → Prefix → ℕ → Type 0
-IsEntryAt es p i = (e : Entry) × (slice_get es i ≡ Some (p, e)) × (get (entries_of es) p ≡ Some e)
-
--- the entry of the network among these
-abbrev pub entry_in : List (Prefix × Entry) → Prefix → Option Entry
-entry_in es p = get (entries_of es) p
-
--- all other networks have the entry that they had
-abbrev pub OthersStay : List (Prefix × Entry) → List (Prefix × Entry) → Prefix → Type 0
-OthersStay old new network = (p : Prefix) → p ≢ network → entry_in new p ≡ entry_in old p
-
--- where the answer is `false`, the network had this entry already
-abbrev pub TellsSame : List (Prefix × Entry) → Prefix → Option Entry → Bool → Type 0
-TellsSame old network fresh other = other ≡ false → entry_in old network ≡ fresh
-
--- where it is `true`, the network had another, or none
-abbrev pub TellsOther : List (Prefix × Entry) → Prefix → Option Entry → Bool → Type 0
-TellsOther old network fresh other = other ≡ true → entry_in old network ≢ fresh
-
--- each entry costs less than the bound
-abbrev pub AreBelowMost : List (Prefix × Entry) → Type 0
-AreBelowMost es = All (λ e. e.1.cost < most_cost) es
-
--- the network whose entry stood at the place has this one
-abbrev pub IsWrittenAt : List (Prefix × Entry) → List (Prefix × Entry) → ℕ → Entry → Type 0
-IsWrittenAt old new place e = (p : Prefix) → IsEntryAt old p place → entries_of new ≡ insert (entries_of old) p e
 
 -- just these networks have an entry
 abbrev pub HaveEntries : EntriesByPrefix → List Prefix → Type 0
@@ -109,10 +80,6 @@ AreKept areas routers = (router : ℕ) → Contains routers router ↔ IsKeptIn 
 abbrev pub AreAsOften : List AreaIntraValue → List ℕ → Type 0
 AreAsOften areas routers =
     (router : ℕ) → count_by (λ (r : ℕ). r == router) routers ≡ count_by (λ (a : AreaIntraValue). is_some (get a.reached router)) areas
-
--- of all other routers the same is kept
-abbrev pub OtherRoutersStay : AreaIntraValue → AreaIntraValue → ℕ → Type 0
-OtherRoutersStay old new router = (r : ℕ) → r ≢ router → get new.reached r ≡ get old.reached r
 
 -- what is kept of an area is that of its database and its tree
 pub record IsAreaIntra (root : ℕ) (a : AreaValue) (i : AreaIntraValue) : Type 0 where

@@ -14,6 +14,7 @@ ghost use Rattle.intra.specs.Choosing.{AmongSources, FindsNearest, FindsNearestW
 
 use crate::area::AreaIntra;
 use crate::area_index::Source;
+use crate::entry::IntraEntry;
 use crate::inputs::{AreaInputs, Inputs};
 use ospf_types::config::Interface;
 use ospf_types::entry::{Entry, PathType, Paths, Vertex};
@@ -21,6 +22,7 @@ use ospf_types::hop::{NextHop, Path};
 use ospf_types::memory::Memory;
 use ospf_types::prefix::Prefix;
 use path_choice::{AreaCost, Best, Choice, offer_hop, offer_hops};
+use result_map::Choose;
 use std::alloc::Global;
 use std::collections::btree_map::Iter;
 use vertex_map::Placed;
@@ -40,40 +42,62 @@ struct AreaNetwork<'a> {
     prefix: Prefix,
 }
 
-/// The entry of the network, by the indexes of the areas; none where nothing is offered. Its sources are looked for at a
-/// place first, and it is told where they stood.
-pub(crate) fn choose(
+impl<'a> Choose<Prefix, IntraEntry> for IndexedInputs<'a> {
+    ghost use Rattle.intra.specs.ChosenAnew.{IsEntryBy};
+
+    ghost IsChosen = { λ by network fresh. IsEntryBy by.inputs.now by.kept.now network fresh };
+
+    fn choose(
+        &self,
+        alloc: Global,
+        key: Prefix,
+        standing: Option<&IntraEntry>,
+    ) -> Result<Option<IntraEntry>, Memory> {
+        choose(alloc, self, key, sources_of(standing))
+    }
+}
+
+// Where an index had the sources of the network, if it has an entry.
+fn sources_of(standing: Option<&IntraEntry>) -> usize {
+    match standing {
+        Some(entry) => entry.sources(),
+        None => usize::MAX,
+    }
+}
+
+// The entry of the network, by the indexes of the areas; none where nothing is offered. Its sources are looked for at the
+// place first.
+fn choose(
     alloc: Global,
     indexed: &IndexedInputs<'_>,
     prefix: Prefix,
-    place: &mut usize,
-) -> Result<Option<Entry>, Memory>
-    ensures exact { IfOk result
+    mut place: usize,
+) -> Result<Option<IntraEntry>, Memory>
+    ensures { IfOk result
         (IsEntryFor (IndexOffers indexed.now.inputs.now indexed.now.kept.now prefix)) }
-    ensures bounded { IfOk result (λ entry. IfSome entry (λ e. e.cost < most_cost)) }
 {
     let mut best = Best::new(alloc);
-    offer_areas(&mut best, indexed, prefix, place)?;
+    offer_areas(&mut best, indexed, prefix, &mut place)?;
     match best.into_choice() {
-        Some(choice) => Ok(Some(entry(choice))),
+        Some(choice) => Ok(Some(entry(choice, place))),
         None => Ok(None),
     }
 }
 
-// The intra-area entry of a choice.
-fn entry(choice: Choice<AreaCost, Path>) -> Entry
+// The intra-area entry of a choice, and where its sources stood.
+fn entry(choice: Choice<AreaCost, Path>, sources: usize) -> IntraEntry
     requires { IsStrictlySortedBy path_cmp choice.items }
-    ensures value { result ≡ entry_at choice.key choice.items }
-    ensures bounded { result.cost < most_cost }
+    ensures { result ≡ entry_at choice.key choice.items }
 {
     let (key, paths) = choice.into_parts();
-    Entry {
+    let entry = Entry {
         kind: PathType::Intra,
         area: Some(key.area()),
         cost: key.cost(),
         cost2: 0,
         paths: Paths::new(paths),
-    }
+    };
+    IntraEntry::new(entry, sources)
 }
 
 // Offers what each area has for the network, by its index.

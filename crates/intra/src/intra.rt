@@ -6,20 +6,19 @@ ghost use Rattle.std.specs.Map.{keys_of};
 ghost use Rattle.ospf_types.specs.Keys.{dest_cmp};
 ghost use Rattle.ospf_types.specs.Network.{network_cmp};
 ghost use Rattle.intra.specs.Changes.{AreDiffering, HasKeysOf, HasKeysOfAll, IsIntraBefore};
-ghost use Rattle.intra.specs.ChosenAnew.{AreEntriesChosenAnew, IsEntryChosenAnew};
+ghost use Rattle.intra.specs.ChosenAnew.{AreEntriesChosenAnew};
 ghost use Rattle.intra.specs.Inputs.{AreReady};
-ghost use Rattle.intra.specs.Intras.{AreAsOften, AreBelowMost, AreEntries, AreKept, HaveEntries, IsEntryAt, IsIntraOf, IsWrittenAt, OthersStay, TellsOther, TellsSame, empty_routes, entry_in, most_cost, reached_at, spent_value};
+ghost use Rattle.intra.specs.Intras.{AreAsOften, AreEntries, AreKept, HaveEntries, IsIntraOf, empty_routes, most_cost, reached_at, spent_value};
 ghost use Rattle.intra.specs.Right.{IsRightWherever};
 ghost use Rattle.intra.specs.Stubs.{KeepsAll};
 ghost use Rattle.intra.specs.Updating.{AreBroughtTo, HasPrefixesInOrder, HasRoutersInOrder, HaveKeptBefore, NamesOthers};
 
 use crate::area::AreaIntra;
-use crate::choose::{IndexedInputs, choose};
+use crate::choose::IndexedInputs;
 use crate::dirty::Dirty;
-use crate::hints::Hints;
+use crate::entry::IntraEntry;
 use crate::inputs::{AreaInputs, Inputs, RootedArea};
 use crate::named::Named;
-use indexmap::IndexMap;
 use indexmap::map::Slice;
 use lsdb::Database;
 use ospf_types::entry::Entry;
@@ -27,7 +26,7 @@ use ospf_types::key::{Dest, Key, Scope};
 use ospf_types::memory::Memory;
 use ospf_types::prefix::Prefix;
 use path_choice::Reached;
-use result_map::add_routers;
+use result_map::{ResultMap, add_routers};
 use std::alloc::Global;
 use std::hash::RandomState;
 use std::marker::Model;
@@ -38,10 +37,9 @@ use word_hash::WordHash;
 /// routers that are reached.
 pub struct Intra {
     areas: Vec<AreaIntra>,
-    entries: IndexMap<Prefix, Entry, WordHash>,
+    entries: ResultMap<Prefix, IntraEntry>,
     // Memory for an update.
     named: Named,
-    hints: Hints,
     spent: bool,
 }
 
@@ -52,15 +50,12 @@ impl Drop for Intra {
             areas: _areas,
             entries: _entries,
             named: _named,
-            hints: _hints,
             spent: _,
         } = self;
     }
 }
 
 impl Model for Intra {
-    ghost use Rattle.std.specs.Prelude.{◌<◌};
-    ghost use Rattle.std.specs.List.{All};
     ghost use Rattle.std.specs.FinMap as map;
     ghost use Rattle.std.specs.Coded.{Coded, codes, coded_ℕ};
     ghost use Rattle.ospf_types.specs.Network.{network_code};
@@ -68,7 +63,7 @@ impl Model for Intra {
     ghost use Rattle.ospf_types.specs.contracts.entry.Entry as entry;
     ghost use Rattle.intra.specs.Indexes.{OfferedByVertex, SourcesByPrefix};
     ghost use Rattle.intra.specs.Reached.{ReachedByRouter};
-    ghost use Rattle.intra.specs.Intras.{IntraValue, EntriesByPrefix, most_cost};
+    ghost use Rattle.intra.specs.Intras.{IntraValue, EntriesByPrefix};
     ghost use Rattle.intra.specs.contracts.offered.Offer as offer;
     ghost use Rattle.intra.specs.contracts.area_index.Source as source;
 
@@ -81,8 +76,6 @@ impl Model for Intra {
         Prim.hlevel (codes, offered, sources, reached, entries) };
 
     ghost view = { λ i. record { areas = i.areas.items; entries = map.from_entries i.entries.entries; spent = i.spent } };
-
-    ghost invariant = { λ i. All (λ e. e.1.cost < most_cost) i.entries.entries };
 }
 
 impl Intra {
@@ -133,7 +126,10 @@ impl Intra {
         ensures value { option_copied result ≡ map.get self.now.entries network }
         ensures bounded { IfSome result (λ e. e.now.cost < most_cost) }
     {
-        self.entries.get(&network)
+        match self.entries.get(network) {
+            Some(kept) => Some(kept.entry()),
+            None => None,
+        }
     }
 
     /// The entry of a network, for a caller that asks for networks in ascending order: it keeps `next` from one to the
@@ -142,17 +138,9 @@ impl Intra {
         ensures value { option_copied result ≡ map.get self.now.entries network }
         ensures bounded { IfSome result (λ e. e.now.cost < most_cost) }
     {
-        match self.entries.get_index(self.hints.left_at(*next)) {
-            Some((kept, entry)) if *kept == network => {
-                *next = next.saturating_add(1);
-                Some(entry)
-            }
-            // Another has moved there since.
-            Some((kept, _)) if *kept < network => {
-                *next = next.saturating_add(1);
-                self.get(network)
-            }
-            _ => self.get(network),
+        match self.entries.get_next(network, next) {
+            Some(kept) => Some(kept.entry()),
+            None => None,
         }
     }
 
@@ -161,17 +149,16 @@ impl Intra {
         ensures exact { IfOk result (λ networks. HaveEntries self.now.entries networks.items) }
         ensures each_once { IfOk result (λ networks. AllPairs (λ p q. p ≢ q) networks.items) }
     {
-        let networks = Vec::from_slice(alloc, self.entries.keys().as_slice())?;
-        Ok(networks)
+        self.entries.keys(alloc)
     }
 
     /// The networks that have an entry, each with it, in no stated order.
-    pub fn entries(&self) -> Slice<'_, Prefix, Entry>
+    pub fn entries(&self) -> Slice<'_, Prefix, IntraEntry>
         ensures exact { AreEntries self.now.entries result }
         ensures keys { HaveEntries self.now.entries (keys_of result) }
         ensures each_once { AllPairs (λ p q. p ≢ q) (keys_of result) }
     {
-        self.entries.as_slice()
+        self.entries.entries()
     }
 
     /// A border router or AS boundary router that is reached in the area, by its Router ID.
@@ -218,9 +205,8 @@ impl Intra {
         }
         Ok(Intra {
             areas: kept,
-            entries: IndexMap::with_hasher(alloc, hashing),
+            entries: ResultMap::hashed_by(alloc, hashing),
             named: Named::new(alloc),
-            hints: Hints::new(alloc),
             spent: false,
         })
     }
@@ -261,7 +247,6 @@ impl Intra {
     {
         let mut named = mem::replace(&mut self.named, Named::new(alloc));
         named.clear();
-        self.hints.begin();
         let areas = self.areas.as_mut_slice();
         follow_areas(areas, inputs, dirty, &mut named)?;
         // Vertices come in their order, and their prefixes mostly stand in it: few runs, which a stable sort only merges.
@@ -285,39 +270,11 @@ impl Intra {
         ensures { OnOk result (AreEntriesChosenAnew inputs.now self.old self.new
             prefixes.now dests.new.items) }
     {
-        for prefix in prefixes {
-            self.update_entry(alloc, inputs, *prefix, dests)?;
-        }
-        Ok(())
-    }
-
-    // Chooses the entry of the network anew, and names the network where it differs.
-    fn update_entry(
-        &mut self,
-        alloc: Global,
-        inputs: &Inputs<'_>,
-        prefix: Prefix,
-        dests: &mut Vec<Dest>,
-    ) -> Result<(), Memory>
-        ensures { OnOk result (IsEntryChosenAnew inputs.now self.old self.new
-            prefix dests.old.items dests.new.items) }
-    {
-        let place = place_of(&self.entries, prefix);
-        let at = place.unwrap_or(self.entries.len());
-        let mut near = self.hints.sources_at(at);
-        let indexed = IndexedInputs {
+        let by = IndexedInputs {
             inputs,
             kept: self.areas.as_slice(),
         };
-        let fresh = choose(alloc, &indexed, prefix, &mut near)?;
-        let stays = fresh.is_some();
-        let other = exchange(&mut self.entries, place, prefix, fresh)?;
-        self.hints.keep(at, stays.then_some(near))?;
-        if !other {
-            return Ok(());
-        }
-        self.hints.leave(stays.then_some(at))?;
-        dests.push(Dest::Net(prefix))?;
+        self.entries.choose_each(alloc, prefixes, &by, dests)?;
         Ok(())
     }
 
@@ -328,112 +285,6 @@ impl Intra {
         self.entries.clear();
         self.spent = true;
     }
-}
-
-// Where the entry of the network stands.
-fn place_of(entries: &IndexMap<Prefix, Entry, WordHash>, network: Prefix) -> Option<usize>
-    ensures at { IfSome result (IsEntryAt entries.now.entries network) }
-    ensures none { IfNone result (entry_in entries.now.entries network ≡ None) }
-{
-    match entries.get_full(&network) {
-        Some((place, _, _)) => Some(place),
-        None => None,
-    }
-}
-
-// This is the entry of the network, which stands at the place, where it has one. The answer is whether it had another, or
-// none.
-fn exchange(
-    entries: &mut IndexMap<Prefix, Entry, WordHash>,
-    place: Option<usize>,
-    network: Prefix,
-    fresh: Option<Entry>,
-) -> Result<bool, Memory>
-    requires at { IfSome place (IsEntryAt entries.old.entries network) }
-    requires none { IfNone place (entry_in entries.old.entries network ≡ None) }
-    requires bounded { IfSome fresh (λ e. e.cost < most_cost) }
-    ensures here { OnOk result (entry_in entries.new.entries network ≡ fresh) }
-    ensures others { OnOk result (OthersStay entries.old.entries entries.new.entries network) }
-    ensures same { IfOk result (TellsSame entries.old.entries network fresh) }
-    ensures other { IfOk result (TellsOther entries.old.entries network fresh) }
-    ensures below { AreBelowMost entries.old.entries → AreBelowMost entries.new.entries }
-{
-    match (place, fresh) {
-        (Some(place), Some(entry)) => Ok(set(entries, place, network, entry)),
-        (Some(place), None) => {
-            take_out(entries, place, network);
-            Ok(true)
-        }
-        (None, Some(entry)) => {
-            entries.insert(network, entry)?;
-            Ok(true)
-        }
-        (None, None) => Ok(false),
-    }
-}
-
-// This is the entry of the network, which has one at the place. The answer is whether that was another.
-fn set(
-    entries: &mut IndexMap<Prefix, Entry, WordHash>,
-    place: usize,
-    network: Prefix,
-    entry: Entry,
-) -> bool
-    requires at { IsEntryAt entries.old.entries network place }
-    requires bounded { entry.cost < most_cost }
-    ensures here { entry_in entries.new.entries network ≡ Some entry }
-    ensures others { OthersStay entries.old.entries entries.new.entries network }
-    ensures same { TellsSame entries.old.entries network (Some entry) result }
-    ensures other { TellsOther entries.old.entries network (Some entry) result }
-    ensures below { AreBelowMost entries.old.entries → AreBelowMost entries.new.entries }
-{
-    if stands_at(entries, place, network, &entry) {
-        return false;
-    }
-    write_at(entries, place, entry);
-    true
-}
-
-// Whether the entry of the network, which stands at the place, is this one.
-fn stands_at(
-    entries: &IndexMap<Prefix, Entry, WordHash>,
-    place: usize,
-    network: Prefix,
-    entry: &Entry,
-) -> bool
-    requires { IsEntryAt entries.now.entries network place }
-    ensures { IsTrue result ↔ (entry_in entries.now.entries network ≡ Some entry.now) }
-{
-    match entries.get_index(place) {
-        Some((_, kept)) => kept.is_same(entry),
-        None => false,
-    }
-}
-
-// The network, whose entry stands at the place, has none from now on. The last entry takes the place.
-fn take_out(entries: &mut IndexMap<Prefix, Entry, WordHash>, place: usize, network: Prefix)
-    requires { IsEntryAt entries.old.entries network place }
-    ensures there { IsSome (entry_in entries.old.entries network) }
-    ensures here { entry_in entries.new.entries network ≡ None }
-    ensures others { OthersStay entries.old.entries entries.new.entries network }
-    ensures below { AreBelowMost entries.old.entries → AreBelowMost entries.new.entries }
-{
-    match entries.swap_remove_index(place) {
-        Some(_taken) => {}
-        None => {}
-    }
-}
-
-// The entry at the place is this from now on.
-fn write_at(entries: &mut IndexMap<Prefix, Entry, WordHash>, place: usize, entry: Entry)
-    requires { place < length entries.old.entries }
-    ensures written { IsWrittenAt entries.old.entries entries.new.entries place entry }
-    ensures below { AreBelowMost entries.old.entries
-        → entry.cost < most_cost → AreBelowMost entries.new.entries }
-{
-    // proof: no network has two entries.
-    let _ = entries.len();
-    entries[place] = entry;
 }
 
 // What is kept of each area follows its LSAs, its tree and the interfaces.

@@ -7,13 +7,14 @@ mod area;
 mod area_index;
 mod choose;
 mod dirty;
-mod hints;
+mod entry;
 mod inputs;
 mod intra;
 mod named;
 mod offered;
 
 pub use dirty::Dirty;
+pub use entry::IntraEntry;
 pub use inputs::{AreaInputs, Inputs};
 pub use intra::Intra;
 pub use path_choice::Reached;

@@ -4,4 +4,5 @@ pub mod Adding
 pub mod Among
 pub mod KeyedMaps
 pub mod KeyLaws
+pub mod Standing
 pub mod SortedOnce

@@ -8,10 +8,6 @@ use Rattle.ospf_types.specs.declared.prefix.Prefix.{Prefix}
 abbrev pub IsNetworkAmong : List Dest → Prefix → Type 0
 IsNetworkAmong dests p = Contains dests (Net p)
 
--- the router is among the destinations
-abbrev pub IsRouterAmong : List Dest → ℕ → Type 0
-IsRouterAmong dests router = Contains dests (Router router)
-
 -- the network that the destination is
 abbrev pub network_of : Dest → Option Prefix
 network_of (Net p) = Some p

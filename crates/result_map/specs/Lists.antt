@@ -9,10 +9,6 @@ HasJust {A} these list = (x : A) → Contains list x ↔ these x
 abbrev pub HasMore : {A : Type 0} → (A → Type 0) → List A → List A → Type 0
 HasMore {A} more before after = (x : A) → Contains after x ↔ (Contains before x ⊎ more x)
 
--- it has what it had
-abbrev pub KeepsAll : {A : Type 0} → List A → List A → Type 0
-KeepsAll {A} before after = (x : A) → Contains before x → Contains after x
-
 -- it has all of these
 abbrev pub HasAll : {A : Type 0} → (A → Type 0) → List A → Type 0
 HasAll {A} these list = (x : A) → these x → Contains list x

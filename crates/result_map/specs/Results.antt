@@ -1,5 +1,5 @@
 -- Results by key, as their callers see them.
-use Rattle.std.specs.Prelude.{◌≡◌, ◌≢◌, ◌↔◌, Bool, false, List, Option, Contains, IsSome, IsTrue, refl}
+use Rattle.std.specs.Prelude.{ℕ, ◌≡◌, ◌≢◌, ◌↔◌, Bool, false, List, Option, Some, Contains, IsSome, IsTrue, refl, slice_get}
 use Rattle.std.specs.Coded.{Coded, code_by, coded×, coded_list}
 use Rattle.std.specs.FinMap.{get, from_entries}
 use Rattle.std.specs.declared.cmp.Ordering.{Ordering}
@@ -13,22 +13,34 @@ abbrev pub results_code : {K V : Type 0} → Coded K → Coded V → Coded (Resu
 results_code {K} {V} keys values =
     code_by (List (K × V)) (coded_list (coded× keys values)) (λ r. r.entries) (λ es. record { entries = es }) (λ _. refl)
 
+-- the result at the key, of these entries
+abbrev pub result_in : {K V : Type 0} → (K → K → Ordering) → List (K × V) → K → Option V
+result_in cmp entries key = get (from_entries {R = cmp} entries) key
+
 -- the result at the key
 abbrev pub result_at : {K V : Type 0} → (K → K → Ordering) → Results K V → K → Option V
-result_at cmp results key = get (from_entries {R = cmp} results.entries) key
+result_at cmp results key = result_in cmp results.entries key
 
 -- just these keys have a result
 abbrev pub AreKeysOf : {K V : Type 0} → (K → K → Ordering) → Results K V → List K → Type 0
 AreKeysOf {K} cmp results keys = (k : K) → Contains keys k ↔ IsSome (result_at cmp results k)
 
+-- each of these is the result at its key
+abbrev pub AreResults : {K V : Type 0} → (K → K → Ordering) → Results K V → List (K × V) → Type 0
+AreResults {K} {V} cmp results entries = (k : K) (value : V) → Contains entries (k, value) → result_at cmp results k ≡ Some value
+
+-- the result of the key stands at the place among the entries
+abbrev pub StandsAt : {K V : Type 0} → (K → K → Ordering) → List (K × V) → K → ℕ → Type 0
+StandsAt {V = V} cmp entries key place = (value : V) × (slice_get entries place ≡ Some (key, value)) × (result_in cmp entries key ≡ Some value)
+
 -- at all other keys the results stay
-abbrev pub OthersStay : {K V : Type 0} → (K → K → Ordering) → Results K V → Results K V → K → Type 0
-OthersStay {K} cmp old new key = (k : K) → k ≢ key → result_at cmp new k ≡ result_at cmp old k
+abbrev pub OthersStay : {K V : Type 0} → (K → Option V) → (K → Option V) → K → Type 0
+OthersStay {K} old new key = (k : K) → k ≢ key → new k ≡ old k
 
 -- the answer tells whether the result at the key differs
-abbrev pub TellsDifference : {K V : Type 0} → (K → K → Ordering) → Results K V → Results K V → K → Bool → Type 0
-TellsDifference cmp old new key differs = IsTrue differs ↔ (result_at cmp old key ≢ result_at cmp new key)
+abbrev pub TellsDifference : {K V : Type 0} → (K → Option V) → (K → Option V) → K → Bool → Type 0
+TellsDifference old new key differs = IsTrue differs ↔ (old key ≢ new key)
 
 -- where the answer is `false`, the result at the key stays
-abbrev pub TellsSame : {K V : Type 0} → (K → K → Ordering) → Results K V → Results K V → K → Bool → Type 0
-TellsSame cmp old new key differs = differs ≡ false → result_at cmp new key ≡ result_at cmp old key
+abbrev pub TellsSame : {K V : Type 0} → (K → Option V) → (K → Option V) → K → Bool → Type 0
+TellsSame old new key differs = differs ≡ false → new key ≡ old key

@@ -11,7 +11,8 @@ pub trait Choose<K, V> {
     // The result that has to stand at the key now.
     ghost IsChosen: { Self → K → Option V → Type 0 };
 
-    /// The result at the key; none where nothing is offered.
-    fn choose(&self, alloc: Global, key: K) -> Result<Option<V>, Memory>
+    /// The result at the key; none where nothing is offered. The one that stands there may tell where to look first, and
+    /// decides nothing.
+    fn choose(&self, alloc: Global, key: K, standing: Option<&V>) -> Result<Option<V>, Memory>
         ensures { IfOk result (IsChosen self.now key) };
 }

@@ -2,8 +2,7 @@
 ghost use Rattle.std.specs.Prelude.{◌≡◌, ◌++◌, map as list_map, IfOk, OnOk};
 ghost use Rattle.std.specs.List.{filter_map};
 ghost use Rattle.ospf_types.specs.declared.key.Dest.TheVariants as dest_value;
-ghost use Rattle.result_map.specs.Dests.{IsNetworkAmong, IsRouterAmong, network_of, router_of};
-ghost use Rattle.result_map.specs.Lists.{HasJust};
+ghost use Rattle.result_map.specs.Dests.{network_of, router_of};
 
 use ospf_types::key::Dest;
 use ospf_types::memory::Memory;
@@ -12,16 +11,24 @@ use std::alloc::Global;
 
 /// The networks among the destinations, in their order.
 pub fn networks_among(alloc: Global, dests: &[Dest]) -> Result<Vec<Prefix>, Memory>
-    ensures { IfOk result (λ networks. HasJust (IsNetworkAmong dests.now) networks.items) }
+    ensures { IfOk result (λ networks. networks.items ≡ filter_map network_of dests.now) }
 {
-    list_networks(alloc, dests)
+    let networks = dests
+        .iter()
+        .filter_map(|dest| network_of(*dest))
+        .collect(alloc)?;
+    Ok(networks)
 }
 
 /// The routers among the destinations, in their order.
 pub fn routers_among(alloc: Global, dests: &[Dest]) -> Result<Vec<u32>, Memory>
-    ensures { IfOk result (λ routers. HasJust (IsRouterAmong dests.now) routers.items) }
+    ensures { IfOk result (λ routers. routers.items ≡ filter_map router_of dests.now) }
 {
-    list_routers(alloc, dests)
+    let routers = dests
+        .iter()
+        .filter_map(|dest| router_of(*dest))
+        .collect(alloc)?;
+    Ok(routers)
 }
 
 /// Adds the networks as destinations.
@@ -56,26 +63,6 @@ pub fn dests_of(alloc: Global, networks: &[Prefix], routers: &[u32]) -> Result<V
     add_networks(networks, &mut dests)?;
     add_routers(routers, &mut dests)?;
     Ok(dests)
-}
-
-fn list_networks(alloc: Global, dests: &[Dest]) -> Result<Vec<Prefix>, Memory>
-    ensures { IfOk result (λ networks. networks.items ≡ filter_map network_of dests.now) }
-{
-    let networks = dests
-        .iter()
-        .filter_map(|dest| network_of(*dest))
-        .collect(alloc)?;
-    Ok(networks)
-}
-
-fn list_routers(alloc: Global, dests: &[Dest]) -> Result<Vec<u32>, Memory>
-    ensures { IfOk result (λ routers. routers.items ≡ filter_map router_of dests.now) }
-{
-    let routers = dests
-        .iter()
-        .filter_map(|dest| router_of(*dest))
-        .collect(alloc)?;
-    Ok(routers)
 }
 
 // The network that the destination is.

@@ -5,11 +5,14 @@
 mod choose;
 mod dests;
 mod keys;
+mod places;
 mod results;
 mod same;
+mod told;
 
 pub use choose::Choose;
 pub use dests::{add_networks, add_routers, dests_of, networks_among, routers_among};
 pub use keys::{ResultKey, ascending};
 pub use results::ResultMap;
 pub use same::{Same, are_same};
+pub use told::Told;

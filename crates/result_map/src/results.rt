@@ -3,13 +3,17 @@ ghost use Rattle.std.specs.Prelude.{◌≡◌, ◌≢◌, [], IfOk, OnOk, OnErr,
 ghost use Rattle.std.specs.List.{AllPairs};
 ghost use Rattle.std.specs.List.Sorted.{IsStrictlySortedBy};
 ghost use Rattle.result_map.specs.Lists.{HasJust};
-ghost use Rattle.result_map.specs.Results.{AreKeysOf, OthersStay, TellsDifference, TellsSame, result_at};
+ghost use Rattle.std.specs.Map.{keys_of};
+ghost use Rattle.result_map.specs.Results.{AreKeysOf, AreResults, OthersStay, TellsDifference, TellsSame, result_at};
 ghost use Rattle.result_map.specs.Chosen.{AreChosen, AreChosenAnew, AreChosenBut, HasOther, IsChosenAnew};
 
 use crate::choose::Choose;
 use crate::keys::{ResultKey, ascending};
-use crate::same::{Same, are_same};
+use crate::places::{exchange, place_of};
+use crate::same::Same;
+use crate::told::Told;
 use indexmap::IndexMap;
+use indexmap::map::Slice;
 use ospf_types::memory::Memory;
 use std::alloc::Global;
 use std::hash::{Hash, RandomState};
@@ -19,12 +23,17 @@ use word_hash::WordHash;
 /// Results by key, each of which is chosen anew where something that it rests on may differ.
 pub struct ResultMap<K: Eq + Hash, V> {
     entries: IndexMap<K, V, WordHash>,
+    // Where the last change left the results that it told, one after another. No answer depends on it.
+    left: Vec<usize>,
 }
 
 // proof: one call drops it, in place of a drop of each part wherever one is held.
 impl<K: Eq + Hash + Drop, V: Drop> Drop for ResultMap<K, V> {
     fn drop(self) {
-        let ResultMap { entries: _entries } = self;
+        let ResultMap {
+            entries: _entries,
+            left: _left,
+        } = self;
     }
 }
 
@@ -52,6 +61,7 @@ impl<K: ResultKey, V: Same + Drop> ResultMap<K, V> {
     {
         ResultMap {
             entries: IndexMap::with_hasher(alloc, hashing),
+            left: Vec::new(alloc),
         }
     }
 
@@ -64,6 +74,25 @@ impl<K: ResultKey, V: Same + Drop> ResultMap<K, V> {
             return None;
         }
         self.entries.get(&key)
+    }
+
+    /// The result at the key, for a caller that asks for keys in ascending order: it keeps `next` from one to the next, 0 at
+    /// first. What was told last is read where it was left, and nothing is hashed.
+    pub fn get_next(&self, key: K, next: &mut usize) -> Option<&V>
+        ensures value { option_copied result ≡ result_at K.order self.now key }
+    {
+        match self.entries.get_index(self.left_at(*next)) {
+            Some((standing, result)) if *standing == key => {
+                *next = next.saturating_add(1);
+                Some(result)
+            }
+            // Another has moved there since.
+            Some((standing, _)) if *standing < key => {
+                *next = next.saturating_add(1);
+                self.get(key)
+            }
+            _ => self.get(key),
+        }
     }
 
     /// The keys that have a result, in no stated order.
@@ -83,20 +112,29 @@ impl<K: ResultKey, V: Same + Drop> ResultMap<K, V> {
         self.entries.keys().as_slice()
     }
 
+    /// The keys that have a result, each with it, in no stated order.
+    pub fn entries(&self) -> Slice<'_, K, V>
+        ensures exact { AreResults K.order self.now result }
+        ensures keys { AreKeysOf K.order self.now (keys_of result) }
+        ensures each_once { AllPairs (λ j k. j ≢ k) (keys_of result) }
+    {
+        self.entries.as_slice()
+    }
+
     /// The result at the key is the fresh one from now on. The answer tells whether it differs from the one before. If
     /// memory runs out, nothing changes.
     pub fn update(&mut self, key: K, fresh: Option<V>) -> Result<bool, Memory>
         ensures here { OnOk result (result_at K.order self.new key ≡ fresh) }
-        ensures others { OnOk result (OthersStay K.order self.old self.new key) }
-        ensures differs { IfOk result (TellsDifference K.order self.old self.new key) }
-        ensures stays { IfOk result (TellsSame K.order self.old self.new key) }
+        ensures others { OnOk result (OthersStay (result_at K.order self.old)
+            (result_at K.order self.new) key) }
+        ensures differs { IfOk result (TellsDifference (result_at K.order self.old)
+            (result_at K.order self.new) key) }
+        ensures stays { IfOk result (TellsSame (result_at K.order self.old)
+            (result_at K.order self.new) key) }
         ensures err { OnErr result (self.new.entries ≡ self.old.entries) }
     {
-        if are_same(self.get(key), fresh.as_ref()) {
-            return Ok(false);
-        }
-        self.put(key, fresh)?;
-        Ok(true)
+        let place = place_of(&self.entries, key);
+        exchange(&mut self.entries, place, key, fresh)
     }
 
     /// Chooses the results at the keys anew, where at all other keys there stands what has to. Then there does at each key. The
@@ -121,6 +159,26 @@ impl<K: ResultKey, V: Same + Drop> ResultMap<K, V> {
         Ok(others)
     }
 
+    /// Chooses the results at the keys anew, which ascend, each once, and tells those at which another stands now.
+    pub fn choose_each<R: Choose<K, V>, N: Told<K> + Drop>(
+        &mut self,
+        alloc: Global,
+        keys: &[K],
+        by: &R,
+        told: &mut Vec<N>,
+    ) -> Result<(), Memory>
+        requires in_order { IsStrictlySortedBy K.order keys.now }
+        requires none { told.old.items ≡ [] }
+        ensures { OnOk result (AreChosenAnew K.order (R.IsChosen by.now) N.told_as
+            (result_at K.order self.old) (result_at K.order self.new) keys.now told.new.items) }
+    {
+        self.left.clear();
+        for key in keys {
+            self.choose_one(alloc, *key, by, told)?;
+        }
+        Ok(())
+    }
+
     /// Takes all results out.
     pub fn clear(&mut self)
         ensures { self.new.entries ≡ [] }
@@ -128,57 +186,48 @@ impl<K: ResultKey, V: Same + Drop> ResultMap<K, V> {
         self.entries.clear();
     }
 
-    // Chooses the results at the keys anew, which ascend, each once, and adds the keys at which another stands now.
-    fn choose_each<R: Choose<K, V>>(
-        &mut self,
-        alloc: Global,
-        keys: &[K],
-        by: &R,
-        others: &mut Vec<K>,
-    ) -> Result<(), Memory>
-        requires in_order { IsStrictlySortedBy K.order keys.now }
-        requires none { others.old.items ≡ [] }
-        ensures { OnOk result (AreChosenAnew K.order (R.IsChosen by.now) (λ k. k)
-            (result_at K.order self.old) (result_at K.order self.new) keys.now others.new.items) }
-    {
-        for key in keys {
-            self.choose_one(alloc, *key, by, others)?;
-        }
-        Ok(())
-    }
-
-    // Chooses the result at the key anew, and adds the key where another stands now.
-    fn choose_one<R: Choose<K, V>>(
+    // Chooses the result at the key anew, and tells the key where another stands now.
+    fn choose_one<R: Choose<K, V>, N: Told<K> + Drop>(
         &mut self,
         alloc: Global,
         key: K,
         by: &R,
-        others: &mut Vec<K>,
+        told: &mut Vec<N>,
     ) -> Result<(), Memory>
-        ensures { OnOk result (IsChosenAnew (R.IsChosen by.now) (λ k. k) (result_at K.order self.old)
-            (result_at K.order self.new) key others.old.items others.new.items) }
+        ensures { OnOk result (IsChosenAnew (R.IsChosen by.now) N.told_as
+            (result_at K.order self.old) (result_at K.order self.new)
+            key told.old.items told.new.items) }
     {
-        let fresh = by.choose(alloc, key)?;
-        if self.update(key, fresh)? {
-            others.push(key)?;
+        let place = place_of(&self.entries, key);
+        let at = place.unwrap_or(self.entries.len());
+        let fresh = by.choose(alloc, key, standing(&self.entries, at))?;
+        let stands = fresh.is_some();
+        if !exchange(&mut self.entries, place, key, fresh)? {
+            return Ok(());
         }
+        leave(&mut self.left, stands.then_some(at))?;
+        told.push(N::told(key))?;
         Ok(())
     }
 
-    // This is the result at the key.
-    fn put(&mut self, key: K, fresh: Option<V>) -> Result<(), Memory>
-        ensures here { OnOk result (result_at K.order self.new key ≡ fresh) }
-        ensures others { OnOk result (OthersStay K.order self.old self.new key) }
-        ensures err { OnErr result (self.new.entries ≡ self.old.entries) }
-    {
-        match fresh {
-            Some(fresh) => {
-                self.entries.insert(key, fresh)?;
-            }
-            None => {
-                self.entries.swap_remove(&key);
-            }
-        }
-        Ok(())
+    // Where the last change left the next result that it told.
+    fn left_at(&self, next: usize) -> usize {
+        self.left.get(next).copied().unwrap_or(usize::MAX)
+    }
+}
+
+// What is told next stands at the place, where it has a result.
+fn leave(left: &mut Vec<usize>, place: Option<usize>) -> Result<(), Memory> {
+    if let Some(place) = place {
+        left.push(place)?;
+    }
+    Ok(())
+}
+
+// The result that stands at the place.
+fn standing<K: Eq + Hash, V>(entries: &IndexMap<K, V, WordHash>, place: usize) -> Option<&V> {
+    match entries.get_index(place) {
+        Some((_, result)) => Some(result),
+        None => None,
     }
 }

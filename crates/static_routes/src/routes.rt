@@ -27,7 +27,12 @@ impl<'a> Choose<Prefix, u32> for StaticInputs<'a> {
 
     ghost IsChosen = { λ inputs network metric. IsRouteOf inputs.configured.now inputs.taken.now network metric };
 
-    fn choose(&self, _alloc: Global, key: Prefix) -> Result<Option<u32>, Memory> {
+    fn choose(
+        &self,
+        _alloc: Global,
+        key: Prefix,
+        _standing: Option<&u32>,
+    ) -> Result<Option<u32>, Memory> {
         if self.taken.contains(&key) {
             return Ok(None);
         }

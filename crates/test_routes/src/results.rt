@@ -16,7 +16,12 @@ impl Choose<u32, u32> for Only {
 
     ghost IsChosen = { λ only key fresh. fresh ≡ (if key == only.key then Some only.value else None) };
 
-    fn choose(&self, _alloc: Global, key: u32) -> Result<Option<u32>, Memory> {
+    fn choose(
+        &self,
+        _alloc: Global,
+        key: u32,
+        _standing: Option<&u32>,
+    ) -> Result<Option<u32>, Memory> {
         if key == self.key {
             Ok(Some(self.value))
         } else {

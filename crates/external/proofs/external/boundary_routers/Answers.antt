@@ -7,6 +7,7 @@ use Rattle.std.proofs.lemmas.List.Elements.{Contains-append_left, Contains-appen
 use Rattle.ospf_types.specs.declared.key.Dest.{Dest}
 use Rattle.ospf_types.specs.declared.key.Dest.TheVariants.{Router}
 use Rattle.ospf_types.proofs.Elements.{mapped_element}
+use Rattle.result_map.proofs.Among.{routers_among}
 use Rattle.intra.specs.Intras.{IsKeptIn}
 use Rattle.external.specs.Inputs.{ExternalInputsValue}
 use Rattle.external.proofs.OfferingRouters.{offering}
@@ -22,7 +23,7 @@ returns c = λ r preference h offered.
       | inl reached ↦ Contains-append_left kept among r ((c.in_ok-routers.ensures.exact r).1 (subst (λ (v : ExternalInputsValue). IsKeptIn v.intra.areas r) (sym c.inputs.view_is) reached))
       | inr some ↦
           let listed = (c.in_ok-others.ensures.exact (Router r)).1 (subst (λ (v : ExternalInputsValue). IsSome (get v.inter.entries (Router r))) (sym c.inputs.view_is) some) in
-          let found = (c.in_ok-routers_among.ensures r).1 (subst (λ (ds : List Dest). Contains ds (Router r)) (sym c.deref.ensures.value) listed) in
+          let found = subst (λ (rs : List ℕ). Contains rs r) (sym c.in_ok-routers_among.ensures) ((routers_among c.deref.result.now r).1 (subst (λ (ds : List Dest). Contains ds (Router r)) (sym c.deref.ensures.value) listed)) in
           Contains-append_right kept among r (subst (λ (rs : List ℕ). Contains rs r) (sym c.deref-2.ensures.value) found)
     ]) in
     let all : c.in_ok-dests.dests.items ≡ map Router routers = c.in_ok-dests.ensures ∙ ap (λ (rs : List ℕ). map Router rs) c.deref-3.ensures.value in

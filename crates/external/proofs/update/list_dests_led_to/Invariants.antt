@@ -1,8 +1,8 @@
--- So far the networks up to here are there that something leads to.
+-- So far the destinations up to here are there that something leads to.
 use Rattle.std.proofs.Common.{take}
 use Rattle.result_map.specs.Lists.{GainsAll, IsOfSome}
 use Rattle.external.specs.Updating.{IsAlso}
-use Rattle.external.proofs.update.list_networks_led_to.Given as goal
+use Rattle.external.proofs.update.list_dests_led_to.Given as goal
 
-abbrev pub invariant-loop-network : goal.invariant-loop-network
-invariant-loop-network l = GainsAll (IsOfSome (take l.network-index l.networks) (IsAlso l.index)) l.initial.leading.items l.leading.items
+abbrev pub invariant-loop-dest : goal.invariant-loop-dest
+invariant-loop-dest l = GainsAll (IsOfSome (take l.dest-index l.dests) (IsAlso l.index)) l.initial.leading.items l.leading.items

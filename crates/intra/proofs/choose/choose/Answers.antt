@@ -8,13 +8,13 @@ entry-requires c =
     let offers = IndexedOffers c.args.indexed.now.inputs.now (map (λ k. k.index) c.args.indexed.now.kept.now) c.args.indexed.now.inputs.now.areas c.args.prefix in
     (chosen_from offers c.new-best.result c.offer_areas.new.best (Some c.in-Some.choice) c.new-best.ensures (sym c.in-Some.ensures) c.in_ok-offer_areas.ensures).1
 
-pub returns-in-Some-clause-exact : goal.returns-in-Some-clause-exact
-returns-in-Some-clause-exact c =
+pub returns-in-Some : goal.returns-in-Some
+returns-in-Some c =
     let offers = IndexedOffers c.args.indexed.now.inputs.now (map (λ k. k.index) c.args.indexed.now.kept.now) c.args.indexed.now.inputs.now.areas c.args.prefix in
-    entry_from offers c.in-Some.choice c.entry.result c.entry.ensures.value
+    entry_from offers c.in-Some.choice c.entry.result c.entry.ensures
     (chosen_from offers c.new-best.result c.offer_areas.new.best (Some c.in-Some.choice) c.new-best.ensures (sym c.in-Some.ensures) c.in_ok-offer_areas.ensures)
 
-pub returns-in-None-clause-exact : goal.returns-in-None-clause-exact
-returns-in-None-clause-exact c =
+pub returns-in-None : goal.returns-in-None
+returns-in-None c =
     let offers = IndexedOffers c.args.indexed.now.inputs.now (map (λ k. k.index) c.args.indexed.now.kept.now) c.args.indexed.now.inputs.now.areas c.args.prefix in
     chosen_from offers c.new-best.result c.offer_areas.new.best None c.new-best.ensures (sym c.in-None.ensures) c.in_ok-offer_areas.ensures

@@ -1,5 +1,5 @@
 -- What is not due stands; then all results are chosen, and what differs is told.
-use Rattle.std.proofs.Common.{◌≡◌, ◌++◌, ℕ, List, map, inl, inr, sym, subst, ◌∙◌}
+use Rattle.std.proofs.Common.{◌≡◌, ◌++◌, ℕ, List, map, sym, subst, ◌∙◌}
 use Rattle.std.specs.Prelude.{◌↔◌}
 use Rattle.std.specs.FinMap.{from_entries, get}
 use Rattle.std.specs.List.{Contains}
@@ -9,11 +9,11 @@ use Rattle.ospf_types.specs.declared.key.Dest.TheVariants.{Net, Router}
 use Rattle.ospf_types.specs.declared.prefix.Prefix.{Prefix}
 use Rattle.ospf_types.specs.Keys.{dest_cmp}
 use Rattle.offer_index.specs.Indexes.{ChangedOffersValue}
-use Rattle.result_map.specs.Lists.{GainsAll, HasMore, IsOfSome}
-use Rattle.result_map.proofs.Among.{dests_sorted}
+use Rattle.result_map.specs.Lists.{HasMore, IsOfSome}
+use Rattle.result_map.proofs.Among.{dests_sorted, networks_among, routers_among}
 use Rattle.external.specs.Changes.{DiffersAt}
 use Rattle.external.specs.Externals.{ExternalValue}
-use Rattle.external.specs.Updating.{IsAlso, IsLedBy, IsLedByAddress, StandsBut}
+use Rattle.external.specs.Updating.{IsLedBy, IsLedByAddress, StandsBut}
 use Rattle.external.specs.contracts.external.External.{the_view}
 use Rattle.external.proofs.Updating.{entry_stands, entry_listed, exactly}
 use Rattle.external.proofs.external.External.update_results.Goals as goal
@@ -25,7 +25,7 @@ follow-requires c = λ r absent.
     let affected : ChangedOffersValue = record { dests = c.affected.inside.dests.items; addresses = c.affected.inside.addresses.items } in
     let old : ExternalValue = the_view c.self.inside in
     let stands : StandsBut v dests affected old = subst (λ (w : ExternalValue). StandsBut v dests affected w) (sym c.self.view_is) (subst (λ (a : ChangedOffersValue). StandsBut v dests a c.args.self.now) (sym c.affected.view_is) c.requires) in
-    stands.preferred r (λ there. absent ((c.in_ok-named_routers.ensures r).1 there))
+    stands.preferred r (λ there. absent (subst (λ (rs : List ℕ). Contains rs r) (sym c.in_ok-named.ensures) ((routers_among dests r).1 there)))
 
 pub update_forwards-requires : goal.update_forwards-requires
 update_forwards-requires c = λ a not_due.
@@ -34,10 +34,7 @@ update_forwards-requires c = λ a not_due.
     let affected : ChangedOffersValue = record { dests = c.affected.inside.dests.items; addresses = c.affected.inside.addresses.items } in
     let old : ExternalValue = the_view c.self.inside in
     let stands : StandsBut v dests affected old = subst (λ (w : ExternalValue). StandsBut v dests affected w) (sym c.self.view_is) (subst (λ (a : ChangedOffersValue). StandsBut v dests a c.args.self.now) (sym c.affected.view_is) c.requires) in
-    stands.forwards a (λ due. not_due (elim due [
-      | inl there ↦ inl there
-      | inr w ↦ inr (w.0, subst (λ (ps : List Prefix). Contains ps w.0) (sym c.deref.ensures.value) ((c.in_ok-named_networks.ensures w.0).1 w.1), w.2)
-    ]))
+    stands.forwards a not_due
 
 pub follow-requires-2 : goal.follow-requires-2
 follow-requires-2 c = λ p absent.
@@ -48,13 +45,12 @@ follow-requires-2 c = λ p absent.
     let stands : StandsBut v dests affected old = subst (λ (w : ExternalValue). StandsBut v dests affected w) (sym c.self.view_is) (subst (λ (a : ChangedOffersValue). StandsBut v dests a c.args.self.now) (sym c.affected.view_is) c.requires) in
     let by_routers = c.list_dests_by_routers.new.dests.items in
     let led = c.list_dests_by_addresses.new.dests.items in
-    let leading = c.list_networks_led_to.new.leading.items in
-    let first = subst (λ (ns : List ℕ). HasMore (IsOfSome ns (IsLedBy old.index)) affected.dests by_routers) c.deref-2.ensures.value c.in_ok-list_dests_by_routers.ensures in
-    let second = subst (λ (ns : List ℕ). HasMore (IsOfSome ns (IsLedByAddress old.index)) by_routers led) c.deref-3.ensures.value c.in_ok-list_dests_by_addresses.ensures in
-    let third = subst (λ (ps : List Prefix). GainsAll (IsOfSome ps (IsAlso old.index)) led leading) c.deref-4.ensures.value c.in_ok-list_networks_led_to.ensures in
-    entry_stands v dests affected old (from_entries c.follow.new.self.entries) (from_entries c.update_forwards.new.forwards.entries) c.in_ok-routers.routers.items c.in_ok-moved.moved.items c.in_ok-named_networks.named_networks.items
-    by_routers led leading stands c.in_ok-routers.ensures.exact c.in_ok-moved.ensures.exact c.in_ok-named_networks.ensures first second third p
-    (λ there. absent ((c.in_ok-due.ensures p).1 (subst (λ (ds : List Dest). Contains ds (Net p)) (sym c.deref-5.ensures.value) there)))
+    let leading = c.list_dests_led_to.new.leading.items in
+    let first = subst (λ (ns : List ℕ). HasMore (IsOfSome ns (IsLedBy old.index)) affected.dests by_routers) c.deref.ensures.value c.in_ok-list_dests_by_routers.ensures in
+    let second = subst (λ (ns : List ℕ). HasMore (IsOfSome ns (IsLedByAddress old.index)) by_routers led) c.deref-2.ensures.value c.in_ok-list_dests_by_addresses.ensures in
+    entry_stands v dests affected old (from_entries c.follow.new.self.entries) (from_entries c.update_forwards.new.forwards.entries) c.in_ok-routers.routers.items c.in_ok-moved.moved.items
+    by_routers led leading stands c.in_ok-routers.ensures.exact c.in_ok-moved.ensures.exact first second c.in_ok-list_dests_led_to.ensures p
+    (λ there. absent (subst (λ (ps : List Prefix). Contains ps p) (sym c.in_ok-due.ensures) ((networks_among c.deref-3.result.now p).1 (subst (λ (ds : List Dest). Contains ds (Net p)) (sym c.deref-3.ensures.value) there))))
 
 pub returns : goal.returns
 returns c =
@@ -66,7 +62,7 @@ returns c =
     let new : ExternalValue = the_view (record c.self.inside { preferred = c.follow.new.self; forwards = c.update_forwards.new.forwards; entries = c.follow-2.new.self }) in
     let routers = c.in_ok-routers.routers.items in
     let networks = c.in_ok-networks.networks.items in
-    let all : c.in_ok-others.others.items ≡ map Net networks ++ map Router routers = c.in_ok-others.ensures ∙ (λ i. map Net (c.deref-6.ensures.value i) ++ map Router (c.deref-7.ensures.value i)) in
+    let all : c.in_ok-others.others.items ≡ map Net networks ++ map Router routers = c.in_ok-others.ensures ∙ (λ i. map Net (c.deref-4.ensures.value i) ++ map Router (c.deref-5.ensures.value i)) in
     record {
       kept = record {
         fresh = stands.fresh;

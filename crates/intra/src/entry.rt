@@ -1,0 +1,63 @@
+//! The entry of a network, as it is kept.
+ghost use Rattle.std.specs.Prelude.{◌≡◌, ◌<◌};
+ghost use Rattle.intra.specs.Intras.{most_cost};
+
+use ospf_types::entry::Entry;
+use result_map::Same;
+use std::marker::Model;
+
+/// The intra-area entry of a network.
+pub struct IntraEntry {
+    entry: Entry,
+    // Where an index had the sources of the network: they are looked for there first. No answer depends on it.
+    sources: usize,
+}
+
+// proof: one call drops it, in place of a drop of each part wherever one is held.
+impl Drop for IntraEntry {
+    fn drop(self) {
+        let IntraEntry {
+            entry: _entry,
+            sources: _,
+        } = self;
+    }
+}
+
+impl Model for IntraEntry {
+    ghost use Rattle.std.specs.Prelude.{◌<◌};
+    ghost use Rattle.ospf_types.specs.declared.entry.Entry.{Entry as EntryValue};
+    ghost use Rattle.intra.specs.Intras.{most_cost};
+
+    ghost Value = { EntryValue };
+
+    ghost view = { λ e. e.entry };
+
+    ghost invariant = { λ e. e.entry.cost < most_cost };
+}
+
+impl IntraEntry {
+    pub(crate) fn new(entry: Entry, sources: usize) -> IntraEntry
+        requires { entry.cost < most_cost }
+        ensures { result ≡ entry }
+    {
+        IntraEntry { entry, sources }
+    }
+
+    /// The entry.
+    pub fn entry(&self) -> &Entry
+        ensures value { result.now ≡ self.now }
+        ensures bounded { result.now.cost < most_cost }
+    {
+        &self.entry
+    }
+
+    pub(crate) fn sources(&self) -> usize {
+        self.sources
+    }
+}
+
+impl Same for IntraEntry {
+    fn is_same(&self, other: &IntraEntry) -> bool {
+        self.entry.is_same(&other.entry)
+    }
+}
