@@ -26,7 +26,7 @@ pub(crate) fn costs_within(
     let entries = intra.entries();
     let mut costs = Vec::new(alloc);
     for place in 0..entries.len() {
-        let Some((network, entry)) = entries.get_index(place) else {
+        let Some((network, kept)) = entries.get_index(place) else {
             unreachable!()
         };
         let member = Member {
@@ -34,7 +34,7 @@ pub(crate) fn costs_within(
             area,
             network: *network,
         };
-        push_within(entry.entry(), member, &mut costs)?;
+        push_within(kept.entry(), member, &mut costs)?;
     }
     // What is made of members in their order costs less.
     costs.sort_unstable_by_key(|(member, _)| member.network);

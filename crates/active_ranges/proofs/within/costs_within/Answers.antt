@@ -18,14 +18,14 @@ loop-place-preserved c =
     let es : List (Prefix × Entry) = c.entries-entries.result in
     let i = c.loop-place.place in
     let network = c.in-Some.network.now in
-    let x : Prefix × Entry = (network, c.in-Some.entry.now) in
+    let x : Prefix × Entry = (network, c.in-Some.kept.now) in
     let stands : slice_get es i ≡ Some x = sym c.in-Some.ensures.entry in
     let lt : i < length es = slice_get_within es i x stands in
     let read : get_or es i x ≡ x = get_or_from_slice_get es i x x stands in
-    let held = c.entries-entries.ensures.exact network c.in-Some.entry.now (i, lt, read) in
+    let held = c.entries-entries.ensures.exact network c.in-Some.kept.now (i, lt, read) in
     let within : i < length (keys_of es) = subst (λ (n : ℕ). i < n) (sym (length-map es (λ (y : Prefix × Entry). y.0))) lt in
     let at : network ≡ get_or (keys_of es) i network = ap (λ (y : Prefix × Entry). y.0) (sym read) ∙ sym (get_or-map (λ (y : Prefix × Entry). y.0) es i x network lt) in
-    more_next (IsOfNetwork entries c.args.area c.args.range) (keys_of es) i network [] c.loop-place.costs.items c.push_within.new.costs.items within at c.loop-place.invariant (c.in_ok-push_within.ensures entries held)
+    more_next (IsOfNetwork entries c.args.area c.args.range) (keys_of es) i network [] c.loop-place.costs.items c.push_within.new.costs.items within at c.loop-place.invariant (c.in_ok-push_within.ensures entries (held ∙ ap Some (sym c.entry.ensures.value)))
 
 pub returns : goal.returns
 returns c x =
