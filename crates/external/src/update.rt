@@ -227,23 +227,19 @@ pub(crate) fn list_dests_led_to(
         leading.old.items leading.new.items) }
 {
     for dest in dests {
-        list_if_led_to(index, *dest, leading)?;
+        list_if_led_to(index, dest, leading)?;
     }
     Ok(())
 }
 
 // Adds the destination if something leads to it.
-fn list_if_led_to(
-    index: &OfferIndex,
-    dest: Dest,
-    leading: &mut Vec<Dest>,
-) -> Result<(), Memory>
-    ensures { OnOk result (GainsAll (IsAlso index.now dest)
+fn list_if_led_to(index: &OfferIndex, dest: &Dest, leading: &mut Vec<Dest>) -> Result<(), Memory>
+    ensures { OnOk result (GainsAll (IsAlso index.now dest.now)
         leading.old.items leading.new.items) }
 {
-    if !index.leads_to(dest) {
+    if !index.leads_to(*dest) {
         return Ok(());
     }
-    leading.push(dest)?;
+    leading.push(*dest)?;
     Ok(())
 }

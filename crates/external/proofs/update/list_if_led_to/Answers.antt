@@ -7,7 +7,7 @@ use Rattle.external.proofs.update.list_if_led_to.Goals as goal
 
 pub returns-then-not-leads_to : goal.returns-then-not-leads_to
 returns-then-not-leads_to c =
-    gains_none (IsAlso c.args.index.now c.args.dest) c.args.leading.now.items (λ d also. true≢false (sym (c.leads_to.ensures.1 (subst (IsLedTo c.args.index.now) also.0 also.1)) ∙ c.if-not-leads_to.true))
+    gains_none (IsAlso c.args.index.now c.args.dest.now) c.args.leading.now.items (λ d also. true≢false (sym (c.leads_to.ensures.1 (subst (IsLedTo c.args.index.now) also.0 also.1)) ∙ c.if-not-leads_to.true))
 
 pub returns : goal.returns
-returns c = gains_one (IsAlso c.args.index.now c.args.dest) c.args.leading.now.items c.push.new.self.items c.args.dest c.in_ok-push.ensures.items (λ d also. also.0)
+returns c = gains_one (IsAlso c.args.index.now c.args.dest.now) c.args.leading.now.items c.push.new.self.items c.args.dest.now c.in_ok-push.ensures.items (λ d also. also.0)
