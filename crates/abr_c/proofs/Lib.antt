@@ -1,2 +1,3 @@
 mod Core
 mod Fronts
+mod Refused

@@ -31,7 +31,13 @@ IsConfigRefusal text number = IsBaseRefusal text number ⊎ ((base : Base) × Sa
 abbrev pub IsSeedRefusal : (seed : List ℕ) → ℕ → Type 0
 IsSeedRefusal seed number = ((length seed < 16) × (number ≡ short_seed)) ⊎ (number ≡ out_of_memory)
 
--- the core has the base that is said, and no event was taken; or there is none, and the number is why
+-- the core has this base, and no event was taken; or there is none, and the number is why
+abbrev pub OpensBase : Base → (seed : List ℕ) (number : ℕ) → Option CoreValue → Type 0
+OpensBase base seed number (Some core) = (number ≡ 0) × IsCore core × IsOpening base standard_limits core
+OpensBase base seed number None = IsSeedRefusal seed number
+
+-- a base is said, and opens a core or none; or there is none, and the number is why
 abbrev pub Opens : (Says : Base → Type 0) (IsRefusal : ℕ → Type 0) (seed : List ℕ) (number : ℕ) → Option CoreValue → Type 0
-Opens Says IsRefusal seed number (Some core) = (number ≡ 0) × IsCore core × (base : Base) × Says base × IsOpening base standard_limits core
-Opens Says IsRefusal seed number None = IsRefusal number ⊎ IsSeedRefusal seed number
+Opens Says IsRefusal seed number after =
+    ((base : Base) × Says base × OpensBase base seed number after)
+    ⊎ (IsRefusal number × (after ≡ None))

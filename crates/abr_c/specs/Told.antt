@@ -15,9 +15,9 @@ use Rattle.event_core.specs.Cores.{CoreValue, Applies, IsRollRefusal, NamesChang
 use Rattle.abr_c.specs.Numbers.{answer_number, no_core, no_network, out_of_memory, refusal_number, status_number, wire_number}
 
 -- the core answers the event, and the number is that of its answer
-pub record IsAnswered (e : Event) (old : CoreValue) (number : ℕ) (new : CoreValue) : Type 0 where
+pub record IsAnswered (e : Event) (old : CoreValue) (told : ℕ) (new : CoreValue) : Type 0 where
   pub answer : Result Reply Refusal
-  pub number : number ≡ answer_number answer
+  pub number : told ≡ answer_number answer
   pub applied : Applies old e answer new
   pub changes : IfOk answer (λ reply. NamesChanges old reply.state new)
   pub work : IfOk answer (λ reply. HasBoundedWork old reply.state new)
@@ -41,9 +41,9 @@ Installs at bytes old number new =
     ⊎ ((fault_of bytes ≡ None) × (number ≡ out_of_memory) × (new ≡ old)))
 
 -- table and due summaries are those of the whole journal, or are as behind as they were; all else is as it was
-pub record IsCaughtUp (old : CoreValue) (number : ℕ) (new : CoreValue) : Type 0 where
+pub record IsCaughtUp (old : CoreValue) (told : ℕ) (new : CoreValue) : Type 0 where
   pub status : Status
-  pub number : number ≡ status_number status
+  pub number : told ≡ status_number status
   pub stands : Stands old status new
   pub journal : new.journal ≡ old.journal
   pub base : new.base ≡ old.base

@@ -1,7 +1,7 @@
 -- What C reads of a core.
-use Rattle.std.specs.Prelude.{ℕ, ◌≡◌, ◌+◌, ◌⊎◌, List, [], length, map as list_map, Option, Some, None, option_map, slice_get}
+use Rattle.std.specs.Prelude.{ℕ, ◌≡◌, ◌+◌, ◌⊎◌, List, [], length, drop, map as list_map, Option, Some, None, option_map, slice_get}
 use Rattle.std.specs.FinMap as map
-use Rattle.ospf_types.specs.Network.{Network}
+use Rattle.ospf_types.specs.Network.{Network, network_cmp}
 use Rattle.ospf_types.specs.declared.config.Interface.{Interface}
 use Rattle.ospf_types.specs.declared.hop.Path.{Path}
 use Rattle.ospf_types.specs.declared.key.Scope.{Scope}
@@ -42,9 +42,12 @@ built_in = of_core 0 (λ core. core.base.serial + core.built)
 -- ---- the table
 
 -- the longest match of the address
+abbrev pub IsFound : map.FinMap network_cmp Item → (address : ℕ) → CItem → Type 0
+IsFound items address out = (found : Match) × IsMatch items address found × (out ≡ item_of_match found)
+
 abbrev pub IsLookedUp : Option CoreValue → (address : ℕ) → CItem → Type 0
 IsLookedUp None address out = out ≡ no_item
-IsLookedUp (Some core) address out = (found : Match) × IsMatch core.table.items address found × (out ≡ item_of_match found)
+IsLookedUp (Some core) address out = IsFound core.table.items address out
 
 -- what the table has for the network
 abbrev pub item_at : Option CoreValue → Option Network → Option Item
@@ -75,8 +78,9 @@ change_at c n = option_map prefix_of (slice_get (changes_in c) n)
 abbrev pub entries_in : Option CoreValue → List (Network × Item)
 entries_in = of_core [] (λ core. map.entries core.table.items)
 
-abbrev pub items_in : Option CoreValue → List CItem
-items_in c = list_map item_of_entry (entries_in c)
+-- what C is told of them, from one of them on
+abbrev pub items_from : Option CoreValue → (first : ℕ) → List CItem
+items_from c first = list_map item_of_entry (drop first (entries_in c))
 
 -- ---- due summaries
 

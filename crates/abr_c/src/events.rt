@@ -22,10 +22,11 @@ pub extern "C" fn abr_install_bytes(
     ensures { Installs (scope_of scope) lsa.now (core_in slot.old) result (core_in slot.new) }
 {
     let scope = scope.scope();
-    match lsa_codec::read(alloc, lsa) {
-        Ok(lsa) => apply(alloc, slot, Event::Install { scope, lsa }),
-        Err(fault) => wire_number(fault),
-    }
+    let lsa = match lsa_codec::read(alloc, lsa) {
+        Ok(lsa) => lsa,
+        Err(fault) => return wire_number(fault),
+    };
+    apply(alloc, slot, Event::Install { scope, lsa })
 }
 
 /// An LSA of the router's own is aged prematurely.

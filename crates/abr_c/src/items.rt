@@ -4,7 +4,7 @@ ghost use Rattle.abr_c.specs.CTypes.{item_of_entry};
 ghost use Rattle.abr_c.specs.Given.{copied};
 
 use crate::c_types::CItem;
-use crate::table::item_of;
+use crate::table::item_of_entry;
 use route_table::Items;
 
 /// Writes items to the front of `out`, as many as there are and have room, and answers how many.
@@ -14,10 +14,10 @@ pub(crate) fn copy_items(mut items: Items<'_>, out: &mut [CItem]) -> usize
 {
     let mut count = 0;
     while count < out.len() {
-        let Some((network, item)) = items.next() else {
+        let Some(entry) = items.next() else {
             return count;
         };
-        out[count] = item_of(network, item);
+        out[count] = item_of_entry(entry);
         count += 1;
     }
     count

@@ -14,10 +14,10 @@ use std::alloc::Global;
 pub extern "C" fn abr_lsa_fault_bytes(alloc: Global, lsa: &[u8]) -> u32
     ensures { IsLsaNumber lsa.now result }
 {
-    match read(alloc, lsa) {
-        Ok(_) => 0,
-        Err(fault) => wire_number(fault),
-    }
+    let Err(fault) = read(alloc, lsa) else {
+        return 0;
+    };
+    wire_number(fault)
 }
 
 /// The checksum that the LSA has to have.

@@ -1,10 +1,10 @@
 //! Opening and closing.
-ghost use Rattle.std.specs.Prelude.{◌≡◌, ◌↔◌, [], Some, None, IfOk, IfErr, IsTrue, IfSome, MatchResult};
+ghost use Rattle.std.specs.Prelude.{◌≡◌, ◌↔◌, None, IfOk, IfErr, IsTrue};
 ghost use Rattle.event_state.specs.BaseFaults.{base_fault_of};
 ghost use Rattle.event_state.specs.Steps.{standard_limits};
 ghost use Rattle.event_core.specs.Cores.{IsCore, IsOpening};
 ghost use Rattle.recording.specs.Recordings.{HasConfigOnly};
-ghost use Rattle.abr_c.specs.Opening.{Opens, SaysBase, SaysConfig, IsBaseRefusal, IsConfigRefusal, IsSeedRefusal};
+ghost use Rattle.abr_c.specs.Opening.{Opens, OpensBase, SaysBase, SaysConfig, IsBaseRefusal, IsConfigRefusal, IsSeedRefusal};
 ghost use Rattle.abr_c.specs.Slots.{core_in};
 
 use crate::numbers::{MEMORY, ORDER, fault_number};
@@ -13,7 +13,6 @@ use crate::slot::Slot;
 use event_core::{Base, Core, Limits};
 use recording::parse;
 use std::alloc::Global;
-use std::hash::RandomState;
 
 /// Opens a core with the configuration that the text says, in place of what was open.
 #[unsafe(no_mangle)]
@@ -21,11 +20,11 @@ pub extern "C" fn abr_open_bytes(alloc: Global, config: &[u8], seed: &[u8], out:
     ensures { Opens (SaysConfig config.now) (IsConfigRefusal config.now) seed.now result
         (core_in out.new) }
 {
-    let opened = match config_in(alloc, config) {
-        Ok(base) => core_of(alloc, base, seed),
-        Err(number) => Err(number),
+    let base = match config_in(alloc, config) {
+        Ok(base) => base,
+        Err(number) => return refuse(alloc, number, out),
     };
-    keep(alloc, out, opened)
+    open(alloc, base, seed, out)
 }
 
 /// Opens a core with the base that the text says, in place of what was open.
@@ -39,11 +38,11 @@ pub extern "C" fn abr_open_base_bytes(
     ensures { Opens (SaysBase base.now) (IsBaseRefusal base.now) seed.now result
         (core_in out.new) }
 {
-    let opened = match base_in(alloc, base) {
-        Ok(base) => core_of(alloc, base, seed),
-        Err(number) => Err(number),
+    let base = match base_in(alloc, base) {
+        Ok(base) => base,
+        Err(number) => return refuse(alloc, number, out),
     };
-    keep(alloc, out, opened)
+    open(alloc, base, seed, out)
 }
 
 /// Closes the core, if there is one.
@@ -52,21 +51,26 @@ pub extern "C" fn abr_close(slot: Slot) {
     drop(slot);
 }
 
-// Puts the core that was opened in place of what was open, or none.
-fn keep(alloc: Global, out: &mut Slot, opened: Result<Box<Core>, u32>) -> u32
-    ensures { MatchResult opened (λ core. (result ≡ 0) × (core_in out.new ≡ Some core.value))
-        (λ number. (result ≡ number) × (core_in out.new ≡ None)) }
+// Opens a core with the base, in place of what was open.
+fn open(alloc: Global, base: Base, seed: &[u8], out: &mut Slot) -> u32
+    requires { base_fault_of standard_limits base ≡ None }
+    ensures { OpensBase base seed.now result (core_in out.new) }
 {
-    match opened {
-        Ok(core) => {
-            out.put(core);
-            0
-        }
-        Err(number) => {
-            *out = Slot::none(alloc);
-            number
-        }
-    }
+    let core = match core_of(alloc, base, seed) {
+        Ok(core) => core,
+        Err(number) => return refuse(alloc, number, out),
+    };
+    out.put(core);
+    0
+}
+
+// Opens no core, and closes the one that was open. The answer is the number.
+fn refuse(alloc: Global, number: u32, out: &mut Slot) -> u32
+    ensures number { result ≡ number }
+    ensures none { core_in out.new ≡ None }
+{
+    *out = Slot::none(alloc);
+    number
 }
 
 // The configuration that the text says, or the number of what is wrong with it.
@@ -115,18 +119,11 @@ fn core_of(alloc: Global, base: Base, seed: &[u8]) -> Result<Box<Core>, u32>
     ensures refused { IfErr result (IsSeedRefusal seed.now) }
 {
     let hashing = hashing_of(seed)?;
-    match core_under(alloc, base, hashing) {
-        Some(core) => Ok(core),
-        None => Err(MEMORY),
+    let Ok(core) = Core::open_sound(alloc, base, Limits::STANDARD, hashing) else {
+        return Err(MEMORY);
+    };
+    match Box::new(alloc, core) {
+        Ok(core) => Ok(core),
+        Err(_) => Err(MEMORY),
     }
-}
-
-// None if memory ran out.
-fn core_under(alloc: Global, base: Base, hashing: RandomState) -> Option<Box<Core>>
-    requires { base_fault_of standard_limits base ≡ None }
-    ensures opens { IfSome result (λ core. IsOpening base standard_limits core.value) }
-    ensures kept { IfSome result (λ core. IsCore core.value) }
-{
-    let core = Core::open_sound(alloc, base, Limits::STANDARD, hashing).ok()?;
-    Box::new(alloc, core).ok()
 }

@@ -1,10 +1,10 @@
 //! The routing table.
-ghost use Rattle.std.specs.Prelude.{◌≡◌, length, take, drop, option_copied, option_map, slice_get};
+ghost use Rattle.std.specs.Prelude.{◌≡◌, length, take, option_copied, option_map, slice_get};
 ghost use Rattle.std.specs.FinMap as map;
 ghost use Rattle.abr_c.specs.CTypes as c;
 ghost use Rattle.abr_c.specs.Given.{IsGiven, copied};
 ghost use Rattle.abr_c.specs.Slots.{core_in};
-ghost use Rattle.abr_c.specs.Views.{IsLookedUp, built_in, change_at, changes_in, hop_at, item_for, items_in, paths_of, serial_in};
+ghost use Rattle.abr_c.specs.Views.{IsFound, IsLookedUp, built_in, change_at, changes_in, entries_in, hop_at, item_for, items_from, paths_of, serial_in};
 
 use crate::c_types::{CHop, CItem, CPrefix};
 use crate::given::give;
@@ -50,11 +50,11 @@ pub extern "C" fn abr_lookup(alloc: Global, slot: &mut Slot, address: u32, out: 
     ensures found { IsLookedUp (core_in slot.old) address out.new }
     ensures kept { core_in slot.new ≡ core_in slot.old }
 {
+    *out = NO_ITEM;
     let Some(core) = slot.take(alloc) else {
-        *out = NO_ITEM;
         return;
     };
-    *out = item_of_match(core.table().lookup(address));
+    *out = looked_up(core.table(), address);
     slot.put(core);
 }
 
@@ -130,7 +130,7 @@ pub extern "C" fn abr_change_at(alloc: Global, slot: &mut Slot, n: usize, out: &
 /// How many networks the table has.
 #[unsafe(no_mangle)]
 pub extern "C" fn abr_items(alloc: Global, slot: &mut Slot) -> usize
-    ensures count { result ≡ length (items_in (core_in slot.old)) }
+    ensures count { result ≡ length (entries_in (core_in slot.old)) }
     ensures kept { core_in slot.new ≡ core_in slot.old }
 {
     let Some(core) = slot.take(alloc) else {
@@ -150,8 +150,8 @@ pub extern "C" fn abr_items_from(
     out: &mut [CItem],
 ) -> usize
     ensures count { result ≡ length (take (length out.old)
-        (drop first (items_in (core_in slot.old)))) }
-    ensures written { out.new ≡ copied (drop first (items_in (core_in slot.old))) out.old }
+        (items_from (core_in slot.old) first)) }
+    ensures written { out.new ≡ copied (items_from (core_in slot.old) first) out.old }
     ensures kept { core_in slot.new ≡ core_in slot.old }
 {
     let Some(core) = slot.take(alloc) else {
@@ -160,6 +160,12 @@ pub extern "C" fn abr_items_from(
     let count = copy_items(without_first(core.table().items(), first), out);
     slot.put(core);
     count
+}
+
+fn looked_up(table: &Table, address: u32) -> CItem
+    ensures { IsFound table.now.items address result }
+{
+    item_of_match(table.lookup(address))
 }
 
 fn prefix_at(networks: &[Prefix], n: usize) -> Option<CPrefix>
@@ -217,7 +223,7 @@ const NO_ITEM: CItem = CItem {
 };
 
 fn item_of_match(found: Match<'_>) -> CItem
-    ensures { result ≡ c.item_of_match found }
+    ensures { result ≡ c.item_of_match found.entry }
 {
     match found {
         Match::Route(network, entry) => route_of(network, entry),
@@ -227,7 +233,7 @@ fn item_of_match(found: Match<'_>) -> CItem
 }
 
 fn item_or_none(network: Prefix, item: Option<&Item>) -> CItem
-    ensures { result ≡ c.item_or_none network (option_copied item) }
+    ensures { result ≡ c.item_or_none network (option_copied item.entry) }
 {
     match item {
         Some(item) => item_of(network, item),
@@ -235,13 +241,20 @@ fn item_or_none(network: Prefix, item: Option<&Item>) -> CItem
     }
 }
 
-pub(crate) fn item_of(network: Prefix, item: &Item) -> CItem
+fn item_of(network: Prefix, item: &Item) -> CItem
     ensures { result ≡ c.item_of network item.now }
 {
     match item {
         Item::Route(entry) => route_of(network, entry),
         Item::Discard => discard_of(network),
     }
+}
+
+// What C is told of a network with its item.
+pub(crate) fn item_of_entry(entry: (Prefix, &Item)) -> CItem
+    ensures { result ≡ c.item_of_entry (entry.entry.0, entry.entry.1.now) }
+{
+    item_of(entry.0, entry.1)
 }
 
 fn discard_of(network: Prefix) -> CItem

@@ -20,8 +20,8 @@ returns-in_default-clause-written c =
 
 pub loop-count-preserved : goal.loop-count-preserved
 loop-count-preserved c =
-    let all = map item_of_entry c.args.items in let n = c.loop-count.count in let out = c.loop-count.out in let x = c.item_of.result in let more = map item_of_entry c.next.new.self in
-    let next : x ∷ more ≡ drop n all = (λ i. c.item_of.ensures i ∷ more) ∙ sym (ap (map item_of_entry) c.in-Some.ensures.steps) ∙ c.loop-count.invariant.left in
+    let all = map item_of_entry c.args.items in let n = c.loop-count.count in let out = c.loop-count.out in let x = c.item_of_entry.result in let more = map item_of_entry c.next.new.self in
+    let next : x ∷ more ≡ drop n all = (λ i. c.item_of_entry.ensures i ∷ more) ∙ sym (ap (map item_of_entry) c.in-Some.ensures.steps) ∙ c.loop-count.invariant.left in
     let long = ap length next in
     let in_all : n < length all = omega (arith, long, length-drop n all) in
     record {

@@ -1,0 +1,18 @@
+-- What the reading of bytes tells of their first fault.
+use Rattle.std.proofs.Common.{◌≡◌, Some, None, inl, inr, refl, sym, ap, ◌∙◌, subst}
+use Rattle.std.specs.Prelude.{◌⊎◌, Option, Result, Ok, Err, IsOkUnless}
+use Rattle.ospf_types.specs.Lsa.{Lsa}
+use Rattle.lsa_codec.specs.declared.fault.WireFault.{WireFault}
+use Rattle.lsa_codec.specs.declared.fault.WireFault.TheVariants.{Memory}
+
+-- what is told is the first fault, or there is none and memory ran out
+pub fault_told : (found : Option WireFault) (r : Result Lsa WireFault) (e : WireFault)
+    → ((f : WireFault) → found ≡ Some f → r ≡ Err f) → (found ≡ None → IsOkUnless r Memory) → r ≡ Err e
+    → (found ≡ Some e) ⊎ ((found ≡ None) × (e ≡ Memory))
+fault_told None r e first accepted is = inr (refl, subst (λ s. IsOkUnless s Memory) is (accepted refl))
+fault_told (Some f) r e first accepted is = let same : Err f ≡ Err e = sym (first f refl) ∙ is in inl (ap Some cc)
+
+-- what is read has no fault
+pub none_found : (found : Option WireFault) (r : Result Lsa WireFault) (l : Lsa) → ((f : WireFault) → found ≡ Some f → r ≡ Err f) → r ≡ Ok l → found ≡ None
+none_found None r l first is = refl
+none_found (Some f) r l first is = let differ : Err f ≡ Ok l = sym (first f refl) ∙ is in absurd cc
