@@ -165,7 +165,11 @@ pub extern "C" fn abr_items_from(
 fn looked_up(table: &Table, address: u32) -> CItem
     ensures { IsFound table.now.items address result }
 {
-    item_of_match(table.lookup(address))
+    match table.lookup(address) {
+        Match::Route(network, entry) => route_of(network, entry),
+        Match::Discard(network) => discard_of(network),
+        Match::None => NO_ITEM,
+    }
 }
 
 fn prefix_at(networks: &[Prefix], n: usize) -> Option<CPrefix>
@@ -221,16 +225,6 @@ const NO_ITEM: CItem = CItem {
     cost2: 0,
     paths: 0,
 };
-
-fn item_of_match(found: Match<'_>) -> CItem
-    ensures { result ≡ c.item_of_match found.entry }
-{
-    match found {
-        Match::Route(network, entry) => route_of(network, entry),
-        Match::Discard(network) => discard_of(network),
-        Match::None => NO_ITEM,
-    }
-}
 
 fn item_or_none(network: Prefix, item: Option<&Item>) -> CItem
     ensures { result ≡ c.item_or_none network (option_copied item.entry) }
