@@ -342,14 +342,16 @@ static void check_first_lines(void)
     expect_text("abr 2\nrouter 10.0.0.1\ncompat maybe\narea 0.0.0.0 normal\n", ABR_LINE);
     expect_text("abr 3\nrouter 10.0.0.1\ncompat enabled\n", ABR_TRUNCATED);
     expect_text("abr 3\nrouter 10.0.0.1\ncompat enabled\nserial 0\narea 0.0.0.0 normal\n", ABR_CURRENT);
+    expect_text("abr 3\nrouter 10.0.0.1\ncompat enabled\nserial 1\narea 0.0.0.0 normal\n", ABR_ORDER);
 }
 
 static void check_areas(void)
 {
     expect_areas("", ABR_AREAS);
     expect_areas("area 0.0.0.0 normal", ABR_TRUNCATED);
-    expect_areas("area 0.0.0.0 odd\n", ABR_LINE);
-    expect_areas("area  0.0.0.0 normal\n", ABR_LINE);
+    expect_areas("area 0.0.0.0 odd\n", ABR_AREAS);
+    expect_areas("area 0.0.0.0 normal\narea 0.0.0.1 odd\n", ABR_LINE);
+    expect_areas("area 0.0.0.0 normal\narea  0.0.0.1 normal\n", ABR_LINE);
     expect_areas("area 0.0.0.0 normal\n\n", ABR_LINE);
     expect_areas("area 0.0.0.0 normal\nlookup 10.0.0.1\n", ABR_ORDER);
     expect_areas("area 0.0.0.0 normal\nsecond\n", ABR_ORDER);
@@ -359,7 +361,7 @@ static void check_areas(void)
     expect_areas("area 0.0.0.0 stub 10 all\n", ABR_BACKBONE_STUB);
     expect_areas("area 0.0.0.1 stub 16777214 all\n", ABR_CURRENT);
     expect_areas("area 0.0.0.1 stub 16777215 all\n", ABR_COST);
-    expect_areas("area 0.0.0.1 stub 4294967296 all\n", ABR_LINE);
+    expect_areas("area 0.0.0.0 normal\narea 0.0.0.1 stub 4294967296 all\n", ABR_LINE);
     expect_areas("range 0.0.0.0 10.0.0.0/8 hide\n", ABR_ORDER);
     expect_areas("area 0.0.0.0 normal\nrange 0.0.0.1 10.0.0.0/8 hide\n", ABR_ORDER);
     expect_areas("area 0.0.0.0 normal\nrange 0.0.0.0 10.0.0.0/33 hide\n", ABR_LINE);
