@@ -3,7 +3,7 @@
  * A core takes events: LSAs as they came off the wire, interfaces, area address ranges, seconds. After each event it
  * has the routing table (RFC 2328, 16) and the summary-LSAs that are due in each area (12.4.3).
  *
- * Link with libabr.a. It calls malloc, realloc and free, and nothing else of the system.
+ * Link with libabr.a. It calls malloc, realloc, free, memcpy, memmove and memset, and nothing else.
  *
  * Numbers are in the byte order of the host: 192.0.2.1 is 0xc0000201, as address, Router ID and Area ID.
  *

@@ -221,7 +221,7 @@ if command -v nm > "$room/which"; then
     nm -g "$prefix/lib/libabr.a" | awk 'NF > 1 && $(NF - 1) == "U" { print $NF }' | sort -u > "$room/asked"
     nm -g "$prefix/lib/libabr.a" | awk 'NF == 3 && $2 != "U" { print $3 }' | sort -u > "$room/given"
     comm -23 "$room/asked" "$room/given" > "$room/beyond"
-    printf '%s\n' free malloc realloc > "$room/wanted"
+    printf '%s\n' free malloc memcpy memmove memset realloc > "$room/wanted"
     same "what libabr.a calls" "$room/beyond" "$room/wanted"
 fi
 
