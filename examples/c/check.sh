@@ -152,6 +152,7 @@ front='abr 3\nrouter 10.0.0.1\ncompat disabled\nserial 0\narea 0.0.0.0 normal\n'
 refuses "an empty recording" ''
 refuses "a version that is none" 'abr 4\n'
 refuses "a line that is none" "${front}second\nthird\n"
+refuses "a roll in version 2" 'abr 2\nrouter 10.0.0.1\ncompat disabled\narea 0.0.0.0 normal\nroll\n'
 refuses "a line of the front behind an event" "${front}second\narea 0.0.0.1 normal\n"
 refuses "a line without its line feed" "${front}second\nsecond"
 refuses "an address that is none" "${front}second\nlookup 10.0.0.256\n"

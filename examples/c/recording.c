@@ -202,6 +202,12 @@ static bool read_event(struct line line, struct event *event)
     return line.fits && line.at == line.end;
 }
 
+/* Only version 3 has ranges that change, and rolls. */
+static bool is_of_version_3(const struct event *event)
+{
+    return event->kind == EVENT_RANGE_SET || event->kind == EVENT_RANGE_DROP || event->kind == EVENT_ROLL;
+}
+
 /* ---- Files */
 
 static int read_stream(FILE *stream, struct recording *recording)
@@ -300,5 +306,5 @@ uint32_t next_event(const struct recording *recording, struct place *place, stru
         return ABR_TRUNCATED;
     if (!read_event(line, event))
         return is_of_front(line) ? ABR_ORDER : ABR_LINE;
-    return ABR_CURRENT;
+    return is_of_version_3(event) && !recording->has_base ? ABR_LINE : ABR_CURRENT;
 }
