@@ -215,6 +215,9 @@ for it in "${recordings[@]}"; do
     runs_out FAILING_AT "$it"
 done
 runs_out FAILING_FROM examples/c/externals
+compile=(cc -std=c99 "${warnings[@]}" "${flags[@]}" "-Wl,--wrap=malloc,--wrap=realloc")
+runs "behind" 0 "${compile[@]}" examples/c/behind.c "${libs[@]}" -o "$room/behind" || finish
+runs "behind" 0 "$room/behind" || true
 
 # ---- What the archive asks of the system, and what it gives
 

@@ -514,6 +514,45 @@ static void check_lsa_events(void)
     abr_close(core);
 }
 
+/* A database has as many LSAs as it may. */
+static void check_full(abr_scope scope, uint8_t type, uint32_t most)
+{
+    static struct lsa lsa;
+    abr core = opened();
+    uint32_t n, current = 0;
+
+    other_lsa(&lsa, type);
+    for (n = 0; n < most; n++) {
+        put_number(&lsa.bytes[4], 0x0a000000 + (n << 8));
+        seal(&lsa);
+        current += abr_install(&core, scope, lsa.bytes, lsa.length) == ABR_CURRENT;
+    }
+    expect_that(current == most, "a database is filled");
+    lsa.bytes[15] = 2;
+    seal(&lsa);
+    expect(abr_install(&core, scope, lsa.bytes, lsa.length), ABR_CURRENT, "a newer LSA for a full database");
+    put_number(&lsa.bytes[4], 0xc0000200);
+    seal(&lsa);
+    expect(abr_install(&core, scope, lsa.bytes, lsa.length), ABR_FULL, "an LSA too many");
+    abr_close(core);
+}
+
+/* The journal has as many events as it may, until it is rolled. */
+static void check_journal(void)
+{
+    abr core = opened();
+    uint32_t n, current = 0;
+
+    for (n = 0; n < 1000000; n++)
+        current += abr_second(&core) == ABR_CURRENT;
+    expect_that(current == 1000000, "the journal is filled");
+    expect(abr_second(&core), ABR_JOURNAL_FULL, "an event too many");
+    expect(abr_roll(&core), ABR_CURRENT, "a roll of a full journal");
+    expect(abr_second(&core), ABR_CURRENT, "an event behind the roll");
+    expect_that(abr_serial(&core) == 1000001 && abr_base_serial(&core) == 1000000, "the serials behind the roll");
+    abr_close(core);
+}
+
 /* No database has an LSA of such a type. */
 static void check_keys(void)
 {
@@ -770,6 +809,9 @@ int main(void)
     check_bases();
     check_last_serial();
     check_lsa_events();
+    check_full(BACKBONE, 3, 16384);
+    check_full(AS, 5, 65536);
+    check_journal();
     check_keys();
     check_interfaces();
     check_prefixes();
