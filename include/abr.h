@@ -7,8 +7,8 @@
  *
  * Numbers are in the byte order of the host: 192.0.2.1 is 0xc0000201, as address, Router ID and Area ID.
  *
- * One call at a time uses a core. Threads may share one under a lock of the program's own. Two cores know nothing of
- * each other. No call keeps a pointer that it is given, and none gives out a pointer: what a call writes to `out` is a
+ * One call at a time uses a core, and a question is a call too. Threads may share one under a lock of the program's own.
+ * Two cores know nothing of each other. No call keeps a pointer that it is given, and none gives out a pointer: what a call writes to `out` is a
  * copy, and valid as long as the program likes. No call blocks, starts a thread, writes to a stream, or aborts; not if
  * memory runs out either. Do not call from a signal handler, nor in the child of a fork of a program with threads.
  *
@@ -95,7 +95,8 @@ enum {
  * normal\n". Version 2 and 3 say with `compat` whether RFC1583Compatibility (16.2) is enabled. `seed` is 16 bytes of
  * the system's random source, under which what the core keeps is hashed; a seed that a stranger knows lets it choose
  * what collides. Answers ABR_CURRENT, or why there is no core in `out`. What was open in `out` is closed.
- * A line that is not of the header is ABR_ORDER. */
+ * A text that goes on behind the header, or in version 3 has a serial other than 0, is ABR_ORDER; if what goes on are
+ * bytes that are no LSA, the answer is the fault of the LSA. */
 static inline uint32_t abr_open(const uint8_t *config, size_t config_length,
                                 const uint8_t *seed, size_t seed_length, abr *out);
 
@@ -106,10 +107,11 @@ static inline uint32_t abr_open_base(const uint8_t *base, size_t base_length,
                                      const uint8_t *seed, size_t seed_length, abr *out);
 
 /* Closes the core, and frees what it has. Of an `abr` with no core it does nothing. The program uses this copy of the
- * `abr`, and each other, no more. */
+ * `abr`, and each other, no more, until ABR_NO_CORE_YET is put there again (`core = (abr)ABR_NO_CORE_YET;` in C). */
 void abr_close(abr core);
 
-/* ---- Events. Each answers ABR_CURRENT, ABR_BEHIND, or why it is refused. */
+/* ---- Events. Each answers ABR_CURRENT, ABR_BEHIND, or why it is refused. If several reasons hold, it is the fault of
+ * an LSA or ABR_NO_PREFIX, then ABR_NO_CORE, then a refusal. A key with a type that is none of the five has no LSA. */
 
 /* Where an LSA belongs: in the database of an area, or, if `as` is true, in that of the AS (type 5). */
 typedef struct abr_scope {
@@ -252,8 +254,8 @@ bool abr_base_interface_at(abr *core, size_t n, abr_base_interface *out);
 /* How many LSAs the base has. */
 size_t abr_base_lsas(abr *core);
 
-/* LSA number `n` of the base, with its scope: its length in bytes, or 0 if there is none. If `room` is at least that,
- * the bytes are written to `lsa`. 65535 is always room enough. */
+/* LSA number `n` of the base, with its scope: its length in bytes, or 0 if there is none or memory ran out. If `room` is
+ * at least that, the bytes are written to `lsa`. 65535 is always room enough. */
 static inline size_t abr_base_lsa_at(abr *core, size_t n, abr_scope *scope, uint8_t *lsa, size_t room);
 
 /* The base as text, which abr_open_base reads. Answers the length in bytes, or 0 if no core is open or memory ran out.
