@@ -8,9 +8,10 @@
  * Numbers are in the byte order of the host: 192.0.2.1 is 0xc0000201, as address, Router ID and Area ID.
  *
  * One call at a time uses a core, and a question is a call too. Threads may share one under a lock of the program's own.
- * Two cores know nothing of each other. No call keeps a pointer that it is given, and none gives out a pointer: what a call writes to `out` is a
- * copy, and valid as long as the program likes. No call blocks, starts a thread, writes to a stream, or aborts; not if
- * memory runs out either. Do not call from a signal handler, nor in the child of a fork of a program with threads.
+ * Two cores know nothing of each other. No call keeps a pointer that it is given, and none gives out a pointer: what a
+ * call writes to `out` is a copy, and valid as long as the program likes. No call blocks, starts a thread, writes to a
+ * stream, or aborts; not if memory runs out either. Do not call from a signal handler, nor in the child of a fork of a
+ * program with threads.
  *
  * Pointers are valid ones, and not null. Only those to bytes may be null: such bytes are none. */
 #ifndef ABR_H
@@ -91,12 +92,12 @@ enum {
 
 /* ---- Opening and closing */
 
-/* Opens a core with a configuration: the header of a recording, as "abr 2\nrouter 10.0.0.1\ncompat disabled\narea 0.0.0.0
- * normal\n". Version 2 and 3 say with `compat` whether RFC1583Compatibility (16.2) is enabled. `seed` is 16 bytes of
- * the system's random source, under which what the core keeps is hashed; a seed that a stranger knows lets it choose
- * what collides. Answers ABR_CURRENT, or why there is no core in `out`. What was open in `out` is closed.
- * A text that goes on behind the header, or in version 3 has a serial other than 0, is ABR_ORDER; if what goes on are
- * bytes that are no LSA, the answer is the fault of the LSA. */
+/* Opens a core with a configuration: the header of a recording, as
+ * "abr 2\nrouter 10.0.0.1\ncompat disabled\narea 0.0.0.0 normal\n". Version 2 and 3 say with `compat` whether
+ * RFC1583Compatibility (16.2) is enabled. `seed` is 16 bytes of the system's random source, under which what the core
+ * keeps is hashed; a seed that a stranger knows lets it choose what collides. Answers ABR_CURRENT, or why there is no
+ * core in `out`. What was open in `out` is closed. A text that goes on behind the header, or in version 3 has a serial
+ * other than 0, is ABR_ORDER; if what goes on are bytes that are no LSA, the answer is the fault of the LSA. */
 static inline uint32_t abr_open(const uint8_t *config, size_t config_length,
                                 const uint8_t *seed, size_t seed_length, abr *out);
 
@@ -170,7 +171,7 @@ enum { ABR_NONE = 0, ABR_DISCARD = 1, ABR_INTRA = 2, ABR_INTER = 3, ABR_EXTERNAL
 
 /* What the table has for a network (11). */
 typedef struct abr_item {
-    uint8_t kind;      /* ABR_NONE: nothing, and all else is 0. ABR_DISCARD: an active range (11.1); packets are dropped */
+    uint8_t kind;      /* ABR_NONE: nothing, and all else is 0. ABR_DISCARD: an active range (11.1) */
     abr_prefix prefix; /* the network */
     uint32_t area;     /* of ABR_INTRA and ABR_INTER, the area; else 0 */
     uint32_t cost;     /* of ABR_EXTERNAL2, to the forwarding address or the AS boundary router */
@@ -276,7 +277,8 @@ static inline const char *abr_name(uint32_t number);
 /* ---- What follows is for the linker, and for other languages than C. These take bytes that are not null. */
 
 uint32_t abr_open_bytes(const uint8_t *config, size_t config_length, const uint8_t *seed, size_t seed_length, abr *out);
-uint32_t abr_open_base_bytes(const uint8_t *base, size_t base_length, const uint8_t *seed, size_t seed_length, abr *out);
+uint32_t abr_open_base_bytes(const uint8_t *base, size_t base_length,
+                             const uint8_t *seed, size_t seed_length, abr *out);
 uint32_t abr_install_bytes(abr *core, abr_scope scope, const uint8_t *lsa, size_t length);
 size_t abr_base_lsa_bytes(abr *core, size_t n, abr_scope *scope, uint8_t *lsa, size_t room);
 size_t abr_base_text_bytes(abr *core, uint8_t *text, size_t room);
