@@ -1,0 +1,3 @@
+mod Core
+mod Fronts
+mod Refused

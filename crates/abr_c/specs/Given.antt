@@ -1,0 +1,15 @@
+-- What a call writes for C.
+use Rattle.std.specs.Prelude.{◌≡◌, ◌++◌, Bool, true, false, if◌then◌else◌, Option, Some, None, List, length, take, drop, nat_le}
+
+-- what there is is written and told; else nothing is written
+abbrev pub IsGiven : {X : Type 0} → Option X → (told : Bool) → (before after : X) → Type 0
+IsGiven (Some x) told before after = (told ≡ true) × (after ≡ x)
+IsGiven None told before after = (told ≡ false) × (after ≡ before)
+
+-- the bytes stand at the beginning if there is room for all of them; else nothing is written
+abbrev pub written : {X : Type 0} → (bytes before : List X) → List X
+written bytes before = if nat_le (length bytes) (length before) then bytes ++ drop (length bytes) before else before
+
+-- they stand at the beginning, as many as there is room for; what stands behind them stays
+abbrev pub copied : {X : Type 0} → (given before : List X) → List X
+copied given before = take (length before) given ++ drop (length given) before

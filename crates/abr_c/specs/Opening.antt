@@ -1,0 +1,43 @@
+-- How a core is opened from text.
+use Rattle.std.specs.Prelude.{ℕ, ◌≡◌, ◌<◌, ◌⊎◌, List, [], length, Option, Some, None}
+use Rattle.event_state.specs.declared.base.Base.{Base}
+use Rattle.event_state.specs.Steps.{standard_limits}
+use Rattle.event_core.specs.Cores.{CoreValue, IsCore, IsOpening}
+use Rattle.recording.specs.declared.fault.LineFault.{LineFault}
+use Rattle.recording.specs.declared.version.Version.{Version}
+use Rattle.recording.specs.Faults.{IsFaultOf}
+use Rattle.recording.specs.Recordings.{RecordingValue, IsText, HasConfigOnly, recording_of}
+use Rattle.abr_c.specs.Numbers.{fault_number, misplaced_line, out_of_memory, short_seed}
+
+-- the text is that of a recording of this base in which nothing happens
+abbrev pub SaysBase : (text : List ℕ) → Base → Type 0
+SaysBase text base = (v : Version) × IsText text (recording_of v base [])
+
+-- and the base is a configuration only
+abbrev pub SaysConfig : (text : List ℕ) → Base → Type 0
+SaysConfig text base = SaysBase text base × HasConfigOnly base
+
+-- the number is that of the first fault of the text; or the text is that of a recording in which something happens
+abbrev pub IsBaseRefusal : (text : List ℕ) → ℕ → Type 0
+IsBaseRefusal text number =
+    ((f : LineFault) × IsFaultOf text f × (number ≡ fault_number f.fault))
+    ⊎ ((r : RecordingValue) × IsText text r × (¬ (r.lines ≡ [])) × (number ≡ misplaced_line))
+
+-- or its base is more than a configuration
+abbrev pub IsConfigRefusal : (text : List ℕ) → ℕ → Type 0
+IsConfigRefusal text number = IsBaseRefusal text number ⊎ ((base : Base) × SaysBase text base × (¬ HasConfigOnly base) × (number ≡ misplaced_line))
+
+-- the seed is too short, or memory ran out
+abbrev pub IsSeedRefusal : (seed : List ℕ) → ℕ → Type 0
+IsSeedRefusal seed number = ((length seed < 16) × (number ≡ short_seed)) ⊎ (number ≡ out_of_memory)
+
+-- the core has this base, and no event was taken; or there is none, and the number is why
+abbrev pub OpensBase : Base → (seed : List ℕ) (number : ℕ) → Option CoreValue → Type 0
+OpensBase base seed number (Some core) = (number ≡ 0) × IsCore core × IsOpening base standard_limits core
+OpensBase base seed number None = IsSeedRefusal seed number
+
+-- a base is said, and opens a core or none; or there is none, and the number is why
+abbrev pub Opens : (Says : Base → Type 0) (IsRefusal : ℕ → Type 0) (seed : List ℕ) (number : ℕ) → Option CoreValue → Type 0
+Opens Says IsRefusal seed number after =
+    ((base : Base) × Says base × OpensBase base seed number after)
+    ⊎ (IsRefusal number × (after ≡ None))

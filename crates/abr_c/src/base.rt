@@ -1,0 +1,155 @@
+//! The base: what the journal begins with.
+ghost use Rattle.std.specs.Prelude.{◌≡◌, Some, length, option_map, slice_get};
+ghost use Rattle.abr_c.specs.CTypes as c;
+ghost use Rattle.abr_c.specs.Given.{IsGiven};
+ghost use Rattle.abr_c.specs.Slots.{core_in};
+ghost use Rattle.abr_c.specs.Views.{GivesLsa, GivesText, GivesTextOf, base_serial_in, interface_at, interfaces_in, lsa_at, lsas_in};
+
+use crate::c_types::{CInterface, CScope};
+use crate::given::{give, write_bytes};
+use crate::slot::Slot;
+use event_state::Base;
+use lsa_codec::{Checked, write};
+use ospf_types::config::Interface;
+use ospf_types::key::Scope;
+use recording::{Version, append_front};
+use std::alloc::Global;
+
+/// The serial of the base.
+#[unsafe(no_mangle)]
+pub extern "C" fn abr_base_serial(alloc: Global, slot: &mut Slot) -> u64
+    ensures value { result ≡ base_serial_in (core_in slot.old) }
+    ensures kept { core_in slot.new ≡ core_in slot.old }
+{
+    let Some(core) = slot.take(alloc) else {
+        return 0;
+    };
+    let serial = core.base().serial;
+    slot.put(core);
+    serial
+}
+
+/// How many interfaces the base has.
+#[unsafe(no_mangle)]
+pub extern "C" fn abr_base_interfaces(alloc: Global, slot: &mut Slot) -> usize
+    ensures count { result ≡ length (interfaces_in (core_in slot.old)) }
+    ensures kept { core_in slot.new ≡ core_in slot.old }
+{
+    let Some(core) = slot.take(alloc) else {
+        return 0;
+    };
+    let count = core.base().interfaces.len();
+    slot.put(core);
+    count
+}
+
+/// One of its interfaces.
+#[unsafe(no_mangle)]
+pub extern "C" fn abr_base_interface_at(
+    alloc: Global,
+    slot: &mut Slot,
+    n: usize,
+    out: &mut CInterface,
+) -> bool
+    ensures given { IsGiven (interface_at (core_in slot.old) n) result out.old out.new }
+    ensures kept { core_in slot.new ≡ core_in slot.old }
+{
+    let Some(core) = slot.take(alloc) else {
+        return false;
+    };
+    let interface = interface_among(core.base().interfaces.as_slice(), n);
+    slot.put(core);
+    give(out, interface)
+}
+
+/// How many LSAs the base has.
+#[unsafe(no_mangle)]
+pub extern "C" fn abr_base_lsas(alloc: Global, slot: &mut Slot) -> usize
+    ensures count { result ≡ length (lsas_in (core_in slot.old)) }
+    ensures kept { core_in slot.new ≡ core_in slot.old }
+{
+    let Some(core) = slot.take(alloc) else {
+        return 0;
+    };
+    let count = core.base().lsas.len();
+    slot.put(core);
+    count
+}
+
+/// One of its LSAs: its length, or 0 if there is none or memory ran out. Its bytes are written where there is room.
+#[unsafe(no_mangle)]
+pub extern "C" fn abr_base_lsa_bytes(
+    alloc: Global,
+    slot: &mut Slot,
+    n: usize,
+    scope: &mut CScope,
+    lsa: &mut [u8],
+) -> usize
+    ensures given { GivesLsa (lsa_at (core_in slot.old) n) result scope.old scope.new lsa.old
+        lsa.new }
+    ensures kept { core_in slot.new ≡ core_in slot.old }
+{
+    let Some(core) = slot.take(alloc) else {
+        return 0;
+    };
+    let length = match core.base().lsas.as_slice().get(n) {
+        Some(found) => give_lsa(alloc, found, scope, lsa),
+        None => 0,
+    };
+    slot.put(core);
+    length
+}
+
+/// The base as text: its length, or 0 if no core is open or memory ran out. It is written where there is room.
+#[unsafe(no_mangle)]
+pub extern "C" fn abr_base_text_bytes(alloc: Global, slot: &mut Slot, text: &mut [u8]) -> usize
+    ensures given { GivesText (core_in slot.old) result text.old text.new }
+    ensures kept { core_in slot.new ≡ core_in slot.old }
+{
+    let Some(core) = slot.take(alloc) else {
+        return 0;
+    };
+    let length = give_text(alloc, core.base(), text);
+    slot.put(core);
+    length
+}
+
+fn give_lsa(alloc: Global, found: &(Scope, Checked), scope: &mut CScope, out: &mut [u8]) -> usize
+    ensures { GivesLsa (Some found.now) result scope.old scope.new out.old out.new }
+{
+    let mut bytes = Vec::new(alloc);
+    match write(&found.1, &mut bytes) {
+        Ok(()) => {
+            *scope = CScope::of(found.0);
+            write_bytes(out, &bytes);
+            bytes.len()
+        }
+        Err(_) => 0,
+    }
+}
+
+fn give_text(alloc: Global, base: &Base, out: &mut [u8]) -> usize
+    ensures { GivesTextOf base.now result out.old out.new }
+{
+    let mut text = String::new(alloc);
+    match append_front(alloc, Version::Three, base, &mut text) {
+        Ok(()) => {
+            write_bytes(out, text.as_bytes());
+            text.len()
+        }
+        Err(_) => 0,
+    }
+}
+
+fn interface_among(interfaces: &[(u8, Interface)], n: usize) -> Option<CInterface>
+    ensures { result ≡ option_map c.interface_of (slice_get interfaces.now n) }
+{
+    let (id, interface) = interfaces.get(n)?;
+    Some(CInterface {
+        id: *id,
+        up: interface.up,
+        area: interface.area,
+        address: interface.address,
+        peer: interface.peer,
+    })
+}

@@ -1,0 +1,134 @@
+//! What is passed to C and from it.
+ghost use Rattle.std.specs.Prelude.{◌≡◌};
+ghost use Rattle.abr_c.specs.CTypes.{c_scope_of, key_of, network_in, scope_of};
+
+use ospf_types::key::{Key, Scope};
+use ospf_types::prefix::Prefix;
+
+/// `abr_scope`: the database of an area, or that of the AS.
+#[repr(C)]
+#[derive(Clone, Copy, Debug, PartialEq, Eq)]
+pub struct CScope {
+    pub is_as: bool,
+    pub area: u32,
+}
+
+/// `abr_key`: which LSA of a database.
+#[repr(C)]
+#[derive(Clone, Copy, Debug, PartialEq, Eq)]
+pub struct CKey {
+    pub kind: u8,
+    pub id: u32,
+    pub router: u32,
+}
+
+/// `abr_prefix`: a network, in host order. C may hand in what is none.
+#[repr(C)]
+#[derive(Clone, Copy, Debug, PartialEq, Eq)]
+pub struct CPrefix {
+    pub address: u32,
+    pub length: u8,
+}
+
+/// `abr_item`: what the table has for a network. Its kind is 0 for nothing, 1 for a discard (RFC 2328, 11.1), 2 for an
+/// intra-area route, 3 for an inter-area one, 4 and 5 for external ones of type 1 and 2.
+#[repr(C)]
+#[derive(Clone, Copy, Debug, PartialEq, Eq)]
+pub struct CItem {
+    pub kind: u8,
+    pub prefix: CPrefix,
+    pub area: u32,
+    pub cost: u32,
+    pub cost2: u32,
+    pub paths: u32,
+}
+
+/// `abr_hop`: a next hop. Its kind is 0 for an attached network, 1 for the peer of a point-to-point link, 2 for a router.
+#[repr(C)]
+#[derive(Clone, Copy, Debug, PartialEq, Eq)]
+pub struct CHop {
+    pub kind: u8,
+    pub interface: u8,
+    pub has_advertiser: bool,
+    pub address: u32,
+    pub advertiser: u32,
+}
+
+/// `abr_due`: a summary-LSA that is due. An AS boundary router stands as its Router ID with length 32.
+#[repr(C)]
+#[derive(Clone, Copy, Debug, PartialEq, Eq)]
+pub struct CDue {
+    pub kind: u8,
+    pub destination: CPrefix,
+    pub metric: u32,
+}
+
+/// `abr_base_interface`: an interface with its id.
+#[repr(C)]
+#[derive(Clone, Copy, Debug, PartialEq, Eq)]
+pub struct CInterface {
+    pub id: u8,
+    pub up: bool,
+    pub area: u32,
+    pub address: u32,
+    pub peer: u32,
+}
+
+impl CScope {
+    pub(crate) fn scope(self) -> Scope
+        ensures { result ≡ scope_of self }
+    {
+        if self.is_as {
+            Scope::As
+        } else {
+            Scope::Area(self.area)
+        }
+    }
+
+    pub(crate) fn of(scope: Scope) -> CScope
+        ensures { result ≡ c_scope_of scope }
+    {
+        match scope {
+            Scope::As => CScope {
+                is_as: true,
+                area: 0,
+            },
+            Scope::Area(area) => CScope { is_as: false, area },
+        }
+    }
+}
+
+impl CKey {
+    pub(crate) fn key(self) -> Key
+        ensures { result ≡ key_of self }
+    {
+        Key {
+            kind: self.kind,
+            id: self.id,
+            router: self.router,
+        }
+    }
+}
+
+impl CPrefix {
+    /// The network; none if the length is above 32, or a bit behind it is 1.
+    pub(crate) fn network(self) -> Option<Prefix>
+        ensures { result ≡ network_in self }
+    {
+        let network = Prefix::new(self.address, self.length)?;
+        if network.address() == self.address {
+            Some(network)
+        } else {
+            None
+        }
+    }
+
+    pub(crate) fn of(network: Prefix) -> CPrefix
+        ensures { (result.address ≡ network.address) × (result.length ≡ network.length) }
+    {
+        CPrefix {
+            address: network.address(),
+            length: network.length(),
+        }
+    }
+}

@@ -1,0 +1,167 @@
+//! Events.
+ghost use Rattle.std.specs.Prelude.{◌≡◌, option_map};
+ghost use Rattle.event_state.specs.declared.event.Event.TheVariants as event_value;
+ghost use Rattle.abr_c.specs.CTypes.{key_of, network_in, scope_of};
+ghost use Rattle.abr_c.specs.Told.{CatchesUp, IsAnswered, IsTold, IsToldIf, Installs, RollsTo};
+ghost use Rattle.abr_c.specs.Slots.{core_in};
+
+use crate::c_types::{CKey, CPrefix, CScope};
+use crate::numbers::{NO_CORE, NO_PREFIX, refusal_number, status_number, wire_number};
+use crate::slot::Slot;
+use event_core::{Core, Event};
+use std::alloc::Global;
+
+/// An LSA is installed in the database of its scope.
+#[unsafe(no_mangle)]
+pub extern "C" fn abr_install_bytes(
+    alloc: Global,
+    slot: &mut Slot,
+    scope: CScope,
+    lsa: &[u8],
+) -> u32
+    ensures { Installs (scope_of scope) lsa.now (core_in slot.old) result (core_in slot.new) }
+{
+    let scope = scope.scope();
+    let lsa = match lsa_codec::read(alloc, lsa) {
+        Ok(lsa) => lsa,
+        Err(fault) => return wire_number(fault),
+    };
+    apply(alloc, slot, Event::Install { scope, lsa })
+}
+
+/// An LSA of the router's own is aged prematurely.
+#[unsafe(no_mangle)]
+pub extern "C" fn abr_flush(alloc: Global, slot: &mut Slot, scope: CScope, key: CKey) -> u32
+    ensures { IsTold (event_value.Flush (scope_of scope) (key_of key)) (core_in slot.old) result
+        (core_in slot.new) }
+{
+    let (scope, key) = (scope.scope(), key.key());
+    apply(alloc, slot, Event::Flush { scope, key })
+}
+
+/// An LSA at MaxAge leaves its database.
+#[unsafe(no_mangle)]
+pub extern "C" fn abr_purge(alloc: Global, slot: &mut Slot, scope: CScope, key: CKey) -> u32
+    ensures { IsTold (event_value.Purge (scope_of scope) (key_of key)) (core_in slot.old) result
+        (core_in slot.new) }
+{
+    let (scope, key) = (scope.scope(), key.key());
+    apply(alloc, slot, Event::Purge { scope, key })
+}
+
+/// An interface takes the place of what the id held.
+#[unsafe(no_mangle)]
+pub extern "C" fn abr_interface(
+    alloc: Global,
+    slot: &mut Slot,
+    id: u8,
+    area: u32,
+    address: u32,
+    peer: u32,
+    up: bool,
+) -> u32
+    ensures { IsTold (event_value.Interface id area address peer up) (core_in slot.old) result
+        (core_in slot.new) }
+{
+    let event = Event::Interface {
+        id,
+        area,
+        address,
+        peer,
+        up,
+    };
+    apply(alloc, slot, event)
+}
+
+/// An area address range is configured, in place of the one with its prefix.
+#[unsafe(no_mangle)]
+pub extern "C" fn abr_range_set(
+    alloc: Global,
+    slot: &mut Slot,
+    area: u32,
+    prefix: CPrefix,
+    advertise: bool,
+) -> u32
+    ensures { IsToldIf (option_map (λ p. event_value.RangeSet area p advertise) (network_in prefix))
+        (core_in slot.old) result (core_in slot.new) }
+{
+    let Some(prefix) = prefix.network() else {
+        return NO_PREFIX;
+    };
+    let event = Event::RangeSet {
+        area,
+        prefix,
+        advertise,
+    };
+    apply(alloc, slot, event)
+}
+
+/// An area address range is configured no longer.
+#[unsafe(no_mangle)]
+pub extern "C" fn abr_range_drop(alloc: Global, slot: &mut Slot, area: u32, prefix: CPrefix) -> u32
+    ensures { IsToldIf (option_map (λ p. event_value.RangeDrop area p) (network_in prefix))
+        (core_in slot.old) result (core_in slot.new) }
+{
+    let Some(prefix) = prefix.network() else {
+        return NO_PREFIX;
+    };
+    apply(alloc, slot, Event::RangeDrop { area, prefix })
+}
+
+/// A second passes.
+#[unsafe(no_mangle)]
+pub extern "C" fn abr_second(alloc: Global, slot: &mut Slot) -> u32
+    ensures { IsTold event_value.Second (core_in slot.old) result (core_in slot.new) }
+{
+    apply(alloc, slot, Event::Second)
+}
+
+/// Table and due summaries are built anew, if they are behind.
+#[unsafe(no_mangle)]
+pub extern "C" fn abr_catch_up(alloc: Global, slot: &mut Slot) -> u32
+    ensures { CatchesUp (core_in slot.old) result (core_in slot.new) }
+{
+    let Some(mut core) = slot.take(alloc) else {
+        return NO_CORE;
+    };
+    let status = core.catch_up();
+    slot.put(core);
+    status_number(status)
+}
+
+/// The state as it is becomes the base, and the journal is empty.
+#[unsafe(no_mangle)]
+pub extern "C" fn abr_roll(alloc: Global, slot: &mut Slot) -> u32
+    ensures { RollsTo (core_in slot.old) result (core_in slot.new) }
+{
+    let Some(mut core) = slot.take(alloc) else {
+        return NO_CORE;
+    };
+    let number = match core.roll() {
+        Ok(_) => 0,
+        Err(refusal) => refusal_number(refusal),
+    };
+    slot.put(core);
+    number
+}
+
+// Hands the core the event. The answer is the number of its answer.
+fn apply(alloc: Global, slot: &mut Slot, event: Event) -> u32
+    ensures { IsTold event (core_in slot.old) result (core_in slot.new) }
+{
+    let Some(mut core) = slot.take(alloc) else {
+        return NO_CORE;
+    };
+    let number = answer(&mut core, event);
+    slot.put(core);
+    number
+}
+
+fn answer(core: &mut Core, event: Event) -> u32
+    ensures { IsAnswered event core.old result core.new }
+{
+    match core.apply(event) {
+        Ok(reply) => status_number(reply.state),
+        Err(refusal) => refusal_number(refusal),
+    }
+}

@@ -1,0 +1,26 @@
+//! What a call writes for C, where there is something to write.
+ghost use Rattle.std.specs.Prelude.{◌≡◌, ◌≤◌, ◌++◌, drop, length};
+ghost use Rattle.abr_c.specs.Given.{IsGiven, written};
+
+/// Writes what there is to `out`, and answers whether there is something.
+pub(crate) fn give<T: Copy + Drop>(out: &mut T, found: Option<T>) -> bool
+    ensures { IsGiven found result out.old out.new }
+{
+    match found {
+        Some(value) => {
+            *out = value;
+            true
+        }
+        None => false,
+    }
+}
+
+/// Writes the bytes to the beginning of `out` if there is room for all of them.
+pub(crate) fn write_bytes(out: &mut [u8], bytes: &[u8])
+    ensures { out.new ≡ written bytes.now out.old }
+{
+    let count = bytes.len();
+    if count <= out.len() {
+        out[..count].copy_from_slice(bytes);
+    }
+}
