@@ -7,8 +7,8 @@
  *
  * Numbers are in the byte order of the host: 192.0.2.1 is 0xc0000201, as address, Router ID and Area ID.
  *
- * One call at a time uses a core, and a question is a call too. Threads may share one under a lock of the program's own.
- * Two cores know nothing of each other. No call keeps a pointer that it is given, and none gives out a pointer: what a
+ * One call at a time uses a core, and a question is a call too. Threads may share one under a lock of the program's
+ * own. Two cores know nothing of each other. No call keeps a pointer that it is given, and none gives out a pointer: what a
  * call writes to `out` is a copy, and valid as long as the program likes. No call blocks, starts a thread, writes to a
  * stream, or aborts; not if memory runs out either. Do not call from a signal handler, nor in the child of a fork of a
  * program with threads.
@@ -255,8 +255,8 @@ bool abr_base_interface_at(abr *core, size_t n, abr_base_interface *out);
 /* How many LSAs the base has. */
 size_t abr_base_lsas(abr *core);
 
-/* LSA number `n` of the base, with its scope: its length in bytes, or 0 if there is none or memory ran out. If `room` is
- * at least that, the bytes are written to `lsa`. 65535 is always room enough. */
+/* LSA number `n` of the base, with its scope: its length in bytes, or 0 if there is none or memory ran out. If `room`
+ * is at least that, the bytes are written to `lsa`. 65535 is always room enough. */
 static inline size_t abr_base_lsa_at(abr *core, size_t n, abr_scope *scope, uint8_t *lsa, size_t room);
 
 /* The base as text, which abr_open_base reads. Answers the length in bytes, or 0 if no core is open or memory ran out.

@@ -1,6 +1,8 @@
 /* Has memory run out in the middle of an event, after each number of calls in turn, and compares what the core answers
  * with what abr.h tells. The linker puts the two functions below in place of malloc and realloc.
  * The last line of the output is a count. The status is 1 if an answer is wrong. */
+#include "expect.h"
+
 #include <abr.h>
 
 #include <stdio.h>
@@ -22,8 +24,6 @@ static const char CONFIG[] = "abr 2\n"
                              "area 0.0.0.1 normal\n";
 static const abr_scope AREA_1 = {false, 1};
 static const uint32_t ADDRESS = 0xcb0071c8;
-
-static unsigned long answers, faults;
 
 static bool has_memory(void)
 {
@@ -51,15 +51,6 @@ static void run_out_after(unsigned long calls)
 static void have_memory(void)
 {
     calls_left = (unsigned long)-1;
-}
-
-static void expect_that(bool holds, const char *what)
-{
-    answers++;
-    if (holds)
-        return;
-    faults++;
-    printf("%s: does not hold\n", what);
 }
 
 /* The cost of the network at the address; 0 if there is none. */

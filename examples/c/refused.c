@@ -1,6 +1,8 @@
 /* Hands the core what it refuses, and compares the numbers of its answers with those that abr.h tells.
  * The last line of the output is a count. The status is 1 if an answer is wrong. */
 #define _DEFAULT_SOURCE
+#include "expect.h"
+
 #include <abr.h>
 
 #include <stdio.h>
@@ -20,8 +22,6 @@ static const char CONFIG[] = "abr 2\n"
                              "area 0.0.0.0 normal\n"
                              "area 0.0.0.1 stub 10 all\n";
 
-static unsigned long answers, faults;
-
 static void expect(uint32_t answer, uint32_t wanted, const char *what)
 {
     answers++;
@@ -29,15 +29,6 @@ static void expect(uint32_t answer, uint32_t wanted, const char *what)
         return;
     faults++;
     printf("%s: %u %s, and not %u %s\n", what, (unsigned)answer, abr_name(answer), (unsigned)wanted, abr_name(wanted));
-}
-
-static void expect_that(bool holds, const char *what)
-{
-    answers++;
-    if (holds)
-        return;
-    faults++;
-    printf("%s: does not hold\n", what);
 }
 
 static const uint8_t *bytes_of(const char *text)

@@ -1,7 +1,7 @@
 -- Items that are copied one after the other to the front of a list.
-use Rattle.std.proofs.Common.{◌≡◌, ℕ, ◌+◌, ◌-◌, ◌<◌, ◌≤◌, List, [], ◌∷◌, ◌++◌, length, get_or, take, drop, set, append-nil, sym, ap, ◌∙◌, arith}
+use Rattle.std.proofs.Common.{◌≡◌, ℕ, ◌+◌, ◌<◌, ◌≤◌, List, [], ◌∷◌, ◌++◌, length, get_or, take, drop, set, sym, ap, ◌∙◌, arith}
 use Rattle.std.proofs.lemmas.Grind.{drop_more_same}
-use Rattle.std.proofs.lemmas.List.{drop-drop, drop-set-lt, drop_all, drop_more, length-append, length-drop, length-take, length-take-le, take-append-drop, take_all, take_more, take_more_set}
+use Rattle.std.proofs.lemmas.List.{drop-drop, drop-set-lt, drop_more, take-append-drop, take_all, take_more, take_more_set}
 use Rattle.abr_c.specs.Given.{copied}
 
 module _ {X : Type 0} (all before out : List X) (n : ℕ) where
@@ -17,13 +17,8 @@ module _ {X : Type 0} (all before out : List X) (n : ℕ) where
   pub one_less_left : (x : X) (more : List X) → x ∷ more ≡ drop n all → more ≡ drop (n + 1) all
   one_less_left x more left = ap (λ xs. drop 1 xs) left ∙ drop-drop 1 n all
 
-  -- all are written, or there is no more room
+  -- all are written
   pub all_written : take n out ≡ take n all → drop n out ≡ drop n before → (length all ≤ n) → n ≤ length all → n ≤ length before → out ≡ copied all before
   all_written so_far rest most least room =
       let is_n : n ≡ length all = omega arith in
       sym (take-append-drop n out) ∙ (λ i. so_far i ++ rest i) ∙ ap (λ k. take n all ++ drop k before) is_n ∙ ap (λ xs. xs ++ drop (length all) before) (take_all n all (omega arith) ∙ sym (take_all (length before) all (omega arith)))
-
-  pub full : take n out ≡ take n all → length out ≤ n → length out ≡ length before → n ≤ length out → n ≤ length all → out ≡ copied all before
-  full so_far most same room least =
-      let is_n : n ≡ length before = omega arith in
-      sym (take_all n out (omega arith)) ∙ so_far ∙ ap (λ k. take k all) is_n ∙ sym (append-nil (take (length before) all)) ∙ ap (λ xs. take (length before) all ++ xs) (sym (drop_all (length all) before (omega arith)))

@@ -1,5 +1,5 @@
 -- What C passes, and is passed.
-use Rattle.std.specs.Prelude.{ℕ, Bool, true, false, if◌then◌else◌, ◌&&◌, ◌==◌, Option, Some, None, List, length, nat_le, nat_lt}
+use Rattle.std.specs.Prelude.{ℕ, true, false, if◌then◌else◌, ◌&&◌, ◌==◌, Option, Some, None, is_some, List, length, nat_le, nat_lt}
 use Rattle.ospf_types.specs.Masks.{masked}
 use Rattle.ospf_types.specs.Network.{Network}
 use Rattle.ospf_types.specs.declared.entry.Entry.{Entry}
@@ -61,16 +61,16 @@ kind_number Inter = 3
 kind_number External1 = 4
 kind_number External2 = 5
 
-abbrev pub area_number : Option ℕ → ℕ
-area_number None = 0
-area_number (Some area) = area
+abbrev pub number_or_zero : Option ℕ → ℕ
+number_or_zero None = 0
+number_or_zero (Some n) = n
 
 -- how many there are, as a number of 32 bits
 abbrev pub count_of : {A : Type 0} → List A → ℕ
 count_of xs = if nat_lt (length xs) 4294967295 then length xs else 4294967295
 
 abbrev pub route_of : Network → Entry → CItem
-route_of p e = record { kind = kind_number e.kind; prefix = prefix_of p; area = area_number e.area; cost = e.cost; cost2 = e.cost2; paths = count_of e.paths }
+route_of p e = record { kind = kind_number e.kind; prefix = prefix_of p; area = number_or_zero e.area; cost = e.cost; cost2 = e.cost2; paths = count_of e.paths }
 
 abbrev pub item_of : Network → Item → CItem
 item_of p (item.Route e) = route_of p e
@@ -91,10 +91,6 @@ item_of_match found.None = no_item
 
 -- ---- next hops
 
-abbrev pub is_some_number : Option ℕ → Bool
-is_some_number None = false
-is_some_number (Some n) = true
-
 abbrev pub hop_kind : NextHop → ℕ
 hop_kind (next_hop.Direct interface) = 0
 hop_kind (next_hop.Peer interface) = 1
@@ -111,7 +107,7 @@ hop_address (next_hop.Peer interface) = 0
 hop_address (next_hop.Router interface address) = address
 
 abbrev pub hop_of : Path → CHop
-hop_of p = record { kind = hop_kind p.hop; interface = hop_interface p.hop; has_advertiser = is_some_number p.advertiser; address = hop_address p.hop; advertiser = area_number p.advertiser }
+hop_of p = record { kind = hop_kind p.hop; interface = hop_interface p.hop; has_advertiser = is_some p.advertiser; address = hop_address p.hop; advertiser = number_or_zero p.advertiser }
 
 -- ---- due summaries, interfaces
 

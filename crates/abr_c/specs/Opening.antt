@@ -1,5 +1,5 @@
 -- How a core is opened from text.
-use Rattle.std.specs.Prelude.{ℕ, ◌≡◌, ◌<◌, ◌⊎◌, List, [], length, Option, Some, None}
+use Rattle.std.specs.Prelude.{ℕ, ◌≡◌, ◌≤◌, ◌<◌, ◌⊎◌, List, [], length, Option, Some, None}
 use Rattle.event_state.specs.declared.base.Base.{Base}
 use Rattle.event_state.specs.Steps.{standard_limits}
 use Rattle.event_core.specs.Cores.{CoreValue, IsCore, IsOpening}
@@ -31,9 +31,9 @@ IsConfigRefusal text number = IsBaseRefusal text number ⊎ ((base : Base) × Sa
 abbrev pub IsSeedRefusal : (seed : List ℕ) → ℕ → Type 0
 IsSeedRefusal seed number = ((length seed < 16) × (number ≡ short_seed)) ⊎ (number ≡ out_of_memory)
 
--- the core has this base, and no event was taken; or there is none, and the number is why
+-- the seed is long enough, and the core has this base, and no event was taken; or there is none, and the number is why
 abbrev pub OpensBase : Base → (seed : List ℕ) (number : ℕ) → Option CoreValue → Type 0
-OpensBase base seed number (Some core) = (number ≡ 0) × IsCore core × IsOpening base standard_limits core
+OpensBase base seed number (Some core) = (number ≡ 0) × (16 ≤ length seed) × IsCore core × IsOpening base standard_limits core
 OpensBase base seed number None = IsSeedRefusal seed number
 
 -- a base is said, and opens a core or none; or there is none, and the number is why

@@ -1,5 +1,5 @@
 //! What a call writes for C, where there is something to write.
-ghost use Rattle.std.specs.Prelude.{◌≡◌, ◌≤◌, ◌++◌, drop, length};
+ghost use Rattle.std.specs.Prelude.{◌≡◌};
 ghost use Rattle.abr_c.specs.Given.{IsGiven, written};
 
 /// Writes what there is to `out`, and answers whether there is something.

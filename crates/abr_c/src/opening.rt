@@ -1,5 +1,5 @@
 //! Opening and closing.
-ghost use Rattle.std.specs.Prelude.{◌≡◌, ◌↔◌, None, IfOk, IfErr, IsTrue};
+ghost use Rattle.std.specs.Prelude.{◌≡◌, ◌≤◌, ◌↔◌, None, IfOk, IfErr, IsTrue, OnOk, length};
 ghost use Rattle.event_state.specs.BaseFaults.{base_fault_of};
 ghost use Rattle.event_state.specs.Steps.{standard_limits};
 ghost use Rattle.event_core.specs.Cores.{IsCore, IsOpening};
@@ -116,6 +116,7 @@ fn core_of(alloc: Global, base: Base, seed: &[u8]) -> Result<Box<Core>, u32>
     requires { base_fault_of standard_limits base ≡ None }
     ensures opens { IfOk result (λ core. IsOpening base standard_limits core.value) }
     ensures kept { IfOk result (λ core. IsCore core.value) }
+    ensures long { OnOk result (16 ≤ length seed.now) }
     ensures refused { IfErr result (IsSeedRefusal seed.now) }
 {
     let hashing = hashing_of(seed)?;

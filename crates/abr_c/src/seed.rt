@@ -1,5 +1,5 @@
 //! The keys of the hash tables, from a seed.
-ghost use Rattle.std.specs.Prelude.{◌≡◌, ◌<◌, ◌⊎◌, IfErr, length};
+ghost use Rattle.std.specs.Prelude.{◌≤◌, OnOk, IfErr, length};
 ghost use Rattle.abr_c.specs.Opening.{IsSeedRefusal};
 
 use crate::numbers::{LENGTH, MEMORY};
@@ -24,7 +24,8 @@ impl RandomSource for Seed<'_> {
 
 /// The keys that the first 16 bytes of a seed give.
 pub(crate) fn hashing_of(seed: &[u8]) -> Result<RandomState, u32>
-    ensures { IfErr result (IsSeedRefusal seed.now) }
+    ensures long { OnOk result (16 ≤ length seed.now) }
+    ensures refused { IfErr result (IsSeedRefusal seed.now) }
 {
     if seed.len() < 16 {
         return Err(LENGTH);

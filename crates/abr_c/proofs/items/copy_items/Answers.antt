@@ -1,7 +1,7 @@
-use Rattle.std.proofs.Common.{◌≡◌, ◌+◌, ◌<◌, ◌≤◌, ◌∷◌, length, take, drop, map, ap, sym, ◌∙◌, arith}
+use Rattle.std.proofs.Common.{◌≡◌, ◌<◌, ◌≤◌, ◌∷◌, length, take, drop, map, ap, sym, ◌∙◌, arith}
 use Rattle.std.proofs.lemmas.List.{length-map, take_all, length-drop, length-set}
 use Rattle.abr_c.specs.CTypes.{item_of_entry}
-use Rattle.abr_c.proofs.Fronts.{next_written, behind_stays, one_less_left, all_written, full}
+use Rattle.abr_c.proofs.Fronts.{next_written, behind_stays, one_less_left, all_written}
 use Rattle.abr_c.proofs.items.copy_items.Goals as goal
 
 pub returns-in_default-clause-count : goal.returns-in_default-clause-count

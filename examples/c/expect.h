@@ -1,0 +1,19 @@
+/* What the tests count: answers, and those that are wrong. */
+#ifndef EXPECT_H
+#define EXPECT_H
+
+#include <stdbool.h>
+#include <stdio.h>
+
+static unsigned long answers, faults;
+
+static void expect_that(bool holds, const char *what)
+{
+    answers++;
+    if (holds)
+        return;
+    faults++;
+    printf("%s: does not hold\n", what);
+}
+
+#endif
