@@ -159,7 +159,8 @@ impl<K: ResultKey, V: Same + Drop> ResultMap<K, V> {
         Ok(others)
     }
 
-    /// Chooses the results at the keys anew, which ascend, each once, and tells those at which another stands now.
+    /// Chooses the results at the keys anew, which ascend, each once, and tells those at which another stands now. If memory
+    /// runs out, some results were chosen anew and others were not.
     pub fn choose_each<R: Choose<K, V>, N: Told<K> + Drop>(
         &mut self,
         alloc: Global,
