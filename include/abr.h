@@ -203,7 +203,7 @@ bool abr_path(abr *core, abr_prefix prefix, size_t n, abr_hop *out);
 
 /* How many networks the event that was taken last changed in the table. For a forwarding table: walk these, and call
  * abr_get for each; where that answers ABR_NONE, withdraw. If the table was behind before the event, or is after it,
- * no changes are told: after ABR_BEHIND, and abr_catch_up, walk the whole table. */
+ * no changes are told, of the table or of what is due: after ABR_BEHIND, and abr_catch_up, walk the whole of both. */
 size_t abr_changes(abr *core);
 
 /* The changed network number `n`, ascending by address and length. Answers whether there is one. */
@@ -232,6 +232,22 @@ size_t abr_dues(abr *core, uint32_t area);
 
 /* Number `n` of those due in the area, ascending by type and destination. Answers whether there is one. */
 bool abr_due_at(abr *core, uint32_t area, size_t n, abr_due *out);
+
+/* What an event changed of what is due in an area. */
+typedef struct abr_due_change {
+    uint32_t area;
+    bool is_due; /* false: what is named in `due` is due no longer, and its metric is 0 */
+    abr_due due; /* as it is due now */
+} abr_due_change;
+
+/* How many of those that are due the event that was taken last changed, over all areas: that came, left, or have another
+ * metric. For a daemon that originates them: walk these, and originate, or flush (12.4). Where abr_changes tells none
+ * because the table was behind or is, this tells none too. */
+size_t abr_due_changes(abr *core);
+
+/* Change number `n`: areas in the order of the configuration, and in each ascending by type and destination. Answers
+ * whether there is one. */
+bool abr_due_change_at(abr *core, size_t n, abr_due_change *out);
 
 /* ---- The base: what the journal of events begins with */
 

@@ -78,31 +78,42 @@ static uint32_t install(abr *core, uint8_t sequence, uint8_t metric)
     return abr_install(core, AREA_1, lsa, sizeof lsa);
 }
 
+/* Whether the event that was taken last changed what is due in area 0 to this metric, and nothing else. */
+static bool tells_due(abr *core, uint32_t metric)
+{
+    abr_due_change change;
+
+    return abr_due_changes(core) == 1 && abr_due_change_at(core, 0, &change) && change.area == 0 && change.is_due
+        && change.due.type == 3 && change.due.metric == metric;
+}
+
 static abr opened(void)
 {
     abr core = ABR_NO_CORE_YET;
 
     expect_that(abr_open((const uint8_t *)CONFIG, strlen(CONFIG), SEED, sizeof SEED, &core) == ABR_CURRENT, "a core");
+    expect_that(abr_interface(&core, 0, 0, 0xc6336401, 0, true) == ABR_CURRENT, "an interface to the backbone");
     expect_that(abr_interface(&core, 1, 1, 0xcb007181, 0, true) == ABR_CURRENT, "an interface");
     expect_that(install(&core, 1, 10) == ABR_CURRENT && cost(&core) == 10, "an LSA");
+    expect_that(tells_due(&core, 10), "the network comes to what is due");
     return core;
 }
 
 /* The event was not taken, and all is as it was. It is handed in once more. */
 static void check_refused(abr *core)
 {
-    expect_that(abr_serial(core) == 2 && abr_built(core) == 2 && cost(core) == 10, "a refused event changes nothing");
-    expect_that(abr_changes(core) == 1, "the changes of the event before");
+    expect_that(abr_serial(core) == 3 && abr_built(core) == 3 && cost(core) == 10, "a refused event changes nothing");
+    expect_that(abr_changes(core) == 1 && tells_due(core, 10), "the changes of the event before");
     have_memory();
     expect_that(install(core, 2, 20) == ABR_CURRENT && cost(core) == 20, "the event, once there is memory");
-    expect_that(abr_changes(core) == 1, "the changes of the event");
+    expect_that(abr_changes(core) == 1 && tells_due(core, 20), "the changes of the event");
 }
 
 /* The event was taken, and the table is older. */
 static void check_behind(abr *core, bool by_event)
 {
-    expect_that(abr_serial(core) == 3 && abr_built(core) == 2 && cost(core) == 10, "the table is older");
-    expect_that(abr_changes(core) == 0, "no changes are told");
+    expect_that(abr_serial(core) == 4 && abr_built(core) == 3 && cost(core) == 10, "the table is older");
+    expect_that(abr_changes(core) == 0 && abr_due_changes(core) == 0, "no changes are told");
     expect_that(abr_roll(core) == ABR_NOT_CURRENT, "no roll while the table is behind");
     expect_that(abr_catch_up(core) == ABR_BEHIND, "no memory to catch up");
     have_memory();
@@ -111,8 +122,9 @@ static void check_behind(abr *core, bool by_event)
     else
         expect_that(abr_catch_up(core) == ABR_CURRENT, "there is memory to catch up");
     expect_that(abr_built(core) == abr_serial(core) && cost(core) == 20, "the table is current");
-    expect_that(abr_changes(core) == 0, "no changes are told of what was caught up");
+    expect_that(abr_changes(core) == 0 && abr_due_changes(core) == 0, "no changes are told of what was caught up");
     expect_that(install(core, 3, 30) == ABR_CURRENT && abr_changes(core) == 1, "the changes of a later event");
+    expect_that(tells_due(core, 30), "and what it changed of what is due");
     expect_that(abr_roll(core) == ABR_CURRENT, "a roll");
 }
 

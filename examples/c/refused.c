@@ -636,6 +636,7 @@ static void check_past_end(void)
         abr_item item = {7, {7, 7}, 7, 7, 7, 7};
         abr_prefix prefix = {7, 7};
         abr_due due = {7, {7, 7}, 7};
+        abr_due_change change = {7, false, {7, {7, 7}, 7}};
         abr_hop hop = {7, 7, false, 7, 7};
         uint8_t byte = 7;
         expect_that(!abr_item_at(&core, NUMBERS[n], &item) && item.kind == 7, "no item past the end");
@@ -644,6 +645,7 @@ static void check_past_end(void)
         expect_that(!abr_path(&core, prefix_of(0xc0000200, 24), NUMBERS[n], &hop) && hop.kind == 7, "no path past it");
         expect_that(!abr_due_at(&core, 0, NUMBERS[n], &due) && due.type == 7, "no due summary past the end");
         expect_that(!abr_due_at(&core, 9, NUMBERS[n], &due) && due.type == 7, "no due summary of no area");
+        expect_that(!abr_due_change_at(&core, NUMBERS[n], &change) && change.area == 7, "no such change past the end");
         expect_that(!abr_base_interface_at(&core, NUMBERS[n], &interface) && interface.id == 7, "no interface past it");
         expect_that(abr_base_lsa_at(&core, NUMBERS[n], &scope, &byte, 1) == 0 && byte == 7, "no LSA past the end");
     }
@@ -754,6 +756,7 @@ static void check_questions_without_core(void)
     abr_scope scope;
     abr_prefix prefix;
     abr_due due;
+    abr_due_change change;
     abr_hop hop;
     uint8_t byte = 7;
 
@@ -767,6 +770,7 @@ static void check_questions_without_core(void)
     expect_that(abr_changes(&none) == 0 && !abr_change_at(&none, 0, &prefix), "no change");
     expect_that(abr_items(&none) == 0 && !abr_item_at(&none, 0, &item), "no item");
     expect_that(abr_dues(&none, 0) == 0 && !abr_due_at(&none, 0, 0, &due), "nothing due");
+    expect_that(abr_due_changes(&none) == 0 && !abr_due_change_at(&none, 0, &change), "no change of what is due");
     expect_that(abr_base_interfaces(&none) == 0 && !abr_base_interface_at(&none, 0, &interface), "no interface");
     expect_that(abr_base_lsas(&none) == 0 && abr_base_lsa_at(&none, 0, &scope, &byte, 1) == 0, "no LSA");
     expect_that(abr_base_text(&none, &byte, 1) == 0 && abr_base_text(&none, NULL, 0) == 0 && byte == 7, "no text");

@@ -1,10 +1,12 @@
-/* Hands a recording to the core event by event, and keeps a forwarding table beside it, as a daemon does.
+/* Hands a recording to the core event by event, and keeps a forwarding table and the summaries of each area beside it, as a
+ * daemon does.
  *
  *     router FILE        prints what `./abr replay FILE` prints
  *     router FILE due    prints what `./abr replay FILE --show due` prints
  *
- * The status is 0. It is 1 if the recording has a fault, or if the two tables differ. It is 2 for wrong words, and 3 if
+ * The status is 0. It is 1 if the recording has a fault, or if what is kept differs from what the core has. It is 2 for wrong words, and 3 if
  * memory ran out. */
+#include "dues.h"
 #include "fib.h"
 #include "recording.h"
 #include "support.h"
@@ -15,7 +17,8 @@
 struct router {
     abr core;
     struct fib fib;
-    /* Memory ran out since the forwarding table was current. */
+    struct dues dues;
+    /* Memory ran out since these two were current. */
     bool is_behind;
     struct recording recording;
     struct event event;
@@ -27,6 +30,14 @@ static int say_fault(size_t line, uint32_t answer)
         return say_no_memory();
     fprintf(stderr, "router: line %lu: %u %s\n", (unsigned long)line, (unsigned)answer, abr_name(answer));
     return FAULT;
+}
+
+/* Makes forwarding table and summaries anew. */
+static int walk_all(struct router *router)
+{
+    int status = walk_table(&router->fib, &router->core);
+
+    return status == DONE ? walk_dues(&router->dues, &router->core) : status;
 }
 
 /* Opens the core with the front of the recording. The table of a base has routes already. */
@@ -43,8 +54,10 @@ static int open_core(struct router *router)
         answer = abr_open_base(recording->bytes, recording->front_length, seed, sizeof seed, &router->core);
     else
         answer = abr_open(recording->bytes, recording->front_length, seed, sizeof seed, &router->core);
+    router->dues.areas = recording->areas;
+    router->dues.area_count = recording->area_count;
     if (answer == ABR_CURRENT)
-        return walk_table(&router->fib, &router->core);
+        return walk_all(router);
     if (answer == ABR_MEMORY)
         return say_no_memory();
     fprintf(stderr, "router: before the events: %u %s\n", (unsigned)answer, abr_name(answer));
@@ -100,13 +113,17 @@ static uint32_t hand_in(abr *core, const struct event *event)
     return ABR_CURRENT;
 }
 
-/* Brings the forwarding table to that of the core. Changes are told only from one current table to the next. */
+/* Brings forwarding table and summaries to those of the core. Changes are told only from one current table to the next. */
 static int follow(struct router *router)
 {
-    if (!router->is_behind)
-        return follow_changes(&router->fib, &router->core);
-    router->is_behind = false;
-    return walk_table(&router->fib, &router->core);
+    int status;
+
+    if (router->is_behind) {
+        router->is_behind = false;
+        return walk_all(router);
+    }
+    status = follow_changes(&router->fib, &router->core);
+    return status == DONE ? follow_due_changes(&router->dues, &router->core) : status;
 }
 
 /* The event was taken, but memory ran out over what follows from it. A daemon would free some memory, or wait, before
@@ -153,7 +170,9 @@ static int run_event(struct router *router, size_t line)
         print_lookup(&router->core, line, router->event.address);
     else
         status = take_event(router, line);
-    return status == DONE ? compare_tables(&router->fib, &router->core) : status;
+    if (status == DONE)
+        status = compare_tables(&router->fib, &router->core);
+    return status == DONE ? compare_dues(&router->dues, &router->core) : status;
 }
 
 static void print_routes(const struct fib *fib)
@@ -170,30 +189,28 @@ static void print_routes(const struct fib *fib)
     }
 }
 
-/* Prints the summary-LSAs that are due in an area (12.4.3). */
-static void print_dues(abr *core, uint32_t area)
+/* Prints the summary-LSAs that are due in each area (12.4.3). */
+static void print_dues(const struct dues *dues)
 {
-    abr_due due;
     size_t n;
 
-    for (n = 0; abr_due_at(core, area, n, &due); n++) {
+    for (n = 0; n < dues->count; n++) {
         printf("due ");
-        print_address(area);
+        print_address(dues->list[n].area);
         printf(" ");
-        print_due(&due);
+        print_due(&dues->list[n].due);
     }
 }
 
 static int print_end(struct router *router, bool shows_due)
 {
     unsigned long long serial = abr_serial(&router->core), built = abr_built(&router->core);
-    size_t n;
 
     printf("serial %llu built %llu\n", serial, built);
-    if (!shows_due)
+    if (shows_due)
+        print_dues(&router->dues);
+    else
         print_routes(&router->fib);
-    for (n = 0; shows_due && n < router->recording.area_count; n++)
-        print_dues(&router->core, router->recording.areas[n]);
     return fflush(stdout) != 0 || ferror(stdout) ? say(FAULT, "cannot write") : DONE;
 }
 
@@ -223,6 +240,7 @@ int main(int count, char **words)
     router.core = NO_CORE;
     status = replay(&router, words[1], shows_due);
     abr_close(router.core);
+    free_dues(&router.dues);
     free_fib(&router.fib);
     free_recording(&router.recording);
     return status;

@@ -1,3 +1,4 @@
 mod Core
+mod Flat
 mod Fronts
 mod Refused

@@ -1,5 +1,6 @@
 -- What C passes, and is passed.
-use Rattle.std.specs.Prelude.{ℕ, true, false, if◌then◌else◌, ◌&&◌, ◌==◌, Option, Some, None, is_some, List, length, nat_le, nat_lt}
+use Rattle.std.specs.Prelude.{ℕ, true, false, if◌then◌else◌, ◌&&◌, ◌==◌, Option, Some, None, is_some, List, length, map, min, nat_le, nat_lt}
+use Rattle.std.specs.List.{flat_map}
 use Rattle.ospf_types.specs.Masks.{masked}
 use Rattle.ospf_types.specs.Network.{Network}
 use Rattle.ospf_types.specs.declared.entry.Entry.{Entry}
@@ -15,11 +16,13 @@ use Rattle.ospf_types.specs.declared.key.Scope.{Scope}
 use Rattle.ospf_types.specs.declared.key.Scope.TheVariants.{As, Area}
 use Rattle.ospf_types.specs.declared.config.Interface.{Interface}
 use Rattle.event_core.specs.DueSummary.{DueSummary}
+use Rattle.event_core.specs.Lists.{Metrics, due_for}
 use Rattle.route_table.specs.declared.table.Item.{Item}
 use Rattle.route_table.specs.declared.table.Item.TheVariants as item
 use Rattle.route_table.specs.declared.table.Match.{Match}
 use Rattle.route_table.specs.declared.table.Match.TheVariants as found
 use Rattle.abr_c.specs.declared.c_types.CDue.{CDue}
+use Rattle.abr_c.specs.declared.c_types.CDueChange.{CDueChange}
 use Rattle.abr_c.specs.declared.c_types.CHop.{CHop}
 use Rattle.abr_c.specs.declared.c_types.CInterface.{CInterface}
 use Rattle.abr_c.specs.declared.c_types.CItem.{CItem}
@@ -117,6 +120,21 @@ destination_of (Router id) = record { address = id; length = 32 }
 
 abbrev pub due_of : DueSummary → CDue
 due_of d = record { kind = d.kind; destination = destination_of d.dest; metric = d.metric }
+
+-- what the area has of the destination now, if anything
+abbrev pub due_change_of : ℕ → Dest × Option ℕ → CDueChange
+due_change_of area x = record { area = area; is_due = is_some x.1; due = due_of (due_for x.0 (number_or_zero x.1)) }
+
+abbrev pub changes_of_area : ℕ × Metrics → List CDueChange
+changes_of_area c = map (due_change_of c.0) c.1
+
+-- what changed, area by area
+abbrev pub due_changes_of : List (ℕ × Metrics) → List CDueChange
+due_changes_of changes = flat_map changes_of_area changes
+
+-- a number of them, as C counts
+abbrev pub counted : ℕ → ℕ
+counted n = min n 18446744073709551615
 
 abbrev pub interface_of : ℕ × Interface → CInterface
 interface_of x = record { id = x.0; up = x.1.up; area = x.1.area; address = x.1.address; peer = x.1.peer }

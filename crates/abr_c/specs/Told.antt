@@ -49,6 +49,7 @@ pub record IsCaughtUp (old : CoreValue) (told : ℕ) (new : CoreValue) : Type 0 
   pub base : new.base ≡ old.base
   pub limits : new.limits ≡ old.limits
   pub changes : new.changes ≡ old.changes
+  pub due_changes : new.due_changes ≡ old.due_changes
   pub work : new.work ≡ old.work
 
 abbrev pub CatchesUp : Option CoreValue → (number : ℕ) → Option CoreValue → Type 0

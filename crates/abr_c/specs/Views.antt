@@ -14,6 +14,7 @@ use Rattle.route_table.specs.declared.table.Item.TheVariants as item
 use Rattle.route_table.specs.declared.table.Match.{Match}
 use Rattle.route_table.specs.Tables.{IsMatch}
 use Rattle.abr_c.specs.declared.c_types.CDue.{CDue}
+use Rattle.abr_c.specs.declared.c_types.CDueChange.{CDueChange}
 use Rattle.abr_c.specs.declared.c_types.CHop.{CHop}
 use Rattle.abr_c.specs.declared.c_types.CInterface.{CInterface}
 use Rattle.abr_c.specs.declared.c_types.CItem.{CItem}
@@ -24,7 +25,7 @@ use Rattle.event_state.specs.declared.base.Base.{Base}
 use Rattle.recording.specs.declared.version.Version.TheVariants.{Three}
 use Rattle.recording.specs.Recordings.{front_forms, text_of_forms}
 use Rattle.abr_c.specs.Given.{written}
-use Rattle.abr_c.specs.CTypes.{c_scope_of, due_of, hop_of, interface_of, item_of_entry, item_of_match, item_or_none, no_item, prefix_of}
+use Rattle.abr_c.specs.CTypes.{c_scope_of, due_changes_of, due_of, hop_of, interface_of, item_of_entry, item_of_match, item_or_none, no_item, prefix_of}
 
 -- of a core what the function says, and else this
 abbrev pub of_core : {X : Type 0} → X → (CoreValue → X) → Option CoreValue → X
@@ -93,6 +94,10 @@ due_in c area = of_core [] (λ core. or_none (list_under core.summaries area)) c
 
 abbrev pub due_at : Option CoreValue → (area n : ℕ) → Option CDue
 due_at c area n = option_map due_of (slice_get (due_in c area) n)
+
+-- what the last event changed of them, area by area
+abbrev pub due_changes_in : Option CoreValue → List CDueChange
+due_changes_in = of_core [] (λ core. due_changes_of core.due_changes)
 
 -- ---- the base
 

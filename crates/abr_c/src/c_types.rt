@@ -63,6 +63,15 @@ pub struct CDue {
     pub metric: u32,
 }
 
+/// `abr_due_change`: a summary-LSA that the last event changed in an area. Where it is no longer due its metric is 0.
+#[repr(C)]
+#[derive(Clone, Copy, Debug, PartialEq, Eq)]
+pub struct CDueChange {
+    pub area: u32,
+    pub is_due: bool,
+    pub due: CDue,
+}
+
 /// `abr_base_interface`: an interface with its id.
 #[repr(C)]
 #[derive(Clone, Copy, Debug, PartialEq, Eq)]

@@ -53,7 +53,7 @@ fn due_among(list: &[DueSummary], n: usize) -> Option<CDue>
     Some(due_of(*due))
 }
 
-fn due_of(due: DueSummary) -> CDue
+pub(crate) fn due_of(due: DueSummary) -> CDue
     ensures { result ≡ c.due_of due }
 {
     CDue {

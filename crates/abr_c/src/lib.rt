@@ -5,6 +5,7 @@
 mod base;
 mod c_types;
 mod due;
+mod due_changes;
 mod events;
 mod given;
 mod handle;
@@ -17,5 +18,5 @@ mod slot;
 mod table;
 mod taken;
 
-pub use c_types::{CDue, CHop, CInterface, CItem, CKey, CPrefix, CScope};
+pub use c_types::{CDue, CDueChange, CHop, CInterface, CItem, CKey, CPrefix, CScope};
 pub use slot::Slot;

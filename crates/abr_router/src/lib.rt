@@ -11,7 +11,7 @@ pub use engine::{
 pub use event_state::{Limits, fault_in_base};
 pub use ospf_types::listed::Listed;
 // What the core shows beside its table.
-pub use event_core::{DueSummaries, Touched, fault_in};
+pub use event_core::{DueChanges, DueSummaries, Touched, fault_in};
 pub use summary_lists::AreaSummaries;
 // LSAs and their bytes (A.4).
 pub use lsa_codec::{

@@ -16,7 +16,7 @@ ghost use Rattle.intra.specs.Intras.{IsIntraOf};
 ghost use Rattle.intra.specs.Right.{IsRightFor};
 ghost use Rattle.active_ranges.specs.Active.{AreRangesOf, IsMemberWithin, IsRangeNamed, RangesDifferAt};
 ghost use Rattle.active_ranges.specs.declared.member.Member.{Member as MemberValue};
-ghost use Rattle.summaries.specs.Carrying.{IsCarriedOut, IsReady};
+ghost use Rattle.summaries.specs.Carrying.{IsCarriedOut, IsReady, MakesChangesFrom};
 ghost use Rattle.summaries.specs.DueSummaries.{DueSummariesValue, lists_of};
 ghost use Rattle.route_table.specs.declared.table.Item.{Item as ItemValue};
 ghost use Rattle.event_state.specs.Held.{AreFit};
@@ -206,6 +206,7 @@ impl Calculation {
         ensures ready { IfOk result (λ plan. IsReady plan summaries.new) }
         ensures kept { IfOk result (λ plan. (after : DueSummariesValue)
             → IsCarriedOut plan summaries.new after → AreSummariesFor state.now self.now after) }
+        ensures changes { IfOk result (MakesChangesFrom summaries.old summaries.new) }
     {
         let active = active_areas(alloc, state)?;
         let plan = summaries.plan(alloc, &self.summary_inputs(state, &active), dests)?;

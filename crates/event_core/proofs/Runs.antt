@@ -11,7 +11,7 @@ use Rattle.event_state.specs.Rolls.{since, IsBaseOf}
 use Rattle.event_state.specs.Steps.{opening, step, refusal_of, run_of}
 use Rattle.vertex_graph.specs.Graphs.{most_routers}
 use Rattle.route_table.specs.Tables.{TableValue}
-use Rattle.summaries.specs.DueSummaries.{lists_of}
+use Rattle.summaries.specs.DueSummaries.{AreDueChanges, lists_of}
 use Rattle.event_core.specs.Right.{IsRight, AreDue}
 use Rattle.event_core.specs.declared.reply.Reply.{Reply}
 use Rattle.event_core.specs.declared.reply.Status.{Status}
@@ -79,6 +79,7 @@ rolls s u r built b kept is since_is again =
       summaries = refl;
       work = refl;
       changes = refl;
+      due_changes = refl;
     }
 
 -- an event more, and table and due summaries are as they were, whatever else is kept
@@ -87,7 +88,7 @@ kept_behind s r new built e kept accepted table summaries =
     let setting = further_step s e in
     let runs : (base : Base) (limits : Limits) → base ≡ s.base → limits ≡ s.limits → step s e ≡ run_of base limits (s.journal ++ e ∷ []) = λ base limits p q. step_runs s e kept.run ∙ sym (λ i. run_of (p i) (q i) (s.journal ++ e ∷ [])) in
     let front : take built (s.journal ++ e ∷ []) ≡ take built s.journal = take-append-le built s.journal (e ∷ []) kept.core.within in
-    let core : IsCore (record { base = s.base; limits = s.limits; journal = s.journal ++ e ∷ []; built = built; table = new.table; summaries = lists_of new.summaries; work = new.work; changes = new.changes }) = record {
+    let core : IsCore (record { base = s.base; limits = s.limits; journal = s.journal ++ e ∷ []; built = built; table = new.table; summaries = lists_of new.summaries; work = new.work; changes = new.changes; due_changes = new.due_changes }) = record {
       sound = kept.core.sound;
       legal = taken_more s.base s.limits s.journal e kept.core.legal (ap (λ (u : State). refusal_of u e) (sym kept.run) ∙ accepted);
       within = omega (arith, kept.core.within, length-append s.journal (e ∷ []));
@@ -98,7 +99,7 @@ kept_behind s r new built e kept accepted table summaries =
     } in
     record {
       run = runs (step s e).base (step s e).limits setting.base setting.limits;
-      core = subst (λ (c : CoreValue). IsCore c) (λ i. record { base = sym setting.base i; limits = sym setting.limits i; journal = s.journal ++ e ∷ []; built = built; table = new.table; summaries = lists_of new.summaries; work = new.work; changes = new.changes }) core;
+      core = subst (λ (c : CoreValue). IsCore c) (λ i. record { base = sym setting.base i; limits = sym setting.limits i; journal = s.journal ++ e ∷ []; built = built; table = new.table; summaries = lists_of new.summaries; work = new.work; changes = new.changes; due_changes = new.due_changes }) core;
       fresh = λ all. absurd (omega (arith, all, kept.core.within, length-append s.journal (e ∷ [])));
       few = subst (λ (limits : Limits). limits.area_lsas ≤ most_routers) (sym setting.limits) kept.few;
     }
@@ -160,11 +161,14 @@ pub record IsSettled (s u : State) (r : RoutesValue) (built : ℕ) (result : Res
   pub bounded : OnOk result (built ≡ length s.journal → IsEventWork s u new.work)
   pub exact : OnOk result (built ≡ length s.journal → AreChanges r.table.items new.table.items new.changes)
   pub anew : OnOk result ((built ≡ length s.journal → ⊥) → IsBuildWork u new.work)
+  pub exact_due : OnOk result (built ≡ length s.journal → AreDueChanges new.due_changes (lists_of r.summaries) (lists_of new.summaries))
   pub unnamed : OnOk result ((built ≡ length s.journal → ⊥) → new.changes ≡ [])
+  pub unnamed_due : OnOk result ((built ≡ length s.journal → ⊥) → new.due_changes ≡ [])
   pub unchanged : OnErr result (new.table ≡ r.table)
   pub due : OnErr result (lists_of new.summaries ≡ lists_of r.summaries)
   pub work : OnErr result (new.work ≡ no_work)
   pub changes : OnErr result (new.changes ≡ [])
+  pub due_changes : OnErr result (new.due_changes ≡ [])
 
 module _ (s u : State) (r new : RoutesValue) (built : ℕ) (e : Event) (kept : IsCoherent s r built) (is : u ≡ step s e) (accepted : refusal_of s e ≡ None) where
   settled_ok : (now : ℕ) → now ≡ length u.journal → AreRoutesOf u new → IsCoherent u new now
@@ -214,12 +218,12 @@ module _ (s u : State) (r new : RoutesValue) (built : ℕ) (e : Event) (kept : I
   bounded_err (Err x) m err h = h.work
 
   pub named_ok : (result : Result (Unit {0}) Memory) (now : ℕ) → result ≡ Ok tt → IsSettled s u r built result new → NamesChanges (core_of s r built) Current (core_of u new now)
-  named_ok (Ok x) now ok h = (h.exact, h.unnamed)
+  named_ok (Ok x) now ok h = (λ current. record { networks = h.exact current; due = h.exact_due current }, λ behind. (h.unnamed behind, h.unnamed_due behind))
   named_ok (Err m) now ok h = absurd cc
 
   pub named_err : (result : Result (Unit {0}) Memory) (m : Memory) → result ≡ Err m → IsSettled s u r built result new → NamesChanges (core_of s r built) Behind (core_of u new built)
   named_err (Ok x) m err h = absurd cc
-  named_err (Err x) m err h = h.changes
+  named_err (Err x) m err h = (h.changes, h.due_changes)
 
 -- what a core is made of then
 pub record IsOutcome (s u : State) (r : RoutesValue) (built : ℕ) (result : Result (Unit {0}) Memory) (state : State) (new : RoutesValue) (still : ℕ) : Type 0 where
@@ -232,4 +236,5 @@ pub record IsOutcome (s u : State) (r : RoutesValue) (built : ℕ) (result : Res
 -- what is told after one of them
 pub tells : (old : CoreValue) (e : Event) (r : Result Reply Refusal) (new : CoreValue) → Applies old e r new → IfOk r (λ reply. NamesChanges old reply.state new) → IfOk r (λ reply. HasBoundedWork old reply.state new) → Tells old r new
 tells old e (Ok reply) new applied changes work = (changes, work)
-tells old e (Err refusal) new applied changes work = (ap (λ (c : CoreValue). c.changes) applied.unchanged, ap (λ (c : CoreValue). c.work) applied.unchanged)
+tells old e (Err refusal) new applied changes work =
+    (ap (λ (c : CoreValue). c.changes) applied.unchanged, ap (λ (c : CoreValue). c.due_changes) applied.unchanged, ap (λ (c : CoreValue). c.work) applied.unchanged)

@@ -3,6 +3,7 @@ use Rattle.std.proofs.Common.{◌≡◌, ℕ, Bool, false, List, [], refl, sym, 
 use Rattle.ospf_types.specs.declared.key.Key.{Key}
 use Rattle.ospf_types.specs.declared.key.Scope.{Scope}
 use Rattle.route_table.specs.Tables.{TableValue}
+use Rattle.summaries.specs.DueSummaries.{AreDueChanges, lists_of}
 use Rattle.event_state.specs.Held.{AreFit}
 use Rattle.event_state.specs.declared.base.Base.{Base}
 use Rattle.event_state.specs.Rolls.{since, IsBaseOf}
@@ -21,7 +22,7 @@ use Rattle.event_core.proofs.NoWork.{no_event_work}
 
 -- what the event before changed is no longer told
 abbrev forgotten : RoutesValue → RoutesValue
-forgotten r = record r { work = no_work; changes = [] }
+forgotten r = record r { work = no_work; changes = []; due_changes = [] }
 
 -- the states differ as it is said, and look alike where nothing is changed
 pub record GoesOn (keys : List (Scope × Key)) (ids : List ℕ) (ranged changed : Bool) (before after : State) : Type 0 where
@@ -35,6 +36,7 @@ pub record HasFollowed (t : State) (keys : List (Scope × Key)) (ids : List ℕ)
   pub items : IsTableOf new.calculation new.table.items
   pub summaries : AreSummariesFor t new.calculation new.summaries
   pub exact : AreChanges old.table.items new.table.items new.changes
+  pub exact_due : AreDueChanges new.due_changes (lists_of old.summaries) (lists_of new.summaries)
   pub bounded : (before : State) → GoesOn keys ids ranged changed before t → AreRoutesOf before old → IsEventWork before t new.work
 
 forgotten_routes : (s : State) (r : RoutesValue) → AreRoutesOf s r → AreRoutesOf s (forgotten r)
@@ -49,12 +51,14 @@ still_routes s old mid is are = subst (AreRoutesOf s) (sym is) (forgotten_routes
 
 module _ (t : State) (keys : List (Scope × Key)) (ids : List ℕ) (ranged changed : Bool) (old mid : RoutesValue) (is : mid ≡ forgotten old) where
   pub followed : (new : RoutesValue) → IsCalculationOf t new.calculation → IsTableOf new.calculation new.table.items → AreSummariesFor t new.calculation new.summaries → AreChanges mid.table.items new.table.items new.changes
+      → AreDueChanges new.due_changes (lists_of mid.summaries) (lists_of new.summaries)
       → ((before : State) → AreRoutesOf before mid → StatesDifferAmong keys ids ranged before t → IsEventWork before t new.work) → HasFollowed t keys ids ranged changed old new
-  followed new calculation items summaries exact bounded = record {
+  followed new calculation items summaries exact exact_due bounded = record {
     calculation = calculation;
     items = items;
     summaries = summaries;
     exact = subst (λ (r : RoutesValue). AreChanges r.table.items new.table.items new.changes) is exact;
+    exact_due = subst (λ (r : RoutesValue). AreDueChanges new.due_changes (lists_of r.summaries) (lists_of new.summaries)) is exact_due;
     bounded = λ before goes are. bounded before (still_routes before old mid is are) goes.differ;
   }
 
@@ -66,6 +70,7 @@ module _ (t : State) (keys : List (Scope × Key)) (ids : List ℕ) (ranged chang
         items = are.table;
         summaries = due_alike before t old.calculation old.summaries (goes.alike same) are.summaries;
         exact = nothing_changes old.table.items;
+        exact_due = refl;
         bounded = λ other on others. no_event_work other t old.calculation on.fit fit others.calculation alike;
       })
 

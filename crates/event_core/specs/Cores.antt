@@ -21,6 +21,8 @@ use Rattle.event_state.specs.Steps.{run_of, refusal_of, IsLegalList}
 use Rattle.event_state.specs.Refusals.{IsRefusalOf}
 use Rattle.route_table.specs.Tables.{TableValue}
 use Rattle.summaries.specs.DueSummary.{DueSummary}
+use Rattle.summaries.specs.DueSummaries.{AreDueChanges}
+use Rattle.summaries.specs.Lists.{Metrics}
 use Rattle.event_core.specs.Right.{IsRight, AreDue}
 use Rattle.ospf_types.specs.declared.prefix.Prefix.{Prefix}
 use Rattle.spf.specs.Touched.{Touched}
@@ -36,6 +38,7 @@ pub record CoreValue : Type 0 where
   pub summaries : List (ℕ × List DueSummary)  -- each area with what is due in it, in the order of the configuration
   pub work : Touched  -- that of the last event
   pub changes : List Prefix  -- the networks whose item the last event changed
+  pub due_changes : List (ℕ × Metrics)  -- each area with what the last event changed of what is due there, in the order of the configuration; no area, where it changed nothing
 
 -- the databases and interfaces now
 abbrev pub state_of : CoreValue → State
@@ -81,20 +84,28 @@ Applies old e (Err refusal) new = IsRefused old e refusal new
 abbrev pub IsCurrent : CoreValue → Type 0
 IsCurrent c = c.built ≡ length c.journal
 
--- Of an event that finds the table current and leaves it current, the networks whose item differs. Of one that finds it behind, or leaves it behind, none.
+-- named are the networks whose item differs, and what differs in the lists of what is due
+pub record NamesDifferences (old new : CoreValue) : Type 0 where
+  pub networks : AreChanges old.table.items new.table.items new.changes
+  pub due : AreDueChanges new.due_changes old.summaries new.summaries
+
+abbrev pub NamesNothing : CoreValue → Type 0
+NamesNothing new = (new.changes ≡ []) × (new.due_changes ≡ [])
+
+-- Of an event that finds the table current and leaves it current, what differs. Of one that finds it behind, or leaves it behind, nothing.
 abbrev pub NamesChanges : CoreValue → Status → CoreValue → Type 0
-NamesChanges old Current new = (IsCurrent old → AreChanges old.table.items new.table.items new.changes) × ((IsCurrent old → ⊥) → new.changes ≡ [])
-NamesChanges old Behind new = new.changes ≡ []
+NamesChanges old Current new = (IsCurrent old → NamesDifferences old new) × ((IsCurrent old → ⊥) → NamesNothing new)
+NamesChanges old Behind new = NamesNothing new
 
 -- Of an event that finds the table current and leaves it current, the work is the sum over the areas, in each of which it is bounded by what differs. One that finds it behind builds all: the sum over the areas of what is reached.
 abbrev pub HasBoundedWork : CoreValue → Status → CoreValue → Type 0
 HasBoundedWork old Current new = (IsCurrent old → IsFollowingWork (state_of old) (state_of new) new.work) × ((IsCurrent old → ⊥) → IsBuildingWork (state_of new) new.work)
 HasBoundedWork old Behind new = new.work ≡ no_work
 
--- what `changes` and `work` tell after an event: of one that was taken its own, after a refusal what they told before
+-- what `changes`, `due_changes` and `work` tell after an event: of one that was taken its own, after a refusal what they told before
 abbrev pub Tells : CoreValue → Result Reply Refusal → CoreValue → Type 0
 Tells old (Ok reply) new = NamesChanges old reply.state new × HasBoundedWork old reply.state new
-Tells old (Err refusal) new = (new.changes ≡ old.changes) × (new.work ≡ old.work)
+Tells old (Err refusal) new = (new.changes ≡ old.changes) × (new.due_changes ≡ old.due_changes) × (new.work ≡ old.work)
 
 -- the answers to events, one after the other; so what is told in the end is told of the last that was taken, or as before
 abbrev pub Runs : CoreValue → List Event → List (Result Reply Refusal) → CoreValue → Type 0
@@ -120,6 +131,7 @@ pub record IsOpening (given : Base) (most : Limits) (c : CoreValue) : Type 0 whe
   pub built : c.built ≡ 0
   pub work : c.work ≡ no_work
   pub changes : c.changes ≡ []
+  pub due_changes : c.due_changes ≡ []
 
 -- the state as it is becomes the base, with no event since; all else is as it was
 pub record Rolls (old new : CoreValue) : Type 0 where
@@ -132,6 +144,7 @@ pub record Rolls (old new : CoreValue) : Type 0 where
   pub summaries : new.summaries ≡ old.summaries
   pub work : new.work ≡ old.work
   pub changes : new.changes ≡ old.changes
+  pub due_changes : new.due_changes ≡ old.due_changes
 
 -- why a core is not rolled: table and due summaries are behind; or they are not, and memory ran out
 abbrev pub IsRollRefusal : CoreValue → Refusal → Type 0

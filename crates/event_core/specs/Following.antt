@@ -1,5 +1,5 @@
 -- The routes and due summaries that a core keeps, and what an event changes of them.
-use Rattle.std.specs.Prelude.{◌≡◌, ◌≢◌, ◌⊎◌, ◌↔◌, ◌++◌, List, [], ◌∷◌, Contains, Option}
+use Rattle.std.specs.Prelude.{ℕ, ◌≡◌, ◌≢◌, ◌⊎◌, ◌↔◌, ◌++◌, List, [], ◌∷◌, Contains, Option}
 use Rattle.std.specs.FinMap as map
 use Rattle.std.specs.List.Sorted.{IsStrictlySortedBy}
 use Rattle.std.specs.Map.{keys_of}
@@ -9,6 +9,7 @@ use Rattle.spf.specs.Touched.{Touched}
 use Rattle.route_table.specs.declared.table.Item.{Item}
 use Rattle.route_table.specs.Tables.{TableValue}
 use Rattle.summaries.specs.DueSummaries.{DueSummariesValue}
+use Rattle.summaries.specs.Lists.{Metrics}
 use Rattle.event_state.specs.States.{State, serial_of}
 use Rattle.calculation.specs.Calculations.{CalculationValue, IsCalculationOf, IsItemOf, IsTableOf}
 use Rattle.calculation.specs.Summaries.{AreSummariesFor}
@@ -19,6 +20,7 @@ pub record RoutesValue : Type 0 where
   pub summaries : DueSummariesValue
   pub work : Touched
   pub changes : List Prefix
+  pub due_changes : List (ℕ × Metrics)
 
 -- what is kept is that of the state, the table has its serial, and what is due is due by what is kept
 pub record AreRoutesOf (s : State) (r : RoutesValue) : Type 0 where

@@ -25,7 +25,7 @@ use spf::Touched;
 use std::alloc::Global;
 use std::hash::RandomState;
 use std::marker::Model;
-use summaries::{DueSummaries, DueSummary};
+use summaries::{DueChanges, DueSummaries, DueSummary};
 
 /// The databases and interfaces of an area border router, the journal of the events that made them, and the routing table
 /// and the summary-LSAs due in each area that they give (RFC 2328, 16 and 12.4.3).
@@ -170,12 +170,13 @@ impl Core {
     }
 
     /// Builds table and due summaries anew, where they are behind; databases and journal stay as they are, and so does
-    /// what `changes` and `work` tell of the last event.
+    /// what `changes`, `due_changes` and `work` tell of the last event.
     pub fn catch_up(&mut self) -> Status
         ensures journal { self.new.journal ≡ self.old.journal }
         ensures base { self.new.base ≡ self.old.base }
         ensures limits { self.new.limits ≡ self.old.limits }
         ensures changes { self.new.changes ≡ self.old.changes }
+        ensures due_changes { self.new.due_changes ≡ self.old.due_changes }
         ensures work { self.new.work ≡ self.old.work }
         ensures stands { Stands self.old result self.new }
     {
@@ -193,8 +194,8 @@ impl Core {
     }
 
     /// Applies the events one after the other. Room for all answers is made first: where it is
-    /// refused, no event is applied. Afterwards `changes` and `work` tell of the last event that was taken, and where
-    /// none was, what they told before.
+    /// refused, no event is applied. Afterwards `changes`, `due_changes` and `work` tell of the last event that was taken,
+    /// and where none was, what they told before.
     pub fn run(&mut self, events: Vec<Event>) -> Result<Vec<Result<Reply, Refusal>>, Memory>
         ensures runs { IfOk result (λ replies. Runs self.old events.items replies.items self.new) }
         ensures err { OnErr result (self.new ≡ self.old) }
@@ -263,6 +264,14 @@ impl Core {
         ensures { result.now ≡ self.now.changes }
     {
         self.routes.changes()
+    }
+
+    /// What the last taken event changed in what is due in the areas (RFC 2328, 12.4.3). Nothing is told where that event
+    /// found the table behind (all of it is built anew then), or left it behind.
+    pub fn due_changes(&self) -> &DueChanges
+        ensures { result.now ≡ self.now.due_changes }
+    {
+        self.routes.due_changes()
     }
 
     /// The work of the last taken event: vertices taken from queues and sets of next hops written, over all areas, by the

@@ -14,4 +14,4 @@ pub use event_state::{Base, Event, Limits, Refusal};
 pub use reply::{Reply, Status};
 pub use route_table as table;
 pub use spf::Touched;
-pub use summaries::{DueSummaries, DueSummary};
+pub use summaries::{DueChanges, DueSummaries, DueSummary};

@@ -6,7 +6,7 @@ ghost use Rattle.ospf_types.specs.Network.{network_cmp};
 ghost use Rattle.vertex_graph.specs.Graphs.{most_routers};
 ghost use Rattle.event_state.specs.Held.{AreFit};
 ghost use Rattle.event_state.specs.States.{AreApart, State as StateValue, LooksAlike, serial_of};
-ghost use Rattle.summaries.specs.DueSummaries.{lists_of};
+ghost use Rattle.summaries.specs.DueSummaries.{AreDueChanges, lists_of};
 ghost use Rattle.calculation.specs.Active.{RangesDifferAt};
 ghost use Rattle.calculation.specs.Calculations.{IsCalculationOf, IsTableOf};
 ghost use Rattle.calculation.specs.Trees.{StatesDifferAmong};
@@ -26,7 +26,7 @@ use spf::Touched;
 use std::alloc::Global;
 use std::hash::RandomState;
 use std::marker::Model;
-use summaries::DueSummaries;
+use summaries::{DueChanges, DueSummaries};
 
 /// The routing table of a state and what is due in its areas, what both are calculated from, and what the last event
 /// changed.
@@ -36,6 +36,7 @@ pub(crate) struct Routes {
     summaries: DueSummaries,
     work: Touched,
     changes: Vec<Prefix>,
+    due_changes: DueChanges,
     // How often all was built.
     builds: u64,
 }
@@ -49,6 +50,7 @@ impl Drop for Routes {
             summaries: _summaries,
             work: _,
             changes: _changes,
+            due_changes: _due_changes,
             builds: _,
         } = self;
     }
@@ -65,7 +67,7 @@ impl Model for Routes {
 
     ghost coded = { let table : Coded TableValue = table_code in Prim.hlevel (codes, kept.the_row.coded, kept_summaries.the_row.coded, table) };
 
-    ghost view = { λ r. record { calculation = r.calculation; table = r.table; summaries = r.summaries; work = r.work; changes = r.changes.items } };
+    ghost view = { λ r. record { calculation = r.calculation; table = r.table; summaries = r.summaries; work = r.work; changes = r.changes.items; due_changes = r.due_changes } };
 }
 
 impl Routes {
@@ -80,6 +82,7 @@ impl Routes {
         ensures right { IfOk result (AreRoutesOf state.now) }
         ensures work { IfOk result (λ routes. routes.work ≡ no_work) }
         ensures changes { IfOk result (λ routes. routes.changes ≡ []) }
+        ensures due_changes { IfOk result (λ routes. routes.due_changes ≡ []) }
     {
         let (calculation, table, summaries, _) = from_scratch(alloc, state, hashing)?;
         Ok(Routes {
@@ -88,6 +91,7 @@ impl Routes {
             summaries,
             work: Touched::none(),
             changes: Vec::new(alloc),
+            due_changes: DueChanges::none(alloc),
             builds: 1,
         })
     }
@@ -108,6 +112,7 @@ impl Routes {
         ensures due { OnErr result (lists_of self.new.summaries ≡ lists_of self.old.summaries) }
         ensures work { self.new.work ≡ self.old.work }
         ensures changes { self.new.changes ≡ self.old.changes }
+        ensures due_changes { self.new.due_changes ≡ self.old.due_changes }
     {
         let (calculation, table, summaries, work) = from_scratch(alloc, state, hashing)?;
         self.calculation = calculation;
@@ -117,7 +122,7 @@ impl Routes {
         Ok(work)
     }
 
-    /// Builds all routes anew after an event. Its work is told, and no network is named.
+    /// Builds all routes anew after an event. Its work is told, and no change is.
     pub(crate) fn start_anew(
         &mut self,
         alloc: Global,
@@ -133,6 +138,7 @@ impl Routes {
         ensures due { OnErr result (lists_of self.new.summaries ≡ lists_of self.old.summaries) }
         ensures work { OnErr result (self.new.work ≡ no_work) }
         ensures changes { self.new.changes ≡ [] }
+        ensures due_changes { self.new.due_changes ≡ [] }
     {
         self.forget();
         self.work = self.rebuild(alloc, state, hashing)?;
@@ -157,6 +163,8 @@ impl Routes {
         ensures fit { OnOk result (AreFit state.now.config.areas state.now.databases) }
         ensures exact { OnOk result (AreChanges self.old.table.items self.new.table.items
             self.new.changes) }
+        ensures exact_due { OnOk result (AreDueChanges self.new.due_changes
+            (lists_of self.old.summaries) (lists_of self.new.summaries)) }
         ensures bounded { OnOk result ((before : StateValue)
             → AreFit before.config.areas before.databases → AreRoutesOf before self.old
             → IsNamedBetween named before state.now
@@ -166,6 +174,7 @@ impl Routes {
         ensures due { OnErr result (lists_of self.new.summaries ≡ lists_of self.old.summaries) }
         ensures work { OnErr result (self.new.work ≡ no_work) }
         ensures changes { OnErr result (self.new.changes ≡ []) }
+        ensures due_changes { OnErr result (self.new.due_changes ≡ []) }
     {
         self.forget();
         if changed {
@@ -195,6 +204,12 @@ impl Routes {
         self.changes.as_slice()
     }
 
+    pub(crate) fn due_changes(&self) -> &DueChanges
+        ensures { result.now ≡ self.now.due_changes }
+    {
+        &self.due_changes
+    }
+
     pub(crate) fn work(&self) -> Touched
         ensures { result ≡ self.now.work }
     {
@@ -210,10 +225,12 @@ impl Routes {
 impl Routes {
     // What the event before changed is no longer told.
     fn forget(&mut self)
-        ensures { self.new ≡ record self.old { work = no_work; changes = [] } }
+        ensures { self.new ≡
+            record self.old { work = no_work; changes = []; due_changes = [] } }
     {
         self.work = Touched::none();
         self.changes.clear();
+        self.due_changes.clear();
     }
 
     // What is kept, the items of the table and what is due follow the state. The change of the table is the last that may
@@ -228,12 +245,15 @@ impl Routes {
             self.new.summaries) }
         ensures exact { OnOk result (AreChanges self.old.table.items self.new.table.items
             self.new.changes) }
+        ensures exact_due { OnOk result (AreDueChanges self.new.due_changes
+            (lists_of self.old.summaries) (lists_of self.new.summaries)) }
         ensures bounded { OnOk result ((before : StateValue) → AreRoutesOf before self.old
             → IsNamedBetween named before state.now → IsEventWork before state.now self.new.work) }
         ensures unchanged { OnErr result (self.new.table ≡ self.old.table) }
         ensures due { OnErr result (lists_of self.new.summaries ≡ lists_of self.old.summaries) }
         ensures work { OnErr result (self.new.work ≡ self.old.work) }
         ensures changes { OnErr result (self.new.changes ≡ self.old.changes) }
+        ensures due_changes { OnErr result (self.new.due_changes ≡ self.old.due_changes) }
     {
         let Named {
             keys,
@@ -253,7 +273,7 @@ impl Routes {
             .calculation
             .plan_summaries(alloc, state, &mut self.summaries, &told.dests)?;
         self.table.change(alloc, items)?;
-        self.summaries.carry_out(plan);
+        self.due_changes = self.summaries.carry_out(plan);
         self.work = told.work;
         self.changes = changes;
         Ok(())

@@ -8,6 +8,7 @@ pub mod Areas
 pub mod Told
 pub mod Right
 pub mod Comparing
+pub mod Differing
 pub mod Turns
 pub mod Carried
 pub mod Unserved

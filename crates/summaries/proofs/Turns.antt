@@ -2,6 +2,7 @@
 --   planned_more: one more area has its plan
 --   all_fit: the plans may be carried out
 --   lists_after: the lists are those of the inputs then
+--   changes_after: the plans change just what differs
 use Rattle.std.proofs.Common.{◌≡◌, ℕ, suc, add-zero, ◌+◌, ◌<◌, ◌≤◌, List, [], ◌∷◌, ◌++◌, length, map, get_or, set, take, drop, Option, refl, sym, ap, subst, ◌∙◌, inl, inr, arith}
 use Rattle.std.specs.Prelude.{◌↔◌}
 use Rattle.std.specs.List.{Contains}
@@ -11,19 +12,19 @@ use Rattle.std.proofs.lemmas.List.{take_all, take_more, take_more_set, drop-set-
 use Rattle.std.proofs.lemmas.List.Elements.{All-contains}
 use Rattle.ospf_types.specs.declared.config.AreaConfig.{AreaConfig}
 use Rattle.ospf_types.specs.declared.key.Dest.{Dest}
-use Rattle.ospf_types.proofs.Elements.{first_element, later_element, mapped_from}
+use Rattle.ospf_types.proofs.Elements.{first_element, later_element, mapped_element}
 use Rattle.ospf_types.proofs.Orders.{dest_total, dest_exact}
 use Rattle.result_map.proofs.KeyedMaps.{listed_or_not}
 use Rattle.summary_lists.specs.declared.due.DueSummary.{DueSummary}
 use Rattle.summary_lists.specs.declared.plan.AreaPlan.{AreaPlan}
-use Rattle.summary_lists.specs.declared.plan.AreaPlan.TheVariants.{Put, Whole}
 use Rattle.summaries.specs.Inputs.{SummaryInputsValue}
 use Rattle.summaries.specs.Giving.{IsDueIn}
-use Rattle.summary_lists.specs.Lists.{AreaSummariesValue, AreInOrder, AreOfKind, Metrics, due_for, kind_of, IsChangedBy}
-use Rattle.summaries.specs.DueSummaries.{IsListOf, AreListsOf, listed}
-use Rattle.summary_lists.specs.Plans.{Fits, Leads}
-use Rattle.summaries.specs.Carrying.{AllFit, AllLead}
+use Rattle.summary_lists.specs.Lists.{AreChangesBetween, AreaSummariesValue, IsChangedBy, Metrics, due_for, kind_of}
+use Rattle.summaries.specs.DueSummaries.{AreDueChanges, IsListOf, AreListsOf, listed}
+use Rattle.summary_lists.specs.Plans.{IsChanged}
+use Rattle.summaries.specs.Carrying.{AllFit, AllChanged, changes_of}
 use Rattle.summaries.specs.Planning.{Turn, IsTurn, AreTurns, IsPlannedIn, ArePlanned, ArePlannedTo}
+use Rattle.summaries.proofs.Differing.{changes_between, metric_of}
 
 -- ---- one more area has its plan
 
@@ -61,7 +62,7 @@ module _ (v : SummaryInputsValue) (dests : List Dest) (areas : List AreaConfig) 
       → ArePlannedTo v dests areas old now plans i → ArePlannedTo v dests areas old (set now i new) (plans ++ plan ∷ []) (i + 1)
   planned_more a was new plan lt now_long old_long area_at was_at same_area same_list is to =
       let first = to.first in
-      let x : Turn = record { area = a; old = was; new = new; plan = plan; metrics = is.metrics } in
+      let x : Turn = record { area = a; old = was; new = new; plan = plan } in
       let lt_now : i < length now = omega (arith, lt, now_long) in
       let lt_old : i < length old = omega (arith, lt, old_long) in
       let here = still_there was lt_now was_at to in
@@ -72,7 +73,7 @@ module _ (v : SummaryInputsValue) (dests : List Dest) (areas : List AreaConfig) 
           old_are = mapped_more (λ (y : Turn). y.old) first.turns x (take i old) (take (i + 1) old) first.old_are (take_more old i was lt_old ∙ ap (λ (w : AreaSummariesValue). take i old ++ w ∷ []) here);
           new_are = mapped_more (λ (y : Turn). y.new) first.turns x (take i now) (take (i + 1) (set now i new)) first.new_are (take_more_set now i new lt_now);
           plans_are = mapped_more (λ (y : Turn). y.plan) first.turns x plans (plans ++ plan ∷ []) first.plans_are refl;
-          each = turns_more v dests first.turns x first.each is.turn;
+          each = turns_more v dests first.turns x first.each is;
         };
         rest = drop-set-lt (i + 1) now i new (omega arith) ∙ sym (drop-drop 1 i now) ∙ ap (drop 1) to.rest ∙ drop-drop 1 i old;
         same = listed_set now i new was was_at same_area same_list ∙ to.same;
@@ -86,28 +87,27 @@ module _ (v : SummaryInputsValue) (dests : List Dest) (areas : List AreaConfig) 
 
 -- ---- what a plan makes of a list
 
-after_in_order : (p : AreaPlan) (w after : AreaSummariesValue) → Fits p w → Leads p w after → AreInOrder after.list × AreOfKind after.list
-after_in_order (Put metrics) w after fits leads = (leads.2, leads.3)
-after_in_order (Whole list) w after fits leads = (subst AreInOrder (sym leads.1) fits.0, subst AreOfKind (sym leads.1) fits.1)
+keys_have : (metrics : Metrics) (d : Dest) (metric : Option ℕ) → Contains metrics (d, metric) → Contains (keys_of metrics) d
+keys_have metrics d metric c = mapped_element (λ (e : Dest × Option ℕ). e.0) metrics (d, metric) c
 
-after_area : (p : AreaPlan) (w after : AreaSummariesValue) → Leads p w after → after.area ≡ w.area
-after_area (Put metrics) w after leads = leads.0
-after_area (Whole list) w after leads = leads.0
+module _ (v : SummaryInputsValue) (dests : List Dest) (x : Turn) (after : AreaSummariesValue) (is : IsTurn v dests x) (carried : IsChanged x.plan.metrics.items x.new after) where
+  abbrev metrics : Metrics
+  metrics = x.plan.metrics.items
 
--- a destination that is named has a metric
-metric_of : (metrics : Metrics) (d : Dest) → Contains (keys_of metrics) d → (metric : Option ℕ) × Contains metrics (d, metric)
-metric_of metrics d c =
-    let (e, there, is) = mapped_from (λ (e : Dest × Option ℕ). e.0) metrics d c in
-    (e.1, subst (λ (k : Dest). Contains metrics (k, e.1)) is there)
+  changed : IsChangedBy metrics x.old.list after.list
+  changed = subst (λ (list : List DueSummary). IsChangedBy metrics list after.list) is.same_list carried.list
 
-module _ (v : SummaryInputsValue) (dests : List Dest) (x : Turn) (after : AreaSummariesValue) (is : IsTurn v dests x) (leads : Leads x.plan x.new after) where
-  changed : IsChangedBy x.metrics x.old.list after.list
-  changed = is.leads after leads
+  -- what it changes is what differs
+  differs : AreChangesBetween metrics x.old.list after.list
+  differs = changes_between metrics x.old.list after.list changed (λ d metric c had.
+      (is.changes.named d (keys_have metrics d metric c)).1 (λ m.
+          let due = is.changes.here d metric c m in
+          (λ h. (had m).0 (due.1 h), λ h. due.0 ((had m).1 h)))) is.changes.in_order
 
   -- it tells of a named destination what is due
-  told_named : (d : Dest) → Contains (keys_of x.metrics) d → (m : ℕ) → IsDueIn v x.area d m ↔ Contains after.list (due_for d m)
+  told_named : (d : Dest) → Contains (keys_of metrics) d → (m : ℕ) → IsDueIn v x.area d m ↔ Contains after.list (due_for d m)
   told_named d c m =
-      let (metric, there) = metric_of x.metrics d c in
+      let (metric, there) = metric_of metrics d c in
       let due = is.changes.here d metric there m in
       let told = changed.here d metric there m in
       (λ h. told.0 (due.1 h), λ h. due.0 (told.1 h))
@@ -115,7 +115,7 @@ module _ (v : SummaryInputsValue) (dests : List Dest) (x : Turn) (after : AreaSu
   module _ (before : SummaryInputsValue) (was : IsListOf before x.area x.old) (alike : (d : Dest) → (Contains dests d → ⊥) → (m : ℕ) → IsDueIn before x.area d m ↔ IsDueIn v x.area d m) where
     -- and of each destination
     told : (d : Dest) (m : ℕ) → IsDueIn v x.area d m ↔ Contains after.list (due_for d m)
-    told d m = elim (listed_or_not dest_total dest_exact d (keys_of x.metrics)) [
+    told d m = elim (listed_or_not dest_total dest_exact d (keys_of metrics)) [
       | inl c ↦ told_named d c m
       | inr absent ↦
           let stays = changed.others (due_for d m) absent in
@@ -132,13 +132,12 @@ module _ (v : SummaryInputsValue) (dests : List Dest) (x : Turn) (after : AreaSu
 
     list_after : IsListOf v x.area after
     list_after =
-        let (in_order, kinds) = after_in_order x.plan x.new after is.fits leads in
         let made : (due : DueSummary) → due.kind ≡ kind_of due.dest → due ≡ due_for due.dest due.metric = λ due kind i. record { kind = kind i; dest = due.dest; metric = due.metric } in
         record {
-          area = after_area x.plan x.new after leads ∙ is.same_area ∙ was.area;
-          in_order = in_order;
+          area = carried.area ∙ is.same_area ∙ was.area;
+          in_order = carried.in_order;
           exact = λ due. (
-            λ c. let kind : due.kind ≡ kind_of due.dest = All-contains (λ due. due.kind ≡ kind_of due.dest) after.list due kinds c in
+            λ c. let kind : due.kind ≡ kind_of due.dest = All-contains (λ due. due.kind ≡ kind_of due.dest) after.list due carried.of_kind c in
                 ((told due.dest due.metric).1 (subst (Contains after.list) (made due kind) c), kind),
             λ h. subst (Contains after.list) (sym (made due h.1)) ((told due.dest due.metric).0 h.0),
           );
@@ -154,7 +153,7 @@ module _ (v : SummaryInputsValue) (dests : List Dest) where
   pub lists_after : (before : SummaryInputsValue) (turns : List Turn) (after : List AreaSummariesValue) → AreTurns v dests turns
       → ((a : AreaConfig) (d : Dest) → Contains (map (λ (x : Turn). x.area) turns) a → (Contains dests d → ⊥) → (m : ℕ) → IsDueIn before a d m ↔ IsDueIn v a d m)
       → AreListsOf before (map (λ (x : Turn). x.area) turns) (map (λ (x : Turn). x.old) turns)
-      → AllLead (map (λ (x : Turn). x.plan) turns) (map (λ (x : Turn). x.new) turns) after
+      → AllChanged (changes_of (map (λ (x : Turn). x.plan) turns)) (map (λ (x : Turn). x.new) turns) after
       → AreListsOf v (map (λ (x : Turn). x.area) turns) after
   lists_after before [] [] are alike was lead = tt
   lists_after before [] (w ∷ after) are alike was lead = let wrong : w ∷ after ≡ [] = lead in absurd cc
@@ -165,6 +164,13 @@ module _ (v : SummaryInputsValue) (dests : List Dest) where
         lists_after before turns after are.1 (λ a d c. alike a d (later_element x.area a areas c)) was.1 lead.1,
       )
 
+  pub changes_after : (turns : List Turn) (after : List AreaSummariesValue) → AreTurns v dests turns
+      → AllChanged (changes_of (map (λ (x : Turn). x.plan) turns)) (map (λ (x : Turn). x.new) turns) after
+      → AreDueChanges (changes_of (map (λ (x : Turn). x.plan) turns)) (listed (map (λ (x : Turn). x.old) turns)) (listed after)
+  changes_after [] after are lead = ap listed lead
+  changes_after (x ∷ turns) [] are lead = absurd lead
+  changes_after (x ∷ turns) (w ∷ after) are lead = ((are.0.of_area, differs v dests x w are.0 lead.0), changes_after turns after are.1 lead.1)
+
 -- ---- what is planned
 
 module _ (v : SummaryInputsValue) (dests : List Dest) (areas : List AreaConfig) (old new : List AreaSummariesValue) (plans : List AreaPlan) (planned : ArePlanned v dests areas old new plans) where
@@ -172,9 +178,16 @@ module _ (v : SummaryInputsValue) (dests : List Dest) (areas : List AreaConfig) 
   pub planned_fit : AllFit plans new
   planned_fit = subst (λ (ps : List AreaPlan). AllFit ps new) planned.plans_are (subst (AllFit (map (λ (x : Turn). x.plan) planned.turns)) planned.new_are (all_fit v dests planned.turns planned.each))
 
-  module _ (after : List AreaSummariesValue) (leads : AllLead plans new after) where
-    led : AllLead (map (λ (x : Turn). x.plan) planned.turns) (map (λ (x : Turn). x.new) planned.turns) after
-    led = subst (λ (lists : List AreaSummariesValue). AllLead (map (λ (x : Turn). x.plan) planned.turns) lists after) (sym planned.new_are) (subst (λ (ps : List AreaPlan). AllLead ps new after) (sym planned.plans_are) leads)
+  module _ (after : List AreaSummariesValue) (leads : AllChanged (changes_of plans) new after) where
+    led : AllChanged (changes_of (map (λ (x : Turn). x.plan) planned.turns)) (map (λ (x : Turn). x.new) planned.turns) after
+    led = subst (λ (lists : List AreaSummariesValue). AllChanged (changes_of (map (λ (x : Turn). x.plan) planned.turns)) lists after) (sym planned.new_are) (subst (λ (ps : List AreaPlan). AllChanged (changes_of ps) new after) (sym planned.plans_are) leads)
+
+    -- the plans change just what differs
+    pub planned_changes : AreDueChanges (changes_of plans) (listed old) (listed after)
+    planned_changes =
+        subst (λ (ps : List AreaPlan). AreDueChanges (changes_of ps) (listed old) (listed after)) planned.plans_are
+        (subst (λ (lists : List AreaSummariesValue). AreDueChanges (changes_of (map (λ (x : Turn). x.plan) planned.turns)) (listed lists) (listed after)) planned.old_are
+        (changes_after v dests planned.turns after planned.each led))
 
     -- the lists are those of the inputs then
     pub planned_lists : (was : SummaryInputsValue) → ((a : AreaConfig) (d : Dest) → Contains areas a → (Contains dests d → ⊥) → (m : ℕ) → IsDueIn was a d m ↔ IsDueIn v a d m) → AreListsOf was areas old → AreListsOf v areas after

@@ -5,7 +5,7 @@ use Rattle.ospf_types.specs.declared.key.Dest.{Dest}
 use Rattle.summary_lists.specs.declared.due.DueSummary.{DueSummary}
 use Rattle.summaries.specs.Inputs.{SummaryInputsValue}
 use Rattle.summaries.specs.Giving.{IsDueIn}
-use Rattle.summary_lists.specs.Lists.{AreaSummariesValue, AreInOrder, kind_of}
+use Rattle.summary_lists.specs.Lists.{AreaSummariesValue, AreInOrder, kind_of, Metrics, AreChangesBetween}
 
 pub record DueSummariesValue : Type 0 where
   pub areas : List AreaSummariesValue  -- in the order of the configuration
@@ -47,3 +47,15 @@ pub record AreSummariesOf (v : SummaryInputsValue) (w : DueSummariesValue) : Typ
 -- the lists are those of all inputs with these areas, of which none is active
 abbrev pub AreOfInactive : List AreaConfig → DueSummariesValue → Type 0
 AreOfInactive areas w = (v : SummaryInputsValue) → v.areas ≡ areas → v.active ≡ [] → AreSummariesOf v w
+
+-- what changed in each of the lists, from the first on; nothing changed in those that are left
+abbrev pub AreDueChanges : List (ℕ × Metrics) → List (ℕ × List DueSummary) → List (ℕ × List DueSummary) → Type 0
+AreDueChanges [] old new = new ≡ old
+AreDueChanges (c ∷ changes) (e ∷ old) (f ∷ new) = ((c.0 ≡ e.0) × AreChangesBetween c.1 e.1 f.1) × AreDueChanges changes old new
+AreDueChanges (c ∷ changes) [] new = ⊥
+AreDueChanges (c ∷ changes) (e ∷ old) [] = ⊥
+
+-- what changed in the area
+abbrev pub changes_in : List (ℕ × Metrics) → ℕ → Metrics
+changes_in [] area = []
+changes_in (c ∷ changes) area = if c.0 == area then c.1 else changes_in changes area

@@ -2,11 +2,13 @@
 //! follow the routes: what may differ is worked out again, and nothing else.
 #![tactic(auto)]
 
+mod due_changes;
 mod giving;
 mod inputs;
 mod summaries;
 mod touched;
 
+pub use due_changes::DueChanges;
 pub use inputs::SummaryInputs;
 pub use summaries::{DueSummaries, Plan};
 pub use summary_lists::{AreaSummaries, DueSummary};

@@ -6,10 +6,11 @@ ghost use Rattle.summary_lists.specs.Lists.{AreInOrder, AreOfKind};
 ghost use Rattle.summaries.specs.Candidates.{AreCandidates, dests_in};
 ghost use Rattle.summaries.specs.DueSummaries.{AreOfInactive, AreSummariesOf, dests_of, list_in, listed, lists_of};
 ghost use Rattle.summaries.specs.Changes.{AddsChange, AreChangesIn, AreEnough, AreEnoughForAll, AreSummariesBehind};
-ghost use Rattle.summaries.specs.Carrying.{AllFit, AllLead, IsReady, IsCarriedOut, MakesSummariesOf};
+ghost use Rattle.summaries.specs.Carrying.{AllFit, AllChanged, IsReady, IsCarriedOut, MakesChangesFrom, MakesSummariesOf, changes_of};
 ghost use Rattle.summaries.specs.Planning.{ArePlanned, IsPlannedIn};
 ghost use Rattle.summaries.specs.Right.{IsRightWith};
 
+use crate::due_changes::DueChanges;
 use crate::giving::{Candidate, find_candidate, is_served, metric};
 use crate::inputs::SummaryInputs;
 use crate::touched::{all, ascending, touched};
@@ -80,7 +81,7 @@ impl DueSummaries {
     {
         let mut summaries = DueSummaries::none(alloc, inputs.areas)?;
         let plan = summaries.plan(alloc, inputs, &[])?;
-        summaries.carry_out(plan);
+        let _ = summaries.carry_out(plan);
         Ok(summaries)
     }
 
@@ -97,6 +98,7 @@ impl DueSummaries {
         ensures active { self.new.active ≡ self.old.active }
         ensures ready { IfOk result (λ plan. IsReady plan self.new) }
         ensures kept { IfOk result (MakesSummariesOf inputs.now self.new) }
+        ensures changes { IfOk result (MakesChangesFrom self.old self.new) }
     {
         let touched = self.touched(alloc, inputs, dests)?;
         let active = SmallVec::from_slice(alloc, inputs.active)?;
@@ -113,14 +115,16 @@ impl DueSummaries {
         Ok(Plan { areas, active })
     }
 
-    /// Makes the changes of a plan. It takes no memory.
-    pub fn carry_out(&mut self, plan: Plan)
+    /// Makes the changes of a plan, and tells them. It takes no memory.
+    pub fn carry_out(&mut self, plan: Plan) -> DueChanges
         requires { IsReady plan self.old }
-        ensures { IsCarriedOut plan self.old self.new }
+        ensures carried { IsCarriedOut plan self.old self.new }
+        ensures changes { result ≡ changes_of plan.areas }
     {
-        let Plan { areas, active } = plan;
-        carry_out_areas(areas, &mut self.areas);
+        let Plan { mut areas, active } = plan;
+        carry_out_areas(&mut areas, &mut self.areas);
         self.active = active;
+        DueChanges::of(areas)
     }
 
     /// What is due in each area, in the order of the configuration.
@@ -308,12 +312,13 @@ impl Planning<'_> {
 }
 
 // Makes the changes, each in its list. It takes no memory.
-fn carry_out_areas(plans: Vec<AreaPlan>, lists: &mut [AreaSummaries])
-    requires { AllFit plans.items lists.old }
-    ensures { AllLead plans.items lists.old lists.new }
+fn carry_out_areas(plans: &mut [AreaPlan], lists: &mut [AreaSummaries])
+    requires { AllFit plans.old lists.old }
+    ensures lists { AllChanged (changes_of plans.old) lists.old lists.new }
+    ensures changes { changes_of plans.new ≡ changes_of plans.old }
 {
-    for (place, plan) in plans.into_iter().enumerate() {
-        plan.carry_out(&mut lists[place]);
+    for place in 0..plans.len() {
+        plans[place].carry_out(&mut lists[place]);
     }
 }
 

@@ -1,19 +1,22 @@
 -- What is to change in the list of an area.
-use Rattle.std.specs.Prelude.{◌≡◌, ◌≤◌, length}
+use Rattle.std.specs.Prelude.{◌≡◌, ◌≤◌, Option, Some, None, length}
+use Rattle.std.specs.Global.{Vec}
+use Rattle.summary_lists.specs.declared.due.DueSummary.{DueSummary}
 use Rattle.summary_lists.specs.declared.plan.AreaPlan.{AreaPlan}
-use Rattle.summary_lists.specs.declared.plan.AreaPlan.TheVariants.{Put, Whole}
 use Rattle.summary_lists.specs.Lists.{AreaSummariesValue, AreInOrder, AreOfKind, AreMetricsInOrder, IsChangedBy, Metrics}
 
--- the area has room for it
+-- the area has room for these changes; or this is its list with them
+abbrev pub HasRoom : Metrics → AreaSummariesValue → Option (Vec DueSummary) → Type 0
+HasRoom metrics w None = length metrics ≤ w.room
+HasRoom metrics w (Some list) = IsChangedBy metrics w.list list.items × AreInOrder list.items × AreOfKind list.items
+
+-- the plan may be carried out in the area
 abbrev pub Fits : AreaPlan → AreaSummariesValue → Type 0
-Fits (Put metrics) w = AreMetricsInOrder metrics.items × (length metrics.items ≤ w.room)
-Fits (Whole list) w = AreInOrder list.items × AreOfKind list.items
+Fits plan w = AreMetricsInOrder plan.metrics.items × HasRoom plan.metrics.items w plan.whole
 
--- it makes the one list of the other
-abbrev pub Leads : AreaPlan → AreaSummariesValue → AreaSummariesValue → Type 0
-Leads (Put metrics) old new = (new.area ≡ old.area) × IsChangedBy metrics.items old.list new.list × AreInOrder new.list × AreOfKind new.list
-Leads (Whole list) old new = (new.area ≡ old.area) × (new.list ≡ list.items)
-
--- carried out on the second, the plan makes the list of the first with just these changes
-abbrev pub MakesChanges : Metrics → AreaSummariesValue → AreaSummariesValue → AreaPlan → Type 0
-MakesChanges metrics old new plan = (after : AreaSummariesValue) → Leads plan new after → IsChangedBy metrics old.list after.list
+-- the one area became the other by these changes
+pub record IsChanged (metrics : Metrics) (old new : AreaSummariesValue) : Type 0 where
+  pub area : new.area ≡ old.area
+  pub list : IsChangedBy metrics old.list new.list
+  pub in_order : AreInOrder new.list
+  pub of_kind : AreOfKind new.list

@@ -1,7 +1,7 @@
 //! What is to change in the list of an area: made with memory, and carried out without.
-ghost use Rattle.std.specs.Prelude.{◌≡◌, IfOk, OnOk};
+ghost use Rattle.std.specs.Prelude.{◌≡◌, IfOk};
 ghost use Rattle.summary_lists.specs.Lists.{AreMetricsInOrder};
-ghost use Rattle.summary_lists.specs.Plans.{Fits, Leads, MakesChanges};
+ghost use Rattle.summary_lists.specs.Plans.{Fits, IsChanged};
 
 use crate::due::DueSummary;
 use crate::list::AreaSummaries;
@@ -13,13 +13,15 @@ use std::alloc::Global;
 // put in its place.
 const FEW: usize = 8;
 
-/// What is to change in one area.
+/// What is to change in one area, and then what has changed there.
 #[derive(Drop)]
-pub enum AreaPlan {
-    /// The metrics of these destinations: none for one that is no longer due.
-    Put(Vec<(Dest, Option<u32>)>),
-    /// Another list.
-    Whole(Vec<DueSummary>),
+pub struct AreaPlan {
+    /// Its Area ID.
+    pub area: u32,
+    /// The destinations, ascending, each once, with their metrics: none for one that is no longer due.
+    pub metrics: Vec<(Dest, Option<u32>)>,
+    /// The list with these changes, where it was made anew and is to be set yet.
+    pub whole: Option<Vec<DueSummary>>,
 }
 
 impl AreaPlan {
@@ -34,25 +36,36 @@ impl AreaPlan {
         requires { AreMetricsInOrder metrics.items }
         ensures area { summaries.new.area ≡ summaries.old.area }
         ensures list { summaries.new.list ≡ summaries.old.list }
+        ensures of_area { IfOk result (λ plan. plan.area ≡ summaries.old.area) }
         ensures fits { IfOk result (λ plan. Fits plan summaries.new) }
-        ensures leads { IfOk result (MakesChanges metrics.items summaries.old summaries.new) }
+        ensures metrics { IfOk result (λ plan. plan.metrics ≡ metrics) }
     {
         if moves && metrics.len() > FEW {
             let list = summaries.merged(alloc, &metrics)?;
-            return Ok(AreaPlan::Whole(list));
+            return Ok(AreaPlan {
+                area: summaries.area(),
+                metrics,
+                whole: Some(list),
+            });
         }
         summaries.reserve(metrics.len())?;
-        Ok(AreaPlan::Put(metrics))
+        Ok(AreaPlan {
+            area: summaries.area(),
+            metrics,
+            whole: None,
+        })
     }
 
-    /// Does so. It takes no memory.
-    pub fn carry_out(self, summaries: &mut AreaSummaries)
-        requires { Fits self summaries.old }
-        ensures { Leads self summaries.old summaries.new }
+    /// Changes the list so. It takes no memory.
+    pub fn carry_out(&mut self, summaries: &mut AreaSummaries)
+        requires { Fits self.old summaries.old }
+        ensures list { IsChanged self.old.metrics.items summaries.old summaries.new }
+        ensures area { self.new.area ≡ self.old.area }
+        ensures metrics { self.new.metrics ≡ self.old.metrics }
     {
-        match self {
-            AreaPlan::Put(metrics) => summaries.put_all(&metrics),
-            AreaPlan::Whole(list) => summaries.set(list),
+        match self.whole.take() {
+            Some(list) => summaries.set(list),
+            None => summaries.put_all(&self.metrics),
         }
     }
 }

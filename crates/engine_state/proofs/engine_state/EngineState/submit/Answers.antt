@@ -106,7 +106,7 @@ publish-engine_state-requires-clause-follows g c fresh_before current =
     let named : NamesChanges core Current now = subst (λ (s : Status). NamesChanges core s now) current c.in-Ok.ensures.changes in (
       fresh.0,
       stands.0,
-      follows rolled.list core now shown c.self.invariant.0 kept.limits kept.right kept.base fresh.1 built (named.0 built),
+      follows rolled.list core now shown c.self.invariant.0 kept.limits kept.right kept.base fresh.1 built (named.0 built).networks,
     )
 
 pub publish-engine_state-requires-clause-kept : goal.publish-engine_state-requires-clause-kept

@@ -50,12 +50,15 @@ outcome c =
             fit = did.fit;
             bounded = on_ok_weaker result (λ bounded. λ all. bounded s (c.journal.ensures.fit (sound_apart s.config (sound_now s c.self.inside.routes c.self.inside.built c.self.invariant))) (c.self.invariant.fresh all) differ told.changed.0) did.bounded;
             exact = on_ok_weaker result (λ exact. λ all. exact) did.exact;
+            exact_due = on_ok_weaker result (λ exact. λ all. exact) did.exact_due;
             anew = on_ok_weaker result (λ right. λ behind. absurd (behind (w.if-is_current.true ∙ serial))) did.right;
             unnamed = on_ok_weaker result (λ right. λ behind. absurd (behind (w.if-is_current.true ∙ serial))) did.right;
+            unnamed_due = on_ok_weaker result (λ right. λ behind. absurd (behind (w.if-is_current.true ∙ serial))) did.right;
             unchanged = did.unchanged;
             due = did.due;
             work = did.work;
             changes = did.changes;
+            due_changes = did.due_changes;
           } in
           subst (λ (x : Inside). IsOutcome s u i.routes i.built c.if-is_current.settled x.state x.routes x.built) (sym w.self-inside-is) (record {
             state_is = refl;
@@ -70,12 +73,15 @@ outcome c =
             fit = did.fit;
             bounded = on_ok_weaker result (λ right. λ all. absurd (w.if-is_current.false (all ∙ sym serial))) did.right;
             exact = on_ok_weaker result (λ right. λ all. absurd (w.if-is_current.false (all ∙ sym serial))) did.right;
+            exact_due = on_ok_weaker result (λ right. λ all. absurd (w.if-is_current.false (all ∙ sym serial))) did.right;
             anew = on_ok_weaker result (λ built. λ behind. built) did.built;
             unnamed = on_ok_weaker result (λ right. λ behind. did.changes) did.right;
+            unnamed_due = on_ok_weaker result (λ right. λ behind. did.due_changes) did.right;
             unchanged = did.unchanged;
             due = did.due;
             work = did.work;
             changes = on_err_weaker result (λ work. did.changes) did.work;
+            due_changes = on_err_weaker result (λ work. did.due_changes) did.work;
           } in
           subst (λ (x : Inside). IsOutcome s u i.routes i.built c.if-is_current.settled x.state x.routes x.built) (sym w.self-inside-is) (record {
             state_is = refl;

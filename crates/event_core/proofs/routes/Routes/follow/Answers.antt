@@ -1,10 +1,12 @@
-use Rattle.std.proofs.Common.{List, sym, ap, subst, ◌∙◌}
+use Rattle.std.proofs.Common.{ℕ, List, sym, ap, subst, ◌∙◌}
 use Rattle.std.specs.Map.{keys_of}
 use Rattle.ospf_types.specs.declared.key.Dest.{Dest}
 use Rattle.ospf_types.specs.declared.prefix.Prefix.{Prefix}
 use Rattle.calculation.specs.Active.{IsRangeNamed}
 use Rattle.calculation.specs.Calculations.{IsCalculationOf, IsTableOf}
 use Rattle.calculation.specs.Summaries.{AreSummariesFor, RoutesDifferAmong}
+use Rattle.summaries.specs.DueSummaries.{AreDueChanges, lists_of}
+use Rattle.summaries.specs.Lists.{Metrics}
 use Rattle.event_core.specs.Following.{RoutesValue, AreChanges, AreOtherItems}
 use Rattle.event_core.proofs.Followed.{items_followed, changes_followed}
 use Rattle.event_core.proofs.routes.Routes.follow.Goals as goal
@@ -36,7 +38,7 @@ returns-clause-items c =
     items_followed old.calculation c.follow.new.self old.table.items c.change.new.self.items networks c.in_ok-items.items.items c.in_ok-told.ensures.items others table c.in_ok-change.ensures.changed
 
 pub returns-clause-summaries : goal.returns-clause-summaries
-returns-clause-summaries c = c.in_ok-plan.ensures.kept c.carry_out.new.self c.carry_out.ensures
+returns-clause-summaries c = c.in_ok-plan.ensures.kept c.carry_out.new.self c.carry_out.ensures.carried
 
 pub returns-clause-exact : goal.returns-clause-exact
 returns-clause-exact c =
@@ -47,3 +49,11 @@ returns-clause-exact c =
     let changes = changes_followed old.calculation c.follow.new.self old.table.items c.change.new.self.items networks c.in_ok-items.items.items c.in_ok-told.ensures.items others table c.in_ok-change.ensures.changed in
     subst (λ (r : RoutesValue). AreChanges r.table.items c.change.new.self.items c.in_ok-changes.changes.items) c.self.view_is
     (subst (AreChanges old.table.items c.change.new.self.items) (sym (c.in_ok-changes.ensures ∙ ap keys_of c.deref-2.ensures.value)) changes)
+
+pub returns-clause-exact_due : goal.returns-clause-exact_due
+returns-clause-exact_due c =
+    let old = c.self.inside in
+    let new = c.carry_out.new.self in
+    let exact = c.in_ok-plan.ensures.changes new c.carry_out.ensures.carried in
+    subst (λ (r : RoutesValue). AreDueChanges c.carry_out.result (lists_of r.summaries) (lists_of new)) c.self.view_is
+    (subst (λ (changes : List (ℕ × Metrics)). AreDueChanges changes (lists_of old.summaries) (lists_of new)) (sym c.carry_out.ensures.changes) exact)

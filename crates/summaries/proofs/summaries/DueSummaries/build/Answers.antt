@@ -11,4 +11,4 @@ plan-requires c =
     record { before = (unserved v, c.in_ok-summaries.ensures (unserved v) (sym (ap (λ (w : SummaryInputsValue). w.areas) c.inputs.view_is)) refl, unserved_differ v) }
 
 pub returns-clause-right : goal.returns-clause-right
-returns-clause-right c s are = summaries_right s c.args.inputs.now c.carry_out.new.self are (c.in_ok-plan.ensures.kept c.carry_out.new.self c.carry_out.ensures)
+returns-clause-right c s are = summaries_right s c.args.inputs.now c.carry_out.new.self are (c.in_ok-plan.ensures.kept c.carry_out.new.self c.carry_out.ensures.carried)
