@@ -1,5 +1,5 @@
 /* A recording: a text with a line for each event. First stands the front: a configuration, in version 3 with a base.
- * docs/COMMANDS.md has all lines. */
+ * docs/FORMATS.md has all lines. */
 #ifndef RECORDING_H
 #define RECORDING_H
 
