@@ -1,5 +1,6 @@
 use super::*;
 use event_core::{Core, Event, Refusal, Reply, Status};
+use ospf_types::key::Dest;
 use ospf_types::prefix::Prefix;
 use std::alloc::Global;
 use std::hash::RandomState;
@@ -130,6 +131,38 @@ install as 00010205cb0071000a0000028000000186710024ffffff00000000050a02000100000
 install as 0e0f0205644000000a0000028000000126b40024ffc00000000000070000000000000000\n\
 install as 000102050a0200000a0000028000000190a50024ffff0000000000050000000000000000\n\
 install as 0e1002050a0200000a0000028000000190a50024ffff0000000000050000000000000000\n";
+
+// Whether the last event changed this and nothing else of what is due in area 0.0.0.1, and nothing of what is due in the
+// backbone.
+fn changes_due(core: &Core, wanted: &[(Dest, Option<u32>)]) -> bool {
+    let told = core.due_changes();
+    told.get(1) == wanted && told.get(0).is_empty()
+}
+
+// The network that a range of the backbone stood for is due in the range's place, and then the range again.
+#[test]
+fn a_range_that_goes_changes_what_is_due(rt: HostRuntime) -> Result<(), Fail> {
+    let range = Dest::Net(Prefix::of_mask(0x0a04_0000, 0xfffc_0000));
+    let network = Dest::Net(Prefix::of_mask(0x0a04_0000, 0xffff_0000));
+    let mut core = follows(&rt, BORDER, "range-drop 0.0.0.0 10.4.0.0/14\n")?;
+    let is_told = changes_due(&core, &[(range, None), (network, Some(11))]);
+    let answer = core.apply(event_of(&rt, "range-set 0.0.0.0 10.4.0.0/14 advertise\n")?);
+    let is_back = changes_due(&core, &[(range, Some(11)), (network, None)]);
+    assert!(rt; is_told && is_current(answer) && is_back);
+    Ok(())
+}
+
+// An event that changes no route changes nothing of what is due, and a refused one tells what the one before told.
+#[test]
+fn a_second_changes_nothing_of_what_is_due(rt: HostRuntime) -> Result<(), Fail> {
+    let mut core = follows(&rt, BORDER, "range-drop 0.0.0.0 10.4.0.0/14\n")?;
+    let refused = core.apply(event_of(&rt, "range-drop 0.0.0.0 10.4.0.0/14\n")?);
+    let is_kept = core.due_changes().get(1).len() == 2;
+    core.apply(Event::Second)?;
+    assert!(rt; refused.is_err() && is_kept && core.due_changes().areas() == 0);
+    assert!(rt; changes_due(&core, &[]) && core.due_changes().at(0).is_none());
+    Ok(())
+}
 
 // Whether the answer fits what the table then has: the old routes after a refusal and where it is behind, else the new.
 fn fits(core: &Core, answer: Result<Reply, Refusal>, is_old: bool, is_new: bool) -> bool {
