@@ -14,7 +14,7 @@ pub record IsCarriedTo (plans : List AreaPlan) (old : List AreaSummariesValue) (
   pub fits : AllFit left (drop i now)
   pub leads : (after : List AreaSummariesValue) → AllChanged (changes_of left) (drop i now) after → AllChanged (changes_of plans) old (take i now ++ after)
 
--- the same with the plans as they are now, of which no changes differ
+-- so many were carried out, of plans whose changes are still what they were
 pub record AreCarriedTo (plans now_plans : List AreaPlan) (old now : List AreaSummariesValue) (i : ℕ) : Type 0 where
   pub changes : changes_of now_plans ≡ changes_of plans
   pub carried : IsCarriedTo plans old (drop i now_plans) now i
