@@ -39,9 +39,8 @@ module _ (all : List (ℕ × Metrics)) (count place : ℕ) where
       let rest = due_changes_of (drop (place + 1) all) in
       let here : List CDueChange = changes_of_area (area, metrics) in
       let long : length (due_changes_of (drop place all)) ≡ length metrics + length rest =
-          ap (λ left. length (due_changes_of left)) (left_from all place (area, metrics) is) ∙ length-append here rest ∙ ap (λ n. n + length rest) (length-map metrics (due_change_of area)) in
-      let same : (count + length metrics) + length rest ≡ count + length (due_changes_of (drop place all)) = omega (arith, long) in
-      (
+      ap (λ left. length (due_changes_of left)) (left_from all place (area, metrics) is) ∙ length-append here rest ∙ ap (λ n. n + length rest) (length-map metrics (due_change_of area)) in
+      let same : (count + length metrics) + length rest ≡ count + length (due_changes_of (drop place all)) = omega (arith, long) in (
         ap (λ (n : ℕ). counted (n + length rest)) next_is ∙ counted_on (count + length metrics) (length rest)
             ∙ ap (λ (n : ℕ). counted n) same ∙ are.0,
         most,

@@ -101,8 +101,8 @@ module _ (v : SummaryInputsValue) (dests : List Dest) (x : Turn) (after : AreaSu
   differs : AreChangesBetween metrics x.old.list after.list
   differs = changes_between metrics x.old.list after.list changed (λ d metric c had.
       (is.changes.named d (keys_have metrics d metric c)).1 (λ m.
-          let due = is.changes.here d metric c m in
-          (λ h. (had m).0 (due.1 h), λ h. due.0 ((had m).1 h)))) is.changes.in_order
+      let due = is.changes.here d metric c m in
+      (λ h. (had m).0 (due.1 h), λ h. due.0 ((had m).1 h)))) is.changes.in_order
 
   -- it tells of a named destination what is due
   told_named : (d : Dest) → Contains (keys_of metrics) d → (m : ℕ) → IsDueIn v x.area d m ↔ Contains after.list (due_for d m)
