@@ -11,7 +11,7 @@ use Rattle.event_state.specs.Rolls.{since, IsBaseOf}
 use Rattle.event_state.specs.Steps.{opening, step, refusal_of, run_of}
 use Rattle.vertex_graph.specs.Graphs.{most_routers}
 use Rattle.route_table.specs.Tables.{TableValue}
-use Rattle.summaries.specs.DueSummaries.{AreDueChanges, lists_of}
+use Rattle.summaries.specs.DueSummaries.{lists_of}
 use Rattle.event_core.specs.Right.{IsRight, AreDue}
 use Rattle.event_core.specs.declared.reply.Reply.{Reply}
 use Rattle.event_core.specs.declared.reply.Status.{Status}
@@ -23,7 +23,7 @@ use Rattle.config_faults.specs.Configs.{config_fault_of}
 use Rattle.ospf_types.specs.declared.memory.Memory.{Memory}
 use Rattle.calculation.specs.Totals.{IsBuildWork}
 use Rattle.calculation.specs.Works.{IsEventWork}
-use Rattle.event_core.specs.Following.{RoutesValue, AreRoutesOf, AreChanges, no_work}
+use Rattle.event_core.specs.Following.{RoutesValue, AreRoutesOf, TellsChanges, no_work}
 use Rattle.event_core.specs.Sums.{IsFollowingWork, IsBuildingWork}
 use Rattle.event_state.specs.Held.{AreFit}
 use Rattle.event_state.proofs.KeptConfigs.{sound_since}
@@ -159,9 +159,8 @@ pub record IsSettled (s u : State) (r : RoutesValue) (built : ℕ) (result : Res
   pub right : OnOk result (AreRoutesOf u new)
   pub fit : OnOk result (AreFit u.config.areas u.databases)
   pub bounded : OnOk result (built ≡ length s.journal → IsEventWork s u new.work)
-  pub exact : OnOk result (built ≡ length s.journal → AreChanges r.table.items new.table.items new.changes)
+  pub exact : OnOk result (built ≡ length s.journal → TellsChanges r new)
   pub anew : OnOk result ((built ≡ length s.journal → ⊥) → IsBuildWork u new.work)
-  pub exact_due : OnOk result (built ≡ length s.journal → AreDueChanges new.due_changes (lists_of r.summaries) (lists_of new.summaries))
   pub unnamed : OnOk result ((built ≡ length s.journal → ⊥) → new.changes ≡ [])
   pub unnamed_due : OnOk result ((built ≡ length s.journal → ⊥) → new.due_changes ≡ [])
   pub unchanged : OnErr result (new.table ≡ r.table)
@@ -218,7 +217,7 @@ module _ (s u : State) (r new : RoutesValue) (built : ℕ) (e : Event) (kept : I
   bounded_err (Err x) m err h = h.work
 
   pub named_ok : (result : Result (Unit {0}) Memory) (now : ℕ) → result ≡ Ok tt → IsSettled s u r built result new → NamesChanges (core_of s r built) Current (core_of u new now)
-  named_ok (Ok x) now ok h = (λ current. record { networks = h.exact current; due = h.exact_due current }, λ behind. (h.unnamed behind, h.unnamed_due behind))
+  named_ok (Ok x) now ok h = (λ current. record { networks = (h.exact current).networks; due = (h.exact current).due }, λ behind. (h.unnamed behind, h.unnamed_due behind))
   named_ok (Err m) now ok h = absurd cc
 
   pub named_err : (result : Result (Unit {0}) Memory) (m : Memory) → result ≡ Err m → IsSettled s u r built result new → NamesChanges (core_of s r built) Behind (core_of u new built)

@@ -3,7 +3,6 @@ use Rattle.std.proofs.Common.{◌≡◌, ℕ, Bool, false, List, [], refl, sym, 
 use Rattle.ospf_types.specs.declared.key.Key.{Key}
 use Rattle.ospf_types.specs.declared.key.Scope.{Scope}
 use Rattle.route_table.specs.Tables.{TableValue}
-use Rattle.summaries.specs.DueSummaries.{AreDueChanges, lists_of}
 use Rattle.event_state.specs.Held.{AreFit}
 use Rattle.event_state.specs.declared.base.Base.{Base}
 use Rattle.event_state.specs.Rolls.{since, IsBaseOf}
@@ -12,7 +11,7 @@ use Rattle.calculation.specs.Calculations.{IsCalculationOf, IsTableOf}
 use Rattle.calculation.specs.Trees.{StatesDifferAmong}
 use Rattle.calculation.specs.Summaries.{AreSummariesFor}
 use Rattle.calculation.specs.Works.{IsEventWork}
-use Rattle.event_core.specs.Following.{RoutesValue, AreRoutesOf, AreChanges, no_work}
+use Rattle.event_core.specs.Following.{RoutesValue, AreRoutesOf, TellsChanges, no_work}
 use Rattle.ospf_types.proofs.RangeChanges.{areas_kept}
 use Rattle.calculation.proofs.OtherRanges.{apart_kept}
 use Rattle.calculation.proofs.Alike.{calculation_alike}
@@ -35,8 +34,7 @@ pub record HasFollowed (t : State) (keys : List (Scope × Key)) (ids : List ℕ)
   pub calculation : IsCalculationOf t new.calculation
   pub items : IsTableOf new.calculation new.table.items
   pub summaries : AreSummariesFor t new.calculation new.summaries
-  pub exact : AreChanges old.table.items new.table.items new.changes
-  pub exact_due : AreDueChanges new.due_changes (lists_of old.summaries) (lists_of new.summaries)
+  pub exact : TellsChanges old new
   pub bounded : (before : State) → GoesOn keys ids ranged changed before t → AreRoutesOf before old → IsEventWork before t new.work
 
 forgotten_routes : (s : State) (r : RoutesValue) → AreRoutesOf s r → AreRoutesOf s (forgotten r)
@@ -50,15 +48,15 @@ pub still_routes : (s : State) (old mid : RoutesValue) → mid ≡ forgotten old
 still_routes s old mid is are = subst (AreRoutesOf s) (sym is) (forgotten_routes s old are)
 
 module _ (t : State) (keys : List (Scope × Key)) (ids : List ℕ) (ranged changed : Bool) (old mid : RoutesValue) (is : mid ≡ forgotten old) where
-  pub followed : (new : RoutesValue) → IsCalculationOf t new.calculation → IsTableOf new.calculation new.table.items → AreSummariesFor t new.calculation new.summaries → AreChanges mid.table.items new.table.items new.changes
-      → AreDueChanges new.due_changes (lists_of mid.summaries) (lists_of new.summaries)
+  pub followed : (new : RoutesValue) → IsCalculationOf t new.calculation → IsTableOf new.calculation new.table.items → AreSummariesFor t new.calculation new.summaries → TellsChanges mid new
       → ((before : State) → AreRoutesOf before mid → StatesDifferAmong keys ids ranged before t → IsEventWork before t new.work) → HasFollowed t keys ids ranged changed old new
-  followed new calculation items summaries exact exact_due bounded = record {
+  followed new calculation items summaries exact bounded = record {
     calculation = calculation;
     items = items;
     summaries = summaries;
-    exact = subst (λ (r : RoutesValue). AreChanges r.table.items new.table.items new.changes) is exact;
-    exact_due = subst (λ (r : RoutesValue). AreDueChanges new.due_changes (lists_of r.summaries) (lists_of new.summaries)) is exact_due;
+    exact =
+        let told = subst (λ (r : RoutesValue). TellsChanges r new) is exact in
+        record { networks = told.networks; due = told.due };
     bounded = λ before goes are. bounded before (still_routes before old mid is are) goes.differ;
   }
 
@@ -69,8 +67,7 @@ module _ (t : State) (keys : List (Scope × Key)) (ids : List ℕ) (ranged chang
         calculation = alike;
         items = are.table;
         summaries = due_alike before t old.calculation old.summaries (goes.alike same) are.summaries;
-        exact = nothing_changes old.table.items;
-        exact_due = refl;
+        exact = record { networks = nothing_changes old.table.items; due = refl };
         bounded = λ other on others. no_event_work other t old.calculation on.fit fit others.calculation alike;
       })
 

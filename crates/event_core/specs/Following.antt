@@ -8,7 +8,7 @@ use Rattle.ospf_types.specs.Network.{network_cmp}
 use Rattle.spf.specs.Touched.{Touched}
 use Rattle.route_table.specs.declared.table.Item.{Item}
 use Rattle.route_table.specs.Tables.{TableValue}
-use Rattle.summaries.specs.DueSummaries.{DueSummariesValue}
+use Rattle.summaries.specs.DueSummaries.{AreDueChanges, DueSummariesValue, lists_of}
 use Rattle.summaries.specs.Lists.{Metrics}
 use Rattle.event_state.specs.States.{State, serial_of}
 use Rattle.calculation.specs.Calculations.{CalculationValue, IsCalculationOf, IsItemOf, IsTableOf}
@@ -33,6 +33,11 @@ pub record AreRoutesOf (s : State) (r : RoutesValue) : Type 0 where
 pub record AreChanges (old new : map.FinMap network_cmp Item) (networks : List Prefix) : Type 0 where
   pub in_order : IsStrictlySortedBy network_cmp networks
   pub exact : (p : Prefix) → Contains networks p ↔ (map.get new p ≢ map.get old p)
+
+-- what is told is what differs between the two: the networks whose item does, and what is due
+pub record TellsChanges (old new : RoutesValue) : Type 0 where
+  pub networks : AreChanges old.table.items new.table.items new.changes
+  pub due : AreDueChanges new.due_changes (lists_of old.summaries) (lists_of new.summaries)
 
 -- of these networks, those for which the table has another item than it is to have, each with the item that it is to have
 pub record AreOtherItems (c : CalculationValue) (table : map.FinMap network_cmp Item) (networks : List Prefix) (items : List (Prefix × Option Item)) : Type 0 where

@@ -6,14 +6,14 @@ ghost use Rattle.ospf_types.specs.Network.{network_cmp};
 ghost use Rattle.vertex_graph.specs.Graphs.{most_routers};
 ghost use Rattle.event_state.specs.Held.{AreFit};
 ghost use Rattle.event_state.specs.States.{AreApart, State as StateValue, LooksAlike, serial_of};
-ghost use Rattle.summaries.specs.DueSummaries.{AreDueChanges, lists_of};
+ghost use Rattle.summaries.specs.DueSummaries.{lists_of};
 ghost use Rattle.calculation.specs.Active.{RangesDifferAt};
 ghost use Rattle.calculation.specs.Calculations.{IsCalculationOf, IsTableOf};
 ghost use Rattle.calculation.specs.Trees.{StatesDifferAmong};
 ghost use Rattle.calculation.specs.Summaries.{AreSummariesFor};
 ghost use Rattle.calculation.specs.Totals.{IsBuildWork};
 ghost use Rattle.calculation.specs.Works.{IsEventWork};
-ghost use Rattle.event_core.specs.Following.{AreRoutesOf, AreChanges, AreOtherItems, IsOneMore, no_work};
+ghost use Rattle.event_core.specs.Following.{AreRoutesOf, AreOtherItems, IsOneMore, TellsChanges, no_work};
 ghost use Rattle.event_core.specs.Named.{IsNamedBetween, IsRangeNamedBetween};
 
 use crate::named::Named;
@@ -161,10 +161,7 @@ impl Routes {
             × IsRangeNamedBetween named before state.now }
         ensures right { OnOk result (AreRoutesOf state.now self.new) }
         ensures fit { OnOk result (AreFit state.now.config.areas state.now.databases) }
-        ensures exact { OnOk result (AreChanges self.old.table.items self.new.table.items
-            self.new.changes) }
-        ensures exact_due { OnOk result (AreDueChanges self.new.due_changes
-            (lists_of self.old.summaries) (lists_of self.new.summaries)) }
+        ensures exact { OnOk result (TellsChanges self.old self.new) }
         ensures bounded { OnOk result ((before : StateValue)
             → AreFit before.config.areas before.databases → AreRoutesOf before self.old
             → IsNamedBetween named before state.now
@@ -243,10 +240,7 @@ impl Routes {
         ensures items { OnOk result (IsTableOf self.new.calculation self.new.table.items) }
         ensures summaries { OnOk result (AreSummariesFor state.now self.new.calculation
             self.new.summaries) }
-        ensures exact { OnOk result (AreChanges self.old.table.items self.new.table.items
-            self.new.changes) }
-        ensures exact_due { OnOk result (AreDueChanges self.new.due_changes
-            (lists_of self.old.summaries) (lists_of self.new.summaries)) }
+        ensures exact { OnOk result (TellsChanges self.old self.new) }
         ensures bounded { OnOk result ((before : StateValue) → AreRoutesOf before self.old
             → IsNamedBetween named before state.now → IsEventWork before state.now self.new.work) }
         ensures unchanged { OnErr result (self.new.table ≡ self.old.table) }

@@ -43,17 +43,15 @@ returns-clause-summaries c = c.in_ok-plan.ensures.kept c.carry_out.new.self c.ca
 pub returns-clause-exact : goal.returns-clause-exact
 returns-clause-exact c =
     let old = c.self.inside in
+    let new = c.carry_out.new.self in
     let networks : List Prefix = c.in_ok-told.told.networks.items in
     let others = subst (λ (ps : List Prefix). AreOtherItems c.follow.new.self old.table.items ps c.in_ok-items.items.items) c.deref.ensures.value c.in_ok-items.ensures in
     let table = subst (λ (r : RoutesValue). IsTableOf r.calculation r.table.items) (sym c.self.view_is) c.requires.before.1.table in
     let changes = changes_followed old.calculation c.follow.new.self old.table.items c.change.new.self.items networks c.in_ok-items.items.items c.in_ok-told.ensures.items others table c.in_ok-change.ensures.changed in
-    subst (λ (r : RoutesValue). AreChanges r.table.items c.change.new.self.items c.in_ok-changes.changes.items) c.self.view_is
-    (subst (AreChanges old.table.items c.change.new.self.items) (sym (c.in_ok-changes.ensures ∙ ap keys_of c.deref-2.ensures.value)) changes)
-
-pub returns-clause-exact_due : goal.returns-clause-exact_due
-returns-clause-exact_due c =
-    let old = c.self.inside in
-    let new = c.carry_out.new.self in
-    let exact = c.in_ok-plan.ensures.changes new c.carry_out.ensures.carried in
-    subst (λ (r : RoutesValue). AreDueChanges c.carry_out.result (lists_of r.summaries) (lists_of new)) c.self.view_is
-    (subst (λ (changes : List (ℕ × Metrics)). AreDueChanges changes (lists_of old.summaries) (lists_of new)) (sym c.carry_out.ensures.changes) exact)
+    let due = c.in_ok-plan.ensures.changes new c.carry_out.ensures.carried in
+    record {
+      networks = subst (λ (r : RoutesValue). AreChanges r.table.items c.change.new.self.items c.in_ok-changes.changes.items) c.self.view_is
+          (subst (AreChanges old.table.items c.change.new.self.items) (sym (c.in_ok-changes.ensures ∙ ap keys_of c.deref-2.ensures.value)) changes);
+      due = subst (λ (r : RoutesValue). AreDueChanges c.carry_out.result (lists_of r.summaries) (lists_of new)) c.self.view_is
+          (subst (λ (changes : List (ℕ × Metrics)). AreDueChanges changes (lists_of old.summaries) (lists_of new)) (sym c.carry_out.ensures.changes) due);
+    }

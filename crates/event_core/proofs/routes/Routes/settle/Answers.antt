@@ -24,7 +24,7 @@ all c =
     let mid = c.forget.new.self in
     elim c.if-changed.branch [
       | then-changed+in_ok-follow w ↦
-          subst (HasFollowed t keys ids ranged changed old) (sym w.self-is) (followed t keys ids ranged changed old mid c.forget.ensures w.follow.new.self w.in_ok-follow.ensures.calculation w.in_ok-follow.ensures.items w.in_ok-follow.ensures.summaries w.in_ok-follow.ensures.exact w.in_ok-follow.ensures.exact_due w.in_ok-follow.ensures.bounded)
+          subst (HasFollowed t keys ids ranged changed old) (sym w.self-is) (followed t keys ids ranged changed old mid c.forget.ensures w.follow.new.self w.in_ok-follow.ensures.calculation w.in_ok-follow.ensures.items w.in_ok-follow.ensures.summaries w.in_ok-follow.ensures.exact w.in_ok-follow.ensures.bounded)
       | else-changed w ↦
           subst (HasFollowed t keys ids ranged changed old) (sym w.self-is) (stayed t keys ids ranged changed old mid c.forget.ensures w.if-changed.false (c.config.ensures.fit (still_apart before.0 t keys ids ranged before.1 before.3)) before.0 (record { fit = before.1; differ = before.3; alike = before.4 }) before.2)
     ]
@@ -45,11 +45,10 @@ returns-clause-fit c =
     c.config.ensures.fit (still_apart before.0 c.args.state.now c.args.named.keys.items c.args.named.interfaces.items (is_some c.args.named.range) before.1 before.3)
 
 pub returns-clause-exact : goal.returns-clause-exact
-returns-clause-exact c =
-    subst (λ (v : TableValue). AreChanges c.args.self.now.table.items v.items c.self.inside.changes.items) (sym c.set_serial.ensures) (inside c).exact
-
-pub returns-clause-exact_due : goal.returns-clause-exact_due
-returns-clause-exact_due c = (inside c).exact_due
+returns-clause-exact c = record {
+  networks = subst (λ (v : TableValue). AreChanges c.args.self.now.table.items v.items c.self.inside.changes.items) (sym c.set_serial.ensures) (inside c).exact.networks;
+  due = (inside c).exact.due;
+}
 
 pub returns-clause-bounded : goal.returns-clause-bounded
 returns-clause-bounded c = λ before fit are differ alike. (inside c).bounded before (record { fit = fit; differ = differ; alike = alike }) are
