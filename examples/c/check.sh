@@ -14,6 +14,7 @@ trap 'rm -rf "$room"' EXIT
 recordings=(examples/border_router examples/c/externals examples/c/ranges)
 router=(examples/c/router.c examples/c/dues.c examples/c/fib.c examples/c/recording.c examples/c/support.c)
 first=(examples/c/first_use.c examples/c/support.c)
+refused=(examples/c/refused.c examples/c/lsas.c)
 warnings=(-Wall -Wextra -pedantic -Werror)
 sanitizers=(-g "-fsanitize=address,undefined" -fno-sanitize-recover=all)
 wraps=("-Wl,--wrap=malloc,--wrap=realloc,--wrap=free")
@@ -113,7 +114,7 @@ for it in "${compilers[@]}"; do
     compile=("$it" -std=c99 "${warnings[@]}" "${flags[@]}")
     runs "$it: router" 0 "${compile[@]}" "${router[@]}" "${libs[@]}" -o "$room/router_$it" || finish
     runs "$it: first_use" 0 "${compile[@]}" "${first[@]}" "${libs[@]}" -o "$room/first_$it" || finish
-    runs "$it: refused" 0 "${compile[@]}" examples/c/refused.c "${libs[@]}" -o "$room/refused_$it" || finish
+    runs "$it: refused" 0 "${compile[@]}" "${refused[@]}" "${libs[@]}" -o "$room/refused_$it" || finish
     writes "$it: first_use" crates/first_use/stdout "$room/first_$it"
     replays "$it: router" "$room/router_$it"
     runs "$it: refused" 0 "$room/refused_$it" || true
@@ -169,7 +170,7 @@ echo 'int main(void) { return 0; }' > "$room/empty.c"
 if cc "${sanitizers[@]}" "$room/empty.c" -o "$room/empty" 2> "$room/err" && "$room/empty" 2> "$room/err"; then
     compile=(cc -std=c99 "${warnings[@]}" "${sanitizers[@]}" "${flags[@]}")
     runs "sanitizers: router" 0 "${compile[@]}" "${router[@]}" "${libs[@]}" -o "$room/router_sane" || finish
-    runs "sanitizers: refused" 0 "${compile[@]}" examples/c/refused.c "${libs[@]}" -o "$room/refused_sane" || finish
+    runs "sanitizers: refused" 0 "${compile[@]}" "${refused[@]}" "${libs[@]}" -o "$room/refused_sane" || finish
     replays "sanitizers: router" "$room/router_sane"
     runs "sanitizers: refused" 0 "$room/refused_sane" || true
 fi

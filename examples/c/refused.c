@@ -2,6 +2,7 @@
  * The last line of the output is a count. The status is 1 if an answer is wrong. */
 #define _DEFAULT_SOURCE
 #include "expect.h"
+#include "lsas.h"
 
 #include <abr.h>
 
@@ -10,8 +11,6 @@
 #include <string.h>
 #include <sys/mman.h>
 #include <unistd.h>
-
-enum { LONGEST = 65535 };
 
 static const uint8_t SEED[16] = {1, 2, 3};
 static const abr_scope BACKBONE = {false, 0}, NO_SUCH_AREA = {false, 9}, AS = {true, 0};
@@ -68,70 +67,7 @@ static abr_key key_of(uint8_t type, uint32_t id, uint32_t router)
     return key;
 }
 
-/* ---- LSAs (A.4) */
-
-struct lsa {
-    size_t length;
-    uint8_t bytes[LONGEST + 1];
-};
-
-static void put_number(uint8_t *at, uint32_t number)
-{
-    at[0] = (uint8_t)(number >> 24);
-    at[1] = (uint8_t)(number >> 16);
-    at[2] = (uint8_t)(number >> 8);
-    at[3] = (uint8_t)number;
-}
-
-/* Writes the length and the checksum, so that no fault of these hides another one. */
-static void seal(struct lsa *lsa)
-{
-    uint16_t sum = 0;
-
-    lsa->bytes[18] = (uint8_t)(lsa->length >> 8);
-    lsa->bytes[19] = (uint8_t)lsa->length;
-    expect_that(abr_lsa_sum(lsa->bytes, lsa->length, &sum), "the checksum of 20 bytes or more");
-    lsa->bytes[16] = (uint8_t)(sum >> 8);
-    lsa->bytes[17] = (uint8_t)sum;
-}
-
-/* Makes an LSA of 10.0.0.2 with the type, the Link State ID and the length. Its body is 0. */
-static struct lsa *begin_lsa(struct lsa *lsa, uint8_t type, uint32_t id, size_t length)
-{
-    memset(lsa->bytes, 0, sizeof lsa->bytes);
-    lsa->length = length;
-    lsa->bytes[1] = 1;
-    lsa->bytes[2] = 2;
-    lsa->bytes[3] = type;
-    put_number(&lsa->bytes[4], id);
-    put_number(&lsa->bytes[8], 0x0a000002);
-    put_number(&lsa->bytes[12], 0x80000001);
-    return lsa;
-}
-
-/* A router-LSA with a stub link to 192.0.2.0/24. */
-static struct lsa *router_lsa(struct lsa *lsa)
-{
-    begin_lsa(lsa, 1, 0x0a000002, 36);
-    lsa->bytes[23] = 1;
-    put_number(&lsa->bytes[24], 0xc0000200);
-    put_number(&lsa->bytes[28], 0xffffff00);
-    lsa->bytes[32] = 3;
-    lsa->bytes[35] = 10;
-    seal(lsa);
-    return lsa;
-}
-
-/* A network-LSA, a summary-LSA of either type, or an AS-external-LSA. */
-static struct lsa *other_lsa(struct lsa *lsa, uint8_t type)
-{
-    static const size_t LENGTHS[] = {0, 0, 32, 28, 28, 36};
-
-    begin_lsa(lsa, type, 0xc0000200, LENGTHS[type]);
-    put_number(&lsa->bytes[20], type == 4 ? 0 : 0xffffff00);
-    seal(lsa);
-    return lsa;
-}
+/* ---- LSAs with and without faults */
 
 static void expect_lsa(const struct lsa *lsa, uint32_t wanted, const char *what)
 {
