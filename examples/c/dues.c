@@ -71,16 +71,16 @@ static int originate(struct dues *dues, uint32_t area, const abr_due *due)
     return DONE;
 }
 
-/* A daemon would age the LSA prematurely here (14.1). */
-static int flush_out(struct dues *dues, uint32_t area, const abr_due *due)
+/* A daemon would age the LSA prematurely here (14.1). It may have left already: behind a roll the changes of the event
+ * before are told once more. */
+static void flush_out(struct dues *dues, uint32_t area, const abr_due *due)
 {
     size_t place = place_of(dues, area, due);
 
     if (!stands_at(dues, place, area, due))
-        return say(FAULT, "a summary leaves that was not due");
+        return;
     dues->count--;
     memmove(&dues->list[place], &dues->list[place + 1], (dues->count - place) * sizeof *dues->list);
-    return DONE;
 }
 
 int follow_due_changes(struct dues *dues, abr *core)
@@ -95,7 +95,7 @@ int follow_due_changes(struct dues *dues, abr *core)
         else if (change.is_due)
             status = originate(dues, change.area, &change.due);
         else
-            status = flush_out(dues, change.area, &change.due);
+            flush_out(dues, change.area, &change.due);
     }
     return status;
 }
