@@ -7,7 +7,7 @@ use ospf_types::prefix::Prefix;
 
 /// `abr_scope`: the database of an area, or that of the AS.
 #[repr(C)]
-#[derive(Clone, Copy, Debug, PartialEq, Eq)]
+#[derive(Clone, Copy)]
 pub struct CScope {
     pub is_as: bool,
     pub area: u32,
@@ -15,7 +15,7 @@ pub struct CScope {
 
 /// `abr_key`: which LSA of a database.
 #[repr(C)]
-#[derive(Clone, Copy, Debug, PartialEq, Eq)]
+#[derive(Clone, Copy)]
 pub struct CKey {
     pub kind: u8,
     pub id: u32,
@@ -24,7 +24,7 @@ pub struct CKey {
 
 /// `abr_prefix`: a network, in host order. C may hand in what is none.
 #[repr(C)]
-#[derive(Clone, Copy, Debug, PartialEq, Eq)]
+#[derive(Clone, Copy)]
 pub struct CPrefix {
     pub address: u32,
     pub length: u8,
@@ -33,7 +33,7 @@ pub struct CPrefix {
 /// `abr_item`: what the table has for a network. Its kind is 0 for nothing, 1 for a discard (RFC 2328, 11.1), 2 for an
 /// intra-area route, 3 for an inter-area one, 4 and 5 for external ones of type 1 and 2.
 #[repr(C)]
-#[derive(Clone, Copy, Debug, PartialEq, Eq)]
+#[derive(Clone, Copy)]
 pub struct CItem {
     pub kind: u8,
     pub prefix: CPrefix,
@@ -45,7 +45,7 @@ pub struct CItem {
 
 /// `abr_hop`: a next hop. Its kind is 0 for an attached network, 1 for the peer of a point-to-point link, 2 for a router.
 #[repr(C)]
-#[derive(Clone, Copy, Debug, PartialEq, Eq)]
+#[derive(Clone, Copy)]
 pub struct CHop {
     pub kind: u8,
     pub interface: u8,
@@ -56,7 +56,7 @@ pub struct CHop {
 
 /// `abr_due`: a summary-LSA that is due. An AS boundary router stands as its Router ID with length 32.
 #[repr(C)]
-#[derive(Clone, Copy, Debug, PartialEq, Eq)]
+#[derive(Clone, Copy)]
 pub struct CDue {
     pub kind: u8,
     pub destination: CPrefix,
@@ -65,7 +65,7 @@ pub struct CDue {
 
 /// `abr_due_change`: a summary-LSA that the last event changed in an area. Where it is no longer due its metric is 0.
 #[repr(C)]
-#[derive(Clone, Copy, Debug, PartialEq, Eq)]
+#[derive(Clone, Copy)]
 pub struct CDueChange {
     pub area: u32,
     pub is_due: bool,
@@ -74,7 +74,7 @@ pub struct CDueChange {
 
 /// `abr_base_interface`: an interface with its id.
 #[repr(C)]
-#[derive(Clone, Copy, Debug, PartialEq, Eq)]
+#[derive(Clone, Copy)]
 pub struct CInterface {
     pub id: u8,
     pub up: bool,
