@@ -241,7 +241,7 @@ typedef struct abr_due_change {
 } abr_due_change;
 
 /* How many of those that are due the event that was taken last changed, over all areas: that came, left, or have another
- * metric. For a daemon that originates them: walk these, and originate, or flush (12.4). Where abr_changes tells none
+ * metric. For a daemon that originates them: walk these, and originate (12.4), or flush (14.1). Where abr_changes tells none
  * because the table was behind or is, this tells none too. */
 size_t abr_due_changes(abr *core);
 

@@ -1,5 +1,5 @@
 -- What C is told of an event, and what becomes of the core.
-use Rattle.std.specs.Prelude.{ℕ, ◌≡◌, ◌⊎◌, List, IfOk, Option, Some, None, Result, Ok, Err}
+use Rattle.std.specs.Prelude.{ℕ, ◌≡◌, ◌⊎◌, List, IfOk, Option, Some, None, Result}
 use Rattle.ospf_types.specs.declared.key.Scope.{Scope}
 use Rattle.ospf_types.specs.Lsa.{Lsa}
 use Rattle.lsa_codec.specs.declared.fault.WireFault.{WireFault}

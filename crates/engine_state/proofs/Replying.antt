@@ -5,7 +5,7 @@ use Rattle.std.proofs.lemmas.List.{length-take-le}
 use mathlib.Core.List.{IsPrefix}
 use Rattle.event_state.specs.declared.base.Base.{Base}
 use Rattle.event_state.specs.declared.event.Event.{Event}
-use Rattle.event_state.specs.States.{State, LooksAlike, serial_of}
+use Rattle.event_state.specs.States.{LooksAlike, serial_of}
 use Rattle.event_state.specs.Rolls.{since, IsRolled}
 use Rattle.event_state.specs.Steps.{run_of, standard_limits}
 use Rattle.event_core.specs.Cores.{CoreValue, IsCore, IsTaken, state_of}

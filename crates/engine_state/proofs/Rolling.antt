@@ -3,14 +3,13 @@
 --   rolled_kept, rolled_fresh: a roll
 --   roll_refusal: why there is none
 --   rolled_base: what the core's base is
-use Rattle.std.proofs.Common.{◌≡◌, ◌≤◌, ◌+◌, ℕ, zero, suc, Bool, true, false, List, [], ◌∷◌, ◌++◌, length, take, Option, Some, None, refl, sym, ap, subst, ◌∙◌, arith, append_assoc, length-append, inl, inr}
+use Rattle.std.proofs.Common.{◌≡◌, ◌+◌, ℕ, suc, false, List, [], ◌∷◌, ◌++◌, length, take, Option, sym, ap, subst, ◌∙◌, arith, length-append, inl, inr}
 use Rattle.std.proofs.lemmas.List.{append-nil}
 use mathlib.Core.List.{IsPrefix}
 use Rattle.event_state.specs.declared.base.Base.{Base}
 use Rattle.event_state.specs.declared.event.Event.{Event}
-use Rattle.event_state.specs.declared.limits.Limits.{Limits}
 use Rattle.event_state.specs.declared.refusal.Refusal.{Refusal}
-use Rattle.event_state.specs.Rolls.{since, IsRolled}
+use Rattle.event_state.specs.Rolls.{IsRolled}
 use Rattle.event_state.specs.States.{State}
 use Rattle.event_state.specs.Steps.{opening, run_of, standard_limits}
 use Rattle.event_core.specs.Cores.{CoreValue, IsCore, Rolls, state_of, IsRollRefusal as IsCoreRefusal}

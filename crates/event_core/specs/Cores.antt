@@ -38,7 +38,7 @@ pub record CoreValue : Type 0 where
   pub summaries : List (ℕ × List DueSummary)  -- each area with what is due in it, in the order of the configuration
   pub work : Touched  -- that of the last event
   pub changes : List Prefix  -- the networks whose item the last event changed
-  pub due_changes : List (ℕ × Metrics)  -- each area with what the last event changed of what is due there, in the order of the configuration; no area, where it changed nothing
+  pub due_changes : List (ℕ × Metrics)  -- areas in the order of the configuration, each with what the last event changed of what is due there; in one that is left out, nothing
 
 -- the databases and interfaces now
 abbrev pub state_of : CoreValue → State

@@ -10,7 +10,7 @@ use summary_lists::AreaPlan;
 
 /// The summaries that came, left or changed their metric, area by area.
 pub struct DueChanges {
-    // One an area, or none at all where nothing changed.
+    // One an area, or none at all where nothing was looked at.
     areas: Vec<AreaPlan>,
 }
 
@@ -55,7 +55,8 @@ impl DueChanges {
         self.areas.clear();
     }
 
-    /// Of how many areas changes are told: of all, in the order of the configuration, or of none, where nothing changed.
+    /// Of how many areas changes are told, in the order of the configuration. In an area that is left out nothing changed,
+    /// and nothing in one with an empty list either.
     pub fn areas(&self) -> usize
         ensures { result ≡ length self.now }
     {

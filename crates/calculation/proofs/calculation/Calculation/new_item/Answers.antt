@@ -1,7 +1,6 @@
 use Rattle.std.proofs.Common.{sym, ap, ◌∙◌}
 use Rattle.std.specs.Prelude.{Option, Some, option_copied}
 use Rattle.std.proofs.lemmas.Result.{IfOk-weaker}
-use Rattle.ospf_types.specs.declared.prefix.Prefix.{Prefix}
 use Rattle.route_table.specs.declared.table.Item.{Item}
 use Rattle.route_table.specs.declared.table.Item.TheVariants as item
 use Rattle.route_table.specs.Changes.{IsNewItem}
