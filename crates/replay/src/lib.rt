@@ -12,8 +12,9 @@ mod showing;
 mod writing;
 
 pub use fault::ReplayFault;
-pub use lines::{put_answer, put_roll, put_serial};
-pub use page::{Stop, fault_of, write_page};
+pub use lines::{put_answer, put_dest, put_roll, put_serial};
+pub use opened::OpenedRecording;
+pub use page::{Stop, empty_page, fault_of, spill, write_page};
 pub use recording::Show;
 pub use replaying::{read_recording, replay_one};
 pub use running::number_of_first;

@@ -97,7 +97,8 @@ pub(crate) fn put_due(area: u32, due: DueSummary, text: &mut String) -> Result<(
     Ok(())
 }
 
-fn put_dest(dest: Dest, text: &mut String) -> Result<(), Memory>
+/// A network, or the Router ID of an AS boundary router.
+pub fn put_dest(dest: Dest, text: &mut String) -> Result<(), Memory>
     ensures { OnOk result (string_bytes text.new ≡ string_bytes text.old ++ dest_text dest) }
 {
     match dest {

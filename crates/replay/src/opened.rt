@@ -13,16 +13,16 @@ use std::hash::RandomState;
 
 /// A recording whose core was opened, and whose lines are still to be run. They are few enough to be numbered.
 #[derive(Drop)]
-pub(crate) struct OpenedRecording {
-    pub(crate) version: Version,
-    pub(crate) core: Core,
-    pub(crate) lines: Vec<Line>,
+pub struct OpenedRecording {
+    pub version: Version,
+    pub core: Core,
+    pub lines: Vec<Line>,
     ghost few: { first_number version core.base + length lines.items < 2 ^ 64 },
 }
 
 impl OpenedRecording {
     /// Opens a core from the base of the recording.
-    pub(crate) fn open(
+    pub fn open(
         alloc: Global,
         hashing: RandomState,
         recording: Recording,

@@ -1,0 +1,38 @@
+-- The lines that tell changes: each is whole, and those of a list stand one behind the other.
+use Rattle.std.proofs.Common.{◌≡◌, ◌∙◌, ◌++◌, ◌+◌, ◌<◌, ℕ, Bool, true, false, cond, List, [], ◌∷◌, Option, codes, drop, get_or, length, map, refl, sym, ap, append_assoc, append-nil, inr}
+use Rattle.std.specs.Prelude.{decimal}
+use Rattle.std.specs.List.{flat_map}
+use Rattle.ospf_types.specs.declared.key.Dest.{Dest}
+use Rattle.ospf_types.specs.declared.prefix.Prefix.{Prefix}
+use Rattle.ospf_types.specs.Text.{prefix_text}
+use Rattle.replay.specs.Stops.{AreWhole}
+use Rattle.replay.proofs.Wholes.{none_whole}
+use Rattle.changes.specs.Lines.{Change, Set, Drop, Due, Undue, change_line, is_told, item_text, line_of, lines_of, place_text}
+
+ended : (front : List ℕ) → AreWhole (front ++ codes "\n")
+ended front = inr (record { front = front; ends = refl })
+
+change_whole : (number : ℕ) (change : Change) → AreWhole (change_line number change)
+change_whole number (Set p now) = ended (decimal number ++ codes " set " ++ prefix_text p ++ codes " " ++ item_text now)
+change_whole number (Drop p) = ended (decimal number ++ codes " drop " ++ prefix_text p)
+change_whole number (Due area dest metric) = ended (decimal number ++ codes " due " ++ place_text area dest ++ codes " " ++ decimal metric)
+change_whole number (Undue area dest) = ended (decimal number ++ codes " undue " ++ place_text area dest)
+
+pub line_whole : (number : ℕ) (only : Option Prefix) (change : Change) → AreWhole (line_of number only change)
+line_whole number only change = elim (is_told only change) as (λ b. AreWhole (cond b (change_line number change) (codes ""))) [ true ↦ change_whole number change | false ↦ none_whole ]
+
+-- ---- lists
+
+-- the lines of mapped items
+pub mapped_lines : {A : Type 0} (number : ℕ) (only : Option Prefix) (change : A → Change) (items : List A) → lines_of number only (map change items) ≡ flat_map (λ x. line_of number only (change x)) items
+mapped_lines number only change [] = refl
+mapped_lines number only change (x ∷ items) = ap (λ l. line_of number only (change x) ++ l) (mapped_lines number only change items)
+
+pub lines_both : (number : ℕ) (only : Option Prefix) (xs ys : List Change) → lines_of number only (xs ++ ys) ≡ lines_of number only xs ++ lines_of number only ys
+lines_both number only [] ys = refl
+lines_both number only (x ∷ xs) ys = ap (λ l. line_of number only x ++ l) (lines_both number only xs ys) ∙ sym (append_assoc (line_of number only x) (lines_of number only xs) (lines_of number only ys))
+
+-- the lines of several lists
+pub listed_lines : {A : Type 0} (number : ℕ) (only : Option Prefix) (changes : A → List Change) (items : List A) → lines_of number only (flat_map changes items) ≡ flat_map (λ x. lines_of number only (changes x)) items
+listed_lines number only changes [] = refl
+listed_lines number only changes (x ∷ items) = lines_both number only (changes x) (flat_map changes items) ∙ ap (λ l. lines_of number only (changes x) ++ l) (listed_lines number only changes items)

@@ -1,0 +1,4 @@
+pub mod Lines
+pub mod Changes
+pub mod Runs
+pub mod Outputs

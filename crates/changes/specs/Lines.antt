@@ -1,0 +1,60 @@
+-- The lines that tell what an event changed.
+use Rattle.std.specs.Prelude.{ℕ, ◌++◌, Bool, true, false, List, Option, Some, None, codes, decimal, if◌then◌else◌}
+use Rattle.std.specs.List.{flat_map}
+use Rattle.ospf_types.specs.declared.key.Dest.{Dest}
+use Rattle.ospf_types.specs.declared.key.Dest.TheVariants.{Net, Router}
+use Rattle.ospf_types.specs.declared.prefix.Prefix.{Prefix}
+use Rattle.ospf_types.specs.RangeChanges.{is_same_prefix}
+use Rattle.ospf_types.specs.Text.{address_text, prefix_text, entry_text}
+use Rattle.route_table.specs.declared.table.Item.{Item}
+use Rattle.route_table.specs.declared.table.Item.TheVariants as item
+use Rattle.event_core.specs.Lists.{kind_of}
+use Rattle.replay.specs.Lines.{dest_text}
+
+pub data Change : Type 0 where
+  Set : (network : Prefix) → (now : Item) → Change  -- the network has this item now
+  Drop : (network : Prefix) → Change  -- the table has nothing for the network any more
+  Due : (area : ℕ) → (dest : Dest) → (metric : ℕ) → Change  -- the summary is due in the area at this metric now
+  Undue : (area : ℕ) → (dest : Dest) → Change  -- it is due there no longer
+
+-- the route, or `discard`
+abbrev pub item_text : Item → List ℕ
+item_text (item.Route entry) = entry_text entry
+item_text item.Discard = codes "discard"
+
+-- an area, and a destination with its LS type
+abbrev pub place_text : ℕ → Dest → List ℕ
+place_text area dest = address_text area ++ codes " " ++ decimal (kind_of dest) ++ codes " " ++ dest_text dest
+
+-- what changed at the line of this number
+abbrev pub change_line : ℕ → Change → List ℕ
+change_line number (Set p now) = decimal number ++ codes " set " ++ prefix_text p ++ codes " " ++ item_text now ++ codes "\n"
+change_line number (Drop p) = decimal number ++ codes " drop " ++ prefix_text p ++ codes "\n"
+change_line number (Due area dest metric) = decimal number ++ codes " due " ++ place_text area dest ++ codes " " ++ decimal metric ++ codes "\n"
+change_line number (Undue area dest) = decimal number ++ codes " undue " ++ place_text area dest ++ codes "\n"
+
+-- ---- the changes of one network
+
+-- the network, where only one is asked for
+abbrev pub is_asked : Option Prefix → Prefix → Bool
+is_asked None p = true
+is_asked (Some q) p = is_same_prefix p q
+
+-- the destination, likewise; an AS boundary router is no network
+abbrev pub is_dest_asked : Option Prefix → Dest → Bool
+is_dest_asked only (Net p) = is_asked only p
+is_dest_asked None (Router router) = true
+is_dest_asked (Some q) (Router router) = false
+
+abbrev pub is_told : Option Prefix → Change → Bool
+is_told only (Set p now) = is_asked only p
+is_told only (Drop p) = is_asked only p
+is_told only (Due area dest metric) = is_dest_asked only dest
+is_told only (Undue area dest) = is_dest_asked only dest
+
+-- the line of a change that is asked for
+abbrev pub line_of : ℕ → Option Prefix → Change → List ℕ
+line_of number only change = if is_told only change then change_line number change else codes ""
+
+abbrev pub lines_of : ℕ → Option Prefix → List Change → List ℕ
+lines_of number only changes = flat_map (line_of number only) changes

@@ -1,0 +1,136 @@
+//! The lines that tell what changed, each appended to a text. If memory runs out, the text may have a part of the line.
+ghost use Rattle.std.specs.Prelude.{◌≡◌, ◌++◌, OnOk, option_map, string_bytes};
+ghost use Rattle.summary_lists.specs.Lists.{kind_of as lsa_kind};
+ghost use Rattle.changes.specs.Lines as told;
+ghost use Rattle.changes.specs.Lines.{change_line, line_of, place_text};
+ghost use Rattle.changes.specs.Changes.{change_to, due_change};
+
+use event_core::DueSummary;
+use ospf_types::address::Address;
+use ospf_types::key::Dest;
+use ospf_types::memory::Memory;
+use ospf_types::prefix::Prefix;
+use replay::put_dest;
+use route_table::Item;
+
+/// The number of the line in its recording, and the one network that is asked for, where not all are.
+#[derive(Clone, Copy)]
+pub(crate) struct Place {
+    pub(crate) number: usize,
+    pub(crate) only: Option<Prefix>,
+}
+
+/// The item that the network has now, or that it has none; nothing where another network is asked for.
+pub(crate) fn put_network(
+    at: Place,
+    prefix: Prefix,
+    item: Option<&Item>,
+    text: &mut String,
+) -> Result<(), Memory>
+    ensures { OnOk result (string_bytes text.new ≡ string_bytes text.old
+        ++ line_of at.number at.only (change_to prefix (option_map (λ i. i.now) item))) }
+{
+    if !is_asked(at.only, prefix) {
+        return Ok(());
+    }
+    match item {
+        Some(item) => put_set(at.number, prefix, item, text),
+        None => put_drop(at.number, prefix, text),
+    }
+}
+
+fn put_set(number: usize, prefix: Prefix, item: &Item, text: &mut String) -> Result<(), Memory>
+    ensures { OnOk result (string_bytes text.new ≡ string_bytes text.old
+        ++ change_line number (told.Set prefix item.now)) }
+{
+    match item {
+        Item::Route(entry) => writeln!(text, "{number} set {prefix} {entry}")?,
+        Item::Discard => writeln!(text, "{number} set {prefix} discard")?,
+    }
+    Ok(())
+}
+
+fn put_drop(number: usize, prefix: Prefix, text: &mut String) -> Result<(), Memory>
+    ensures { OnOk result (string_bytes text.new ≡ string_bytes text.old
+        ++ change_line number (told.Drop prefix)) }
+{
+    writeln!(text, "{number} drop {prefix}")?;
+    Ok(())
+}
+
+/// The metric at which a destination is due in the area now, or that it is due no longer; nothing where another network is
+/// asked for.
+pub(crate) fn put_summary(
+    at: Place,
+    area: u32,
+    change: (Dest, Option<u32>),
+    text: &mut String,
+) -> Result<(), Memory>
+    ensures { OnOk result (string_bytes text.new ≡ string_bytes text.old
+        ++ line_of at.number at.only (due_change area change)) }
+{
+    let (dest, metric) = change;
+    if !is_dest_asked(at.only, dest) {
+        return Ok(());
+    }
+    match metric {
+        Some(metric) => put_due(at.number, area, DueSummary::of(dest, metric), text),
+        None => put_undue(at.number, area, dest, text),
+    }
+}
+
+fn put_due(number: usize, area: u32, due: DueSummary, text: &mut String) -> Result<(), Memory>
+    ensures { OnOk result (string_bytes text.new ≡ string_bytes text.old
+        ++ change_line number (told.Due area due.dest due.metric)) }
+{
+    write!(text, "{number} due ")?;
+    put_place(area, due.dest, text)?;
+    let metric = due.metric;
+    writeln!(text, " {metric}")?;
+    Ok(())
+}
+
+fn put_undue(number: usize, area: u32, dest: Dest, text: &mut String) -> Result<(), Memory>
+    ensures { OnOk result (string_bytes text.new ≡ string_bytes text.old
+        ++ change_line number (told.Undue area dest)) }
+{
+    write!(text, "{number} undue ")?;
+    put_place(area, dest, text)?;
+    text.push_str("\n")?;
+    Ok(())
+}
+
+// The area, the LS type and the destination.
+fn put_place(area: u32, dest: Dest, text: &mut String) -> Result<(), Memory>
+    ensures { OnOk result (string_bytes text.new ≡ string_bytes text.old ++ place_text area dest) }
+{
+    let (area, kind) = (Address(area), kind_of(dest));
+    write!(text, "{area} {kind} ")?;
+    put_dest(dest, text)
+}
+
+// The LS type of a summary-LSA for the destination (RFC 2328, 12.4.3).
+fn kind_of(dest: Dest) -> u8
+    ensures { result ≡ lsa_kind dest }
+{
+    DueSummary::of(dest, 0).kind
+}
+
+// Whether the network is asked for.
+fn is_asked(only: Option<Prefix>, prefix: Prefix) -> bool
+    ensures { result ≡ told.is_asked only prefix }
+{
+    match only {
+        Some(network) => prefix == network,
+        None => true,
+    }
+}
+
+fn is_dest_asked(only: Option<Prefix>, dest: Dest) -> bool
+    ensures { result ≡ told.is_dest_asked only dest }
+{
+    match dest {
+        Dest::Net(prefix) => is_asked(only, prefix),
+        Dest::Router(_) => only.is_none(),
+    }
+}

@@ -1,0 +1,182 @@
+//! What changed, printed.
+ghost use Rattle.std.specs.Prelude.{◌≡◌, ◌++◌, OnOk, IfErr, map, string_bytes};
+ghost use Rattle.std.specs.List.{flat_map};
+ghost use Rattle.std.specs.FinMap.{entries};
+ghost use Rattle.event_core.specs.DueSummaries.{lists_of};
+ghost use Rattle.replay.specs.Pages.{Adds, AddsPart};
+ghost use Rattle.replay.specs.Stops.{AreWhole};
+ghost use Rattle.changes.specs.Lines.{lines_of};
+ghost use Rattle.changes.specs.Changes.{all_of, area_changes, area_due, due_change, item_set, network_change, summary_due};
+
+use crate::lines::{Place, put_network, put_summary};
+use event_core::{Core, DueChanges, DueSummaries, DueSummary};
+use ospf_types::key::Dest;
+use ospf_types::prefix::Prefix;
+use replay::{Stop, spill};
+use route_table::Table;
+use std::io;
+
+/// The whole table, and all that is due.
+pub(crate) fn show_all<W: io::Write>(
+    core: &Core,
+    at: Place,
+    out: &mut W,
+    page: &mut String,
+) -> Result<(), Stop>
+    ensures ok { OnOk result (Adds (W.contents out.old) (W.contents out.new) (string_bytes page.old)
+        (string_bytes page.new) (lines_of at.number at.only (all_of core.now))) }
+    ensures err { AreWhole (string_bytes page.old) → IfErr result (λ why.
+        AddsPart why (W.contents out.old) (W.contents out.new)
+        (string_bytes page.old ++ lines_of at.number at.only (all_of core.now))) }
+{
+    show_items(core.table(), at, out, page)?;
+    show_summaries(core.summaries(), at, out, page)
+}
+
+// The items of the table.
+fn show_items<W: io::Write>(
+    table: &Table,
+    at: Place,
+    out: &mut W,
+    page: &mut String,
+) -> Result<(), Stop>
+    ensures ok { OnOk result (Adds (W.contents out.old) (W.contents out.new) (string_bytes page.old)
+        (string_bytes page.new)
+        (lines_of at.number at.only (map item_set (entries table.now.items)))) }
+    ensures err { AreWhole (string_bytes page.old) → IfErr result (λ why.
+        AddsPart why (W.contents out.old) (W.contents out.new) (string_bytes page.old
+        ++ lines_of at.number at.only (map item_set (entries table.now.items)))) }
+{
+    for (prefix, item) in table.items() {
+        put_network(at, prefix, Some(item), page)?;
+        spill(out, page)?;
+    }
+    Ok(())
+}
+
+// What is due in each area.
+fn show_summaries<W: io::Write>(
+    summaries: &DueSummaries,
+    at: Place,
+    out: &mut W,
+    page: &mut String,
+) -> Result<(), Stop>
+    ensures ok { OnOk result (Adds (W.contents out.old) (W.contents out.new) (string_bytes page.old)
+        (string_bytes page.new)
+        (lines_of at.number at.only (flat_map area_due (lists_of summaries.now)))) }
+    ensures err { AreWhole (string_bytes page.old) → IfErr result (λ why.
+        AddsPart why (W.contents out.old) (W.contents out.new) (string_bytes page.old
+        ++ lines_of at.number at.only (flat_map area_due (lists_of summaries.now)))) }
+{
+    for area in summaries.areas() {
+        show_area(area.area(), area.as_slice(), at, out, page)?;
+    }
+    Ok(())
+}
+
+// What is due in an area.
+fn show_area<W: io::Write>(
+    area: u32,
+    list: &[DueSummary],
+    at: Place,
+    out: &mut W,
+    page: &mut String,
+) -> Result<(), Stop>
+    ensures ok { OnOk result (Adds (W.contents out.old) (W.contents out.new) (string_bytes page.old)
+        (string_bytes page.new) (lines_of at.number at.only (area_due (area, list.now)))) }
+    ensures err { AreWhole (string_bytes page.old) → IfErr result (λ why.
+        AddsPart why (W.contents out.old) (W.contents out.new)
+        (string_bytes page.old ++ lines_of at.number at.only (area_due (area, list.now)))) }
+{
+    for &due in list {
+        put_summary(at, area, (due.dest, Some(due.metric)), page)?;
+        spill(out, page)?;
+    }
+    Ok(())
+}
+
+/// What the last event changed.
+pub(crate) fn show_changes<W: io::Write>(
+    core: &Core,
+    at: Place,
+    out: &mut W,
+    page: &mut String,
+) -> Result<(), Stop>
+    ensures ok { OnOk result (Adds (W.contents out.old) (W.contents out.new) (string_bytes page.old)
+        (string_bytes page.new) (lines_of at.number at.only
+        (map (network_change core.now.table.items) core.now.changes
+        ++ flat_map area_changes core.now.due_changes))) }
+    ensures err { AreWhole (string_bytes page.old) → IfErr result (λ why.
+        AddsPart why (W.contents out.old) (W.contents out.new) (string_bytes page.old
+        ++ lines_of at.number at.only (map (network_change core.now.table.items) core.now.changes
+        ++ flat_map area_changes core.now.due_changes))) }
+{
+    show_networks(core.changes(), core.table(), at, out, page)?;
+    show_due_changes(core.due_changes(), at, out, page)
+}
+
+// The items that these networks have now.
+fn show_networks<W: io::Write>(
+    networks: &[Prefix],
+    table: &Table,
+    at: Place,
+    out: &mut W,
+    page: &mut String,
+) -> Result<(), Stop>
+    ensures ok { OnOk result (Adds (W.contents out.old) (W.contents out.new) (string_bytes page.old)
+        (string_bytes page.new)
+        (lines_of at.number at.only (map (network_change table.now.items) networks.now))) }
+    ensures err { AreWhole (string_bytes page.old) → IfErr result (λ why.
+        AddsPart why (W.contents out.old) (W.contents out.new) (string_bytes page.old
+        ++ lines_of at.number at.only (map (network_change table.now.items) networks.now))) }
+{
+    for &prefix in networks {
+        put_network(at, prefix, table.get(prefix), page)?;
+        spill(out, page)?;
+    }
+    Ok(())
+}
+
+// What changed in each area.
+fn show_due_changes<W: io::Write>(
+    changes: &DueChanges,
+    at: Place,
+    out: &mut W,
+    page: &mut String,
+) -> Result<(), Stop>
+    ensures ok { OnOk result (Adds (W.contents out.old) (W.contents out.new) (string_bytes page.old)
+        (string_bytes page.new)
+        (lines_of at.number at.only (flat_map area_changes changes.now))) }
+    ensures err { AreWhole (string_bytes page.old) → IfErr result (λ why.
+        AddsPart why (W.contents out.old) (W.contents out.new) (string_bytes page.old
+        ++ lines_of at.number at.only (flat_map area_changes changes.now))) }
+{
+    for place in 0..changes.areas() {
+        let Some((area, metrics)) = changes.at(place) else {
+            unreachable!()
+        };
+        show_metrics(area, metrics, at, out, page)?;
+    }
+    Ok(())
+}
+
+// What changed in an area.
+fn show_metrics<W: io::Write>(
+    area: u32,
+    metrics: &[(Dest, Option<u32>)],
+    at: Place,
+    out: &mut W,
+    page: &mut String,
+) -> Result<(), Stop>
+    ensures ok { OnOk result (Adds (W.contents out.old) (W.contents out.new) (string_bytes page.old)
+        (string_bytes page.new) (lines_of at.number at.only (area_changes (area, metrics.now)))) }
+    ensures err { AreWhole (string_bytes page.old) → IfErr result (λ why.
+        AddsPart why (W.contents out.old) (W.contents out.new)
+        (string_bytes page.old ++ lines_of at.number at.only (area_changes (area, metrics.now)))) }
+{
+    for &change in metrics {
+        put_summary(at, area, change, page)?;
+        spill(out, page)?;
+    }
+    Ok(())
+}
