@@ -1,5 +1,5 @@
 -- The bytes of a body are read as the body.
-use Rattle.std.proofs.Common.{◌≡◌, ◌≢◌, ◌∙◌, ◌++◌, ◌+◌, ◌≤◌, List, [], ◌∷◌, ℕ, length, map, drop, refl, sym, ap, subst, arith, Result, OnOk}
+use Rattle.std.proofs.Common.{◌≡◌, ◌≢◌, ◌∙◌, ◌++◌, List, [], ◌∷◌, ℕ, length, map, drop, refl, sym, ap, subst, arith, Result, OnOk}
 use Rattle.std.specs.List.{flat_map, AllByRecursion}
 use Rattle.std.proofs.lemmas.List.{append-nil, length-map}
 use Rattle.byteorder.specs.Endian.{big_bytes}

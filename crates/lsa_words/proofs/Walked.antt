@@ -1,11 +1,11 @@
 -- Records, TOS entries and links, put one at a time as a loop does it: what is printed of the rest
 -- completes what is printed of all.
-use Rattle.std.proofs.Common.{◌≡◌, ◌∙◌, ◌++◌, ◌+◌, ◌-◌, ◌*◌, ◌/◌, ◌<◌, ◌≤◌, List, [], ◌∷◌, ℕ, suc, true, length, map, take, drop, codes, refl, sym, ap, subst, append_assoc, arith}
+use Rattle.std.proofs.Common.{◌≡◌, ◌∙◌, ◌++◌, ◌+◌, ◌-◌, ◌*◌, ◌<◌, ◌≤◌, List, ℕ, suc, length, map, take, drop, codes, refl, sym, ap, subst, append_assoc, arith}
 use Rattle.std.specs.List.{flat_map}
 use Rattle.std.proofs.lemmas.Bool.{le-leb}
 use Rattle.std.proofs.lemmas.List.{append-nil, length-drop, length-map}
 use Rattle.ospf_types.specs.Lsa.{RouterLink, Tos}
-use Rattle.lsa_codec.specs.Faults.{raw_entries, raw_link, link_size, is_whole, Walk, walk}
+use Rattle.lsa_codec.specs.Faults.{raw_entries, raw_link, link_size, Walk, walk}
 use Rattle.lsa_codec.specs.Decoding.{link_of, tos_of, records}
 use Rattle.lsa_codec.specs.Left.{AreThere}
 use Rattle.lsa_codec.proofs.Checksums.{from_place}

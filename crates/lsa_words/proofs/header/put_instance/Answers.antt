@@ -1,5 +1,4 @@
-use Rattle.std.proofs.Common.{◌∙◌, ◌++◌, List, ℕ, ap, codes, string_bytes}
-use Rattle.lsa_words.specs.Fields.{hexadecimal_line}
+use Rattle.std.proofs.Common.{codes}
 use Rattle.lsa_words.specs.Words.{length_line}
 use Rattle.lsa_words.proofs.Texts.{three_printed, bytes_of}
 use Rattle.lsa_words.proofs.header.put_instance.Goals as goal

@@ -1,4 +1,4 @@
-use Rattle.std.proofs.Common.{◌∙◌, ◌++◌, List, ℕ, ap, codes, drop, string_bytes}
+use Rattle.std.proofs.Common.{List, ℕ, codes, drop}
 use Rattle.std.specs.List.{flat_map}
 use Rattle.byteorder.specs.Endian.{big_number}
 use Rattle.lsa_codec.specs.Left.{routers_left}

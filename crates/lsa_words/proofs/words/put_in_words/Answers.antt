@@ -1,5 +1,3 @@
-use Rattle.std.proofs.Common.{◌∙◌, ◌++◌, ap, string_bytes}
-use Rattle.ospf_types.specs.declared.lsa.Header.{Header}
 use Rattle.lsa_words.specs.Words.{header_words, body_words}
 use Rattle.lsa_words.proofs.Texts.{two_printed, header_of}
 use Rattle.lsa_words.proofs.words.put_in_words.Goals as goal
