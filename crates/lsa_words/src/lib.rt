@@ -1,0 +1,12 @@
+//! An LSA in words: every field by its name in RFC 2328, A.4, a field or a link a line.
+#![tactic(auto)]
+
+mod external;
+mod fields;
+mod header;
+mod network;
+mod router;
+mod summary;
+mod words;
+
+pub use words::put_in_words;
