@@ -1,25 +1,19 @@
 -- The job is the command that was met.
-use Rattle.std.proofs.Common.{ℕ, ◌≡◌, ◌≢◌, ◌⊎◌, ◌∙◌, sym, ap, subst, refl, inl, inr, lit<, List, [], Option, Some, codes}
-use Rattle.clap.specs.Words.{Row, Text, first_of, kind_of}
+use Rattle.std.proofs.Common.{Bool, ℕ, ◌≡◌, ◌≢◌, ◌⊎◌, ◌∙◌, sym, ap, subst, refl, inl, inr, lit<, List, [], Option, Some, codes, slice_index, ◌<◌, arith}
+use Rattle.std.specs.Str.{bytes_eq}
+use Rattle.clap.specs.Words.{Row, Text, kind_of, subcommand_of}
 use Rattle.clap.specs.Faults.{fault_of}
 use Rattle.clap.specs.Kinds.{HasKind, IsAmong, Kinds}
 use Rattle.clap.specs.declared.error.Error.{Error}
 use Rattle.clap.specs.declared.error.kind.ErrorKind.TheVariants.{OutOfMemory}
 use Rattle.recording.specs.declared.show.Show.{Show}
 use Rattle.recording.specs.declared.show.Show.TheVariants.{Routes, Due, Lsdb, Journal}
-use Rattle.command_line.specs.Command.{HasOne, HasDecode, HasReplay, HasReplayWords, HasWords, IsFit, IsJob, IsMistake, IsOne, IsDecode, IsReplay, OneTexts, WritesWorkers, program, show_name, texts_of}
+use Rattle.command_line.specs.Command.{HasChangesWords, HasDecodeWords, HasFlag, HasJob, HasJobWords, HasReplayWords, HasTexts, HasWords, IsFit, IsJob, IsMistake, JobTexts, OfOne, OfDecode, OfReplay, OfChanges, OfFault, OneTexts, WritesWorkers, command_name, job_texts, program, show_name}
 use Rattle.command_line.specs.declared.command.Job.{Job}
-use Rattle.command_line.specs.declared.command.Job.TheVariants.{One, Decode, Replay}
+use Rattle.command_line.specs.declared.command.Job.TheVariants.{One, Decode, Replay, Changes, Fault}
 use Rattle.command_line.specs.declared.command.Usage.{Usage}
 use Rattle.command_line.specs.declared.command.Usage.TheVariants.{Told, Memory}
-use Rattle.command_line.proofs.Matches.{decode_is_no_replay, first_differs, one_given, one_is_no_decode, one_is_no_replay}
-
--- one command was met, with its rows
-one_met : (s : Option (Text × List Row)) (a b : Text) (x y : List Row) → s ≡ Some (a, x) → s ≡ Some (b, y) → (a ≡ b) × (x ≡ y)
-one_met s a b x y p q =
-    let both : Some (a, x) ≡ Some (b, y) = sym p ∙ q in
-    let pair : (a, x) ≡ (b, y) = cc in
-    (ap (λ (m : Text × List Row). m.0) pair, ap (λ (m : Text × List Row). m.1) pair)
+use Rattle.command_line.proofs.Matches.{apart, one_given}
 
 texts_same : (a b c d e a2 b2 c2 d2 e2 : Text) → a ≡ a2 → b ≡ b2 → c ≡ c2 → d ≡ d2 → e ≡ e2
     → (let x : OneTexts = record { router = a; area = b; address = c; lsa = d; lookup = e } in
@@ -29,77 +23,97 @@ texts_same a b c d e a2 b2 c2 d2 e2 p q r s u = rw (p, q, r, s, u) refl
 words_unique : (given : List Row) (t u : OneTexts) → HasWords given t → HasWords given u → t ≡ u
 words_unique given t u h k = texts_same t.router t.area t.address t.lsa t.lookup u.router u.area u.address u.lsa u.lookup (cc) (cc) (cc) (cc) (cc)
 
-one_unique : (s : Option (Text × List Row)) (t u : OneTexts) → HasOne s t → HasOne s u → t ≡ u
-one_unique s t u h k =
-    let same : h.0 ≡ k.0 = (one_met s _ _ h.0 k.0 h.1 k.1).1 in
-    words_unique k.0 t u (subst (λ (r : List Row). HasWords r t) same h.2) k.2
-
-decode_unique : (s : Option (Text × List Row)) (a b : Text) → HasDecode s a → HasDecode s b → a ≡ b
-decode_unique s a b h k =
-    let same : h.0 ≡ k.0 = (one_met s _ _ h.0 k.0 h.1 k.1).1 in
-    one_given _ a b (subst (λ (r : List Row). first_of (codes "HEX") r ≡ Some a) same h.2) k.2
+shows_differ : (name other next : Text) → slice_index other 0 < slice_index next 0 → name ≡ other → name ≡ next → ⊥
+shows_differ name other next less e f =
+    let same : slice_index other 0 ≡ slice_index next 0 = ap (λ (t : Text). slice_index t 0) (sym e ∙ f) in
+    absurd (omega arith)
 
 show_unique : (a b : Show) → show_name a ≡ show_name b → a ≡ b
 show_unique Routes Routes e = refl
-show_unique Routes Due e = absurd (first_differs (show_name Routes) (show_name Due) (show_name Routes) (lit< tt) e refl)
-show_unique Routes Lsdb e = absurd (first_differs (show_name Routes) (show_name Lsdb) (show_name Routes) (lit< tt) e refl)
-show_unique Routes Journal e = absurd (first_differs (show_name Routes) (show_name Journal) (show_name Routes) (lit< tt) e refl)
-show_unique Due Routes e = absurd (first_differs (show_name Due) (show_name Due) (show_name Routes) (lit< tt) refl e)
+show_unique Routes Due e = absurd (shows_differ (show_name Routes) (show_name Due) (show_name Routes) (lit< tt) e refl)
+show_unique Routes Lsdb e = absurd (shows_differ (show_name Routes) (show_name Lsdb) (show_name Routes) (lit< tt) e refl)
+show_unique Routes Journal e = absurd (shows_differ (show_name Routes) (show_name Journal) (show_name Routes) (lit< tt) e refl)
+show_unique Due Routes e = absurd (shows_differ (show_name Due) (show_name Due) (show_name Routes) (lit< tt) refl e)
 show_unique Due Due e = refl
-show_unique Due Lsdb e = absurd (first_differs (show_name Due) (show_name Due) (show_name Lsdb) (lit< tt) refl e)
-show_unique Due Journal e = absurd (first_differs (show_name Due) (show_name Due) (show_name Journal) (lit< tt) refl e)
-show_unique Lsdb Routes e = absurd (first_differs (show_name Lsdb) (show_name Lsdb) (show_name Routes) (lit< tt) refl e)
-show_unique Lsdb Due e = absurd (first_differs (show_name Lsdb) (show_name Due) (show_name Lsdb) (lit< tt) e refl)
+show_unique Due Lsdb e = absurd (shows_differ (show_name Due) (show_name Due) (show_name Lsdb) (lit< tt) refl e)
+show_unique Due Journal e = absurd (shows_differ (show_name Due) (show_name Due) (show_name Journal) (lit< tt) refl e)
+show_unique Lsdb Routes e = absurd (shows_differ (show_name Lsdb) (show_name Lsdb) (show_name Routes) (lit< tt) refl e)
+show_unique Lsdb Due e = absurd (shows_differ (show_name Lsdb) (show_name Due) (show_name Lsdb) (lit< tt) e refl)
 show_unique Lsdb Lsdb e = refl
-show_unique Lsdb Journal e = absurd (first_differs (show_name Lsdb) (show_name Journal) (show_name Lsdb) (lit< tt) e refl)
-show_unique Journal Routes e = absurd (first_differs (show_name Journal) (show_name Journal) (show_name Routes) (lit< tt) refl e)
-show_unique Journal Due e = absurd (first_differs (show_name Journal) (show_name Due) (show_name Journal) (lit< tt) e refl)
-show_unique Journal Lsdb e = absurd (first_differs (show_name Journal) (show_name Journal) (show_name Lsdb) (lit< tt) refl e)
+show_unique Lsdb Journal e = absurd (shows_differ (show_name Lsdb) (show_name Journal) (show_name Lsdb) (lit< tt) e refl)
+show_unique Journal Routes e = absurd (shows_differ (show_name Journal) (show_name Journal) (show_name Routes) (lit< tt) refl e)
+show_unique Journal Due e = absurd (shows_differ (show_name Journal) (show_name Due) (show_name Journal) (lit< tt) e refl)
+show_unique Journal Lsdb e = absurd (shows_differ (show_name Journal) (show_name Journal) (show_name Lsdb) (lit< tt) refl e)
 show_unique Journal Journal e = refl
 
 workers_unique : (word : Text) (m n : ℕ) → WritesWorkers word m → WritesWorkers word n → m ≡ n
 workers_unique word m n h k = sym h.written ∙ k.written
 
-words_of_replay : (rows : List Row) (a b : Text) (m n : ℕ) (x y : Show) → HasReplayWords rows a m x → HasReplayWords rows b n y → (a ≡ b) × (m ≡ n) × (x ≡ y)
-words_of_replay rows a b m n x y h k = (
-  one_given _ a b h.0 k.0,
-  workers_unique k.1.0 m n (subst (λ (w : Text). WritesWorkers w m) (one_given _ h.1.0 k.1.0 h.1.1 k.1.1) h.1.2) k.1.2,
-  show_unique x y (one_given _ (show_name x) (show_name y) h.2 k.2),
-)
+flag_unique : (rows : List Row) (id : Text) (a b : Bool) → HasFlag rows id a → HasFlag rows id b → a ≡ b
+flag_unique rows id a b h k = sym h.2 ∙ ap (λ (value : Text). bytes_eq value (codes "true")) (one_given _ _ _ h.1 k.1) ∙ k.2
 
-replay_unique : (s : Option (Text × List Row)) (a b : Text) (m n : ℕ) (x y : Show) → HasReplay s a m x → HasReplay s b n y → (a ≡ b) × (m ≡ n) × (x ≡ y)
-replay_unique s a b m n x y h k =
-    let same : h.0 ≡ k.0 = (one_met s _ _ h.0 k.0 h.1 k.1).1 in
-    words_of_replay k.0 a b m n x y (subst (λ (r : List Row). HasReplayWords r a m x) same h.2) k.2
+decode_unique : (rows : List Row) (a b : Text) (x y : Bool) → HasDecodeWords rows a x → HasDecodeWords rows b y → OfDecode a x ≡ OfDecode b y
+decode_unique rows a b x y h k = rw (one_given _ a b h.0 k.0, flag_unique rows (codes "long") x y h.1 k.1) refl
 
-one_or_decode : (s : Option (Text × List Row)) (t : OneTexts) (hex : Text) → HasOne s t → HasDecode s hex → ⊥
-one_or_decode s t hex h k = one_is_no_decode (codes "one") refl (one_met s _ _ h.0 k.0 h.1 k.1).0
+replay_unique : (rows : List Row) (a b : Text) (m n : ℕ) (x y : Show) → HasReplayWords rows a m x → HasReplayWords rows b n y → OfReplay a m x ≡ OfReplay b n y
+replay_unique rows a b m n x y h k =
+    let count = workers_unique k.1.0 m n (subst (λ (w : Text). WritesWorkers w m) (one_given _ h.1.0 k.1.0 h.1.1 k.1.1) h.1.2) k.1.2 in
+    rw (one_given _ a b h.0 k.0, count, show_unique x y (one_given _ (show_name x) (show_name y) h.2 k.2)) refl
 
-one_or_replay : (s : Option (Text × List Row)) (t : OneTexts) (file : Text) (workers : ℕ) (show : Show) → HasOne s t → HasReplay s file workers show → ⊥
-one_or_replay s t file workers show h k = one_is_no_replay (codes "one") refl (one_met s _ _ h.0 k.0 h.1 k.1).0
+changes_unique : (rows : List Row) (a b : Text) (x y : Option Text) → HasChangesWords rows a x → HasChangesWords rows b y → OfChanges a x ≡ OfChanges b y
+changes_unique rows a b x y h k = rw (one_given _ a b h.0 k.0, sym h.1 ∙ k.1) refl
 
-decode_or_replay : (s : Option (Text × List Row)) (hex file : Text) (workers : ℕ) (show : Show) → HasDecode s hex → HasReplay s file workers show → ⊥
-decode_or_replay s hex file workers show h k = decode_is_no_replay (codes "decode") refl (one_met s _ _ h.0 k.0 h.1 k.1).0
+-- the words of one command were given for one job
+same_texts : (rows : List Row) (a b : JobTexts) → command_name a ≡ command_name b → HasJobWords rows a → HasJobWords rows b → a ≡ b
+same_texts rows (OfOne t) (OfOne u) e h k = ap OfOne (words_unique rows t u h k)
+same_texts rows (OfOne t) (OfDecode b y) e h k = absurd (apart (codes "one") (codes "decode") refl e)
+same_texts rows (OfOne t) (OfReplay b n y) e h k = absurd (apart (codes "one") (codes "replay") refl e)
+same_texts rows (OfOne t) (OfChanges b y) e h k = absurd (apart (codes "one") (codes "changes") refl e)
+same_texts rows (OfOne t) (OfFault b) e h k = absurd (apart (codes "one") (codes "fault") refl e)
+same_texts rows (OfDecode a x) (OfOne u) e h k = absurd (apart (codes "decode") (codes "one") refl e)
+same_texts rows (OfDecode a x) (OfDecode b y) e h k = decode_unique rows a b x y h k
+same_texts rows (OfDecode a x) (OfReplay b n y) e h k = absurd (apart (codes "decode") (codes "replay") refl e)
+same_texts rows (OfDecode a x) (OfChanges b y) e h k = absurd (apart (codes "decode") (codes "changes") refl e)
+same_texts rows (OfDecode a x) (OfFault b) e h k = absurd (apart (codes "decode") (codes "fault") refl e)
+same_texts rows (OfReplay a m x) (OfOne u) e h k = absurd (apart (codes "replay") (codes "one") refl e)
+same_texts rows (OfReplay a m x) (OfDecode b y) e h k = absurd (apart (codes "replay") (codes "decode") refl e)
+same_texts rows (OfReplay a m x) (OfReplay b n y) e h k = replay_unique rows a b m n x y h k
+same_texts rows (OfReplay a m x) (OfChanges b y) e h k = absurd (apart (codes "replay") (codes "changes") refl e)
+same_texts rows (OfReplay a m x) (OfFault b) e h k = absurd (apart (codes "replay") (codes "fault") refl e)
+same_texts rows (OfChanges a x) (OfOne u) e h k = absurd (apart (codes "changes") (codes "one") refl e)
+same_texts rows (OfChanges a x) (OfDecode b y) e h k = absurd (apart (codes "changes") (codes "decode") refl e)
+same_texts rows (OfChanges a x) (OfReplay b n y) e h k = absurd (apart (codes "changes") (codes "replay") refl e)
+same_texts rows (OfChanges a x) (OfChanges b y) e h k = changes_unique rows a b x y h k
+same_texts rows (OfChanges a x) (OfFault b) e h k = absurd (apart (codes "changes") (codes "fault") refl e)
+same_texts rows (OfFault a) (OfOne u) e h k = absurd (apart (codes "fault") (codes "one") refl e)
+same_texts rows (OfFault a) (OfDecode b y) e h k = absurd (apart (codes "fault") (codes "decode") refl e)
+same_texts rows (OfFault a) (OfReplay b n y) e h k = absurd (apart (codes "fault") (codes "replay") refl e)
+same_texts rows (OfFault a) (OfChanges b y) e h k = absurd (apart (codes "fault") (codes "changes") refl e)
+same_texts rows (OfFault a) (OfFault b) e h k = ap OfFault (one_given _ a b h k)
 
-pub job_is_one : (s : Option (Text × List Row)) (j : Job) (t : OneTexts) → IsJob s j → HasOne s t → IsOne t j
-job_is_one s (One w) t h k = one_unique s (texts_of w) t h k
-job_is_one s (Decode w) t h k = one_or_decode s t w.now k h
-job_is_one s (Replay file workers show) t h k = one_or_replay s t file.now workers show k h
+pub unique : (s : Option (Text × List Row)) (a b : JobTexts) → HasTexts s a → HasTexts s b → a ≡ b
+unique s a b h k =
+    let both : Some (command_name a, h.0) ≡ Some (command_name b, k.0) = sym h.1 ∙ k.1 in
+    let same : (command_name a, h.0) ≡ (command_name b, k.0) = cc in
+    same_texts k.0 a b (ap (λ (m : Text × List Row). m.0) same) (subst (λ (r : List Row). HasJobWords r a) (ap (λ (m : Text × List Row). m.1) same) h.2) k.2
 
-pub job_is_decode : (s : Option (Text × List Row)) (j : Job) (hex : Text) → IsJob s j → HasDecode s hex → IsDecode hex j
-job_is_decode s (One w) hex h k = one_or_decode s (texts_of w) hex h k
-job_is_decode s (Decode w) hex h k = decode_unique s w.now hex h k
-job_is_decode s (Replay file workers show) hex h k = decode_or_replay s hex file.now workers show k h
-
-pub job_is_replay : (s : Option (Text × List Row)) (j : Job) (word : Text) (count : ℕ) (what : Show) → IsJob s j → HasReplay s word count what → IsReplay word count what j
-job_is_replay s (One w) word count what h k = one_or_replay s (texts_of w) word count what h k
-job_is_replay s (Decode w) word count what h k = decode_or_replay s w.now word count what h k
-job_is_replay s (Replay file workers show) word count what h k = replay_unique s file.now word workers count show what h k
-
-pub job_is_fit : (s : Option (Text × List Row)) (j : Job) → IsJob s j → IsFit j
+pub job_is_fit : (s : Option (Text × List Row)) (job : Job) → IsJob s job → IsFit job
 job_is_fit s (One w) h = tt
-job_is_fit s (Decode w) h = tt
+job_is_fit s (Decode word long) h = tt
 job_is_fit s (Replay file workers show) h = h.2.1.2.within
+job_is_fit s (Changes file only) h = tt
+job_is_fit s (Fault number) h = tt
+
+-- ---- a known line
+
+pub gives : (met : Option (Text × List Row)) (words line : List Text) (job : Job) (texts : JobTexts) → met ≡ subcommand_of program words → IsJob met job → words ≡ line
+    → HasTexts (subcommand_of program line) texts → job_texts job ≡ texts
+gives met words line job texts given is same has =
+    unique met (job_texts job) texts is (subst (λ (s : Option (Text × List Row)). HasTexts s texts) (sym (given ∙ ap (subcommand_of program) same)) has)
+
+pub has_job : (met : Option (Text × List Row)) (words line : List Text) (texts : JobTexts) → met ≡ subcommand_of program words → words ≡ line
+    → HasTexts (subcommand_of program line) texts → HasJob met
+has_job met words line texts given same has = (texts, subst (λ (s : Option (Text × List Row)). HasTexts s texts) (sym (given ∙ ap (subcommand_of program) same)) has)
 
 -- ---- where there is none
 

@@ -1,4 +1,4 @@
--- What the parse makes of `abr one` with five words, `abr decode` with one and `abr replay` with a file, and a number of workers, a name of what is shown or neither. The words do not begin with a hyphen; the file may be one.
+-- What the parse makes of each command line: `abr one` with five words, and the others with a first word and what may stand behind it. The words do not begin with a hyphen; a file may be one.
 use Rattle.std.proofs.Common.{ℕ, ◌≡◌, ◌∙◌, ◌==◌, ap, ap₂, subst, refl, arith, eqb-true, lit<, inl, inr, is_some, Bool, true, false, List, [], ◌∷◌, Option, Some, None, codes, map}
 use Rattle.std.specs.Prelude.{fold}
 use Rattle.std.specs.Str.Parse.{IsNumeral, without_leading_plus}
@@ -13,7 +13,7 @@ use Rattle.clap.proofs.KindLemmas.{value_kinds-ok}
 use Rattle.clap.proofs.OnLiterals.{clap_on_literals}
 use Rattle.recording.specs.declared.show.Show.{Show}
 use Rattle.recording.specs.declared.show.Show.TheVariants.{Routes, Due, Lsdb, Journal}
-use Rattle.command_line.specs.Command.{ArePlain, HasOne, HasDecode, HasReplay, HasReplayWords, HasWords, IsFileWord, IsPlainWord, OneTexts, one_command, decode_command, replay_command, one_line, decode_line, replay_line, show_line, show_name, show_names, workers_line, WritesWorkers, program, reference}
+use Rattle.command_line.specs.Command.{ArePlain, HasChangesWords, HasReplayWords, HasTexts, HasWords, IsFileWord, IsPlainWord, OfOne, OfDecode, OfReplay, OfChanges, OfFault, OneTexts, one_command, decode_command, replay_command, changes_command, fault_command, one_line, decode_line, long_line, replay_line, show_line, workers_line, changes_line, only_line, fault_line, show_name, show_names, WritesWorkers, program, reference}
 
 -- the walk goes on with the positional at its place
 abbrev on_positional : List Rule → Walk → Text → Walk
@@ -112,7 +112,7 @@ stop_is : (name : Text) (t : OneTexts)
 unfolding clap_on_literals
 stop_is name t = refl
 
-pub one_has : (name : Text) (t : OneTexts) → ArePlain t → HasOne (subcommand_of program (one_line name t)) t
+pub one_has : (name : Text) (t : OneTexts) → ArePlain t → HasTexts (subcommand_of program (one_line name t)) (OfOne t)
 one_has name t p = (
   rows t,
   ap (entered (built program)) (stop_is name t) ∙ ap (λ (r : List Row). Some (codes "one", r)) (rows_are t p),
@@ -152,53 +152,7 @@ sub_faultless t p = neither _ _ (sub_walks t p) (rw (walk_is t p) refl)
 pub one_faultless : (name : Text) (t : OneTexts) → ArePlain t → fault_of program (one_line name t) ≡ []
 one_faultless name t p = faultless (one_line name t) _ (stop_is name t) (sub_faultless t p) (top_faultless name t)
 
--- ---- the word of `decode`
-
-abbrev decode_sub : Shape
-decode_sub = built_leaf (inherited program.top decode_command.top)
-
-abbrev decode_walk : Text → Walk
-decode_walk hex = on_positional decode_sub.rules (at_rest nothing_held 1) hex
-
-decode_walk_is : (hex : Text) → IsPlainWord hex → walk decode_sub.rules [] nothing_held (hex ∷ []) ≡ decode_walk hex
-decode_walk_is hex p = plain_step decode_sub.rules nothing_held 1 hex p
-
-abbrev decode_rows : Text → List Row
-decode_rows hex = finished decode_sub.rules (decode_walk hex).held
-
-decode_rows_are : (hex : Text) → IsPlainWord hex → rows_after decode_sub.rules [] (hex ∷ []) ≡ decode_rows hex
-decode_rows_are hex p = ap (λ (w : Walk). finished decode_sub.rules w.held) (decode_walk_is hex p)
-
-decode_stop_is : (name hex : Text)
-    → stop_after (built program).top.rules (names_of (built program)) (argument_words program (decode_line name hex)) ≡ Some (codes "decode", hex ∷ [])
-unfolding clap_on_literals
-decode_stop_is name hex = refl
-
-pub decode_has : (name hex : Text) → IsPlainWord hex → HasDecode (subcommand_of program (decode_line name hex)) hex
-decode_has name hex p = (
-  decode_rows hex,
-  ap (entered (built program)) (decode_stop_is name hex) ∙ ap (λ (r : List Row). Some (codes "decode", r)) (decode_rows_are hex p),
-  refl,
-)
-
-decode_top_faultless : (name hex : Text) → level_fault (built program).top (names_of (built program)) nothing_held (argument_words program (decode_line name hex)) true [] ≡ []
-unfolding clap_on_literals
-decode_top_faultless name hex = refl
-
-decode_sub_walks : (hex : Text) → IsPlainWord hex → walk_fault decode_sub [] (walk_from nothing_held) (hex ∷ []) ≡ []
-unfolding walk_fault
-decode_sub_walks hex p =
-    faultless_cons decode_sub _ _ hex [] (plain_fault decode_sub nothing_held 1 hex p) (plain_step decode_sub.rules nothing_held 1 hex p) refl
-
-decode_sub_faultless : (hex : Text) → IsPlainWord hex → level_fault decode_sub [] nothing_held (hex ∷ []) false [] ≡ []
-unfolding clap_on_literals
-decode_sub_faultless hex p = neither _ _ (decode_sub_walks hex p) (rw (decode_walk_is hex p) refl)
-
-pub decode_faultless : (name hex : Text) → IsPlainWord hex → fault_of program (decode_line name hex) ≡ []
-decode_faultless name hex p =
-    faultless (decode_line name hex) _ (decode_stop_is name hex) (decode_sub_faultless hex p) (decode_top_faultless name hex)
-
--- ---- the words of `replay`
+-- ---- a command with a first word, which may be a file, and what follows it
 
 file_step : (c : List Rule) (h : Held) (position : ℕ) (word : Text) → IsFileWord word
     → walked c [] (at_rest h position) word ≡ on_positional c (at_rest h position) word
@@ -210,134 +164,6 @@ file_fault : (s : Shape) (h : Held) (position : ℕ) (word : Text) → IsFileWor
     → turn_fault s [] (at_rest h position) word ≡ step_fault s position h value
 file_fault s h position word (inl p) = plain_fault s h position word p
 file_fault s h position word (inr e) = rw e refl
-
-abbrev replay_sub : Shape
-replay_sub = built_leaf (inherited program.top (replay_command (reference (map reference show_names))).top)
-
-abbrev replay_walk : Text → Walk
-replay_walk file = on_positional replay_sub.rules (at_rest nothing_held 1) file
-
--- what follows the file
-abbrev walk_on : Text → List Text → Walk
-walk_on file rest = fold (walked replay_sub.rules []) (replay_walk file) rest
-
-walk_on_is : (file : Text) (rest : List Text) → IsFileWord file → walk replay_sub.rules [] nothing_held (file ∷ rest) ≡ walk_on file rest
-walk_on_is file rest p = ap (λ (w : Walk). fold (walked replay_sub.rules []) w rest) (file_step replay_sub.rules nothing_held 1 file p)
-
-abbrev replay_rows : Text → List Text → List Row
-replay_rows file rest = finished replay_sub.rules (walk_on file rest).held
-
-replay_rows_are : (file : Text) (rest : List Text) → IsFileWord file → rows_after replay_sub.rules [] (file ∷ rest) ≡ replay_rows file rest
-replay_rows_are file rest p = ap (λ (w : Walk). finished replay_sub.rules w.held) (walk_on_is file rest p)
-
--- the words that name what is shown
-abbrev show_words : Show → List Text
-show_words show = codes "--show" ∷ show_name show ∷ []
-
-replay_stop_is : (name file : Text)
-    → stop_after (built program).top.rules (names_of (built program)) (argument_words program (replay_line name file)) ≡ Some (codes "replay", file ∷ [])
-unfolding clap_on_literals
-replay_stop_is name file = refl
-
-show_stop_is : (name file : Text) (show : Show)
-    → stop_after (built program).top.rules (names_of (built program)) (argument_words program (show_line name file show)) ≡ Some (codes "replay", file ∷ show_words show)
-unfolding clap_on_literals
-show_stop_is name file show = refl
-
-file_kept : (file : Text) (show : Show) → first_of (codes "FILE") (replay_rows file (show_words show)) ≡ Some file
-unfolding clap_on_literals
-file_kept file Routes = refl
-file_kept file Due = refl
-file_kept file Lsdb = refl
-file_kept file Journal = refl
-
-show_kept : (file : Text) (show : Show) → first_of (codes "show") (replay_rows file (show_words show)) ≡ Some (show_name show)
-unfolding clap_on_literals
-show_kept file Routes = refl
-show_kept file Due = refl
-show_kept file Lsdb = refl
-show_kept file Journal = refl
-
-workers_kept : (file : Text) (show : Show) → first_of (codes "workers") (replay_rows file (show_words show)) ≡ Some (codes "1")
-unfolding clap_on_literals
-workers_kept file Routes = refl
-workers_kept file Due = refl
-workers_kept file Lsdb = refl
-workers_kept file Journal = refl
-
--- where no number was given
-one_worker : WritesWorkers (codes "1") 1
-one_worker = record { numeral = (lit< tt, (lit< tt, tt)); written = refl; within = (omega arith, omega arith) }
-
-pub replay_has : (name file : Text) → IsFileWord file → HasReplay (subcommand_of program (replay_line name file)) file 1 Routes
-replay_has name file p = (
-  replay_rows file [],
-  ap (entered (built program)) (replay_stop_is name file) ∙ ap (λ (r : List Row). Some (codes "replay", r)) (replay_rows_are file [] p),
-  (refl, (codes "1", refl, one_worker), refl),
-)
-
-pub show_has : (name file : Text) (show : Show) → IsFileWord file → HasReplay (subcommand_of program (show_line name file show)) file 1 show
-show_has name file show p = (
-  replay_rows file (show_words show),
-  ap (entered (built program)) (show_stop_is name file show) ∙ ap (λ (r : List Row). Some (codes "replay", r)) (replay_rows_are file (show_words show) p),
-  (file_kept file show, (codes "1", workers_kept file show, one_worker), show_kept file show),
-)
-
-replay_top_faultless : (name file : Text)
-    → level_fault (built program).top (names_of (built program)) nothing_held (argument_words program (replay_line name file)) true [] ≡ []
-unfolding clap_on_literals
-replay_top_faultless name file = refl
-
-show_top_faultless : (name file : Text) (show : Show)
-    → level_fault (built program).top (names_of (built program)) nothing_held (argument_words program (show_line name file show)) true [] ≡ []
-unfolding clap_on_literals
-show_top_faultless name file show = refl
-
--- what comes after the words
-abbrev end_fault : Walk → Kinds
-end_fault w =
-    or_else (settle_fault replay_sub.rules replay_sub.args_override_self w.held)
-    (or_else (defaults_fault (settled replay_sub.rules w.held).rows replay_sub.rules) (check_fault replay_sub (finished replay_sub.rules w.held) false))
-
-replay_sub_faultless : (file : Text) (rest : List Text) → IsFileWord file → walk_fault replay_sub [] (replay_walk file) rest ≡ [] → end_fault (walk_on file rest) ≡ []
-    → level_fault replay_sub [] nothing_held (file ∷ rest) false [] ≡ []
-replay_sub_faultless file rest p walks ends =
-    neither _ _
-    (faultless_cons replay_sub _ _ file rest (file_fault replay_sub nothing_held 1 file p) (file_step replay_sub.rules nothing_held 1 file p) walks)
-    (ap end_fault (walk_on_is file rest p) ∙ ends)
-
-replay_walks : (file : Text) → walk_fault replay_sub [] (replay_walk file) [] ≡ []
-unfolding clap_on_literals
-replay_walks file = refl
-
-replay_ends : (file : Text) → end_fault (walk_on file []) ≡ []
-unfolding clap_on_literals
-replay_ends file = refl
-
-show_walks : (file : Text) (show : Show) → walk_fault replay_sub [] (replay_walk file) (show_words show) ≡ []
-unfolding clap_on_literals
-show_walks file Routes = refl
-show_walks file Due = refl
-show_walks file Lsdb = refl
-show_walks file Journal = refl
-
-show_ends : (file : Text) (show : Show) → end_fault (walk_on file (show_words show)) ≡ []
-unfolding clap_on_literals
-show_ends file Routes = refl
-show_ends file Due = refl
-show_ends file Lsdb = refl
-show_ends file Journal = refl
-
-pub replay_faultless : (name file : Text) → IsFileWord file → fault_of program (replay_line name file) ≡ []
-replay_faultless name file p =
-    faultless (replay_line name file) _ (replay_stop_is name file) (replay_sub_faultless file [] p (replay_walks file) (replay_ends file)) (replay_top_faultless name file)
-
-pub show_faultless : (name file : Text) (show : Show) → IsFileWord file → fault_of program (show_line name file show) ≡ []
-show_faultless name file show p =
-    faultless (show_line name file show) _ (show_stop_is name file show)
-    (replay_sub_faultless file (show_words show) p (show_walks file show) (show_ends file show)) (show_top_faultless name file show)
-
--- ---- the number of workers
 
 -- an option waits for its value
 abbrev waiting_at : Held → ℕ → Text → Walk
@@ -365,37 +191,285 @@ option_fault s h position id (x ∷ xs) p = go (x == 45) refl
     go true e = let bad : strip_byte 45 (x ∷ xs) ≡ Some xs = rw e refl in cc
     go false e = let none : short_of (x ∷ xs) ≡ None = rw e refl in rw (e, none) refl
 
-abbrev workers_words : Text → List Text
-workers_words number = codes "--workers" ∷ number ∷ []
+module _ (s : Shape) where
+  abbrev first_walk : Text → Walk
+  first_walk word = on_positional s.rules (at_rest nothing_held 1) word
 
-abbrev held_waiting : Text → Held
-held_waiting file = record (settled replay_sub.rules (replay_walk file).held) { pending = Some (codes "workers", []) }
+  abbrev walk_on : Text → List Text → Walk
+  walk_on word rest = fold (walked s.rules []) (first_walk word) rest
 
-abbrev walk_waiting : Text → Walk
-walk_waiting file = waiting_at (held_waiting file) 2 (codes "workers")
+  walk_on_is : (word : Text) (rest : List Text) → IsFileWord word → walk s.rules [] nothing_held (word ∷ rest) ≡ walk_on word rest
+  walk_on_is word rest p = ap (λ (w : Walk). fold (walked s.rules []) w rest) (file_step s.rules nothing_held 1 word p)
 
-waits_is : (file : Text) → walked replay_sub.rules [] (replay_walk file) (codes "--workers") ≡ walk_waiting file
+  abbrev rows_on : Text → List Text → List Row
+  rows_on word rest = finished s.rules (walk_on word rest).held
+
+  rows_on_are : (word : Text) (rest : List Text) → IsFileWord word → rows_after s.rules [] (word ∷ rest) ≡ rows_on word rest
+  rows_on_are word rest p = ap (λ (w : Walk). finished s.rules w.held) (walk_on_is word rest p)
+
+  -- what comes after the words
+  abbrev end_fault : Walk → Kinds
+  end_fault w =
+      or_else (settle_fault s.rules s.args_override_self w.held)
+      (or_else (defaults_fault (settled s.rules w.held).rows s.rules) (check_fault s (finished s.rules w.held) false))
+
+  words_faultless : (word : Text) (rest : List Text) → step_fault s 1 nothing_held value ≡ [] → IsFileWord word → walk_fault s [] (first_walk word) rest ≡ [] → end_fault (walk_on word rest) ≡ []
+      → level_fault s [] nothing_held (word ∷ rest) false [] ≡ []
+  words_faultless word rest takes p walks ends =
+      neither _ _
+      (faultless_cons s (at_rest nothing_held 1) (first_walk word) word rest (file_fault s nothing_held 1 word p ∙ takes) (file_step s.rules nothing_held 1 word p) walks)
+      (ap end_fault (walk_on_is word rest p) ∙ ends)
+
+  -- an option, with its id, behind the first word
+  abbrev held_waiting : Text → Text → Held
+  held_waiting id word = record (settled s.rules (first_walk word).held) { pending = Some (id, []) }
+
+  abbrev walk_waiting : Text → Text → Walk
+  walk_waiting id word = waiting_at (held_waiting id word) 2 id
+
+  -- its value was given
+  abbrev walk_given : Text → Text → Text → Walk
+  walk_given id word given = at_rest (pushed id given (held_waiting id word)) 2
+
+  abbrev rows_given : Text → Text → Text → List Row
+  rows_given id word given = finished s.rules (walk_given id word given).held
+
+  module _ (id flag word given : Text) (waits : walked s.rules [] (first_walk word) flag ≡ walk_waiting id word)
+      (step : walked s.rules [] (walk_waiting id word) given ≡ walk_given id word given) where
+    walk_given_is : walk_on word (flag ∷ given ∷ []) ≡ walk_given id word given
+    walk_given_is = ap (λ (w : Walk). walked s.rules [] w given) waits ∙ step
+
+    rows_given_are : IsFileWord word → rows_after s.rules [] (word ∷ flag ∷ given ∷ []) ≡ rows_given id word given
+    rows_given_are p = rows_on_are word (flag ∷ given ∷ []) p ∙ ap (λ (w : Walk). finished s.rules w.held) walk_given_is
+
+    given_walks : IsPlainWord given → turn_fault s [] (first_walk word) flag ≡ [] → walk_fault s [] (first_walk word) (flag ∷ given ∷ []) ≡ []
+    unfolding walk_fault
+    given_walks p none =
+        faultless_cons s _ _ flag (given ∷ []) none waits
+        (faultless_cons s _ _ given [] (option_fault s (held_waiting id word) 2 id given p) step refl)
+
+    given_faultless : step_fault s 1 nothing_held value ≡ [] → IsFileWord word → IsPlainWord given → turn_fault s [] (first_walk word) flag ≡ [] → end_fault (walk_given id word given) ≡ []
+        → level_fault s [] nothing_held (word ∷ flag ∷ given ∷ []) false [] ≡ []
+    given_faultless takes file p none ends = words_faultless word (flag ∷ given ∷ []) takes file (given_walks p none) (ap end_fault walk_given_is ∙ ends)
+
+-- ---- the word of `decode`, and `--long`
+
+abbrev decode_sub : Shape
+decode_sub = built_leaf (inherited program.top decode_command.top)
+
+decode_stop_is : (name hex : Text)
+    → stop_after (built program).top.rules (names_of (built program)) (argument_words program (decode_line name hex)) ≡ Some (codes "decode", hex ∷ [])
+unfolding clap_on_literals
+decode_stop_is name hex = refl
+
+long_stop_is : (name hex : Text)
+    → stop_after (built program).top.rules (names_of (built program)) (argument_words program (long_line name hex)) ≡ Some (codes "decode", hex ∷ codes "--long" ∷ [])
+unfolding clap_on_literals
+long_stop_is name hex = refl
+
+hex_kept : (hex : Text) → first_of (codes "HEX") (rows_on decode_sub hex (codes "--long" ∷ [])) ≡ Some hex
+unfolding clap_on_literals
+hex_kept hex = refl
+
+long_kept : (hex : Text) → first_of (codes "long") (rows_on decode_sub hex (codes "--long" ∷ [])) ≡ Some (codes "true")
+unfolding clap_on_literals
+long_kept hex = refl
+
+pub decode_has : (name hex : Text) → IsPlainWord hex → HasTexts (subcommand_of program (decode_line name hex)) (OfDecode hex false)
+decode_has name hex p = (
+  rows_on decode_sub hex [],
+  ap (entered (built program)) (decode_stop_is name hex) ∙ ap (λ (r : List Row). Some (codes "decode", r)) (rows_on_are decode_sub hex [] (inl p)),
+  (refl, (codes "false", refl, refl)),
+)
+
+pub long_has : (name hex : Text) → IsPlainWord hex → HasTexts (subcommand_of program (long_line name hex)) (OfDecode hex true)
+long_has name hex p = (
+  rows_on decode_sub hex (codes "--long" ∷ []),
+  ap (entered (built program)) (long_stop_is name hex) ∙ ap (λ (r : List Row). Some (codes "decode", r)) (rows_on_are decode_sub hex (codes "--long" ∷ []) (inl p)),
+  (hex_kept hex, (codes "true", long_kept hex, refl)),
+)
+
+decode_top_faultless : (name hex : Text) → level_fault (built program).top (names_of (built program)) nothing_held (argument_words program (decode_line name hex)) true [] ≡ []
+unfolding clap_on_literals
+decode_top_faultless name hex = refl
+
+long_top_faultless : (name hex : Text) → level_fault (built program).top (names_of (built program)) nothing_held (argument_words program (long_line name hex)) true [] ≡ []
+unfolding clap_on_literals
+long_top_faultless name hex = refl
+
+decode_walks : (hex : Text) → walk_fault decode_sub [] (first_walk decode_sub hex) [] ≡ []
+unfolding clap_on_literals
+decode_walks hex = refl
+
+decode_ends : (hex : Text) → end_fault decode_sub (walk_on decode_sub hex []) ≡ []
+unfolding clap_on_literals
+decode_ends hex = refl
+
+long_walks : (hex : Text) → walk_fault decode_sub [] (first_walk decode_sub hex) (codes "--long" ∷ []) ≡ []
+unfolding clap_on_literals
+long_walks hex = refl
+
+long_ends : (hex : Text) → end_fault decode_sub (walk_on decode_sub hex (codes "--long" ∷ [])) ≡ []
+unfolding clap_on_literals
+long_ends hex = refl
+
+pub decode_faultless : (name hex : Text) → IsPlainWord hex → fault_of program (decode_line name hex) ≡ []
+decode_faultless name hex p =
+    faultless (decode_line name hex) _ (decode_stop_is name hex)
+    (words_faultless decode_sub hex [] refl (inl p) (decode_walks hex) (decode_ends hex)) (decode_top_faultless name hex)
+
+pub long_faultless : (name hex : Text) → IsPlainWord hex → fault_of program (long_line name hex) ≡ []
+long_faultless name hex p =
+    faultless (long_line name hex) _ (long_stop_is name hex)
+    (words_faultless decode_sub hex (codes "--long" ∷ []) refl (inl p) (long_walks hex) (long_ends hex)) (long_top_faultless name hex)
+
+-- ---- the word of `fault`
+
+abbrev fault_sub : Shape
+fault_sub = built_leaf (inherited program.top fault_command.top)
+
+fault_stop_is : (name number : Text)
+    → stop_after (built program).top.rules (names_of (built program)) (argument_words program (fault_line name number)) ≡ Some (codes "fault", number ∷ [])
+unfolding clap_on_literals
+fault_stop_is name number = refl
+
+pub fault_has : (name number : Text) → IsPlainWord number → HasTexts (subcommand_of program (fault_line name number)) (OfFault number)
+fault_has name number p = (
+  rows_on fault_sub number [],
+  ap (entered (built program)) (fault_stop_is name number) ∙ ap (λ (r : List Row). Some (codes "fault", r)) (rows_on_are fault_sub number [] (inl p)),
+  refl,
+)
+
+fault_top_faultless : (name number : Text) → level_fault (built program).top (names_of (built program)) nothing_held (argument_words program (fault_line name number)) true [] ≡ []
+unfolding clap_on_literals
+fault_top_faultless name number = refl
+
+fault_walks : (number : Text) → walk_fault fault_sub [] (first_walk fault_sub number) [] ≡ []
+unfolding clap_on_literals
+fault_walks number = refl
+
+fault_ends : (number : Text) → end_fault fault_sub (walk_on fault_sub number []) ≡ []
+unfolding clap_on_literals
+fault_ends number = refl
+
+pub fault_faultless : (name number : Text) → IsPlainWord number → fault_of program (fault_line name number) ≡ []
+fault_faultless name number p =
+    faultless (fault_line name number) _ (fault_stop_is name number)
+    (words_faultless fault_sub number [] refl (inl p) (fault_walks number) (fault_ends number)) (fault_top_faultless name number)
+
+-- ---- the words of `replay`, with a name of what is shown or without
+
+abbrev replay_sub : Shape
+replay_sub = built_leaf (inherited program.top (replay_command (reference (map reference show_names))).top)
+
+-- the words that name what is shown
+abbrev show_words : Show → List Text
+show_words show = codes "--show" ∷ show_name show ∷ []
+
+replay_stop_is : (name file : Text)
+    → stop_after (built program).top.rules (names_of (built program)) (argument_words program (replay_line name file)) ≡ Some (codes "replay", file ∷ [])
+unfolding clap_on_literals
+replay_stop_is name file = refl
+
+show_stop_is : (name file : Text) (show : Show)
+    → stop_after (built program).top.rules (names_of (built program)) (argument_words program (show_line name file show)) ≡ Some (codes "replay", file ∷ show_words show)
+unfolding clap_on_literals
+show_stop_is name file show = refl
+
+file_kept : (file : Text) (show : Show) → first_of (codes "FILE") (rows_on replay_sub file (show_words show)) ≡ Some file
+unfolding clap_on_literals
+file_kept file Routes = refl
+file_kept file Due = refl
+file_kept file Lsdb = refl
+file_kept file Journal = refl
+
+show_kept : (file : Text) (show : Show) → first_of (codes "show") (rows_on replay_sub file (show_words show)) ≡ Some (show_name show)
+unfolding clap_on_literals
+show_kept file Routes = refl
+show_kept file Due = refl
+show_kept file Lsdb = refl
+show_kept file Journal = refl
+
+workers_kept : (file : Text) (show : Show) → first_of (codes "workers") (rows_on replay_sub file (show_words show)) ≡ Some (codes "1")
+unfolding clap_on_literals
+workers_kept file Routes = refl
+workers_kept file Due = refl
+workers_kept file Lsdb = refl
+workers_kept file Journal = refl
+
+-- where no number was given
+one_worker : WritesWorkers (codes "1") 1
+one_worker = record { numeral = (lit< tt, (lit< tt, tt)); written = refl; within = (omega arith, omega arith) }
+
+pub replay_has : (name file : Text) → IsFileWord file → HasTexts (subcommand_of program (replay_line name file)) (OfReplay file 1 Routes)
+replay_has name file p = (
+  rows_on replay_sub file [],
+  ap (entered (built program)) (replay_stop_is name file) ∙ ap (λ (r : List Row). Some (codes "replay", r)) (rows_on_are replay_sub file [] p),
+  (refl, (codes "1", refl, one_worker), refl),
+)
+
+pub show_has : (name file : Text) (show : Show) → IsFileWord file → HasTexts (subcommand_of program (show_line name file show)) (OfReplay file 1 show)
+show_has name file show p = (
+  rows_on replay_sub file (show_words show),
+  ap (entered (built program)) (show_stop_is name file show) ∙ ap (λ (r : List Row). Some (codes "replay", r)) (rows_on_are replay_sub file (show_words show) p),
+  (file_kept file show, (codes "1", workers_kept file show, one_worker), show_kept file show),
+)
+
+replay_top_faultless : (name file : Text)
+    → level_fault (built program).top (names_of (built program)) nothing_held (argument_words program (replay_line name file)) true [] ≡ []
+unfolding clap_on_literals
+replay_top_faultless name file = refl
+
+show_top_faultless : (name file : Text) (show : Show)
+    → level_fault (built program).top (names_of (built program)) nothing_held (argument_words program (show_line name file show)) true [] ≡ []
+unfolding clap_on_literals
+show_top_faultless name file show = refl
+
+replay_walks : (file : Text) → walk_fault replay_sub [] (first_walk replay_sub file) [] ≡ []
+unfolding clap_on_literals
+replay_walks file = refl
+
+replay_ends : (file : Text) → end_fault replay_sub (walk_on replay_sub file []) ≡ []
+unfolding clap_on_literals
+replay_ends file = refl
+
+show_walks : (file : Text) (show : Show) → walk_fault replay_sub [] (first_walk replay_sub file) (show_words show) ≡ []
+unfolding clap_on_literals
+show_walks file Routes = refl
+show_walks file Due = refl
+show_walks file Lsdb = refl
+show_walks file Journal = refl
+
+show_ends : (file : Text) (show : Show) → end_fault replay_sub (walk_on replay_sub file (show_words show)) ≡ []
+unfolding clap_on_literals
+show_ends file Routes = refl
+show_ends file Due = refl
+show_ends file Lsdb = refl
+show_ends file Journal = refl
+
+pub replay_faultless : (name file : Text) → IsFileWord file → fault_of program (replay_line name file) ≡ []
+replay_faultless name file p =
+    faultless (replay_line name file) _ (replay_stop_is name file)
+    (words_faultless replay_sub file [] refl p (replay_walks file) (replay_ends file)) (replay_top_faultless name file)
+
+pub show_faultless : (name file : Text) (show : Show) → IsFileWord file → fault_of program (show_line name file show) ≡ []
+show_faultless name file show p =
+    faultless (show_line name file show) _ (show_stop_is name file show)
+    (words_faultless replay_sub file (show_words show) refl p (show_walks file show) (show_ends file show)) (show_top_faultless name file show)
+
+-- ---- the words of `replay`, with a number of workers
+
+waits_is : (file : Text) → walked replay_sub.rules [] (first_walk replay_sub file) (codes "--workers") ≡ walk_waiting replay_sub (codes "workers") file
 unfolding clap_on_literals
 waits_is file = refl
 
--- the value was given
-abbrev walk_given : Text → Text → Walk
-walk_given file number = at_rest (pushed (codes "workers") number (held_waiting file)) 2
-
-number_step : (file number : Text) → IsPlainWord number → walked replay_sub.rules [] (walk_waiting file) number ≡ walk_given file number
-number_step file number p = option_step replay_sub.rules (held_waiting file) 2 (codes "workers") number p
-
-walk_given_is : (file number : Text) → IsPlainWord number → walk_on file (workers_words number) ≡ walk_given file number
-walk_given_is file number p = ap (λ (w : Walk). walked replay_sub.rules [] w number) (waits_is file) ∙ number_step file number p
-
-abbrev rows_given : Text → Text → List Row
-rows_given file number = finished replay_sub.rules (walk_given file number).held
-
-rows_given_are : (file number : Text) → IsFileWord file → IsPlainWord number → rows_after replay_sub.rules [] (file ∷ workers_words number) ≡ rows_given file number
-rows_given_are file number p q = replay_rows_are file (workers_words number) p ∙ ap (λ (w : Walk). finished replay_sub.rules w.held) (walk_given_is file number q)
+number_step : (file number : Text) → IsPlainWord number
+    → walked replay_sub.rules [] (walk_waiting replay_sub (codes "workers") file) number ≡ walk_given replay_sub (codes "workers") file number
+number_step file number p = option_step replay_sub.rules (held_waiting replay_sub (codes "workers") file) 2 (codes "workers") number p
 
 workers_stop_is : (name file number : Text)
-    → stop_after (built program).top.rules (names_of (built program)) (argument_words program (workers_line name file number)) ≡ Some (codes "replay", file ∷ workers_words number)
+    → stop_after (built program).top.rules (names_of (built program)) (argument_words program (workers_line name file number))
+    ≡ Some (codes "replay", file ∷ codes "--workers" ∷ number ∷ [])
 unfolding clap_on_literals
 workers_stop_is name file number = refl
 
@@ -410,16 +484,17 @@ plain_number (x ∷ xs) h = go (x == 45) refl
         let digits : IsNumeral 10 (45 ∷ xs) = subst (λ (y : ℕ). IsNumeral 10 (without_leading_plus (y ∷ xs))) (eqb-true x 45 e) h in
         let less = digits.1.0 in absurd (omega arith)
 
-rows_given_have : (file number : Text) (count : ℕ) → WritesWorkers number count → HasReplayWords (rows_given file number) file count Routes
-rows_given_have file number count writes = (refl, (number, refl, writes), refl)
+number_kept : (file number : Text) (count : ℕ) → WritesWorkers number count → HasReplayWords (rows_given replay_sub (codes "workers") file number) file count Routes
+number_kept file number count writes = (refl, (number, refl, writes), refl)
 
 pub workers_has : (name file number : Text) (count : ℕ) → IsFileWord file → WritesWorkers number count
-    → HasReplay (subcommand_of program (workers_line name file number)) file count Routes
+    → HasTexts (subcommand_of program (workers_line name file number)) (OfReplay file count Routes)
 workers_has name file number count p writes = (
-  rows_given file number,
+  rows_given replay_sub (codes "workers") file number,
   ap (entered (built program)) (workers_stop_is name file number)
-      ∙ ap (λ (r : List Row). Some (codes "replay", r)) (rows_given_are file number p (plain_number number writes.numeral)),
-  rows_given_have file number count writes,
+      ∙ ap (λ (r : List Row). Some (codes "replay", r))
+      (rows_given_are replay_sub (codes "workers") (codes "--workers") file number (waits_is file) (number_step file number (plain_number number writes.numeral)) p),
+  number_kept file number count writes,
 )
 
 workers_top_faultless : (name file number : Text)
@@ -427,22 +502,16 @@ workers_top_faultless : (name file number : Text)
 unfolding clap_on_literals
 workers_top_faultless name file number = refl
 
-waits_fault : (file : Text) → turn_fault replay_sub [] (replay_walk file) (codes "--workers") ≡ []
+waits_fault : (file : Text) → turn_fault replay_sub [] (first_walk replay_sub file) (codes "--workers") ≡ []
 unfolding clap_on_literals
 waits_fault file = refl
-
-workers_walks : (file number : Text) → IsPlainWord number → walk_fault replay_sub [] (replay_walk file) (workers_words number) ≡ []
-unfolding walk_fault
-workers_walks file number p =
-    faultless_cons replay_sub _ _ (codes "--workers") (number ∷ []) (waits_fault file) (waits_is file)
-    (faultless_cons replay_sub _ _ number [] (option_fault replay_sub (held_waiting file) 2 (codes "workers") number p) (number_step file number p) refl)
 
 accepted : (number : Text) (count : ℕ) → WritesWorkers number count → value_kinds false (Unsigned 1 16) number ≡ []
 accepted number count h =
     let same = h.written in
     value_kinds-ok false (Unsigned 1 16) number (h.numeral, omega (arith, h.within), omega (arith, h.within), omega (arith, h.within))
 
-workers_ends : (file number : Text) → value_kinds false (Unsigned 1 16) number ≡ [] → end_fault (walk_given file number) ≡ []
+workers_ends : (file number : Text) → value_kinds false (Unsigned 1 16) number ≡ [] → end_fault replay_sub (walk_given replay_sub (codes "workers") file number) ≡ []
 unfolding clap_on_literals
 workers_ends file number ok = ap (λ (k : Kinds). or_else (or_else k []) []) ok
 
@@ -450,5 +519,87 @@ pub workers_faultless : (name file number : Text) (count : ℕ) → IsFileWord f
 workers_faultless name file number count p writes =
     let q = plain_number number writes.numeral in
     faultless (workers_line name file number) _ (workers_stop_is name file number)
-    (replay_sub_faultless file (workers_words number) p (workers_walks file number q) (ap end_fault (walk_given_is file number q) ∙ workers_ends file number (accepted number count writes)))
+    (given_faultless replay_sub (codes "workers") (codes "--workers") file number (waits_is file) (number_step file number q) refl p q (waits_fault file)
+    (workers_ends file number (accepted number count writes)))
     (workers_top_faultless name file number)
+
+-- ---- the words of `changes`, with a network or without
+
+abbrev changes_sub : Shape
+changes_sub = built_leaf (inherited program.top changes_command.top)
+
+changes_stop_is : (name file : Text)
+    → stop_after (built program).top.rules (names_of (built program)) (argument_words program (changes_line name file)) ≡ Some (codes "changes", file ∷ [])
+unfolding clap_on_literals
+changes_stop_is name file = refl
+
+only_stop_is : (name file prefix : Text)
+    → stop_after (built program).top.rules (names_of (built program)) (argument_words program (only_line name file prefix))
+    ≡ Some (codes "changes", file ∷ codes "--only" ∷ prefix ∷ [])
+unfolding clap_on_literals
+only_stop_is name file prefix = refl
+
+only_waits_is : (file : Text) → walked changes_sub.rules [] (first_walk changes_sub file) (codes "--only") ≡ walk_waiting changes_sub (codes "only") file
+unfolding clap_on_literals
+only_waits_is file = refl
+
+prefix_step : (file prefix : Text) → IsPlainWord prefix
+    → walked changes_sub.rules [] (walk_waiting changes_sub (codes "only") file) prefix ≡ walk_given changes_sub (codes "only") file prefix
+prefix_step file prefix p = option_step changes_sub.rules (held_waiting changes_sub (codes "only") file) 2 (codes "only") prefix p
+
+prefix_kept : (file prefix : Text) → HasChangesWords (rows_given changes_sub (codes "only") file prefix) file (Some prefix)
+prefix_kept file prefix = (refl, refl)
+
+pub changes_has : (name file : Text) → IsFileWord file → HasTexts (subcommand_of program (changes_line name file)) (OfChanges file None)
+changes_has name file p = (
+  rows_on changes_sub file [],
+  ap (entered (built program)) (changes_stop_is name file) ∙ ap (λ (r : List Row). Some (codes "changes", r)) (rows_on_are changes_sub file [] p),
+  (refl, refl),
+)
+
+pub only_has : (name file prefix : Text) → IsFileWord file → IsPlainWord prefix → HasTexts (subcommand_of program (only_line name file prefix)) (OfChanges file (Some prefix))
+only_has name file prefix p q = (
+  rows_given changes_sub (codes "only") file prefix,
+  ap (entered (built program)) (only_stop_is name file prefix)
+      ∙ ap (λ (r : List Row). Some (codes "changes", r))
+      (rows_given_are changes_sub (codes "only") (codes "--only") file prefix (only_waits_is file) (prefix_step file prefix q) p),
+  prefix_kept file prefix,
+)
+
+changes_top_faultless : (name file : Text)
+    → level_fault (built program).top (names_of (built program)) nothing_held (argument_words program (changes_line name file)) true [] ≡ []
+unfolding clap_on_literals
+changes_top_faultless name file = refl
+
+only_top_faultless : (name file prefix : Text)
+    → level_fault (built program).top (names_of (built program)) nothing_held (argument_words program (only_line name file prefix)) true [] ≡ []
+unfolding clap_on_literals
+only_top_faultless name file prefix = refl
+
+changes_walks : (file : Text) → walk_fault changes_sub [] (first_walk changes_sub file) [] ≡ []
+unfolding clap_on_literals
+changes_walks file = refl
+
+changes_ends : (file : Text) → end_fault changes_sub (walk_on changes_sub file []) ≡ []
+unfolding clap_on_literals
+changes_ends file = refl
+
+only_waits_fault : (file : Text) → turn_fault changes_sub [] (first_walk changes_sub file) (codes "--only") ≡ []
+unfolding clap_on_literals
+only_waits_fault file = refl
+
+only_ends : (file prefix : Text) → end_fault changes_sub (walk_given changes_sub (codes "only") file prefix) ≡ []
+unfolding clap_on_literals
+only_ends file prefix = refl
+
+pub changes_faultless : (name file : Text) → IsFileWord file → fault_of program (changes_line name file) ≡ []
+changes_faultless name file p =
+    faultless (changes_line name file) _ (changes_stop_is name file)
+    (words_faultless changes_sub file [] refl p (changes_walks file) (changes_ends file)) (changes_top_faultless name file)
+
+pub only_faultless : (name file prefix : Text) → IsFileWord file → IsPlainWord prefix → fault_of program (only_line name file prefix) ≡ []
+only_faultless name file prefix p q =
+    faultless (only_line name file prefix) _ (only_stop_is name file prefix)
+    (given_faultless changes_sub (codes "only") (codes "--only") file prefix (only_waits_is file) (prefix_step file prefix q) refl p q (only_waits_fault file)
+    (only_ends file prefix))
+    (only_top_faultless name file prefix)

@@ -1,5 +1,5 @@
 -- What the getters of matches say, in rows.
-use Rattle.std.proofs.Common.{ℕ, true, arith, lit<, slice_index, ◌<◌, ◌≡◌, ◌∙◌, sym, ap, subst, refl, inl, inr, List, Option, Some, None, codes, option_map}
+use Rattle.std.proofs.Common.{ℕ, Bool, true, false, ◌≡◌, ◌∙◌, sym, ap, subst, refl, List, Option, Some, None, codes, option_map}
 use Rattle.std.specs.Prelude.{Box}
 use Rattle.std.specs.Box.{box_value}
 use Rattle.std.specs.Borrow.{Bor}
@@ -11,9 +11,8 @@ use Rattle.clap.specs.declared.parser.matches.SubCommand.{SubCommand}
 use Rattle.clap.specs.declared.parser.matches.ArgMatches.TheViews.{out-SubCommand}
 use Rattle.clap.proofs.WalkLemmas.{first_value-rows}
 use Rattle.recording.specs.declared.show.Show.{Show}
-use Rattle.command_line.specs.Command.{OneTexts, HasJob, HasReplayWords, HasWords, IsJob, IsReplayOf}
+use Rattle.command_line.specs.Command.{OneTexts, HasChangesWords, HasDecodeWords, HasJob, HasJobWords, HasReplayWords, HasWords, IsJob, IsJobOf, JobTexts, OfOne, OfDecode, OfReplay, OfChanges, OfFault, command_name}
 use Rattle.command_line.specs.declared.command.Job.{Job}
-use Rattle.command_line.specs.declared.command.Job.TheVariants.{One, Decode, Replay}
 
 pub same_text : (xs ys : List ℕ) → bytes_eq xs ys ≡ true → xs ≡ ys
 same_text xs ys e = (bytes_eq-Decides xs ys).0 e
@@ -46,55 +45,70 @@ pub not_met : (s : Option (Text × List Row)) → None ≡ option_map (λ p. p.1
 not_met None e = refl
 not_met (Some p) e = cc
 
-same_name : (s : Option (Text × List Row)) (name other : Text) (rows : List Row) → Some name ≡ option_map (λ p. p.0) s → s ≡ Some (other, rows) → name ≡ other
-same_name s name other rows e met =
-    let same : Some name ≡ Some other = e ∙ ap (option_map (λ (p : Text × List Row). p.0)) met in
-    cc
+-- the names of two commands
+pub apart : (a b : Text) → bytes_eq a b ≡ false → a ≡ b → ⊥
+apart a b differ e = let same : bytes_eq a b ≡ true = (bytes_eq-Decides a b).1 e in cc
 
-same_rows : (s : Option (Text × List Row)) (given rows : List Row) (name : Text) → Some given ≡ option_map (λ p. p.1) s → s ≡ Some (name, rows) → rows ≡ given
-same_rows s given rows name e met =
-    let same : Some given ≡ Some rows = e ∙ ap (option_map (λ (p : Text × List Row). p.1)) met in
-    cc
+-- ---- where there is no job
 
-abbrev NoOne : List Row → Type 0
-NoOne rows = (t : OneTexts) → HasWords rows t → ⊥
+-- none of the jobs of the command has its words
+abbrev NoJobOf : Text → List Row → Type 0
+NoJobOf name rows = (texts : JobTexts) → command_name texts ≡ name → HasJobWords rows texts → ⊥
 
-abbrev NoDecode : List Row → Type 0
-NoDecode rows = (hex : Text) → first_of (codes "HEX") rows ≡ Some hex → ⊥
-
-abbrev NoReplay : List Row → Type 0
-NoReplay rows = (file : Text) (workers : ℕ) (show : Show) → HasReplayWords rows file workers show → ⊥
-
--- a command that was met without some of its words is no job
-pub no_job : (s : Option (Text × List Row)) (name : Text) (rows : List Row) → Some name ≡ option_map (λ p. p.0) s → Some rows ≡ option_map (λ p. p.1) s
-    → (name ≡ codes "one" → NoOne rows) → (name ≡ codes "decode" → NoDecode rows) → (name ≡ codes "replay" → NoReplay rows) → HasJob s → ⊥
-no_job s name rows named given one decode replay (inl h) =
+-- a command that was met without its words is no job
+pub no_job : (s : Option (Text × List Row)) (name : Text) (rows : List Row) → s ≡ Some (name, rows) → NoJobOf name rows → HasJob s → ⊥
+no_job s name rows met none h =
     let words = h.1 in
-    one (same_name s name _ words.0 named words.1) h.0 (subst (λ (x : List Row). HasWords x h.0) (same_rows s rows words.0 _ given words.1) words.2)
-no_job s name rows named given one decode replay (inr (inl h)) =
-    let words = h.1 in
-    decode (same_name s name _ words.0 named words.1) h.0 (subst (λ (x : List Row). first_of (codes "HEX") x ≡ Some h.0) (same_rows s rows words.0 _ given words.1) words.2)
-no_job s name rows named given one decode replay (inr (inr h)) =
-    let words = h.3 in
-    let same : words.0 ≡ rows = same_rows s rows words.0 _ given words.1 in
-    replay (same_name s name _ words.0 named words.1) h.0 h.1 h.2 (subst (λ (x : List Row). HasReplayWords x h.0 h.1 h.2) same words.2)
+    let both : Some (name, rows) ≡ Some (command_name h.0, words.0) = sym met ∙ words.1 in
+    let same : (name, rows) ≡ (command_name h.0, words.0) = cc in
+    none h.0 (sym (ap (λ (m : Text × List Row). m.0) same))
+    (subst (λ (r : List Row). HasJobWords r h.0) (sym (ap (λ (m : Text × List Row). m.1) same)) words.2)
 
--- a job that has the words of a replay, where `replay` was met
-pub replay_met : (s : Option (Text × List Row)) (rows : List Row) (j : Job) → s ≡ Some (codes "replay", rows) → IsReplayOf rows j → IsJob s j
-replay_met s rows (One w) e h = absurd h
-replay_met s rows (Decode hex) e h = absurd h
-replay_met s rows (Replay file workers show) e h = (rows, e, h)
+-- the name is none of a command
+pub no_command : (name : Text) (rows : List Row) → (name ≡ codes "one" → ⊥) → (name ≡ codes "decode" → ⊥) → (name ≡ codes "replay" → ⊥) → (name ≡ codes "changes" → ⊥) → (name ≡ codes "fault" → ⊥) → NoJobOf name rows
+no_command name rows one decode replay changes fault (OfOne t) e h = one (sym e)
+no_command name rows one decode replay changes fault (OfDecode hex long) e h = decode (sym e)
+no_command name rows one decode replay changes fault (OfReplay file workers show) e h = replay (sym e)
+no_command name rows one decode replay changes fault (OfChanges file only) e h = changes (sym e)
+no_command name rows one decode replay changes fault (OfFault number) e h = fault (sym e)
 
-pub first_differs : (name other next : Text) → slice_index other 0 < slice_index next 0 → name ≡ other → name ≡ next → ⊥
-first_differs name other next less e f =
-    let same : slice_index other 0 ≡ slice_index next 0 = ap (λ (t : Text). slice_index t 0) (sym e ∙ f) in
-    absurd (omega arith)
+pub no_one : (name : Text) (rows : List Row) → name ≡ codes "one" → ((t : OneTexts) → HasWords rows t → ⊥) → NoJobOf name rows
+no_one name rows is none (OfOne t) e h = none t h
+no_one name rows is none (OfDecode hex long) e h = apart (codes "decode") (codes "one") refl (e ∙ is)
+no_one name rows is none (OfReplay file workers show) e h = apart (codes "replay") (codes "one") refl (e ∙ is)
+no_one name rows is none (OfChanges file only) e h = apart (codes "changes") (codes "one") refl (e ∙ is)
+no_one name rows is none (OfFault number) e h = apart (codes "fault") (codes "one") refl (e ∙ is)
 
-pub one_is_no_decode : (name : Text) → name ≡ codes "one" → name ≡ codes "decode" → ⊥
-one_is_no_decode name e f = first_differs name (codes "decode") (codes "one") (lit< tt) f e
+pub no_decode : (name : Text) (rows : List Row) → name ≡ codes "decode" → ((hex : Text) (long : Bool) → HasDecodeWords rows hex long → ⊥) → NoJobOf name rows
+no_decode name rows is none (OfOne t) e h = apart (codes "one") (codes "decode") refl (e ∙ is)
+no_decode name rows is none (OfDecode hex long) e h = none hex long h
+no_decode name rows is none (OfReplay file workers show) e h = apart (codes "replay") (codes "decode") refl (e ∙ is)
+no_decode name rows is none (OfChanges file only) e h = apart (codes "changes") (codes "decode") refl (e ∙ is)
+no_decode name rows is none (OfFault number) e h = apart (codes "fault") (codes "decode") refl (e ∙ is)
 
-pub one_is_no_replay : (name : Text) → name ≡ codes "one" → name ≡ codes "replay" → ⊥
-one_is_no_replay name e f = first_differs name (codes "one") (codes "replay") (lit< tt) e f
+pub no_replay : (name : Text) (rows : List Row) → name ≡ codes "replay" → ((file : Text) (workers : ℕ) (show : Show) → HasReplayWords rows file workers show → ⊥) → NoJobOf name rows
+no_replay name rows is none (OfOne t) e h = apart (codes "one") (codes "replay") refl (e ∙ is)
+no_replay name rows is none (OfDecode hex long) e h = apart (codes "decode") (codes "replay") refl (e ∙ is)
+no_replay name rows is none (OfReplay file workers show) e h = none file workers show h
+no_replay name rows is none (OfChanges file only) e h = apart (codes "changes") (codes "replay") refl (e ∙ is)
+no_replay name rows is none (OfFault number) e h = apart (codes "fault") (codes "replay") refl (e ∙ is)
 
-pub decode_is_no_replay : (name : Text) → name ≡ codes "decode" → name ≡ codes "replay" → ⊥
-decode_is_no_replay name e f = first_differs name (codes "decode") (codes "replay") (lit< tt) e f
+pub no_changes : (name : Text) (rows : List Row) → name ≡ codes "changes" → ((file : Text) (only : Option Text) → HasChangesWords rows file only → ⊥) → NoJobOf name rows
+no_changes name rows is none (OfOne t) e h = apart (codes "one") (codes "changes") refl (e ∙ is)
+no_changes name rows is none (OfDecode hex long) e h = apart (codes "decode") (codes "changes") refl (e ∙ is)
+no_changes name rows is none (OfReplay file workers show) e h = apart (codes "replay") (codes "changes") refl (e ∙ is)
+no_changes name rows is none (OfChanges file only) e h = none file only h
+no_changes name rows is none (OfFault number) e h = apart (codes "fault") (codes "changes") refl (e ∙ is)
+
+pub no_fault : (name : Text) (rows : List Row) → name ≡ codes "fault" → ((number : Text) → first_of (codes "NUMBER") rows ≡ Some number → ⊥) → NoJobOf name rows
+no_fault name rows is none (OfOne t) e h = apart (codes "one") (codes "fault") refl (e ∙ is)
+no_fault name rows is none (OfDecode hex long) e h = apart (codes "decode") (codes "fault") refl (e ∙ is)
+no_fault name rows is none (OfReplay file workers show) e h = apart (codes "replay") (codes "fault") refl (e ∙ is)
+no_fault name rows is none (OfChanges file only) e h = apart (codes "changes") (codes "fault") refl (e ∙ is)
+no_fault name rows is none (OfFault number) e h = none number h
+
+-- ---- where there is one
+
+-- a job of the command that was met
+pub job_met : (s : Option (Text × List Row)) (name : Text) (rows : List Row) (job : Job) → s ≡ Some (name, rows) → IsJobOf name rows job → IsJob s job
+job_met s name rows job met is = (rows, met ∙ ap (λ (n : Text). Some (n, rows)) (sym is.0), is.1)

@@ -1,16 +1,18 @@
--- The command line: `abr one ROUTER AREA ADDRESS HEX LOOKUP`, `abr decode HEX` and `abr replay FILE [--workers N] [--show NAME]`.
-use Rattle.std.specs.Prelude.{ℕ, ◌≡◌, ◌⊎◌, ◌≤◌, true, List, [], ◌∷◌, Option, Some, None, Result, MatchResult, codes, map}
+-- The command line: `abr one ROUTER AREA ADDRESS HEX LOOKUP`, `abr decode HEX [--long]`, `abr replay FILE [--workers N] [--show NAME]`, `abr changes FILE [--only PREFIX]` and `abr fault NUMBER`.
+use Rattle.std.specs.Prelude.{ℕ, ◌≡◌, ◌⊎◌, ◌≤◌, Bool, true, false, List, [], ◌∷◌, Option, Some, None, Result, MatchResult, codes, map, option_map}
 use Rattle.std.specs.Borrow.{Bor}
+use Rattle.std.specs.Str.{bytes_eq}
 use Rattle.std.specs.Str.Parse.{IsNumeral, digits_value, without_leading_plus}
 use Rattle.clap.specs.Words.{App, Row, Rule, Text, IsAmong, fault_of, first_of, kind_of, new_app, new_rule, subcommand_of, with_rule, with_subcommand}
 use Rattle.clap.specs.Lexer.{strip_byte}
+use Rattle.clap.specs.declared.builder.action.ArgAction.TheVariants.{SetTrue}
 use Rattle.clap.specs.declared.builder.value_parser.ValueParser.TheVariants.{Names, Unsigned}
 use Rattle.clap.specs.declared.error.kind.ErrorKind.TheVariants.{MissingRequiredArgument}
 use Rattle.recording.specs.declared.show.Show.{Show}
 use Rattle.recording.specs.declared.show.Show.TheVariants.{Routes, Due, Lsdb, Journal}
 use Rattle.command_line.specs.declared.command.OneWords.{OneWords}
 use Rattle.command_line.specs.declared.command.Job.{Job}
-use Rattle.command_line.specs.declared.command.Job.TheVariants.{One, Decode, Replay}
+use Rattle.command_line.specs.declared.command.Job.TheVariants.{One, Decode, Replay, Changes, Fault}
 use Rattle.command_line.specs.declared.command.Usage.{Usage}
 use Rattle.command_line.specs.declared.command.Usage.TheVariants.{Told, Memory}
 
@@ -22,8 +24,22 @@ abbrev pub one_command : App
 one_command =
     with_rule (with_rule (with_rule (with_rule (with_rule (new_app (codes "one")) (required_word (codes "ROUTER"))) (required_word (codes "AREA"))) (required_word (codes "ADDRESS"))) (required_word (codes "HEX"))) (required_word (codes "LOOKUP"))
 
+-- the flag `--long`
+abbrev pub long_flag : Rule
+long_flag = record (new_rule (codes "long")) { long = Some (codes "long"); action = Some SetTrue }
+
 abbrev pub decode_command : App
-decode_command = with_rule (new_app (codes "decode")) (required_word (codes "HEX"))
+decode_command = with_rule (with_rule (new_app (codes "decode")) (required_word (codes "HEX"))) long_flag
+
+-- `--only PREFIX`
+abbrev pub only_option : Rule
+only_option = record (new_rule (codes "only")) { long = Some (codes "only"); value_names = 1 }
+
+abbrev pub changes_command : App
+changes_command = with_rule (with_rule (new_app (codes "changes")) (required_word (codes "FILE"))) only_option
+
+abbrev pub fault_command : App
+fault_command = with_rule (new_app (codes "fault")) (required_word (codes "NUMBER"))
 
 -- the name of what is shown
 abbrev pub show_name : Show → Text
@@ -79,7 +95,8 @@ abbrev pub program_with : References → App
 program_with names =
     let p = new_app (codes "abr") in
     let top = record p { top = record p.top { has_version = true; subcommand_required = true; arg_required_else_help = true } } in
-    with_subcommand (with_subcommand (with_subcommand top one_command.top) decode_command.top) (replay_command names).top
+    let first = with_subcommand (with_subcommand top one_command.top) decode_command.top in
+    with_subcommand (with_subcommand (with_subcommand first (replay_command names).top) changes_command.top) fault_command.top
 
 -- the program, wherever its references point
 abbrev pub IsProgram : App → Type 0
@@ -118,13 +135,13 @@ HasWords rows t = (first_of (codes "ROUTER") rows ≡ Some t.router)
     × (first_of (codes "HEX") rows ≡ Some t.lsa)
     × (first_of (codes "LOOKUP") rows ≡ Some t.lookup)
 
--- `one` was met, and these words were given for it
-abbrev pub HasOne : Option (Text × List Row) → OneTexts → Type 0
-HasOne met t = (rows : List Row) × (met ≡ Some (codes "one", rows)) × HasWords rows t
+-- the flag has a value, and it is set where this is `true`
+abbrev pub HasFlag : List Row → Text → Bool → Type 0
+HasFlag rows id is_set = (value : Text) × (first_of id rows ≡ Some value) × (bytes_eq value (codes "true") ≡ is_set)
 
--- `decode` was met, and this word was given for it
-abbrev pub HasDecode : Option (Text × List Row) → Text → Type 0
-HasDecode met hex = (rows : List Row) × (met ≡ Some (codes "decode", rows)) × (first_of (codes "HEX") rows ≡ Some hex)
+-- this LSA was given, and `--long` or not; if not, the matches have `false`
+abbrev pub HasDecodeWords : List Row → Text → Bool → Type 0
+HasDecodeWords rows hex long = (first_of (codes "HEX") rows ≡ Some hex) × HasFlag rows (codes "long") long
 
 -- there may be so many workers
 abbrev pub AreWorkers : ℕ → Type 0
@@ -142,31 +159,64 @@ HasReplayWords rows file workers show = (first_of (codes "FILE") rows ≡ Some f
     × ((word : Text) × (first_of (codes "workers") rows ≡ Some word) × WritesWorkers word workers)
     × (first_of (codes "show") rows ≡ Some (show_name show))
 
--- `replay` was met, and these were given for it
-abbrev pub HasReplay : Option (Text × List Row) → Text → ℕ → Show → Type 0
-HasReplay met file workers show = (rows : List Row) × (met ≡ Some (codes "replay", rows)) × HasReplayWords rows file workers show
+-- this file was given, and this network or none
+abbrev pub HasChangesWords : List Row → Text → Option Text → Type 0
+HasChangesWords rows file only = (first_of (codes "FILE") rows ≡ Some file) × (first_of (codes "only") rows ≡ only)
 
--- the job is a replay with the words that were given
-abbrev pub IsReplayOf : List Row → Job → Type 0
-IsReplayOf rows (One w) = ⊥
-IsReplayOf rows (Decode hex) = ⊥
-IsReplayOf rows (Replay file workers show) = HasReplayWords rows file.now workers show
+-- a job, with the texts of its words
+pub data JobTexts : Type 0 where
+  OfOne : (texts : OneTexts) → JobTexts
+  OfDecode : (hex : Text) (long : Bool) → JobTexts
+  OfReplay : (file : Text) (workers : ℕ) (show : Show) → JobTexts
+  OfChanges : (file : Text) (only : Option Text) → JobTexts
+  OfFault : (number : Text) → JobTexts
+
+abbrev pub job_texts : Job → JobTexts
+job_texts (One w) = OfOne (texts_of w)
+job_texts (Decode word long) = OfDecode word.now long
+job_texts (Replay file workers show) = OfReplay file.now workers show
+job_texts (Changes file only) = OfChanges file.now (option_map (λ prefix. prefix.now) only)
+job_texts (Fault number) = OfFault number.now
+
+-- the name of its command
+abbrev pub command_name : JobTexts → Text
+command_name (OfOne t) = codes "one"
+command_name (OfDecode hex long) = codes "decode"
+command_name (OfReplay file workers show) = codes "replay"
+command_name (OfChanges file only) = codes "changes"
+command_name (OfFault number) = codes "fault"
+
+-- its words were given
+abbrev pub HasJobWords : List Row → JobTexts → Type 0
+HasJobWords rows (OfOne t) = HasWords rows t
+HasJobWords rows (OfDecode hex long) = HasDecodeWords rows hex long
+HasJobWords rows (OfReplay file workers show) = HasReplayWords rows file workers show
+HasJobWords rows (OfChanges file only) = HasChangesWords rows file only
+HasJobWords rows (OfFault number) = first_of (codes "NUMBER") rows ≡ Some number
+
+-- the job is one of the command with this name, and its words were given
+abbrev pub IsJobOf : Text → List Row → Job → Type 0
+IsJobOf name rows job = (command_name (job_texts job) ≡ name) × HasJobWords rows (job_texts job)
+
+-- its command was met, and its words were given for it
+abbrev pub HasTexts : Option (Text × List Row) → JobTexts → Type 0
+HasTexts met texts = (rows : List Row) × (met ≡ Some (command_name texts, rows)) × HasJobWords rows texts
 
 -- a command was met, and its words were given
 abbrev pub HasJob : Option (Text × List Row) → Type 0
-HasJob met = ((t : OneTexts) × HasOne met t) ⊎ ((hex : Text) × HasDecode met hex) ⊎ ((file : Text) × (workers : ℕ) × (show : Show) × HasReplay met file workers show)
+HasJob met = (texts : JobTexts) × HasTexts met texts
 
 -- the job is the command that was met, with the words that were given for it
 abbrev pub IsJob : Option (Text × List Row) → Job → Type 0
-IsJob met (One w) = HasOne met (texts_of w)
-IsJob met (Decode hex) = HasDecode met hex.now
-IsJob met (Replay file workers show) = HasReplay met file.now workers show
+IsJob met job = HasTexts met (job_texts job)
 
 -- the job can be done: if it is a replay, there may be so many workers
 abbrev pub IsFit : Job → Type 0
 IsFit (One w) = Unit {0}
-IsFit (Decode hex) = Unit {0}
+IsFit (Decode word long) = Unit {0}
 IsFit (Replay file workers show) = AreWorkers workers
+IsFit (Changes file only) = Unit {0}
+IsFit (Fault number) = Unit {0}
 
 -- A mistake is one that the command line has. If no mistake is found and there is no job, a word is missing.
 abbrev pub IsMistake : List Text → Usage → Type 0
@@ -189,21 +239,13 @@ pub record ArePlain (t : OneTexts) : Type 0 where
   pub lsa : IsPlainWord t.lsa
   pub lookup : IsPlainWord t.lookup
 
--- the job is `one` with these words
-abbrev pub IsOne : OneTexts → Job → Type 0
-IsOne t (One w) = texts_of w ≡ t
-IsOne t (Decode hex) = ⊥
-IsOne t (Replay file workers show) = ⊥
-
 -- the command line `abr decode` with this word, whatever the program is called
 abbrev pub decode_line : Text → Text → List Text
 decode_line name hex = name ∷ codes "decode" ∷ hex ∷ []
 
--- the job is `decode` with this word
-abbrev pub IsDecode : Text → Job → Type 0
-IsDecode word (One w) = ⊥
-IsDecode word (Decode hex) = hex.now ≡ word
-IsDecode word (Replay file workers show) = ⊥
+-- the command line `abr decode` with this word and `--long`
+abbrev pub long_line : Text → Text → List Text
+long_line name hex = name ∷ codes "decode" ∷ hex ∷ codes "--long" ∷ []
 
 -- the word does not begin with a hyphen, or is one
 abbrev pub IsFileWord : Text → Type 0
@@ -221,11 +263,17 @@ show_line name file show = name ∷ codes "replay" ∷ file ∷ codes "--show" �
 abbrev pub workers_line : Text → Text → Text → List Text
 workers_line name file number = name ∷ codes "replay" ∷ file ∷ codes "--workers" ∷ number ∷ []
 
--- the job is `replay` of this file by so many workers, to show this
-abbrev pub IsReplay : Text → ℕ → Show → Job → Type 0
-IsReplay word count what (One w) = ⊥
-IsReplay word count what (Decode hex) = ⊥
-IsReplay word count what (Replay file workers show) = (file.now ≡ word) × (workers ≡ count) × (show ≡ what)
+-- the command line `abr changes` with this file, whatever the program is called
+abbrev pub changes_line : Text → Text → List Text
+changes_line name file = name ∷ codes "changes" ∷ file ∷ []
+
+-- the command line `abr changes` with this file, `--only` and a network
+abbrev pub only_line : Text → Text → Text → List Text
+only_line name file prefix = name ∷ codes "changes" ∷ file ∷ codes "--only" ∷ prefix ∷ []
+
+-- the command line `abr fault` with this word, whatever the program is called
+abbrev pub fault_line : Text → Text → List Text
+fault_line name number = name ∷ codes "fault" ∷ number ∷ []
 
 -- ---- what each command line gives
 
@@ -233,29 +281,47 @@ IsReplay word count what (Replay file workers show) = (file.now ≡ word) × (wo
 abbrev pub command_words : List (Bor Text) → List Text
 command_words words = map (λ w. w.now) words
 
--- the job is such a one, unless memory runs out
-abbrev pub GivesJob : Result Job Usage → (Job → Type 0) → Type 0
-GivesJob result IsSuch = MatchResult result IsSuch (λ u. u ≡ Memory)
+-- the job is this one, unless memory runs out
+abbrev pub GivesJob : Result Job Usage → JobTexts → Type 0
+GivesJob result texts = MatchResult result (λ job. job_texts job ≡ texts) (λ u. u ≡ Memory)
 
 -- if the line is `abr one` with plain words, the job is `one` with these
 abbrev pub GivesOne : List Text → Result Job Usage → Type 0
-GivesOne line result = (name : Text) (t : OneTexts) → line ≡ one_line name t → ArePlain t → GivesJob result (IsOne t)
+GivesOne line result = (name : Text) (t : OneTexts) → line ≡ one_line name t → ArePlain t → GivesJob result (OfOne t)
 
--- if the line is `abr decode` with a plain word, the job is `decode` with it
+-- if the line is `abr decode` with a plain word, the job is `decode` with it, not long
 abbrev pub GivesDecode : List Text → Result Job Usage → Type 0
-GivesDecode line result = (name hex : Text) → line ≡ decode_line name hex → IsPlainWord hex → GivesJob result (IsDecode hex)
+GivesDecode line result = (name hex : Text) → line ≡ decode_line name hex → IsPlainWord hex → GivesJob result (OfDecode hex false)
+
+-- if the line is `abr decode` with a plain word and `--long`, the job is `decode` with it, long
+abbrev pub GivesLong : List Text → Result Job Usage → Type 0
+GivesLong line result = (name hex : Text) → line ≡ long_line name hex → IsPlainWord hex → GivesJob result (OfDecode hex true)
 
 -- if the line is `abr replay` with a file, the job is `replay` of it by one worker, to show the routing table
 abbrev pub GivesReplay : List Text → Result Job Usage → Type 0
-GivesReplay line result = (name file : Text) → line ≡ replay_line name file → IsFileWord file → GivesJob result (IsReplay file 1 Routes)
+GivesReplay line result = (name file : Text) → line ≡ replay_line name file → IsFileWord file → GivesJob result (OfReplay file 1 Routes)
 
 -- if the line is `abr replay` with a file and `--workers`, the job is `replay` of it by so many
 abbrev pub GivesWorkers : List Text → Result Job Usage → Type 0
 GivesWorkers line result =
     (name file number : Text) (count : ℕ) → line ≡ workers_line name file number
-    → IsFileWord file → WritesWorkers number count → GivesJob result (IsReplay file count Routes)
+    → IsFileWord file → WritesWorkers number count → GivesJob result (OfReplay file count Routes)
 
 -- if the line is `abr replay` with a file and `--show`, the job is `replay` of it by one worker, to show that
 abbrev pub GivesShow : List Text → Result Job Usage → Type 0
 GivesShow line result =
-    (name file : Text) (show : Show) → line ≡ show_line name file show → IsFileWord file → GivesJob result (IsReplay file 1 show)
+    (name file : Text) (show : Show) → line ≡ show_line name file show → IsFileWord file → GivesJob result (OfReplay file 1 show)
+
+-- if the line is `abr changes` with a file, the job is `changes` of it, of all networks
+abbrev pub GivesChanges : List Text → Result Job Usage → Type 0
+GivesChanges line result = (name file : Text) → line ≡ changes_line name file → IsFileWord file → GivesJob result (OfChanges file None)
+
+-- if the line is `abr changes` with a file, `--only` and a plain word, the job is `changes` of it, of that network
+abbrev pub GivesOnly : List Text → Result Job Usage → Type 0
+GivesOnly line result =
+    (name file prefix : Text) → line ≡ only_line name file prefix
+    → IsFileWord file → IsPlainWord prefix → GivesJob result (OfChanges file (Some prefix))
+
+-- if the line is `abr fault` with a plain word, the job is `fault` with it
+abbrev pub GivesFault : List Text → Result Job Usage → Type 0
+GivesFault line result = (name number : Text) → line ≡ fault_line name number → IsPlainWord number → GivesJob result (OfFault number)

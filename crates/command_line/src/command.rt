@@ -20,8 +20,11 @@ pub struct OneWords<'a> {
 #[derive(Clone, Copy, Debug, PartialEq, Eq)]
 pub enum Job<'a> {
     One(OneWords<'a>),
-    /// `abr decode`, with its word.
-    Decode(&'a str),
+    /// `abr decode`, with its word, and whether each field of the body has a line.
+    Decode {
+        word: &'a str,
+        long: bool,
+    },
     /// `abr replay`, with its file (`-` is standard input), how many workers there are, 1 to 16, and
     /// what is shown.
     Replay {
@@ -29,6 +32,14 @@ pub enum Job<'a> {
         workers: usize,
         show: Show,
     },
+    /// `abr changes`, with its file (`-` is standard input), and the word of the one network that is
+    /// told of; if there is none, all are.
+    Changes {
+        file: &'a str,
+        only: Option<&'a str>,
+    },
+    /// `abr fault`, with the word that is to be a number.
+    Fault(&'a str),
 }
 
 /// Why there is no job.

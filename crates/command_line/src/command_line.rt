@@ -1,14 +1,14 @@
 //! What the command line asks for.
-ghost use Rattle.std.specs.Prelude.{ℕ, ◌≡◌, ◌≢◌, ◌⊎◌, IfOk, IfErr, IfSome, IsNone, false};
+ghost use Rattle.std.specs.Prelude.{ℕ, Bool, ◌≡◌, ◌≢◌, ◌⊎◌, IfOk, IfErr, IfSome, IsNone, Option, codes, false};
 ghost use Rattle.clap.specs.Words.{Text, app_of, rows_of, found_of, rule_of, subcommand_of, subcommand_rows_of, kind_of};
 ghost use Rattle.clap.specs.declared.builder.command.Command.TheViews.{out-Command};
 ghost use Rattle.recording.specs.declared.show.Show.{Show};
-ghost use Rattle.command_line.specs.Command.{one_command, decode_command, program, required_word, show_name, References, AreShowNames, OneTexts, texts_of, HasWords, HasJob, IsJob, IsMistake, IsProgram, IsReplayCommand, IsShowOption, HasReplayWords, IsFit, IsReplayOf, WritesWorkers, workers_option, command_words, GivesDecode, GivesOne, GivesReplay, GivesShow, GivesWorkers};
+ghost use Rattle.command_line.specs.Command.{one_command, decode_command, changes_command, fault_command, program, required_word, show_name, References, AreShowNames, OneTexts, texts_of, HasWords, HasJob, IsJob, IsJobOf, IsMistake, IsProgram, IsReplayCommand, IsShowOption, HasDecodeWords, HasReplayWords, HasChangesWords, IsFit, WritesWorkers, workers_option, long_flag, only_option, command_words, GivesChanges, GivesDecode, GivesFault, GivesLong, GivesOne, GivesOnly, GivesReplay, GivesShow, GivesWorkers};
 
 use crate::command::{Job, OneWords, Usage};
 use clap::builder::ValueParser;
 use clap::error::ErrorKind;
-use clap::{Arg, ArgMatches, Command, Error};
+use clap::{Arg, ArgAction, ArgMatches, Command, Error};
 use recording::Show;
 use std::alloc::{AllocError, Global};
 
@@ -20,6 +20,13 @@ const FEWEST_WORKERS: usize = 1;
 
 const MOST_WORKERS: usize = 16;
 
+// What is said of the word FILE.
+const FILE_HELP: &str = "The recording, or - for standard input";
+
+// A command line with `one`.
+const ONE_EXAMPLE: &str = "Example: abr one 10.0.0.1 0.0.0.0 192.0.2.1 \
+    000102010a0000010a00000180000001e986002400000001c0000200ffffff000300000a 192.0.2.77";
+
 // What `--show` takes.
 const SHOW_NAMES: &[&str] = &["routes", "due", "lsdb", "journal"];
 
@@ -30,9 +37,13 @@ pub fn job<'a>(alloc: Global, words: &'a [&'a str]) -> Result<Job<'a>, Usage>
     ensures mistake { IfErr result (IsMistake (command_words words.entry.now)) }
     ensures one { GivesOne (command_words words.entry.now) result }
     ensures decode { GivesDecode (command_words words.entry.now) result }
+    ensures long { GivesLong (command_words words.entry.now) result }
     ensures replay { GivesReplay (command_words words.entry.now) result }
     ensures workers { GivesWorkers (command_words words.entry.now) result }
     ensures show { GivesShow (command_words words.entry.now) result }
+    ensures changes { GivesChanges (command_words words.entry.now) result }
+    ensures only { GivesOnly (command_words words.entry.now) result }
+    ensures fault { GivesFault (command_words words.entry.now) result }
 {
     let command = program_command(alloc)?;
     match command.try_get_matches_from(words) {
@@ -71,16 +82,42 @@ fn job_in<'a>(matches: &ArgMatches<'a>) -> Option<Job<'a>>
     if name == "one" {
         Some(Job::One(one_words(words)?))
     } else if name == "decode" {
-        Some(Job::Decode(words.get_str("HEX")?))
+        decode_job(words)
     } else if name == "replay" {
         replay_job(words)
+    } else if name == "changes" {
+        changes_job(words)
+    } else if name == "fault" {
+        Some(Job::Fault(words.get_str("NUMBER")?))
     } else {
         None
     }
 }
 
+fn decode_job<'a>(words: &ArgMatches<'a>) -> Option<Job<'a>>
+    ensures some { IfSome result (IsJobOf (codes "decode") (rows_of (found_of words.now))) }
+    ensures none { IsNone result → (hex : Text) (long : Bool)
+        → ¬ HasDecodeWords (rows_of (found_of words.now)) hex long }
+{
+    Some(Job::Decode {
+        word: words.get_str("HEX")?,
+        long: words.get_str("long")? == "true",
+    })
+}
+
+fn changes_job<'a>(words: &ArgMatches<'a>) -> Option<Job<'a>>
+    ensures some { IfSome result (IsJobOf (codes "changes") (rows_of (found_of words.now))) }
+    ensures none { IsNone result → (file : Text) (only : Option Text)
+        → ¬ HasChangesWords (rows_of (found_of words.now)) file only }
+{
+    Some(Job::Changes {
+        file: words.get_str("FILE")?,
+        only: words.get_str("only"),
+    })
+}
+
 fn replay_job<'a>(words: &ArgMatches<'a>) -> Option<Job<'a>>
-    ensures some { IfSome result (IsReplayOf (rows_of (found_of words.now))) }
+    ensures some { IfSome result (IsJobOf (codes "replay") (rows_of (found_of words.now))) }
     ensures none { IsNone result → (file : Text) (workers : ℕ) (show : Show)
         → ¬ HasReplayWords (rows_of (found_of words.now)) file workers show }
 {
@@ -142,7 +179,9 @@ fn program_command<'a>(alloc: Global) -> Result<Command<'a>, AllocError>
         .arg_required_else_help(true)
         .subcommand(one(alloc)?)?
         .subcommand(decode(alloc)?)?
-        .subcommand(replay(alloc)?)
+        .subcommand(replay(alloc)?)?
+        .subcommand(changes(alloc)?)?
+        .subcommand(fault(alloc)?)
 }
 
 fn one<'a>(alloc: Global) -> Result<Command<'a>, AllocError>
@@ -151,6 +190,7 @@ fn one<'a>(alloc: Global) -> Result<Command<'a>, AllocError>
 {
     Command::new(alloc, "one")
         .about("Looks an address up in the table that one router-LSA gives")
+        .after_help(ONE_EXAMPLE)
         .arg(word(alloc, "ROUTER", "The Router ID"))?
         .arg(word(alloc, "AREA", "The Area ID"))?
         .arg(word(alloc, "ADDRESS", "The address of interface 1, which is up"))?
@@ -164,7 +204,11 @@ fn decode<'a>(alloc: Global) -> Result<Command<'a>, AllocError>
 {
     Command::new(alloc, "decode")
         .about("Prints the fields of an LSA")
-        .arg(word(alloc, "HEX", "The LSA, in hexadecimal"))
+        .after_help(
+            "Example: abr decode 000102030a0100000a00000280000001da61001cffff00000000000a --long",
+        )
+        .arg(word(alloc, "HEX", "The LSA, in hexadecimal"))?
+        .arg(long_flag(alloc))
 }
 
 fn replay<'a>(alloc: Global) -> Result<Command<'a>, AllocError>
@@ -173,9 +217,51 @@ fn replay<'a>(alloc: Global) -> Result<Command<'a>, AllocError>
 {
     Command::new(alloc, "replay")
         .about("Runs a recording and shows what came of it")
-        .arg(word(alloc, "FILE", "The recording, or - for standard input"))?
+        .after_help("Example: abr replay examples/border_router.rec --show due")
+        .arg(word(alloc, "FILE", FILE_HELP))?
         .arg(workers_option(alloc))?
         .arg(show_option(alloc))
+}
+
+fn changes<'a>(alloc: Global) -> Result<Command<'a>, AllocError>
+    ensures app { IfOk result (λ c. app_of c ≡ changes_command) }
+    ensures local { IfOk result (λ c. (out-Command c).has_globals ≡ false) }
+{
+    Command::new(alloc, "changes")
+        .about("Tells what each event of a recording changed")
+        .after_help("Example: abr changes examples/border_router.rec --only 203.0.113.0/25")
+        .arg(word(alloc, "FILE", FILE_HELP))?
+        .arg(only_option(alloc))
+}
+
+fn fault<'a>(alloc: Global) -> Result<Command<'a>, AllocError>
+    ensures app { IfOk result (λ c. app_of c ≡ fault_command) }
+    ensures local { IfOk result (λ c. (out-Command c).has_globals ≡ false) }
+{
+    Command::new(alloc, "fault")
+        .about("Says what the number of a fault or a refusal means, and what to do")
+        .after_help("Example: abr fault 22")
+        .arg(word(alloc, "NUMBER", "The number, as the program prints it"))
+}
+
+fn long_flag<'a>(alloc: Global) -> Arg<'a>
+    ensures rule { rule_of result ≡ long_flag }
+    ensures local { result.global ≡ false }
+{
+    Arg::new(alloc, "long")
+        .long("long")
+        .action(ArgAction::SetTrue)
+        .help("Prints the fields of the body too, a line each")
+}
+
+fn only_option<'a>(alloc: Global) -> Arg<'a>
+    ensures rule { rule_of result ≡ only_option }
+    ensures local { result.global ≡ false }
+{
+    Arg::new(alloc, "only")
+        .long("only")
+        .value_name("PREFIX")
+        .help("The only network that is told of, as 203.0.113.0/25")
 }
 
 fn workers_option<'a>(alloc: Global) -> Arg<'a>

@@ -1,9 +1,8 @@
-use Rattle.std.proofs.Common.{◌∙◌, sym, ap, map, subst, inl, inr, refl}
-use Rattle.clap.specs.Words.{subcommand_of}
+use Rattle.std.proofs.Common.{Some, None, true, false, sym, map, subst, inr, refl}
 use Rattle.recording.specs.declared.show.Show.TheVariants.{Routes}
-use Rattle.command_line.specs.Command.{HasOne, HasDecode, HasReplay, HasJob, IsJob, program}
-use Rattle.command_line.proofs.Jobs.{job_is_one, job_is_decode, job_is_fit, job_is_replay, mistake_is, only_memory}
-use Rattle.command_line.proofs.Line.{one_has, one_faultless, decode_has, decode_faultless, replay_has, replay_faultless, show_has, show_faultless, workers_has, workers_faultless}
+use Rattle.command_line.specs.Command.{HasJob, IsJob, OfOne, OfDecode, OfReplay, OfChanges, OfFault, one_line, decode_line, long_line, replay_line, workers_line, show_line, changes_line, only_line, fault_line}
+use Rattle.command_line.proofs.Jobs.{gives, has_job, job_is_fit, mistake_is, only_memory}
+use Rattle.command_line.proofs.Line.{one_has, one_faultless, decode_has, decode_faultless, long_has, long_faultless, replay_has, replay_faultless, workers_has, workers_faultless, show_has, show_faultless, changes_has, changes_faultless, only_has, only_faultless, fault_has, fault_faultless}
 use Rattle.command_line.proofs.Names.{met_as_given, fails_as_given}
 use Rattle.command_line.proofs.command_line.job.Goals as goal
 
@@ -17,28 +16,48 @@ returns-in-Some-clause-fit c = job_is_fit _ c.in-Some.job c.in-Some.ensures.some
 
 pub returns-in-Some-clause-one : goal.returns-in-Some-clause-one
 returns-in-Some-clause-one c name t is plain =
-    let given = met_as_given _ c.in-Ok.matches _ c.in_ok-command.ensures c.in-Ok.ensures.matches ∙ ap (subcommand_of program) is in
-    job_is_one _ c.in-Some.job t c.in-Some.ensures.some (subst (λ s. HasOne s t) (sym given) (one_has name t plain))
+    let given = met_as_given _ c.in-Ok.matches _ c.in_ok-command.ensures c.in-Ok.ensures.matches in
+    gives _ _ (one_line name t) c.in-Some.job (OfOne t) given c.in-Some.ensures.some is (one_has name t plain)
 
 pub returns-in-Some-clause-decode : goal.returns-in-Some-clause-decode
 returns-in-Some-clause-decode c name hex is plain =
-    let given = met_as_given _ c.in-Ok.matches _ c.in_ok-command.ensures c.in-Ok.ensures.matches ∙ ap (subcommand_of program) is in
-    job_is_decode _ c.in-Some.job hex c.in-Some.ensures.some (subst (λ s. HasDecode s hex) (sym given) (decode_has name hex plain))
+    let given = met_as_given _ c.in-Ok.matches _ c.in_ok-command.ensures c.in-Ok.ensures.matches in
+    gives _ _ (decode_line name hex) c.in-Some.job (OfDecode hex false) given c.in-Some.ensures.some is (decode_has name hex plain)
+
+pub returns-in-Some-clause-long : goal.returns-in-Some-clause-long
+returns-in-Some-clause-long c name hex is plain =
+    let given = met_as_given _ c.in-Ok.matches _ c.in_ok-command.ensures c.in-Ok.ensures.matches in
+    gives _ _ (long_line name hex) c.in-Some.job (OfDecode hex true) given c.in-Some.ensures.some is (long_has name hex plain)
 
 pub returns-in-Some-clause-replay : goal.returns-in-Some-clause-replay
 returns-in-Some-clause-replay c name file is plain =
-    let given = met_as_given _ c.in-Ok.matches _ c.in_ok-command.ensures c.in-Ok.ensures.matches ∙ ap (subcommand_of program) is in
-    job_is_replay _ c.in-Some.job file 1 Routes c.in-Some.ensures.some (subst (λ s. HasReplay s file 1 Routes) (sym given) (replay_has name file plain))
+    let given = met_as_given _ c.in-Ok.matches _ c.in_ok-command.ensures c.in-Ok.ensures.matches in
+    gives _ _ (replay_line name file) c.in-Some.job (OfReplay file 1 Routes) given c.in-Some.ensures.some is (replay_has name file plain)
 
 pub returns-in-Some-clause-workers : goal.returns-in-Some-clause-workers
 returns-in-Some-clause-workers c name file number count is plain writes =
-    let given = met_as_given _ c.in-Ok.matches _ c.in_ok-command.ensures c.in-Ok.ensures.matches ∙ ap (subcommand_of program) is in
-    job_is_replay _ c.in-Some.job file count Routes c.in-Some.ensures.some (subst (λ s. HasReplay s file count Routes) (sym given) (workers_has name file number count plain writes))
+    let given = met_as_given _ c.in-Ok.matches _ c.in_ok-command.ensures c.in-Ok.ensures.matches in
+    gives _ _ (workers_line name file number) c.in-Some.job (OfReplay file count Routes) given c.in-Some.ensures.some is (workers_has name file number count plain writes)
 
 pub returns-in-Some-clause-show : goal.returns-in-Some-clause-show
 returns-in-Some-clause-show c name file show is plain =
-    let given = met_as_given _ c.in-Ok.matches _ c.in_ok-command.ensures c.in-Ok.ensures.matches ∙ ap (subcommand_of program) is in
-    job_is_replay _ c.in-Some.job file 1 show c.in-Some.ensures.some (subst (λ s. HasReplay s file 1 show) (sym given) (show_has name file show plain))
+    let given = met_as_given _ c.in-Ok.matches _ c.in_ok-command.ensures c.in-Ok.ensures.matches in
+    gives _ _ (show_line name file show) c.in-Some.job (OfReplay file 1 show) given c.in-Some.ensures.some is (show_has name file show plain)
+
+pub returns-in-Some-clause-changes : goal.returns-in-Some-clause-changes
+returns-in-Some-clause-changes c name file is plain =
+    let given = met_as_given _ c.in-Ok.matches _ c.in_ok-command.ensures c.in-Ok.ensures.matches in
+    gives _ _ (changes_line name file) c.in-Some.job (OfChanges file None) given c.in-Some.ensures.some is (changes_has name file plain)
+
+pub returns-in-Some-clause-only : goal.returns-in-Some-clause-only
+returns-in-Some-clause-only c name file prefix is plain plain_prefix =
+    let given = met_as_given _ c.in-Ok.matches _ c.in_ok-command.ensures c.in-Ok.ensures.matches in
+    gives _ _ (only_line name file prefix) c.in-Some.job (OfChanges file (Some prefix)) given c.in-Some.ensures.some is (only_has name file prefix plain plain_prefix)
+
+pub returns-in-Some-clause-fault : goal.returns-in-Some-clause-fault
+returns-in-Some-clause-fault c name number is plain =
+    let given = met_as_given _ c.in-Ok.matches _ c.in_ok-command.ensures c.in-Ok.ensures.matches in
+    gives _ _ (fault_line name number) c.in-Some.job (OfFault number) given c.in-Some.ensures.some is (fault_has name number plain)
 
 pub returns-in-Ok-clause-mistake : goal.returns-in-Ok-clause-mistake
 returns-in-Ok-clause-mistake c =
@@ -47,28 +66,48 @@ returns-in-Ok-clause-mistake c =
 
 pub returns-in-Ok-clause-one : goal.returns-in-Ok-clause-one
 returns-in-Ok-clause-one c name t is plain =
-    let given = met_as_given _ c.in-Ok.matches _ c.in_ok-command.ensures c.in-Ok.ensures.matches ∙ ap (subcommand_of program) is in
-    absurd (c.in-None.ensures.none refl (inl (t, subst (λ s. HasOne s t) (sym given) (one_has name t plain))))
+    let given = met_as_given _ c.in-Ok.matches _ c.in_ok-command.ensures c.in-Ok.ensures.matches in
+    absurd (c.in-None.ensures.none refl (has_job _ _ (one_line name t) (OfOne t) given is (one_has name t plain)))
 
 pub returns-in-Ok-clause-decode : goal.returns-in-Ok-clause-decode
 returns-in-Ok-clause-decode c name hex is plain =
-    let given = met_as_given _ c.in-Ok.matches _ c.in_ok-command.ensures c.in-Ok.ensures.matches ∙ ap (subcommand_of program) is in
-    absurd (c.in-None.ensures.none refl (inr (inl (hex, subst (λ s. HasDecode s hex) (sym given) (decode_has name hex plain)))))
+    let given = met_as_given _ c.in-Ok.matches _ c.in_ok-command.ensures c.in-Ok.ensures.matches in
+    absurd (c.in-None.ensures.none refl (has_job _ _ (decode_line name hex) (OfDecode hex false) given is (decode_has name hex plain)))
+
+pub returns-in-Ok-clause-long : goal.returns-in-Ok-clause-long
+returns-in-Ok-clause-long c name hex is plain =
+    let given = met_as_given _ c.in-Ok.matches _ c.in_ok-command.ensures c.in-Ok.ensures.matches in
+    absurd (c.in-None.ensures.none refl (has_job _ _ (long_line name hex) (OfDecode hex true) given is (long_has name hex plain)))
 
 pub returns-in-Ok-clause-replay : goal.returns-in-Ok-clause-replay
 returns-in-Ok-clause-replay c name file is plain =
-    let given = met_as_given _ c.in-Ok.matches _ c.in_ok-command.ensures c.in-Ok.ensures.matches ∙ ap (subcommand_of program) is in
-    absurd (c.in-None.ensures.none refl (inr (inr (file, 1, Routes, subst (λ s. HasReplay s file 1 Routes) (sym given) (replay_has name file plain)))))
+    let given = met_as_given _ c.in-Ok.matches _ c.in_ok-command.ensures c.in-Ok.ensures.matches in
+    absurd (c.in-None.ensures.none refl (has_job _ _ (replay_line name file) (OfReplay file 1 Routes) given is (replay_has name file plain)))
 
 pub returns-in-Ok-clause-workers : goal.returns-in-Ok-clause-workers
 returns-in-Ok-clause-workers c name file number count is plain writes =
-    let given = met_as_given _ c.in-Ok.matches _ c.in_ok-command.ensures c.in-Ok.ensures.matches ∙ ap (subcommand_of program) is in
-    absurd (c.in-None.ensures.none refl (inr (inr (file, count, Routes, subst (λ s. HasReplay s file count Routes) (sym given) (workers_has name file number count plain writes)))))
+    let given = met_as_given _ c.in-Ok.matches _ c.in_ok-command.ensures c.in-Ok.ensures.matches in
+    absurd (c.in-None.ensures.none refl (has_job _ _ (workers_line name file number) (OfReplay file count Routes) given is (workers_has name file number count plain writes)))
 
 pub returns-in-Ok-clause-show : goal.returns-in-Ok-clause-show
 returns-in-Ok-clause-show c name file show is plain =
-    let given = met_as_given _ c.in-Ok.matches _ c.in_ok-command.ensures c.in-Ok.ensures.matches ∙ ap (subcommand_of program) is in
-    absurd (c.in-None.ensures.none refl (inr (inr (file, 1, show, subst (λ s. HasReplay s file 1 show) (sym given) (show_has name file show plain)))))
+    let given = met_as_given _ c.in-Ok.matches _ c.in_ok-command.ensures c.in-Ok.ensures.matches in
+    absurd (c.in-None.ensures.none refl (has_job _ _ (show_line name file show) (OfReplay file 1 show) given is (show_has name file show plain)))
+
+pub returns-in-Ok-clause-changes : goal.returns-in-Ok-clause-changes
+returns-in-Ok-clause-changes c name file is plain =
+    let given = met_as_given _ c.in-Ok.matches _ c.in_ok-command.ensures c.in-Ok.ensures.matches in
+    absurd (c.in-None.ensures.none refl (has_job _ _ (changes_line name file) (OfChanges file None) given is (changes_has name file plain)))
+
+pub returns-in-Ok-clause-only : goal.returns-in-Ok-clause-only
+returns-in-Ok-clause-only c name file prefix is plain plain_prefix =
+    let given = met_as_given _ c.in-Ok.matches _ c.in_ok-command.ensures c.in-Ok.ensures.matches in
+    absurd (c.in-None.ensures.none refl (has_job _ _ (only_line name file prefix) (OfChanges file (Some prefix)) given is (only_has name file prefix plain plain_prefix)))
+
+pub returns-in-Ok-clause-fault : goal.returns-in-Ok-clause-fault
+returns-in-Ok-clause-fault c name number is plain =
+    let given = met_as_given _ c.in-Ok.matches _ c.in_ok-command.ensures c.in-Ok.ensures.matches in
+    absurd (c.in-None.ensures.none refl (has_job _ _ (fault_line name number) (OfFault number) given is (fault_has name number plain)))
 
 pub returns-clause-mistake : goal.returns-clause-mistake
 returns-clause-mistake c =
@@ -85,6 +124,11 @@ returns-clause-decode c name hex is plain =
     let fails = fails_as_given _ _ c.in-Err.error c.in_ok-command.ensures c.in-Err.ensures.kinds in
     only_memory _ _ c.in-Err.error _ fails c.usage_of.ensures is (decode_faultless name hex plain)
 
+pub returns-clause-long : goal.returns-clause-long
+returns-clause-long c name hex is plain =
+    let fails = fails_as_given _ _ c.in-Err.error c.in_ok-command.ensures c.in-Err.ensures.kinds in
+    only_memory _ _ c.in-Err.error _ fails c.usage_of.ensures is (long_faultless name hex plain)
+
 pub returns-clause-replay : goal.returns-clause-replay
 returns-clause-replay c name file is plain =
     let fails = fails_as_given _ _ c.in-Err.error c.in_ok-command.ensures c.in-Err.ensures.kinds in
@@ -99,3 +143,18 @@ pub returns-clause-show : goal.returns-clause-show
 returns-clause-show c name file show is plain =
     let fails = fails_as_given _ _ c.in-Err.error c.in_ok-command.ensures c.in-Err.ensures.kinds in
     only_memory _ _ c.in-Err.error _ fails c.usage_of.ensures is (show_faultless name file show plain)
+
+pub returns-clause-changes : goal.returns-clause-changes
+returns-clause-changes c name file is plain =
+    let fails = fails_as_given _ _ c.in-Err.error c.in_ok-command.ensures c.in-Err.ensures.kinds in
+    only_memory _ _ c.in-Err.error _ fails c.usage_of.ensures is (changes_faultless name file plain)
+
+pub returns-clause-only : goal.returns-clause-only
+returns-clause-only c name file prefix is plain plain_prefix =
+    let fails = fails_as_given _ _ c.in-Err.error c.in_ok-command.ensures c.in-Err.ensures.kinds in
+    only_memory _ _ c.in-Err.error _ fails c.usage_of.ensures is (only_faultless name file prefix plain plain_prefix)
+
+pub returns-clause-fault : goal.returns-clause-fault
+returns-clause-fault c name number is plain =
+    let fails = fails_as_given _ _ c.in-Err.error c.in_ok-command.ensures c.in-Err.ensures.kinds in
+    only_memory _ _ c.in-Err.error _ fails c.usage_of.ensures is (fault_faultless name number plain)

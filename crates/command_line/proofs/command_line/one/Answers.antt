@@ -8,7 +8,7 @@ use Rattle.command_line.proofs.command_line.one.Goals as goal
 
 pub returns-clause-app : goal.returns-clause-app
 returns-clause-app c =
-    let start : app_of c.about.result ≡ new_app (codes "one") = ap app_of_fields c.about.ensures ∙ c.new.ensures.app in
+    let start : app_of c.after_help.result ≡ new_app (codes "one") = ap app_of_fields c.after_help.ensures ∙ ap app_of_fields c.about.ensures ∙ c.new.ensures.app in
     let first = added_app _ _ _ _ _ c.in_ok-arg.ensures c.word.ensures.local start c.word.ensures.rule in
     let second = added_app _ _ _ _ _ c.in_ok-arg-2.ensures c.word-2.ensures.local first c.word-2.ensures.rule in
     let third = added_app _ _ _ _ _ c.in_ok-arg-3.ensures c.word-3.ensures.local second c.word-3.ensures.rule in
@@ -17,7 +17,7 @@ returns-clause-app c =
 
 pub returns-clause-local : goal.returns-clause-local
 returns-clause-local c =
-    let start : (out-Command c.about.result).has_globals ≡ false = ap (λ f. f.has_globals) c.about.ensures ∙ c.new.ensures.local in
+    let start : (out-Command c.after_help.result).has_globals ≡ false = ap (λ f. f.has_globals) c.after_help.ensures ∙ ap (λ f. f.has_globals) c.about.ensures ∙ c.new.ensures.local in
     let first = added_local _ _ _ c.in_ok-arg.ensures c.word.ensures.local start in
     let second = added_local _ _ _ c.in_ok-arg-2.ensures c.word-2.ensures.local first in
     let third = added_local _ _ _ c.in_ok-arg-3.ensures c.word-3.ensures.local second in

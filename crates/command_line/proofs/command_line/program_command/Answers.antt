@@ -12,9 +12,11 @@ returns c =
     let top = ap app_of_fields c.arg_required_else_help.ensures ∙ ap (on_top (λ (s : Shape). record s { arg_required_else_help = true })) wanting in
     let one = c.in_ok-subcommand.ensures.shape c.in_ok-one.ensures.local ∙ ap₂ with_subcommand top (ap (λ (a : App). a.top) c.in_ok-one.ensures.app) in
     let decode = c.in_ok-subcommand-2.ensures.shape c.in_ok-decode.ensures.local ∙ ap₂ with_subcommand one (ap (λ (a : App). a.top) c.in_ok-decode.ensures.app) in
-    let replay = c.in_ok-replay.ensures.app in
-    IfOk-weaker c.subcommand-3.result _ _ (λ r h. (
-      replay.0,
-      replay.1,
-      h.shape c.in_ok-replay.ensures.local ∙ ap₂ with_subcommand decode (ap (λ (a : App). a.top) replay.2),
-    )) c.subcommand-3.ensures
+    let names = c.in_ok-replay.ensures.app in
+    let replay = c.in_ok-subcommand-3.ensures.shape c.in_ok-replay.ensures.local ∙ ap₂ with_subcommand decode (ap (λ (a : App). a.top) names.2) in
+    let changes = c.in_ok-subcommand-4.ensures.shape c.in_ok-changes.ensures.local ∙ ap₂ with_subcommand replay (ap (λ (a : App). a.top) c.in_ok-changes.ensures.app) in
+    IfOk-weaker c.subcommand-5.result _ _ (λ r h. (
+      names.0,
+      names.1,
+      h.shape c.in_ok-fault.ensures.local ∙ ap₂ with_subcommand changes (ap (λ (a : App). a.top) c.in_ok-fault.ensures.app),
+    )) c.subcommand-5.ensures

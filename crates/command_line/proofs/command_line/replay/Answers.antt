@@ -8,7 +8,7 @@ use Rattle.command_line.proofs.command_line.replay.Goals as goal
 
 pub returns-clause-app : goal.returns-clause-app
 returns-clause-app c =
-    let start : app_of c.about.result ≡ new_app (codes "replay") = ap app_of_fields c.about.ensures ∙ c.new.ensures.app in
+    let start : app_of c.after_help.result ≡ new_app (codes "replay") = ap app_of_fields c.after_help.ensures ∙ ap app_of_fields c.about.ensures ∙ c.new.ensures.app in
     let file = added_app _ _ _ _ _ c.in_ok-arg.ensures c.word.ensures.local start c.word.ensures.rule in
     let workers = added_app _ _ _ _ _ c.in_ok-arg-2.ensures c.workers_option.ensures.local file c.workers_option.ensures.rule in
     let names = c.show_option.ensures.rule in
@@ -16,7 +16,7 @@ returns-clause-app c =
 
 pub returns-clause-local : goal.returns-clause-local
 returns-clause-local c =
-    let start : (out-Command c.about.result).has_globals ≡ false = ap (λ f. f.has_globals) c.about.ensures ∙ c.new.ensures.local in
+    let start : (out-Command c.after_help.result).has_globals ≡ false = ap (λ f. f.has_globals) c.after_help.ensures ∙ ap (λ f. f.has_globals) c.about.ensures ∙ c.new.ensures.local in
     let file = added_local _ _ _ c.in_ok-arg.ensures c.word.ensures.local start in
     let workers = added_local _ _ _ c.in_ok-arg-2.ensures c.workers_option.ensures.local file in
     IfOk-weaker c.arg-3.result _ _ (λ r h. added_local _ _ _ h c.show_option.ensures.local workers) c.arg-3.ensures

@@ -1,5 +1,5 @@
-use Rattle.std.proofs.Common.{◌≡◌, ◌∙◌, Some, codes, sym, ap, subst, refl}
-use Rattle.clap.specs.Words.{Text, first_of, found_of, rows_of}
+use Rattle.std.proofs.Common.{◌∙◌, Some, codes, sym, ap, subst, refl}
+use Rattle.clap.specs.Words.{Text, found_of}
 use Rattle.command_line.proofs.Matches.{no_word, one_given, word_given}
 use Rattle.command_line.specs.Command.{WritesWorkers, show_name}
 use Rattle.command_line.proofs.command_line.replay_job.Goals as goal
@@ -26,7 +26,10 @@ returns-in_err-show_of-clause-none c none file workers show h =
 
 pub returns-clause-some : goal.returns-clause-some
 returns-clause-some c = (
-  word_given (found_of c.args.words.now) (codes "FILE") c.get_str.result _ c.get_str.ensures c.in_ok-get_str.was,
-  (c.in_ok-get_str-2.field-0.now, word_given (found_of c.args.words.now) (codes "workers") c.get_str-2.result _ c.get_str-2.ensures c.in_ok-get_str-2.was, c.in_ok-workers_of.ensures.some),
-  word_given (found_of c.args.words.now) (codes "show") c.get_str-3.result _ c.get_str-3.ensures c.in_ok-get_str-3.was ∙ ap Some (sym c.in_ok-show_of.ensures.some),
+  refl,
+  (
+    word_given (found_of c.args.words.now) (codes "FILE") c.get_str.result _ c.get_str.ensures c.in_ok-get_str.was,
+    (c.in_ok-get_str-2.field-0.now, word_given (found_of c.args.words.now) (codes "workers") c.get_str-2.result _ c.get_str-2.ensures c.in_ok-get_str-2.was, c.in_ok-workers_of.ensures.some),
+    word_given (found_of c.args.words.now) (codes "show") c.get_str-3.result _ c.get_str-3.ensures c.in_ok-get_str-3.was ∙ ap Some (sym c.in_ok-show_of.ensures.some),
+  ),
 )

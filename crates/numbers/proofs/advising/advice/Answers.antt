@@ -1,0 +1,13 @@
+use Rattle.std.proofs.Common.{◌++◌}
+use Rattle.numbers.specs.Advice.{lsa_faults, refusals, later_refusals, config_faults, line_faults, call_faults}
+use Rattle.numbers.proofs.Tables.{joined}
+use Rattle.numbers.proofs.advising.advice.Goals as goal
+
+pub returns : goal.returns
+returns c =
+    let number = c.args.number in
+    let two = joined lsa_faults refusals number _ _ _ c.lsa_fault.ensures c.refusal.ensures c.or.ensures in
+    let three = joined (lsa_faults ++ refusals) later_refusals number _ _ _ two c.later_refusal.ensures c.or-2.ensures in
+    let four = joined (lsa_faults ++ refusals ++ later_refusals) config_faults number _ _ _ three c.config_fault.ensures c.or-3.ensures in
+    let five = joined (lsa_faults ++ refusals ++ later_refusals ++ config_faults) line_faults number _ _ _ four c.line_fault.ensures c.or-4.ensures in
+    joined (lsa_faults ++ refusals ++ later_refusals ++ config_faults ++ line_faults) call_faults number _ _ _ five c.call_fault.ensures c.or-5.ensures
