@@ -16,8 +16,10 @@ impl Source {
     /// The file that the job names, and standard input for `-`.
     pub fn of(rt: &HostRuntime, job: &Result<Job<'_>, Usage>) -> Source {
         match job {
-            Ok(Job::Replay { file: "-", .. }) => Source::Standard(rt.stdin()),
-            Ok(Job::Replay { file, .. }) => match File::open(rt, *file) {
+            Ok(Job::Replay { file: "-", .. } | Job::Changes { file: "-", .. }) => {
+                Source::Standard(rt.stdin())
+            }
+            Ok(Job::Replay { file, .. } | Job::Changes { file, .. }) => match File::open(rt, *file) {
                 Ok(file) => Source::File(file),
                 Err(_) => Source::Missing,
             },

@@ -1,12 +1,15 @@
 //! The commands of the program `abr`: an OSPF area border router's table from the command line
-//! (RFC 2328). A replay writes as it goes; what the other commands answer, `command_answers` says.
+//! (RFC 2328). A recording is run and told of as it goes; what the other commands answer, `command_answers` says.
 #![tactic(auto)]
 
+mod changing;
 mod replaying;
 mod running;
 
+pub use changing::Changes;
 pub use command_answers::{
-    Answer, CommandFault, answer_decode, answer_one, answer_usage, decode, one, tell,
+    Answer, CommandFault, answer_decode, answer_number, answer_one, answer_usage, decode, explain,
+    one, tell,
 };
 pub use command_line::{Job, OneWords, Usage, job};
 pub use recording::Show;

@@ -68,7 +68,8 @@ fn run_with<S: Threads + Wait + Sync, R: io::Read, W: io::Write>(
     }
 }
 
-fn say_end<F: io::Write>(alloc: Global, file: &str, fault: ManyFault, faults: &mut F) -> u8
+/// Says why the running of a recording ended early.
+pub(crate) fn say_end<F: io::Write>(alloc: Global, file: &str, fault: ManyFault, faults: &mut F) -> u8
     ensures { IsEndSaid file.entry fault result (F.contents faults.old) (F.contents faults.new) }
 {
     match fault {
@@ -91,8 +92,8 @@ fn fault_from(file: &str, fault: ManyFault) -> CommandFault<'_>
     }
 }
 
-// Writes the line of the fault, or of want of memory where there is none for it.
-fn say_fault<F: io::Write>(alloc: Global, fault: CommandFault<'_>, faults: &mut F) -> u8
+/// Writes the line of the fault, or of want of memory where there is none for it.
+pub(crate) fn say_fault<F: io::Write>(alloc: Global, fault: CommandFault<'_>, faults: &mut F) -> u8
     ensures { IsSaid (fault_line (command_fault_text fault.entry)) (status_of fault.entry) result
         (F.contents faults.old) (F.contents faults.new)
         ⊎ IsSaid (fault_line (command_fault_text CommandFault.Memory)) 1 result (F.contents faults.old) (F.contents faults.new) }

@@ -3,8 +3,9 @@ ghost use Rattle.std.specs.Prelude.{IfOk};
 ghost use Rattle.command_line.specs.Command.{IsFit};
 ghost use Rattle.abr_cli.specs.Jobs.{IsJobTold};
 
+use crate::changing::Changes;
 use crate::replaying::Replay;
-use command_answers::{answer_usage, decode, one, tell};
+use command_answers::{answer_usage, decode, explain, one, tell};
 use command_line::{Job, Usage};
 use std::alloc::Global;
 use std::hash::RandomState;
@@ -20,7 +21,7 @@ pub struct Invocation<'a> {
 }
 
 impl Invocation<'_> {
-    /// Does the job, or says why there is none. A replay reads its recording from `input`, and its workers are
+    /// Does the job, or says why there is none. A recording is read from `input`, and the workers of a replay are
     /// from 1 to 16; answers are written to `out`, and faults and mistakes to `faults`. What is returned is the
     /// status of the program.
     pub fn run<S: Threads + Wait + Sync, R: io::Read, W: io::Write, F: io::Write>(
@@ -43,7 +44,7 @@ impl Invocation<'_> {
         };
         match job {
             Job::One(words) => one(rt, alloc, hashing, &words, out, faults),
-            Job::Decode(word) => decode(alloc, word, out, faults),
+            Job::Decode { word, long } => decode(alloc, word, long, out, faults),
             Job::Replay {
                 file,
                 workers,
@@ -53,6 +54,11 @@ impl Invocation<'_> {
                 let replay = Replay { file, options };
                 replay.run(rt, alloc, hashing, input, out, faults)
             }
+            Job::Changes { file, only } => {
+                let changes = Changes { file, only };
+                changes.run(alloc, hashing, input, out, faults)
+            }
+            Job::Fault(word) => explain(alloc, word, out, faults),
         }
     }
 }

@@ -25,7 +25,7 @@ use std::{fs, io};
 use trial::is_as_wanted;
 
 // The files of rows.
-const FILES: [&str; 11] = [
+const FILES: [&str; 12] = [
     "commands.rows",
     "recordings.rows",
     "versions.rows",
@@ -37,6 +37,7 @@ const FILES: [&str; 11] = [
     "dues.rows",
     "updates.rows",
     "workers.rows",
+    "changes.rows",
 ];
 
 /// How many rows ran, and how many of them differ.

@@ -5,8 +5,11 @@ use Rattle.std.specs.List.{flat_map}
 use Rattle.ospf_types.specs.declared.key.Dest.{Dest}
 use Rattle.ospf_types.specs.declared.prefix.Prefix.{Prefix}
 use Rattle.ospf_types.specs.Text.{prefix_text}
+use Rattle.event_core.specs.DueSummaries.{listed}
+use Rattle.event_core.specs.Lists.{AreaSummariesValue}
 use Rattle.replay.specs.Stops.{AreWhole}
 use Rattle.replay.proofs.Wholes.{none_whole}
+use Rattle.changes.specs.Changes.{area_due}
 use Rattle.changes.specs.Lines.{Change, Set, Drop, Due, Undue, change_line, is_told, item_text, line_of, lines_of, place_text}
 
 ended : (front : List ℕ) → AreWhole (front ++ codes "\n")
@@ -36,3 +39,16 @@ lines_both number only (x ∷ xs) ys = ap (λ l. line_of number only x ++ l) (li
 pub listed_lines : {A : Type 0} (number : ℕ) (only : Option Prefix) (changes : A → List Change) (items : List A) → lines_of number only (flat_map changes items) ≡ flat_map (λ x. lines_of number only (changes x)) items
 listed_lines number only changes [] = refl
 listed_lines number only changes (x ∷ items) = lines_both number only (changes x) (flat_map changes items) ∙ ap (λ l. lines_of number only (changes x) ++ l) (listed_lines number only changes items)
+
+-- ---- the areas, each with the lines of what is due in it
+
+abbrev pub listed_in : ℕ → Option Prefix → AreaSummariesValue → List ℕ
+listed_in number only w = lines_of number only (area_due (w.area, w.list))
+
+abbrev pub all_listed : ℕ → Option Prefix → List AreaSummariesValue → List ℕ
+all_listed number only areas = flat_map (listed_in number only) areas
+
+pub listed_is : (number : ℕ) (only : Option Prefix) (areas : List AreaSummariesValue) → all_listed number only areas ≡ lines_of number only (flat_map area_due (listed areas))
+listed_is number only [] = refl
+listed_is number only (w ∷ areas) =
+    ap (λ l. listed_in number only w ++ l) (listed_is number only areas) ∙ sym (lines_both number only (area_due (w.area, w.list)) (flat_map area_due (listed areas)))

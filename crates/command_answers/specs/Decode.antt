@@ -1,11 +1,12 @@
 -- What `abr decode` prints: the fields of an LSA (RFC 2328, A.4).
-use Rattle.std.specs.Prelude.{ℕ, ◌≡◌, ◌++◌, List, [], ◌∷◌, codes, decimal}
+use Rattle.std.specs.Prelude.{ℕ, ◌≡◌, ◌++◌, Bool, List, [], ◌∷◌, codes, decimal, if◌then◌else◌}
 use Rattle.std.specs.Int.{w16, w32, to_be_bytes}
 use Rattle.hex.specs.Hex.{encode_lower}
 use Rattle.ospf_types.specs.declared.lsa.Header.{Header}
 use Rattle.ospf_types.specs.Lsa.{Lsa}
 use Rattle.ospf_types.specs.Text.{address_text}
 use Rattle.lsa_codec.specs.Spelling.{body_bytes}
+use Rattle.lsa_words.specs.Words.{words_of}
 use Rattle.command_answers.specs.declared.words.WordFault.TheVariants.{NotAnAddress, NotHexadecimal, Memory}
 use Rattle.command_answers.specs.declared.command_fault.CommandFault.{CommandFault}
 use Rattle.command_answers.specs.declared.command_fault.CommandFault.TheVariants as fault
@@ -30,11 +31,15 @@ fields_text h body =
 abbrev pub decoded_text : Lsa → List ℕ
 decoded_text l = fields_text l.header (encode_lower (body_bytes l.body))
 
+-- in words, or in two lines
+abbrev pub printed_lsa : Bool → Lsa → List ℕ
+printed_lsa long l = if long then words_of l else decoded_text l
+
 -- the text has the LSA of the word
-pub record Decodes (word text : List ℕ) : Type 0 where
+pub record Decodes (long : Bool) (word text : List ℕ) : Type 0 where
   pub lsa : Lsa
   pub given : WritesLsa word lsa
-  pub printed : text ≡ decoded_text lsa
+  pub printed : text ≡ printed_lsa long lsa
 
 -- why there are no lines
 abbrev pub IsDecodeFault : List ℕ → CommandFault → Type 0
@@ -45,6 +50,6 @@ IsDecodeFault word (fault.Wire f) = HasWireFault word f
 IsDecodeFault word fault.Memory = Unit {0}
 IsDecodeFault word _ = ⊥
 
--- the answer of `abr decode` with this word
-abbrev pub IsDecodeAnswer : List ℕ → AnswerValue → Type 0
-IsDecodeAnswer word = IsAnswer (Decodes word) (IsDecodeFault word)
+-- the answer of `abr decode` with this word, and whether each field is to have a line
+abbrev pub IsDecodeAnswer : Bool → List ℕ → AnswerValue → Type 0
+IsDecodeAnswer long word = IsAnswer (Decodes long word) (IsDecodeFault word)

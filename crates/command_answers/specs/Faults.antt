@@ -13,6 +13,8 @@ use Rattle.command_answers.specs.Words.{fault_text}
 -- what is printed of a fault
 abbrev pub command_fault_text : CommandFault → List ℕ
 command_fault_text (fault.Word f) = fault_text f
+command_fault_text fault.NotANetwork = codes "not a network"
+command_fault_text fault.NotANumber = codes "not the number of a fault"
 command_fault_text (fault.Wire f) = wire_fault_text f
 command_fault_text (fault.Config f) = config_fault_text f
 command_fault_text (fault.Refused f) = refusal_text f
@@ -28,6 +30,8 @@ command_fault_text fault.NoEntry = codes "no entry"
 abbrev pub status_of : CommandFault → ℕ
 status_of (fault.Word NotAnAddress) = 2
 status_of (fault.Word NotHexadecimal) = 2
+status_of fault.NotANetwork = 2
+status_of fault.NotANumber = 2
 status_of _ = 1
 
 abbrev pub fault_line : List ℕ → List ℕ

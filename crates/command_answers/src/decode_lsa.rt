@@ -1,6 +1,7 @@
 //! The command `decode`.
 ghost use Rattle.std.specs.Prelude.{◌≡◌, IfOk, IfErr, string_bytes};
 ghost use Rattle.command_answers.specs.Answers.{Tells, value_of};
+ghost use Rattle.lsa_words.specs.Words.{words_of as lsa_in_words};
 ghost use Rattle.command_answers.specs.Decode.{Decodes, IsDecodeFault, IsDecodeAnswer, decoded_text, front_text as front, ids_text as ids, instance_text as instance};
 
 use crate::answer::{Answer, answer_fault};
@@ -8,17 +9,20 @@ use crate::command_fault::CommandFault;
 use crate::telling::tell;
 use crate::words;
 use lsa_codec::{Checked, Header};
+use lsa_words::put_in_words;
 use ospf_types::address::Address;
+use ospf_types::memory::Memory;
 use std::alloc::{AllocError, Global};
 use std::io;
 
 /// The answer of `decode`: the lines `age A options OO kind K id ADDR router ADDR seq SSSSSSSS sum CCCC
 /// length L` and `body HEX`, or the fault of the word or of its LSA. The age is in seconds; Options,
-/// sequence number, checksum and body are in hexadecimal.
-pub fn answer_decode(alloc: Global, word: &str) -> Answer
-    ensures { IsDecodeAnswer word.now (value_of result) }
+/// sequence number, checksum and body are in hexadecimal. In its long form each field of header and body
+/// has a line, by its name in RFC 2328, A.4.
+pub fn answer_decode(alloc: Global, word: &str, long: bool) -> Answer
+    ensures { IsDecodeAnswer long word.now (value_of result) }
 {
-    match decoded(alloc, word) {
+    match decoded(alloc, word, long) {
         Ok(lines) => Answer::Printed(lines),
         Err(fault) => answer_fault(alloc, fault),
     }
@@ -29,23 +33,36 @@ pub fn answer_decode(alloc: Global, word: &str) -> Answer
 pub fn decode<W: io::Write, F: io::Write>(
     alloc: Global,
     word: &str,
+    long: bool,
     out: &mut W,
     faults: &mut F,
 ) -> u8
-    ensures { Tells (IsDecodeAnswer word.now) result (W.contents out.old) (W.contents out.new)
+    ensures { Tells (IsDecodeAnswer long word.now) result (W.contents out.old) (W.contents out.new)
         (F.contents faults.old) (F.contents faults.new) }
 {
-    tell(&answer_decode(alloc, word), out, faults)
+    tell(&answer_decode(alloc, word, long), out, faults)
 }
 
 // The lines of the LSA that the word is.
-fn decoded(alloc: Global, word: &str) -> Result<String, CommandFault<'static>>
-    ensures lines { IfOk result (λ lines. Decodes word.now (string_bytes lines)) }
+fn decoded(alloc: Global, word: &str, long: bool) -> Result<String, CommandFault<'static>>
+    ensures lines { IfOk result (λ lines. Decodes long word.now (string_bytes lines)) }
     ensures fault { IfErr result (IsDecodeFault word.now) }
 {
     let bytes = words::bytes(alloc, word)?;
     let lsa = lsa_codec::read(alloc, bytes.as_slice())?;
+    if long {
+        return Ok(in_words(alloc, &lsa)?);
+    }
     Ok(lines_of(alloc, &lsa)?)
+}
+
+// Each field, a line each.
+fn in_words(alloc: Global, lsa: &Checked) -> Result<String, Memory>
+    ensures { IfOk result (λ lines. string_bytes lines ≡ lsa_in_words lsa.now) }
+{
+    let mut lines = String::new(alloc);
+    put_in_words(lsa, &mut lines)?;
+    Ok(lines)
 }
 
 // Header and body, each with its line feed.

@@ -1,0 +1,50 @@
+-- What `abr changes` wrote.
+use Rattle.std.specs.Prelude.{ℕ, ◌≡◌, ◌⊎◌, List, Option, Some, None}
+use Rattle.std.specs.Borrow.{Bor}
+use Rattle.ospf_types.specs.declared.prefix.Prefix.{Prefix}
+use Rattle.recording.specs.Faults.{IsFaultOf}
+use Rattle.word_reading.specs.Writing.{WritesNetwork}
+use Rattle.replay.specs.Inputs.{ReadsAll}
+use Rattle.replay.specs.declared.fault.ReplayFault.{ReplayFault}
+use Rattle.replay.specs.declared.fault.ReplayFault.TheVariants.{Read, Write, Memory, Line}
+use Rattle.replay.specs.declared.page.Stop.TheVariants as stop
+use Rattle.changes.specs.Outputs.{TellsAll, TellsPart}
+use Rattle.worker_replay.specs.declared.fault.ManyFault.TheVariants.{Replay}
+use Rattle.command_answers.specs.declared.command_fault.CommandFault.TheVariants as fault
+use Rattle.command_answers.specs.Answers.{IsSaid, IsSaidOf}
+use Rattle.command_answers.specs.Faults.{command_fault_text, fault_line}
+use Rattle.abr_cli.specs.Replaying.{fault_from}
+
+-- the word asks for this network; without a word all are asked for
+abbrev pub Asks : Option (Bor (List ℕ)) → Option Prefix → Type 0
+Asks None None = Unit {0}
+Asks None (Some p) = ⊥
+Asks (Some word) None = ⊥
+Asks (Some word) (Some p) = WritesNetwork word.now p
+
+-- the word is no network
+abbrev pub LacksNetwork : Option (Bor (List ℕ)) → Type 0
+LacksNetwork None = ⊥
+LacksNetwork (Some word) = (p : Prefix) → ¬ WritesNetwork word.now p
+
+-- what was made of the input and the output where it ended early for this fault
+abbrev pub TellsEarly : Option Prefix → ReplayFault → (i i' o o' : Option (List ℕ)) → Type 0
+TellsEarly only Read i i' o o' = o' ≡ o
+TellsEarly only Write i i' o o' = TellsPart stop.Write only i i' o o'
+TellsEarly only Memory i i' o o' = (o' ≡ o) ⊎ TellsPart stop.Memory only i i' o o'
+TellsEarly only (Line f) i i' o o' = (o' ≡ o) × ((bytes : List ℕ) × ReadsAll i i' bytes × IsFaultOf bytes f)
+
+-- nothing was read, and it was said that the word is no network, or that there is no memory for that line
+abbrev pub IsWordSaid : (status : ℕ) (i i' o o' f f' : Option (List ℕ)) → Type 0
+IsWordSaid status i i' o o' f f' =
+    (i' ≡ i) × (o' ≡ o) × (IsSaid (fault_line (command_fault_text fault.NotANetwork)) 2 status f f' ⊎ IsSaid (fault_line (command_fault_text fault.Memory)) 1 status f f')
+
+-- what is told of the networks that are asked for went to its end, and nothing was said; or it ended early, and its fault was said
+abbrev pub IsTellingTold : Bor (List ℕ) → Option Prefix → (status : ℕ) (i i' o o' f f' : Option (List ℕ)) → Type 0
+IsTellingTold file only status i i' o o' f f' = ((status ≡ 0) × TellsAll only i i' o o' × (f' ≡ f))
+    ⊎ ((e : ReplayFault) × TellsEarly only e i i' o o' × IsSaidOf (fault_from file (Replay e)) status f f')
+
+-- the word of the one network, if there is one, was no network; or what is asked for was told
+abbrev pub IsChangesTold : Bor (List ℕ) → Option (Bor (List ℕ)) → (status : ℕ) (i i' o o' f f' : Option (List ℕ)) → Type 0
+IsChangesTold file word status i i' o o' f f' = (LacksNetwork word × IsWordSaid status i i' o o' f f')
+    ⊎ ((only : Option Prefix) × Asks word only × IsTellingTold file only status i i' o o' f f')

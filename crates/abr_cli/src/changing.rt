@@ -1,0 +1,64 @@
+//! The command `changes`.
+ghost use Rattle.std.specs.Prelude.{◌≡◌, IfOk, IfErr};
+ghost use Rattle.command_answers.specs.declared.command_fault.CommandFault.TheVariants as fault;
+ghost use Rattle.abr_cli.specs.Changing.{Asks, IsChangesTold, LacksNetwork};
+
+use crate::replaying::{say_end, say_fault};
+use changes::tell_changes;
+use command_answers::CommandFault;
+use ospf_types::prefix::Prefix;
+use std::alloc::Global;
+use std::hash::RandomState;
+use std::io;
+use word_reading::network_of;
+use worker_replay::ManyFault;
+
+/// The command `changes`, as it was given.
+#[derive(Clone, Copy)]
+pub struct Changes<'a> {
+    /// The recording's name.
+    pub file: &'a str,
+    /// The word of the one network that is asked for, where not all are.
+    pub only: Option<&'a str>,
+}
+
+impl Changes<'_> {
+    /// Runs the recording that `input` holds, and writes to `out` what each of its events changed. Why it ends early is written
+    /// to `faults`; what is returned is the status: 2 where the word is no network, and then nothing was read, and else 0
+    /// or 1.
+    pub fn run<R: io::Read, W: io::Write, F: io::Write>(
+        self,
+        alloc: Global,
+        hashing: RandomState,
+        input: &mut R,
+        out: &mut W,
+        faults: &mut F,
+    ) -> u8
+        ensures { IsChangesTold self.entry.file self.entry.only result (R.remaining input.old)
+            (R.remaining input.new) (W.contents out.old) (W.contents out.new)
+            (F.contents faults.old) (F.contents faults.new) }
+    {
+        let only = match asked(self.only) {
+            Ok(only) => only,
+            Err(fault) => return say_fault(alloc, fault, faults),
+        };
+        match tell_changes(alloc, hashing, input, out, only) {
+            Ok(()) => 0,
+            Err(fault) => say_end(alloc, self.file, ManyFault::Replay(fault), faults),
+        }
+    }
+}
+
+// The network that the word asks for; none where there is no word.
+fn asked(word: Option<&str>) -> Result<Option<Prefix>, CommandFault<'static>>
+    ensures asked { IfOk result (Asks word) }
+    ensures lacks { IfErr result (λ e. (e ≡ fault.NotANetwork) × LacksNetwork word) }
+{
+    let Some(word) = word else {
+        return Ok(None);
+    };
+    match network_of(word) {
+        Some(network) => Ok(Some(network)),
+        None => Err(CommandFault::NotANetwork),
+    }
+}

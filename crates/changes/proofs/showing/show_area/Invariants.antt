@@ -1,0 +1,11 @@
+use Rattle.std.proofs.Common.{string_bytes, drop}
+use Rattle.std.specs.List.{flat_map}
+use Rattle.replay.proofs.Paging.{Adding}
+use Rattle.changes.specs.Lines.{line_of, lines_of}
+use Rattle.changes.specs.Changes.{area_due, summary_due}
+use Rattle.changes.proofs.showing.show_area.Given as goal
+
+abbrev pub invariant-loop-due : goal.invariant-loop-due
+invariant-loop-due g l =
+    Adding (g.W.Write.contents l.initial.out) (g.W.Write.contents l.out) (string_bytes l.initial.page) (string_bytes l.page)
+    (lines_of l.at.number l.at.only (area_due (l.area, l.list))) (flat_map (λ due. line_of l.at.number l.at.only (summary_due l.area due)) (drop l.due-index l.list))

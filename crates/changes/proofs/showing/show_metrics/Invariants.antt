@@ -1,0 +1,11 @@
+use Rattle.std.proofs.Common.{string_bytes, drop}
+use Rattle.std.specs.List.{flat_map}
+use Rattle.replay.proofs.Paging.{Adding}
+use Rattle.changes.specs.Lines.{line_of, lines_of}
+use Rattle.changes.specs.Changes.{area_changes, due_change}
+use Rattle.changes.proofs.showing.show_metrics.Given as goal
+
+abbrev pub invariant-loop-change : goal.invariant-loop-change
+invariant-loop-change g l =
+    Adding (g.W.Write.contents l.initial.out) (g.W.Write.contents l.out) (string_bytes l.initial.page) (string_bytes l.page)
+    (lines_of l.at.number l.at.only (area_changes (l.area, l.metrics))) (flat_map (λ change. line_of l.at.number l.at.only (due_change l.area change)) (drop l.change-index l.metrics))

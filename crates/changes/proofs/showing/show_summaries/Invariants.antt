@@ -1,0 +1,10 @@
+use Rattle.std.proofs.Common.{string_bytes, drop}
+use Rattle.std.specs.List.{flat_map}
+use Rattle.replay.proofs.Paging.{Adding}
+use Rattle.changes.proofs.Texts.{all_listed, listed_in}
+use Rattle.changes.proofs.showing.show_summaries.Given as goal
+
+abbrev pub invariant-loop-area : goal.invariant-loop-area
+invariant-loop-area g l =
+    Adding (g.W.Write.contents l.initial.out) (g.W.Write.contents l.out) (string_bytes l.initial.page) (string_bytes l.page) (all_listed l.at.number l.at.only l.area-items)
+    (flat_map (listed_in l.at.number l.at.only) (drop l.area-index l.area-items))
