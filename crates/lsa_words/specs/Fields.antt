@@ -1,4 +1,4 @@
--- What is printed of one field, by its unit.
+-- What is printed of a field, and the lines that several fields share.
 use Rattle.std.specs.Prelude.{ℕ, ◌++◌, ◌==◌, cond, if◌then◌else◌, nat_lt, bit_and, List, [], ◌∷◌, codes, decimal}
 use Rattle.hex.specs.Hex.{encode_lower}
 use Rattle.ospf_types.specs.declared.lsa.LinkKind.{LinkKind}
@@ -18,11 +18,11 @@ number_line name number = name ++ codes ": " ++ decimal number ++ codes "\n"
 abbrev pub hexadecimal_line : (name bytes : List ℕ) → List ℕ
 hexadecimal_line name bytes = name ++ codes ": " ++ encode_lower bytes ++ codes "\n"
 
--- an age in seconds, and whether it is the last
+-- behind an age in seconds, whether it is MaxAge
 abbrev pub age_note : ℕ → List ℕ
 age_note age = cond (age == MaxAge) (codes " (MaxAge)") (codes "")
 
--- a metric of 24 bits, and whether it is that of what is not reached (appendix B)
+-- behind a metric of 24 bits, whether it is LSInfinity, that of a destination which is not reached (B)
 abbrev pub metric_note : ℕ → List ℕ
 metric_note metric = cond (metric == 0xff_ffff) (codes " (LSInfinity)") (codes "")
 

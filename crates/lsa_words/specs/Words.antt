@@ -56,6 +56,7 @@ abbrev pub links_words : ℕ → List RouterLink → List ℕ
 links_words number [] = codes ""
 links_words number (l ∷ links) = link_words number l ++ links_words (number + 1) links
 
+-- how many there are, then each
 abbrev pub counted_links : List RouterLink → List ℕ
 counted_links links = number_line (codes "Links") (length links) ++ links_words 1 links
 

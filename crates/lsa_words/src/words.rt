@@ -13,7 +13,8 @@ use ospf_types::memory::Memory;
 
 /// Appends the LSA in words, a line for each field, link, attached router and TOS entry, in the
 /// order of its bytes. Ages are in seconds, and the length is in bytes. Options, router bits,
-/// sequence number and checksum are in hexadecimal. If memory runs out, the text may have a part.
+/// sequence number and checksum are in hexadecimal. If memory runs out, the text may have a part
+/// of this.
 pub fn put_in_words(lsa: &Checked, text: &mut String) -> Result<(), Memory>
     ensures { OnOk result (string_bytes text.new ≡ string_bytes text.old ++ words_of lsa.now) }
 {
@@ -31,6 +32,7 @@ fn put_body(lsa: &Checked, text: &mut String) -> Result<(), Memory>
         ROUTER_LSA => put_router(body, text),
         NETWORK_LSA => put_network(body, text),
         SUMMARY_LSA => put_summary(body, text),
+        // A.4.4: the mask of this one is zero.
         BOUNDARY_SUMMARY_LSA => put_summary(body, text),
         _ => put_external(body, text),
     }
