@@ -38,8 +38,8 @@ pub(crate) fn put_bytes(name: &str, bytes: &[u8], text: &mut String) -> Result<(
     Ok(())
 }
 
-/// At most four bytes in hexadecimal.
-pub(crate) fn put_hexadecimal(bytes: &[u8], text: &mut String) -> Result<(), Memory>
+/// At most four bytes in hexadecimal, in lower case.
+pub fn put_hexadecimal(bytes: &[u8], text: &mut String) -> Result<(), Memory>
     requires { length bytes.now ≤ 4 }
     ensures { OnOk result (string_bytes text.new ≡ string_bytes text.old
         ++ encode_lower bytes.now) }

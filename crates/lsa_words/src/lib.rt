@@ -9,4 +9,5 @@ mod router;
 mod summary;
 mod words;
 
+pub use fields::put_hexadecimal;
 pub use words::put_in_words;

@@ -1,13 +1,8 @@
 -- The pieces of a format, as they are written one behind the other.
-use Rattle.std.proofs.Common.{◌≡◌, ◌∙◌, ◌++◌, List, [], ◌∷◌, ℕ, Bool, true, ◌&&◌, ltb, codes, refl, sym, subst, append_assoc}
+use Rattle.std.proofs.Common.{◌≡◌, ◌∙◌, ◌++◌, List, ℕ, codes, append_assoc}
 use Rattle.std.specs.Prelude.{decimal}
 use Rattle.std.specs.Int.{w16, w32, to_be_bytes}
-use Rattle.std.specs.Str.{IsAscii, IsUtf8}
-use Rattle.std.proofs.lemmas.Bool.{and_parts, ltb-true}
-use Rattle.std.proofs.lemmas.Str.{IsUtf8-from_ascii}
-use Rattle.std.proofs.lemmas.Str.Ascii.{IsAscii-nil, IsAscii-cons}
-use Rattle.hex.specs.Hex.{encode_lower, lower_digits}
-use Rattle.hex.proofs.HexLemmas.{IsAscii-encode_with}
+use Rattle.hex.specs.Hex.{encode_lower}
 use Rattle.ospf_types.specs.declared.lsa.Header.{Header}
 use Rattle.ospf_types.specs.Text.{address_text}
 use Rattle.route_table.specs.declared.table.Match.{Match}
@@ -19,20 +14,6 @@ pub lookup_printed : (old new : List ℕ) (number address serial other : ℕ) (f
     → new ≡ old ++ (decimal number ++ (codes " lookup " ++ (address_text address ++ (codes " " ++ (decimal serial ++ (codes " " ++ (match_text found ++ codes "\n")))))))
     → serial ≡ other → new ≡ old ++ lookup_line number address other found
 lookup_printed old new number address serial other found written is = written ∙ rw is (simp append_assoc)
-
--- a test that computes
-abbrev are_ascii : List ℕ → Bool
-are_ascii [] = true
-are_ascii (b ∷ bytes) = ltb b 128 && are_ascii bytes
-
-ascii_of_test : (bytes : List ℕ) → are_ascii bytes ≡ true → IsAscii bytes
-ascii_of_test [] h = IsAscii-nil
-ascii_of_test (b ∷ bytes) h = let (here, rest) = and_parts (ltb b 128) (are_ascii bytes) h in IsAscii-cons b bytes (ltb-true b 128 here) (ascii_of_test bytes rest)
-
--- hexadecimal digits are text
-pub digits_are_text : (digits bytes : List ℕ) → digits ≡ encode_lower bytes → ¬ IsUtf8 digits → ⊥
-digits_are_text digits bytes is wrong =
-    wrong (subst IsUtf8 (sym is) (IsUtf8-from_ascii (encode_lower bytes) (IsAscii-encode_with lower_digits bytes (ascii_of_test lower_digits refl))))
 
 -- the parts of a header, each appended to what stands before
 pub header_printed : (old front first space second new seq sum : List ℕ) (h : Header)

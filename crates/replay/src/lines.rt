@@ -1,7 +1,6 @@
 //! The lines that a replay prints, each appended to a text. If memory runs out, the text may
 //! have a part of the line.
-ghost use Rattle.std.specs.Prelude.{◌≡◌, ◌≤◌, ◌++◌, OnOk, codes, length, string_bytes};
-ghost use Rattle.hex.specs.Hex.{encode_lower};
+ghost use Rattle.std.specs.Prelude.{◌≡◌, ◌++◌, OnOk, codes, string_bytes};
 ghost use Rattle.recording.specs.Forms.{scope_text};
 ghost use Rattle.route_table.specs.declared.table.Match.{Match};
 ghost use Rattle.route_table.specs.Tables.{IsMatch};
@@ -9,6 +8,7 @@ ghost use Rattle.replay.specs.Lines.{lookup_line, answer_line, roll_line, serial
 
 use event_core::{Core, DueSummary, Refusal, Reply, Status};
 use lsa_codec::{Checked, Header};
+use lsa_words::put_hexadecimal;
 use ospf_types::address::Address;
 use ospf_types::key::{Dest, Scope};
 use ospf_types::memory::Memory;
@@ -148,22 +148,4 @@ fn put_header(header: &Header, text: &mut String) -> Result<(), Memory>
     put_hexadecimal(&header.sum.to_be_bytes(), text)?;
     write!(text, " {age}")?;
     Ok(())
-}
-
-// At most four bytes.
-fn put_hexadecimal(bytes: &[u8], text: &mut String) -> Result<(), Memory>
-    requires { length bytes.now ≤ 4 }
-    ensures { OnOk result (string_bytes text.new ≡ string_bytes text.old
-        ++ encode_lower bytes.now) }
-{
-    let mut room = [0; 8];
-    let digits = &mut room[..2 * bytes.len()];
-    match hex::encode_to_slice(bytes, digits) {
-        Ok(()) => {}
-        Err(_) => unreachable!(),
-    }
-    match str::from_utf8(digits) {
-        Ok(digits) => Ok(text.push_str(digits)?),
-        Err(_) => unreachable!(),
-    }
 }
