@@ -10,6 +10,8 @@ mod recordings;
 #[cfg(test)]
 mod replays;
 mod row;
+#[cfg(test)]
+mod told_changes;
 mod trial;
 #[cfg(test)]
 mod workers;

@@ -7,7 +7,8 @@ use std::hash::RandomState;
 use std::io;
 use std::test::Fail;
 
-const RECORDING: &str = "abr 1
+/// A router with one network.
+pub const RECORDING: &str = "abr 1
 router 10.0.0.1
 area 0.0.0.0 normal
 interface 1 0.0.0.0 192.0.2.1 0.0.0.0 up
@@ -22,11 +23,12 @@ serial 2 built 2
 route 192.0.2.0/24 intra 0.0.0.0 10 0 direct:1
 ";
 
-// A device that gives or takes at most sixteen bytes at a call, and does so for some calls.
+/// A device that gives or takes at most sixteen bytes at a call, and does so for some calls.
 #[derive(Drop)]
-struct Device<'a> {
+pub struct Device<'a> {
     left: &'a [u8],
-    taken: Vec<u8>,
+    /// What was written to it.
+    pub taken: Vec<u8>,
     calls: u8,
     // What it does then: it fails, or takes nothing.
     fails: bool,
@@ -66,7 +68,8 @@ impl io::Write for Device<'_> {
     }
 }
 
-fn some_device(alloc: Global, text: &str, calls: u8, fails: bool) -> Device<'_> {
+/// A device with this text to be read.
+pub fn some_device(alloc: Global, text: &str, calls: u8, fails: bool) -> Device<'_> {
     let (left, taken) = (text.as_bytes(), Vec::new(alloc));
     Device {
         left,

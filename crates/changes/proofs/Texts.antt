@@ -1,15 +1,19 @@
 -- The lines that tell changes: each is whole, and those of a list stand one behind the other.
-use Rattle.std.proofs.Common.{◌≡◌, ◌∙◌, ◌++◌, ◌+◌, ◌<◌, ℕ, Bool, true, false, cond, List, [], ◌∷◌, Option, codes, drop, get_or, length, map, refl, sym, ap, append_assoc, append-nil, inr}
-use Rattle.std.specs.Prelude.{decimal}
+use Rattle.std.proofs.Common.{◌≡◌, ◌++◌, ◌+◌, ◌<◌, ℕ, Bool, true, false, cond, List, [], ◌∷◌, Option, codes, drop, get_or, length, map, Some, refl, sym, ap, ◌∙◌, append_assoc, append-nil, inr}
+use Rattle.std.specs.Prelude.{decimal, slice_get}
+use Rattle.std.proofs.lemmas.List.{drop_more}
+use Rattle.std.proofs.lemmas.Option.{get_or_from_slice_get, slice_get_within}
 use Rattle.std.specs.List.{flat_map}
 use Rattle.ospf_types.specs.declared.key.Dest.{Dest}
 use Rattle.ospf_types.specs.declared.prefix.Prefix.{Prefix}
-use Rattle.ospf_types.specs.Text.{prefix_text}
+use Rattle.ospf_types.specs.Text.{address_text, prefix_text}
 use Rattle.event_core.specs.DueSummaries.{listed}
 use Rattle.event_core.specs.Lists.{AreaSummariesValue}
 use Rattle.replay.specs.Stops.{AreWhole}
 use Rattle.replay.proofs.Wholes.{none_whole}
-use Rattle.changes.specs.Changes.{area_due}
+use Rattle.summary_lists.specs.Lists.{Metrics, kind_of}
+use Rattle.replay.specs.Lines.{dest_text}
+use Rattle.changes.specs.Changes.{area_changes, area_due}
 use Rattle.changes.specs.Lines.{Change, Set, Drop, Due, Undue, change_line, is_told, item_text, line_of, lines_of, place_text}
 
 ended : (front : List ℕ) → AreWhole (front ++ codes "\n")
@@ -52,3 +56,26 @@ pub listed_is : (number : ℕ) (only : Option Prefix) (areas : List AreaSummarie
 listed_is number only [] = refl
 listed_is number only (w ∷ areas) =
     ap (λ l. listed_in number only w ++ l) (listed_is number only areas) ∙ sym (lines_both number only (area_due (w.area, w.list)) (flat_map area_due (listed areas)))
+
+-- ---- what changed in the areas
+
+abbrev pub changed_in : ℕ → Option Prefix → ℕ × Metrics → List ℕ
+changed_in number only e = lines_of number only (area_changes e)
+
+-- the lines of the area at a place, and those of the areas behind it
+pub area_next : {A : Type 0} (lines : A → List ℕ) (xs : List A) (i : ℕ) (x : A) → slice_get xs i ≡ Some x → flat_map lines (drop i xs) ≡ lines x ++ flat_map lines (drop (i + 1) xs)
+area_next {A} lines xs i x is = ap (flat_map lines) (drop_more xs i x (slice_get_within xs i x is) ∙ ap (λ (y : A). y ∷ drop (i + 1) xs) (get_or_from_slice_get xs i x x is))
+
+-- ---- the pieces of a line, as they are written one behind the other
+
+pub place_printed : (old front new : List ℕ) (area kind : ℕ) (dest : Dest) → front ≡ old ++ (address_text area ++ (codes " " ++ (decimal kind ++ codes " "))) → kind ≡ kind_of dest → new ≡ front ++ dest_text dest
+    → new ≡ old ++ place_text area dest
+place_printed old front new area kind dest p is q = q ∙ rw (p, is) (simp append_assoc)
+
+pub due_printed : (old front place new : List ℕ) (number area metric : ℕ) (dest : Dest) → front ≡ old ++ (decimal number ++ codes " due ") → place ≡ front ++ place_text area dest
+    → new ≡ place ++ (codes " " ++ (decimal metric ++ codes "\n")) → new ≡ old ++ change_line number (Due area dest metric)
+due_printed old front place new number area metric dest p q r = r ∙ rw (q, p) (simp append_assoc)
+
+pub undue_printed : (old front place new : List ℕ) (number area : ℕ) (dest : Dest) → front ≡ old ++ (decimal number ++ codes " undue ") → place ≡ front ++ place_text area dest
+    → new ≡ place ++ codes "\n" → new ≡ old ++ change_line number (Undue area dest)
+undue_printed old front place new number area dest p q r = r ∙ rw (q, p) (simp append_assoc)

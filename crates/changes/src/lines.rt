@@ -106,7 +106,8 @@ fn put_place(area: u32, dest: Dest, text: &mut String) -> Result<(), Memory>
 {
     let (area, kind) = (Address(area), kind_of(dest));
     write!(text, "{area} {kind} ")?;
-    put_dest(dest, text)
+    put_dest(dest, text)?;
+    Ok(())
 }
 
 // The LS type of a summary-LSA for the destination (RFC 2328, 12.4.3).

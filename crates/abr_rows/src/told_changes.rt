@@ -1,0 +1,68 @@
+//! What events changed, over readers and writers that fail.
+
+use crate::replays::{RECORDING, some_device};
+use changes::tell_changes;
+use recording::{Fault, LineFault};
+use replay::ReplayFault;
+use std::alloc::Global;
+use std::hash::RandomState;
+use std::test::Fail;
+
+const CHANGES: &str = "5 set 192.0.2.0/24 intra 0.0.0.0 10 0 direct:1
+";
+
+// What is answered with so many reads and writes, and whether what was written is a beginning of the
+// changes, and all of them.
+fn tells(
+    alloc: Global,
+    hashing: RandomState,
+    text: &str,
+    calls: (u8, u8),
+    fails: bool,
+) -> (Result<(), ReplayFault>, bool, bool) {
+    let mut input = some_device(alloc, text, calls.0, true);
+    let mut out = some_device(alloc, "", calls.1, fails);
+    let answer = tell_changes(alloc, hashing, &mut input, &mut out, None);
+    let written = out.taken.as_slice();
+    let begins = CHANGES.as_bytes().starts_with(written);
+    (answer, begins, written.len() == CHANGES.len())
+}
+
+// The recording is read in fifteen calls, the last of which gives nothing.
+#[test]
+fn a_reader_that_fails(rt: HostRuntime) -> Result<(), Fail> {
+    let hashing = RandomState::new(&rt)?;
+    let mut all = true;
+    for calls in 0..15 {
+        let found = tells(rt.alloc(), hashing, RECORDING, (calls, 255), true);
+        all &= found == (Err(ReplayFault::Read), true, false);
+    }
+    let whole = tells(rt.alloc(), hashing, RECORDING, (255, 255), true);
+    assert!(rt; all && whole == (Ok(()), true, true));
+    Ok(())
+}
+
+// The line is written in three calls.
+#[test]
+fn a_writer_that_fails_or_takes_nothing(rt: HostRuntime) -> Result<(), Fail> {
+    let hashing = RandomState::new(&rt)?;
+    let mut all = true;
+    for calls in 0..3 {
+        for fails in [true, false] {
+            let found = tells(rt.alloc(), hashing, RECORDING, (255, calls), fails);
+            all &= found == (Err(ReplayFault::Write), true, false);
+        }
+    }
+    assert!(rt; all);
+    Ok(())
+}
+
+#[test]
+fn a_fault_of_the_input_writes_nothing(rt: HostRuntime) -> Result<(), Fail> {
+    let hashing = RandomState::new(&rt)?;
+    let (line, fault) = (2, Fault::Truncated);
+    let line_fault = ReplayFault::Line(LineFault { line, fault });
+    let found = tells(rt.alloc(), hashing, "abr 1\n", (255, 0), true);
+    assert!(rt; found == (Err(line_fault), true, false));
+    Ok(())
+}
