@@ -6,7 +6,7 @@ use Rattle.recording.specs.Faults.{IsFaultOf}
 use Rattle.word_reading.specs.Writing.{WritesNetwork}
 use Rattle.replay.specs.Inputs.{ReadsAll}
 use Rattle.replay.specs.declared.fault.ReplayFault.{ReplayFault}
-use Rattle.replay.specs.declared.fault.ReplayFault.TheVariants.{Read, Write, Memory, Line}
+use Rattle.replay.specs.declared.fault.ReplayFault.TheVariants.{Read, Write, Closed, Memory, Line}
 use Rattle.replay.specs.declared.page.Stop.TheVariants as stop
 use Rattle.changes.specs.Outputs.{TellsAll, TellsPart}
 use Rattle.worker_replay.specs.declared.fault.ManyFault.TheVariants.{Replay}
@@ -31,6 +31,7 @@ LacksNetwork (Some word) = (p : Prefix) → ¬ WritesNetwork word.now p
 abbrev pub TellsEarly : Option Prefix → ReplayFault → (i i' o o' : Option (List ℕ)) → Type 0
 TellsEarly only Read i i' o o' = o' ≡ o
 TellsEarly only Write i i' o o' = TellsPart stop.Write only i i' o o'
+TellsEarly only Closed i i' o o' = TellsPart stop.Closed only i i' o o'
 TellsEarly only Memory i i' o o' = (o' ≡ o) ⊎ TellsPart stop.Memory only i i' o o'
 TellsEarly only (Line f) i i' o o' = (o' ≡ o) × ((bytes : List ℕ) × ReadsAll i i' bytes × IsFaultOf bytes f)
 

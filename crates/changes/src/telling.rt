@@ -28,7 +28,8 @@ use std::io;
 ///
 /// For a fault of the input nothing is written. Where a write fails or memory runs out, also where it runs out over what
 /// follows from an event, a beginning is written: something is missing where a write failed, and no line is cut where
-/// memory ran out.
+/// memory ran out. A failed write is told as `Closed` where the writer's error is of the kind `BrokenPipe`, and else as
+/// `Write`.
 pub fn tell_changes<R: io::Read, W: io::Write>(
     alloc: Global,
     hashing: RandomState,
@@ -44,6 +45,9 @@ pub fn tell_changes<R: io::Read, W: io::Write>(
         × IsFaultOf bytes f) }
     ensures write { result ≡ Err replay_fault.Write
         → TellsPart stop.Write only (R.remaining input.old) (R.remaining input.new)
+        (W.contents out.old) (W.contents out.new) }
+    ensures closed { result ≡ Err replay_fault.Closed
+        → TellsPart stop.Closed only (R.remaining input.old) (R.remaining input.new)
         (W.contents out.old) (W.contents out.new) }
     ensures memory { result ≡ Err replay_fault.Memory → (out.new ≡ out.old)
         ⊎ TellsPart stop.Memory only (R.remaining input.old) (R.remaining input.new)

@@ -1,6 +1,7 @@
 use Rattle.std.proofs.Common.{ap, sym, ◌∙◌}
 use Rattle.std.specs.List.{flat_map}
 use Rattle.std.specs.FinMap.{entries}
+use Rattle.replay.specs.Stops.{stop_of}
 use Rattle.replay.specs.declared.page.Stop.TheVariants as stop
 use Rattle.replay.proofs.Written.{err_as}
 use Rattle.replay.proofs.Paging.{adding_none, adding_more, adding_part, adding_stopped}
@@ -25,6 +26,6 @@ returns-in_err-put_network-clause-err g c = λ whole. err_as _ c.from_residual.r
 
 pub returns-in_err-spill-clause-err : goal.returns-in_err-spill-clause-err
 returns-in_err-spill-clause-err g c =
-    λ whole. err_as _ c.from_residual-in_err-spill.result stop.Write c.from_residual-in_err-spill.ensures.1
-    (adding_stopped stop.Write _ _ _ _ _ _ _ _ _ _ whole c.loop-prefix.invariant (ap (flat_map (λ e. line_of c.args.at.number c.args.at.only (item_set e))) c.in-Some.ensures.steps) c.in_ok-put_network.ensures
+    λ whole. err_as _ c.from_residual-in_err-spill.result (stop_of c.in_err-spill.field-0.0) c.from_residual-in_err-spill.ensures.1
+    (adding_stopped (stop_of c.in_err-spill.field-0.0) _ _ _ _ _ _ _ _ _ _ whole c.loop-prefix.invariant (ap (flat_map (λ e. line_of c.args.at.number c.args.at.only (item_set e))) c.in-Some.ensures.steps) c.in_ok-put_network.ensures
     (line_whole c.args.at.number c.args.at.only (item_set (c.in-Some.prefix, c.in-Some.item.now))) c.in_err-spill.ensures.err)

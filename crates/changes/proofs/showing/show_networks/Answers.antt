@@ -1,4 +1,5 @@
 use Rattle.std.proofs.Common.{◌≡◌, ◌++◌, List, ℕ, string_bytes, ap, ◌∙◌}
+use Rattle.replay.specs.Stops.{stop_of}
 use Rattle.replay.specs.declared.page.Stop.TheVariants as stop
 use Rattle.replay.proofs.Written.{err_as}
 use Rattle.replay.proofs.Paging.{adding_none, adding_more, adding_part, adding_stopped, line_next}
@@ -23,5 +24,5 @@ pub returns-in_err-spill-clause-err : goal.returns-in_err-spill-clause-err
 returns-in_err-spill-clause-err g c =
     let next = line_next (λ p. line_of c.args.at.number c.args.at.only (network_change c.args.table.now.items p)) c.args.networks.now c.loop-prefix.prefix-index c.prefix-item.result c.loop-prefix-test.true c.prefix-item.is in
     let put = c.in_ok-put_network.ensures ∙ ap (λ o. string_bytes c.loop-prefix.page ++ line_of c.args.at.number c.args.at.only (change_to c.prefix-item.result o)) c.get.ensures in
-    λ whole. err_as _ c.from_residual-in_err-spill.result stop.Write c.from_residual-in_err-spill.ensures.1
-    (adding_stopped stop.Write _ _ _ _ _ _ _ _ _ _ whole c.loop-prefix.invariant next put (line_whole c.args.at.number c.args.at.only (network_change c.args.table.now.items c.prefix-item.result)) c.in_err-spill.ensures.err)
+    λ whole. err_as _ c.from_residual-in_err-spill.result (stop_of c.in_err-spill.field-0.0) c.from_residual-in_err-spill.ensures.1
+    (adding_stopped (stop_of c.in_err-spill.field-0.0) _ _ _ _ _ _ _ _ _ _ whole c.loop-prefix.invariant next put (line_whole c.args.at.number c.args.at.only (network_change c.args.table.now.items c.prefix-item.result)) c.in_err-spill.ensures.err)
