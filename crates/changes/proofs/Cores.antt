@@ -54,15 +54,15 @@ lists_ids s (a ∷ areas) (x ∷ lists) h = λ i. h.0.0 i ∷ lists_ids s areas 
 abbrev config_ids : List AreaConfig → List ℕ
 config_ids areas = map (λ (a : AreaConfig). a.id) areas
 
-input_ids : {f : AreaConfig → Area} → ((a : AreaConfig) → (f a).id ≡ a.id) → (areas : List AreaConfig) → map (λ (a : Area). a.id) (map f areas) ≡ config_ids areas
-input_ids same [] = refl
-input_ids same (a ∷ areas) = λ i. same a i ∷ input_ids same areas i
+input_ids : (f : AreaConfig → Area) → ((a : AreaConfig) → (f a).id ≡ a.id) → (areas : List AreaConfig) → map (λ (a : Area). a.id) (map f areas) ≡ config_ids areas
+input_ids f same [] = refl
+input_ids f same (a ∷ areas) = λ i. same a i ∷ input_ids f same areas i
 
 -- the lists of a state are those of the configured areas
 due_ids : (b : Base) (limits : Limits) (es : List Event) (lists : Lists) → AreDue (run_of b limits es) lists → ids_of lists ≡ config_ids b.config.areas
 due_ids b limits es lists due =
     let s : State = run_of b limits es in
-    lists_ids (inputs_of s) (inputs_of s).areas lists due ∙ input_ids (λ a. refl) s.config.areas ∙ ids_kept s.config.areas b.config.areas (areas_kept s.config b.config (kept_since b limits es))
+    lists_ids (inputs_of s) (inputs_of s).areas lists due ∙ input_ids _ (λ a. refl) s.config.areas ∙ ids_kept s.config.areas b.config.areas (areas_kept s.config b.config (kept_since b limits es))
 
 pub sound_lists : (c : CoreValue) → IsCore c → AreSound c.summaries
 sound_lists c core = let s : State = built_state c in lists_sound (inputs_of s) (inputs_of s).areas c.summaries core.due
@@ -110,7 +110,7 @@ roll_gives before old new (Err refusal) given (refused, same) = subst (Give befo
 pub give_line : (before told : List Change) (old new : CoreValue) (l : Line) → IsCore old → Give before old → TellsLine old l new told → Give (before ++ told) new
 give_line before told old new (line.Event e) core given (answer, applies, is) = event_gives before told old new e answer core given applies is
 give_line before told old new (line.Lookup address) core given (none, same) = give_still before told new (subst (Give before) (sym same) given) none
-give_line before told old new line.Roll core given (none, answer, rolls) = give_still before told new (roll_gives before old new answer given rolls) none
+give_line before told old new line.Roll core given (none, (answer, rolls)) = give_still before told new (roll_gives before old new answer given rolls) none
 
 event_current : (told : List Change) (old new : CoreValue) (e : Event) (answer : Result Reply Refusal) → IsCurrent old → Applies old e answer new → IsToldOf old answer new told → IsCurrent new
 event_current told old new e (Ok reply) current taken (now, differs) = now
@@ -123,4 +123,4 @@ roll_current old new (Err refusal) current (refused, same) = subst IsCurrent (sy
 pub current_line : (told : List Change) (old new : CoreValue) (l : Line) → IsCurrent old → TellsLine old l new told → IsCurrent new
 current_line told old new (line.Event e) current (answer, applies, is) = event_current told old new e answer current applies is
 current_line told old new (line.Lookup address) current (none, same) = subst IsCurrent (sym same) current
-current_line told old new line.Roll current (none, answer, rolls) = roll_current old new answer current rolls
+current_line told old new line.Roll current (none, (answer, rolls)) = roll_current old new answer current rolls

@@ -58,35 +58,49 @@ module _ (only : Option Prefix) (v : Version) (old : CoreValue) (lines : List Li
     written = part.appended;
   }
 
+  -- the numbers of the lines
+  shown_at : (number : ℕ) (a b : Option (List ℕ)) (page put : List ℕ) → number ≡ first → Adds a b page put (lines_of (number - 1) only (all_of old)) → Adds a b page put base
+  shown_at number a b page put counted h = subst (λ n. Adds a b page put (lines_of (n - 1) only (all_of old))) counted h
+
+  told_at : (number : ℕ) (new : CoreValue) (b c : Option (List ℕ)) (put moved : List ℕ) → number ≡ first → Told only old number lines (all_of old) new b c put moved → Told only old first lines (all_of old) new b c put moved
+  told_at number new b c put moved counted h = subst (λ n. Told only old n lines (all_of old) new b c put moved) counted h
+
   -- memory ran out before anything was written
   pub not_begun : (a : Option (List ℕ)) → WritesPart stop.Memory only whole a a
   not_begun a = cut stop.Memory a a 0 [] (all_of old) old (refl, refl, refl) (record { part = []; beginning = record { rest = base ++ []; joined = refl; left = none_whole }; appended = appends_none a })
 
   -- it stops in what the base gives
-  pub base_cut : (why : Stop) (a b : Option (List ℕ)) (page : List ℕ) → page ≡ [] → AddsPart why a b (page ++ base) → WritesPart why only whole a b
-  base_cut why a b page none part =
-      cut why a b 0 [] (all_of old) old (refl, refl, refl) (subst (AddsPart why a b) (ap (λ l. l ++ base) none ∙ sym (append-nil base)) part)
+  pub base_cut : (number : ℕ) (why : Stop) (a b : Option (List ℕ)) (page : List ℕ) → number ≡ first → page ≡ [] → AddsPart why a b (page ++ lines_of (number - 1) only (all_of old)) → WritesPart why only whole a b
+  base_cut number why a b page counted none part =
+      cut why a b 0 [] (all_of old) old (refl, refl, refl)
+      (subst (AddsPart why a b) (ap (λ l. l ++ base) none ∙ sym (append-nil base)) (subst (λ n. AddsPart why a b (page ++ lines_of (n - 1) only (all_of old))) counted part))
 
   -- it stops in the run
-  pub run_cut : (why : Stop) (a b c : Option (List ℕ)) (page put : List ℕ) → page ≡ [] → Adds a b page put base → ToldPart why only old first lines (all_of old) b c put → WritesPart why only whole a c
-  run_cut why a b c page put none shown h =
-      let printed : Adds a b [] put base = subst (λ l. Adds a b l put base) none shown in
+  pub run_cut : (number : ℕ) (why : Stop) (a b c : Option (List ℕ)) (page put : List ℕ) → number ≡ first → page ≡ [] → Adds a b page put (lines_of (number - 1) only (all_of old)) → ToldPart why only old number lines (all_of old) b c put
+      → WritesPart why only whole a c
+  run_cut number why a b c page put counted none shown told =
+      let printed : Adds a b [] put base = subst (λ l. Adds a b l put base) none (shown_at number a b page put counted shown) in
+      let h : ToldPart why only old first lines (all_of old) b c put = subst (λ n. ToldPart why only old n lines (all_of old) b c put) counted told in
       cut why a c h.count h.text h.after h.now h.run (part_more why a b c [] put base h.text none_whole printed h.part)
 
   all_shown : (a b c : Option (List ℕ)) (page put moved : List ℕ) (new : CoreValue) → page ≡ [] → Adds a b page put base → (h : Told only old first lines (all_of old) new b c put moved) → Adds a c [] moved (base ++ h.text)
   all_shown a b c page put moved new none shown h = adds_more a b c [] put moved base h.text (subst (λ l. Adds a b l put base) none shown) h.printed
 
   -- the last page cannot be written
-  pub end_cut : (why : Stop) (a b c d : Option (List ℕ)) (page put moved : List ℕ) (new : CoreValue) → page ≡ [] → Adds a b page put base → Told only old first lines (all_of old) new b c put moved → AddsPart why c d moved
-      → WritesPart why only whole a d
-  end_cut why a b c d page put moved new none shown h part =
+  pub end_cut : (number : ℕ) (why : Stop) (a b c d : Option (List ℕ)) (page put moved : List ℕ) (new : CoreValue) → number ≡ first → page ≡ [] → Adds a b page put (lines_of (number - 1) only (all_of old))
+      → Told only old number lines (all_of old) new b c put moved → AddsPart why c d moved → WritesPart why only whole a d
+  end_cut number why a b c d page put moved new counted none given told part =
+      let shown = shown_at number a b page put counted given in
+      let h = told_at number new b c put moved counted told in
       cut why a d (length lines) h.text h.after new
       (subst (λ (ls : List Line). TellsLines only old first ls (all_of old) h.text h.after new) (sym (take_all (length lines) lines (omega arith))) h.run)
       (part_moved why a c d [] moved (base ++ h.text) none_whole (all_shown a b c page put moved new none shown h) part)
 
-  pub all_written : (a b c d : Option (List ℕ)) (page put moved last : List ℕ) (new : CoreValue) → page ≡ [] → Adds a b page put base → Told only old first lines (all_of old) new b c put moved → Adds c d moved last [] → last ≡ []
-      → Writes only whole a d
-  all_written a b c d page put moved last new none shown h flushed empty =
+  pub all_written : (number : ℕ) (a b c d : Option (List ℕ)) (page put moved last : List ℕ) (new : CoreValue) → number ≡ first → page ≡ [] → Adds a b page put (lines_of (number - 1) only (all_of old))
+      → Told only old number lines (all_of old) new b c put moved → Adds c d moved last [] → last ≡ [] → Writes only whole a d
+  all_written number a b c d page put moved last new counted none given told flushed empty =
+      let shown = shown_at number a b page put counted given in
+      let h = told_at number new b c put moved counted told in
       let all = adds_moved a c d [] moved last (base ++ h.text) (all_shown a b c page put moved new none shown h) flushed in
       let same : all.written ≡ base ++ h.text = sym (append-nil all.written) ∙ ap (λ l. all.written ++ l) (sym empty) ∙ sym all.joined in
       record { text = base ++ h.text; is = telling lines h.text h.after new h.run; written = subst (Appends a d) same all.appended }

@@ -4,5 +4,6 @@ pub mod DueChanges
 pub mod Giving
 pub mod Cores
 pub mod Texts
-pub mod Telling
+pub mod Shown
+pub mod RunSteps
 pub mod Ends

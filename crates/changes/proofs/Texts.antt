@@ -68,14 +68,12 @@ area_next {A} lines xs i x is = ap (flat_map lines) (drop_more xs i x (slice_get
 
 -- ---- the pieces of a line, as they are written one behind the other
 
-pub place_printed : (old front new : List ℕ) (area kind : ℕ) (dest : Dest) → front ≡ old ++ (address_text area ++ (codes " " ++ (decimal kind ++ codes " "))) → kind ≡ kind_of dest → new ≡ front ++ dest_text dest
-    → new ≡ old ++ place_text area dest
-place_printed old front new area kind dest p is q = q ∙ rw (p, is) (simp append_assoc)
-
-pub due_printed : (old front place new : List ℕ) (number area metric : ℕ) (dest : Dest) → front ≡ old ++ (decimal number ++ codes " due ") → place ≡ front ++ place_text area dest
+pub due_printed : (old front place new : List ℕ) (number area kind metric : ℕ) (dest : Dest) → kind ≡ kind_of dest
+    → front ≡ old ++ (decimal number ++ (codes " due " ++ (address_text area ++ (codes " " ++ (decimal kind ++ codes " "))))) → place ≡ front ++ dest_text dest
     → new ≡ place ++ (codes " " ++ (decimal metric ++ codes "\n")) → new ≡ old ++ change_line number (Due area dest metric)
-due_printed old front place new number area metric dest p q r = r ∙ rw (q, p) (simp append_assoc)
+due_printed old front place new number area kind metric dest is p q r = r ∙ rw (q, p, is) (simp append_assoc)
 
-pub undue_printed : (old front place new : List ℕ) (number area : ℕ) (dest : Dest) → front ≡ old ++ (decimal number ++ codes " undue ") → place ≡ front ++ place_text area dest
+pub undue_printed : (old front place new : List ℕ) (number area kind : ℕ) (dest : Dest) → kind ≡ kind_of dest
+    → front ≡ old ++ (decimal number ++ (codes " undue " ++ (address_text area ++ (codes " " ++ (decimal kind ++ codes " "))))) → place ≡ front ++ dest_text dest
     → new ≡ place ++ codes "\n" → new ≡ old ++ change_line number (Undue area dest)
-undue_printed old front place new number area dest p q r = r ∙ rw (q, p) (simp append_assoc)
+undue_printed old front place new number area kind dest is p q r = r ∙ rw (q, p, is) (simp append_assoc)

@@ -1,8 +1,8 @@
 //! The lines that tell what changed, each appended to a text. If memory runs out, the text may have a part of the line.
 ghost use Rattle.std.specs.Prelude.{◌≡◌, ◌++◌, OnOk, option_map, string_bytes};
-ghost use Rattle.summary_lists.specs.Lists.{kind_of as lsa_kind};
+ghost use Rattle.summary_lists.specs.Lists.{kind_of};
 ghost use Rattle.changes.specs.Lines as told;
-ghost use Rattle.changes.specs.Lines.{change_line, line_of, place_text};
+ghost use Rattle.changes.specs.Lines.{change_line, line_of};
 ghost use Rattle.changes.specs.Changes.{change_to, due_change};
 
 use event_core::DueSummary;
@@ -22,13 +22,13 @@ pub(crate) struct Place {
 
 /// The item that the network has now, or that it has none; nothing where another network is asked for.
 pub(crate) fn put_network(
-    at: Place,
+    at: &Place,
     prefix: Prefix,
     item: Option<&Item>,
     text: &mut String,
 ) -> Result<(), Memory>
     ensures { OnOk result (string_bytes text.new ≡ string_bytes text.old
-        ++ line_of at.number at.only (change_to prefix (option_map (λ i. i.now) item))) }
+        ++ line_of at.now.number at.now.only (change_to prefix (option_map (λ i. i.now) item.entry))) }
 {
     if !is_asked(at.only, prefix) {
         return Ok(());
@@ -61,60 +61,46 @@ fn put_drop(number: usize, prefix: Prefix, text: &mut String) -> Result<(), Memo
 /// The metric at which a destination is due in the area now, or that it is due no longer; nothing where another network is
 /// asked for.
 pub(crate) fn put_summary(
-    at: Place,
+    at: &Place,
     area: u32,
     change: (Dest, Option<u32>),
     text: &mut String,
 ) -> Result<(), Memory>
     ensures { OnOk result (string_bytes text.new ≡ string_bytes text.old
-        ++ line_of at.number at.only (due_change area change)) }
+        ++ line_of at.now.number at.now.only (due_change area change)) }
 {
-    let (dest, metric) = change;
-    if !is_dest_asked(at.only, dest) {
+    if !is_dest_asked(at.only, &change.0) {
         return Ok(());
     }
-    match metric {
-        Some(metric) => put_due(at.number, area, DueSummary::of(dest, metric), text),
-        None => put_undue(at.number, area, dest, text),
+    match change.1 {
+        Some(metric) => put_due(at.number, area, DueSummary::of(change.0, metric), text),
+        None => put_undue(at.number, area, DueSummary::of(change.0, 0), text),
     }
 }
 
 fn put_due(number: usize, area: u32, due: DueSummary, text: &mut String) -> Result<(), Memory>
+    requires { due.kind ≡ kind_of due.dest }
     ensures { OnOk result (string_bytes text.new ≡ string_bytes text.old
         ++ change_line number (told.Due area due.dest due.metric)) }
 {
-    write!(text, "{number} due ")?;
-    put_place(area, due.dest, text)?;
-    let metric = due.metric;
+    let (area, kind, metric) = (Address(area), due.kind, due.metric);
+    write!(text, "{number} due {area} {kind} ")?;
+    put_dest(due.dest, text)?;
     writeln!(text, " {metric}")?;
     Ok(())
 }
 
-fn put_undue(number: usize, area: u32, dest: Dest, text: &mut String) -> Result<(), Memory>
+// The metric of what is due no longer does not count.
+fn put_undue(number: usize, area: u32, due: DueSummary, text: &mut String) -> Result<(), Memory>
+    requires { due.kind ≡ kind_of due.dest }
     ensures { OnOk result (string_bytes text.new ≡ string_bytes text.old
-        ++ change_line number (told.Undue area dest)) }
+        ++ change_line number (told.Undue area due.dest)) }
 {
-    write!(text, "{number} undue ")?;
-    put_place(area, dest, text)?;
+    let (area, kind) = (Address(area), due.kind);
+    write!(text, "{number} undue {area} {kind} ")?;
+    put_dest(due.dest, text)?;
     text.push_str("\n")?;
     Ok(())
-}
-
-// The area, the LS type and the destination.
-fn put_place(area: u32, dest: Dest, text: &mut String) -> Result<(), Memory>
-    ensures { OnOk result (string_bytes text.new ≡ string_bytes text.old ++ place_text area dest) }
-{
-    let (area, kind) = (Address(area), kind_of(dest));
-    write!(text, "{area} {kind} ")?;
-    put_dest(dest, text)?;
-    Ok(())
-}
-
-// The LS type of a summary-LSA for the destination (RFC 2328, 12.4.3).
-fn kind_of(dest: Dest) -> u8
-    ensures { result ≡ lsa_kind dest }
-{
-    DueSummary::of(dest, 0).kind
 }
 
 // Whether the network is asked for.
@@ -127,11 +113,11 @@ fn is_asked(only: Option<Prefix>, prefix: Prefix) -> bool
     }
 }
 
-fn is_dest_asked(only: Option<Prefix>, dest: Dest) -> bool
-    ensures { result ≡ told.is_dest_asked only dest }
+fn is_dest_asked(only: Option<Prefix>, dest: &Dest) -> bool
+    ensures { result ≡ told.is_dest_asked only dest.now }
 {
     match dest {
-        Dest::Net(prefix) => is_asked(only, prefix),
+        Dest::Net(prefix) => is_asked(only, *prefix),
         Dest::Router(_) => only.is_none(),
     }
 }

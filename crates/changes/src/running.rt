@@ -31,10 +31,10 @@ pub(crate) fn tell_lines<W: io::Write>(
         ToldPart why from.only core.old from.number lines.items (all_of core.old)
         (W.contents out.old) (W.contents out.new) (string_bytes page.old)) }
 {
-    let mut number = from.number;
+    let mut at = from;
     for line in lines {
-        tell_line(core, Place { number, ..from }, line, out, page)?;
-        number += 1;
+        tell_line(core, &at, line, out, page)?;
+        at.number += 1;
     }
     Ok(())
 }
@@ -42,17 +42,17 @@ pub(crate) fn tell_lines<W: io::Write>(
 // Runs a line, and prints what it changed.
 fn tell_line<W: io::Write>(
     core: &mut Core,
-    at: Place,
+    at: &Place,
     line: Line,
     out: &mut W,
     page: &mut String,
 ) -> Result<(), Stop>
     requires current { IsCurrent core.old }
-    ensures ok { OnOk result (ToldLine at.only core.old at.number line core.new
+    ensures ok { OnOk result (ToldLine at.now.only core.old at.now.number line core.new
         (W.contents out.old) (W.contents out.new) (string_bytes page.old) (string_bytes page.new)) }
     ensures kept { OnOk result (IsCore core.new) }
     ensures err { AreWhole (string_bytes page.old) → IfErr result (λ why.
-        StopsAtLine why at.only core.old at.number line core.new (W.contents out.old)
+        StopsAtLine why at.now.only core.old at.now.number line core.new (W.contents out.old)
         (W.contents out.new) (string_bytes page.old)) }
 {
     match line {
@@ -70,23 +70,26 @@ fn tell_line<W: io::Write>(
 // Applies the event, and prints what it changed; nothing where it is refused.
 fn tell_event<W: io::Write>(
     core: &mut Core,
-    at: Place,
+    at: &Place,
     event: Event,
     out: &mut W,
     page: &mut String,
 ) -> Result<(), Stop>
     requires current { IsCurrent core.old }
-    ensures ok { OnOk result (ToldEvent at.only core.old at.number event core.new
+    ensures ok { OnOk result (ToldEvent at.now.only core.old at.now.number event core.new
         (W.contents out.old) (W.contents out.new) (string_bytes page.old) (string_bytes page.new)) }
     ensures err { AreWhole (string_bytes page.old) → IfErr result (λ why.
-        StopsAtEvent why at.only core.old at.number event core.new (W.contents out.old)
+        StopsAtEvent why at.now.only core.old at.now.number event core.new (W.contents out.old)
         (W.contents out.new) (string_bytes page.old)) }
 {
-    let Ok(reply) = core.apply(event) else {
-        return Ok(());
+    let reply = match core.apply(event) {
+        Ok(reply) => reply,
+        Err(_) => return Ok(()),
     };
     match reply.state {
-        Status::Current => show_changes(core, at, out, page),
-        Status::Behind => Err(Stop::Memory),
+        Status::Current => {}
+        Status::Behind => return Err(Stop::Memory),
     }
+    show_changes(core, at, out, page)?;
+    Ok(())
 }

@@ -19,33 +19,34 @@ use std::io;
 /// The whole table, and all that is due.
 pub(crate) fn show_all<W: io::Write>(
     core: &Core,
-    at: Place,
+    at: &Place,
     out: &mut W,
     page: &mut String,
 ) -> Result<(), Stop>
     ensures ok { OnOk result (Adds (W.contents out.old) (W.contents out.new) (string_bytes page.old)
-        (string_bytes page.new) (lines_of at.number at.only (all_of core.now))) }
+        (string_bytes page.new) (lines_of at.now.number at.now.only (all_of core.now))) }
     ensures err { AreWhole (string_bytes page.old) → IfErr result (λ why.
         AddsPart why (W.contents out.old) (W.contents out.new)
-        (string_bytes page.old ++ lines_of at.number at.only (all_of core.now))) }
+        (string_bytes page.old ++ lines_of at.now.number at.now.only (all_of core.now))) }
 {
     show_items(core.table(), at, out, page)?;
-    show_summaries(core.summaries(), at, out, page)
+    show_summaries(core.summaries(), at, out, page)?;
+    Ok(())
 }
 
 // The items of the table.
 fn show_items<W: io::Write>(
     table: &Table,
-    at: Place,
+    at: &Place,
     out: &mut W,
     page: &mut String,
 ) -> Result<(), Stop>
     ensures ok { OnOk result (Adds (W.contents out.old) (W.contents out.new) (string_bytes page.old)
         (string_bytes page.new)
-        (lines_of at.number at.only (map item_set (entries table.now.items)))) }
+        (lines_of at.now.number at.now.only (map item_set (entries table.now.items)))) }
     ensures err { AreWhole (string_bytes page.old) → IfErr result (λ why.
         AddsPart why (W.contents out.old) (W.contents out.new) (string_bytes page.old
-        ++ lines_of at.number at.only (map item_set (entries table.now.items)))) }
+        ++ lines_of at.now.number at.now.only (map item_set (entries table.now.items)))) }
 {
     for (prefix, item) in table.items() {
         put_network(at, prefix, Some(item), page)?;
@@ -57,16 +58,16 @@ fn show_items<W: io::Write>(
 // What is due in each area.
 fn show_summaries<W: io::Write>(
     summaries: &DueSummaries,
-    at: Place,
+    at: &Place,
     out: &mut W,
     page: &mut String,
 ) -> Result<(), Stop>
     ensures ok { OnOk result (Adds (W.contents out.old) (W.contents out.new) (string_bytes page.old)
         (string_bytes page.new)
-        (lines_of at.number at.only (flat_map area_due (lists_of summaries.now)))) }
+        (lines_of at.now.number at.now.only (flat_map area_due (lists_of summaries.now)))) }
     ensures err { AreWhole (string_bytes page.old) → IfErr result (λ why.
         AddsPart why (W.contents out.old) (W.contents out.new) (string_bytes page.old
-        ++ lines_of at.number at.only (flat_map area_due (lists_of summaries.now)))) }
+        ++ lines_of at.now.number at.now.only (flat_map area_due (lists_of summaries.now)))) }
 {
     for area in summaries.areas() {
         show_area(area.area(), area.as_slice(), at, out, page)?;
@@ -78,15 +79,15 @@ fn show_summaries<W: io::Write>(
 fn show_area<W: io::Write>(
     area: u32,
     list: &[DueSummary],
-    at: Place,
+    at: &Place,
     out: &mut W,
     page: &mut String,
 ) -> Result<(), Stop>
     ensures ok { OnOk result (Adds (W.contents out.old) (W.contents out.new) (string_bytes page.old)
-        (string_bytes page.new) (lines_of at.number at.only (area_due (area, list.now)))) }
+        (string_bytes page.new) (lines_of at.now.number at.now.only (area_due (area, list.now)))) }
     ensures err { AreWhole (string_bytes page.old) → IfErr result (λ why.
         AddsPart why (W.contents out.old) (W.contents out.new)
-        (string_bytes page.old ++ lines_of at.number at.only (area_due (area, list.now)))) }
+        (string_bytes page.old ++ lines_of at.now.number at.now.only (area_due (area, list.now)))) }
 {
     for &due in list {
         put_summary(at, area, (due.dest, Some(due.metric)), page)?;
@@ -98,37 +99,38 @@ fn show_area<W: io::Write>(
 /// What the last event changed.
 pub(crate) fn show_changes<W: io::Write>(
     core: &Core,
-    at: Place,
+    at: &Place,
     out: &mut W,
     page: &mut String,
 ) -> Result<(), Stop>
     ensures ok { OnOk result (Adds (W.contents out.old) (W.contents out.new) (string_bytes page.old)
-        (string_bytes page.new) (lines_of at.number at.only
+        (string_bytes page.new) (lines_of at.now.number at.now.only
         (map (network_change core.now.table.items) core.now.changes
         ++ flat_map area_changes core.now.due_changes))) }
     ensures err { AreWhole (string_bytes page.old) → IfErr result (λ why.
         AddsPart why (W.contents out.old) (W.contents out.new) (string_bytes page.old
-        ++ lines_of at.number at.only (map (network_change core.now.table.items) core.now.changes
+        ++ lines_of at.now.number at.now.only (map (network_change core.now.table.items) core.now.changes
         ++ flat_map area_changes core.now.due_changes))) }
 {
     show_networks(core.changes(), core.table(), at, out, page)?;
-    show_due_changes(core.due_changes(), at, out, page)
+    show_due_changes(core.due_changes(), at, out, page)?;
+    Ok(())
 }
 
 // The items that these networks have now.
 fn show_networks<W: io::Write>(
     networks: &[Prefix],
     table: &Table,
-    at: Place,
+    at: &Place,
     out: &mut W,
     page: &mut String,
 ) -> Result<(), Stop>
     ensures ok { OnOk result (Adds (W.contents out.old) (W.contents out.new) (string_bytes page.old)
         (string_bytes page.new)
-        (lines_of at.number at.only (map (network_change table.now.items) networks.now))) }
+        (lines_of at.now.number at.now.only (map (network_change table.now.items) networks.now))) }
     ensures err { AreWhole (string_bytes page.old) → IfErr result (λ why.
         AddsPart why (W.contents out.old) (W.contents out.new) (string_bytes page.old
-        ++ lines_of at.number at.only (map (network_change table.now.items) networks.now))) }
+        ++ lines_of at.now.number at.now.only (map (network_change table.now.items) networks.now))) }
 {
     for &prefix in networks {
         put_network(at, prefix, table.get(prefix), page)?;
@@ -140,16 +142,16 @@ fn show_networks<W: io::Write>(
 // What changed in each area.
 fn show_due_changes<W: io::Write>(
     changes: &DueChanges,
-    at: Place,
+    at: &Place,
     out: &mut W,
     page: &mut String,
 ) -> Result<(), Stop>
     ensures ok { OnOk result (Adds (W.contents out.old) (W.contents out.new) (string_bytes page.old)
         (string_bytes page.new)
-        (lines_of at.number at.only (flat_map area_changes changes.now))) }
+        (lines_of at.now.number at.now.only (flat_map area_changes changes.now))) }
     ensures err { AreWhole (string_bytes page.old) → IfErr result (λ why.
         AddsPart why (W.contents out.old) (W.contents out.new) (string_bytes page.old
-        ++ lines_of at.number at.only (flat_map area_changes changes.now))) }
+        ++ lines_of at.now.number at.now.only (flat_map area_changes changes.now))) }
 {
     for place in 0..changes.areas() {
         let Some((area, metrics)) = changes.at(place) else {
@@ -164,15 +166,15 @@ fn show_due_changes<W: io::Write>(
 fn show_metrics<W: io::Write>(
     area: u32,
     metrics: &[(Dest, Option<u32>)],
-    at: Place,
+    at: &Place,
     out: &mut W,
     page: &mut String,
 ) -> Result<(), Stop>
     ensures ok { OnOk result (Adds (W.contents out.old) (W.contents out.new) (string_bytes page.old)
-        (string_bytes page.new) (lines_of at.number at.only (area_changes (area, metrics.now)))) }
+        (string_bytes page.new) (lines_of at.now.number at.now.only (area_changes (area, metrics.now)))) }
     ensures err { AreWhole (string_bytes page.old) → IfErr result (λ why.
         AddsPart why (W.contents out.old) (W.contents out.new)
-        (string_bytes page.old ++ lines_of at.number at.only (area_changes (area, metrics.now)))) }
+        (string_bytes page.old ++ lines_of at.now.number at.now.only (area_changes (area, metrics.now)))) }
 {
     for &change in metrics {
         put_summary(at, area, change, page)?;

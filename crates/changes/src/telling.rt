@@ -83,12 +83,13 @@ fn tell_opened<W: io::Write>(
     } = opened;
     let mut page = empty_page(alloc)?;
     let number = number_of_first(version, core.base());
-    let base = Place {
+    let mut at = Place {
         number: number - 1,
         only,
     };
-    show_all(&core, base, out, &mut page)?;
-    tell_lines(&mut core, Place { number, only }, lines, out, &mut page)?;
+    show_all(&core, &at, out, &mut page)?;
+    at.number = number;
+    tell_lines(&mut core, at, lines, out, &mut page)?;
     write_page(out, &mut page)?;
     Ok(())
 }

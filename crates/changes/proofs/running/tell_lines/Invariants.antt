@@ -1,9 +1,10 @@
-use Rattle.std.proofs.Common.{string_bytes}
+use Rattle.std.proofs.Common.{◌≡◌, string_bytes}
 use Rattle.std.specs.Vec.Iter.{into_iter_items}
-use Rattle.changes.proofs.Telling.{Telling}
+use Rattle.changes.proofs.RunSteps.{Telling}
 use Rattle.changes.proofs.running.tell_lines.Given as goal
 
 abbrev pub invariant-loop-line : goal.invariant-loop-line
 invariant-loop-line g l =
-    Telling l.from.only l.initial.core l.from.number l.fn.lines.items (into_iter_items l.line-iterator) l.number l.core (g.W.Write.contents l.initial.out) (g.W.Write.contents l.out)
+    (l.at.only ≡ l.fn.from.only)
+    × Telling l.fn.from.only l.initial.core l.fn.from.number l.fn.lines.items (into_iter_items l.line-iterator) l.at.number l.core (g.W.Write.contents l.initial.out) (g.W.Write.contents l.out)
     (string_bytes l.initial.page) (string_bytes l.page)

@@ -15,7 +15,8 @@ loop-area-init g c = adding_none _ _ _ _ refl
 
 pub loop-area-preserved : goal.loop-area-preserved
 loop-area-preserved g c =
-    let (number, only) = (c.args.at.number, c.args.at.only) in
+    let number = c.args.at.now.number in
+    let only = c.args.at.now.only in
     let w : AreaSummariesValue = c.area-item.result in
     let items : List AreaSummariesValue = c.areas-area-items.result.now in
     let i = c.loop-area.area-index in
@@ -25,7 +26,8 @@ loop-area-preserved g c =
 
 pub returns-in_err-show_area-clause-err : goal.returns-in_err-show_area-clause-err
 returns-in_err-show_area-clause-err g c =
-    let (number, only) = (c.args.at.number, c.args.at.only) in
+    let number = c.args.at.now.number in
+    let only = c.args.at.now.only in
     let w : AreaSummariesValue = c.area-item.result in
     let items : List AreaSummariesValue = c.areas-area-items.result.now in
     let i = c.loop-area.area-index in
@@ -38,7 +40,8 @@ returns-in_err-show_area-clause-err g c =
 
 pub returns-clause-ok : goal.returns-clause-ok
 returns-clause-ok g c =
-    let (number, only) = (c.args.at.number, c.args.at.only) in
+    let number = c.args.at.now.number in
+    let only = c.args.at.now.only in
     let items : List AreaSummariesValue = c.areas-area-items.result.now in
     let all : all_listed number only items ≡ lines_of number only (flat_map area_due (listed c.args.summaries.now.areas)) =
     listed_is number only items ∙ ap (λ (areas : List AreaSummariesValue). lines_of number only (flat_map area_due (listed areas))) c.areas-area-items.ensures in

@@ -1,17 +1,26 @@
 -- Runs of lines of which is told what they changed, and one line more.
-use Rattle.std.proofs.Common.{◌≡◌, ℕ, suc, ◌≤◌, ◌+◌, List, [], ◌∷◌, ◌++◌, length, take, Option, refl, sym, ap, subst, ◌∙◌, append_assoc, append-nil, arith, inl, inr}
+use Rattle.std.proofs.Common.{◌≡◌, ℕ, suc, ◌≤◌, ◌+◌, List, [], ◌∷◌, ◌++◌, length, map, take, Option, refl, sym, ap, subst, ◌∙◌, append_assoc, append-nil, arith, inl, inr}
 use Rattle.std.proofs.lemmas.List.{length-append, take-append-le, take_all}
 use Rattle.ospf_types.specs.declared.prefix.Prefix.{Prefix}
-use Rattle.event_core.specs.Cores.{CoreValue, IsCore, IsCurrent}
+use Rattle.std.specs.Prelude.{Result, Ok, Err, IfOk}
+use Rattle.std.specs.List.{flat_map}
+use Rattle.event_state.specs.declared.event.Event.{Event}
+use Rattle.event_state.specs.declared.refusal.Refusal.{Refusal}
+use Rattle.event_core.specs.declared.reply.Reply.{Reply}
+use Rattle.event_core.specs.declared.reply.Status.{Status}
+use Rattle.event_core.specs.declared.reply.Status.TheVariants.{Current}
+use Rattle.event_core.specs.Cores.{CoreValue, Applies, IsCore, IsCurrent, IsTaken, NamesChanges, Stands}
 use Rattle.recording.specs.declared.line.Line.{Line}
+use Rattle.recording.specs.declared.line.Line.TheVariants as line
 use Rattle.replay.specs.Pages.{Adds, AddsPart}
+use Rattle.replay.specs.Runs.{RollsBy}
 use Rattle.replay.specs.Stops.{AreWhole}
 use Rattle.replay.specs.declared.page.Stop.{Stop}
 use Rattle.replay.specs.declared.page.Stop.TheVariants as stop
 use Rattle.replay.proofs.Paging.{adds_none, adds_more, page_whole, part_now, part_more}
 use Rattle.changes.specs.Lines.{Change, lines_of}
-use Rattle.changes.specs.Changes.{Give, all_of}
-use Rattle.changes.specs.Runs.{StopsAtLine, StopsBefore, TellsLine, TellsLines, Told, ToldLine, ToldPart}
+use Rattle.changes.specs.Changes.{Give, all_of, area_changes, network_change}
+use Rattle.changes.specs.Runs.{IsToldOf, StopsAtLine, StopsBefore, ToldEvent, TellsLine, TellsLines, Told, ToldLine, ToldPart}
 use Rattle.changes.proofs.Cores.{current_line, distinct_lists, give_line, sound_lists}
 use Rattle.changes.proofs.Giving.{give_all}
 
@@ -143,3 +152,56 @@ telling_stopped why only old mid new first number lines rest more l from to on p
     let part : ToldPart stop.Memory only old first lines (all_of old) from to page =
     told_part stop.Memory only old mid first lines h.done rest from to page h.text h.after h.left h.run (part_now from to page put h.text whole h.printed) in
     subst (λ (w : Stop). ToldPart w only old first lines (all_of old) from on page) (sym is) (subst (λ (o : Option (List ℕ)). ToldPart stop.Memory only old first lines (all_of old) from o page) (sym same) part)
+
+-- ---- one line
+
+pub event_refused : (only : Option Prefix) (old new : CoreValue) (number : ℕ) (e : Event) (answer : Result Reply Refusal) (refusal : Refusal) (from : Option (List ℕ)) (page : List ℕ) → answer ≡ Err refusal → Applies old e answer new
+    → ToldEvent only old number e new from from page page
+event_refused only old new number e answer refusal from page is applies = record {
+  answer = answer;
+  applies = applies;
+  told = [];
+  is = subst (λ (a : Result Reply Refusal). IsToldOf old a new []) (sym is) refl;
+  printed = adds_none from page;
+}
+
+-- what differs between a current core and the next, as it names it
+pub differs : (old new : CoreValue) (e : Event) (answer : Result Reply Refusal) (reply : Reply) → answer ≡ Ok reply → reply.state ≡ Current → IsCurrent old → Applies old e answer new → IfOk answer (λ r. NamesChanges old r.state new)
+    → IsToldOf old answer new (map (network_change new.table.items) new.changes ++ flat_map area_changes new.due_changes)
+differs old new e answer reply is current was applies named =
+    let told : List Change = map (network_change new.table.items) new.changes ++ flat_map area_changes new.due_changes in
+    let taken : IsTaken old e reply new = subst (λ (a : Result Reply Refusal). Applies old e a new) is applies in
+    let stands : Stands old Current new = subst (λ (s : Status). Stands old s new) current taken.stands in
+    let names : NamesChanges old Current new = subst (λ (s : Status). NamesChanges old s new) current (subst (λ (a : Result Reply Refusal). IfOk a (λ r. NamesChanges old r.state new)) is named) in
+    let all = names.0 was in
+    subst (λ (a : Result Reply Refusal). IsToldOf old a new told) (sym is)
+    (stands.0, record { networks = new.changes; due = new.due_changes; items = all.networks; summaries = all.due; is = refl })
+
+module _ (only : Option Prefix) (old : CoreValue) (number : ℕ) (l : Line) (from : Option (List ℕ)) (page : List ℕ) where
+  pub told_event : (e : Event) (new : CoreValue) (to : Option (List ℕ)) (put : List ℕ) → l ≡ line.Event e → ToldEvent only old number e new from to page put → ToldLine only old number l new from to page put
+  told_event e new to put is h = record {
+    told = h.told;
+    tells = subst (λ (x : Line). TellsLine old x new h.told) (sym is) (h.answer, h.applies, h.is);
+    printed = h.printed;
+  }
+
+  pub told_lookup : (address : ℕ) → l ≡ line.Lookup address → ToldLine only old number l old from from page page
+  told_lookup address is = record { told = []; tells = subst (λ (x : Line). TellsLine old x old []) (sym is) (refl, refl); printed = adds_none from page }
+
+  pub told_roll : (new : CoreValue) (answer : Result ℕ Refusal) → l ≡ line.Roll → RollsBy old answer new → ToldLine only old number l new from from page page
+  told_roll new answer is rolls = record { told = []; tells = subst (λ (x : Line). TellsLine old x new []) (sym is) (refl, (answer, rolls)); printed = adds_none from page }
+
+  pub told_as : (new other : CoreValue) (to on : Option (List ℕ)) (put moved : List ℕ) → new ≡ other → to ≡ on → put ≡ moved → ToldLine only old number l other from on page moved → ToldLine only old number l new from to page put
+  told_as new other to on put moved core written shown h =
+      subst (λ (c : CoreValue). ToldLine only old number l c from to page put) (sym core)
+      (subst (λ (o : Option (List ℕ)). ToldLine only old number l other from o page put) (sym written) (subst (λ (w : List ℕ). ToldLine only old number l other from on page w) (sym shown) h))
+
+-- the network that is asked for stays
+
+pub asked_line : (now only : Option Prefix) (old : CoreValue) (number : ℕ) (l : Line) (new : CoreValue) (from to : Option (List ℕ)) (page put : List ℕ) → now ≡ only → ToldLine now old number l new from to page put
+    → ToldLine only old number l new from to page put
+asked_line now only old number l new from to page put is h = subst (λ (o : Option Prefix). ToldLine o old number l new from to page put) is h
+
+pub asked_stop : (why : Stop) (now only : Option Prefix) (old : CoreValue) (number : ℕ) (l : Line) (new : CoreValue) (from to : Option (List ℕ)) (page : List ℕ) → now ≡ only → StopsAtLine why now old number l new from to page
+    → StopsAtLine why only old number l new from to page
+asked_stop why now only old number l new from to page is h = subst (λ (o : Option Prefix). StopsAtLine why o old number l new from to page) is h
