@@ -6,7 +6,7 @@ use Rattle.ospf_types.specs.declared.lsa.Header.{Header}
 use Rattle.ospf_types.specs.Lsa.{Lsa}
 use Rattle.ospf_types.specs.Text.{address_text}
 use Rattle.lsa_codec.specs.Spelling.{body_bytes}
-use Rattle.command_answers.specs.declared.words.WordFault.TheVariants.{NotAnAddress, NotHexadecimal, Memory}
+use Rattle.command_answers.specs.declared.words.WordFault.TheVariants.{NotAnAddress, NotHexadecimal, NotANumber, NotANetwork, Memory}
 use Rattle.command_answers.specs.declared.command_fault.CommandFault.{CommandFault}
 use Rattle.command_answers.specs.declared.command_fault.CommandFault.TheVariants as fault
 use Rattle.command_answers.specs.Words.{IsHexadecimal, WritesLsa, HasWireFault}
@@ -40,6 +40,8 @@ pub record Decodes (word text : List ℕ) : Type 0 where
 abbrev pub IsDecodeFault : List ℕ → CommandFault → Type 0
 IsDecodeFault word (fault.Word NotAnAddress) = ⊥
 IsDecodeFault word (fault.Word NotHexadecimal) = ¬ IsHexadecimal word
+IsDecodeFault word (fault.Word NotANumber) = ⊥
+IsDecodeFault word (fault.Word NotANetwork) = ⊥
 IsDecodeFault word (fault.Word Memory) = Unit {0}
 IsDecodeFault word (fault.Wire f) = HasWireFault word f
 IsDecodeFault word fault.Memory = Unit {0}

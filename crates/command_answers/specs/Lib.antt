@@ -4,3 +4,4 @@ pub mod Answers
 pub mod One
 pub mod Decode
 pub mod Usage
+pub mod Number

@@ -43,7 +43,8 @@ impl CommandFault<'_> {
         ensures { result ≡ status_of self.entry }
     {
         match self {
-            CommandFault::Word(WordFault::NotAnAddress | WordFault::NotHexadecimal) => 2,
+            CommandFault::Word(WordFault::Memory) => 1,
+            CommandFault::Word(_) => 2,
             _ => 1,
         }
     }
