@@ -11,6 +11,7 @@ use Rattle.replay.specs.declared.page.Stop.TheVariants as stop
 use Rattle.changes.specs.Outputs.{TellsAll, TellsPart}
 use Rattle.worker_replay.specs.declared.fault.ManyFault.TheVariants.{Replay}
 use Rattle.command_answers.specs.declared.command_fault.CommandFault.TheVariants as fault
+use Rattle.command_answers.specs.declared.words.WordFault.TheVariants.{NotANetwork}
 use Rattle.command_answers.specs.Answers.{IsSaid, IsSaidOf}
 use Rattle.command_answers.specs.Faults.{command_fault_text, fault_line}
 use Rattle.abr_cli.specs.Replaying.{fault_from}
@@ -38,7 +39,7 @@ TellsEarly only (Line f) i i' o o' = (o' ≡ o) × ((bytes : List ℕ) × ReadsA
 -- nothing was read, and it was said that the word is no network, or that there is no memory for that line
 abbrev pub IsWordSaid : (status : ℕ) (i i' o o' f f' : Option (List ℕ)) → Type 0
 IsWordSaid status i i' o o' f f' =
-    (i' ≡ i) × (o' ≡ o) × (IsSaid (fault_line (command_fault_text fault.NotANetwork)) 2 status f f' ⊎ IsSaid (fault_line (command_fault_text fault.Memory)) 1 status f f')
+    (i' ≡ i) × (o' ≡ o) × (IsSaid (fault_line (command_fault_text (fault.Word NotANetwork))) 2 status f f' ⊎ IsSaid (fault_line (command_fault_text fault.Memory)) 1 status f f')
 
 -- what is told of the networks that are asked for went to its end, and nothing was said; or it ended early, and its fault was said
 abbrev pub IsTellingTold : Bor (List ℕ) → Option Prefix → (status : ℕ) (i i' o o' f f' : Option (List ℕ)) → Type 0

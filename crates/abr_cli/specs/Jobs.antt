@@ -7,7 +7,7 @@ use Rattle.command_line.specs.Command.{texts_of}
 use Rattle.command_answers.specs.Answers.{Tells}
 use Rattle.command_answers.specs.One.{IsOneAnswer}
 use Rattle.command_answers.specs.Decode.{IsDecodeAnswer}
-use Rattle.command_answers.specs.Numbers.{IsNumberAnswer}
+use Rattle.command_answers.specs.Number.{IsNumberAnswer}
 use Rattle.abr_cli.specs.Changing.{IsChangesTold}
 use Rattle.abr_cli.specs.Replaying.{IsReplayTold}
 use Rattle.command_answers.specs.Usage.{IsUsageAnswer}

@@ -1,16 +1,16 @@
 //! The command `changes`.
 ghost use Rattle.std.specs.Prelude.{◌≡◌, IfOk, IfErr};
 ghost use Rattle.command_answers.specs.declared.command_fault.CommandFault.TheVariants as fault;
+ghost use Rattle.command_answers.specs.declared.words.WordFault.TheVariants.{NotANetwork};
 ghost use Rattle.abr_cli.specs.Changing.{Asks, IsChangesTold, LacksNetwork};
 
 use crate::replaying::{say_end, say_fault};
 use changes::tell_changes;
-use command_answers::CommandFault;
+use command_answers::{CommandFault, read_network};
 use ospf_types::prefix::Prefix;
 use std::alloc::Global;
 use std::hash::RandomState;
 use std::io;
-use word_reading::network_of;
 use worker_replay::ManyFault;
 
 /// The command `changes`, as it was given.
@@ -52,13 +52,13 @@ impl Changes<'_> {
 // The network that the word asks for; none where there is no word.
 fn asked(word: Option<&str>) -> Result<Option<Prefix>, CommandFault<'static>>
     ensures asked { IfOk result (Asks word) }
-    ensures lacks { IfErr result (λ e. (e ≡ fault.NotANetwork) × LacksNetwork word) }
+    ensures lacks { IfErr result (λ e. (e ≡ fault.Word NotANetwork) × LacksNetwork word) }
 {
     let Some(word) = word else {
         return Ok(None);
     };
-    match network_of(word) {
-        Some(network) => Ok(Some(network)),
-        None => Err(CommandFault::NotANetwork),
+    match read_network(word) {
+        Ok(network) => Ok(Some(network)),
+        Err(fault) => Err(CommandFault::Word(fault)),
     }
 }

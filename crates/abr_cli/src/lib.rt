@@ -8,7 +8,7 @@ mod running;
 
 pub use changing::Changes;
 pub use command_answers::{
-    Answer, CommandFault, answer_decode, answer_number, answer_one, answer_usage, decode, explain,
+    Answer, CommandFault, answer_decode, answer_number, answer_one, answer_usage, decode, fault,
     one, tell,
 };
 pub use command_line::{Job, OneWords, Usage, job};

@@ -5,7 +5,7 @@ ghost use Rattle.abr_cli.specs.Jobs.{IsJobTold};
 
 use crate::changing::Changes;
 use crate::replaying::Replay;
-use command_answers::{answer_usage, decode, explain, one, tell};
+use command_answers::{answer_usage, decode, fault, one, tell};
 use command_line::{Job, Usage};
 use std::alloc::Global;
 use std::hash::RandomState;
@@ -58,7 +58,7 @@ impl Invocation<'_> {
                 let changes = Changes { file, only };
                 changes.run(alloc, hashing, input, out, faults)
             }
-            Job::Fault(word) => explain(alloc, word, out, faults),
+            Job::Fault(word) => fault(alloc, word, out, faults),
         }
     }
 }

@@ -1,5 +1,5 @@
 -- What `abr decode` prints: the fields of an LSA (RFC 2328, A.4).
-use Rattle.std.specs.Prelude.{ℕ, ◌≡◌, ◌++◌, Bool, List, [], ◌∷◌, codes, decimal, if◌then◌else◌}
+use Rattle.std.specs.Prelude.{ℕ, ◌≡◌, ◌++◌, List, [], ◌∷◌, codes, decimal, Bool, if◌then◌else◌}
 use Rattle.std.specs.Int.{w16, w32, to_be_bytes}
 use Rattle.hex.specs.Hex.{encode_lower}
 use Rattle.ospf_types.specs.declared.lsa.Header.{Header}
@@ -7,7 +7,7 @@ use Rattle.ospf_types.specs.Lsa.{Lsa}
 use Rattle.ospf_types.specs.Text.{address_text}
 use Rattle.lsa_codec.specs.Spelling.{body_bytes}
 use Rattle.lsa_words.specs.Words.{words_of}
-use Rattle.command_answers.specs.declared.words.WordFault.TheVariants.{NotAnAddress, NotHexadecimal, Memory}
+use Rattle.command_answers.specs.declared.words.WordFault.TheVariants.{NotAnAddress, NotHexadecimal, NotANumber, NotANetwork, Memory}
 use Rattle.command_answers.specs.declared.command_fault.CommandFault.{CommandFault}
 use Rattle.command_answers.specs.declared.command_fault.CommandFault.TheVariants as fault
 use Rattle.command_answers.specs.Words.{IsHexadecimal, WritesLsa, HasWireFault}
@@ -45,6 +45,8 @@ pub record Decodes (long : Bool) (word text : List ℕ) : Type 0 where
 abbrev pub IsDecodeFault : List ℕ → CommandFault → Type 0
 IsDecodeFault word (fault.Word NotAnAddress) = ⊥
 IsDecodeFault word (fault.Word NotHexadecimal) = ¬ IsHexadecimal word
+IsDecodeFault word (fault.Word NotANumber) = ⊥
+IsDecodeFault word (fault.Word NotANetwork) = ⊥
 IsDecodeFault word (fault.Word Memory) = Unit {0}
 IsDecodeFault word (fault.Wire f) = HasWireFault word f
 IsDecodeFault word fault.Memory = Unit {0}

@@ -5,7 +5,7 @@ use Rattle.lsa_codec.specs.Text.{wire_fault_text}
 use Rattle.config_faults.specs.Texts.{config_fault_text}
 use Rattle.event_state.specs.Texts.{refusal_text}
 use Rattle.recording.specs.Texts.{line_fault_text}
-use Rattle.command_answers.specs.declared.words.WordFault.TheVariants.{NotAnAddress, NotHexadecimal}
+use Rattle.command_answers.specs.declared.words.WordFault.TheVariants.{NotAnAddress, NotHexadecimal, NotANumber, NotANetwork}
 use Rattle.command_answers.specs.declared.command_fault.CommandFault.{CommandFault}
 use Rattle.command_answers.specs.declared.command_fault.CommandFault.TheVariants as fault
 use Rattle.command_answers.specs.Words.{fault_text}
@@ -13,8 +13,6 @@ use Rattle.command_answers.specs.Words.{fault_text}
 -- what is printed of a fault
 abbrev pub command_fault_text : CommandFault → List ℕ
 command_fault_text (fault.Word f) = fault_text f
-command_fault_text fault.NotANetwork = codes "not a network"
-command_fault_text fault.NotANumber = codes "not the number of a fault"
 command_fault_text (fault.Wire f) = wire_fault_text f
 command_fault_text (fault.Config f) = config_fault_text f
 command_fault_text (fault.Refused f) = refusal_text f
@@ -30,8 +28,8 @@ command_fault_text fault.NoEntry = codes "no entry"
 abbrev pub status_of : CommandFault → ℕ
 status_of (fault.Word NotAnAddress) = 2
 status_of (fault.Word NotHexadecimal) = 2
-status_of fault.NotANetwork = 2
-status_of fault.NotANumber = 2
+status_of (fault.Word NotANumber) = 2
+status_of (fault.Word NotANetwork) = 2
 status_of _ = 1
 
 abbrev pub fault_line : List ℕ → List ℕ

@@ -3,5 +3,5 @@ pub mod Faults
 pub mod Answers
 pub mod One
 pub mod Decode
-pub mod Numbers
 pub mod Usage
+pub mod Number

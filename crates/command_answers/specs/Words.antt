@@ -9,8 +9,10 @@ use Rattle.lsa_codec.specs.Faults.{fault_of}
 use Rattle.lsa_codec.specs.declared.fault.WireFault.{WireFault}
 use Rattle.lsa_codec.specs.declared.fault.WireFault.TheVariants as wire
 use Rattle.command_answers.specs.declared.words.WordFault.{WordFault}
-use Rattle.command_answers.specs.declared.words.WordFault.TheVariants.{NotAnAddress, NotHexadecimal, Memory}
+use Rattle.command_answers.specs.declared.words.WordFault.TheVariants.{NotAnAddress, NotHexadecimal, NotANumber, NotANetwork, Memory}
 use Rattle.command_line.specs.Command.{OneTexts}
+use Rattle.ospf_types.specs.declared.prefix.Prefix.{Prefix}
+use Rattle.word_reading.specs.Writing.{WritesNetwork}
 
 -- the word writes this address
 pub record Writes (word : List ℕ) (address : ℕ) : Type 0 where
@@ -24,6 +26,18 @@ IsAddress word = (address : ℕ) × (address < 2 ^ 32) × (word ≡ address_text
 -- the word is an even number of hexadecimal digits, in either case
 abbrev pub IsHexadecimal : List ℕ → Type 0
 IsHexadecimal word = IsOk (decode_of word)
+
+-- why a word has no bytes
+abbrev pub IsBytesFault : List ℕ → WordFault → Type 0
+IsBytesFault word NotHexadecimal = ¬ IsHexadecimal word
+IsBytesFault word Memory = Unit {0}
+IsBytesFault word NotAnAddress = ⊥
+IsBytesFault word NotANumber = ⊥
+IsBytesFault word NotANetwork = ⊥
+
+-- the word writes no network
+abbrev pub IsNoNetwork : List ℕ → Type 0
+IsNoNetwork word = (p : Prefix) → ¬ WritesNetwork word p
 
 -- the word is the bytes of this LSA, which are sound, in hexadecimal
 pub record WritesLsa (word : List ℕ) (lsa : Lsa) : Type 0 where
@@ -41,6 +55,8 @@ abbrev pub IsFirstFault : OneTexts → WordFault → Type 0
 IsFirstFault t NotAnAddress =
     (¬ IsAddress t.router) ⊎ (¬ IsAddress t.area) ⊎ (¬ IsAddress t.address) ⊎ (IsHexadecimal t.lsa × ¬ IsAddress t.lookup)
 IsFirstFault t NotHexadecimal = IsAddress t.router × IsAddress t.area × IsAddress t.address × ¬ IsHexadecimal t.lsa
+IsFirstFault t NotANumber = ⊥
+IsFirstFault t NotANetwork = ⊥
 IsFirstFault t Memory = Unit {0}
 
 -- each word of `abr one` can be read
@@ -54,4 +70,6 @@ pub record AreRead (t : OneTexts) : Type 0 where
 abbrev pub fault_text : WordFault → List ℕ
 fault_text NotAnAddress = codes "not an address"
 fault_text NotHexadecimal = codes "not hexadecimal"
+fault_text NotANumber = codes "not a number of a fault"
+fault_text NotANetwork = codes "not a network"
 fault_text Memory = codes "30 Memory"

@@ -15,10 +15,6 @@ use thiserror::Error;
 pub enum CommandFault<'a> {
     /// A word cannot be read.
     Word(WordFault),
-    /// The word is no network.
-    NotANetwork,
-    /// The word is no number of a fault or a refusal.
-    NotANumber,
     /// The bytes are no LSA.
     Wire(WireFault),
     /// The configuration is none.
@@ -47,8 +43,8 @@ impl CommandFault<'_> {
         ensures { result ≡ status_of self.entry }
     {
         match self {
-            CommandFault::Word(WordFault::NotAnAddress | WordFault::NotHexadecimal) => 2,
-            CommandFault::NotANetwork | CommandFault::NotANumber => 2,
+            CommandFault::Word(WordFault::Memory) => 1,
+            CommandFault::Word(_) => 2,
             _ => 1,
         }
     }
@@ -60,8 +56,6 @@ impl fmt::Display for CommandFault<'_> {
     fn fmt<W: fmt::Write>(&self, f: &mut fmt::Formatter<W>) -> fmt::Result {
         match self {
             CommandFault::Word(fault) => fault.fmt(f),
-            CommandFault::NotANetwork => f.write_str("not a network"),
-            CommandFault::NotANumber => f.write_str("not the number of a fault"),
             CommandFault::Wire(fault) => fault.fmt(f),
             CommandFault::Config(fault) => fault.fmt(f),
             CommandFault::Refused(fault) => fault.fmt(f),

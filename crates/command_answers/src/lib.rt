@@ -1,5 +1,5 @@
-//! What the commands `one`, `decode` and `fault` answer, and words that name no command: each answer is a value, and
-//! a thin writer tells it.
+//! What the commands `one`, `decode` and `fault` answer, and words that name no command: each answer is a
+//! value, and a thin writer tells it.
 #![tactic(auto)]
 
 mod answer;
@@ -14,7 +14,8 @@ mod words;
 pub use answer::{Answer, line_of};
 pub use command_fault::CommandFault;
 pub use decode_lsa::{answer_decode, decode};
-pub use fault_number::{answer_number, explain};
+pub use fault_number::{answer_number, fault};
 pub use one_lookup::{answer_one, one};
 pub use telling::{CANNOT_WRITE, NO_MEMORY, say, tell};
 pub use usage::answer_usage;
+pub use words::{WordFault, read_network};

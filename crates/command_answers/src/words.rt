@@ -1,15 +1,18 @@
 //! The words of a command, read.
-ghost use Rattle.std.specs.Prelude.{◌≡◌, ◌≢◌, Ok, Some, IfOk, IfErr, OnErr, IsErrOf};
+ghost use Rattle.std.specs.Prelude.{◌≡◌, Ok, Some, IfOk, IfErr, OnErr};
 ghost use Rattle.hex.specs.Hex.{decode_of};
 ghost use Rattle.command_line.specs.Command.{texts_of};
-ghost use Rattle.command_answers.specs.Words.{IsAddress, IsHexadecimal, IsFirstFault, Writes, fault_text};
+ghost use Rattle.word_reading.specs.Writing.{WritesNetwork};
+ghost use Rattle.command_answers.specs.Words.{IsAddress, IsBytesFault, IsFirstFault, IsNoNetwork, Writes, fault_text};
 
 use command_line::OneWords;
 use hex::FromHexError;
 use ospf_types::address::Address;
+use ospf_types::prefix::Prefix;
 use std::alloc::Global;
 use std::fmt;
 use thiserror::Error;
+use word_reading::network_of;
 
 /// What `abr one` works on. Addresses are numbers in host order.
 #[derive(Debug, Drop)]
@@ -30,6 +33,8 @@ pub struct OneInput {
 pub enum WordFault {
     NotAnAddress,
     NotHexadecimal,
+    NotANumber,
+    NotANetwork,
     Memory,
 }
 
@@ -40,6 +45,8 @@ impl fmt::Display for WordFault {
         f.write_str(match self {
             WordFault::NotAnAddress => "not an address",
             WordFault::NotHexadecimal => "not hexadecimal",
+            WordFault::NotANumber => "not a number of a fault",
+            WordFault::NotANetwork => "not a network",
             WordFault::Memory => "30 Memory",
         })
     }
@@ -77,12 +84,23 @@ fn address(word: &str) -> Result<u32, WordFault>
 /// The bytes of a word in hexadecimal, in either case.
 pub fn bytes(alloc: Global, word: &str) -> Result<Vec<u8>, WordFault>
     ensures ok { IfOk result (λ bytes. decode_of word.now ≡ Ok bytes.items) }
-    ensures fault { IsErrOf result WordFault.NotHexadecimal → ¬ IsHexadecimal word.now }
-    ensures err { result ≢ Err WordFault.NotAnAddress }
+    ensures fault { IfErr result (IsBytesFault word.now) }
 {
     match hex::decode(alloc, word) {
         Ok(bytes) => Ok(bytes),
         Err(FromHexError::OutOfMemory) => Err(WordFault::Memory),
         Err(_) => Err(WordFault::NotHexadecimal),
+    }
+}
+
+/// The network of a word, as `203.0.113.0/25`.
+pub fn read_network(word: &str) -> Result<Prefix, WordFault>
+    ensures ok { IfOk result (WritesNetwork word.now) }
+    ensures fault { OnErr result (IsNoNetwork word.now) }
+    ensures err { OnErr result (result ≡ Err WordFault.NotANetwork) }
+{
+    match network_of(word) {
+        Some(network) => Ok(network),
+        None => Err(WordFault::NotANetwork),
     }
 }

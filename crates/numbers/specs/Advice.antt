@@ -40,7 +40,7 @@ refusals =
 abbrev pub later_refusals : List Advice
 later_refusals =
     (11, codes "11 Behind: The event was taken, but memory ran out over what follows from it, and the table and due summaries are older. Free some memory, and call catch_up; the next event tries too.\n")
-    ∷ (30, codes "30 Memory: Memory ran out, and nothing was changed. Free some memory, and hand it in again.\n")
+    ∷ (30, codes "30 Memory: Memory ran out before the event was taken, or the command done. Free some memory, and try again.\n")
     ∷ (31, codes "31 Spawn: A thread could not be started for a list of events. Hand in fewer lists, of more events each, or ask for fewer workers.\n")
     ∷ (32, codes "32 Workers: More than 16 lists of events were handed in at once. Hand in fewer lists, of more events each.\n")
     ∷ (34, codes "34 RangeOverlaps: Another range of the area covers the range to be set, or is covered by it. Drop the other one first.\n")

@@ -85,8 +85,8 @@ fn later_refusal(number: u32) -> Option<&'static str>
         11 => "11 Behind: The event was taken, but memory ran out over what follows from it, and \
                the table and due summaries are older. Free some memory, and call catch_up; the \
                next event tries too.\n",
-        30 => "30 Memory: Memory ran out, and nothing was changed. Free some memory, and hand it \
-               in again.\n",
+        30 => "30 Memory: Memory ran out before the event was taken, or the command done. Free \
+               some memory, and try again.\n",
         31 => "31 Spawn: A thread could not be started for a list of events. Hand in fewer lists, \
                of more events each, or ask for fewer workers.\n",
         32 => "32 Workers: More than 16 lists of events were handed in at once. Hand in fewer \
