@@ -175,8 +175,15 @@ stopped_by why known s old new r is h = subst (λ (w : Stop). WritesPart w r s o
 
 pub stop_of_write : (why : Stop) (given : ReplayFault) → given ≡ fault_of why → given ≡ fault.Write → why ≡ stop.Write
 stop_of_write stop.Write given is h = refl
+stop_of_write stop.Closed given is h = cc
 stop_of_write stop.Memory given is h = cc
+
+pub stop_of_closed : (why : Stop) (given : ReplayFault) → given ≡ fault_of why → given ≡ fault.Closed → why ≡ stop.Closed
+stop_of_closed stop.Write given is h = cc
+stop_of_closed stop.Closed given is h = refl
+stop_of_closed stop.Memory given is h = cc
 
 pub stop_of_memory : (why : Stop) (given : ReplayFault) → given ≡ fault_of why → given ≡ fault.Memory → why ≡ stop.Memory
 stop_of_memory stop.Write given is h = cc
+stop_of_memory stop.Closed given is h = cc
 stop_of_memory stop.Memory given is h = refl

@@ -60,10 +60,12 @@ flat_whole line each (x ∷ xs) = append_whole (line x) (flat_map line xs) (each
 
 pub left_longer : (why : Stop) (text rest more : List ℕ) → IsLeft why text rest → IsLeft why text (rest ++ more)
 left_longer stop.Write text rest more h = λ none. h (nil_from_length rest (omega (arith, length-append rest more, ap length none)))
+left_longer stop.Closed text rest more h = λ none. h (nil_from_length rest (omega (arith, length-append rest more, ap length none)))
 left_longer stop.Memory text rest more h = h
 
 pub left_behind : (why : Stop) (front text rest : List ℕ) → AreWhole front → IsLeft why text rest → IsLeft why (front ++ text) rest
 left_behind stop.Write front text rest whole h = h
+left_behind stop.Closed front text rest whole h = h
 left_behind stop.Memory front text rest whole h = append_whole front text whole h
 
 -- ---- the lines that are printed

@@ -27,6 +27,7 @@ pub record IsRead (before after : Option (List ℕ)) (r : RecordingValue) : Type
 abbrev pub IsReadFault : (before after : Option (List ℕ)) → ReplayFault → Type 0
 IsReadFault before after fault.Read = Unit {0}
 IsReadFault before after fault.Write = ⊥
+IsReadFault before after fault.Closed = ⊥
 IsReadFault before after fault.Memory = Unit {0}
 IsReadFault before after (fault.Line f) = (bytes : List ℕ) × ReadsAll before after bytes × IsFaultOf bytes f
 

@@ -8,5 +8,6 @@ use Rattle.replay.specs.declared.fault.ReplayFault.TheVariants as fault
 abbrev pub replay_fault_text : ReplayFault → List ℕ
 replay_fault_text fault.Read = codes "cannot read"
 replay_fault_text fault.Write = codes "cannot write"
+replay_fault_text fault.Closed = codes "closed pipe"
 replay_fault_text fault.Memory = memory_text
 replay_fault_text (fault.Line f) = line_fault_text f

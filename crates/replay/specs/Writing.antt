@@ -1,6 +1,12 @@
--- What a writer holds where a write failed.
-use Rattle.std.specs.Prelude.{ℕ, ◌≡◌, ◌≢◌, ◌++◌, List, [], Option}
+-- What a writer holds where a write failed, and what the answer of a write comes to.
+use Rattle.std.specs.Prelude.{ℕ, ◌≡◌, ◌≢◌, ◌++◌, List, [], Option, Result, Ok, Err}
+use Rattle.std.specs.declared.io.Error.{Error}
+use Rattle.std.specs.declared.io.ErrorKind.{ErrorKind}
+use Rattle.std.specs.declared.io.ErrorKind.TheVariants as io_kind
+use Rattle.std.specs.IoError.{error_kind}
 use Rattle.std.specs.Io.KnownBytes.{Appends}
+use Rattle.replay.specs.declared.writing.CannotWrite.{CannotWrite}
+use Rattle.replay.specs.declared.writing.CannotWrite.TheVariants.{Failed, Closed}
 
 -- a writer's known bytes grew by a beginning of these, and not by all of them
 pub record AppendsPart (old new : Option (List ℕ)) (bytes : List ℕ) : Type 0 where
@@ -9,3 +15,20 @@ pub record AppendsPart (old new : Option (List ℕ)) (bytes : List ℕ) : Type 0
   pub joined : bytes ≡ part ++ rest
   pub lacks : rest ≢ []
   pub written : Appends old new part
+
+-- ---- the answer of one write
+
+-- the write took so many bytes: one at least, or none where it was interrupted
+abbrev pub IsWriteStep : Result ℕ Error → (count : ℕ) → Type 0
+IsWriteStep (Ok n) count = (count ≡ n) × (n ≢ 0)
+IsWriteStep (Err e) count = (count ≡ 0) × (error_kind e ≡ io_kind.Interrupted)
+
+-- Why no more is written behind a write that failed so. The pipe was closed exactly where the error is of that kind; one that was interrupted is tried again.
+abbrev pub IsErrorEnd : ErrorKind → CannotWrite → Type 0
+IsErrorEnd kind Closed = kind ≡ io_kind.BrokenPipe
+IsErrorEnd kind Failed = (kind ≢ io_kind.BrokenPipe) × (kind ≢ io_kind.Interrupted)
+
+-- why no more is written behind a write: it took nothing, or it failed
+abbrev pub IsWriteEnd : Result ℕ Error → CannotWrite → Type 0
+IsWriteEnd (Ok n) why = (n ≡ 0) × (why ≡ Failed)
+IsWriteEnd (Err e) why = IsErrorEnd (error_kind e) why

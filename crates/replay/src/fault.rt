@@ -13,6 +13,8 @@ pub enum ReplayFault {
     Read,
     /// The output could not be written.
     Write,
+    /// The output is a pipe, and its reading end was closed.
+    Closed,
     /// Memory ran out.
     Memory,
     /// What was read is no recording.
@@ -26,6 +28,7 @@ impl fmt::Display for ReplayFault {
         match self {
             ReplayFault::Read => f.write_str("cannot read"),
             ReplayFault::Write => f.write_str("cannot write"),
+            ReplayFault::Closed => f.write_str("closed pipe"),
             ReplayFault::Memory => Memory.fmt(f),
             ReplayFault::Line(fault) => fault.fmt(f),
         }

@@ -1,8 +1,7 @@
 //! The page: what is printed is collected, and written where it has become long.
-ghost use Rattle.std.specs.Prelude.{IfOk, OnOk, OnErr, [], ◌≡◌, string_bytes};
+ghost use Rattle.std.specs.Prelude.{IfOk, IfErr, OnOk, [], ◌≡◌, string_bytes};
 ghost use Rattle.replay.specs.Pages.{Adds, AddsPart};
-ghost use Rattle.replay.specs.Stops.{fault_of};
-ghost use Rattle.replay.specs.declared.page.Stop.TheVariants as stop;
+ghost use Rattle.replay.specs.Stops.{fault_of, stop_of};
 
 use crate::fault::ReplayFault;
 use crate::writing::{CannotWrite, write_whole};
@@ -15,18 +14,23 @@ use std::io;
 pub enum Stop {
     /// The output could not be written.
     Write,
+    /// The output is a pipe, and its reading end was closed.
+    Closed,
     /// Memory ran out.
     Memory,
 }
 
 impl From<CannotWrite> for Stop {
     ghost use Rattle.std.specs.Prelude.{◌≡◌};
-    ghost use Rattle.replay.specs.declared.page.Stop.TheVariants.{Write};
+    ghost use Rattle.replay.specs.Stops.{stop_of};
 
-    ghost from_gives = { λ _ given. given ≡ Write };
+    ghost from_gives = { λ why given. given ≡ stop_of why };
 
-    fn from(_e: CannotWrite) -> Stop {
-        Stop::Write
+    fn from(why: CannotWrite) -> Stop {
+        match why {
+            CannotWrite::Failed => Stop::Write,
+            CannotWrite::Closed => Stop::Closed,
+        }
     }
 }
 
@@ -47,6 +51,7 @@ pub fn fault_of(stop: Stop) -> ReplayFault
 {
     match stop {
         Stop::Write => ReplayFault::Write,
+        Stop::Closed => ReplayFault::Closed,
         Stop::Memory => ReplayFault::Memory,
     }
 }
@@ -65,8 +70,8 @@ pub fn empty_page(alloc: Global) -> Result<String, Memory>
 pub fn spill<W: io::Write>(out: &mut W, page: &mut String) -> Result<(), CannotWrite>
     ensures ok { OnOk result (Adds (W.contents out.old) (W.contents out.new) (string_bytes page.old)
         (string_bytes page.new) []) }
-    ensures err { OnErr result (AddsPart stop.Write (W.contents out.old) (W.contents out.new)
-        (string_bytes page.old)) }
+    ensures err { IfErr result (λ why. AddsPart (stop_of why) (W.contents out.old)
+        (W.contents out.new) (string_bytes page.old)) }
 {
     if page.len() < LENGTH {
         return Ok(());
@@ -79,8 +84,8 @@ pub fn write_page<W: io::Write>(out: &mut W, page: &mut String) -> Result<(), Ca
     ensures ok { OnOk result (Adds (W.contents out.old) (W.contents out.new) (string_bytes page.old)
         (string_bytes page.new) []) }
     ensures empty { OnOk result (string_bytes page.new ≡ []) }
-    ensures err { OnErr result (AddsPart stop.Write (W.contents out.old) (W.contents out.new)
-        (string_bytes page.old)) }
+    ensures err { IfErr result (λ why. AddsPart (stop_of why) (W.contents out.old)
+        (W.contents out.new) (string_bytes page.old)) }
 {
     write_whole(out, page.as_bytes())?;
     page.clear();

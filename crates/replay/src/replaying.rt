@@ -18,7 +18,8 @@ use std::io;
 
 /// Reads its input to the end as a recording, runs it on one thread, and writes what `show` names. For a
 /// fault of the input nothing is written. Where a write fails or memory runs out, a beginning of the output
-/// is written: something is missing where a write failed, and no line is cut where memory ran out.
+/// is written: something is missing where a write failed, and no line is cut where memory ran out. A failed
+/// write is told as `Closed` where the writer's error is of the kind `BrokenPipe`, and else as `Write`.
 pub fn replay_one<R: io::Read, W: io::Write>(
     alloc: Global,
     hashing: RandomState,
@@ -33,6 +34,9 @@ pub fn replay_one<R: io::Read, W: io::Write>(
         × ((bytes : List ℕ) × ReadsAll (R.remaining input.old) (R.remaining input.new) bytes × IsFaultOf bytes f) }
     ensures write { result ≡ Err replay_fault.Write
         → ReplaysPart stop.Write show (R.remaining input.old) (R.remaining input.new)
+        (W.contents out.old) (W.contents out.new) }
+    ensures closed { result ≡ Err replay_fault.Closed
+        → ReplaysPart stop.Closed show (R.remaining input.old) (R.remaining input.new)
         (W.contents out.old) (W.contents out.new) }
     ensures memory { result ≡ Err replay_fault.Memory → (out.new ≡ out.old)
         ⊎ ReplaysPart stop.Memory show (R.remaining input.old) (R.remaining input.new) (W.contents out.old) (W.contents out.new) }

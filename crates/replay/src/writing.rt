@@ -1,20 +1,32 @@
 //! Bytes, written whole.
-ghost use Rattle.std.specs.Prelude.{◌≡◌, ◌↔◌, ◌≤◌, [], take, length, Some, IsTrue, IfOk, OnOk, OnErr};
+ghost use Rattle.std.specs.Prelude.{◌≡◌, ◌↔◌, ◌≤◌, [], take, length, Some, IsTrue, IfOk, IfErr, OnOk, OnErr};
 ghost use Rattle.std.specs.declared.io.ErrorKind.TheVariants as io_kind;
 ghost use Rattle.std.specs.Io.KnownBytes.{Appends};
-ghost use Rattle.replay.specs.Writing.{AppendsPart};
+ghost use Rattle.replay.specs.Writing.{AppendsPart, IsWriteStep, IsWriteEnd, IsErrorEnd};
 
 use std::io;
 
-/// A writer failed, or took nothing.
+/// Why bytes were not written whole.
 #[derive(Clone, Copy, Debug, PartialEq, Eq)]
-pub struct CannotWrite;
+pub enum CannotWrite {
+    /// The writer failed, or took nothing.
+    Failed,
+    /// The writer failed with `io::ErrorKind::BrokenPipe`: it is a pipe, and its reading end was closed.
+    Closed,
+}
 
 // Whether a write that failed so is tried again: only one that was interrupted.
 fn is_interrupted(kind: io::ErrorKind) -> bool
     ensures { IsTrue result ↔ (kind ≡ io_kind.Interrupted) }
 {
     kind == io::ErrorKind::Interrupted
+}
+
+// Whether a write failed so because the reading end of a pipe was closed.
+fn is_closed_pipe(kind: io::ErrorKind) -> bool
+    ensures { IsTrue result ↔ (kind ≡ io_kind.BrokenPipe) }
+{
+    kind == io::ErrorKind::BrokenPipe
 }
 
 // What one write came to: so many bytes were taken, and none only where it was interrupted.
@@ -27,7 +39,7 @@ struct Step {
 }
 
 /// Writes all the bytes; or a part of them, where the writer fails or takes nothing. A write that was
-/// interrupted is tried again.
+/// interrupted is tried again. The kind of the writer's error decides between `Closed` and `Failed`.
 pub fn write_whole<W: io::Write>(out: &mut W, bytes: &[u8]) -> Result<(), CannotWrite>
     ensures ok { OnOk result (Appends (W.contents out.old) (W.contents out.new) bytes.now) }
     ensures err { OnErr result (AppendsPart (W.contents out.old) (W.contents out.new) bytes.now) }
@@ -43,7 +55,7 @@ pub fn write_whole<W: io::Write>(out: &mut W, bytes: &[u8]) -> Result<(), Cannot
     if rest.is_empty() {
         Ok(())
     } else {
-        Err(CannotWrite)
+        Err(CannotWrite::Failed)
     }
 }
 
@@ -54,21 +66,37 @@ fn write_some<W: io::Write>(out: &mut W, bytes: &[u8]) -> Result<Step, CannotWri
         (take step.count bytes.now)) }
     ensures err { OnErr result (Appends (W.contents out.old) (W.contents out.new) []) }
 {
-    match out.write(bytes) {
-        Ok(0) => Err(CannotWrite),
+    step_of(out.write(bytes))
+}
+
+// What the answer of one write comes to: a step, or why no more is written.
+fn step_of(answer: io::Result<usize>) -> Result<Step, CannotWrite>
+    ensures step { IfOk result (λ step. IsWriteStep answer step.count) }
+    ensures end { IfErr result (IsWriteEnd answer) }
+{
+    match answer {
+        Ok(0) => Err(CannotWrite::Failed),
         Ok(count) => Ok(Step {
             count,
             failed: None,
         }),
-        Err(error) => {
-            let kind = error.kind();
-            if !is_interrupted(kind) {
-                return Err(CannotWrite);
-            }
-            Ok(Step {
-                count: 0,
-                failed: Some(kind),
-            })
-        }
+        Err(error) => step_of_error(error.kind()),
     }
+}
+
+// What a write comes to that failed so.
+fn step_of_error(kind: io::ErrorKind) -> Result<Step, CannotWrite>
+    ensures step { IfOk result (λ step. (step.count ≡ 0) × (kind ≡ io_kind.Interrupted)) }
+    ensures end { IfErr result (IsErrorEnd kind) }
+{
+    if is_interrupted(kind) {
+        return Ok(Step {
+            count: 0,
+            failed: Some(kind),
+        });
+    }
+    if is_closed_pipe(kind) {
+        return Err(CannotWrite::Closed);
+    }
+    Err(CannotWrite::Failed)
 }

@@ -1,6 +1,6 @@
 use Rattle.std.proofs.Common.{inr}
 use Rattle.replay.specs.declared.page.Stop.TheVariants as stop
-use Rattle.replay.proofs.Ends.{output_of, part_of, replays, replays_part, stop_of_write, stop_of_memory, stopped_by}
+use Rattle.replay.proofs.Ends.{output_of, part_of, replays, replays_part, stop_of_write, stop_of_closed, stop_of_memory, stopped_by}
 use Rattle.replay.proofs.replaying.replay_one.Goals as goal
 
 pub returns-in-Ok-print-clause-ok : goal.returns-in-Ok-print-clause-ok
@@ -14,6 +14,13 @@ returns-in-Err-clause-write g c h =
     replays_part stop.Write _ _ _ _ _ _ c.in_ok-recording.ensures.recording
     (part_of stop.Write _ _ _ _ _ _ _ opened.version opened.base opened.lines
     (stopped_by c.in-Err.stop stop.Write _ _ _ _ (stop_of_write c.in-Err.stop _ c.fault_of.ensures (cc h)) c.in-Err.ensures.err))
+
+pub returns-in-Err-clause-closed : goal.returns-in-Err-clause-closed
+returns-in-Err-clause-closed g c h =
+    let opened = c.in-Ok.ensures in
+    replays_part stop.Closed _ _ _ _ _ _ c.in_ok-recording.ensures.recording
+    (part_of stop.Closed _ _ _ _ _ _ _ opened.version opened.base opened.lines
+    (stopped_by c.in-Err.stop stop.Closed _ _ _ _ (stop_of_closed c.in-Err.stop _ c.fault_of.ensures (cc h)) c.in-Err.ensures.err))
 
 pub returns-in-Err-clause-memory : goal.returns-in-Err-clause-memory
 returns-in-Err-clause-memory g c h =

@@ -1,6 +1,7 @@
 use Rattle.std.proofs.Common.{refl}
 use Rattle.replay.specs.Lines.{due_line}
 use Rattle.replay.specs.declared.page.Stop.TheVariants as stop
+use Rattle.replay.specs.Stops.{stop_of}
 use Rattle.replay.proofs.Written.{err_as}
 use Rattle.replay.proofs.Wholes.{due_whole}
 use Rattle.replay.proofs.Paging.{adding_none, adding_more, adding_part, adding_stopped, line_next}
@@ -20,5 +21,5 @@ returns-in_err-put_due-clause-err g c = λ whole. err_as _ c.from_residual.resul
 pub returns-in_err-spill-clause-err : goal.returns-in_err-spill-clause-err
 returns-in_err-spill-clause-err g c =
     let next = line_next (due_line c.args.area) c.args.list.now c.loop-due.due-index c.due-item.result c.loop-due-test.true c.due-item.is in
-    λ whole. err_as _ c.from_residual-in_err-spill.result stop.Write c.from_residual-in_err-spill.ensures.1
-    (adding_stopped stop.Write _ _ _ _ _ _ _ _ _ _ whole c.loop-due.invariant next c.in_ok-put_due.ensures (due_whole c.args.area c.due-item.result) c.in_err-spill.ensures.err)
+    λ whole. err_as _ c.from_residual-in_err-spill.result (stop_of c.in_err-spill.field-0.0) c.from_residual-in_err-spill.ensures.1
+    (adding_stopped (stop_of c.in_err-spill.field-0.0) _ _ _ _ _ _ _ _ _ _ whole c.loop-due.invariant next c.in_ok-put_due.ensures (due_whole c.args.area c.due-item.result) c.in_err-spill.ensures.err)

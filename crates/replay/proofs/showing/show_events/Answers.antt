@@ -1,6 +1,7 @@
 use Rattle.std.proofs.Common.{refl}
 use Rattle.replay.specs.Lines.{event_line}
 use Rattle.replay.specs.declared.page.Stop.TheVariants as stop
+use Rattle.replay.specs.Stops.{stop_of}
 use Rattle.replay.proofs.Written.{err_as}
 use Rattle.replay.proofs.Wholes.{event_whole}
 use Rattle.replay.proofs.Paging.{adding_none, adding_more, adding_part, adding_stopped, line_next}
@@ -20,5 +21,5 @@ returns-in_err-append_event-clause-err g c = λ whole. err_as _ c.from_residual.
 pub returns-in_err-spill-clause-err : goal.returns-in_err-spill-clause-err
 returns-in_err-spill-clause-err g c =
     let next = line_next event_line c.args.events.now c.loop-event.event-index c.event-item.result c.loop-event-test.true c.event-item.is in
-    λ whole. err_as _ c.from_residual-in_err-spill.result stop.Write c.from_residual-in_err-spill.ensures.1
-    (adding_stopped stop.Write _ _ _ _ _ _ _ _ _ _ whole c.loop-event.invariant next c.in_ok-append_event.ensures.text (event_whole c.event-item.result) c.in_err-spill.ensures.err)
+    λ whole. err_as _ c.from_residual-in_err-spill.result (stop_of c.in_err-spill.field-0.0) c.from_residual-in_err-spill.ensures.1
+    (adding_stopped (stop_of c.in_err-spill.field-0.0) _ _ _ _ _ _ _ _ _ _ whole c.loop-event.invariant next c.in_ok-append_event.ensures.text (event_whole c.event-item.result) c.in_err-spill.ensures.err)

@@ -2,6 +2,7 @@ use Rattle.std.proofs.Common.{ap, sym, ◌∙◌}
 use Rattle.std.specs.List.{flat_map}
 use Rattle.replay.specs.Lines.{item_line}
 use Rattle.replay.specs.declared.page.Stop.TheVariants as stop
+use Rattle.replay.specs.Stops.{stop_of}
 use Rattle.replay.proofs.Written.{err_as}
 use Rattle.replay.proofs.Wholes.{item_whole}
 use Rattle.replay.proofs.Paging.{adding_none, adding_more, adding_part, adding_stopped}
@@ -18,5 +19,5 @@ returns-in_err-put_item-clause-err g c = λ whole. err_as _ c.from_residual.resu
 
 pub returns-in_err-spill-clause-err : goal.returns-in_err-spill-clause-err
 returns-in_err-spill-clause-err g c =
-    λ whole. err_as _ c.from_residual-in_err-spill.result stop.Write c.from_residual-in_err-spill.ensures.1
-    (adding_stopped stop.Write _ _ _ _ _ _ _ _ _ _ whole c.loop-prefix.invariant (ap (flat_map item_line) c.in-Some.ensures.steps) c.in_ok-put_item.ensures (item_whole (c.in-Some.prefix, c.in-Some.item.now)) c.in_err-spill.ensures.err)
+    λ whole. err_as _ c.from_residual-in_err-spill.result (stop_of c.in_err-spill.field-0.0) c.from_residual-in_err-spill.ensures.1
+    (adding_stopped (stop_of c.in_err-spill.field-0.0) _ _ _ _ _ _ _ _ _ _ whole c.loop-prefix.invariant (ap (flat_map item_line) c.in-Some.ensures.steps) c.in_ok-put_item.ensures (item_whole (c.in-Some.prefix, c.in-Some.item.now)) c.in_err-spill.ensures.err)

@@ -4,6 +4,7 @@ use Rattle.event_core.specs.DueSummary.{DueSummary}
 use Rattle.replay.specs.Lines.{serial_line, area_lines}
 use Rattle.recording.specs.declared.show.Show.TheVariants as show
 use Rattle.replay.specs.declared.page.Stop.TheVariants as stop
+use Rattle.replay.specs.Stops.{stop_of}
 use Rattle.replay.proofs.Written.{err_as}
 use Rattle.replay.proofs.RunSteps.{ran_whole}
 use Rattle.replay.proofs.Ends.{none_written, run_cut, shown_whole, shown_cut, whole_cut, whole_written}
@@ -30,7 +31,7 @@ returns-in_err-show_summaries-clause-err g c =
 
 pub returns-in_err-write_page-clause-err : goal.returns-in_err-write_page-clause-err
 returns-in_err-write_page-clause-err g c =
-    err_as _ c.from_residual-in_err-write_page.result stop.Write c.from_residual-in_err-write_page.ensures.1 (whole_cut stop.Write _ _ _ _ _ _
+    err_as _ c.from_residual-in_err-write_page.result (stop_of c.in_err-write_page.field-0.0) c.from_residual-in_err-write_page.ensures.1 (whole_cut (stop_of c.in_err-write_page.field-0.0) _ _ _ _ _ _
     (shown_whole _ _ _ _ show.Due _ _ _ _ _ _ _ c.requires c.in_ok-page.ensures c.in_ok-core.ensures.ok c.in_ok-put_serial.ensures
     (λ printed. ap (λ (lists : List (ℕ × List DueSummary)). (printed ++ serial_line c.in_ok-core.core) ++ flat_map area_lines lists) c.summaries.ensures.value) _ c.in_ok-show_summaries.ensures.ok) c.in_err-write_page.ensures.err)
 

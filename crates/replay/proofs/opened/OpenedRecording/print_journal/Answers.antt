@@ -1,4 +1,5 @@
 use Rattle.replay.specs.declared.page.Stop.TheVariants as stop
+use Rattle.replay.specs.Stops.{stop_of}
 use Rattle.replay.proofs.Written.{err_as}
 use Rattle.replay.proofs.Ends.{none_written, journal_whole, journal_cut, whole_cut, whole_written}
 use Rattle.replay.proofs.opened.OpenedRecording.print_journal.Goals as goal
@@ -16,7 +17,7 @@ returns-in_err-show_events-clause-err g c =
 
 pub returns-in_err-write_page-clause-err : goal.returns-in_err-write_page-clause-err
 returns-in_err-write_page-clause-err g c =
-    err_as _ c.from_residual-in_err-write_page.result stop.Write c.from_residual-in_err-write_page.ensures.1 (whole_cut stop.Write _ _ _ _ _ _
+    err_as _ c.from_residual-in_err-write_page.result (stop_of c.in_err-write_page.field-0.0) c.from_residual-in_err-write_page.ensures.1 (whole_cut (stop_of c.in_err-write_page.field-0.0) _ _ _ _ _ _
     (journal_whole _ _ _ _ _ _ _ _ _ _ c.requires c.in_ok-page.ensures c.run_silently.ensures c.base.ensures.value c.in_ok-append_front.ensures.text c.journal.ensures.value _ c.in_ok-show_events.ensures.ok)
     c.in_err-write_page.ensures.err)
 

@@ -1,6 +1,7 @@
 use Rattle.std.proofs.Common.{refl, inl}
 use Rattle.recording.specs.declared.show.Show.TheVariants as show
 use Rattle.replay.specs.declared.page.Stop.TheVariants as stop
+use Rattle.replay.specs.Stops.{stop_of}
 use Rattle.replay.proofs.Written.{err_as}
 use Rattle.replay.proofs.RunSteps.{ran_whole}
 use Rattle.replay.proofs.Ends.{none_written, run_cut, shown_whole, shown_cut, whole_cut, whole_written}
@@ -32,7 +33,7 @@ returns-in_err-show_lsas-clause-err g c =
 
 pub returns-in_err-write_page-clause-err : goal.returns-in_err-write_page-clause-err
 returns-in_err-write_page-clause-err g c =
-    err_as _ c.from_residual-in_err-write_page.result stop.Write c.from_residual-in_err-write_page.ensures.1 (whole_cut stop.Write _ _ _ _ _ _
+    err_as _ c.from_residual-in_err-write_page.result (stop_of c.in_err-write_page.field-0.0) c.from_residual-in_err-write_page.ensures.1 (whole_cut (stop_of c.in_err-write_page.field-0.0) _ _ _ _ _ _
     (shown_whole _ _ _ _ show.Lsdb _ _ _ _ _ _ _ c.requires c.in_ok-page.ensures c.in_ok-core.ensures.ok c.in_ok-put_serial.ensures (λ printed. (c.in_ok-lsas.lsas.items, c.in_ok-lsas.ensures, refl)) _
     c.in_ok-show_lsas.ensures.ok) c.in_err-write_page.ensures.err)
 

@@ -3,6 +3,7 @@ use Rattle.std.proofs.lemmas.List.{nil_from_length}
 use Rattle.std.specs.Vec.Iter.{into_iter_items}
 use Rattle.replay.specs.Lines.{first_number}
 use Rattle.replay.specs.declared.page.Stop.TheVariants as stop
+use Rattle.replay.specs.Stops.{stop_of}
 use Rattle.replay.proofs.Written.{err_as}
 use Rattle.replay.proofs.RunSteps.{running_none, running_more, running_fits, running_all, running_part, running_stopped}
 use Rattle.replay.proofs.opened.OpenedRecording.run_lines.Goals as goal
@@ -25,8 +26,8 @@ returns-in_err-run_line-clause-err g c =
 
 pub returns-in_err-spill-clause-err : goal.returns-in_err-spill-clause-err
 returns-in_err-spill-clause-err g c =
-    λ whole. err_as _ c.from_residual-in_err-spill.result stop.Write c.from_residual-in_err-spill.ensures.1
-    (running_stopped stop.Write _ _ _ _ _ _ _ _ _ _ _ _ _ _ _ whole c.loop-line.invariant c.in-Some.ensures.steps.0 c.in_ok-run_line.ensures c.in_err-spill.ensures.err)
+    λ whole. err_as _ c.from_residual-in_err-spill.result (stop_of c.in_err-spill.field-0.0) c.from_residual-in_err-spill.ensures.1
+    (running_stopped (stop_of c.in_err-spill.field-0.0) _ _ _ _ _ _ _ _ _ _ _ _ _ _ _ whole c.loop-line.invariant c.in-Some.ensures.steps.0 c.in_ok-run_line.ensures c.in_err-spill.ensures.err)
 
 pub returns-clause-ok : goal.returns-clause-ok
 returns-clause-ok g c =
