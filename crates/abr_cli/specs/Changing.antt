@@ -12,9 +12,9 @@ use Rattle.changes.specs.Outputs.{TellsAll, TellsPart}
 use Rattle.worker_replay.specs.declared.fault.ManyFault.TheVariants.{Replay}
 use Rattle.command_answers.specs.declared.command_fault.CommandFault.TheVariants as fault
 use Rattle.command_answers.specs.declared.words.WordFault.TheVariants.{NotANetwork}
-use Rattle.command_answers.specs.Answers.{IsSaid, IsSaidOf}
+use Rattle.command_answers.specs.Answers.{IsSaid}
 use Rattle.command_answers.specs.Faults.{command_fault_text, fault_line}
-use Rattle.abr_cli.specs.Replaying.{fault_from}
+use Rattle.abr_cli.specs.Replaying.{IsFaultSaid}
 
 -- the word asks for this network; without a word all are asked for
 abbrev pub Asks : Option (Bor (List ℕ)) → Option Prefix → Type 0
@@ -44,7 +44,7 @@ IsWordSaid status i i' o o' f f' =
 -- what is told of the networks that are asked for went to its end, and nothing was said; or it ended early, and its fault was said
 abbrev pub IsTellingTold : Bor (List ℕ) → Option Prefix → (status : ℕ) (i i' o o' f f' : Option (List ℕ)) → Type 0
 IsTellingTold file only status i i' o o' f f' = ((status ≡ 0) × TellsAll only i i' o o' × (f' ≡ f))
-    ⊎ ((e : ReplayFault) × TellsEarly only e i i' o o' × IsSaidOf (fault_from file (Replay e)) status f f')
+    ⊎ ((e : ReplayFault) × TellsEarly only e i i' o o' × IsFaultSaid file (Replay e) status f f')
 
 -- the word of the one network, if there is one, was no network; or what is asked for was told
 abbrev pub IsChangesTold : Bor (List ℕ) → Option (Bor (List ℕ)) → (status : ℕ) (i i' o o' f f' : Option (List ℕ)) → Type 0

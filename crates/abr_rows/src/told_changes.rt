@@ -6,6 +6,7 @@ use recording::{Fault, LineFault};
 use replay::ReplayFault;
 use std::alloc::Global;
 use std::hash::RandomState;
+use std::io;
 use std::test::Fail;
 
 const CHANGES: &str = "5 set 192.0.2.0/24 intra 0.0.0.0 10 0 direct:1
@@ -18,10 +19,10 @@ fn tells(
     hashing: RandomState,
     text: &str,
     calls: (u8, u8),
-    fails: bool,
+    failure: Option<io::ErrorKind>,
 ) -> (Result<(), ReplayFault>, bool, bool) {
-    let mut input = some_device(alloc, text, calls.0, true);
-    let mut out = some_device(alloc, "", calls.1, fails);
+    let mut input = some_device(alloc, text, calls.0, None);
+    let mut out = some_device(alloc, "", calls.1, failure);
     let answer = tell_changes(alloc, hashing, &mut input, &mut out, None);
     let written = out.taken.as_slice();
     let begins = CHANGES.as_bytes().starts_with(written);
@@ -34,10 +35,10 @@ fn a_reader_that_fails(rt: HostRuntime) -> Result<(), Fail> {
     let hashing = RandomState::new(&rt)?;
     let mut all = true;
     for calls in 0..15 {
-        let found = tells(rt.alloc(), hashing, RECORDING, (calls, 255), true);
+        let found = tells(rt.alloc(), hashing, RECORDING, (calls, 255), None);
         all &= found == (Err(ReplayFault::Read), true, false);
     }
-    let whole = tells(rt.alloc(), hashing, RECORDING, (255, 255), true);
+    let whole = tells(rt.alloc(), hashing, RECORDING, (255, 255), None);
     assert!(rt; all && whole == (Ok(()), true, true));
     Ok(())
 }
@@ -48,10 +49,14 @@ fn a_writer_that_fails_or_takes_nothing(rt: HostRuntime) -> Result<(), Fail> {
     let hashing = RandomState::new(&rt)?;
     let mut all = true;
     for calls in 0..3 {
-        for fails in [true, false] {
-            let found = tells(rt.alloc(), hashing, RECORDING, (255, calls), fails);
+        let full = Some(io::ErrorKind::StorageFull);
+        for failure in [full, None] {
+            let found = tells(rt.alloc(), hashing, RECORDING, (255, calls), failure);
             all &= found == (Err(ReplayFault::Write), true, false);
         }
+        let closed = Some(io::ErrorKind::BrokenPipe);
+        let found = tells(rt.alloc(), hashing, RECORDING, (255, calls), closed);
+        all &= found == (Err(ReplayFault::Closed), true, false);
     }
     assert!(rt; all);
     Ok(())
@@ -62,7 +67,7 @@ fn a_fault_of_the_input_writes_nothing(rt: HostRuntime) -> Result<(), Fail> {
     let hashing = RandomState::new(&rt)?;
     let (line, fault) = (2, Fault::Truncated);
     let line_fault = ReplayFault::Line(LineFault { line, fault });
-    let found = tells(rt.alloc(), hashing, "abr 1\n", (255, 0), true);
+    let found = tells(rt.alloc(), hashing, "abr 1\n", (255, 0), None);
     assert!(rt; found == (Err(line_fault), true, false));
     Ok(())
 }

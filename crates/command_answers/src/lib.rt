@@ -16,6 +16,6 @@ pub use command_fault::CommandFault;
 pub use decode_lsa::{answer_decode, decode};
 pub use fault_number::{answer_number, fault};
 pub use one_lookup::{answer_one, one};
-pub use telling::{CANNOT_WRITE, NO_MEMORY, say, tell};
+pub use telling::{NO_MEMORY, say, say_unwritten, tell};
 pub use usage::answer_usage;
 pub use words::{WordFault, read_network};
