@@ -19,7 +19,9 @@ impl Source {
             Ok(Job::Replay { file: "-", .. } | Job::Changes { file: "-", .. }) => {
                 Source::Standard(rt.stdin())
             }
-            Ok(Job::Replay { file, .. } | Job::Changes { file, .. }) => match File::open(rt, *file) {
+            Ok(Job::Replay { file, .. } | Job::Changes { file, .. }) => match File::open(
+                rt, *file,
+            ) {
                 Ok(file) => Source::File(file),
                 Err(_) => Source::Missing,
             },

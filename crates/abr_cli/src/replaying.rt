@@ -70,7 +70,12 @@ fn run_with<S: Threads + Wait + Sync, R: io::Read, W: io::Write>(
 }
 
 /// Says why the running of a recording ended early, but nothing where the output's pipe was closed.
-pub(crate) fn say_end<F: io::Write>(alloc: Global, file: &str, fault: ManyFault, faults: &mut F) -> u8
+pub(crate) fn say_end<F: io::Write>(
+    alloc: Global,
+    file: &str,
+    fault: ManyFault,
+    faults: &mut F,
+) -> u8
     ensures { IsEndSaid file.entry fault result (F.contents faults.old) (F.contents faults.new) }
 {
     match fault_from(file, fault) {

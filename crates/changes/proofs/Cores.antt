@@ -76,7 +76,7 @@ apart_distinct : (areas : List AreaConfig) → AreApart areas → AreDistinct (c
 apart_distinct [] apart = tt
 apart_distinct (a ∷ areas) apart = (
   λ there. let (b, has, is) = mapped_from (λ (x : AreaConfig). x.id) areas a.id there in
-  apart 0 (suc has.0) b (omega arith) (omega (arith, has.1)) (sym is ∙ sym (ap (λ (x : AreaConfig). x.id) has.2)),
+      apart 0 (suc has.0) b (omega arith) (omega (arith, has.1)) (sym is ∙ sym (ap (λ (x : AreaConfig). x.id) has.2)),
   apart_distinct areas (λ i j d lt within. apart (suc i) (suc j) d (omega arith) (omega arith)),
 )
 

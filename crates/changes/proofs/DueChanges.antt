@@ -95,26 +95,26 @@ pub metric_in : (list : List DueSummary) → IsSound list → (d : Dest) → (o 
 metric_in [] sound d = (None, λ m. (λ e. absurd cc, λ c. absurd (no_element (due_for d m) c)))
 metric_in (x ∷ xs) sound d = elim (one_or_other dest_total dest_exact x.dest d) [
   | inl e ↦
-    let is : x ≡ due_for d x.metric = λ i. record { kind = (sound.kinds x (first_element x xs) ∙ ap kind_of (sym e)) i; dest = sym e i; metric = x.metric } in (
-      Some x.metric,
-      λ m. (
-        λ same. subst (λ (k : ℕ). Contains (x ∷ xs) (due_for d k)) (some_metric same) (subst (λ (y : DueSummary). Contains (x ∷ xs) y) is (first_element x xs)),
-        λ c. elim (first_or_later x (due_for d m) xs c) [
-          | inl same ↦ ap (λ (y : DueSummary). let o : Option ℕ = Some y.metric in o) (sym same)
-          | inr later ↦
-            let behind = All-contains (λ (y : DueSummary). dest_cmp x.dest y.dest ≡ Less) xs (due_for d m) (order_behind x xs sound.in_order) later in
-            absurd (not_less_itself x.dest (subst (λ (k : Dest). dest_cmp x.dest k ≡ Less) e behind))
-        ],
-      ),
-    )
+      let is : x ≡ due_for d x.metric = λ i. record { kind = (sound.kinds x (first_element x xs) ∙ ap kind_of (sym e)) i; dest = sym e i; metric = x.metric } in (
+        Some x.metric,
+        λ m. (
+          λ same. subst (λ (k : ℕ). Contains (x ∷ xs) (due_for d k)) (some_metric same) (subst (λ (y : DueSummary). Contains (x ∷ xs) y) is (first_element x xs)),
+          λ c. elim (first_or_later x (due_for d m) xs c) [
+            | inl same ↦ ap (λ (y : DueSummary). let o : Option ℕ = Some y.metric in o) (sym same)
+            | inr later ↦
+                let behind = All-contains (λ (y : DueSummary). dest_cmp x.dest y.dest ≡ Less) xs (due_for d m) (order_behind x xs sound.in_order) later in
+                absurd (not_less_itself x.dest (subst (λ (k : Dest). dest_cmp x.dest k ≡ Less) e behind))
+          ],
+        ),
+      )
   | inr other ↦
-    let rest = metric_in xs (record { in_order = in_order_behind x xs sound.in_order; kinds = λ due c. sound.kinds due (later_element x due xs c) }) d in (
-      rest.0,
-      λ m. (
-        λ e. later_element x (due_for d m) xs ((rest.1 m).0 e),
-        λ c. elim (first_or_later x (due_for d m) xs c) [ inl e ↦ absurd (other (ap (λ (y : DueSummary). y.dest) e)) | inr later ↦ (rest.1 m).1 later ],
-      ),
-    )
+      let rest = metric_in xs (record { in_order = in_order_behind x xs sound.in_order; kinds = λ due c. sound.kinds due (later_element x due xs c) }) d in (
+        rest.0,
+        λ m. (
+          λ e. later_element x (due_for d m) xs ((rest.1 m).0 e),
+          λ c. elim (first_or_later x (due_for d m) xs c) [ inl e ↦ absurd (other (ap (λ (y : DueSummary). y.dest) e)) | inr later ↦ (rest.1 m).1 later ],
+        ),
+      )
 ]
   where
     some_metric : {k m : ℕ} → Some k ≡ Some m → k ≡ m
@@ -127,10 +127,10 @@ one_metric list d (Some x) b h k = sym ((k x).1 ((h x).0 refl))
 
 area_follows : (id : ℕ) (ms : Metrics) (old new : List DueSummary) → AreChangesBetween ms old new → IsSound new → (m : DueMetrics) → AreMetricsOf old m → AreMetricsOf new (metrics_from id m (map (due_change id) ms))
 area_follows id ms old new changes sound m given q = reaches id new ms (λ d o c. ((changes.exact d o).0 c).0) m q (λ absent.
-  let here = metric_in new sound q in
-  subst (λ (o : Option ℕ). IsMetricIn new q o)
-  (same_metrics here.0 (get m q) (λ other. absent (mapped_element (λ (e : Dest × Option ℕ). e.0) ms (q, here.0) ((changes.exact q here.0).1 (here.1, λ had. other (one_metric old q here.0 (get m q) had (given q)))))))
-  here.1)
+    let here = metric_in new sound q in
+    subst (λ (o : Option ℕ). IsMetricIn new q o)
+    (same_metrics here.0 (get m q) (λ other. absent (mapped_element (λ (e : Dest × Option ℕ). e.0) ms (q, here.0) ((changes.exact q here.0).1 (here.1, λ had. other (one_metric old q here.0 (get m q) had (given q)))))))
+    here.1)
 
 -- ---- the lists of the areas
 
@@ -178,18 +178,18 @@ due_follow id (c ∷ due) (e ∷ olds) (f ∷ news) h ids distinct sound m given
     let more : List Change = flat_map area_changes due in
     elim (first_or_later f g news has) [
       | inl here ↦
-        let e_is : e.0 ≡ id = sym first ∙ ap (λ (x : ℕ × List DueSummary). x.0) (sym here) ∙ is in
-        let c_is : c.0 ≡ id = h.0.0 ∙ e_is in
-        let changed : AreMetricsOf f.1 (metrics_from id m (map (due_change id) c.1)) = area_follows id c.1 e.1 f.1 h.0.1 (sound f (first_element f news)) m (given e (first_element e olds) e_is) in
-        let all : metrics_from id m (area_changes c ++ more) ≡ metrics_from id m (map (due_change id) c.1) =
-        metrics_both id m (area_changes c) more ∙ absent_leaves id due olds news h.1 (λ there. distinct.0 (subst (λ (k : ℕ). Contains (ids_of olds) k) (sym e_is) there)) (metrics_from id m (area_changes c))
-        ∙ ap (λ (k : ℕ). metrics_from id m (map (due_change k) c.1)) c_is in
-        subst (λ (x : ℕ × List DueSummary). AreMetricsOf x.1 (metrics_from id m (area_changes c ++ more))) (sym here) (subst (AreMetricsOf f.1) (sym all) changed)
+          let e_is : e.0 ≡ id = sym first ∙ ap (λ (x : ℕ × List DueSummary). x.0) (sym here) ∙ is in
+          let c_is : c.0 ≡ id = h.0.0 ∙ e_is in
+          let changed : AreMetricsOf f.1 (metrics_from id m (map (due_change id) c.1)) = area_follows id c.1 e.1 f.1 h.0.1 (sound f (first_element f news)) m (given e (first_element e olds) e_is) in
+          let all : metrics_from id m (area_changes c ++ more) ≡ metrics_from id m (map (due_change id) c.1) =
+          metrics_both id m (area_changes c) more ∙ absent_leaves id due olds news h.1 (λ there. distinct.0 (subst (λ (k : ℕ). Contains (ids_of olds) k) (sym e_is) there)) (metrics_from id m (area_changes c))
+          ∙ ap (λ (k : ℕ). metrics_from id m (map (due_change k) c.1)) c_is in
+          subst (λ (x : ℕ × List DueSummary). AreMetricsOf x.1 (metrics_from id m (area_changes c ++ more))) (sym here) (subst (AreMetricsOf f.1) (sym all) changed)
       | inr later ↦
-        let there : Contains (ids_of olds) id = subst (λ (l : List ℕ). Contains l id) rest (subst (λ (k : ℕ). Contains (ids_of news) k) is (mapped_element (λ (x : ℕ × List DueSummary). x.0) news g later)) in
-        let other : c.0 ≢ id = λ same. distinct.0 (subst (λ (k : ℕ). Contains (ids_of olds) k) (sym same ∙ h.0.0) there) in
-        let all : metrics_from id m (area_changes c ++ more) ≡ metrics_from id m more =
-        metrics_both id m (area_changes c) more ∙ ap (λ (n : DueMetrics). metrics_from id n more) (others_leave id c.0 (not_equal c.0 id other) c.1 m) in
-        subst (AreMetricsOf g.1) (sym all)
-        (due_follow id due olds news h.1 rest distinct.1 (λ x there. sound x (later_element f x news there)) m (λ x there. given x (later_element e x olds there)) g later is)
+          let there : Contains (ids_of olds) id = subst (λ (l : List ℕ). Contains l id) rest (subst (λ (k : ℕ). Contains (ids_of news) k) is (mapped_element (λ (x : ℕ × List DueSummary). x.0) news g later)) in
+          let other : c.0 ≢ id = λ same. distinct.0 (subst (λ (k : ℕ). Contains (ids_of olds) k) (sym same ∙ h.0.0) there) in
+          let all : metrics_from id m (area_changes c ++ more) ≡ metrics_from id m more =
+          metrics_both id m (area_changes c) more ∙ ap (λ (n : DueMetrics). metrics_from id n more) (others_leave id c.0 (not_equal c.0 id other) c.1 m) in
+          subst (AreMetricsOf g.1) (sym all)
+          (due_follow id due olds news h.1 rest distinct.1 (λ x there. sound x (later_element f x news there)) m (λ x there. given x (later_element e x olds there)) g later is)
     ]

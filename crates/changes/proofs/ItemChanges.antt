@@ -100,12 +100,12 @@ all_set (e ∷ es) sorted m q =
     let after : Items = insert m e.0 e.1 in
     all_set es (rest _ _ sorted) after q ∙ elim (one_or_other network_total network_exact e.0 q) [
       | inl is ↦
-        let none : find network_cmp q es ≡ None = ap (λ (p : Prefix). find network_cmp p es) is ∙ before_all e.0 es (front _ _ sorted) in
-        let tie : eq_by_cmp network_cmp q e.0 ≡ true = ap (λ (p : Prefix). eq_by_cmp network_cmp p e.0) is ∙ (eq_by_cmp_equiv network_total).refl e.0 in
-        ap (λ o. or_else o (get after q)) none ∙ ap (get after) is ∙ set_here network_total m e.0 e.1 ∙ ap (λ b. or_else (cond b (Some e.1) (find network_cmp q es)) (get m q)) (sym tie)
+          let none : find network_cmp q es ≡ None = ap (λ (p : Prefix). find network_cmp p es) is ∙ before_all e.0 es (front _ _ sorted) in
+          let tie : eq_by_cmp network_cmp q e.0 ≡ true = ap (λ (p : Prefix). eq_by_cmp network_cmp p e.0) is ∙ (eq_by_cmp_equiv network_total).refl e.0 in
+          ap (λ o. or_else o (get after q)) none ∙ ap (get after) is ∙ set_here network_total m e.0 e.1 ∙ ap (λ b. or_else (cond b (Some e.1) (find network_cmp q es)) (get m q)) (sym tie)
       | inr other ↦
-        ap (or_else (find network_cmp q es)) (set_elsewhere network_total network_exact m e.0 q e.1 other)
-        ∙ ap (λ b. or_else (cond b (Some e.1) (find network_cmp q es)) (get m q)) (sym (apart_by_order network_exact e.0 q other))
+          ap (or_else (find network_cmp q es)) (set_elsewhere network_total network_exact m e.0 q e.1 other)
+          ∙ ap (λ b. or_else (cond b (Some e.1) (find network_cmp q es)) (get m q)) (sym (apart_by_order network_exact e.0 q other))
     ]
 
 or_none : (o : Option Item) → or_else o None ≡ o

@@ -9,6 +9,6 @@ returns-clause-ok g c = elim c.match-line.branch [
   | in-Event+in_ok-tell_event-in-Event w ↦ told_as _ _ _ _ _ _ _ _ _ _ _ _ w.core-is (ap g.W.Write.contents w.out-is) (ap string_bytes w.page-is) (told_event _ _ _ _ _ _ _ _ _ _ w.in-Event.is w.in_ok-tell_event-in-Event.ensures.ok)
   | in-Lookup w ↦ told_as _ _ _ _ _ _ _ _ _ _ _ _ w.core-is (ap g.W.Write.contents w.out-is) (ap string_bytes w.page-is) (told_lookup _ _ _ _ _ _ _ w.in-Lookup.is)
   | in-Roll w ↦
-    told_as _ _ _ _ _ _ _ _ _ _ _ _ w.core-is (ap g.W.Write.contents w.out-is) (ap string_bytes w.page-is)
-    (told_roll _ _ _ _ _ _ _ w.roll.result w.in-Roll.is (rolls_by _ _ _ w.roll.ensures.rolled w.roll.ensures.serial w.roll.ensures.current w.roll.ensures.refused w.roll.ensures.unchanged))
+      told_as _ _ _ _ _ _ _ _ _ _ _ _ w.core-is (ap g.W.Write.contents w.out-is) (ap string_bytes w.page-is)
+      (told_roll _ _ _ _ _ _ _ w.roll.result w.in-Roll.is (rolls_by _ _ _ w.roll.ensures.rolled w.roll.ensures.serial w.roll.ensures.current w.roll.ensures.refused w.roll.ensures.unchanged))
 ]
