@@ -40,6 +40,9 @@ impl RunEnd<'_> {
         ensures write { AreWhole (string_bytes printed) → result ≡ Err stop.Write
             → WritesPart stop.Write self.entry.version show (string_bytes printed)
             self.entry.core.now (W.contents out.old) (W.contents out.new) }
+        ensures closed { AreWhole (string_bytes printed) → result ≡ Err stop.Closed
+            → WritesPart stop.Closed self.entry.version show (string_bytes printed)
+            self.entry.core.now (W.contents out.old) (W.contents out.new) }
         ensures memory { AreWhole (string_bytes printed) → result ≡ Err stop.Memory
             → (out.new ≡ out.old) ⊎ WritesPart stop.Memory self.entry.version show
             (string_bytes printed) self.entry.core.now (W.contents out.old) (W.contents out.new) }

@@ -32,6 +32,7 @@ pub struct ReplayOptions {
 /// `options.show` names. The events of a thread are submitted in their order, those of two threads in any; the look-ups see
 /// all that were answered `Current`. Where it ends early nothing is written, but for a failed write, or want of memory while
 /// writing: then a beginning of the output. Something is missing where a write failed, and no line is cut where memory ran out.
+/// A failed write is told as `Closed` where the writer's error is of the kind `BrokenPipe`, and else as `Write`.
 pub fn replay_many<S: Threads + Wait + Sync, R: io::Read, W: io::Write>(
     rt: &S,
     alloc: Global,
@@ -52,6 +53,9 @@ pub fn replay_many<S: Threads + Wait + Sync, R: io::Read, W: io::Write>(
     ensures no_entry { result ≡ Err many_fault.NoEntry → out.new ≡ out.old }
     ensures write { result ≡ Err (many_fault.Replay replay_fault.Write)
         → ReplaysPart stop.Write options.show (R.remaining input.old) (R.remaining input.new)
+        (W.contents out.old) (W.contents out.new) }
+    ensures closed { result ≡ Err (many_fault.Replay replay_fault.Closed)
+        → ReplaysPart stop.Closed options.show (R.remaining input.old) (R.remaining input.new)
         (W.contents out.old) (W.contents out.new) }
     ensures memory { result ≡ Err (many_fault.Replay replay_fault.Memory) → (out.new ≡ out.old)
         ⊎ ReplaysPart stop.Memory options.show (R.remaining input.old) (R.remaining input.new) (W.contents out.old) (W.contents out.new) }

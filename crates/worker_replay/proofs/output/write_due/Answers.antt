@@ -4,6 +4,7 @@ use Rattle.engine.specs.DueSummary.{DueSummary}
 use Rattle.replay.specs.Lines.{serial_line, area_lines}
 use Rattle.recording.specs.declared.show.Show.TheVariants as show
 use Rattle.replay.specs.declared.page.Stop.TheVariants as stop
+use Rattle.replay.specs.Stops.{stop_of}
 use Rattle.replay.proofs.Written.{err_as}
 use Rattle.replay.proofs.Wholes.{append_whole, serial_whole}
 use Rattle.worker_replay.proofs.Shown.{shown_cut, end_cut, shown_whole, none_written}
@@ -20,9 +21,9 @@ returns-in_err-show_summaries-clause-err g c =
 
 pub returns-in_err-write_page-clause-err : goal.returns-in_err-write_page-clause-err
 returns-in_err-write_page-clause-err g c =
-    λ whole. err_as _ c.from_residual-in_err-write_page.result stop.Write c.from_residual-in_err-write_page.ensures.1 (λ v. end_cut v show.Due _ _ _ _ _ _ _ c.in_ok-put_serial.ensures
+    λ whole. err_as _ c.from_residual-in_err-write_page.result (stop_of c.in_err-write_page.field-0.0) c.from_residual-in_err-write_page.ensures.1 (λ v. end_cut v show.Due _ _ _ _ _ _ _ c.in_ok-put_serial.ensures
     (ap (λ (lists : List (ℕ × List DueSummary)). (string_bytes c.args.page.now ++ serial_line c.args.core.now) ++ flat_map area_lines lists) c.summaries.ensures.value)
-    stop.Write (append_whole _ _ whole (serial_whole c.args.core.now)) _ _ c.in_ok-show_summaries.ensures.ok c.in_err-write_page.ensures.err)
+    (stop_of c.in_err-write_page.field-0.0) (append_whole _ _ whole (serial_whole c.args.core.now)) _ _ c.in_ok-show_summaries.ensures.ok c.in_err-write_page.ensures.err)
 
 pub returns-clause-ok : goal.returns-clause-ok
 returns-clause-ok g c =

@@ -9,6 +9,7 @@ use Rattle.recording.specs.declared.version.Version.{Version}
 use Rattle.replay.specs.Lines.{event_line}
 use Rattle.replay.specs.Outputs.{journal_of}
 use Rattle.replay.specs.declared.page.Stop.TheVariants as stop
+use Rattle.replay.specs.Stops.{stop_of}
 use Rattle.replay.proofs.Written.{err_as}
 use Rattle.replay.proofs.Wholes.{forms_whole}
 use Rattle.replay.proofs.Ends.{journal_text}
@@ -35,9 +36,9 @@ returns-in_err-show_events-clause-err g c =
 
 pub returns-in_err-write_page-clause-err : goal.returns-in_err-write_page-clause-err
 returns-in_err-write_page-clause-err g c =
-    err_as _ c.from_residual-in_err-write_page.result stop.Write c.from_residual-in_err-write_page.ensures.1 (end_cut c.args.version show.Journal [] c.args.core.now _ _ _ _ _
+    err_as _ c.from_residual-in_err-write_page.result (stop_of c.in_err-write_page.field-0.0) c.from_residual-in_err-write_page.ensures.1 (end_cut c.args.version show.Journal [] c.args.core.now _ _ _ _ _
     (headed c.args.version _ _ _ c.args.core.now c.in_ok-append_front.ensures.text c.requires c.base.ensures.value) (journal_shown c.args.version c.args.core.now _ c.journal.ensures.value)
-    stop.Write (forms_whole (front_forms c.args.version c.args.core.now.base)) _ _ c.in_ok-show_events.ensures.ok c.in_err-write_page.ensures.err)
+    (stop_of c.in_err-write_page.field-0.0) (forms_whole (front_forms c.args.version c.args.core.now.base)) _ _ c.in_ok-show_events.ensures.ok c.in_err-write_page.ensures.err)
 
 pub returns-clause-ok : goal.returns-clause-ok
 returns-clause-ok g c =
