@@ -14,5 +14,5 @@ pub use answer::{Answer, line_of};
 pub use command_fault::CommandFault;
 pub use decode_lsa::{answer_decode, decode};
 pub use one_lookup::{answer_one, one};
-pub use telling::{CANNOT_WRITE, NO_MEMORY, say, tell};
+pub use telling::{NO_MEMORY, say, say_unwritten, tell};
 pub use usage::answer_usage;

@@ -1,16 +1,17 @@
 //! What the program writes.
-ghost use Rattle.command_answers.specs.Answers.{IsTold, IsSaid, value_of, printed};
+ghost use Rattle.command_answers.specs.Answers.{IsTold, IsSaid, IsUnwrittenSaid, value_of, printed};
 
 use crate::answer::Answer;
-use replay::write_whole;
+use replay::{CannotWrite, write_whole};
 use std::io;
 
 pub const NO_MEMORY: &str = "abr: 30 Memory\n";
 
-pub const CANNOT_WRITE: &str = "abr: cannot write\n";
+const CANNOT_WRITE: &str = "abr: cannot write\n";
 
 /// Writes the answer to its stream, `out` or `faults`. What is returned is the status of the program:
-/// that of the answer, but 1 where a writer fails. Where `out` fails, `faults` is told.
+/// that of the answer, but 1 where a writer fails. Where `out` fails, `faults` is told, but nothing is said
+/// where the error of `out` is of the kind `BrokenPipe`: the reading end of its pipe was closed.
 pub fn tell<W: io::Write, F: io::Write>(answer: &Answer, out: &mut W, faults: &mut F) -> u8
     ensures { IsTold (value_of answer.now) result (W.contents out.old) (W.contents out.new)
         (F.contents faults.old) (F.contents faults.new) }
@@ -28,7 +29,18 @@ fn print<W: io::Write, F: io::Write>(text: &str, out: &mut W, faults: &mut F) ->
 {
     match write_whole(out, text.as_bytes()) {
         Ok(()) => 0,
-        Err(_) => say(CANNOT_WRITE, 1, faults),
+        Err(why) => say_unwritten(why, faults),
+    }
+}
+
+/// Says that the output was not written whole, but nothing where its pipe was closed. What is returned is
+/// the status, 1.
+pub fn say_unwritten<F: io::Write>(why: CannotWrite, faults: &mut F) -> u8
+    ensures { IsUnwrittenSaid why result (F.contents faults.old) (F.contents faults.new) }
+{
+    match why {
+        CannotWrite::Failed => say(CANNOT_WRITE, 1, faults),
+        CannotWrite::Closed => 1,
     }
 }
 
