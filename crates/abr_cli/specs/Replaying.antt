@@ -1,11 +1,13 @@
 -- What `abr replay` wrote.
-use Rattle.std.specs.Prelude.{ℕ, ◌≡◌, ◌≢◌, ◌⊎◌, ◌<◌, List, Option, Result, MatchResult}
+use Rattle.std.specs.Prelude.{ℕ, ◌≡◌, ◌⊎◌, ◌<◌, List, Option, Result, Ok, Err, MatchResult}
 use Rattle.std.specs.Borrow.{Bor}
 use Rattle.replay.specs.Inputs.{ReadsAll}
 use Rattle.replay.specs.declared.page.Stop.{Stop}
 use Rattle.replay.specs.declared.page.Stop.TheVariants as stop
+use Rattle.replay.specs.declared.writing.CannotWrite.{CannotWrite}
+use Rattle.replay.specs.declared.writing.CannotWrite.TheVariants as cannot_write
 use Rattle.recording.specs.Faults.{IsFaultOf}
-use Rattle.replay.specs.declared.fault.ReplayFault.TheVariants.{Read, Write, Memory, Line}
+use Rattle.replay.specs.declared.fault.ReplayFault.TheVariants.{Read, Write, Closed, Memory, Line}
 use Rattle.recording.specs.declared.show.Show.{Show}
 use Rattle.replay.specs.Outputs as one
 use Rattle.worker_replay.specs.declared.fault.ManyFault.{ManyFault}
@@ -13,17 +15,18 @@ use Rattle.worker_replay.specs.declared.fault.ManyFault.TheVariants.{Replay, Spa
 use Rattle.worker_replay.specs.Outputs as many
 use Rattle.command_answers.specs.declared.command_fault.CommandFault.{CommandFault}
 use Rattle.command_answers.specs.declared.command_fault.CommandFault.TheVariants as fault
-use Rattle.command_answers.specs.Answers.{IsSaidOf}
+use Rattle.command_answers.specs.Answers.{IsSaidOf, IsUnwrittenSaid}
 
--- the fault of a replay as one of the command; the file is named where it cannot be read
-abbrev pub fault_from : Bor (List ℕ) → ManyFault → CommandFault
-fault_from file (Replay Read) = fault.Read file
-fault_from file (Replay Write) = fault.Write
-fault_from file (Replay Memory) = fault.Memory
-fault_from file (Replay (Line f)) = fault.Line f
-fault_from file Spawn = fault.Spawn
-fault_from file Place = fault.Place
-fault_from file NoEntry = fault.NoEntry
+-- the fault of a replay as one of the command, which names the file where it cannot be read; or why the output was not written whole
+abbrev pub fault_from : Bor (List ℕ) → ManyFault → Result CommandFault CannotWrite
+fault_from file (Replay Read) = Ok (fault.Read file)
+fault_from file (Replay Write) = Err cannot_write.Failed
+fault_from file (Replay Closed) = Err cannot_write.Closed
+fault_from file (Replay Memory) = Ok fault.Memory
+fault_from file (Replay (Line f)) = Ok (fault.Line f)
+fault_from file Spawn = Ok fault.Spawn
+fault_from file Place = Ok fault.Place
+fault_from file NoEntry = Ok fault.NoEntry
 
 -- a replay by so many workers went to its end
 abbrev pub IsReplayed : ℕ → Show → (i i' o o' : Option (List ℕ)) → Type 0
@@ -37,6 +40,7 @@ IsReplayedPart workers why s i i' o o' = ((workers ≡ 1) × one.ReplaysPart why
 abbrev pub EndsEarly : ℕ → ManyFault → Show → (i i' o o' : Option (List ℕ)) → Type 0
 EndsEarly workers (Replay Read) s i i' o o' = o' ≡ o
 EndsEarly workers (Replay Write) s i i' o o' = IsReplayedPart workers stop.Write s i i' o o'
+EndsEarly workers (Replay Closed) s i i' o o' = IsReplayedPart workers stop.Closed s i i' o o'
 EndsEarly workers (Replay Memory) s i i' o o' = (o' ≡ o) ⊎ IsReplayedPart workers stop.Memory s i i' o o'
 EndsEarly workers (Replay (Line f)) s i i' o o' = (o' ≡ o) × ((bytes : List ℕ) × ReadsAll i i' bytes × IsFaultOf bytes f)
 EndsEarly workers Spawn s i i' o o' = (1 < workers) × (o' ≡ o)
@@ -47,11 +51,16 @@ EndsEarly workers NoEntry s i i' o o' = (1 < workers) × (o' ≡ o)
 abbrev pub EndsBy : ℕ → Show → Result (Unit {0}) ManyFault → (i i' o o' : Option (List ℕ)) → Type 0
 EndsBy workers s result i i' o o' = MatchResult result (λ _. IsReplayed workers s i i' o o') (λ e. EndsEarly workers e s i i' o o')
 
--- The fault was said, or want of memory where there was none for its line. The line of a failed write takes none.
+-- What has to be said of a replay that ended early was said, and the status is 1: the line of its fault, or that the output is not written whole, of
+-- which nothing is said where its pipe was closed.
+abbrev pub IsFaultSaid : Bor (List ℕ) → ManyFault → (status : ℕ) (f f' : Option (List ℕ)) → Type 0
+IsFaultSaid file e status f f' = MatchResult (fault_from file e) (λ c. IsSaidOf c status f f') (λ why. IsUnwrittenSaid why status f f')
+
+-- It was said, or want of memory where there was none for the line of the fault. That the output is not written whole takes none.
 abbrev pub IsEndSaid : Bor (List ℕ) → ManyFault → (status : ℕ) (f f' : Option (List ℕ)) → Type 0
-IsEndSaid file e status f f' = IsSaidOf (fault_from file e) status f f' ⊎ ((e ≢ Replay Write) × IsSaidOf fault.Memory status f f')
+IsEndSaid file e status f f' = MatchResult (fault_from file e) (λ c. IsSaidOf c status f f' ⊎ IsSaidOf fault.Memory status f f') (λ why. IsUnwrittenSaid why status f f')
 
 -- the replay by so many workers went to its end, and nothing was said; or it ended early, and its fault was said
 abbrev pub IsReplayTold : Bor (List ℕ) → ℕ → Show → (status : ℕ) (i i' o o' f f' : Option (List ℕ)) → Type 0
 IsReplayTold file workers s status i i' o o' f f' = ((status ≡ 0) × IsReplayed workers s i i' o o' × (f' ≡ f))
-    ⊎ ((e : ManyFault) × EndsEarly workers e s i i' o o' × IsSaidOf (fault_from file e) status f f')
+    ⊎ ((e : ManyFault) × EndsEarly workers e s i i' o o' × IsFaultSaid file e status f f')

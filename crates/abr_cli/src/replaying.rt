@@ -5,8 +5,8 @@ ghost use Rattle.command_answers.specs.Answers.{IsSaid};
 ghost use Rattle.command_line.specs.Command.{AreWorkers};
 ghost use Rattle.abr_cli.specs.Replaying.{fault_from as from_replay, EndsBy, IsEndSaid, IsReplayTold};
 
-use command_answers::{CANNOT_WRITE, CommandFault, NO_MEMORY, line_of, say};
-use replay::{ReplayFault, replay_one};
+use command_answers::{CommandFault, NO_MEMORY, line_of, say, say_unwritten};
+use replay::{CannotWrite, ReplayFault, replay_one};
 use std::alloc::Global;
 use std::hash::RandomState;
 use std::io;
@@ -24,7 +24,8 @@ pub struct Replay<'a> {
 
 impl Replay<'_> {
     /// Runs the recording that `input` holds. Its answers and then what the options show are written to `out`, and the fault
-    /// for which it ends early to `faults`; what is returned is the status, 0 or 1.
+    /// for which it ends early to `faults`, where nothing is said if `out` is a pipe and was closed; what is returned is the
+    /// status, 0 or 1.
     pub fn run<S: Threads + Wait + Sync, R: io::Read, W: io::Write, F: io::Write>(
         self,
         rt: &S,
@@ -68,26 +69,29 @@ fn run_with<S: Threads + Wait + Sync, R: io::Read, W: io::Write>(
     }
 }
 
+// Says why the replay ended early, but nothing where the output's pipe was closed.
 fn say_end<F: io::Write>(alloc: Global, file: &str, fault: ManyFault, faults: &mut F) -> u8
     ensures { IsEndSaid file.entry fault result (F.contents faults.old) (F.contents faults.new) }
 {
-    match fault {
-        ManyFault::Replay(ReplayFault::Write) => say(CANNOT_WRITE, 1, faults),
-        _ => say_fault(alloc, fault_from(file, fault), faults),
+    match fault_from(file, fault) {
+        Ok(fault) => say_fault(alloc, fault, faults),
+        Err(why) => say_unwritten(why, faults),
     }
 }
 
-fn fault_from(file: &str, fault: ManyFault) -> CommandFault<'_>
+// The fault as one of the command; or why the output was not written whole.
+fn fault_from(file: &str, fault: ManyFault) -> Result<CommandFault<'_>, CannotWrite>
     ensures { result ≡ from_replay file.entry fault }
 {
     match fault {
-        ManyFault::Replay(ReplayFault::Read) => CommandFault::Read(file),
-        ManyFault::Replay(ReplayFault::Write) => CommandFault::Write,
-        ManyFault::Replay(ReplayFault::Memory) => CommandFault::Memory,
-        ManyFault::Replay(ReplayFault::Line(fault)) => CommandFault::Line(fault),
-        ManyFault::Spawn => CommandFault::Spawn,
-        ManyFault::Place => CommandFault::Place,
-        ManyFault::NoEntry => CommandFault::NoEntry,
+        ManyFault::Replay(ReplayFault::Read) => Ok(CommandFault::Read(file)),
+        ManyFault::Replay(ReplayFault::Write) => Err(CannotWrite::Failed),
+        ManyFault::Replay(ReplayFault::Closed) => Err(CannotWrite::Closed),
+        ManyFault::Replay(ReplayFault::Memory) => Ok(CommandFault::Memory),
+        ManyFault::Replay(ReplayFault::Line(fault)) => Ok(CommandFault::Line(fault)),
+        ManyFault::Spawn => Ok(CommandFault::Spawn),
+        ManyFault::Place => Ok(CommandFault::Place),
+        ManyFault::NoEntry => Ok(CommandFault::NoEntry),
     }
 }
 

@@ -1,10 +1,9 @@
-use Rattle.std.proofs.Common.{◌≡◌, ◌∙◌, ap}
-use Rattle.replay.specs.declared.fault.ReplayFault.TheVariants.{Write}
-use Rattle.abr_cli.proofs.Ended.{write_said}
-use Rattle.worker_replay.specs.declared.fault.ManyFault.TheVariants.{Replay}
+use Rattle.std.proofs.Common.{sym, ◌∙◌}
+use Rattle.abr_cli.proofs.Ended.{fault_said, unwritten_said}
 use Rattle.abr_cli.proofs.replaying.say_end.Goals as goal
 
-pub returns-in-Replay-Write : goal.returns-in-Replay-Write
-returns-in-Replay-Write g c =
-    let write : c.in-Replay-Write.field-0 ≡ Write = rw c.in-Replay-Write.is at c.in-Replay-Write.field-0-is in
-    write_said _ _ _ _ _ (c.in-Replay-Write.is ∙ ap Replay write) c.say.ensures
+pub returns-in-Ok : goal.returns-in-Ok
+returns-in-Ok g c = fault_said c.args.file c.args.fault _ _ _ _ (sym c.fault_from.ensures ∙ c.in-Ok.is) c.say_fault.ensures
+
+pub returns-in-Err : goal.returns-in-Err
+returns-in-Err g c = unwritten_said c.args.file c.args.fault _ _ _ _ (sym c.fault_from.ensures ∙ c.in-Err.is) c.say_unwritten.ensures
