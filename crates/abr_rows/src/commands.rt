@@ -36,13 +36,15 @@ fn status<S: Threads + Wait + Sync, W: io::Write, F: io::Write>(
     Invocation { job, hashing }.run(rt, alloc, &mut input, out, faults)
 }
 
-// A device that takes nothing.
+// A device that fails at each write, with an error of this kind.
 #[derive(Drop)]
-struct Full;
+struct Failing {
+    kind: io::ErrorKind,
+}
 
-impl io::Write for Full {
+impl io::Write for Failing {
     fn write(&mut self, _buf: &[u8]) -> io::Result<usize> {
-        Err(io::Error::from(io::ErrorKind::StorageFull))
+        Err(io::Error::from(self.kind))
     }
 
     fn flush(&mut self) -> io::Result<()> {
@@ -50,15 +52,23 @@ impl io::Write for Full {
     }
 }
 
+// A full disk is told, and of a pipe whose reading end was closed nothing is said.
 fn cannot_print<S: Threads + Wait + Sync>(
     rt: &S,
     alloc: Global,
     hashing: RandomState,
     words: &[&str],
 ) -> bool {
-    let mut faults = Vec::new(alloc);
-    status(rt, alloc, hashing, words, &mut Full, &mut faults) == 1
-        && faults.as_slice() == b"abr: cannot write\n".as_slice()
+    let mut all = true;
+    for (kind, said) in [
+        (io::ErrorKind::StorageFull, "abr: cannot write\n"),
+        (io::ErrorKind::BrokenPipe, ""),
+    ] {
+        let (mut out, mut faults) = (Failing { kind }, Vec::new(alloc));
+        all &= status(rt, alloc, hashing, words, &mut out, &mut faults) == 1
+            && faults.as_slice() == said.as_bytes();
+    }
+    all
 }
 
 fn cannot_tell_the_fault<S: Threads + Wait + Sync>(
@@ -67,8 +77,9 @@ fn cannot_tell_the_fault<S: Threads + Wait + Sync>(
     hashing: RandomState,
     words: &[&str],
 ) -> bool {
-    let mut out = Vec::new(alloc);
-    status(rt, alloc, hashing, words, &mut out, &mut Full) == 1 && out.is_empty()
+    let kind = io::ErrorKind::StorageFull;
+    let (mut out, mut faults) = (Vec::new(alloc), Failing { kind });
+    status(rt, alloc, hashing, words, &mut out, &mut faults) == 1 && out.is_empty()
 }
 
 #[test]

@@ -28,8 +28,8 @@ struct Device<'a> {
     left: &'a [u8],
     taken: Vec<u8>,
     calls: u8,
-    // What it does then: it fails, or takes nothing.
-    fails: bool,
+    // What it does then: a write fails with an error of this kind, or takes nothing.
+    failure: Option<io::ErrorKind>,
 }
 
 impl Device<'_> {
@@ -55,10 +55,10 @@ impl io::Write for Device<'_> {
         if !self.is_over() {
             return self.taken.write(&buf[..buf.len().min(16)]);
         }
-        if self.fails {
-            return Err(io::Error::from(io::ErrorKind::StorageFull));
+        match self.failure {
+            Some(kind) => Err(io::Error::from(kind)),
+            None => Ok(0),
         }
-        Ok(0)
     }
 
     fn flush(&mut self) -> io::Result<()> {
@@ -66,13 +66,13 @@ impl io::Write for Device<'_> {
     }
 }
 
-fn some_device(alloc: Global, text: &str, calls: u8, fails: bool) -> Device<'_> {
+fn some_device(alloc: Global, text: &str, calls: u8, failure: Option<io::ErrorKind>) -> Device<'_> {
     let (left, taken) = (text.as_bytes(), Vec::new(alloc));
     Device {
         left,
         taken,
         calls,
-        fails,
+        failure,
     }
 }
 
@@ -83,10 +83,10 @@ fn replays(
     hashing: RandomState,
     text: &str,
     calls: (u8, u8),
-    fails: bool,
+    failure: Option<io::ErrorKind>,
 ) -> (Result<(), ReplayFault>, bool, bool) {
-    let mut input = some_device(alloc, text, calls.0, true);
-    let mut out = some_device(alloc, "", calls.1, fails);
+    let mut input = some_device(alloc, text, calls.0, None);
+    let mut out = some_device(alloc, "", calls.1, failure);
     let answer = replay_one(alloc, hashing, &mut input, &mut out, Show::Routes);
     let written = out.taken.as_slice();
     let begins = ROUTES.as_bytes().starts_with(written);
@@ -99,10 +99,10 @@ fn a_reader_that_fails(rt: HostRuntime) -> Result<(), Fail> {
     let hashing = RandomState::new(&rt)?;
     let mut all = true;
     for calls in 0..15 {
-        let (answer, begins, _) = replays(rt.alloc(), hashing, RECORDING, (calls, 255), true);
+        let (answer, begins, _) = replays(rt.alloc(), hashing, RECORDING, (calls, 255), None);
         all &= answer == Err(ReplayFault::Read) && begins;
     }
-    let whole = replays(rt.alloc(), hashing, RECORDING, (255, 255), true);
+    let whole = replays(rt.alloc(), hashing, RECORDING, (255, 255), None);
     assert!(rt; all && whole == (Ok(()), true, true));
     Ok(())
 }
@@ -110,11 +110,16 @@ fn a_reader_that_fails(rt: HostRuntime) -> Result<(), Fail> {
 #[test]
 fn a_writer_that_fails_or_takes_nothing(rt: HostRuntime) -> Result<(), Fail> {
     let hashing = RandomState::new(&rt)?;
+    let (full, closed) = (io::ErrorKind::StorageFull, io::ErrorKind::BrokenPipe);
     let mut all = true;
     for calls in 0..10 {
-        for fails in [true, false] {
-            let found = replays(rt.alloc(), hashing, RECORDING, (255, calls), fails);
-            all &= found == (Err(ReplayFault::Write), true, false);
+        for (failure, fault) in [
+            (Some(full), ReplayFault::Write),
+            (Some(closed), ReplayFault::Closed),
+            (None, ReplayFault::Write),
+        ] {
+            let found = replays(rt.alloc(), hashing, RECORDING, (255, calls), failure);
+            all &= found == (Err(fault), true, false);
         }
     }
     assert!(rt; all);
@@ -126,7 +131,7 @@ fn a_fault_of_the_input_writes_nothing(rt: HostRuntime) -> Result<(), Fail> {
     let hashing = RandomState::new(&rt)?;
     let (line, fault) = (2, Fault::Truncated);
     let line_fault = ReplayFault::Line(LineFault { line, fault });
-    let found = replays(rt.alloc(), hashing, "abr 1\n", (255, 0), true);
+    let found = replays(rt.alloc(), hashing, "abr 1\n", (255, 0), None);
     assert!(rt; found.0 == Err(line_fault));
     Ok(())
 }
