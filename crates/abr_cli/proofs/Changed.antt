@@ -1,5 +1,5 @@
 -- How the telling of what events changed ended.
-use Rattle.std.proofs.Common.{◌≡◌, ◌⊎◌, ℕ, List, Option, refl, inl, inr}
+use Rattle.std.proofs.Common.{◌≡◌, ◌⊎◌, ℕ, List, Option, refl, subst, inl, inr}
 use Rattle.std.specs.Borrow.{Bor}
 use Rattle.ospf_types.specs.declared.prefix.Prefix.{Prefix}
 use Rattle.recording.specs.declared.fault.LineFault.{LineFault}
@@ -10,7 +10,12 @@ use Rattle.replay.specs.declared.fault.ReplayFault.TheVariants.{Read, Write, Clo
 use Rattle.replay.specs.declared.page.Stop.TheVariants as stop
 use Rattle.changes.specs.Outputs.{TellsPart}
 use Rattle.worker_replay.specs.declared.fault.ManyFault.TheVariants.{Replay}
-use Rattle.abr_cli.specs.Changing.{IsTellingTold, TellsEarly}
+use Rattle.command_answers.specs.declared.command_fault.CommandFault.{CommandFault}
+use Rattle.command_answers.specs.declared.command_fault.CommandFault.TheVariants as fault
+use Rattle.command_answers.specs.declared.words.WordFault.TheVariants.{NotANetwork}
+use Rattle.command_answers.specs.Answers.{IsSaid}
+use Rattle.command_answers.specs.Faults.{command_fault_text, fault_line, status_of}
+use Rattle.abr_cli.specs.Changing.{IsTellingTold, IsWordSaid, TellsEarly}
 use Rattle.abr_cli.specs.Replaying.{IsEndSaid}
 
 -- what is said of each fault by itself
@@ -34,3 +39,12 @@ told_early file only Memory status i i' o o' f f' h (inl said) = inr (Memory, h,
 told_early file only Memory status i i' o o' f f' h (inr said) = inr (Memory, h, said)
 told_early file only (Line l) status i i' o o' f f' h (inl said) = inr (Line l, h, said)
 told_early file only (Line l) status i i' o o' f f' h (inr said) = inr (Memory, inl h.0, said)
+
+-- a word that is no network
+pub word_said : (e : CommandFault) (status : ℕ) (i o f f' : Option (List ℕ)) → e ≡ fault.Word NotANetwork
+    → IsSaid (fault_line (command_fault_text e)) (status_of e) status f f' ⊎ IsSaid (fault_line (command_fault_text fault.Memory)) 1 status f f' → IsWordSaid status i i o o f f'
+word_said e status i o f f' is said = (
+  refl,
+  refl,
+  subst (λ (x : CommandFault). IsSaid (fault_line (command_fault_text x)) (status_of x) status f f' ⊎ IsSaid (fault_line (command_fault_text fault.Memory)) 1 status f f') is said,
+)

@@ -51,8 +51,8 @@ impl Changes<'_> {
 
 // The network that the word asks for; none where there is no word.
 fn asked(word: Option<&str>) -> Result<Option<Prefix>, CommandFault<'static>>
-    ensures asked { IfOk result (Asks word) }
-    ensures lacks { IfErr result (λ e. (e ≡ fault.Word NotANetwork) × LacksNetwork word) }
+    ensures asked { IfOk result (Asks word.entry) }
+    ensures lacks { IfErr result (λ e. (e ≡ fault.Word NotANetwork) × LacksNetwork word.entry) }
 {
     let Some(word) = word else {
         return Ok(None);
