@@ -20,3 +20,4 @@ pub mod BaseSteps
 pub mod BaseRuns
 pub mod Beginning
 pub mod Only
+pub mod Growing

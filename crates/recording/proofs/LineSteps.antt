@@ -75,6 +75,16 @@ later_push r l =
     ∙ ap (λ (fs : List Form). hs ++ fs) (sym (append_assoc bs (map form_of r.lines) (form_of l ∷ [])))
     ∙ sym (append_assoc hs (bs ++ map form_of r.lines) (form_of l ∷ []))
 
+-- the lines of what happened may become more
+pub kept_push : (r : RecordingValue) (line : List ℕ) (l : Line) → IsRecording r → IsLineOf r.version line l → IsRecording (with_line r l)
+kept_push r line l kept of = record {
+  spelled = kept.spelled;
+  sound = kept.sound;
+  ordered = kept.ordered;
+  kinds = All-push HasKind r.lines l kept.kinds of.kind;
+  lines = All-push (IsLineIn r.version) r.lines l kept.lines of.own;
+}
+
 -- the first lines, and those behind them
 pub first_and_later : (r : RecordingValue) → forms_of r ≡ first_forms r.version r.base ++ later_forms r
 first_and_later r =
@@ -240,13 +250,7 @@ module _ {text : List ℕ} {taken : ℕ} {left : List (List ℕ)} {r : Recording
       longer_step line rest is full (form_of l) of.said refl many_lines (whole_behind l of.whole) (λ forms all. refl) r.base (r.lines ++ l ∷ []) (record {
         first = refl;
         later = later_push r l;
-        kept = record {
-          spelled = h.kept.spelled;
-          sound = h.kept.sound;
-          ordered = h.kept.ordered;
-          kinds = All-push HasKind r.lines l h.kept.kinds of.kind;
-          lines = All-push (IsLineIn r.version) r.lines l h.kept.lines of.own;
-        };
+        kept = kept_push r line l h.kept of;
         held = h.held;
         lsas = All-push HasWholeLsa r.lines l h.lsas of.whole;
       })

@@ -38,7 +38,9 @@ pub(crate) fn add_line(
     }
 }
 
-fn read_line(
+/// What the line, without its line feed, says where it stands behind the base. The room is for the
+/// bytes of its LSA, and may be used again.
+pub fn read_line(
     alloc: Global,
     version: Version,
     line: &[u8],

@@ -17,6 +17,7 @@ mod show;
 mod version;
 mod words;
 
+pub use body::read_line;
 pub use fault::{Fault, LineFault};
 pub use line::Line;
 pub use parsing::parse;
