@@ -27,7 +27,7 @@ use Rattle.recording.specs.declared.version.Version.TheVariants.{One, Two, Three
 use Rattle.recording.specs.Forms.{Form, VersionLine, RouterLine, CompatLine, SerialLine, AreaLine, RangeLine, HasInterfaceLine, HasLsaLine, BodyLine, InterfaceLine, InstallLine, FlushLine, PurgeLine, RangeSetLine, RangeDropLine, LookupLine, RollLine, IsForm, IsOfVersion, Says, line_text}
 use Rattle.recording.specs.Places.{areas_from, areas_of, first_lines, interfaces_in, is_next_area, is_of_header, lsas_in, unfit_lsa, version_of, with_form}
 use Rattle.recording.specs.Faults.{parts_of, EndsHeader, IsFaultOfEnd, IsFaultAt, HasFault, IsFaultOf}
-use Rattle.recording.specs.Recordings.{RecordingValue, IsRecording, IsText, CanSpell, HasKind, HasWholeLsa, AreWhole, IsBaseOrdered, IsLineIn, IsWhole, area_forms, first_forms, form_of, forms_of, front_forms, has_forms, interface_form, lsa_form, setting_forms, text_of_forms}
+use Rattle.recording.specs.Recordings.{RecordingValue, IsRecording, IsText, CanSpell, HasKind, HasWholeLsa, AreWhole, IsBaseOrdered, IsLineIn, IsWhole, area_forms, ended, first_forms, form_of, forms_of, front_forms, has_forms, interface_form, lsa_form, setting_forms, text_of_forms}
 use Rattle.recording.specs.Progress.{HasRead, HasHeader, HasLines, IsLineOf, IsTaken, headed_base, later_forms, with_areas}
 use Rattle.recording.proofs.Areas.{InOrder, areas_from-append, areas_in_order, areas_said, areas_of_header, all_right}
 use Rattle.recording.proofs.BaseRuns.{interface_fitted, interface_next, lsa_fitted, lsa_next}
@@ -42,15 +42,20 @@ use Rattle.recording.proofs.Beginning.{one_few, two_few, three_few, counted, har
 
 -- ---- the parts of the text
 
-text_parts : (fs : List Form) → All IsForm fs → parts_of (text_of_forms fs) ≡ map line_text fs ++ [] ∷ []
-text_parts [] all = refl
-text_parts (f ∷ fs) all =
-    ap parts_of (append_assoc (line_text f) (10 ∷ []) (text_of_forms fs))
-    ∙ slice_split_at (λ b. b == 10) (line_text f) 10 (text_of_forms fs) (no_line_feed f (All-head IsForm f fs all)) refl
-    ∙ ap (λ (t : List (List ℕ)). line_text f ∷ t) (text_parts fs (All-tail IsForm f fs all))
+-- lines, and what stands behind them
+parts_and : (fs : List Form) (behind : List ℕ) → All IsForm fs → parts_of (text_of_forms fs ++ behind) ≡ map line_text fs ++ parts_of behind
+parts_and [] behind all = refl
+parts_and (f ∷ fs) behind all =
+    ap parts_of (append_assoc (ended f) (text_of_forms fs) behind ∙ append_assoc (line_text f) (10 ∷ []) (text_of_forms fs ++ behind))
+    ∙ slice_split_at (λ b. b == 10) (line_text f) 10 (text_of_forms fs ++ behind) (no_line_feed f (All-head IsForm f fs all)) refl
+    ∙ ap (λ (t : List (List ℕ)). line_text f ∷ t) (parts_and fs behind (All-tail IsForm f fs all))
+
+-- the text of a recording, and what stands behind it
+pub parts_and_more : {text : List ℕ} {r : RecordingValue} → IsText text r → (behind : List ℕ) → parts_of (text ++ behind) ≡ map line_text (forms_of r) ++ parts_of behind
+parts_and_more {text} {r} h behind = ap (λ (t : List ℕ). parts_of (t ++ behind)) h.spelled ∙ parts_and (forms_of r) behind h.forms
 
 parts_of_text : {text : List ℕ} {r : RecordingValue} → IsText text r → parts_of text ≡ map line_text (forms_of r) ++ [] ∷ []
-parts_of_text {text} {r} h = ap parts_of h.spelled ∙ text_parts (forms_of r) h.forms
+parts_of_text {text} {r} h = ap parts_of (sym (append-nil text)) ∙ parts_and_more h []
 
 -- ---- no other recording has the text
 
@@ -213,9 +218,10 @@ text_once {text} {r} {s} h k =
 
 -- ---- it has no fault
 
-record Lined (text : List ℕ) (rest : List (List ℕ)) (r : RecordingValue) : Type 0 where
-  taken : ℕ
-  has : HasLines text taken rest r
+-- So many lines of the text were taken, and say the recording. The parts in `rest` are left.
+pub record Lined (text : List ℕ) (rest : List (List ℕ)) (r : RecordingValue) : Type 0 where
+  pub taken : ℕ
+  pub has : HasLines text taken rest r
 
 record Headed (v : Version) (text : List ℕ) (rest : List (List ℕ)) (b : Base) : Type 0 where
   taken : ℕ
@@ -335,12 +341,12 @@ lsas_run v text b spelled ordered fit xs (x ∷ ys) rest is full legal whole h =
 -- ---- all of them
 
 -- behind a header come other lines, or nothing
-ends_there : (v : Version) (forms : List Form) → All IsForm forms → All (IsOfVersion v) forms → All (λ f. is_of_header f ≡ false) forms → EndsHeader v (map line_text forms ++ [] ∷ [])
-ends_there v [] legal own others = refl
-ends_there v (f ∷ forms) legal own others =
+ends_there : (v : Version) (end : List (List ℕ)) (forms : List Form) → 0 < length end → All IsForm forms → All (IsOfVersion v) forms → All (λ f. is_of_header f ≡ false) forms → (forms ≡ [] → EndsHeader v end) → EndsHeader v (map line_text forms ++ end)
+ends_there v end [] full legal own others ends = ends refl
+ends_there v end (f ∷ forms) full legal own others ends =
     let other : is_of_header f ≡ false = All-head (λ g. is_of_header g ≡ false) f forms others in
     let said : Says v (line_text f) f = says_itself v f (All-head IsForm f forms legal) (All-head (IsOfVersion v) f forms own) in
-    to_end v (line_text f) (map line_text forms ++ [] ∷ []) (full_after (map line_text forms) ([] ∷ []) (omega arith))
+    to_end v (line_text f) (map line_text forms ++ end) (full_after (map line_text forms) end full)
     (λ form says here. not_both (is_of_header f) (subst (λ (g : Form). is_of_header g ≡ true) (says_one (line_text f) form f says said) here) other)
 
 -- the forms of the base and of what happened are of the version, and none of a header
@@ -427,9 +433,14 @@ router_legal v b legal =
     let setting : List Form = setting_forms v b.config.compat b.serial in
     All-head IsForm (RouterLine b.config.router) setting (All-tail IsForm (VersionLine v) (RouterLine b.config.router ∷ setting) legal)
 
--- reading the text from line to line
-text_run : {text : List ℕ} {r : RecordingValue} → IsText text r → Lined text ([] ∷ []) r
-text_run {text} {r} h =
+-- where there are no such forms nothing happened
+no_lines : (fs : List Form) (lines : List Line) → fs ++ map form_of lines ≡ [] → lines ≡ []
+no_lines fs [] none = refl
+no_lines fs (l ∷ lines) none = absurd (pushed fs (form_of l) (map form_of lines) none)
+
+-- Reading a text from line to line that begins with the lines of the recording. Behind them stand the parts of `end`.
+pub run_to : {whole text : List ℕ} {r : RecordingValue} (end : List (List ℕ)) → IsText whole r → parts_of text ≡ map line_text (forms_of r) ++ end → 0 < length end → (r.lines ≡ [] → EndsHeader r.version end) → Lined text end r
+run_to {whole} {text} {r} end h begins full ends_header =
     let v : Version = r.version in
     let b : Base = r.base in
     let first : List Form = first_forms v b in
@@ -437,11 +448,10 @@ text_run {text} {r} h =
     let is : List Form = map interface_form b.interfaces in
     let held : List Form = map lsa_form b.lsas in
     let ls : List Form = map form_of r.lines in
-    let end : List (List ℕ) = [] ∷ [] in
     let fourth : List (List ℕ) = map line_text ls ++ end in
     let third : List (List ℕ) = map line_text held ++ fourth in
     let second : List (List ℕ) = map line_text is ++ third in
-    let full4 : 0 < length fourth = full_after (map line_text ls) end (omega arith) in
+    let full4 : 0 < length fourth = full_after (map line_text ls) end full in
     let full3 : 0 < length third = full_after (map line_text held) fourth full4 in
     let full2 : 0 < length second = full_after (map line_text is) third full3 in
     let front : All IsForm (front_forms v b) = all_left IsForm (front_forms v b) ls h.forms in
@@ -450,7 +460,7 @@ text_run {text} {r} h =
     let legal_first : All IsForm first = all_left IsForm first hs head in
     let legal : All IsForm ls = all_right IsForm (front_forms v b) ls h.forms in
     let parts : parts_of text ≡ map line_text first ++ (map line_text hs ++ second) =
-    parts_of_text h
+    begins
     ∙ told (front_forms v b) ls end
     ∙ told (first ++ hs) (is ++ held) fourth
     ∙ ap (λ (t : List (List ℕ)). map line_text (first ++ hs) ++ t) (told is held fourth)
@@ -461,12 +471,16 @@ text_run {text} {r} h =
     let headed' = header_run v text (headed_base setting []) hs second full2 (all_right IsForm first hs head) (areas_in_order [] b.config.areas h.kept.ordered.areas) begun in
     let header : Headed v text second (read_base b [] []) = subst (λ (areas : List AreaConfig). Headed v text second (headed_base setting areas)) (areas_said [] b.config.areas) headed' in
     let later = others_later r h.kept in
-    let ends : EndsHeader v second = subst (EndsHeader v) (told (is ++ held) ls end ∙ told is held fourth) (ends_there v ((is ++ held) ++ ls) (All-append IsForm (is ++ held) ls base legal) later.own later.others) in
+    let ends : EndsHeader v second = subst (EndsHeader v) (told (is ++ held) ls end ∙ told is held fourth) (ends_there v end ((is ++ held) ++ ls) full (All-append IsForm (is ++ held) ls base legal) later.own later.others (λ none. ends_header (no_lines (is ++ held) r.lines none))) in
     let usable = usable_from b h.kept.sound in
     let begun' = lines_begin {taken = header.taken} header.has ends usable.config in
     let interfaces = interfaces_run v text b h.kept.spelled h.kept.ordered usable.fit [] b.interfaces third refl full3 (all_left IsForm is held base) (record { taken = header.taken; has = begun' }) in
     let lsas = lsas_run v text b h.kept.spelled h.kept.ordered usable.fit [] b.lsas fourth refl full4 (all_right IsForm is held base) h.held interfaces in
-    lines_run text (of_base v b) r.lines end (omega arith) legal h.kept.kinds h.kept.lines h.lsas lsas
+    lines_run text (of_base v b) r.lines end full legal h.kept.kinds h.kept.lines h.lsas lsas
+
+-- reading the text of a recording
+text_run : {text : List ℕ} {r : RecordingValue} → IsText text r → Lined text ([] ∷ []) r
+text_run h = run_to ([] ∷ []) h (parts_of_text h) (omega arith) (λ none. refl)
 
 no_end_fault : (before : List (List ℕ)) (f : Fault) → first_lines (version_of before) ≤ length before → ¬ IsFaultOfEnd before [] f
 no_end_fault before fault.Truncated many h = elim h [ inl other ↦ other refl | inr few ↦ omega arith ]
