@@ -6,6 +6,7 @@ pub mod Decoded
 pub mod Fields
 pub mod Forms
 pub mod Saying
+pub mod FrontWords
 pub mod Parts
 pub mod Sorting
 pub mod Areas

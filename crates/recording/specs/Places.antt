@@ -81,6 +81,17 @@ abbrev pub is_of_body : Form → Bool
 is_of_body (BodyLine body) = true
 is_of_body _ = false
 
+-- a line of the front: one of the first lines, of the header, or of the base
+abbrev pub is_of_front : Form → Bool
+is_of_front form = not (is_of_body form)
+
+-- the words that the lines of the front begin with
+abbrev pub front_words : List (List ℕ)
+front_words = codes "abr" ∷ codes "router" ∷ codes "compat" ∷ codes "serial" ∷ codes "area" ∷ codes "range" ∷ codes "has" ∷ []
+
+abbrev pub is_front_word : List ℕ → Bool
+is_front_word word = list_any (bytes_eq word) front_words
+
 -- ---- the order of areas and ranges
 
 abbrev pub is_less : Ordering → Bool

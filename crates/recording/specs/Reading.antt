@@ -52,6 +52,11 @@ HasDigits _ = Unit {0}
 abbrev pub cut : List ℕ → List (List ℕ)
 cut text = slice_split (λ b. b == 32) text
 
+-- the first of the words
+abbrev pub first_word : List (List ℕ) → List ℕ
+first_word [] = []
+first_word (word ∷ words) = word
+
 -- the words of what is left of a line
 abbrev pub words_left : Option (Bor (List ℕ)) → List (List ℕ)
 words_left None = []

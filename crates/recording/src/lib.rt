@@ -7,6 +7,7 @@ mod body;
 mod decoding;
 mod fault;
 mod form;
+mod front;
 mod header;
 mod line;
 mod parsing;
@@ -19,6 +20,7 @@ mod words;
 
 pub use body::read_line;
 pub use fault::{Fault, LineFault};
+pub use front::is_of_front;
 pub use line::Line;
 pub use parsing::parse;
 pub use printing::{append_event, append_front, print};
