@@ -8,7 +8,7 @@ use Rattle.std.proofs.lemmas.List.Splits.{slice_split_at, slice_split_none}
 use Rattle.recording.specs.declared.fault.Fault.{Fault}
 use Rattle.recording.specs.declared.fault.Fault.TheVariants as fault
 use Rattle.recording.specs.declared.line.Line.{Line}
-use Rattle.recording.specs.Faults.{parts_of, IsFaultOf}
+use Rattle.recording.specs.Faults.{IsFaultOf}
 use Rattle.recording.specs.Forms.{Form, IsForm, line_text}
 use Rattle.recording.specs.Progress.{IsFaultBehind, IsLineOf}
 use Rattle.recording.specs.Recordings.{RecordingValue, HasWholeLsa, IsText, ended, form_of, forms_of, front_forms, text_of, text_of_forms}
