@@ -13,12 +13,12 @@ pub enum Source {
 }
 
 impl Source {
-    /// The file that the job names, and standard input for `-`.
+    /// The file that the job names, and standard input for `-` and for `follow`.
     pub fn of(rt: &HostRuntime, job: &Result<Job<'_>, Usage>) -> Source {
         match job {
-            Ok(Job::Replay { file: "-", .. } | Job::Changes { file: "-", .. }) => {
-                Source::Standard(rt.stdin())
-            }
+            Ok(
+                Job::Replay { file: "-", .. } | Job::Changes { file: "-", .. } | Job::Follow { .. },
+            ) => Source::Standard(rt.stdin()),
             Ok(Job::Replay { file, .. } | Job::Changes { file, .. }) => match File::open(
                 rt, *file,
             ) {

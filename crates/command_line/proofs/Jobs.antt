@@ -8,9 +8,9 @@ use Rattle.clap.specs.declared.error.Error.{Error}
 use Rattle.clap.specs.declared.error.kind.ErrorKind.TheVariants.{OutOfMemory}
 use Rattle.recording.specs.declared.show.Show.{Show}
 use Rattle.recording.specs.declared.show.Show.TheVariants.{Routes, Due, Lsdb, Journal}
-use Rattle.command_line.specs.Command.{HasChangesWords, HasDecodeWords, HasFlag, HasJob, HasJobWords, HasReplayWords, HasTexts, HasWords, IsFit, IsJob, IsMistake, JobTexts, OfOne, OfDecode, OfReplay, OfChanges, OfFault, OneTexts, WritesWorkers, command_name, job_texts, program, show_name}
+use Rattle.command_line.specs.Command.{HasChangesWords, HasDecodeWords, HasFlag, HasFollowWords, HasJob, HasJobWords, HasReplayWords, HasTexts, HasWords, IsFit, IsJob, IsMistake, JobTexts, OfOne, OfDecode, OfReplay, OfChanges, OfFollow, OfFault, OneTexts, WritesWorkers, command_name, job_texts, program, show_name}
 use Rattle.command_line.specs.declared.command.Job.{Job}
-use Rattle.command_line.specs.declared.command.Job.TheVariants.{One, Decode, Replay, Changes, Fault}
+use Rattle.command_line.specs.declared.command.Job.TheVariants.{One, Decode, Replay, Changes, Follow, Fault}
 use Rattle.command_line.specs.declared.command.Usage.{Usage}
 use Rattle.command_line.specs.declared.command.Usage.TheVariants.{Told, Memory}
 use Rattle.command_line.proofs.Matches.{apart, one_given}
@@ -63,33 +63,23 @@ replay_unique rows a b m n x y h k =
 changes_unique : (rows : List Row) (a b : Text) (x y : Option Text) → HasChangesWords rows a x → HasChangesWords rows b y → OfChanges a x ≡ OfChanges b y
 changes_unique rows a b x y h k = rw (one_given _ a b h.0 k.0, sym h.1 ∙ k.1) refl
 
+follow_unique : (rows : List Row) (a b : Option Text) (x y : Bool) → HasFollowWords rows a x → HasFollowWords rows b y → OfFollow a x ≡ OfFollow b y
+follow_unique rows a b x y h k = rw (sym h.0 ∙ k.0, flag_unique rows (codes "strict") x y h.1 k.1) refl
+
 -- the words of one command were given for one job
 same_texts : (rows : List Row) (a b : JobTexts) → command_name a ≡ command_name b → HasJobWords rows a → HasJobWords rows b → a ≡ b
 same_texts rows (OfOne t) (OfOne u) e h k = ap OfOne (words_unique rows t u h k)
-same_texts rows (OfOne t) (OfDecode b y) e h k = absurd (apart (codes "one") (codes "decode") refl e)
-same_texts rows (OfOne t) (OfReplay b n y) e h k = absurd (apart (codes "one") (codes "replay") refl e)
-same_texts rows (OfOne t) (OfChanges b y) e h k = absurd (apart (codes "one") (codes "changes") refl e)
-same_texts rows (OfOne t) (OfFault b) e h k = absurd (apart (codes "one") (codes "fault") refl e)
-same_texts rows (OfDecode a x) (OfOne u) e h k = absurd (apart (codes "decode") (codes "one") refl e)
+same_texts rows (OfOne t) other e h k = absurd (apart (codes "one") (command_name other) refl e)
 same_texts rows (OfDecode a x) (OfDecode b y) e h k = decode_unique rows a b x y h k
-same_texts rows (OfDecode a x) (OfReplay b n y) e h k = absurd (apart (codes "decode") (codes "replay") refl e)
-same_texts rows (OfDecode a x) (OfChanges b y) e h k = absurd (apart (codes "decode") (codes "changes") refl e)
-same_texts rows (OfDecode a x) (OfFault b) e h k = absurd (apart (codes "decode") (codes "fault") refl e)
-same_texts rows (OfReplay a m x) (OfOne u) e h k = absurd (apart (codes "replay") (codes "one") refl e)
-same_texts rows (OfReplay a m x) (OfDecode b y) e h k = absurd (apart (codes "replay") (codes "decode") refl e)
+same_texts rows (OfDecode a x) other e h k = absurd (apart (codes "decode") (command_name other) refl e)
 same_texts rows (OfReplay a m x) (OfReplay b n y) e h k = replay_unique rows a b m n x y h k
-same_texts rows (OfReplay a m x) (OfChanges b y) e h k = absurd (apart (codes "replay") (codes "changes") refl e)
-same_texts rows (OfReplay a m x) (OfFault b) e h k = absurd (apart (codes "replay") (codes "fault") refl e)
-same_texts rows (OfChanges a x) (OfOne u) e h k = absurd (apart (codes "changes") (codes "one") refl e)
-same_texts rows (OfChanges a x) (OfDecode b y) e h k = absurd (apart (codes "changes") (codes "decode") refl e)
-same_texts rows (OfChanges a x) (OfReplay b n y) e h k = absurd (apart (codes "changes") (codes "replay") refl e)
+same_texts rows (OfReplay a m x) other e h k = absurd (apart (codes "replay") (command_name other) refl e)
 same_texts rows (OfChanges a x) (OfChanges b y) e h k = changes_unique rows a b x y h k
-same_texts rows (OfChanges a x) (OfFault b) e h k = absurd (apart (codes "changes") (codes "fault") refl e)
-same_texts rows (OfFault a) (OfOne u) e h k = absurd (apart (codes "fault") (codes "one") refl e)
-same_texts rows (OfFault a) (OfDecode b y) e h k = absurd (apart (codes "fault") (codes "decode") refl e)
-same_texts rows (OfFault a) (OfReplay b n y) e h k = absurd (apart (codes "fault") (codes "replay") refl e)
-same_texts rows (OfFault a) (OfChanges b y) e h k = absurd (apart (codes "fault") (codes "changes") refl e)
+same_texts rows (OfChanges a x) other e h k = absurd (apart (codes "changes") (command_name other) refl e)
+same_texts rows (OfFollow a x) (OfFollow b y) e h k = follow_unique rows a b x y h k
+same_texts rows (OfFollow a x) other e h k = absurd (apart (codes "follow") (command_name other) refl e)
 same_texts rows (OfFault a) (OfFault b) e h k = ap OfFault (one_given _ a b h k)
+same_texts rows (OfFault a) other e h k = absurd (apart (codes "fault") (command_name other) refl e)
 
 pub unique : (s : Option (Text × List Row)) (a b : JobTexts) → HasTexts s a → HasTexts s b → a ≡ b
 unique s a b h k =
@@ -102,6 +92,7 @@ job_is_fit s (One w) h = tt
 job_is_fit s (Decode word long) h = tt
 job_is_fit s (Replay file workers show) h = h.2.1.2.within
 job_is_fit s (Changes file only) h = tt
+job_is_fit s (Follow only strict) h = tt
 job_is_fit s (Fault number) h = tt
 
 -- ---- a known line

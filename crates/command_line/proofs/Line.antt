@@ -1,4 +1,4 @@
--- What the parse makes of each command line: `abr one` with five words, and the others with a first word and what may stand behind it. The words do not begin with a hyphen; a file may be one.
+-- What the parse makes of each command line: `abr one` with five words, `abr follow` with none, a flag or an option, and the others with a first word and what may stand behind it. The words do not begin with a hyphen; a file may be one.
 use Rattle.std.proofs.Common.{ℕ, ◌≡◌, ◌∙◌, ◌==◌, ap, ap₂, subst, refl, arith, eqb-true, lit<, inl, inr, is_some, Bool, true, false, List, [], ◌∷◌, Option, Some, None, codes, map}
 use Rattle.std.specs.Prelude.{fold}
 use Rattle.std.specs.Str.Parse.{IsNumeral, without_leading_plus}
@@ -13,7 +13,7 @@ use Rattle.clap.proofs.KindLemmas.{value_kinds-ok}
 use Rattle.clap.proofs.OnLiterals.{clap_on_literals}
 use Rattle.recording.specs.declared.show.Show.{Show}
 use Rattle.recording.specs.declared.show.Show.TheVariants.{Routes, Due, Lsdb, Journal}
-use Rattle.command_line.specs.Command.{ArePlain, HasChangesWords, HasReplayWords, HasTexts, HasWords, IsFileWord, IsPlainWord, OfOne, OfDecode, OfReplay, OfChanges, OfFault, OneTexts, one_command, decode_command, replay_command, changes_command, fault_command, one_line, decode_line, long_line, replay_line, show_line, workers_line, changes_line, only_line, fault_line, show_name, show_names, WritesWorkers, program, reference}
+use Rattle.command_line.specs.Command.{ArePlain, HasChangesWords, HasFollowWords, HasReplayWords, HasTexts, HasWords, IsFileWord, IsPlainWord, OfOne, OfDecode, OfReplay, OfChanges, OfFollow, OfFault, OneTexts, one_command, decode_command, replay_command, changes_command, follow_command, fault_command, one_line, decode_line, long_line, replay_line, show_line, workers_line, changes_line, only_line, follow_line, strict_line, follow_only_line, fault_line, show_name, show_names, WritesWorkers, program, reference}
 
 -- the walk goes on with the positional at its place
 abbrev on_positional : List Rule → Walk → Text → Walk
@@ -201,11 +201,14 @@ module _ (s : Shape) where
   walk_on_is : (word : Text) (rest : List Text) → IsFileWord word → walk s.rules [] nothing_held (word ∷ rest) ≡ walk_on word rest
   walk_on_is word rest p = ap (λ (w : Walk). fold (walked s.rules []) w rest) (file_step s.rules nothing_held 1 word p)
 
+  rows_at : (words : List Text) (after : Walk) → walk s.rules [] nothing_held words ≡ after → rows_after s.rules [] words ≡ finished s.rules after.held
+  rows_at words after is = ap (λ (w : Walk). finished s.rules w.held) is
+
   abbrev rows_on : Text → List Text → List Row
   rows_on word rest = finished s.rules (walk_on word rest).held
 
   rows_on_are : (word : Text) (rest : List Text) → IsFileWord word → rows_after s.rules [] (word ∷ rest) ≡ rows_on word rest
-  rows_on_are word rest p = ap (λ (w : Walk). finished s.rules w.held) (walk_on_is word rest p)
+  rows_on_are word rest p = rows_at (word ∷ rest) (walk_on word rest) (walk_on_is word rest p)
 
   -- what comes after the words
   abbrev end_fault : Walk → Kinds
@@ -213,44 +216,55 @@ module _ (s : Shape) where
       or_else (settle_fault s.rules s.args_override_self w.held)
       (or_else (defaults_fault (settled s.rules w.held).rows s.rules) (check_fault s (finished s.rules w.held) false))
 
+  level_faultless : (words : List Text) (after : Walk) → walk s.rules [] nothing_held words ≡ after → walk_fault s [] (walk_from nothing_held) words ≡ [] → end_fault after ≡ []
+      → level_fault s [] nothing_held words false [] ≡ []
+  level_faultless words after is walks ends = neither _ _ walks (ap end_fault is ∙ ends)
+
   words_faultless : (word : Text) (rest : List Text) → step_fault s 1 nothing_held value ≡ [] → IsFileWord word → walk_fault s [] (first_walk word) rest ≡ [] → end_fault (walk_on word rest) ≡ []
       → level_fault s [] nothing_held (word ∷ rest) false [] ≡ []
   words_faultless word rest takes p walks ends =
-      neither _ _
+      level_faultless (word ∷ rest) (walk_on word rest) (walk_on_is word rest p)
       (faultless_cons s (at_rest nothing_held 1) (first_walk word) word rest (file_fault s nothing_held 1 word p ∙ takes) (file_step s.rules nothing_held 1 word p) walks)
-      (ap end_fault (walk_on_is word rest p) ∙ ends)
+      ends
 
-  -- an option, with its id, behind the first word
-  abbrev held_waiting : Text → Text → Held
-  held_waiting id word = record (settled s.rules (first_walk word).held) { pending = Some (id, []) }
+  -- an option, with its id, behind what was walked
+  abbrev held_waiting : Text → Walk → Held
+  held_waiting id w = record (settled s.rules w.held) { pending = Some (id, []) }
 
-  abbrev walk_waiting : Text → Text → Walk
-  walk_waiting id word = waiting_at (held_waiting id word) 2 id
+  abbrev walk_waiting : Text → Walk → Walk
+  walk_waiting id w = waiting_at (held_waiting id w) w.position id
 
   -- its value was given
-  abbrev walk_given : Text → Text → Text → Walk
-  walk_given id word given = at_rest (pushed id given (held_waiting id word)) 2
+  abbrev walk_given : Text → Walk → Text → Walk
+  walk_given id w given = at_rest (pushed id given (held_waiting id w)) w.position
 
-  abbrev rows_given : Text → Text → Text → List Row
-  rows_given id word given = finished s.rules (walk_given id word given).held
+  abbrev rows_given : Text → Walk → Text → List Row
+  rows_given id w given = finished s.rules (walk_given id w given).held
 
-  module _ (id flag word given : Text) (waits : walked s.rules [] (first_walk word) flag ≡ walk_waiting id word)
-      (step : walked s.rules [] (walk_waiting id word) given ≡ walk_given id word given) where
-    walk_given_is : walk_on word (flag ∷ given ∷ []) ≡ walk_given id word given
+  module _ (id flag : Text) (before : Walk) (given : Text) (waits : walked s.rules [] before flag ≡ walk_waiting id before)
+      (step : walked s.rules [] (walk_waiting id before) given ≡ walk_given id before given) where
+    walk_given_is : fold (walked s.rules []) before (flag ∷ given ∷ []) ≡ walk_given id before given
     walk_given_is = ap (λ (w : Walk). walked s.rules [] w given) waits ∙ step
 
-    rows_given_are : IsFileWord word → rows_after s.rules [] (word ∷ flag ∷ given ∷ []) ≡ rows_given id word given
-    rows_given_are p = rows_on_are word (flag ∷ given ∷ []) p ∙ ap (λ (w : Walk). finished s.rules w.held) walk_given_is
-
-    given_walks : IsPlainWord given → turn_fault s [] (first_walk word) flag ≡ [] → walk_fault s [] (first_walk word) (flag ∷ given ∷ []) ≡ []
+    given_walks : IsPlainWord given → turn_fault s [] before flag ≡ [] → walk_fault s [] before (flag ∷ given ∷ []) ≡ []
     unfolding walk_fault
     given_walks p none =
         faultless_cons s _ _ flag (given ∷ []) none waits
-        (faultless_cons s _ _ given [] (option_fault s (held_waiting id word) 2 id given p) step refl)
+        (faultless_cons s _ _ given [] (option_fault s (held_waiting id before) before.position id given p) step refl)
 
-    given_faultless : step_fault s 1 nothing_held value ≡ [] → IsFileWord word → IsPlainWord given → turn_fault s [] (first_walk word) flag ≡ [] → end_fault (walk_given id word given) ≡ []
-        → level_fault s [] nothing_held (word ∷ flag ∷ given ∷ []) false [] ≡ []
-    given_faultless takes file p none ends = words_faultless word (flag ∷ given ∷ []) takes file (given_walks p none) (ap end_fault walk_given_is ∙ ends)
+  -- an option behind the first word
+  module _ (id flag word given : Text) (waits : walked s.rules [] (first_walk word) flag ≡ walk_waiting id (first_walk word))
+      (step : walked s.rules [] (walk_waiting id (first_walk word)) given ≡ walk_given id (first_walk word) given) where
+    rows_given_are : IsFileWord word → rows_after s.rules [] (word ∷ flag ∷ given ∷ []) ≡ rows_given id (first_walk word) given
+    rows_given_are p =
+        rows_at (word ∷ flag ∷ given ∷ []) (walk_given id (first_walk word) given)
+        (walk_on_is word (flag ∷ given ∷ []) p ∙ walk_given_is id flag (first_walk word) given waits step)
+
+    given_faultless : step_fault s 1 nothing_held value ≡ [] → IsFileWord word → IsPlainWord given → turn_fault s [] (first_walk word) flag ≡ []
+        → end_fault (walk_given id (first_walk word) given) ≡ [] → level_fault s [] nothing_held (word ∷ flag ∷ given ∷ []) false [] ≡ []
+    given_faultless takes file p none ends =
+        words_faultless word (flag ∷ given ∷ []) takes file (given_walks id flag (first_walk word) given waits step p none)
+        (ap end_fault (walk_given_is id flag (first_walk word) given waits step) ∙ ends)
 
 -- ---- the word of `decode`, and `--long`
 
@@ -459,13 +473,14 @@ show_faultless name file show p =
 
 -- ---- the words of `replay`, with a number of workers
 
-waits_is : (file : Text) → walked replay_sub.rules [] (first_walk replay_sub file) (codes "--workers") ≡ walk_waiting replay_sub (codes "workers") file
+waits_is : (file : Text) → walked replay_sub.rules [] (first_walk replay_sub file) (codes "--workers") ≡ walk_waiting replay_sub (codes "workers") (first_walk replay_sub file)
 unfolding clap_on_literals
 waits_is file = refl
 
 number_step : (file number : Text) → IsPlainWord number
-    → walked replay_sub.rules [] (walk_waiting replay_sub (codes "workers") file) number ≡ walk_given replay_sub (codes "workers") file number
-number_step file number p = option_step replay_sub.rules (held_waiting replay_sub (codes "workers") file) 2 (codes "workers") number p
+    → walked replay_sub.rules [] (walk_waiting replay_sub (codes "workers") (first_walk replay_sub file)) number
+    ≡ walk_given replay_sub (codes "workers") (first_walk replay_sub file) number
+number_step file number p = option_step replay_sub.rules (held_waiting replay_sub (codes "workers") (first_walk replay_sub file)) 2 (codes "workers") number p
 
 workers_stop_is : (name file number : Text)
     → stop_after (built program).top.rules (names_of (built program)) (argument_words program (workers_line name file number))
@@ -484,13 +499,14 @@ plain_number (x ∷ xs) h = go (x == 45) refl
         let digits : IsNumeral 10 (45 ∷ xs) = subst (λ (y : ℕ). IsNumeral 10 (without_leading_plus (y ∷ xs))) (eqb-true x 45 e) h in
         let less = digits.1.0 in absurd (omega arith)
 
-number_kept : (file number : Text) (count : ℕ) → WritesWorkers number count → HasReplayWords (rows_given replay_sub (codes "workers") file number) file count Routes
+number_kept : (file number : Text) (count : ℕ) → WritesWorkers number count
+    → HasReplayWords (rows_given replay_sub (codes "workers") (first_walk replay_sub file) number) file count Routes
 number_kept file number count writes = (refl, (number, refl, writes), refl)
 
 pub workers_has : (name file number : Text) (count : ℕ) → IsFileWord file → WritesWorkers number count
     → HasTexts (subcommand_of program (workers_line name file number)) (OfReplay file count Routes)
 workers_has name file number count p writes = (
-  rows_given replay_sub (codes "workers") file number,
+  rows_given replay_sub (codes "workers") (first_walk replay_sub file) number,
   ap (entered (built program)) (workers_stop_is name file number)
       ∙ ap (λ (r : List Row). Some (codes "replay", r))
       (rows_given_are replay_sub (codes "workers") (codes "--workers") file number (waits_is file) (number_step file number (plain_number number writes.numeral)) p),
@@ -511,7 +527,8 @@ accepted number count h =
     let same = h.written in
     value_kinds-ok false (Unsigned 1 16) number (h.numeral, omega (arith, h.within), omega (arith, h.within), omega (arith, h.within))
 
-workers_ends : (file number : Text) → value_kinds false (Unsigned 1 16) number ≡ [] → end_fault replay_sub (walk_given replay_sub (codes "workers") file number) ≡ []
+workers_ends : (file number : Text) → value_kinds false (Unsigned 1 16) number ≡ []
+    → end_fault replay_sub (walk_given replay_sub (codes "workers") (first_walk replay_sub file) number) ≡ []
 unfolding clap_on_literals
 workers_ends file number ok = ap (λ (k : Kinds). or_else (or_else k []) []) ok
 
@@ -539,15 +556,16 @@ only_stop_is : (name file prefix : Text)
 unfolding clap_on_literals
 only_stop_is name file prefix = refl
 
-only_waits_is : (file : Text) → walked changes_sub.rules [] (first_walk changes_sub file) (codes "--only") ≡ walk_waiting changes_sub (codes "only") file
+only_waits_is : (file : Text) → walked changes_sub.rules [] (first_walk changes_sub file) (codes "--only") ≡ walk_waiting changes_sub (codes "only") (first_walk changes_sub file)
 unfolding clap_on_literals
 only_waits_is file = refl
 
 prefix_step : (file prefix : Text) → IsPlainWord prefix
-    → walked changes_sub.rules [] (walk_waiting changes_sub (codes "only") file) prefix ≡ walk_given changes_sub (codes "only") file prefix
-prefix_step file prefix p = option_step changes_sub.rules (held_waiting changes_sub (codes "only") file) 2 (codes "only") prefix p
+    → walked changes_sub.rules [] (walk_waiting changes_sub (codes "only") (first_walk changes_sub file)) prefix
+    ≡ walk_given changes_sub (codes "only") (first_walk changes_sub file) prefix
+prefix_step file prefix p = option_step changes_sub.rules (held_waiting changes_sub (codes "only") (first_walk changes_sub file)) 2 (codes "only") prefix p
 
-prefix_kept : (file prefix : Text) → HasChangesWords (rows_given changes_sub (codes "only") file prefix) file (Some prefix)
+prefix_kept : (file prefix : Text) → HasChangesWords (rows_given changes_sub (codes "only") (first_walk changes_sub file) prefix) file (Some prefix)
 prefix_kept file prefix = (refl, refl)
 
 pub changes_has : (name file : Text) → IsFileWord file → HasTexts (subcommand_of program (changes_line name file)) (OfChanges file None)
@@ -559,7 +577,7 @@ changes_has name file p = (
 
 pub only_has : (name file prefix : Text) → IsFileWord file → IsPlainWord prefix → HasTexts (subcommand_of program (only_line name file prefix)) (OfChanges file (Some prefix))
 only_has name file prefix p q = (
-  rows_given changes_sub (codes "only") file prefix,
+  rows_given changes_sub (codes "only") (first_walk changes_sub file) prefix,
   ap (entered (built program)) (only_stop_is name file prefix)
       ∙ ap (λ (r : List Row). Some (codes "changes", r))
       (rows_given_are changes_sub (codes "only") (codes "--only") file prefix (only_waits_is file) (prefix_step file prefix q) p),
@@ -588,7 +606,7 @@ only_waits_fault : (file : Text) → turn_fault changes_sub [] (first_walk chang
 unfolding clap_on_literals
 only_waits_fault file = refl
 
-only_ends : (file prefix : Text) → end_fault changes_sub (walk_given changes_sub (codes "only") file prefix) ≡ []
+only_ends : (file prefix : Text) → end_fault changes_sub (walk_given changes_sub (codes "only") (first_walk changes_sub file) prefix) ≡ []
 unfolding clap_on_literals
 only_ends file prefix = refl
 
@@ -603,3 +621,109 @@ only_faultless name file prefix p q =
     (given_faultless changes_sub (codes "only") (codes "--only") file prefix (only_waits_is file) (prefix_step file prefix q) refl p q (only_waits_fault file)
     (only_ends file prefix))
     (only_top_faultless name file prefix)
+
+-- ---- the words of `follow`: none, `--strict`, or `--only` with a network
+
+abbrev follow_sub : Shape
+follow_sub = built_leaf (inherited program.top follow_command.top)
+
+-- before any word
+abbrev start : Walk
+start = walk_from nothing_held
+
+follow_stop_is : (name : Text)
+    → stop_after (built program).top.rules (names_of (built program)) (argument_words program (follow_line name)) ≡ Some (codes "follow", [])
+unfolding clap_on_literals
+follow_stop_is name = refl
+
+strict_stop_is : (name : Text)
+    → stop_after (built program).top.rules (names_of (built program)) (argument_words program (strict_line name)) ≡ Some (codes "follow", codes "--strict" ∷ [])
+unfolding clap_on_literals
+strict_stop_is name = refl
+
+follow_only_stop_is : (name prefix : Text)
+    → stop_after (built program).top.rules (names_of (built program)) (argument_words program (follow_only_line name prefix))
+    ≡ Some (codes "follow", codes "--only" ∷ prefix ∷ [])
+unfolding clap_on_literals
+follow_only_stop_is name prefix = refl
+
+follow_kept : HasFollowWords (rows_after follow_sub.rules [] []) None false
+unfolding clap_on_literals
+follow_kept = (refl, (codes "false", refl, refl))
+
+strict_kept : HasFollowWords (rows_after follow_sub.rules [] (codes "--strict" ∷ [])) None true
+unfolding clap_on_literals
+strict_kept = (refl, (codes "true", refl, refl))
+
+follow_waits_is : walked follow_sub.rules [] start (codes "--only") ≡ walk_waiting follow_sub (codes "only") start
+unfolding clap_on_literals
+follow_waits_is = refl
+
+follow_step : (prefix : Text) → IsPlainWord prefix
+    → walked follow_sub.rules [] (walk_waiting follow_sub (codes "only") start) prefix ≡ walk_given follow_sub (codes "only") start prefix
+follow_step prefix p = option_step follow_sub.rules (held_waiting follow_sub (codes "only") start) 1 (codes "only") prefix p
+
+follow_given_is : (prefix : Text) → IsPlainWord prefix → walk follow_sub.rules [] nothing_held (codes "--only" ∷ prefix ∷ []) ≡ walk_given follow_sub (codes "only") start prefix
+follow_given_is prefix p = walk_given_is follow_sub (codes "only") (codes "--only") start prefix follow_waits_is (follow_step prefix p)
+
+follow_only_kept : (prefix : Text) → HasFollowWords (rows_given follow_sub (codes "only") start prefix) (Some prefix) false
+unfolding clap_on_literals
+follow_only_kept prefix = (refl, (codes "false", refl, refl))
+
+pub follow_has : (name : Text) → HasTexts (subcommand_of program (follow_line name)) (OfFollow None false)
+follow_has name = (rows_after follow_sub.rules [] [], ap (entered (built program)) (follow_stop_is name), follow_kept)
+
+pub strict_has : (name : Text) → HasTexts (subcommand_of program (strict_line name)) (OfFollow None true)
+strict_has name = (rows_after follow_sub.rules [] (codes "--strict" ∷ []), ap (entered (built program)) (strict_stop_is name), strict_kept)
+
+pub follow_only_has : (name prefix : Text) → IsPlainWord prefix → HasTexts (subcommand_of program (follow_only_line name prefix)) (OfFollow (Some prefix) false)
+follow_only_has name prefix p = (
+  rows_given follow_sub (codes "only") start prefix,
+  ap (entered (built program)) (follow_only_stop_is name prefix)
+      ∙ ap (λ (r : List Row). Some (codes "follow", r)) (rows_at follow_sub (codes "--only" ∷ prefix ∷ []) _ (follow_given_is prefix p)),
+  follow_only_kept prefix,
+)
+
+follow_top_faultless : (name : Text)
+    → level_fault (built program).top (names_of (built program)) nothing_held (argument_words program (follow_line name)) true [] ≡ []
+unfolding clap_on_literals
+follow_top_faultless name = refl
+
+strict_top_faultless : (name : Text)
+    → level_fault (built program).top (names_of (built program)) nothing_held (argument_words program (strict_line name)) true [] ≡ []
+unfolding clap_on_literals
+strict_top_faultless name = refl
+
+follow_only_top_faultless : (name prefix : Text)
+    → level_fault (built program).top (names_of (built program)) nothing_held (argument_words program (follow_only_line name prefix)) true [] ≡ []
+unfolding clap_on_literals
+follow_only_top_faultless name prefix = refl
+
+follow_sub_faultless : level_fault follow_sub [] nothing_held [] false [] ≡ []
+unfolding clap_on_literals
+follow_sub_faultless = refl
+
+strict_sub_faultless : level_fault follow_sub [] nothing_held (codes "--strict" ∷ []) false [] ≡ []
+unfolding clap_on_literals
+strict_sub_faultless = refl
+
+follow_waits_fault : turn_fault follow_sub [] start (codes "--only") ≡ []
+unfolding clap_on_literals
+follow_waits_fault = refl
+
+follow_only_ends : (prefix : Text) → end_fault follow_sub (walk_given follow_sub (codes "only") start prefix) ≡ []
+unfolding clap_on_literals
+follow_only_ends prefix = refl
+
+pub follow_faultless : (name : Text) → fault_of program (follow_line name) ≡ []
+follow_faultless name = faultless (follow_line name) _ (follow_stop_is name) follow_sub_faultless (follow_top_faultless name)
+
+pub strict_faultless : (name : Text) → fault_of program (strict_line name) ≡ []
+strict_faultless name = faultless (strict_line name) _ (strict_stop_is name) strict_sub_faultless (strict_top_faultless name)
+
+pub follow_only_faultless : (name prefix : Text) → IsPlainWord prefix → fault_of program (follow_only_line name prefix) ≡ []
+follow_only_faultless name prefix p =
+    faultless (follow_only_line name prefix) _ (follow_only_stop_is name prefix)
+    (level_faultless follow_sub (codes "--only" ∷ prefix ∷ []) _ (follow_given_is prefix p)
+    (given_walks follow_sub (codes "only") (codes "--only") start prefix follow_waits_is (follow_step prefix p) p follow_waits_fault) (follow_only_ends prefix))
+    (follow_only_top_faultless name prefix)

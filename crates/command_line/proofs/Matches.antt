@@ -11,7 +11,7 @@ use Rattle.clap.specs.declared.parser.matches.SubCommand.{SubCommand}
 use Rattle.clap.specs.declared.parser.matches.ArgMatches.TheViews.{out-SubCommand}
 use Rattle.clap.proofs.WalkLemmas.{first_value-rows}
 use Rattle.recording.specs.declared.show.Show.{Show}
-use Rattle.command_line.specs.Command.{OneTexts, HasChangesWords, HasDecodeWords, HasJob, HasJobWords, HasReplayWords, HasWords, IsJob, IsJobOf, JobTexts, OfOne, OfDecode, OfReplay, OfChanges, OfFault, command_name}
+use Rattle.command_line.specs.Command.{OneTexts, HasChangesWords, HasDecodeWords, HasFollowWords, HasJob, HasJobWords, HasReplayWords, HasWords, IsJob, IsJobOf, JobTexts, OfOne, OfDecode, OfReplay, OfChanges, OfFollow, OfFault, command_name}
 use Rattle.command_line.specs.declared.command.Job.{Job}
 
 pub same_text : (xs ys : List ℕ) → bytes_eq xs ys ≡ true → xs ≡ ys
@@ -41,10 +41,6 @@ pub met_is : (s : Option (Text × List Row)) (name : Text) (rows : List Row) →
 met_is None name rows e f = cc
 met_is (Some p) name rows e f = let a : name ≡ p.0 = cc in let b : rows ≡ p.1 = cc in rw (a, b) refl
 
-pub not_met : (s : Option (Text × List Row)) → None ≡ option_map (λ p. p.1) s → s ≡ None
-not_met None e = refl
-not_met (Some p) e = cc
-
 -- the names of two commands
 pub apart : (a b : Text) → bytes_eq a b ≡ false → a ≡ b → ⊥
 apart a b differ e = let same : bytes_eq a b ≡ true = (bytes_eq-Decides a b).1 e in cc
@@ -64,48 +60,29 @@ no_job s name rows met none h =
     none h.0 (sym (ap (λ (m : Text × List Row). m.0) same))
     (subst (λ (r : List Row). HasJobWords r h.0) (sym (ap (λ (m : Text × List Row). m.1) same)) words.2)
 
--- the name is none of a command
-pub no_command : (name : Text) (rows : List Row) → (name ≡ codes "one" → ⊥) → (name ≡ codes "decode" → ⊥) → (name ≡ codes "replay" → ⊥) → (name ≡ codes "changes" → ⊥) → (name ≡ codes "fault" → ⊥) → NoJobOf name rows
-no_command name rows one decode replay changes fault (OfOne t) e h = one (sym e)
-no_command name rows one decode replay changes fault (OfDecode hex long) e h = decode (sym e)
-no_command name rows one decode replay changes fault (OfReplay file workers show) e h = replay (sym e)
-no_command name rows one decode replay changes fault (OfChanges file only) e h = changes (sym e)
-no_command name rows one decode replay changes fault (OfFault number) e h = fault (sym e)
-
 pub no_one : (name : Text) (rows : List Row) → name ≡ codes "one" → ((t : OneTexts) → HasWords rows t → ⊥) → NoJobOf name rows
 no_one name rows is none (OfOne t) e h = none t h
-no_one name rows is none (OfDecode hex long) e h = apart (codes "decode") (codes "one") refl (e ∙ is)
-no_one name rows is none (OfReplay file workers show) e h = apart (codes "replay") (codes "one") refl (e ∙ is)
-no_one name rows is none (OfChanges file only) e h = apart (codes "changes") (codes "one") refl (e ∙ is)
-no_one name rows is none (OfFault number) e h = apart (codes "fault") (codes "one") refl (e ∙ is)
+no_one name rows is none other e h = apart (command_name other) (codes "one") refl (e ∙ is)
 
 pub no_decode : (name : Text) (rows : List Row) → name ≡ codes "decode" → ((hex : Text) (long : Bool) → HasDecodeWords rows hex long → ⊥) → NoJobOf name rows
-no_decode name rows is none (OfOne t) e h = apart (codes "one") (codes "decode") refl (e ∙ is)
 no_decode name rows is none (OfDecode hex long) e h = none hex long h
-no_decode name rows is none (OfReplay file workers show) e h = apart (codes "replay") (codes "decode") refl (e ∙ is)
-no_decode name rows is none (OfChanges file only) e h = apart (codes "changes") (codes "decode") refl (e ∙ is)
-no_decode name rows is none (OfFault number) e h = apart (codes "fault") (codes "decode") refl (e ∙ is)
+no_decode name rows is none other e h = apart (command_name other) (codes "decode") refl (e ∙ is)
 
 pub no_replay : (name : Text) (rows : List Row) → name ≡ codes "replay" → ((file : Text) (workers : ℕ) (show : Show) → HasReplayWords rows file workers show → ⊥) → NoJobOf name rows
-no_replay name rows is none (OfOne t) e h = apart (codes "one") (codes "replay") refl (e ∙ is)
-no_replay name rows is none (OfDecode hex long) e h = apart (codes "decode") (codes "replay") refl (e ∙ is)
 no_replay name rows is none (OfReplay file workers show) e h = none file workers show h
-no_replay name rows is none (OfChanges file only) e h = apart (codes "changes") (codes "replay") refl (e ∙ is)
-no_replay name rows is none (OfFault number) e h = apart (codes "fault") (codes "replay") refl (e ∙ is)
+no_replay name rows is none other e h = apart (command_name other) (codes "replay") refl (e ∙ is)
 
 pub no_changes : (name : Text) (rows : List Row) → name ≡ codes "changes" → ((file : Text) (only : Option Text) → HasChangesWords rows file only → ⊥) → NoJobOf name rows
-no_changes name rows is none (OfOne t) e h = apart (codes "one") (codes "changes") refl (e ∙ is)
-no_changes name rows is none (OfDecode hex long) e h = apart (codes "decode") (codes "changes") refl (e ∙ is)
-no_changes name rows is none (OfReplay file workers show) e h = apart (codes "replay") (codes "changes") refl (e ∙ is)
 no_changes name rows is none (OfChanges file only) e h = none file only h
-no_changes name rows is none (OfFault number) e h = apart (codes "fault") (codes "changes") refl (e ∙ is)
+no_changes name rows is none other e h = apart (command_name other) (codes "changes") refl (e ∙ is)
+
+pub no_follow : (name : Text) (rows : List Row) → name ≡ codes "follow" → ((only : Option Text) (strict : Bool) → HasFollowWords rows only strict → ⊥) → NoJobOf name rows
+no_follow name rows is none (OfFollow only strict) e h = none only strict h
+no_follow name rows is none other e h = apart (command_name other) (codes "follow") refl (e ∙ is)
 
 pub no_fault : (name : Text) (rows : List Row) → name ≡ codes "fault" → ((number : Text) → first_of (codes "NUMBER") rows ≡ Some number → ⊥) → NoJobOf name rows
-no_fault name rows is none (OfOne t) e h = apart (codes "one") (codes "fault") refl (e ∙ is)
-no_fault name rows is none (OfDecode hex long) e h = apart (codes "decode") (codes "fault") refl (e ∙ is)
-no_fault name rows is none (OfReplay file workers show) e h = apart (codes "replay") (codes "fault") refl (e ∙ is)
-no_fault name rows is none (OfChanges file only) e h = apart (codes "changes") (codes "fault") refl (e ∙ is)
 no_fault name rows is none (OfFault number) e h = none number h
+no_fault name rows is none other e h = apart (command_name other) (codes "fault") refl (e ∙ is)
 
 -- ---- where there is one
 

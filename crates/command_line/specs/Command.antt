@@ -1,4 +1,4 @@
--- The command line: `abr one ROUTER AREA ADDRESS HEX LOOKUP`, `abr decode HEX [--long]`, `abr replay FILE [--workers N] [--show NAME]`, `abr changes FILE [--only PREFIX]` and `abr fault NUMBER`.
+-- The command line: `abr one ROUTER AREA ADDRESS HEX LOOKUP`, `abr decode HEX [--long]`, `abr replay FILE [--workers N] [--show NAME]`, `abr changes FILE [--only PREFIX]`, `abr follow [--only PREFIX] [--strict]` and `abr fault NUMBER`.
 use Rattle.std.specs.Prelude.{ℕ, ◌≡◌, ◌⊎◌, ◌≤◌, Bool, true, false, List, [], ◌∷◌, Option, Some, None, Result, MatchResult, codes, map, option_map}
 use Rattle.std.specs.Borrow.{Bor}
 use Rattle.std.specs.Str.{bytes_eq}
@@ -12,7 +12,7 @@ use Rattle.recording.specs.declared.show.Show.{Show}
 use Rattle.recording.specs.declared.show.Show.TheVariants.{Routes, Due, Lsdb, Journal}
 use Rattle.command_line.specs.declared.command.OneWords.{OneWords}
 use Rattle.command_line.specs.declared.command.Job.{Job}
-use Rattle.command_line.specs.declared.command.Job.TheVariants.{One, Decode, Replay, Changes, Fault}
+use Rattle.command_line.specs.declared.command.Job.TheVariants.{One, Decode, Replay, Changes, Follow, Fault}
 use Rattle.command_line.specs.declared.command.Usage.{Usage}
 use Rattle.command_line.specs.declared.command.Usage.TheVariants.{Told, Memory}
 
@@ -37,6 +37,13 @@ only_option = record (new_rule (codes "only")) { long = Some (codes "only"); val
 
 abbrev pub changes_command : App
 changes_command = with_rule (with_rule (new_app (codes "changes")) (required_word (codes "FILE"))) only_option
+
+-- the flag `--strict`
+abbrev pub strict_flag : Rule
+strict_flag = record (new_rule (codes "strict")) { long = Some (codes "strict"); action = Some SetTrue }
+
+abbrev pub follow_command : App
+follow_command = with_rule (with_rule (new_app (codes "follow")) only_option) strict_flag
 
 abbrev pub fault_command : App
 fault_command = with_rule (new_app (codes "fault")) (required_word (codes "NUMBER"))
@@ -96,7 +103,8 @@ program_with names =
     let p = new_app (codes "abr") in
     let top = record p { top = record p.top { has_version = true; subcommand_required = true; arg_required_else_help = true } } in
     let first = with_subcommand (with_subcommand top one_command.top) decode_command.top in
-    with_subcommand (with_subcommand (with_subcommand first (replay_command names).top) changes_command.top) fault_command.top
+    let second = with_subcommand (with_subcommand first (replay_command names).top) changes_command.top in
+    with_subcommand (with_subcommand second follow_command.top) fault_command.top
 
 -- the program, wherever its references point
 abbrev pub IsProgram : App → Type 0
@@ -163,12 +171,17 @@ HasReplayWords rows file workers show = (first_of (codes "FILE") rows ≡ Some f
 abbrev pub HasChangesWords : List Row → Text → Option Text → Type 0
 HasChangesWords rows file only = (first_of (codes "FILE") rows ≡ Some file) × (first_of (codes "only") rows ≡ only)
 
+-- this network was given or none, and `--strict` or not; if not, the matches have `false`
+abbrev pub HasFollowWords : List Row → Option Text → Bool → Type 0
+HasFollowWords rows only strict = (first_of (codes "only") rows ≡ only) × HasFlag rows (codes "strict") strict
+
 -- a job, with the texts of its words
 pub data JobTexts : Type 0 where
   OfOne : (texts : OneTexts) → JobTexts
   OfDecode : (hex : Text) (long : Bool) → JobTexts
   OfReplay : (file : Text) (workers : ℕ) (show : Show) → JobTexts
   OfChanges : (file : Text) (only : Option Text) → JobTexts
+  OfFollow : (only : Option Text) (strict : Bool) → JobTexts
   OfFault : (number : Text) → JobTexts
 
 abbrev pub job_texts : Job → JobTexts
@@ -176,6 +189,7 @@ job_texts (One w) = OfOne (texts_of w)
 job_texts (Decode word long) = OfDecode word.now long
 job_texts (Replay file workers show) = OfReplay file.now workers show
 job_texts (Changes file only) = OfChanges file.now (option_map (λ prefix. prefix.now) only)
+job_texts (Follow only strict) = OfFollow (option_map (λ prefix. prefix.now) only) strict
 job_texts (Fault number) = OfFault number.now
 
 -- the name of its command
@@ -184,6 +198,7 @@ command_name (OfOne t) = codes "one"
 command_name (OfDecode hex long) = codes "decode"
 command_name (OfReplay file workers show) = codes "replay"
 command_name (OfChanges file only) = codes "changes"
+command_name (OfFollow only strict) = codes "follow"
 command_name (OfFault number) = codes "fault"
 
 -- its words were given
@@ -192,6 +207,7 @@ HasJobWords rows (OfOne t) = HasWords rows t
 HasJobWords rows (OfDecode hex long) = HasDecodeWords rows hex long
 HasJobWords rows (OfReplay file workers show) = HasReplayWords rows file workers show
 HasJobWords rows (OfChanges file only) = HasChangesWords rows file only
+HasJobWords rows (OfFollow only strict) = HasFollowWords rows only strict
 HasJobWords rows (OfFault number) = first_of (codes "NUMBER") rows ≡ Some number
 
 -- the job is one of the command with this name, and its words were given
@@ -216,6 +232,7 @@ IsFit (One w) = Unit {0}
 IsFit (Decode word long) = Unit {0}
 IsFit (Replay file workers show) = AreWorkers workers
 IsFit (Changes file only) = Unit {0}
+IsFit (Follow only strict) = Unit {0}
 IsFit (Fault number) = Unit {0}
 
 -- A mistake is one that the command line has. If no mistake is found and there is no job, a word is missing.
@@ -271,6 +288,18 @@ changes_line name file = name ∷ codes "changes" ∷ file ∷ []
 abbrev pub only_line : Text → Text → Text → List Text
 only_line name file prefix = name ∷ codes "changes" ∷ file ∷ codes "--only" ∷ prefix ∷ []
 
+-- the command line `abr follow`, whatever the program is called
+abbrev pub follow_line : Text → List Text
+follow_line name = name ∷ codes "follow" ∷ []
+
+-- the command line `abr follow` with `--strict`
+abbrev pub strict_line : Text → List Text
+strict_line name = name ∷ codes "follow" ∷ codes "--strict" ∷ []
+
+-- the command line `abr follow` with `--only` and a network
+abbrev pub follow_only_line : Text → Text → List Text
+follow_only_line name prefix = name ∷ codes "follow" ∷ codes "--only" ∷ prefix ∷ []
+
 -- the command line `abr fault` with this word, whatever the program is called
 abbrev pub fault_line : Text → Text → List Text
 fault_line name number = name ∷ codes "fault" ∷ number ∷ []
@@ -321,6 +350,19 @@ abbrev pub GivesOnly : List Text → Result Job Usage → Type 0
 GivesOnly line result =
     (name file prefix : Text) → line ≡ only_line name file prefix
     → IsFileWord file → IsPlainWord prefix → GivesJob result (OfChanges file (Some prefix))
+
+-- if the line is `abr follow`, the job is `follow` of all networks, not strict
+abbrev pub GivesFollow : List Text → Result Job Usage → Type 0
+GivesFollow line result = (name : Text) → line ≡ follow_line name → GivesJob result (OfFollow None false)
+
+-- if the line is `abr follow` with `--strict`, the job is `follow` of all networks, strict
+abbrev pub GivesStrict : List Text → Result Job Usage → Type 0
+GivesStrict line result = (name : Text) → line ≡ strict_line name → GivesJob result (OfFollow None true)
+
+-- if the line is `abr follow` with `--only` and a plain word, the job is `follow` of that network, not strict
+abbrev pub GivesFollowOnly : List Text → Result Job Usage → Type 0
+GivesFollowOnly line result =
+    (name prefix : Text) → line ≡ follow_only_line name prefix → IsPlainWord prefix → GivesJob result (OfFollow (Some prefix) false)
 
 -- if the line is `abr fault` with a plain word, the job is `fault` with it
 abbrev pub GivesFault : List Text → Result Job Usage → Type 0

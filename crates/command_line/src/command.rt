@@ -38,6 +38,12 @@ pub enum Job<'a> {
         file: &'a str,
         only: Option<&'a str>,
     },
+    /// `abr follow`, which reads standard input, with the word of the one network that is told of; if
+    /// there is none, all are. If it is strict, it ends at the first line at fault.
+    Follow {
+        only: Option<&'a str>,
+        strict: bool,
+    },
     /// `abr fault`, with the word that is to be a number.
     Fault(&'a str),
 }

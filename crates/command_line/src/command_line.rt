@@ -3,7 +3,7 @@ ghost use Rattle.std.specs.Prelude.{ℕ, Bool, ◌≡◌, ◌≢◌, ◌⊎◌, 
 ghost use Rattle.clap.specs.Words.{Text, app_of, rows_of, found_of, rule_of, subcommand_of, subcommand_rows_of, kind_of};
 ghost use Rattle.clap.specs.declared.builder.command.Command.TheViews.{out-Command};
 ghost use Rattle.recording.specs.declared.show.Show.{Show};
-ghost use Rattle.command_line.specs.Command.{one_command, decode_command, changes_command, fault_command, program, required_word, show_name, References, AreShowNames, OneTexts, texts_of, HasWords, HasJob, IsJob, IsJobOf, IsMistake, IsProgram, IsReplayCommand, IsShowOption, HasDecodeWords, HasReplayWords, HasChangesWords, IsFit, WritesWorkers, workers_option, long_flag, only_option, command_words, GivesChanges, GivesDecode, GivesFault, GivesLong, GivesOne, GivesOnly, GivesReplay, GivesShow, GivesWorkers};
+ghost use Rattle.command_line.specs.Command.{one_command, decode_command, changes_command, follow_command, fault_command, program, required_word, show_name, References, AreShowNames, OneTexts, texts_of, HasWords, HasJob, IsJob, IsJobOf, IsMistake, IsProgram, IsReplayCommand, IsShowOption, HasDecodeWords, HasReplayWords, HasChangesWords, HasFollowWords, IsFit, WritesWorkers, workers_option, long_flag, only_option, strict_flag, command_words, GivesChanges, GivesDecode, GivesFault, GivesFollow, GivesFollowOnly, GivesLong, GivesOne, GivesOnly, GivesReplay, GivesShow, GivesStrict, GivesWorkers};
 
 use crate::command::{Job, OneWords, Usage};
 use clap::builder::ValueParser;
@@ -43,6 +43,9 @@ pub fn job<'a>(alloc: Global, words: &'a [&'a str]) -> Result<Job<'a>, Usage>
     ensures show { GivesShow (command_words words.entry.now) result }
     ensures changes { GivesChanges (command_words words.entry.now) result }
     ensures only { GivesOnly (command_words words.entry.now) result }
+    ensures follow { GivesFollow (command_words words.entry.now) result }
+    ensures strict { GivesStrict (command_words words.entry.now) result }
+    ensures follow_only { GivesFollowOnly (command_words words.entry.now) result }
     ensures fault { GivesFault (command_words words.entry.now) result }
 {
     let command = program_command(alloc)?;
@@ -87,6 +90,8 @@ fn job_in<'a>(matches: &ArgMatches<'a>) -> Option<Job<'a>>
         replay_job(words)
     } else if name == "changes" {
         changes_job(words)
+    } else if name == "follow" {
+        follow_job(words)
     } else if name == "fault" {
         Some(Job::Fault(words.get_str("NUMBER")?))
     } else {
@@ -113,6 +118,17 @@ fn changes_job<'a>(words: &ArgMatches<'a>) -> Option<Job<'a>>
     Some(Job::Changes {
         file: words.get_str("FILE")?,
         only: words.get_str("only"),
+    })
+}
+
+fn follow_job<'a>(words: &ArgMatches<'a>) -> Option<Job<'a>>
+    ensures some { IfSome result (IsJobOf (codes "follow") (rows_of (found_of words.now))) }
+    ensures none { IsNone result → (only : Option Text) (strict : Bool)
+        → ¬ HasFollowWords (rows_of (found_of words.now)) only strict }
+{
+    Some(Job::Follow {
+        only: words.get_str("only"),
+        strict: words.get_str("strict")? == "true",
     })
 }
 
@@ -181,6 +197,7 @@ fn program_command<'a>(alloc: Global) -> Result<Command<'a>, AllocError>
         .subcommand(decode(alloc)?)?
         .subcommand(replay(alloc)?)?
         .subcommand(changes(alloc)?)?
+        .subcommand(follow(alloc)?)?
         .subcommand(fault(alloc)?)
 }
 
@@ -234,6 +251,17 @@ fn changes<'a>(alloc: Global) -> Result<Command<'a>, AllocError>
         .arg(only_option(alloc))
 }
 
+fn follow<'a>(alloc: Global) -> Result<Command<'a>, AllocError>
+    ensures app { IfOk result (λ c. app_of c ≡ follow_command) }
+    ensures local { IfOk result (λ c. (out-Command c).has_globals ≡ false) }
+{
+    Command::new(alloc, "follow")
+        .about("Tells what each event changed as it comes")
+        .after_help("Example: tail -n +1 -f router.rec | abr follow --only 203.0.113.0/25")
+        .arg(only_option(alloc))?
+        .arg(strict_flag(alloc))
+}
+
 fn fault<'a>(alloc: Global) -> Result<Command<'a>, AllocError>
     ensures app { IfOk result (λ c. app_of c ≡ fault_command) }
     ensures local { IfOk result (λ c. (out-Command c).has_globals ≡ false) }
@@ -251,7 +279,17 @@ fn long_flag<'a>(alloc: Global) -> Arg<'a>
     Arg::new(alloc, "long")
         .long("long")
         .action(ArgAction::SetTrue)
-        .help("Prints the fields of the body too, a line each")
+        .help("Prints each field in words, a line each")
+}
+
+fn strict_flag<'a>(alloc: Global) -> Arg<'a>
+    ensures rule { rule_of result ≡ strict_flag }
+    ensures local { result.global ≡ false }
+{
+    Arg::new(alloc, "strict")
+        .long("strict")
+        .action(ArgAction::SetTrue)
+        .help("Ends at the first line at fault")
 }
 
 fn only_option<'a>(alloc: Global) -> Arg<'a>

@@ -1,8 +1,8 @@
 use Rattle.std.proofs.Common.{Some, None, true, false, sym, map, subst, inr, refl}
 use Rattle.recording.specs.declared.show.Show.TheVariants.{Routes}
-use Rattle.command_line.specs.Command.{HasJob, IsJob, OfOne, OfDecode, OfReplay, OfChanges, OfFault, one_line, decode_line, long_line, replay_line, workers_line, show_line, changes_line, only_line, fault_line}
+use Rattle.command_line.specs.Command.{HasJob, IsJob, OfOne, OfDecode, OfReplay, OfChanges, OfFollow, OfFault, one_line, decode_line, long_line, replay_line, workers_line, show_line, changes_line, only_line, follow_line, strict_line, follow_only_line, fault_line}
 use Rattle.command_line.proofs.Jobs.{gives, has_job, job_is_fit, mistake_is, only_memory}
-use Rattle.command_line.proofs.Line.{one_has, one_faultless, decode_has, decode_faultless, long_has, long_faultless, replay_has, replay_faultless, workers_has, workers_faultless, show_has, show_faultless, changes_has, changes_faultless, only_has, only_faultless, fault_has, fault_faultless}
+use Rattle.command_line.proofs.Line.{one_has, one_faultless, decode_has, decode_faultless, long_has, long_faultless, replay_has, replay_faultless, workers_has, workers_faultless, show_has, show_faultless, changes_has, changes_faultless, only_has, only_faultless, follow_has, follow_faultless, strict_has, strict_faultless, follow_only_has, follow_only_faultless, fault_has, fault_faultless}
 use Rattle.command_line.proofs.Names.{met_as_given, fails_as_given}
 use Rattle.command_line.proofs.command_line.job.Goals as goal
 
@@ -54,6 +54,21 @@ returns-in-Some-clause-only c name file prefix is plain plain_prefix =
     let given = met_as_given _ c.in-Ok.matches _ c.in_ok-command.ensures c.in-Ok.ensures.matches in
     gives _ _ (only_line name file prefix) c.in-Some.job (OfChanges file (Some prefix)) given c.in-Some.ensures.some is (only_has name file prefix plain plain_prefix)
 
+pub returns-in-Some-clause-follow : goal.returns-in-Some-clause-follow
+returns-in-Some-clause-follow c name is =
+    let given = met_as_given _ c.in-Ok.matches _ c.in_ok-command.ensures c.in-Ok.ensures.matches in
+    gives _ _ (follow_line name) c.in-Some.job (OfFollow None false) given c.in-Some.ensures.some is (follow_has name)
+
+pub returns-in-Some-clause-strict : goal.returns-in-Some-clause-strict
+returns-in-Some-clause-strict c name is =
+    let given = met_as_given _ c.in-Ok.matches _ c.in_ok-command.ensures c.in-Ok.ensures.matches in
+    gives _ _ (strict_line name) c.in-Some.job (OfFollow None true) given c.in-Some.ensures.some is (strict_has name)
+
+pub returns-in-Some-clause-follow_only : goal.returns-in-Some-clause-follow_only
+returns-in-Some-clause-follow_only c name prefix is plain =
+    let given = met_as_given _ c.in-Ok.matches _ c.in_ok-command.ensures c.in-Ok.ensures.matches in
+    gives _ _ (follow_only_line name prefix) c.in-Some.job (OfFollow (Some prefix) false) given c.in-Some.ensures.some is (follow_only_has name prefix plain)
+
 pub returns-in-Some-clause-fault : goal.returns-in-Some-clause-fault
 returns-in-Some-clause-fault c name number is plain =
     let given = met_as_given _ c.in-Ok.matches _ c.in_ok-command.ensures c.in-Ok.ensures.matches in
@@ -104,6 +119,21 @@ returns-in-Ok-clause-only c name file prefix is plain plain_prefix =
     let given = met_as_given _ c.in-Ok.matches _ c.in_ok-command.ensures c.in-Ok.ensures.matches in
     absurd (c.in-None.ensures.none refl (has_job _ _ (only_line name file prefix) (OfChanges file (Some prefix)) given is (only_has name file prefix plain plain_prefix)))
 
+pub returns-in-Ok-clause-follow : goal.returns-in-Ok-clause-follow
+returns-in-Ok-clause-follow c name is =
+    let given = met_as_given _ c.in-Ok.matches _ c.in_ok-command.ensures c.in-Ok.ensures.matches in
+    absurd (c.in-None.ensures.none refl (has_job _ _ (follow_line name) (OfFollow None false) given is (follow_has name)))
+
+pub returns-in-Ok-clause-strict : goal.returns-in-Ok-clause-strict
+returns-in-Ok-clause-strict c name is =
+    let given = met_as_given _ c.in-Ok.matches _ c.in_ok-command.ensures c.in-Ok.ensures.matches in
+    absurd (c.in-None.ensures.none refl (has_job _ _ (strict_line name) (OfFollow None true) given is (strict_has name)))
+
+pub returns-in-Ok-clause-follow_only : goal.returns-in-Ok-clause-follow_only
+returns-in-Ok-clause-follow_only c name prefix is plain =
+    let given = met_as_given _ c.in-Ok.matches _ c.in_ok-command.ensures c.in-Ok.ensures.matches in
+    absurd (c.in-None.ensures.none refl (has_job _ _ (follow_only_line name prefix) (OfFollow (Some prefix) false) given is (follow_only_has name prefix plain)))
+
 pub returns-in-Ok-clause-fault : goal.returns-in-Ok-clause-fault
 returns-in-Ok-clause-fault c name number is plain =
     let given = met_as_given _ c.in-Ok.matches _ c.in_ok-command.ensures c.in-Ok.ensures.matches in
@@ -153,6 +183,21 @@ pub returns-clause-only : goal.returns-clause-only
 returns-clause-only c name file prefix is plain plain_prefix =
     let fails = fails_as_given _ _ c.in-Err.error c.in_ok-command.ensures c.in-Err.ensures.kinds in
     only_memory _ _ c.in-Err.error _ fails c.usage_of.ensures is (only_faultless name file prefix plain plain_prefix)
+
+pub returns-clause-follow : goal.returns-clause-follow
+returns-clause-follow c name is =
+    let fails = fails_as_given _ _ c.in-Err.error c.in_ok-command.ensures c.in-Err.ensures.kinds in
+    only_memory _ _ c.in-Err.error _ fails c.usage_of.ensures is (follow_faultless name)
+
+pub returns-clause-strict : goal.returns-clause-strict
+returns-clause-strict c name is =
+    let fails = fails_as_given _ _ c.in-Err.error c.in_ok-command.ensures c.in-Err.ensures.kinds in
+    only_memory _ _ c.in-Err.error _ fails c.usage_of.ensures is (strict_faultless name)
+
+pub returns-clause-follow_only : goal.returns-clause-follow_only
+returns-clause-follow_only c name prefix is plain =
+    let fails = fails_as_given _ _ c.in-Err.error c.in_ok-command.ensures c.in-Err.ensures.kinds in
+    only_memory _ _ c.in-Err.error _ fails c.usage_of.ensures is (follow_only_faultless name prefix plain)
 
 pub returns-clause-fault : goal.returns-clause-fault
 returns-clause-fault c name number is plain =

@@ -15,8 +15,9 @@ returns c =
     let names = c.in_ok-replay.ensures.app in
     let replay = c.in_ok-subcommand-3.ensures.shape c.in_ok-replay.ensures.local ∙ ap₂ with_subcommand decode (ap (λ (a : App). a.top) names.2) in
     let changes = c.in_ok-subcommand-4.ensures.shape c.in_ok-changes.ensures.local ∙ ap₂ with_subcommand replay (ap (λ (a : App). a.top) c.in_ok-changes.ensures.app) in
-    IfOk-weaker c.subcommand-5.result _ _ (λ r h. (
+    let follow = c.in_ok-subcommand-5.ensures.shape c.in_ok-follow.ensures.local ∙ ap₂ with_subcommand changes (ap (λ (a : App). a.top) c.in_ok-follow.ensures.app) in
+    IfOk-weaker c.subcommand-6.result _ _ (λ r h. (
       names.0,
       names.1,
-      h.shape c.in_ok-fault.ensures.local ∙ ap₂ with_subcommand changes (ap (λ (a : App). a.top) c.in_ok-fault.ensures.app),
-    )) c.subcommand-5.ensures
+      h.shape c.in_ok-fault.ensures.local ∙ ap₂ with_subcommand follow (ap (λ (a : App). a.top) c.in_ok-fault.ensures.app),
+    )) c.subcommand-6.ensures
