@@ -1,0 +1,5 @@
+use Rattle.line_reader.proofs.UnderWay.{IsUnderWay}
+use Rattle.line_reader.proofs.reader.LineReader.next.Given as goal
+
+abbrev pub invariant-loop : goal.invariant-loop
+invariant-loop g l = IsUnderWay l.fn.self (g.R.Read.remaining l.fn.input) l.self (g.R.Read.remaining l.input) l.line.items l.tail

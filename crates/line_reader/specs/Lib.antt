@@ -1,0 +1,3 @@
+pub mod Shortened
+pub mod Tails
+pub mod Taking

@@ -1,0 +1,9 @@
+//! The lines of an input, one at a time, in bounded memory.
+#![tactic(auto)]
+
+mod line;
+mod reader;
+mod tail;
+
+pub use line::LONGEST;
+pub use reader::{LineReader, Next, ReadFault};

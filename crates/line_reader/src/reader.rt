@@ -1,0 +1,169 @@
+//! Lines of an input.
+ghost use Rattle.std.specs.Prelude.{◌≡◌, ◌≢◌, ◌⊎◌, ◌≤◌, ◌<◌, ◌+◌, [], List, ℕ, Bool, OnOk, OnErr, IfOk, length, drop, take};
+ghost use Rattle.std.specs.IoError.{error_kind};
+ghost use Rattle.std.specs.Io.{ReadsAtMost};
+ghost use Rattle.std.specs.Io.KnownBytes.{Consumes, IsAtEnd, Keeps, prepend_known};
+ghost use Rattle.line_reader.specs.Taking.{EndsLine, TakesLine};
+ghost use Rattle.line_reader.specs.Tails.{IsGathered};
+
+use crate::line::{finish, gather_line};
+use crate::tail::Tail;
+use std::alloc::{AllocError, Global};
+use std::io;
+use std::marker::Model;
+
+/// How many bytes are read at once.
+const WINDOW: usize = 65_536;
+
+/// Lines of an input. What was read of it and not yet taken is kept in a window of fixed size.
+#[derive(Drop)]
+pub struct LineReader {
+    window: Vec<u8>,
+    start: usize,
+    end: usize,
+}
+
+/// What `LineReader::next` has taken.
+#[derive(Clone, Copy, Debug, PartialEq, Eq)]
+pub enum Next {
+    /// A line, up to its line feed.
+    Line,
+    /// The last bytes of the input, which have no line feed behind them.
+    Cut,
+    /// Nothing: the input has ended.
+    End,
+}
+
+/// Why `LineReader::next` took no line.
+#[derive(Clone, Copy, Debug, PartialEq, Eq)]
+pub enum ReadFault {
+    /// The input could not be read.
+    Read,
+    /// Memory ran out.
+    Memory,
+}
+
+impl From<AllocError> for ReadFault {
+    ghost use Rattle.line_reader.specs.declared.reader.ReadFault.TheVariants.{Memory as OutOfMemory};
+
+    ghost from_gives = { λ _ given. given ≡ OutOfMemory };
+
+    fn from(_error: AllocError) -> ReadFault {
+        ReadFault::Memory
+    }
+}
+
+/// Contracts see the bytes that were read and not yet taken.
+impl Model for LineReader {
+    ghost use Rattle.std.specs.Prelude.{◌≡◌, ◌≤◌, ℕ, List, slice_range, vec_len};
+    ghost use Rattle.line_reader.specs.declared.reader.TheConstants.{WINDOW};
+
+    ghost Value = { List ℕ };
+
+    ghost view = { λ r. slice_range r.window.items r.start r.end };
+
+    ghost invariant = { λ r. (r.start ≤ r.end) × (r.end ≤ vec_len r.window) × (vec_len r.window ≡ WINDOW) };
+}
+
+impl LineReader {
+    /// A reader that has read nothing.
+    pub fn new(alloc: Global) -> Result<LineReader, AllocError>
+        ensures { IfOk result (λ reader. reader ≡ []) }
+    {
+        let mut window = Vec::with_capacity(alloc, WINDOW)?;
+        window.resize(WINDOW, 0)?;
+        Ok(LineReader {
+            window,
+            start: 0,
+            end: 0,
+        })
+    }
+
+    /// Takes the next line into `line`, in place of what is there, without its line feed. Of a line of
+    /// more than `LONGEST` bytes it takes the first `LONGEST`, and one byte for the others: `?` if one of
+    /// them is not a lower-case hexadecimal digit, `0` if they are such digits and oddly many. It takes no
+    /// byte for digits that are evenly many. So a line that is shorter than `LONGEST` is the input's own.
+    ///
+    /// An interrupted read is tried again. After an error, what was read of the line is lost.
+    pub fn next<R: io::Read>(
+        &mut self,
+        input: &mut R,
+        line: &mut Vec<u8>,
+    ) -> Result<Next, ReadFault>
+        ensures { TakesLine self.old (R.remaining input.old) self.new (R.remaining input.new) line.new.items result }
+    {
+        line.clear();
+        let mut tail = Tail::empty();
+        for _ in 0..usize::MAX {
+            if let Some(place) = gather_line(line, &mut tail, self.pending())? {
+                self.pass(place + 1);
+                finish(line, tail)?;
+                return Ok(Next::Line);
+            }
+            if self.refill(input)? == 0 {
+                return end_line(line, tail);
+            }
+        }
+        Err(ReadFault::Read)
+    }
+
+    // What was read and not yet taken.
+    fn pending(&self) -> &[u8]
+        ensures { result.now ≡ self.now }
+    {
+        &self.window[self.start..self.end]
+    }
+
+    // Takes so many of the pending bytes away.
+    fn pass(&mut self, count: usize)
+        requires { count ≤ length self.old }
+        ensures { self.new ≡ drop count self.old }
+    {
+        self.start += count;
+    }
+
+    // Reads once into the window, in place of what is there. Answers how many bytes came.
+    fn refill<R: io::Read>(&mut self, input: &mut R) -> Result<usize, ReadFault>
+        ensures bytes { Keeps (R.remaining input.old) (prepend_known self.new (R.remaining input.new)) }
+        ensures count { IfOk result (λ n. length self.new ≡ n) }
+        ensures end { IfOk result (λ n. n ≡ 0 → IsAtEnd (R.remaining input.new)) }
+        ensures none { OnErr result (self.new ≡ []) }
+    {
+        self.start = 0;
+        self.end = 0;
+        let count = read_once(input, &mut self.window)?;
+        self.end = count;
+        Ok(count)
+    }
+}
+
+// Ends the line at the end of the input.
+fn end_line(line: &mut Vec<u8>, tail: Tail) -> Result<Next, ReadFault>
+    ensures { IfOk result (EndsLine line.old.items tail line.new.items) }
+{
+    if line.is_empty() {
+        return Ok(Next::End);
+    }
+    finish(line, tail)?;
+    Ok(Next::Cut)
+}
+
+// One read, which is tried again if it is interrupted.
+fn read_once<R: io::Read>(input: &mut R, buffer: &mut [u8]) -> Result<usize, ReadFault>
+    ensures bound { IfOk result (λ n. n ≤ length buffer.new) }
+    ensures bytes { IfOk result (λ n. Consumes (R.remaining input.old) (R.remaining input.new) (take n buffer.new)) }
+    ensures end { IfOk result (λ n. n ≡ 0 → 0 < length buffer.old → IsAtEnd (R.remaining input.new)) }
+    ensures kept { OnErr result (Keeps (R.remaining input.old) (R.remaining input.new)) }
+{
+    for _ in 0..usize::MAX {
+        match input.read(buffer) {
+            Ok(count) => return Ok(count),
+            Err(error) => match error.kind() {
+                io::ErrorKind::Interrupted => {}
+                io::ErrorKind::OutOfMemory => return Err(ReadFault::Memory),
+                _ => return Err(ReadFault::Read),
+            },
+        }
+    }
+    Err(ReadFault::Read)
+}
