@@ -1,6 +1,6 @@
 -- A line that comes piece by piece.
 use Rattle.std.proofs.Common.{ℕ, zero, suc, ◌≡◌, ◌+◌, ◌-◌, ◌<◌, ◌≤◌, ◌++◌, min, List, [], ◌∷◌, length, take, drop, refl, sym, ap, ◌∙◌, arith, length-append}
-use Rattle.std.proofs.lemmas.List.{take_min, drop_min}
+use Rattle.std.proofs.lemmas.List.{take_min, take_rest, drop_min}
 use Rattle.line_reader.specs.Tails.{Gathers, IsGathered, tail_of}
 use Rattle.line_reader.specs.declared.line.TheConstants.{LONGEST}
 use Rattle.line_reader.specs.declared.tail.Tail.{Tail}
@@ -33,11 +33,12 @@ behinds limit raw bytes line front =
     ∙ ap (λ l. drop limit raw ++ drop (limit - length l) bytes) front ∙ sym (behind_both limit raw bytes)
 
 -- bytes are gathered: as many as there is room for go into the line, and the others into the tail
-pub gathered : (raw bytes line longer : List ℕ) (tail further : Tail) → IsGathered raw line tail
-    → longer ≡ line ++ take (min (LONGEST - length line) (length bytes)) bytes
-    → ((before : List ℕ) → tail ≡ tail_of before → further ≡ tail_of (before ++ drop (min (LONGEST - length line) (length bytes)) bytes))
+pub gathered : (raw bytes line longer : List ℕ) (tail further : Tail) (room : ℕ) → room ≡ min (LONGEST - length line) (length bytes) → IsGathered raw line tail
+    → longer ≡ line ++ take room bytes
+    → ((before : List ℕ) → tail ≡ tail_of before → further ≡ tail_of (before ++ take (length bytes - room) (drop room bytes)))
     → IsGathered (raw ++ bytes) longer further
-gathered raw bytes line longer tail further was more with = record {
-  front = more ∙ fronts LONGEST raw bytes line was.front;
-  behind = with (drop LONGEST raw) was.behind ∙ ap tail_of (behinds LONGEST raw bytes line was.front);
+gathered raw bytes line longer tail further room so_much was more with = record {
+  front = more ∙ ap (λ n. line ++ take n bytes) so_much ∙ fronts LONGEST raw bytes line was.front;
+  behind = with (drop LONGEST raw) was.behind ∙ ap (λ l. tail_of (drop LONGEST raw ++ l)) (take_rest bytes room ∙ ap (λ n. drop n bytes) so_much)
+      ∙ ap tail_of (behinds LONGEST raw bytes line was.front);
 }

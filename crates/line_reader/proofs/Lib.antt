@@ -1,3 +1,4 @@
-pub mod Gathering
+mod Gathering
+mod LineFeeds
 pub mod Short
-pub mod UnderWay
+mod UnderWay

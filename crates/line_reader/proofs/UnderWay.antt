@@ -1,10 +1,16 @@
 -- A line of which some bytes are taken.
-use Rattle.std.proofs.Common.{ℕ, ◌≡◌, ◌≢◌, ◌+◌, ◌<◌, ◌≤◌, ◌++◌, List, [], ◌∷◌, Option, None, Some, All, length, take, drop, refl, sym, ap, subst, ◌∙◌, arith, append_assoc, append-nil}
+use Rattle.std.proofs.Common.{ℕ, ◌≡◌, ◌≢◌, ◌+◌, ◌++◌, List, [], ◌∷◌, Option, None, Some, Result, Ok, Err, IfOk, IfErr, IsErr, length, take, drop, sym, ap, subst, ◌∙◌, append_assoc}
+use Rattle.std.proofs.lemmas.List.{nil_from_length}
+use Rattle.std.proofs.lemmas.List.Elements.{All-append, All-nil}
+use Rattle.std.proofs.lemmas.Result.{IfOk-weaker, MatchResult-from_both, MatchResult-from_err}
 use Rattle.std.specs.Io.KnownBytes.{Consumes, IsAtEnd, Keeps, prepend_known}
 use Rattle.std.proofs.KnownBytes.{Consumes-nil, Consumes-trans}
 use Rattle.line_reader.specs.Shortened.{shortened}
 use Rattle.line_reader.specs.Tails.{Gathers, GathersUpTo, HasNoLineFeed, IsCut, IsGathered, tail_of}
-use Rattle.line_reader.specs.Taking.{Takes, TakesWhole, TakesLast, TakesNone, Loses, EndsAs}
+use Rattle.line_reader.specs.Taking.{Takes, TakesLine, TakesNext, TakesWhole, Loses, EndsAs, EndsLine}
+use Rattle.line_reader.specs.declared.reader.Next.{Next}
+use Rattle.line_reader.specs.declared.reader.Next.TheVariants.{Line, Cut, End}
+use Rattle.line_reader.specs.declared.reader.ReadFault.{ReadFault}
 use Rattle.line_reader.specs.declared.tail.Tail.{Tail}
 
 -- the bytes that are taken have no line feed, and are gathered
@@ -14,17 +20,8 @@ pub record IsUnderWay (old : List ℕ) (before : Option (List ℕ)) (now : List 
   pub taken : Takes old before now left raw
   pub gathered : IsGathered raw line tail
 
--- nothing is taken yet
-pub begun : (old : List ℕ) (before : Option (List ℕ)) (line : List ℕ) (tail : Tail) → line ≡ [] → tail ≡ tail_of [] → IsUnderWay old before old before line tail
-begun old before line tail none empty = record {
-  raw = [];
-  one = tt;
-  taken = Consumes-nil (prepend_known old before);
-  gathered = record { front = none; behind = empty };
-}
-
 -- the front of what is pending is taken
-cut : (behind : Option (List ℕ)) (now front others : List ℕ) → now ≡ front ++ others → Consumes (prepend_known now behind) (prepend_known others behind) front
+cut : (left : Option (List ℕ)) (now front others : List ℕ) → now ≡ front ++ others → Consumes (prepend_known now left) (prepend_known others left) front
 cut None now front others e = tt
 cut (Some xs) now front others e = ap (λ l. l ++ xs) e ∙ append_assoc front others xs
 
@@ -35,32 +32,75 @@ all (Some xs) None now new kept = absurd kept
 all (Some xs) (Some ys) now new kept = ap (λ l. now ++ l) (sym kept)
 
 both_one : (xs ys : List ℕ) → HasNoLineFeed xs → HasNoLineFeed ys → HasNoLineFeed (xs ++ ys)
-both_one [] ys one more = more
-both_one (x ∷ xs) ys one more = (one.0, both_one xs ys one.1 more)
+both_one xs ys one more = All-append (λ byte. byte ≢ 10) xs ys one more
 
-module _ (old : List ℕ) (before : Option (List ℕ)) (now : List ℕ) (left : Option (List ℕ)) (line : List ℕ) (tail : Tail) (under_way : IsUnderWay old before now left line tail) where
-  -- it goes on with what comes next
-  pub more : (new : List ℕ) (after : Option (List ℕ)) (longer : List ℕ) (further : Tail) → HasNoLineFeed now → Gathers now line tail longer further
-      → Keeps left (prepend_known new after) → IsUnderWay old before new after longer further
-  more new after longer further one gathers kept = record {
-    raw = under_way.raw ++ now;
-    one = both_one under_way.raw now under_way.one one;
-    taken = Consumes-trans (prepend_known old before) (prepend_known now left) (prepend_known new after) under_way.raw now under_way.taken (all left after now new kept);
-    gathered = gathers under_way.raw under_way.gathered;
-  }
+-- nothing is taken yet
+pub begun : (old : List ℕ) (before : Option (List ℕ)) (line : List ℕ) (tail : Tail) → line ≡ [] → tail ≡ tail_of [] → IsUnderWay old before old before line tail
+begun old before line tail none empty = record {
+  raw = [];
+  one = All-nil (λ byte. byte ≢ 10);
+  taken = Consumes-nil (prepend_known old before);
+  gathered = record { front = none; behind = empty };
+}
 
-  -- what is taken is lost
-  pub lost : Loses old before now left
-  lost = (under_way.raw, under_way.taken)
+-- a call that fails loses what was taken
+pub lost_in : (old : List ℕ) (before : Option (List ℕ)) (new : List ℕ) (after : Option (List ℕ)) (line : List ℕ) (r : Result Next ReadFault) → IsErr r
+    → Loses old before new after → TakesLine old before new after line r
+lost_in old before new after line r err lost = MatchResult-from_err r (TakesNext old before new after line) (λ _. Loses old before new after) err (λ _. lost)
 
-  -- it ends at a line feed
-  pub whole : (front others longer : List ℕ) (further : Tail) (ended : List ℕ) → IsCut now front others → Gathers front line tail longer further
-      → ((raw : List ℕ) → IsGathered raw longer further → ended ≡ shortened raw) → TakesWhole old before others left ended
-  whole front others longer further ended is_cut gathers finished = record {
-    raw = under_way.raw ++ front;
-    one = both_one under_way.raw front under_way.one is_cut.one;
-    taken = subst (Takes old before others left) (sym (append_assoc under_way.raw front (10 ∷ [])))
+lost_if : {P : Type 0} (r : Result Next ReadFault) → P → IfErr r (λ _. P)
+lost_if (Ok _) p = tt
+lost_if (Err _) p = p
+
+module _ (old : List ℕ) (before : Option (List ℕ)) (now : List ℕ) (left : Option (List ℕ)) (line : List ℕ) (tail : Tail) (under_way : IsUnderWay old before now left line tail)
+    (place : Option ℕ) (bytes : List ℕ) (longer : List ℕ) (further : Tail) (same : bytes ≡ now) (up_to : GathersUpTo place bytes line tail longer further) where
+  here : (p : Option ℕ) → place ≡ p → GathersUpTo p now line tail longer further
+  here p is = subst (λ xs. GathersUpTo p xs line tail longer further) same (subst (λ q. GathersUpTo q bytes line tail longer further) is up_to)
+
+  module _ (n : ℕ) (others : List ℕ) (is : place ≡ Some n) (rest : others ≡ drop (n + 1) now) where
+    taken_by : Takes old before others left ((under_way.raw ++ take n now) ++ 10 ∷ [])
+    taken_by =
+        let front = take n now in
+        let cut_there = subst (IsCut now front) (sym rest) (here (Some n) is).1 in
+        subst (Takes old before others left) (sym (append_assoc under_way.raw front (10 ∷ [])))
         (Consumes-trans (prepend_known old before) (prepend_known now left) (prepend_known others left) under_way.raw (front ++ 10 ∷ []) under_way.taken
-          (cut left now (front ++ 10 ∷ []) others (is_cut.whole ∙ sym (append_assoc front (10 ∷ []) others))));
-    handed_on = finished (under_way.raw ++ front) (gathers under_way.raw under_way.gathered);
-  }
+        (cut left now (front ++ 10 ∷ []) others (cut_there.whole ∙ sym (append_assoc front (10 ∷ []) others))))
+
+    -- the line ends at a line feed
+    pub whole : (ended : List ℕ) → ((raw : List ℕ) → IsGathered raw longer further → ended ≡ shortened raw) → TakesWhole old before others left ended
+    whole ended finished = record {
+      raw = under_way.raw ++ take n now;
+      one = both_one under_way.raw (take n now) under_way.one (here (Some n) is).1.one;
+      taken = taken_by;
+      handed_on = finished (under_way.raw ++ take n now) ((here (Some n) is).2 under_way.raw under_way.gathered);
+    }
+
+    -- the line that ends at a line feed is lost
+    pub whole_lost : (ended : List ℕ) (r : Result Next ReadFault) → IsErr r → TakesLine old before others left ended r
+    whole_lost ended r err = lost_in old before others left ended r err ((under_way.raw ++ take n now) ++ 10 ∷ [], taken_by)
+
+  module _ (new : List ℕ) (after : Option (List ℕ)) (is : place ≡ None) (kept : Keeps left (prepend_known new after)) where
+    -- the line goes on
+    pub more : IsUnderWay old before new after longer further
+    more = record {
+      raw = under_way.raw ++ now;
+      one = both_one under_way.raw now under_way.one (here None is).0;
+      taken = Consumes-trans (prepend_known old before) (prepend_known now left) (prepend_known new after) under_way.raw now under_way.taken (all left after now new kept);
+      gathered = (here None is).1 under_way.raw under_way.gathered;
+    }
+
+    -- its bytes so far are lost
+    pub more_lost : (ended : List ℕ) (r : Result Next ReadFault) → IsErr r → TakesLine old before new after ended r
+    more_lost ended r err = lost_in old before new after ended r err (more.raw, more.taken)
+
+    ends : (ended : List ℕ) (next : Next) → new ≡ [] → IsAtEnd after → EndsAs more.raw ended next → TakesNext old before new after ended next
+    ends ended Line none at_end e = absurd e
+    ends ended Cut none at_end e = record { raw = more.raw; some = e.0; one = more.one; taken = more.taken; handed_on = e.1; ended = (none, at_end) }
+    ends ended End none at_end e = record { taken = subst (Takes old before new after) e.0 more.taken; empty = e.1; ended = (none, at_end) }
+
+    -- the line ends with the input
+    pub last : (ended : List ℕ) (r : Result Next ReadFault) → length new ≡ 0 → IsAtEnd after → IfOk r (EndsLine longer further ended) → TakesLine old before new after ended r
+    last ended r none at_end ends_so =
+        MatchResult-from_both r (TakesNext old before new after ended) (λ _. Loses old before new after)
+        (IfOk-weaker r (EndsLine longer further ended) (TakesNext old before new after ended) (λ next e. ends ended next (nil_from_length new none) at_end (e more.raw more.gathered)) ends_so)
+        (lost_if r (more.raw, more.taken))

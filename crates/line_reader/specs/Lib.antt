@@ -1,3 +1,4 @@
+pub mod Faults
 pub mod Shortened
 pub mod Tails
 pub mod Taking

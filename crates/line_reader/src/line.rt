@@ -26,11 +26,7 @@ pub(crate) fn gather_line(
 }
 
 // Appends bytes to a line. What does not fit into its first `LONGEST` bytes goes into the tail.
-fn gather(
-    line: &mut Vec<u8>,
-    tail: &mut Tail,
-    bytes: &[u8],
-) -> Result<(), AllocError>
+fn gather(line: &mut Vec<u8>, tail: &mut Tail, bytes: &[u8]) -> Result<(), AllocError>
     ensures { OnOk result (Gathers bytes.now line.old.items tail.old line.new.items tail.new) }
 {
     let room = LONGEST.saturating_sub(line.len()).min(bytes.len());

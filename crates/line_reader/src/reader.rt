@@ -1,10 +1,9 @@
 //! Lines of an input.
-ghost use Rattle.std.specs.Prelude.{◌≡◌, ◌≢◌, ◌⊎◌, ◌≤◌, ◌<◌, ◌+◌, [], List, ℕ, Bool, OnOk, OnErr, IfOk, length, drop, take};
+ghost use Rattle.std.specs.Prelude.{◌≡◌, ◌≢◌, ◌≤◌, ◌<◌, [], OnErr, IfOk, IfErr, length, drop, take};
 ghost use Rattle.std.specs.IoError.{error_kind};
-ghost use Rattle.std.specs.Io.{ReadsAtMost};
+ghost use Rattle.std.specs.declared.io.ErrorKind.TheVariants as ErrorKind;
 ghost use Rattle.std.specs.Io.KnownBytes.{Consumes, IsAtEnd, Keeps, prepend_known};
 ghost use Rattle.line_reader.specs.Taking.{EndsLine, TakesLine};
-ghost use Rattle.line_reader.specs.Tails.{IsGathered};
 
 use crate::line::{finish, gather_line};
 use crate::tail::Tail;
@@ -50,6 +49,20 @@ impl From<AllocError> for ReadFault {
 
     fn from(_error: AllocError) -> ReadFault {
         ReadFault::Memory
+    }
+}
+
+/// `Memory` for an error of the kind `OutOfMemory`, and else `Read`.
+impl From<io::Error> for ReadFault {
+    ghost use Rattle.line_reader.specs.Faults.{IsFaultOf};
+
+    ghost from_gives = { IsFaultOf };
+
+    fn from(error: io::Error) -> ReadFault {
+        match error.kind() {
+            io::ErrorKind::OutOfMemory => ReadFault::Memory,
+            _ => ReadFault::Read,
+        }
     }
 }
 
@@ -149,21 +162,19 @@ fn end_line(line: &mut Vec<u8>, tail: Tail) -> Result<Next, ReadFault>
 }
 
 // One read, which is tried again if it is interrupted.
-fn read_once<R: io::Read>(input: &mut R, buffer: &mut [u8]) -> Result<usize, ReadFault>
+fn read_once<R: io::Read>(input: &mut R, buffer: &mut [u8]) -> io::Result<usize>
     ensures bound { IfOk result (λ n. n ≤ length buffer.new) }
     ensures bytes { IfOk result (λ n. Consumes (R.remaining input.old) (R.remaining input.new) (take n buffer.new)) }
     ensures end { IfOk result (λ n. n ≡ 0 → 0 < length buffer.old → IsAtEnd (R.remaining input.new)) }
     ensures kept { OnErr result (Keeps (R.remaining input.old) (R.remaining input.new)) }
+    ensures retried { IfErr result (λ e. error_kind e ≢ ErrorKind.Interrupted) }
 {
     for _ in 0..usize::MAX {
         match input.read(buffer) {
             Ok(count) => return Ok(count),
-            Err(error) => match error.kind() {
-                io::ErrorKind::Interrupted => {}
-                io::ErrorKind::OutOfMemory => return Err(ReadFault::Memory),
-                _ => return Err(ReadFault::Read),
-            },
+            Err(error) if error.kind() == io::ErrorKind::Interrupted => {}
+            Err(error) => return Err(error),
         }
     }
-    Err(ReadFault::Read)
+    Err(io::Error::from(io::ErrorKind::TimedOut))
 }

@@ -1,7 +1,10 @@
-use Rattle.std.proofs.Common.{ℕ, ◌≡◌, ◌-◌, ◌++◌, min, List, length, take}
+use Rattle.std.proofs.Common.{ℕ, ◌≡◌, ◌-◌, ◌++◌, ◌∙◌, ap, min, List, length, take, vec_len, rules, arith}
 use Rattle.line_reader.proofs.Gathering.{gathered}
 use Rattle.line_reader.specs.declared.line.TheConstants.{LONGEST}
 use Rattle.line_reader.proofs.line.gather.Goals as goal
 
 pub returns : goal.returns
-returns c = ?
+returns c = λ raw was.
+    let so_much : c.min-room.result ≡ min (LONGEST - length c.args.line.now.items) (length c.args.bytes.now) = search rules in
+    gathered raw c.args.bytes.now c.args.line.now.items c.extend_from_slice.new.self.items c.args.tail.now c.with.result c.min-room.result so_much
+    was c.in_ok-extend_from_slice.ensures.items c.with.ensures

@@ -1,0 +1,11 @@
+-- Which fault an error of the input is.
+use Rattle.std.specs.Prelude.{◌≡◌, ◌≢◌, ◌⊎◌}
+use Rattle.std.specs.IoError.{error_kind}
+use Rattle.std.specs.declared.io.Error.{Error}
+use Rattle.std.specs.declared.io.ErrorKind.TheVariants.{OutOfMemory}
+use Rattle.line_reader.specs.declared.reader.ReadFault.{ReadFault}
+use Rattle.line_reader.specs.declared.reader.ReadFault.TheVariants.{Read, Memory}
+
+-- only an error of the kind `OutOfMemory` is one of memory
+abbrev pub IsFaultOf : Error → ReadFault → Type 0
+IsFaultOf error fault = (fault ≡ Memory × error_kind error ≡ OutOfMemory) ⊎ (fault ≡ Read × error_kind error ≢ OutOfMemory)
