@@ -2,3 +2,4 @@ mod Gathering
 mod LineFeeds
 pub mod Short
 mod UnderWay
+mod Unread

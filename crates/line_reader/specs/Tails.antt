@@ -1,6 +1,6 @@
 -- A line that comes piece by piece.
 use Rattle.std.specs.Prelude.{ℕ, ◌≡◌, ◌≢◌, ◌+◌, ◌<◌, List, ◌∷◌, ◌++◌, length, take, drop, Option, MatchOption}
-use Rattle.std.specs.List.{All, list_all}
+use Rattle.std.specs.List.{All, Contains, list_all}
 use Rattle.line_reader.specs.Shortened.{is_hexadecimal, is_odd_number}
 use Rattle.line_reader.specs.declared.line.TheConstants.{LONGEST}
 use Rattle.line_reader.specs.declared.tail.Tail.{Tail}
@@ -17,6 +17,9 @@ pub record IsGathered (raw line : List ℕ) (tail : Tail) : Type 0 where
 -- the line and its tail are then those of what came before and these bytes
 abbrev pub Gathers : (bytes line : List ℕ) (tail : Tail) (longer : List ℕ) (further : Tail) → Type 0
 Gathers bytes line tail longer further = (raw : List ℕ) → IsGathered raw line tail → IsGathered (raw ++ bytes) longer further
+
+abbrev pub HasLineFeed : List ℕ → Type 0
+HasLineFeed bytes = Contains bytes 10
 
 -- no byte is a line feed
 abbrev pub HasNoLineFeed : List ℕ → Type 0

@@ -32,12 +32,13 @@ pub record TakesLast (old : List ℕ) (before : Option (List ℕ)) (new : List �
   pub handed_on : line ≡ shortened raw
   pub ended : HasEnded new after
 
--- the input had ended before
+-- nothing is left to take
 pub record TakesNone (old : List ℕ) (before : Option (List ℕ)) (new : List ℕ) (after : Option (List ℕ)) (line : List ℕ) : Type 0 where
   pub taken : Takes old before new after []
   pub empty : line ≡ []
   pub ended : HasEnded new after
 
+-- what a call takes, by its answer
 abbrev pub TakesNext : (old : List ℕ) (before : Option (List ℕ)) (new : List ℕ) (after : Option (List ℕ)) (line : List ℕ) → Next → Type 0
 TakesNext old before new after line Line = TakesWhole old before new after line
 TakesNext old before new after line Cut = TakesLast old before new after line
@@ -47,7 +48,7 @@ TakesNext old before new after line End = TakesNone old before new after line
 abbrev pub Loses : (old : List ℕ) (before : Option (List ℕ)) (new : List ℕ) (after : Option (List ℕ)) → Type 0
 Loses old before new after = (lost : List ℕ) × Takes old before new after lost
 
--- what a call takes of the input: the next line, the last bytes, or none; if it fails, some bytes are lost
+-- what a call of `next` takes of the input, and the line that it hands on; if it fails, some bytes are lost
 abbrev pub TakesLine : (old : List ℕ) (before : Option (List ℕ)) (new : List ℕ) (after : Option (List ℕ)) (line : List ℕ) → Result Next ReadFault → Type 0
 TakesLine old before new after line result = MatchResult result (TakesNext old before new after line) (λ _. Loses old before new after)
 

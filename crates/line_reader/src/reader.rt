@@ -4,6 +4,7 @@ ghost use Rattle.std.specs.IoError.{error_kind};
 ghost use Rattle.std.specs.declared.io.ErrorKind.TheVariants as ErrorKind;
 ghost use Rattle.std.specs.Io.KnownBytes.{Consumes, IsAtEnd, Keeps, prepend_known};
 ghost use Rattle.line_reader.specs.Taking.{EndsLine, TakesLine};
+ghost use Rattle.line_reader.specs.Tails.{HasLineFeed};
 
 use crate::line::{finish, gather_line};
 use crate::tail::Tail;
@@ -96,14 +97,18 @@ impl LineReader {
     /// more than `LONGEST` bytes it takes the first `LONGEST`, and one byte for the others: `?` if one of
     /// them is not a lower-case hexadecimal digit, `0` if they are such digits and oddly many. It takes no
     /// byte for digits that are evenly many. So a line that is shorter than `LONGEST` is the input's own.
+    /// What stands behind the last line feed of the input is taken like a line.
     ///
-    /// An interrupted read is tried again. After an error, what was read of the line is lost.
+    /// The input is not read if a line feed was read already. An interrupted read is tried again. After an
+    /// error, what was read of the line is lost.
     pub fn next<R: io::Read>(
         &mut self,
         input: &mut R,
         line: &mut Vec<u8>,
     ) -> Result<Next, ReadFault>
-        ensures { TakesLine self.old (R.remaining input.old) self.new (R.remaining input.new) line.new.items result }
+        ensures taken { TakesLine self.old (R.remaining input.old) self.new (R.remaining input.new)
+            line.new.items result }
+        ensures unread { HasLineFeed self.old → (input.new ≡ input.old) × (result ≢ Err ReadFault.Read) }
     {
         line.clear();
         let mut tail = Tail::empty();
