@@ -1,7 +1,7 @@
 -- A line that comes piece by piece.
-use Rattle.std.proofs.Common.{ℕ, zero, suc, ◌≡◌, ◌+◌, ◌-◌, ◌<◌, ◌≤◌, ◌++◌, min, List, [], ◌∷◌, length, take, drop, refl, sym, ap, ◌∙◌, arith, length-append}
+use Rattle.std.proofs.Common.{ℕ, zero, suc, ◌≡◌, ◌-◌, ◌++◌, min, List, [], ◌∷◌, length, take, drop, refl, sym, ap, ◌∙◌, arith}
 use Rattle.std.proofs.lemmas.List.{take_min, take_rest, drop_min}
-use Rattle.line_reader.specs.Tails.{Gathers, IsGathered, tail_of}
+use Rattle.line_reader.specs.Tails.{IsGathered, tail_of}
 use Rattle.line_reader.specs.declared.line.TheConstants.{LONGEST}
 use Rattle.line_reader.specs.declared.tail.Tail.{Tail}
 

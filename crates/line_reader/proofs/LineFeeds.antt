@@ -1,11 +1,11 @@
 -- Where a line feed is.
-use Rattle.std.proofs.Common.{ℕ, ◌≡◌, ◌≢◌, ◌+◌, ◌<◌, ◌==◌, List, ◌∷◌, ◌++◌, true, length, get_or, take, drop, Option, Some, None, All, subst, sym, ap, ◌∙◌, arith, take-append-drop, get_or-take}
+use Rattle.std.proofs.Common.{ℕ, ◌≡◌, ◌≢◌, ◌+◌, ◌<◌, List, ◌∷◌, ◌++◌, length, get_or, take, drop, Option, Some, None, subst, sym, ap, ◌∙◌, arith, take-append-drop, get_or-take}
 use Rattle.std.proofs.lemmas.Bool.{eqb-true, eq-eqb}
 use Rattle.std.proofs.lemmas.List.{drop_more, length-take-le, take_all}
 use Rattle.std.proofs.lemmas.List.Elements.{All-from_get_or}
 use Rattle.std.specs.Option.{unwrap_or}
-use Rattle.memchr.specs.Find.{IsFirstByte, Nowhere, is_byte}
-use Rattle.line_reader.specs.Tails.{Gathers, GathersUpTo, HasNoLineFeed, IsCut}
+use Rattle.memchr.specs.Find.{IsFirstByte, is_byte}
+use Rattle.line_reader.specs.Tails.{Gathers, GathersUpTo, HasNoLineFeed}
 use Rattle.line_reader.specs.declared.tail.Tail.{Tail}
 
 -- around a line feed

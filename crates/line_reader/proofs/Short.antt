@@ -1,5 +1,5 @@
 -- A line that is handed on shorter than the longest length is the input's own.
-use Rattle.std.proofs.Common.{ℕ, ◌≡◌, ◌+◌, ◌<◌, ◌≤◌, ◌++◌, List, [], length, take, drop, sym, ap, ◌∙◌, arith, append-nil, length-append, length-take}
+use Rattle.std.proofs.Common.{ℕ, ◌≡◌, ◌<◌, ◌≤◌, ◌++◌, List, length, take, drop, ap, ◌∙◌, arith, append-nil, length-append, length-take}
 use Rattle.std.proofs.lemmas.List.{take_all, drop_all}
 use Rattle.line_reader.specs.Shortened.{mark_of, shortened}
 use Rattle.line_reader.specs.declared.line.TheConstants.{LONGEST}

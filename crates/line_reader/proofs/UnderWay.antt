@@ -6,7 +6,7 @@ use Rattle.std.proofs.lemmas.Result.{IfOk-weaker, MatchResult-from_both, MatchRe
 use Rattle.std.specs.Io.KnownBytes.{Consumes, IsAtEnd, Keeps, prepend_known}
 use Rattle.std.proofs.KnownBytes.{Consumes-nil, Consumes-trans}
 use Rattle.line_reader.specs.Shortened.{shortened}
-use Rattle.line_reader.specs.Tails.{Gathers, GathersUpTo, HasNoLineFeed, IsCut, IsGathered, tail_of}
+use Rattle.line_reader.specs.Tails.{GathersUpTo, HasNoLineFeed, IsCut, IsGathered, tail_of}
 use Rattle.line_reader.specs.Taking.{Takes, TakesLine, TakesNext, TakesWhole, Loses, EndsAs, EndsLine}
 use Rattle.line_reader.specs.declared.reader.Next.{Next}
 use Rattle.line_reader.specs.declared.reader.Next.TheVariants.{Line, Cut, End}

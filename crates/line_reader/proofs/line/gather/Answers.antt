@@ -1,4 +1,4 @@
-use Rattle.std.proofs.Common.{ℕ, ◌≡◌, ◌-◌, ◌++◌, ◌∙◌, ap, min, List, length, take, vec_len, rules, arith}
+use Rattle.std.proofs.Common.{◌≡◌, ◌-◌, min, length, rules}
 use Rattle.line_reader.proofs.Gathering.{gathered}
 use Rattle.line_reader.specs.declared.line.TheConstants.{LONGEST}
 use Rattle.line_reader.proofs.line.gather.Goals as goal

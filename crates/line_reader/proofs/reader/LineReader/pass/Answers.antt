@@ -1,4 +1,4 @@
-use Rattle.std.proofs.Common.{ℕ, ◌≡◌, ◌+◌, ◌-◌, ◌≤◌, List, length, take, drop, slice_range, sym, ap, subst, ◌∙◌, arith, length-take, drop-drop}
+use Rattle.std.proofs.Common.{ℕ, ◌≡◌, ◌+◌, ◌-◌, ◌≤◌, List, length, take, drop, slice_range, sym, ap, ◌∙◌, arith, length-take, drop-drop}
 use Rattle.std.proofs.lemmas.List.{drop-take}
 use Rattle.line_reader.proofs.reader.LineReader.pass.Goals as goal
 
