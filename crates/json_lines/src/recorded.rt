@@ -1,0 +1,17 @@
+//! A line of a recording.
+ghost use Rattle.std.specs.Prelude.{◌≡◌, ◌++◌, OnOk, string_bytes};
+ghost use Rattle.json_lines.specs.Members.{json_line};
+ghost use Rattle.json_lines.specs.Lines.{recorded_data};
+
+use crate::object::Object;
+use ospf_types::memory::Memory;
+
+/// A line of a recording, without its line feed.
+pub fn put_recorded(line: &str, text: &mut String) -> Result<(), Memory>
+    ensures { OnOk result (string_bytes text.new ≡ string_bytes text.old
+        ++ json_line (recorded_data line.now)) }
+{
+    let mut object = Object::of_type(*text.allocator(), "recorded")?;
+    object.put_text("text", line)?;
+    object.append_to(text)
+}

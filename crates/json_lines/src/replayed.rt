@@ -1,0 +1,72 @@
+//! What a line of a recording came to, at its number.
+ghost use Rattle.std.specs.Prelude.{◌≡◌, ◌++◌, OnOk, string_bytes};
+ghost use Rattle.json_lines.specs.Members.{json_line};
+ghost use Rattle.json_lines.specs.Lines.{lookup_data, refused_data, behind_data, fault_data};
+
+use crate::object::Object;
+use event_state::Refusal;
+use ospf_types::memory::Memory;
+use recording::LineFault;
+use route_table::Match;
+
+/// A look-up of an address, at the number of its line, in the table that followed so many events.
+#[derive(Clone, Copy, Debug, PartialEq, Eq)]
+pub struct Lookup {
+    pub line: usize,
+    pub address: u32,
+    pub serial: u64,
+}
+
+/// What the table had for the address: its longest match (RFC 2328, 11.1).
+pub fn put_lookup(lookup: Lookup, found: &Match, text: &mut String) -> Result<(), Memory>
+    ensures { OnOk result (string_bytes text.new ≡ string_bytes text.old
+        ++ json_line (lookup_data lookup found.now)) }
+{
+    let mut object = Object::of_line(*text.allocator(), lookup.line, "lookup")?;
+    object.put_address("address", lookup.address)?;
+    object.put_number("serial", lookup.serial)?;
+    match found {
+        Match::Route(network, entry) => {
+            object.put_text("match", "route")?;
+            object.put_network("network", *network)?;
+            object.put_route(entry)?;
+        }
+        Match::Discard(network) => {
+            object.put_text("match", "discard")?;
+            object.put_network("network", *network)?;
+        }
+        Match::None => object.put_text("match", "none")?,
+    }
+    object.append_to(text)
+}
+
+/// The event, or the roll, was refused, and changed nothing.
+pub fn put_refused(line: usize, refusal: Refusal, text: &mut String) -> Result<(), Memory>
+    ensures { OnOk result (string_bytes text.new ≡ string_bytes text.old
+        ++ json_line (refused_data line refusal)) }
+{
+    let alloc = *text.allocator();
+    let mut object = Object::of_line(alloc, line, "refused")?;
+    object.put_string("refusal", refusal.to_string(alloc)?)?;
+    object.append_to(text)
+}
+
+/// The event was taken, but memory ran out over what follows from it: the table is older.
+pub fn put_behind(line: usize, text: &mut String) -> Result<(), Memory>
+    ensures { OnOk result (string_bytes text.new ≡ string_bytes text.old
+        ++ json_line (behind_data line)) }
+{
+    let object = Object::of_line(*text.allocator(), line, "behind")?;
+    object.append_to(text)
+}
+
+/// The line has this fault, and nothing behind it was read.
+pub fn put_fault(fault: LineFault, text: &mut String) -> Result<(), Memory>
+    ensures { OnOk result (string_bytes text.new ≡ string_bytes text.old
+        ++ json_line (fault_data fault)) }
+{
+    let alloc = *text.allocator();
+    let mut object = Object::of_line(alloc, fault.line, "fault")?;
+    object.put_string("fault", fault.fault.to_string(alloc)?)?;
+    object.append_to(text)
+}
