@@ -1,10 +1,12 @@
 //! What `replay` and `changes` print, for programs to read: each thing that is told is a JSON object (RFC 8259) on
-//! a line of its own, without spaces. The first letter of no text is left to guess: `type` says what a line tells,
-//! and the members of an object ascend by name, as `serde_json` puts them.
+//! a line of its own, without spaces. Its member `type` says what the line tells. The members of an object ascend by
+//! name, as `serde_json` keeps them.
 //!
-//! Metrics and costs are numbers, and so are serials, up to 18446744073709551615: a reader that keeps numbers as
-//! floating point is exact up to 2^53. Addresses, Router IDs and Area IDs are texts, as `"192.0.2.1"`, networks
-//! too, as `"192.0.2.0/24"`. Each function appends one line. If memory runs out, the text may have a part of it.
+//! Metrics, costs and serials are numbers. A serial goes up to 18446744073709551615, and a reader that keeps numbers
+//! as floating point is exact only up to 2^53. Addresses, Router IDs and Area IDs are texts, as `"192.0.2.1"`, and so
+//! are networks, as `"192.0.2.0/24"`.
+//!
+//! Each function appends one line. If memory runs out, the text may have a part of the line.
 #![tactic(auto)]
 
 mod changed;

@@ -11,8 +11,7 @@ use ospf_types::prefix::Prefix;
 use serde_json::{Map, Value};
 use std::alloc::Global;
 
-/// Members by their names, ascending. No number among them is a fraction: of those `serde_json` leaves the digits
-/// open.
+/// Members by their names, ascending. No number among them is a fraction: the digits of a fraction are not known.
 #[derive(Drop)]
 pub(crate) struct Object {
     alloc: Global,
