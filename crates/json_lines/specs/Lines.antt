@@ -26,12 +26,26 @@ use Rattle.json_lines.specs.declared.replayed.Lookup.{Lookup}
 
 -- the network has this item now
 abbrev pub set_data : (line : ℕ) → Network → Item → Data
-set_data line p (item.Route e) = object_of ((codes "line", number_data line) ∷ (codes "network", network_data p) ∷ (codes "route", route_data e) ∷ (codes "type", string (codes "set")) ∷ [])
-set_data line p item.Discard = object_of ((codes "discard", boolean true) ∷ (codes "line", number_data line) ∷ (codes "network", network_data p) ∷ (codes "type", string (codes "set")) ∷ [])
+set_data line p (item.Route e) = object_of (
+    (codes "line", number_data line)
+    ∷ (codes "network", network_data p)
+    ∷ (codes "route", route_data e)
+    ∷ (codes "type", string (codes "set"))
+    ∷ [])
+set_data line p item.Discard = object_of (
+    (codes "discard", boolean true)
+    ∷ (codes "line", number_data line)
+    ∷ (codes "network", network_data p)
+    ∷ (codes "type", string (codes "set"))
+    ∷ [])
 
 -- the table has nothing for the network any more
 abbrev pub drop_data : (line : ℕ) → Network → Data
-drop_data line p = object_of ((codes "line", number_data line) ∷ (codes "network", network_data p) ∷ (codes "type", string (codes "drop")) ∷ [])
+drop_data line p = object_of (
+    (codes "line", number_data line)
+    ∷ (codes "network", network_data p)
+    ∷ (codes "type", string (codes "drop"))
+    ∷ [])
 
 -- a network, or the Router ID of an AS boundary router
 abbrev pub dest_data : Dest → Data
@@ -40,23 +54,61 @@ dest_data (dest.Router router) = address_data router
 
 -- the summary is due in the area at this metric now
 abbrev pub due_data : (line area : ℕ) → DueSummary → Data
-due_data line area due = object_of ((codes "area", address_data area) ∷ (codes "destination", dest_data due.dest) ∷ (codes "kind", number_data due.kind) ∷ (codes "line", number_data line) ∷ (codes "metric", number_data due.metric) ∷ (codes "type", string (codes "due")) ∷ [])
+due_data line area due = object_of (
+    (codes "area", address_data area)
+    ∷ (codes "destination", dest_data due.dest)
+    ∷ (codes "kind", number_data due.kind)
+    ∷ (codes "line", number_data line)
+    ∷ (codes "metric", number_data due.metric)
+    ∷ (codes "type", string (codes "due"))
+    ∷ [])
 
 -- it is due there no longer
 abbrev pub undue_data : (line area : ℕ) → Dest → Data
-undue_data line area d = object_of ((codes "area", address_data area) ∷ (codes "destination", dest_data d) ∷ (codes "kind", number_data (kind_of d)) ∷ (codes "line", number_data line) ∷ (codes "type", string (codes "undue")) ∷ [])
+undue_data line area d = object_of (
+    (codes "area", address_data area)
+    ∷ (codes "destination", dest_data d)
+    ∷ (codes "kind", number_data (kind_of d))
+    ∷ (codes "line", number_data line)
+    ∷ (codes "type", string (codes "undue"))
+    ∷ [])
 
 -- ---- what a line of a recording came to, at its number
 
 -- what the table had for the address
 abbrev pub lookup_data : Lookup → Match → Data
-lookup_data l (found.Route p e) = object_of ((codes "address", address_data l.address) ∷ (codes "line", number_data l.line) ∷ (codes "match", string (codes "route")) ∷ (codes "network", network_data p) ∷ (codes "route", route_data e.now) ∷ (codes "serial", number_data l.serial) ∷ (codes "type", string (codes "lookup")) ∷ [])
-lookup_data l (found.Discard p) = object_of ((codes "address", address_data l.address) ∷ (codes "line", number_data l.line) ∷ (codes "match", string (codes "discard")) ∷ (codes "network", network_data p) ∷ (codes "serial", number_data l.serial) ∷ (codes "type", string (codes "lookup")) ∷ [])
-lookup_data l found.None = object_of ((codes "address", address_data l.address) ∷ (codes "line", number_data l.line) ∷ (codes "match", string (codes "none")) ∷ (codes "serial", number_data l.serial) ∷ (codes "type", string (codes "lookup")) ∷ [])
+lookup_data l (found.Route p e) = object_of (
+    (codes "address", address_data l.address)
+    ∷ (codes "line", number_data l.line)
+    ∷ (codes "match", string (codes "route"))
+    ∷ (codes "network", network_data p)
+    ∷ (codes "route", route_data e.now)
+    ∷ (codes "serial", number_data l.serial)
+    ∷ (codes "type", string (codes "lookup"))
+    ∷ [])
+lookup_data l (found.Discard p) = object_of (
+    (codes "address", address_data l.address)
+    ∷ (codes "line", number_data l.line)
+    ∷ (codes "match", string (codes "discard"))
+    ∷ (codes "network", network_data p)
+    ∷ (codes "serial", number_data l.serial)
+    ∷ (codes "type", string (codes "lookup"))
+    ∷ [])
+lookup_data l found.None = object_of (
+    (codes "address", address_data l.address)
+    ∷ (codes "line", number_data l.line)
+    ∷ (codes "match", string (codes "none"))
+    ∷ (codes "serial", number_data l.serial)
+    ∷ (codes "type", string (codes "lookup"))
+    ∷ [])
 
 -- the event, or the roll, was refused
 abbrev pub refused_data : (line : ℕ) → Refusal → Data
-refused_data line refusal = object_of ((codes "line", number_data line) ∷ (codes "refusal", string (refusal_text refusal)) ∷ (codes "type", string (codes "refused")) ∷ [])
+refused_data line refusal = object_of (
+    (codes "line", number_data line)
+    ∷ (codes "refusal", string (refusal_text refusal))
+    ∷ (codes "type", string (codes "refused"))
+    ∷ [])
 
 -- the event was taken, and the table does not follow it yet
 abbrev pub behind_data : (line : ℕ) → Data
@@ -64,22 +116,43 @@ behind_data line = object_of ((codes "line", number_data line) ∷ (codes "type"
 
 -- the line has a fault
 abbrev pub fault_data : LineFault → Data
-fault_data l = object_of ((codes "fault", string (fault_text l.fault)) ∷ (codes "line", number_data l.line) ∷ (codes "type", string (codes "fault")) ∷ [])
+fault_data l = object_of (
+    (codes "fault", string (fault_text l.fault))
+    ∷ (codes "line", number_data l.line)
+    ∷ (codes "type", string (codes "fault"))
+    ∷ [])
 
 -- ---- what is shown at the end
 
 -- so many events were taken, and so many of them the table follows
 abbrev pub serial_data : (serial built : ℕ) → Data
-serial_data serial built = object_of ((codes "built", number_data built) ∷ (codes "serial", number_data serial) ∷ (codes "type", string (codes "serial")) ∷ [])
+serial_data serial built = object_of (
+    (codes "built", number_data built)
+    ∷ (codes "serial", number_data serial)
+    ∷ (codes "type", string (codes "serial"))
+    ∷ [])
 
 -- what the table has for the network
 abbrev pub item_data : Network → Item → Data
-item_data p (item.Route e) = object_of ((codes "network", network_data p) ∷ (codes "route", route_data e) ∷ (codes "type", string (codes "route")) ∷ [])
-item_data p item.Discard = object_of ((codes "network", network_data p) ∷ (codes "type", string (codes "discard")) ∷ [])
+item_data p (item.Route e) = object_of (
+    (codes "network", network_data p)
+    ∷ (codes "route", route_data e)
+    ∷ (codes "type", string (codes "route"))
+    ∷ [])
+item_data p item.Discard = object_of (
+    (codes "network", network_data p)
+    ∷ (codes "type", string (codes "discard"))
+    ∷ [])
 
 -- the summary is due in the area
 abbrev pub shown_due_data : (area : ℕ) → DueSummary → Data
-shown_due_data area due = object_of ((codes "area", address_data area) ∷ (codes "destination", dest_data due.dest) ∷ (codes "kind", number_data due.kind) ∷ (codes "metric", number_data due.metric) ∷ (codes "type", string (codes "due")) ∷ [])
+shown_due_data area due = object_of (
+    (codes "area", address_data area)
+    ∷ (codes "destination", dest_data due.dest)
+    ∷ (codes "kind", number_data due.kind)
+    ∷ (codes "metric", number_data due.metric)
+    ∷ (codes "type", string (codes "due"))
+    ∷ [])
 
 -- the database: that of an area, or that of AS-external-LSAs
 abbrev pub scope_data : Scope → Data
@@ -88,7 +161,16 @@ scope_data As = string (codes "as")
 
 -- the key of an LSA, and what tells an instance from another: sequence number, checksum and age
 abbrev pub lsa_data : Scope → Header → Data
-lsa_data scope h = object_of ((codes "age", number_data h.age) ∷ (codes "checksum", hex_data (to_be_bytes w16 h.sum)) ∷ (codes "id", address_data h.id) ∷ (codes "kind", number_data h.kind) ∷ (codes "router", address_data h.router) ∷ (codes "scope", scope_data scope) ∷ (codes "sequence", hex_data (to_be_bytes w32 h.seq)) ∷ (codes "type", string (codes "lsa")) ∷ [])
+lsa_data scope h = object_of (
+    (codes "age", number_data h.age)
+    ∷ (codes "checksum", hex_data (to_be_bytes w16 h.sum))
+    ∷ (codes "id", address_data h.id)
+    ∷ (codes "kind", number_data h.kind)
+    ∷ (codes "router", address_data h.router)
+    ∷ (codes "scope", scope_data scope)
+    ∷ (codes "sequence", hex_data (to_be_bytes w32 h.seq))
+    ∷ (codes "type", string (codes "lsa"))
+    ∷ [])
 
 -- a line of a recording, without its line feed
 abbrev pub recorded_data : (text : List ℕ) → Data

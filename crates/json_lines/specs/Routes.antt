@@ -36,4 +36,10 @@ area_data None = null
 area_data (Some area) = address_data area
 
 abbrev pub route_data : Entry → Data
-route_data e = object_of ((codes "area", area_data e.area) ∷ (codes "cost", number_data e.cost) ∷ (codes "cost2", number_data e.cost2) ∷ (codes "hops", paths_data e.paths) ∷ (codes "kind", string (kind_text e.kind)) ∷ [])
+route_data e = object_of (
+    (codes "area", area_data e.area)
+    ∷ (codes "cost", number_data e.cost)
+    ∷ (codes "cost2", number_data e.cost2)
+    ∷ (codes "hops", paths_data e.paths)
+    ∷ (codes "kind", string (kind_text e.kind))
+    ∷ [])

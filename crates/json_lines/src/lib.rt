@@ -1,5 +1,5 @@
-//! What `replay` and `changes` print, for programs to read: each thing that is told is a JSON object (RFC 8259) on
-//! a line of its own, without spaces. Its member `type` says what the line tells. The members of an object ascend by
+//! What `replay` and `changes` tell, for programs to read: each thing that is told is a JSON object (RFC 8259) on a
+//! line of its own, without spaces. Its member `type` says what the line tells. The members of an object ascend by
 //! name, as `serde_json` keeps them.
 //!
 //! Metrics, costs and serials are numbers. A serial goes up to 18446744073709551615, and a reader that keeps numbers
