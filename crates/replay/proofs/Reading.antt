@@ -10,7 +10,7 @@ use Rattle.recording.specs.declared.version.Version.TheVariants.{One, Two, Three
 use Rattle.recording.specs.Places.{first_lines}
 use Rattle.recording.specs.Recordings.{RecordingValue, IsText, text_of_forms, area_forms, first_forms, header_forms, has_forms, front_forms, interface_form, lsa_form, forms_of, form_of, ended}
 use Rattle.replay.specs.Lines.{first_number}
-use Rattle.replay.specs.Parts.{IsRead}
+use Rattle.replay.specs.Parts.{IsParsed, IsRead}
 
 -- each line has a line feed
 forms_fit : (forms : List Form) → length forms ≤ length (text_of_forms forms)
@@ -36,14 +36,15 @@ pub front_length : (v : Version) (base : Base) → (first_lines v + 1) + length 
 front_length v base =
     omega (arith, first_length v base, length-append (first_forms v base) (flat_map area_forms base.config.areas), length-append (header_forms v base) (has_forms base))
 
+-- the bytes are the text of the recording
+pub is_parsed : (bytes : List ℕ) (r : RecordingValue) → IsText bytes r → length bytes < 2 ^ 63 → IsParsed bytes r
+is_parsed bytes r text small = let bound = lines_fit bytes r text in record { text = text; few = omega (arith, bound) }
+
 -- what was read stands alone, is all, and is the text of the recording
-pub is_read : (before after : Option (List ℕ)) (old new bytes : List ℕ) (r : RecordingValue) → old ≡ [] → bytes ≡ new → Consumes before after (drop (length old) new) → IsAtEnd after → IsText bytes r → length new < 2 ^ 63
-    → IsRead before after r
-is_read before after old new bytes r none same read end text small =
-    let bound = lines_fit bytes r text in
-    record {
-      bytes = bytes;
-      read = record { read = subst (λ l. Consumes before after l) (sym same) (subst (λ l. Consumes before after (drop (length l) new)) none read); end = end };
-      text = text;
-      few = omega (arith, bound, ap length same);
-    }
+pub is_read : (before after : Option (List ℕ)) (old new bytes : List ℕ) (r : RecordingValue) → old ≡ [] → bytes ≡ new → Consumes before after (drop (length old) new) → IsAtEnd after → IsParsed bytes r → IsRead before after r
+is_read before after old new bytes r none same read end is = record {
+  bytes = bytes;
+  read = record { read = subst (λ l. Consumes before after l) (sym same) (subst (λ l. Consumes before after (drop (length l) new)) none read); end = end };
+  text = is.text;
+  few = is.few;
+}

@@ -23,6 +23,11 @@ pub record IsRead (before after : Option (List ℕ)) (r : RecordingValue) : Type
   pub text : IsText bytes r
   pub few : first_number r.version r.base + length r.lines < 2 ^ 64
 
+-- the bytes are the recording's text; its lines are few enough to be numbered
+pub record IsParsed (bytes : List ℕ) (r : RecordingValue) : Type 0 where
+  pub text : IsText bytes r
+  pub few : first_number r.version r.base + length r.lines < 2 ^ 64
+
 -- why a recording is not read
 abbrev pub IsReadFault : (before after : Option (List ℕ)) → ReplayFault → Type 0
 IsReadFault before after fault.Read = Unit {0}

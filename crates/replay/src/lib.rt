@@ -12,11 +12,11 @@ mod showing;
 mod writing;
 
 pub use fault::ReplayFault;
-pub use lines::{put_answer, put_dest, put_roll, put_serial};
+pub use lines::{put_answer, put_dest, put_lookup, put_roll, put_serial};
 pub use opened::OpenedRecording;
 pub use page::{Stop, empty_page, fault_of, spill, write_page};
 pub use recording::Show;
-pub use replaying::{read_recording, replay_one};
+pub use replaying::{parse_bytes, read_recording, replay_one};
 pub use running::number_of_first;
 pub use showing::{show_events, show_items, show_lsas, show_summaries};
 pub use writing::{CannotWrite, write_whole};

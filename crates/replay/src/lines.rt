@@ -16,7 +16,7 @@ use ospf_types::prefix::Prefix;
 use route_table::{Item, Table};
 
 /// The match of the address in the table.
-pub(crate) fn put_lookup(
+pub fn put_lookup(
     number: usize,
     address: u32,
     table: &Table,

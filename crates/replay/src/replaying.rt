@@ -6,7 +6,7 @@ ghost use Rattle.recording.specs.declared.fault.LineFault.{LineFault};
 ghost use Rattle.replay.specs.Inputs.{ReadsAll};
 ghost use Rattle.replay.specs.declared.page.Stop.TheVariants as stop;
 ghost use Rattle.replay.specs.Outputs.{Replays, ReplaysPart};
-ghost use Rattle.replay.specs.Parts.{IsRead, IsReadFault};
+ghost use Rattle.replay.specs.Parts.{IsParsed, IsRead, IsReadFault};
 
 use crate::fault::ReplayFault;
 use crate::opened::OpenedRecording;
@@ -58,13 +58,22 @@ pub fn read_recording<R: io::Read>(alloc: Global, input: &mut R) -> Result<Recor
 {
     let mut bytes = Vec::new(alloc);
     match input.read_to_end(&mut bytes) {
-        Ok(_) => match parse(alloc, &bytes) {
-            Ok(recording) => Ok(recording),
-            Err(fault) => Err(ReplayFault::Line(fault)),
-        },
+        Ok(_) => parse_bytes(alloc, bytes.as_slice()),
         Err(error) => Err(match error.kind() {
             io::ErrorKind::OutOfMemory => ReplayFault::Memory,
             _ => ReplayFault::Read,
         }),
+    }
+}
+
+/// Takes the bytes for a recording.
+pub fn parse_bytes(alloc: Global, bytes: &[u8]) -> Result<Recording, ReplayFault>
+    ensures recording { IfOk result (IsParsed bytes.now) }
+    ensures fault { IfErr result (λ e. (f : LineFault) × (e ≡ replay_fault.Line f)
+        × IsFaultOf bytes.now f) }
+{
+    match parse(alloc, bytes) {
+        Ok(recording) => Ok(recording),
+        Err(fault) => Err(ReplayFault::Line(fault)),
     }
 }
