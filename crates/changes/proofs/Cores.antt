@@ -1,16 +1,14 @@
 -- What holds of each core's lists of due summaries: no area is there twice, and each list is in order.
 --   sound_lists, distinct_lists: of a core
---   give_line: the changes that are told of a line lead on from what was told before
+--   give_taken: the changes that are told of a line lead on from what was told before
 --   current_line: and table and due summaries follow the line
-use Rattle.std.proofs.Common.{◌≡◌, ◌≢◌, ◌<◌, ◌∙◌, ℕ, zero, suc, List, [], ◌∷◌, ◌++◌, length, map, take, None, refl, sym, ap, subst, inl, inr, arith}
+use Rattle.std.proofs.Common.{◌≡◌, ◌∙◌, ℕ, suc, Bool, true, false, List, [], ◌∷◌, ◌++◌, length, map, take, refl, sym, ap, subst, inl, inr, arith}
 use Rattle.std.specs.Prelude.{Result, Ok, Err}
 use Rattle.std.specs.List.{Contains}
 use Rattle.ospf_types.specs.Inputs.{Inputs, Area}
-use Rattle.ospf_types.specs.RangeChanges.{without_ranges}
 use Rattle.ospf_types.specs.declared.config.AreaConfig.{AreaConfig}
 use Rattle.ospf_types.proofs.Elements.{no_element, first_or_later, mapped_from}
 use Rattle.ospf_types.proofs.RangeChanges.{areas_kept, ids_kept}
-use Rattle.event_state.specs.BaseFaults.{base_fault_of}
 use Rattle.event_state.specs.declared.base.Base.{Base}
 use Rattle.event_state.specs.declared.event.Event.{Event}
 use Rattle.event_state.specs.declared.limits.Limits.{Limits}
@@ -20,7 +18,7 @@ use Rattle.event_state.specs.Steps.{run_of}
 use Rattle.event_state.proofs.Configs.{sound_apart}
 use Rattle.event_state.proofs.Faultless.{faultless}
 use Rattle.event_state.proofs.KeptConfigs.{kept_since}
-use Rattle.event_core.specs.Cores.{CoreValue, Applies, IsCore, IsCurrent, IsTaken, Stands, built_state, state_of}
+use Rattle.event_core.specs.Cores.{CoreValue, Applies, IsCore, IsCurrent, Stands, built_state, state_of}
 use Rattle.event_core.specs.Right.{AreDue, AreListsDue}
 use Rattle.event_core.specs.declared.reply.Reply.{Reply}
 use Rattle.event_core.specs.declared.reply.Status.{Status}
@@ -28,11 +26,11 @@ use Rattle.event_core.specs.declared.reply.Status.TheVariants.{Current, Behind}
 use Rattle.recording.specs.declared.line.Line.{Line}
 use Rattle.recording.specs.declared.line.Line.TheVariants as line
 use Rattle.replay.specs.Runs.{RollsBy}
-use Rattle.changes.specs.Lines.{Change}
-use Rattle.changes.specs.Changes.{AreDifferences, Give}
-use Rattle.changes.specs.Runs.{IsToldOf, TellsLine}
+use Rattle.changes.specs.Lines.{AtFault, Change, Found, Refused}
+use Rattle.changes.specs.Changes.{Give}
+use Rattle.changes.specs.Runs.{Fails, IsFoundIn, IsToldOf, MayRoll, Says, Taken, TellsLine, TellsTaken, answered, told_of_roll}
 use Rattle.changes.proofs.DueChanges.{AreDistinct, AreSound, IsSound, Lists, ids_of}
-use Rattle.changes.proofs.Giving.{give_more, give_still}
+use Rattle.changes.proofs.Giving.{give_answered, give_more, give_still, give_unchanged}
 
 -- ---- what is due in the areas
 
@@ -90,15 +88,18 @@ taken_right : (old new : CoreValue) (status : Status) → Stands old status new 
 taken_right old new Current stands current = stands.2
 taken_right old new Behind stands current = let less = stands.3 in absurd (omega (arith, current, less))
 
-event_gives : (before told : List Change) (old new : CoreValue) (e : Event) (answer : Result Reply Refusal) → IsCore old → Give before old → Applies old e answer new → IsToldOf old answer new told → Give (before ++ told) new
-event_gives before told old new e (Ok reply) core given taken (current, differs) =
+event_gives : (answers : Bool) (before told : List Change) (old new : CoreValue) (e : Event) (answer : Result Reply Refusal) → IsCore old → Give before old → Applies old e answer new → IsToldOf answers old answer new told → Give (before ++ told) new
+event_gives answers before told old new e (Ok reply) core given taken (current, differs) =
     let due : AreDue (state_of new) new.summaries = taken_right old new reply.state taken.stands current in
     let s : State = state_of new in
     let ids : ids_of new.summaries ≡ ids_of old.summaries =
     due_ids new.base new.limits new.journal new.summaries due ∙ ap (λ (b : Base). config_ids b.config.areas) taken.base ∙ sym (core_ids old core) in
     give_more before told old new given differs ids (distinct_lists old core) (lists_sound (inputs_of s) (inputs_of s).areas new.summaries due)
-event_gives before told old new e (Err refusal) core given refused none =
-    give_still before told new (subst (Give before) (sym refused.unchanged) given) none
+event_gives answers before told old new e (Err refusal) core given refused is =
+    told_gives before told (answered answers (Refused refusal)) new is (give_answered answers before (Refused refusal) new (subst (Give before) (sym refused.unchanged) given) (λ items. refl) (λ id m. refl))
+  where
+    told_gives : (before told said : List Change) (c : CoreValue) → told ≡ said → Give (before ++ said) c → Give (before ++ told) c
+    told_gives before told said c is given = subst (λ (changes : List Change). Give (before ++ changes) c) (sym is) given
 
 roll_gives : (before : List Change) (old new : CoreValue) (answer : Result ℕ Refusal) → Give before old → RollsBy old answer new → Give before new
 roll_gives before old new (Ok serial) given (current, rolled, is) = record {
@@ -107,20 +108,48 @@ roll_gives before old new (Ok serial) given (current, rolled, is) = record {
 }
 roll_gives before old new (Err refusal) given (refused, same) = subst (Give before) (sym same) given
 
-pub give_line : (before told : List Change) (old new : CoreValue) (l : Line) → IsCore old → Give before old → TellsLine old l new told → Give (before ++ told) new
-give_line before told old new (line.Event e) core given (answer, applies, is) = event_gives before told old new e answer core given applies is
-give_line before told old new (line.Lookup address) core given (none, same) = give_still before told new (subst (Give before) (sym same) given) none
-give_line before told old new line.Roll core given (none, (answer, rolls)) = give_still before told new (roll_gives before old new answer given rolls) none
+found_gives : (answers : Bool) (before told : List Change) (c : CoreValue) (address : ℕ) → Give before c → IsFoundIn answers c address told → Give (before ++ told) c
+found_gives true before told c address given (found, is, same) =
+    subst (λ (changes : List Change). Give (before ++ changes) c) (sym same) (give_unchanged before (Found address c.table.serial found) c given (λ items. refl) (λ id m. refl))
+found_gives false before told c address given none = give_still before told c given none
 
-event_current : (told : List Change) (old new : CoreValue) (e : Event) (answer : Result Reply Refusal) → IsCurrent old → Applies old e answer new → IsToldOf old answer new told → IsCurrent new
-event_current told old new e (Ok reply) current taken (now, differs) = now
-event_current told old new e (Err refusal) current refused none = subst IsCurrent (sym refused.unchanged) current
+rolled_gives : (answers : Bool) (before told : List Change) (c : CoreValue) (answer : Result ℕ Refusal) → Give before c → told ≡ told_of_roll answers answer → Give (before ++ told) c
+rolled_gives answers before told c (Ok serial) given none = give_still before told c given none
+rolled_gives answers before told c (Err refusal) given is =
+    subst (λ (changes : List Change). Give (before ++ changes) c) (sym is) (give_answered answers before (Refused refusal) c given (λ items. refl) (λ id m. refl))
+
+give_line : (answers : Bool) (before told : List Change) (old new : CoreValue) (l : Line) → IsCore old → Give before old → TellsLine answers old l new told → Give (before ++ told) new
+give_line answers before told old new (line.Event e) core given (answer, applies, is) = event_gives answers before told old new e answer core given applies is
+give_line answers before told old new (line.Lookup address) core given (found, same) =
+    subst (λ (c : CoreValue). Give (before ++ told) c) (sym same) (found_gives answers before told old address given found)
+give_line answers before told old new line.Roll core given (answer, rolls, is) = rolled_gives answers before told new answer (roll_gives before old new answer given rolls) is
+
+may_give : (before : List Change) (old new : CoreValue) → Give before old → MayRoll old new → Give before new
+may_give before old new given (inl same) = subst (Give before) (sym same) given
+may_give before old new given (inr (answer, rolls)) = roll_gives before old new answer given rolls
+
+pub give_taken : (answers : Bool) (before told : List Change) (old new : CoreValue) (t : Taken) → Give before old → TellsTaken answers old t new told → Give (before ++ told) new
+give_taken answers before told old new (Says l) given (ready, core, may, tells) = give_line answers before told ready new l core (may_give before old ready given may) tells
+give_taken answers before told old new (Fails f) given (is, same) =
+    subst (λ (changes : List Change). Give (before ++ changes) new) (sym is) (give_unchanged before (AtFault f) new (subst (Give before) (sym same) given) (λ items. refl) (λ id m. refl))
+
+event_current : (answers : Bool) (told : List Change) (old new : CoreValue) (e : Event) (answer : Result Reply Refusal) → IsCurrent old → Applies old e answer new → IsToldOf answers old answer new told → IsCurrent new
+event_current answers told old new e (Ok reply) current taken (now, differs) = now
+event_current answers told old new e (Err refusal) current refused none = subst IsCurrent (sym refused.unchanged) current
 
 roll_current : (old new : CoreValue) (answer : Result ℕ Refusal) → IsCurrent old → RollsBy old answer new → IsCurrent new
 roll_current old new (Ok serial) current (was, rolled, is) = rolled.built ∙ sym (ap length rolled.journal)
 roll_current old new (Err refusal) current (refused, same) = subst IsCurrent (sym same) current
 
-pub current_line : (told : List Change) (old new : CoreValue) (l : Line) → IsCurrent old → TellsLine old l new told → IsCurrent new
-current_line told old new (line.Event e) current (answer, applies, is) = event_current told old new e answer current applies is
-current_line told old new (line.Lookup address) current (none, same) = subst IsCurrent (sym same) current
-current_line told old new line.Roll current (none, (answer, rolls)) = roll_current old new answer current rolls
+pub current_line : (answers : Bool) (told : List Change) (old new : CoreValue) (l : Line) → IsCurrent old → TellsLine answers old l new told → IsCurrent new
+current_line answers told old new (line.Event e) current (answer, applies, is) = event_current answers told old new e answer current applies is
+current_line answers told old new (line.Lookup address) current (found, same) = subst IsCurrent (sym same) current
+current_line answers told old new line.Roll current (answer, rolls, is) = roll_current old new answer current rolls
+
+pub may_current : (old new : CoreValue) → IsCurrent old → MayRoll old new → IsCurrent new
+may_current old new current (inl same) = subst IsCurrent (sym same) current
+may_current old new current (inr (answer, rolls)) = roll_current old new answer current rolls
+
+pub current_taken : (answers : Bool) (told : List Change) (old new : CoreValue) (t : Taken) → IsCurrent old → TellsTaken answers old t new told → IsCurrent new
+current_taken answers told old new (Says l) current (ready, core, may, tells) = current_line answers told ready new l (may_current old ready current may) tells
+current_taken answers told old new (Fails f) current (is, same) = subst IsCurrent (sym same) current

@@ -1,26 +1,23 @@
 -- The changes give table and due summaries: those of a core from nothing on, and behind them those of the next one.
 --   give_all: what a core begins with
 --   give_more: what differs, behind what was told before
-use Rattle.std.proofs.Common.{◌≡◌, ℕ, Bool, true, false, List, [], ◌∷◌, ◌++◌, map, Option, Some, None, refl, sym, ap, subst, ◌∙◌, inl, inr}
-use Rattle.std.specs.Prelude.{◌↔◌, is_some, codes}
-use Rattle.std.specs.FinMap.{get, empty, entries, find, get-empty, get-entries, contains_key, contains_key-keys}
+use Rattle.std.proofs.Common.{◌≡◌, ℕ, Bool, true, false, List, [], ◌∷◌, ◌++◌, map, Option, Some, None, refl, sym, ap, subst, ◌∙◌}
+use Rattle.std.specs.FinMap.{get, empty, entries, get-empty}
 use Rattle.std.specs.List.{Contains, flat_map}
 use Rattle.std.specs.List.Sorted.{IsStrictlySortedBy}
 use Rattle.std.specs.Map.{keys_of}
-use Rattle.std.proofs.lemmas.Map.Views.{tells_apart, Contains-from_any}
 use Rattle.ospf_types.specs.declared.key.Dest.{Dest}
 use Rattle.ospf_types.specs.declared.prefix.Prefix.{Prefix}
-use Rattle.ospf_types.specs.Network.{network_cmp}
 use Rattle.ospf_types.specs.Keys.{dest_cmp}
 use Rattle.ospf_types.proofs.Elements.{no_element, first_element, later_element, mapped_element, mapped_from}
-use Rattle.ospf_types.proofs.Orders.{network_total, network_exact, dest_total}
 use Rattle.route_table.specs.declared.table.Item.{Item}
 use Rattle.summary_lists.specs.declared.due.DueSummary.{DueSummary}
-use Rattle.summary_lists.specs.Lists.{AreInOrder, AreChangesBetween, IsMetricIn, Metrics, due_for}
+use Rattle.summary_lists.specs.Lists.{AreChangesBetween, IsMetricIn, Metrics, due_for}
 use Rattle.changes.specs.Lines.{Change}
+use Rattle.changes.specs.Runs.{answered}
 use Rattle.event_core.specs.Cores.{CoreValue}
 use Rattle.event_core.specs.DueSummaries.{AreDueChanges}
-use Rattle.changes.specs.Changes.{AreDifferences, AreMetricsOf, DueMetrics, Give, Items, all_of, area_changes, area_due, due_change, item_set, items_from, metrics_from, network_change, summary_due}
+use Rattle.changes.specs.Changes.{AreDifferences, AreMetricsOf, DueMetrics, Give, Items, all_of, area_changes, area_due, due_change, item_set, items_after, items_from, metrics_after, metrics_from, network_change, summary_due}
 use Rattle.changes.proofs.DueChanges.{AreDistinct, AreSound, IsSound, Lists, due_follow, ids_of, metric_in, metrics_both, networks_leave}
 use Rattle.changes.proofs.ItemChanges.{items_all, items_both, items_follow}
 
@@ -51,6 +48,19 @@ give_still before told c given none = subst (λ (changes : List Change). Give ch
     append_none : (xs : List Change) → xs ++ [] ≡ xs
     append_none [] = refl
     append_none (x ∷ xs) = ap (λ l. x ∷ l) (append_none xs)
+
+-- one more was told, by which nothing changed
+pub give_unchanged : (before : List Change) (change : Change) (c : CoreValue) → Give before c → ((items : Items) → items_after items change ≡ items) → ((id : ℕ) (m : DueMetrics) → metrics_after id m change ≡ m) → Give (before ++ change ∷ []) c
+give_unchanged before change c given items metrics = record {
+  items = items_both empty before (change ∷ []) ∙ items (items_from empty before) ∙ given.items;
+  due = λ e has. subst (AreMetricsOf e.1) (sym (metrics_both e.0 empty before (change ∷ []) ∙ metrics e.0 (metrics_from e.0 empty before))) (given.due e has);
+}
+
+-- it was told, or not
+pub give_answered : (answers : Bool) (before : List Change) (change : Change) (c : CoreValue) → Give before c → ((items : Items) → items_after items change ≡ items) → ((id : ℕ) (m : DueMetrics) → metrics_after id m change ≡ m)
+    → Give (before ++ answered answers change) c
+give_answered true before change c given items metrics = give_unchanged before change c given items metrics
+give_answered false before change c given items metrics = give_still before [] c given refl
 
 -- ---- what a core begins with
 

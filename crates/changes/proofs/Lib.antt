@@ -7,3 +7,7 @@ pub mod Texts
 pub mod Shown
 pub mod RunSteps
 pub mod Ends
+pub mod Comes
+pub mod FollowSteps
+pub mod Reached
+pub mod OpeningSteps

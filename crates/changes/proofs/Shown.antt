@@ -1,10 +1,11 @@
--- Two lists of changes, printed one behind the other.
-use Rattle.std.proofs.Common.{◌≡◌, ◌∙◌, ◌++◌, ℕ, List, Option, ap, subst, sym}
+-- Two lists of changes, printed one behind the other; and one line, put on the page and written.
+use Rattle.std.proofs.Common.{◌≡◌, ◌∙◌, ◌++◌, ℕ, List, [], Option, ap, append-nil, subst, sym}
 use Rattle.ospf_types.specs.declared.prefix.Prefix.{Prefix}
 use Rattle.replay.specs.Pages.{Adds, AddsPart}
 use Rattle.replay.specs.Stops.{AreWhole}
 use Rattle.replay.specs.declared.page.Stop.{Stop}
-use Rattle.replay.proofs.Paging.{adds_more, page_whole, part_longer, part_more}
+use Rattle.replay.specs.declared.page.Stop.TheVariants as stop
+use Rattle.replay.proofs.Paging.{adds_more, adds_moved, adds_none, adds_put, page_whole, part_longer, part_more, part_now}
 use Rattle.changes.specs.Lines.{Change, lines_of}
 use Rattle.changes.proofs.Texts.{lines_both}
 
@@ -24,3 +25,22 @@ module _ (number : ℕ) (only : Option Prefix) (xs ys all : List Change) (is : a
   second_cut why a b c x y whole p part =
       subst (λ l. AddsPart why a c (x ++ l)) (sym both)
       (part_more why a b c x y (lines_of number only xs) (lines_of number only ys) whole p (part (page_whole a b x y (lines_of number only xs) p whole)))
+
+-- ---- one line
+
+module _ (page line : List ℕ) where
+  pub line_shown : (a b : Option (List ℕ)) (put moved : List ℕ) → AreWhole line → put ≡ page ++ line → Adds a b put moved [] → Adds a b page moved (line ++ [])
+  line_shown a b put moved whole is spilled =
+      subst (Adds a b page moved) (sym (append-nil line)) (adds_moved a a b page put moved line (adds_put a a page page [] put line (adds_none a page) is whole) spilled)
+
+  -- memory ran out before it stood on the page
+  pub line_missing : (a : Option (List ℕ)) → AreWhole page → AddsPart stop.Memory a a (page ++ (line ++ []))
+  line_missing a whole = part_longer stop.Memory a a page [] (line ++ []) (part_now a a page page [] whole (adds_none a page))
+
+  -- the page with it was not written whole
+  pub line_cut : (why : Stop) (a b : Option (List ℕ)) (put : List ℕ) → put ≡ page ++ line → AddsPart why a b put → AddsPart why a b (page ++ (line ++ []))
+  line_cut why a b put is part = subst (AddsPart why a b) (is ∙ ap (λ l. page ++ l) (sym (append-nil line))) part
+
+-- nothing was to be told
+pub none_cut : (why : Stop) (a b : Option (List ℕ)) (page : List ℕ) → AddsPart why a b page → AddsPart why a b (page ++ [])
+none_cut why a b page part = subst (AddsPart why a b) (sym (append-nil page)) part

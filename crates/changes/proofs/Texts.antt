@@ -1,5 +1,5 @@
 -- The lines that tell changes: each is whole, and those of a list stand one behind the other.
-use Rattle.std.proofs.Common.{◌≡◌, ◌++◌, ◌+◌, ◌<◌, ℕ, Bool, true, false, cond, List, [], ◌∷◌, Option, codes, drop, get_or, length, map, Some, refl, sym, ap, ◌∙◌, append_assoc, append-nil, inr}
+use Rattle.std.proofs.Common.{◌≡◌, ◌++◌, ◌+◌, ℕ, true, false, cond, List, [], ◌∷◌, Option, codes, drop, map, Some, refl, sym, ap, ◌∙◌, append_assoc, inr}
 use Rattle.std.specs.Prelude.{decimal, slice_get}
 use Rattle.std.proofs.lemmas.List.{drop_more}
 use Rattle.std.proofs.lemmas.Option.{get_or_from_slice_get, slice_get_within}
@@ -10,20 +10,25 @@ use Rattle.ospf_types.specs.Text.{address_text, prefix_text}
 use Rattle.event_core.specs.DueSummaries.{listed}
 use Rattle.event_core.specs.Lists.{AreaSummariesValue}
 use Rattle.replay.specs.Stops.{AreWhole}
-use Rattle.replay.proofs.Wholes.{none_whole}
+use Rattle.event_state.specs.Texts.{refusal_text}
+use Rattle.recording.specs.Texts.{fault_text}
+use Rattle.replay.proofs.Wholes.{lookup_whole, none_whole}
 use Rattle.summary_lists.specs.Lists.{Metrics, kind_of}
 use Rattle.replay.specs.Lines.{dest_text}
 use Rattle.changes.specs.Changes.{area_changes, area_due}
-use Rattle.changes.specs.Lines.{Change, Set, Drop, Due, Undue, change_line, is_told, item_text, line_of, lines_of, place_text}
+use Rattle.changes.specs.Lines.{Change, Set, Drop, Due, Undue, Found, Refused, AtFault, change_line, is_told, item_text, line_of, lines_of, place_text}
 
 ended : (front : List ℕ) → AreWhole (front ++ codes "\n")
 ended front = inr (record { front = front; ends = refl })
 
-change_whole : (number : ℕ) (change : Change) → AreWhole (change_line number change)
+pub change_whole : (number : ℕ) (change : Change) → AreWhole (change_line number change)
 change_whole number (Set p now) = ended (decimal number ++ codes " set " ++ prefix_text p ++ codes " " ++ item_text now)
 change_whole number (Drop p) = ended (decimal number ++ codes " drop " ++ prefix_text p)
 change_whole number (Due area dest metric) = ended (decimal number ++ codes " due " ++ place_text area dest ++ codes " " ++ decimal metric)
 change_whole number (Undue area dest) = ended (decimal number ++ codes " undue " ++ place_text area dest)
+change_whole number (Found address serial found) = lookup_whole number address serial found
+change_whole number (Refused refusal) = ended (decimal number ++ codes " refused " ++ refusal_text refusal)
+change_whole number (AtFault fault) = ended (decimal number ++ codes " fault " ++ fault_text fault)
 
 pub line_whole : (number : ℕ) (only : Option Prefix) (change : Change) → AreWhole (line_of number only change)
 line_whole number only change = elim (is_told only change) as (λ b. AreWhole (cond b (change_line number change) (codes ""))) [ true ↦ change_whole number change | false ↦ none_whole ]

@@ -70,8 +70,7 @@ all_of c = map item_set (fin.entries c.table.items) ++ flat_map area_due c.summa
 abbrev pub items_after : Items → Change → Items
 items_after items (Set p now) = fin.insert items p now
 items_after items (Drop p) = fin.remove items p
-items_after items (Due area dest metric) = items
-items_after items (Undue area dest) = items
+items_after items _ = items
 
 abbrev pub items_from : Items → List Change → Items
 items_from items [] = items
@@ -79,10 +78,9 @@ items_from items (change ∷ changes) = items_from (items_after items change) ch
 
 -- of an area
 abbrev pub metrics_after : ℕ → DueMetrics → Change → DueMetrics
-metrics_after id metrics (Set p now) = metrics
-metrics_after id metrics (Drop p) = metrics
 metrics_after id metrics (Due area dest metric) = if area == id then fin.insert metrics dest metric else metrics
 metrics_after id metrics (Undue area dest) = if area == id then fin.remove metrics dest else metrics
+metrics_after id metrics _ = metrics
 
 abbrev pub metrics_from : ℕ → DueMetrics → List Change → DueMetrics
 metrics_from id metrics [] = metrics

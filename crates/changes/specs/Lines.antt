@@ -1,4 +1,4 @@
--- The lines that tell what an event changed.
+-- The lines that tell what an event changed, and what came of a line that changed nothing.
 use Rattle.std.specs.Prelude.{ℕ, ◌++◌, Bool, true, false, List, Option, Some, None, codes, decimal, if◌then◌else◌}
 use Rattle.std.specs.List.{flat_map}
 use Rattle.ospf_types.specs.declared.key.Dest.{Dest}
@@ -9,13 +9,20 @@ use Rattle.ospf_types.specs.Text.{address_text, prefix_text, entry_text}
 use Rattle.route_table.specs.declared.table.Item.{Item}
 use Rattle.route_table.specs.declared.table.Item.TheVariants as item
 use Rattle.event_core.specs.Lists.{kind_of}
-use Rattle.replay.specs.Lines.{dest_text}
+use Rattle.event_state.specs.declared.refusal.Refusal.{Refusal}
+use Rattle.route_table.specs.declared.table.Match.{Match}
+use Rattle.recording.specs.declared.fault.Fault.{Fault}
+use Rattle.recording.specs.Texts.{fault_text}
+use Rattle.replay.specs.Lines.{dest_text, lookup_line, refused_line}
 
 pub data Change : Type 0 where
   Set : (network : Prefix) → (now : Item) → Change  -- the network has this item now
   Drop : (network : Prefix) → Change  -- the table has nothing for the network any more
   Due : (area : ℕ) → (dest : Dest) → (metric : ℕ) → Change  -- the summary is due in the area at this metric now
   Undue : (area : ℕ) → (dest : Dest) → Change  -- it is due there no longer
+  Found : (address serial : ℕ) → (found : Match) → Change  -- nothing changed: what the table has for an address that was looked up
+  Refused : (refusal : Refusal) → Change  -- nothing changed: the event, or the roll, was refused
+  AtFault : (fault : Fault) → Change  -- nothing changed: the line is at fault
 
 -- the route, or `discard`
 abbrev pub item_text : Item → List ℕ
@@ -32,6 +39,9 @@ change_line number (Set p now) = decimal number ++ codes " set " ++ prefix_text 
 change_line number (Drop p) = decimal number ++ codes " drop " ++ prefix_text p ++ codes "\n"
 change_line number (Due area dest metric) = decimal number ++ codes " due " ++ place_text area dest ++ codes " " ++ decimal metric ++ codes "\n"
 change_line number (Undue area dest) = decimal number ++ codes " undue " ++ place_text area dest ++ codes "\n"
+change_line number (Found address serial found) = lookup_line number address serial found
+change_line number (Refused refusal) = refused_line number refusal
+change_line number (AtFault fault) = decimal number ++ codes " fault " ++ fault_text fault ++ codes "\n"
 
 -- ---- the changes of one network
 
@@ -51,6 +61,7 @@ is_told only (Set p now) = is_asked only p
 is_told only (Drop p) = is_asked only p
 is_told only (Due area dest metric) = is_dest_asked only dest
 is_told only (Undue area dest) = is_dest_asked only dest
+is_told only _ = true
 
 -- the line of a change that is asked for
 abbrev pub line_of : ℕ → Option Prefix → Change → List ℕ

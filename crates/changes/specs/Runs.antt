@@ -1,79 +1,113 @@
 -- A run of a recording's lines, and what is told of it.
-use Rattle.std.specs.Prelude.{ℕ, ◌≡◌, ◌+◌, ◌⊎◌, ◌++◌, List, [], ◌∷◌, Option, Result, Ok, Err, take}
+use Rattle.std.specs.Prelude.{ℕ, ◌≡◌, ◌+◌, ◌⊎◌, ◌++◌, Bool, true, false, List, [], ◌∷◌, Option, Result, Ok, Err}
 use Rattle.ospf_types.specs.declared.prefix.Prefix.{Prefix}
-use Rattle.event_state.specs.declared.event.Event.{Event}
 use Rattle.event_state.specs.declared.refusal.Refusal.{Refusal}
 use Rattle.event_core.specs.declared.reply.Reply.{Reply}
-use Rattle.event_core.specs.Cores.{CoreValue, Applies, IsCurrent}
+use Rattle.event_core.specs.Cores.{CoreValue, Applies, IsCore, IsCurrent}
+use Rattle.recording.specs.declared.fault.Fault.{Fault}
 use Rattle.recording.specs.declared.line.Line.{Line}
 use Rattle.recording.specs.declared.line.Line.TheVariants as line
+use Rattle.route_table.specs.declared.table.Match.{Match}
+use Rattle.route_table.specs.Tables.{IsMatch}
 use Rattle.replay.specs.Pages.{Adds, AddsPart}
 use Rattle.replay.specs.Runs.{RollsBy}
 use Rattle.replay.specs.declared.page.Stop.{Stop}
 use Rattle.replay.specs.declared.page.Stop.TheVariants as stop
-use Rattle.changes.specs.Lines.{Change, lines_of}
+use Rattle.changes.specs.Lines.{AtFault, Change, Found, Refused, lines_of}
 use Rattle.changes.specs.Changes.{AreDifferences, Give}
 
--- Of an event that was taken, what it changed is told, and table and due summaries follow it. Of a refused one nothing is.
-abbrev pub IsToldOf : CoreValue → Result Reply Refusal → CoreValue → List Change → Type 0
-IsToldOf old (Ok reply) new told = IsCurrent new × AreDifferences old new told
-IsToldOf old (Err refusal) new told = told ≡ []
+-- ---- what is told of one line; what changed nothing is told where answers are asked for
+
+abbrev pub answered : Bool → Change → List Change
+answered true change = change ∷ []
+answered false change = []
+
+-- Of an event that was taken, what it changed is told, and table and due summaries follow it. Of a refused one, that it was.
+abbrev pub IsToldOf : Bool → CoreValue → Result Reply Refusal → CoreValue → List Change → Type 0
+IsToldOf answers old (Ok reply) new told = IsCurrent new × AreDifferences old new told
+IsToldOf answers old (Err refusal) new told = told ≡ answered answers (Refused refusal)
+
+-- what the table has for the address
+abbrev pub IsFoundIn : Bool → CoreValue → ℕ → List Change → Type 0
+IsFoundIn true c address told = (found : Match) × IsMatch c.table.items address found × (told ≡ Found address c.table.serial found ∷ [])
+IsFoundIn false c address told = told ≡ []
+
+-- a roll that was refused
+abbrev pub told_of_roll : Bool → Result ℕ Refusal → List Change
+told_of_roll answers (Ok serial) = []
+told_of_roll answers (Err refusal) = answered answers (Refused refusal)
 
 -- The line leads from one core to the other, and this is told of it. A look-up and a roll change nothing of what is told.
-abbrev pub TellsLine : CoreValue → Line → CoreValue → List Change → Type 0
-TellsLine old (line.Event e) new told = (answer : Result Reply Refusal) × Applies old e answer new × IsToldOf old answer new told
-TellsLine old (line.Lookup address) new told = (told ≡ []) × (new ≡ old)
-TellsLine old line.Roll new told = (told ≡ []) × ((answer : Result ℕ Refusal) × RollsBy old answer new)
+abbrev pub TellsLine : Bool → CoreValue → Line → CoreValue → List Change → Type 0
+TellsLine answers old (line.Event e) new told = (answer : Result Reply Refusal) × Applies old e answer new × IsToldOf answers old answer new told
+TellsLine answers old (line.Lookup address) new told = IsFoundIn answers old address told × (new ≡ old)
+TellsLine answers old line.Roll new told = (answer : Result ℕ Refusal) × RollsBy old answer new × (told ≡ told_of_roll answers answer)
 
--- From one core to the other, over lines that are numbered from here on: what each of them changed is printed. Behind each, all the changes that were told
+-- ---- lines, one after the other
+
+-- a line as it was taken: what it says, or why it is at fault
+pub data Taken : Type 0 where
+  Says : (line : Line) → Taken
+  Fails : (fault : Fault) → Taken
+
+-- a roll where the journal has become long; nothing that is told changes
+abbrev pub MayRoll : CoreValue → CoreValue → Type 0
+MayRoll old new = (new ≡ old) ⊎ ((answer : Result ℕ Refusal) × RollsBy old answer new)
+
+-- A line at fault is told of, and changes nothing.
+abbrev pub TellsTaken : Bool → CoreValue → Taken → CoreValue → List Change → Type 0
+TellsTaken answers old (Says l) new told = (ready : CoreValue) × IsCore ready × MayRoll old ready × TellsLine answers ready l new told
+TellsTaken answers old (Fails f) new told = (told ≡ AtFault f ∷ []) × (new ≡ old)
+
+-- From one core to the other, over lines that are numbered from here on: what came of each of them is printed. Behind each, all the changes that were told
 -- give table and due summaries; those of before, and those that were told then.
-abbrev pub TellsLines : Option Prefix → CoreValue → ℕ → List Line → (before : List Change) → (text : List ℕ) → (after : List Change) → CoreValue → Type 0
-TellsLines only old number [] before text after new = (text ≡ []) × (after ≡ before) × (new ≡ old)
-TellsLines only old number (l ∷ lines) before text after new =
-    (mid : CoreValue) × (told : List Change) × (rest : List ℕ) × TellsLine old l mid told × Give (before ++ told) mid × (text ≡ lines_of number only told ++ rest) × TellsLines only mid (number + 1) lines (before ++ told) rest after new
+abbrev pub TellsLines : Option Prefix → Bool → CoreValue → ℕ → List Taken → (before : List Change) → (text : List ℕ) → (after : List Change) → CoreValue → Type 0
+TellsLines only answers old number [] before text after new = (text ≡ []) × (after ≡ before) × (new ≡ old)
+TellsLines only answers old number (t ∷ taken) before text after new =
+    (mid : CoreValue) × (told : List Change) × (rest : List ℕ) × TellsTaken answers old t mid told × Give (before ++ told) mid × (text ≡ lines_of number only told ++ rest)
+    × TellsLines only answers mid (number + 1) taken (before ++ told) rest after new
 
--- ---- one event, and one line
+-- ---- one line, printed
 
--- the event was applied, and what it changed stands behind the page
-pub record ToldEvent (only : Option Prefix) (old : CoreValue) (number : ℕ) (e : Event) (new : CoreValue) (from to : Option (List ℕ)) (page put : List ℕ) : Type 0 where
-  pub answer : Result Reply Refusal
-  pub applies : Applies old e answer new
+-- the line led from one core to the other, and what is told of it stands behind the page
+pub record ToldLine (only : Option Prefix) (answers : Bool) (old : CoreValue) (number : ℕ) (l : Line) (new : CoreValue) (from to : Option (List ℕ)) (page put : List ℕ) : Type 0 where
   pub told : List Change
-  pub is : IsToldOf old answer new told
+  pub tells : TellsLine answers old l new told
   pub printed : Adds from to page put (lines_of number only told)
 
--- the line was run, and what it changed stands behind the page
-pub record ToldLine (only : Option Prefix) (old : CoreValue) (number : ℕ) (l : Line) (new : CoreValue) (from to : Option (List ℕ)) (page put : List ℕ) : Type 0 where
+-- the line was taken, likewise
+pub record ToldTaken (only : Option Prefix) (answers : Bool) (old : CoreValue) (number : ℕ) (t : Taken) (new : CoreValue) (from to : Option (List ℕ)) (page put : List ℕ) : Type 0 where
   pub told : List Change
-  pub tells : TellsLine old l new told
+  pub tells : TellsTaken answers old t new told
   pub printed : Adds from to page put (lines_of number only told)
 
 -- memory ran out, and nothing was written
 abbrev pub StopsBefore : Stop → (from to : Option (List ℕ)) → Type 0
 StopsBefore why from to = (why ≡ stop.Memory) × (to ≡ from)
 
--- the line was run, and a beginning of what it changed was written; or memory ran out over what follows from its event
-abbrev pub StopsAtLine : Stop → Option Prefix → CoreValue → ℕ → Line → CoreValue → (from to : Option (List ℕ)) → (page : List ℕ) → Type 0
-StopsAtLine why only old number l new from to page =
-    ((told : List Change) × TellsLine old l new told × AddsPart why from to (page ++ lines_of number only told)) ⊎ StopsBefore why from to
+-- the line was run, and a beginning of what is told of it was written; or memory ran out over what follows from its event
+abbrev pub StopsAtLine : Stop → Option Prefix → Bool → CoreValue → ℕ → Line → CoreValue → (from to : Option (List ℕ)) → (page : List ℕ) → Type 0
+StopsAtLine why only answers old number l new from to page =
+    ((told : List Change) × TellsLine answers old l new told × AddsPart why from to (page ++ lines_of number only told)) ⊎ StopsBefore why from to
 
-abbrev pub StopsAtEvent : Stop → Option Prefix → CoreValue → ℕ → Event → CoreValue → (from to : Option (List ℕ)) → (page : List ℕ) → Type 0
-StopsAtEvent why only old number e new from to page = StopsAtLine why only old number (line.Event e) new from to page
+-- the line was taken, likewise
+abbrev pub StopsAtTaken : Stop → Option Prefix → Bool → CoreValue → ℕ → Taken → CoreValue → (from to : Option (List ℕ)) → (page : List ℕ) → Type 0
+StopsAtTaken why only answers old number t new from to page =
+    ((told : List Change) × TellsTaken answers old t new told × AddsPart why from to (page ++ lines_of number only told)) ⊎ StopsBefore why from to
 
--- ---- all of them
+-- ---- all of them, printed
 
--- so many of the lines were run, and a beginning of what was told of them was written
-pub record ToldPart (why : Stop) (only : Option Prefix) (old : CoreValue) (number : ℕ) (lines : List Line) (before : List Change) (from to : Option (List ℕ)) (page : List ℕ) : Type 0 where
-  pub count : ℕ
+-- a beginning of what is told of the lines was written
+pub record ToldPart (why : Stop) (only : Option Prefix) (answers : Bool) (old : CoreValue) (number : ℕ) (taken : List Taken) (before : List Change) (from to : Option (List ℕ)) (page : List ℕ) : Type 0 where
   pub text : List ℕ
   pub after : List Change
   pub now : CoreValue
-  pub run : TellsLines only old number (take count lines) before text after now
+  pub run : TellsLines only answers old number taken before text after now
   pub part : AddsPart why from to (page ++ text)
 
--- the lines were run, and what was told of them stands behind the page
-pub record Told (only : Option Prefix) (old : CoreValue) (number : ℕ) (lines : List Line) (before : List Change) (new : CoreValue) (from to : Option (List ℕ)) (page put : List ℕ) : Type 0 where
+-- the lines were taken, and what is told of them stands behind the page
+pub record Told (only : Option Prefix) (answers : Bool) (old : CoreValue) (number : ℕ) (taken : List Taken) (before : List Change) (new : CoreValue) (from to : Option (List ℕ)) (page put : List ℕ) : Type 0 where
   pub text : List ℕ
   pub after : List Change
-  pub run : TellsLines only old number lines before text after new
+  pub run : TellsLines only answers old number taken before text after new
   pub printed : Adds from to page put text

@@ -1,9 +1,11 @@
 //! What each event of a recording changed in the routing table and in the summaries that are due, printed.
 #![tactic(auto)]
 
+mod following;
 mod lines;
+mod opening;
 mod running;
 mod showing;
 mod telling;
 
-pub use telling::tell_changes;
+pub use telling::{Telling, tell_changes};

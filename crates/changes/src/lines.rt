@@ -1,23 +1,28 @@
-//! The lines that tell what changed, each appended to a text. If memory runs out, the text may have a part of the line.
+//! The lines that tell what changed, and what came of a line that changed nothing, each appended to a text. If memory runs out,
+//! the text may have a part of the line.
 ghost use Rattle.std.specs.Prelude.{◌≡◌, ◌++◌, OnOk, option_map, string_bytes};
 ghost use Rattle.summary_lists.specs.Lists.{kind_of};
 ghost use Rattle.changes.specs.Lines as told;
 ghost use Rattle.changes.specs.Lines.{change_line, line_of};
 ghost use Rattle.changes.specs.Changes.{change_to, due_change};
 
-use event_core::DueSummary;
+use event_core::{DueSummary, Refusal};
 use ospf_types::address::Address;
 use ospf_types::key::Dest;
 use ospf_types::memory::Memory;
 use ospf_types::prefix::Prefix;
+use recording::Fault;
 use replay::put_dest;
 use route_table::Item;
 
-/// The number of the line in its recording, and the one network that is asked for, where not all are.
+/// The number of the line in its recording, and what is told of it.
 #[derive(Clone, Copy)]
 pub(crate) struct Place {
     pub(crate) number: usize,
+    /// The one network that is asked for, where not all are.
     pub(crate) only: Option<Prefix>,
+    /// Whether it is told what came of a line that changed nothing: a look-up, and what was refused.
+    pub(crate) answers: bool,
 }
 
 /// The item that the network has now, or that it has none; nothing where another network is asked for.
@@ -90,7 +95,7 @@ fn put_due(number: usize, area: u32, due: DueSummary, text: &mut String) -> Resu
     Ok(())
 }
 
-// The metric of what is due no longer does not count.
+// The metric is not printed.
 fn put_undue(number: usize, area: u32, due: DueSummary, text: &mut String) -> Result<(), Memory>
     requires { due.kind ≡ kind_of due.dest }
     ensures { OnOk result (string_bytes text.new ≡ string_bytes text.old
@@ -100,6 +105,24 @@ fn put_undue(number: usize, area: u32, due: DueSummary, text: &mut String) -> Re
     write!(text, "{number} undue {area} {kind} ")?;
     put_dest(due.dest, text)?;
     text.push_str("\n")?;
+    Ok(())
+}
+
+/// The event, or the roll, was refused.
+pub(crate) fn put_refused(number: usize, refusal: Refusal, text: &mut String) -> Result<(), Memory>
+    ensures { OnOk result (string_bytes text.new ≡ string_bytes text.old
+        ++ change_line number (told.Refused refusal)) }
+{
+    writeln!(text, "{number} refused {refusal}")?;
+    Ok(())
+}
+
+/// The line is at fault.
+pub(crate) fn put_fault(number: usize, fault: Fault, text: &mut String) -> Result<(), Memory>
+    ensures { OnOk result (string_bytes text.new ≡ string_bytes text.old
+        ++ change_line number (told.AtFault fault)) }
+{
+    writeln!(text, "{number} fault {fault}")?;
     Ok(())
 }
 

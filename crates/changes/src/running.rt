@@ -1,19 +1,23 @@
-//! The run of a recording's lines, of each of which is told what it changed.
-ghost use Rattle.std.specs.Prelude.{◌≡◌, ◌+◌, ◌^◌, ◌<◌, length, OnOk, IfErr, string_bytes};
+//! The run of lines, of each of which is told what it changed.
+ghost use Rattle.std.specs.Prelude.{◌+◌, ◌++◌, ◌^◌, ◌<◌, ℕ, length, map, take, OnOk, IfErr, string_bytes};
 ghost use Rattle.event_core.specs.Cores.{IsCore, IsCurrent};
+ghost use Rattle.recording.specs.declared.line.Line.TheVariants as line_is;
+ghost use Rattle.replay.specs.Pages.{Adds, AddsPart};
 ghost use Rattle.replay.specs.Stops.{AreWhole};
 ghost use Rattle.changes.specs.Changes.{all_of};
-ghost use Rattle.changes.specs.Runs.{StopsAtEvent, StopsAtLine, Told, ToldEvent, ToldLine, ToldPart};
+ghost use Rattle.changes.specs.Lines as told;
+ghost use Rattle.changes.specs.Lines.{lines_of};
+ghost use Rattle.changes.specs.Runs.{Says, StopsAtLine, Told, ToldLine, ToldPart, answered};
 
-use crate::lines::Place;
+use crate::lines::{Place, put_refused};
 use crate::showing::show_changes;
-use event_core::{Core, Event, Status};
+use event_core::{Core, Event, Refusal, Status};
 use recording::Line;
-use replay::Stop;
+use replay::{Stop, put_lookup, spill};
 use std::io;
 
-/// Runs the lines, the first of which has its number in `from`, and prints what each of them changed. Where an event is taken
-/// and memory runs out over what follows from it, it stops there.
+/// Runs the lines, the first of which has its number in `from`, and prints what is told of each of them. Where an event is
+/// taken and memory runs out over what follows from it, it stops there.
 pub(crate) fn tell_lines<W: io::Write>(
     core: &mut Core,
     from: Place,
@@ -24,12 +28,15 @@ pub(crate) fn tell_lines<W: io::Write>(
     requires kept { IsCore core.old }
     requires current { IsCurrent core.old }
     requires few { from.number + length lines.items < 2 ^ 64 }
-    ensures ok { OnOk result (Told from.only core.old from.number lines.items (all_of core.old)
-        core.new (W.contents out.old) (W.contents out.new) (string_bytes page.old)
-        (string_bytes page.new)) }
-    ensures err { AreWhole (string_bytes page.old) → IfErr result (λ why.
-        ToldPart why from.only core.old from.number lines.items (all_of core.old)
-        (W.contents out.old) (W.contents out.new) (string_bytes page.old)) }
+    ensures ok { OnOk result (Told from.only from.answers core.old from.number
+        (map Says lines.items) (all_of core.old) core.new (W.contents out.old) (W.contents out.new)
+        (string_bytes page.old) (string_bytes page.new)) }
+    ensures kept { OnOk result (IsCore core.new) }
+    ensures current { OnOk result (IsCurrent core.new) }
+    ensures err { AreWhole (string_bytes page.old) → IfErr result (λ why. (count : ℕ)
+        × ToldPart why from.only from.answers core.old from.number
+        (map Says (take count lines.items)) (all_of core.old) (W.contents out.old)
+        (W.contents out.new) (string_bytes page.old)) }
 {
     let mut at = from;
     for line in lines {
@@ -39,8 +46,8 @@ pub(crate) fn tell_lines<W: io::Write>(
     Ok(())
 }
 
-// Runs a line, and prints what it changed.
-fn tell_line<W: io::Write>(
+/// Runs a line, and prints what is told of it.
+pub(crate) fn tell_line<W: io::Write>(
     core: &mut Core,
     at: &Place,
     line: Line,
@@ -48,26 +55,25 @@ fn tell_line<W: io::Write>(
     page: &mut String,
 ) -> Result<(), Stop>
     requires current { IsCurrent core.old }
-    ensures ok { OnOk result (ToldLine at.now.only core.old at.now.number line core.new
-        (W.contents out.old) (W.contents out.new) (string_bytes page.old) (string_bytes page.new)) }
+    ensures ok { OnOk result (ToldLine at.now.only at.now.answers core.old at.now.number line
+        core.new (W.contents out.old) (W.contents out.new) (string_bytes page.old)
+        (string_bytes page.new)) }
     ensures kept { OnOk result (IsCore core.new) }
     ensures err { AreWhole (string_bytes page.old) → IfErr result (λ why.
-        StopsAtLine why at.now.only core.old at.now.number line core.new (W.contents out.old)
-        (W.contents out.new) (string_bytes page.old)) }
+        StopsAtLine why at.now.only at.now.answers core.old at.now.number line core.new
+        (W.contents out.old) (W.contents out.new) (string_bytes page.old)) }
 {
     match line {
         Line::Event(event) => tell_event(core, at, event, out, page)?,
-        Line::Lookup(_) => {}
-        Line::Roll => {
-            let _ = core.roll();
-        }
+        Line::Lookup(address) => tell_lookup(core, at, address, out, page)?,
+        Line::Roll => tell_roll(core, at, out, page)?,
     }
     // proof: what holds of every core.
     let _ = core.table();
     Ok(())
 }
 
-// Applies the event, and prints what it changed; nothing where it is refused.
+// Applies the event, and prints what it changed, or that it was refused.
 fn tell_event<W: io::Write>(
     core: &mut Core,
     at: &Place,
@@ -76,20 +82,86 @@ fn tell_event<W: io::Write>(
     page: &mut String,
 ) -> Result<(), Stop>
     requires current { IsCurrent core.old }
-    ensures ok { OnOk result (ToldEvent at.now.only core.old at.now.number event core.new
-        (W.contents out.old) (W.contents out.new) (string_bytes page.old) (string_bytes page.new)) }
+    ensures ok { OnOk result (ToldLine at.now.only at.now.answers core.old at.now.number
+        (line_is.Event event) core.new (W.contents out.old) (W.contents out.new)
+        (string_bytes page.old) (string_bytes page.new)) }
     ensures err { AreWhole (string_bytes page.old) → IfErr result (λ why.
-        StopsAtEvent why at.now.only core.old at.now.number event core.new (W.contents out.old)
-        (W.contents out.new) (string_bytes page.old)) }
+        StopsAtLine why at.now.only at.now.answers core.old at.now.number (line_is.Event event)
+        core.new (W.contents out.old) (W.contents out.new) (string_bytes page.old)) }
 {
     let reply = match core.apply(event) {
         Ok(reply) => reply,
-        Err(_) => return Ok(()),
+        Err(refusal) => return tell_refused(at, refusal, out, page),
     };
     match reply.state {
         Status::Current => {}
         Status::Behind => return Err(Stop::Memory),
     }
     show_changes(core, at, out, page)?;
+    Ok(())
+}
+
+// Prints what the table has for the address, where answers are asked for.
+fn tell_lookup<W: io::Write>(
+    core: &Core,
+    at: &Place,
+    address: u32,
+    out: &mut W,
+    page: &mut String,
+) -> Result<(), Stop>
+    ensures ok { OnOk result (ToldLine at.now.only at.now.answers core.now at.now.number
+        (line_is.Lookup address) core.now (W.contents out.old) (W.contents out.new)
+        (string_bytes page.old) (string_bytes page.new)) }
+    ensures err { AreWhole (string_bytes page.old) → IfErr result (λ why.
+        StopsAtLine why at.now.only at.now.answers core.now at.now.number (line_is.Lookup address)
+        core.now (W.contents out.old) (W.contents out.new) (string_bytes page.old)) }
+{
+    if !at.answers {
+        return Ok(());
+    }
+    put_lookup(at.number, address, core.table(), page)?;
+    spill(out, page)?;
+    Ok(())
+}
+
+// Rolls the core, and prints where that was refused.
+fn tell_roll<W: io::Write>(
+    core: &mut Core,
+    at: &Place,
+    out: &mut W,
+    page: &mut String,
+) -> Result<(), Stop>
+    ensures ok { OnOk result (ToldLine at.now.only at.now.answers core.old at.now.number
+        line_is.Roll core.new (W.contents out.old) (W.contents out.new) (string_bytes page.old)
+        (string_bytes page.new)) }
+    ensures err { AreWhole (string_bytes page.old) → IfErr result (λ why.
+        StopsAtLine why at.now.only at.now.answers core.old at.now.number line_is.Roll core.new
+        (W.contents out.old) (W.contents out.new) (string_bytes page.old)) }
+{
+    match core.roll() {
+        Ok(_) => Ok(()),
+        Err(refusal) => tell_refused(at, refusal, out, page),
+    }
+}
+
+// Prints that the event, or the roll, was refused, where answers are asked for.
+fn tell_refused<W: io::Write>(
+    at: &Place,
+    refusal: Refusal,
+    out: &mut W,
+    page: &mut String,
+) -> Result<(), Stop>
+    ensures ok { OnOk result (Adds (W.contents out.old) (W.contents out.new) (string_bytes page.old)
+        (string_bytes page.new)
+        (lines_of at.now.number at.now.only (answered at.now.answers (told.Refused refusal)))) }
+    ensures err { AreWhole (string_bytes page.old) → IfErr result (λ why.
+        AddsPart why (W.contents out.old) (W.contents out.new) (string_bytes page.old
+        ++ lines_of at.now.number at.now.only (answered at.now.answers (told.Refused refusal)))) }
+{
+    if !at.answers {
+        return Ok(());
+    }
+    put_refused(at.number, refusal, page)?;
+    spill(out, page)?;
     Ok(())
 }

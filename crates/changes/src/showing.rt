@@ -1,12 +1,12 @@
 //! What changed, printed.
-ghost use Rattle.std.specs.Prelude.{◌≡◌, ◌++◌, OnOk, IfErr, map, string_bytes};
+ghost use Rattle.std.specs.Prelude.{◌++◌, OnOk, IfErr, map, string_bytes};
 ghost use Rattle.std.specs.List.{flat_map};
 ghost use Rattle.std.specs.FinMap.{entries};
 ghost use Rattle.event_core.specs.DueSummaries.{lists_of};
 ghost use Rattle.replay.specs.Pages.{Adds, AddsPart};
 ghost use Rattle.replay.specs.Stops.{AreWhole};
 ghost use Rattle.changes.specs.Lines.{lines_of};
-ghost use Rattle.changes.specs.Changes.{all_of, area_changes, area_due, due_change, item_set, network_change, summary_due};
+ghost use Rattle.changes.specs.Changes.{all_of, area_changes, area_due, item_set, network_change};
 
 use crate::lines::{Place, put_network, put_summary};
 use event_core::{Core, DueChanges, DueSummaries, DueSummary};

@@ -4,7 +4,9 @@ use Rattle.changes.proofs.RunSteps.{Telling}
 use Rattle.changes.proofs.running.tell_lines.Given as goal
 
 abbrev pub invariant-loop-line : goal.invariant-loop-line
-invariant-loop-line g l =
-    (l.at.only ≡ l.fn.from.only)
-    × Telling l.fn.from.only l.initial.core l.fn.from.number l.fn.lines.items (into_iter_items l.line-iterator) l.at.number l.core (g.W.Write.contents l.initial.out) (g.W.Write.contents l.out)
-    (string_bytes l.initial.page) (string_bytes l.page)
+invariant-loop-line g l = record {
+  only : l.at.only ≡ l.fn.from.only;
+  answers : l.at.answers ≡ l.fn.from.answers;
+  told : Telling l.fn.from.only l.fn.from.answers l.initial.core l.fn.from.number l.fn.lines.items (into_iter_items l.line-iterator) l.at.number l.core (g.W.Write.contents l.initial.out) (g.W.Write.contents l.out)
+      (string_bytes l.initial.page) (string_bytes l.page);
+}

@@ -1,4 +1,4 @@
-use Rattle.std.proofs.Common.{◌≡◌, ◌++◌, List, ℕ, string_bytes, ap, ◌∙◌}
+use Rattle.std.proofs.Common.{◌++◌, string_bytes, ap, ◌∙◌}
 use Rattle.replay.specs.Stops.{stop_of}
 use Rattle.replay.specs.declared.page.Stop.TheVariants as stop
 use Rattle.replay.proofs.Written.{err_as}

@@ -1,0 +1,379 @@
+-- Lines that are taken as they come, and one more.
+use Rattle.std.proofs.Common.{◌≡◌, ◌+◌, ℕ, Bool, true, false, List, [], ◌∷◌, ◌++◌, length, Option, Some, None, refl, sym, ap, subst, ◌∙◌, append_assoc, append-nil, arith, inl, inr}
+use Rattle.std.proofs.KnownBytes.{Consumes-nil, Consumes-trans}
+use Rattle.std.proofs.lemmas.List.{length-append}
+use Rattle.std.specs.Prelude.{string_bytes}
+use Rattle.std.specs.Io.KnownBytes.{Consumes, IsAtEnd, prepend_known}
+use Rattle.event_core.specs.Cores.{CoreValue, IsCore, IsCurrent}
+use Rattle.line_reader.specs.Shortened.{shortened}
+use Rattle.line_reader.specs.Tails.{HasNoLineFeed}
+use Rattle.line_reader.specs.Taking.{Loses, TakesLast, TakesNone, TakesWhole}
+use Rattle.line_reader.specs.Taking as input
+use Rattle.ospf_types.specs.declared.prefix.Prefix.{Prefix}
+use Rattle.recording.specs.declared.fault.Fault.{Fault}
+use Rattle.recording.specs.declared.fault.Fault.TheVariants as fault
+use Rattle.recording.specs.declared.version.Version.{Version}
+use Rattle.replay.specs.Pages.{Adds, AddsPart}
+use Rattle.replay.specs.Stops.{AreWhole}
+use Rattle.replay.specs.declared.page.Stop.{Stop}
+use Rattle.replay.specs.declared.page.Stop.TheVariants as stop
+use Rattle.replay.proofs.Paging.{adds_more, adds_moved, adds_none, page_whole, part_more, part_moved, part_now}
+use Rattle.changes.specs.Changes.{Give}
+use Rattle.changes.specs.Following.{IsAtFault, IsFirst, IsFollowed, IsLeft, IsTaken, IsTold, StopsIn, StopsTaking, Takes, Tells}
+use Rattle.changes.specs.Lines.{AtFault, Change, lines_of}
+use Rattle.changes.specs.Runs.{Fails, Says, StopsAtTaken, Taken, TellsLines, TellsTaken, ToldPart, ToldTaken}
+use Rattle.changes.specs.Streams.{AllSay, AreTaken, ComesFrom, IsReadAs}
+use Rattle.changes.specs.declared.following.Run.{Run}
+use Rattle.changes.proofs.Cores.{give_taken}
+use Rattle.changes.proofs.Comes.{comes_held, held_none}
+use Rattle.changes.proofs.RunSteps.{gives_after, one_line, tells_more}
+
+-- nothing came
+pub none_lost : (held : List ℕ) (known : Option (List ℕ)) → Loses held known held known
+none_lost held known = ([], Consumes-nil (prepend_known held known))
+
+-- ---- the lines that were taken
+
+taken_more : (v : Version) (bytes raw : List ℕ) (taken : List Taken) (t : Taken) → AreTaken v bytes taken → HasNoLineFeed raw → IsReadAs v (shortened raw) t → AreTaken v (bytes ++ (raw ++ 10 ∷ [])) (taken ++ t ∷ [])
+taken_more v bytes raw [] t none one reads = (raw, [], one, reads, ap (λ l. l ++ (raw ++ 10 ∷ [])) none, refl)
+taken_more v bytes raw (x ∷ taken) t (first, rest, has, says, is, more) one reads =
+    (first, rest ++ (raw ++ 10 ∷ []), has, says, ap (λ l. l ++ (raw ++ 10 ∷ [])) is ∙ append_assoc first (10 ∷ rest) (raw ++ 10 ∷ []), taken_more v rest raw taken t more one reads)
+
+say_more : (taken more : List Taken) → AllSay taken → AllSay more → AllSay (taken ++ more)
+say_more [] more all behind = behind
+say_more (Says l ∷ taken) more all behind = say_more taken more all behind
+say_more (Fails f ∷ taken) more all behind = absurd all
+
+-- ---- one line
+
+module _ (old : Run) (t : Taken) (reads : IsReadAs old.version old.line.items t) (said : old.skips ≡ false → AllSay (t ∷ [])) (whole : AreWhole (string_bytes old.page)) where
+  abbrev only : Option Prefix
+  only = old.at.only
+
+  told_first : (why : Stop) (from to : Option (List ℕ)) (new : CoreValue) (told : List Change) → TellsTaken old.at.answers old.core t new told → AddsPart why from to (string_bytes old.page ++ lines_of old.at.number only told)
+      → StopsTaking why old from to
+  told_first why from to new told tells part = record {
+    taken = t ∷ [];
+    reads = (reads, refl);
+    said = said;
+    part = λ before given. record {
+      text = lines_of old.at.number only told;
+      after = before ++ told;
+      now = new;
+      run = one_line only old.at.answers old.core new old.at.number t before told tells (give_taken old.at.answers before told old.core new t given tells);
+      part = part;
+    };
+  }
+
+  -- what is told of it was not written whole
+  pub stops_behind : (why : Stop) (from to on : Option (List ℕ)) (new : CoreValue) (put : List ℕ) → ToldTaken only old.at.answers old.core old.at.number t new from to (string_bytes old.page) put → AddsPart why to on put → StopsTaking why old from on
+  stops_behind why from to on new put h part =
+      told_first why from on new h.told h.tells (part_moved why from to on (string_bytes old.page) put (lines_of old.at.number only h.told) whole h.printed part)
+
+  -- memory ran out behind it
+  pub stops_after : (from to : Option (List ℕ)) (new : CoreValue) (put : List ℕ) → ToldTaken only old.at.answers old.core old.at.number t new from to (string_bytes old.page) put → StopsTaking stop.Memory old from to
+  stops_after from to new put h = told_first stop.Memory from to new h.told h.tells (part_now from to (string_bytes old.page) put (lines_of old.at.number only h.told) whole h.printed)
+
+-- a fault that is told of
+pub fault_tells : (old : Run) (at : Fault) (from to : Option (List ℕ)) (put : List ℕ) → Adds from to (string_bytes old.page) put (lines_of old.at.number old.at.only (AtFault at ∷ []))
+    → ToldTaken old.at.only old.at.answers old.core old.at.number (Fails at) old.core from to (string_bytes old.page) put
+fault_tells old at from to put printed = record { told = AtFault at ∷ []; tells = (refl, refl); printed = printed }
+
+pub fault_stops : (why : Stop) (old : Run) (at : Fault) (from to : Option (List ℕ)) → AddsPart why from to (string_bytes old.page ++ lines_of old.at.number old.at.only (AtFault at ∷ []))
+    → StopsAtTaken why old.at.only old.at.answers old.core old.at.number (Fails at) old.core from to (string_bytes old.page)
+fault_stops why old at from to part = inl (AtFault at ∷ [], (refl, refl), part)
+
+-- lines at fault are skipped
+pub skipped : (skips : Bool) → skips ≡ true → skips ≡ false → ⊥
+skipped skips is none = apart (sym is ∙ none)
+  where
+    apart : true ≡ false → ⊥
+    apart e = cc
+
+-- what the line was read as, by its own name
+pub read_as : (v : Version) (line given : List ℕ) (t : Taken) → given ≡ line → IsReadAs v given t → IsReadAs v line t
+read_as v line given t is reads = subst (λ (l : List ℕ). IsReadAs v l t) is reads
+
+-- what is told of the line was handed on, and the next has the number behind it
+pub settled : (old mid new : Run) (from to on : Option (List ℕ)) → IsTold old mid from to → Adds to on (string_bytes mid.page) (string_bytes new.page) [] → new.at.number ≡ mid.at.number + 1
+    → new.version ≡ mid.version → new.skips ≡ mid.skips → new.at.only ≡ mid.at.only → new.at.answers ≡ mid.at.answers → new.core ≡ mid.core → IsTaken old new from on
+settled old mid new from to on h moved next version skips only answers core = record {
+  same = record { version = version ∙ h.same.version; skips = skips ∙ h.same.skips; only = only ∙ h.same.only; answers = answers ∙ h.same.answers };
+  counted = next ∙ ap (λ n. n + 1) h.counted;
+  taken = h.taken;
+  reads = h.reads;
+  said = h.said;
+  told = record {
+    told = h.told.told;
+    tells = subst (λ (c : CoreValue). TellsTaken old.at.answers old.core h.taken c h.told.told) (sym core) h.told.tells;
+    printed = adds_moved from to on (string_bytes old.page) (string_bytes mid.page) (string_bytes new.page) (lines_of old.at.number old.at.only h.told.told) h.told.printed moved;
+  };
+  core = subst IsCore (sym core) h.core;
+  current = subst IsCurrent (sym core) h.current;
+}
+
+pub told_page : (old mid : Run) (from to : Option (List ℕ)) → IsTold old mid from to → AreWhole (string_bytes old.page) → AreWhole (string_bytes mid.page)
+told_page old mid from to h whole = page_whole from to (string_bytes old.page) (string_bytes mid.page) (lines_of old.at.number old.at.only h.told.told) h.told.printed whole
+
+pub takes_none : (left : Option Fault) (old new : Run) (from to : Option (List ℕ)) → left ≡ None → Takes left old new from to → IsTaken old new from to
+takes_none left old new from to is h = subst (λ (l : Option Fault). Takes l old new from to) is h
+
+pub takes_some : (left : Option Fault) (at : Fault) (old new : Run) (from to : Option (List ℕ)) → left ≡ Some at → Takes left old new from to → IsLeft at old new from to
+takes_some left at old new from to is h = subst (λ (l : Option Fault). Takes l old new from to) is h
+
+pub tells_none : (left : Option Fault) (old new : Run) (from to : Option (List ℕ)) → left ≡ None → Tells left old new from to → IsTold old new from to
+tells_none left old new from to is h = subst (λ (l : Option Fault). Tells l old new from to) is h
+
+-- memory ran out before it was taken
+pub stops_before : (old : Run) (from : Option (List ℕ)) → AreWhole (string_bytes old.page) → StopsTaking stop.Memory old from from
+stops_before old from whole = record {
+  taken = [];
+  reads = tt;
+  said = λ no. tt;
+  part = λ before given. record {
+    text = [];
+    after = before;
+    now = old.core;
+    run = (refl, refl, refl);
+    part = part_now from from (string_bytes old.page) (string_bytes old.page) [] whole (adds_none from (string_bytes old.page));
+  };
+}
+
+-- it stops at the line
+pub stops_at : (why : Stop) (old : Run) (t : Taken) (new : CoreValue) (from to : Option (List ℕ)) → IsReadAs old.version old.line.items t → (old.skips ≡ false → AllSay (t ∷ [])) → AreWhole (string_bytes old.page)
+    → StopsAtTaken why old.at.only old.at.answers old.core old.at.number t new from to (string_bytes old.page) → StopsTaking why old from to
+stops_at why old t new from to reads said whole (inl (told, tells, part)) = told_first old t reads said whole why from to new told tells part
+stops_at why old t new from to reads said whole (inr (is, same)) =
+    subst (λ (w : Stop). StopsTaking w old from to) (sym is) (subst (λ (o : Option (List ℕ)). StopsTaking stop.Memory old from o) (sym same) (stops_before old from whole))
+
+-- what was told was not handed on whole
+pub told_stops : (why : Stop) (old mid : Run) (from to on : Option (List ℕ)) → IsTold old mid from to → AreWhole (string_bytes old.page) → AddsPart why to on (string_bytes mid.page) → StopsTaking why old from on
+told_stops why old mid from to on h whole part = stops_behind old h.taken h.reads h.said whole why from to on mid.core (string_bytes mid.page) h.told part
+
+-- memory ran out behind it
+pub told_memory : (old mid : Run) (from to on : Option (List ℕ)) (page : List ℕ) → IsTold old mid from to → Adds to on (string_bytes mid.page) page [] → AreWhole (string_bytes old.page) → StopsTaking stop.Memory old from on
+told_memory old mid from to on page h moved whole =
+    let told : List ℕ = lines_of old.at.number old.at.only h.told.told in
+    let all : Adds from on (string_bytes old.page) page told = adds_moved from to on (string_bytes old.page) (string_bytes mid.page) page told h.told.printed moved in
+    stops_after old h.taken h.reads h.said whole from on mid.core page (record { told = h.told.told; tells = h.told.tells; printed = all })
+
+-- ---- lines, one after the other
+
+-- so much was taken of the input
+pub record SoFar (before : List Change) (old new : Run) (held kept : List ℕ) (known left : Option (List ℕ)) (from to : Option (List ℕ)) : Type 0 where
+  pub bytes : List ℕ
+  pub read : input.Takes held known kept left bytes
+  pub followed : IsFollowed before bytes old new from to
+
+pub followed_none : (before : List Change) (old : Run) (from : Option (List ℕ)) → IsFollowed before [] old old from from
+followed_none before old from = record {
+  same = record { version = refl; skips = refl; only = refl; answers = refl };
+  taken = [];
+  lines = refl;
+  said = λ no. tt;
+  counted = omega arith;
+  told = record { text = []; after = before; run = (refl, refl, refl); printed = adds_none from (string_bytes old.page) };
+}
+
+pub so_far_none : (before : List Change) (old : Run) (held : List ℕ) (known : Option (List ℕ)) (from : Option (List ℕ)) → SoFar before old old held held known known from from
+so_far_none before old held known from = record { bytes = []; read = Consumes-nil (prepend_known held known); followed = followed_none before old from }
+
+module _ (before : List Change) (old mid : Run) (held kept : List ℕ) (known left : Option (List ℕ)) (from to : Option (List ℕ))
+    (given : Give before old.core) (h : SoFar before old mid held kept known left from to) where
+  abbrev f : IsFollowed before h.bytes old mid from to
+  f = h.followed
+
+  -- ---- a line more, which stands in this run
+
+  module _ (came : Run) (version : came.version ≡ mid.version) (skips : came.skips ≡ mid.skips) (number : came.at.number ≡ mid.at.number) (only : came.at.only ≡ mid.at.only) (answers : came.at.answers ≡ mid.at.answers)
+      (core : came.core ≡ mid.core) (page : string_bytes came.page ≡ string_bytes mid.page) where
+    version_is : came.version ≡ old.version
+    version_is = version ∙ f.same.version
+
+    skips_is : came.skips ≡ old.skips
+    skips_is = skips ∙ f.same.skips
+
+    -- the lines of before, and these
+    run_more : (more : List Taken) (text : List ℕ) (after : List Change) (now : CoreValue) → TellsLines came.at.only came.at.answers came.core came.at.number more f.told.after text after now
+        → TellsLines old.at.only old.at.answers old.core old.at.number (f.taken ++ more) before (f.told.text ++ text) after now
+    run_more more text after now lines =
+        let a : TellsLines old.at.only came.at.answers came.core came.at.number more f.told.after text after now =
+        subst (λ (o : Option Prefix). TellsLines o came.at.answers came.core came.at.number more f.told.after text after now) (only ∙ f.same.only) lines in
+        let b : TellsLines old.at.only old.at.answers came.core came.at.number more f.told.after text after now =
+        subst (λ x. TellsLines old.at.only x came.core came.at.number more f.told.after text after now) (answers ∙ f.same.answers) a in
+        let c : TellsLines old.at.only old.at.answers mid.core came.at.number more f.told.after text after now =
+        subst (λ (x : CoreValue). TellsLines old.at.only old.at.answers x came.at.number more f.told.after text after now) core b in
+        let d : TellsLines old.at.only old.at.answers mid.core (old.at.number + length f.taken) more f.told.after text after now =
+        subst (λ n. TellsLines old.at.only old.at.answers mid.core n more f.told.after text after now) (number ∙ f.counted) c in
+        tells_more old.at.only old.at.answers old.core mid.core now old.at.number f.taken more before f.told.after after f.told.text text f.told.run d
+
+    given_now : Give f.told.after came.core
+    given_now = subst (λ (x : CoreValue). Give f.told.after x) (sym core) (gives_after old.at.only old.at.answers old.core mid.core old.at.number f.taken before f.told.after f.told.text given f.told.run)
+
+    -- the lines of before, to this run
+    pub followed_as : IsFollowed before h.bytes old came from to
+    followed_as = record {
+      same = record { version = version_is; skips = skips_is; only = only ∙ f.same.only; answers = answers ∙ f.same.answers };
+      taken = f.taken;
+      lines = f.lines;
+      said = f.said;
+      counted = number ∙ f.counted;
+      told = record {
+        text = f.told.text;
+        after = f.told.after;
+        run = subst (λ (c : CoreValue). TellsLines old.at.only old.at.answers old.core old.at.number f.taken before f.told.text f.told.after c) (sym core) f.told.run;
+        printed = subst (λ (l : List ℕ). Adds from to (string_bytes old.page) l f.told.text) (sym page) f.told.printed;
+      };
+    }
+
+    module _ (next : List ℕ) (further : Option (List ℕ)) (w : TakesWhole kept left next further came.line.items) where
+      abbrev longer : List ℕ
+      longer = h.bytes ++ (w.raw ++ 10 ∷ [])
+
+      read_more : input.Takes held known next further longer
+      read_more = Consumes-trans (prepend_known held known) (prepend_known kept left) (prepend_known next further) h.bytes (w.raw ++ 10 ∷ []) h.read w.taken
+
+      reads_as : (t : Taken) → IsReadAs came.version came.line.items t → IsReadAs old.version (shortened w.raw) t
+      reads_as t reads = subst (λ (l : List ℕ). IsReadAs old.version l t) w.handed_on (subst (λ v. IsReadAs v came.line.items t) version_is reads)
+
+      pub so_far_more : (new : Run) (on : Option (List ℕ)) → IsTaken came new to on → SoFar before old new held next known further from on
+      so_far_more new on x =
+          let text : List ℕ = lines_of came.at.number came.at.only x.told.told in
+          let line = one_line came.at.only came.at.answers came.core new.core came.at.number x.taken f.told.after x.told.told x.told.tells
+          (give_taken came.at.answers f.told.after x.told.told came.core new.core x.taken given_now x.told.tells) in
+          record {
+            bytes = longer;
+            read = read_more;
+            followed = record {
+              same = record { version = x.same.version ∙ version_is; skips = x.same.skips ∙ skips_is; only = x.same.only ∙ only ∙ f.same.only; answers = x.same.answers ∙ answers ∙ f.same.answers };
+              taken = f.taken ++ x.taken ∷ [];
+              lines = taken_more old.version h.bytes w.raw f.taken x.taken f.lines w.one (reads_as x.taken x.reads);
+              said = λ no. say_more f.taken (x.taken ∷ []) (f.said no) (x.said (skips_is ∙ no));
+              counted = omega (arith, x.counted, number, f.counted, length-append f.taken (x.taken ∷ []));
+              told = record {
+                text = f.told.text ++ text;
+                after = f.told.after ++ x.told.told;
+                run = run_more (x.taken ∷ []) text (f.told.after ++ x.told.told) new.core line;
+                printed = adds_more from to on (string_bytes old.page) (string_bytes mid.page) (string_bytes new.page) f.told.text text f.told.printed
+                    (subst (λ (l : List ℕ). Adds to on l (string_bytes new.page) text) page x.told.printed);
+              };
+            };
+          }
+
+      -- it is at fault, and not taken
+      pub fault_next : (at : Fault) (new : Run) (on : Option (List ℕ)) → IsLeft at came new to on → IsAtFault at before old new held known further from on
+      fault_next at new on x = record {
+        bytes = h.bytes;
+        followed = record {
+          same = record { version = x.same.version ∙ version_is; skips = x.same.skips ∙ skips_is; only = x.same.only ∙ only ∙ f.same.only; answers = x.same.answers ∙ answers ∙ f.same.answers };
+          taken = f.taken;
+          lines = f.lines;
+          said = f.said;
+          counted = x.counted ∙ number ∙ f.counted;
+          told = record {
+            text = f.told.text;
+            after = f.told.after;
+            run = subst (λ (c : CoreValue). TellsLines old.at.only old.at.answers old.core old.at.number f.taken before f.told.text f.told.after c) (sym (x.core ∙ core)) f.told.run;
+            printed = subst (λ (l : List ℕ). Adds from on (string_bytes old.page) l f.told.text) (sym (x.page ∙ page)) (subst (λ (o : Option (List ℕ)). Adds from o (string_bytes old.page) (string_bytes mid.page) f.told.text) (sym x.out) f.told.printed);
+          };
+        };
+        raw = w.raw;
+        line = w.one;
+        comes = comes_longer;
+        is = inl (reads_as (Fails at) x.reads);
+      }
+        where
+          comes_longer : ComesFrom (prepend_known held known) further (h.bytes ++ w.raw)
+          comes_longer =
+              let all = comes_held (prepend_known held known) further longer next read_more in
+              record {
+                ahead = 10 ∷ all.ahead;
+                read = subst (λ l. Consumes (prepend_known held known) further l) (ap (λ l. l ++ all.ahead) (sym (append_assoc h.bytes w.raw (10 ∷ []))) ∙ append_assoc (h.bytes ++ w.raw) (10 ∷ []) all.ahead) all.read;
+              }
+
+      -- it stops at the line
+      pub stops_next : (why : Stop) (on : Option (List ℕ)) → AreWhole (string_bytes old.page) → StopsTaking why came to on → StopsIn why before old held known further from on
+      stops_next why on whole x = elim x.taken as (λ (ts : List Taken). ts ≡ x.taken → StopsIn why before old held known further from on) [
+        | [] ↦ λ is. nothing_more is
+        | t ∷ ts ↦ λ is. one_more t ts is
+      ] refl
+        where
+          part : ToldPart why came.at.only came.at.answers came.core came.at.number x.taken f.told.after to on (string_bytes came.page)
+          part = x.part f.told.after given_now
+
+          stopped : (taken : List Taken) → taken ≡ x.taken → (bytes : List ℕ) → ComesFrom (prepend_known held known) further bytes → AreTaken old.version bytes (f.taken ++ taken) → (old.skips ≡ false → AllSay (f.taken ++ taken))
+              → StopsIn why before old held known further from on
+          stopped taken is bytes comes lines said = record {
+            bytes = bytes;
+            comes = comes;
+            taken = f.taken ++ taken;
+            lines = lines;
+            said = said;
+            part = record {
+              text = f.told.text ++ part.text;
+              after = part.after;
+              now = part.now;
+              run = subst (λ (ts : List Taken). TellsLines old.at.only old.at.answers old.core old.at.number (f.taken ++ ts) before (f.told.text ++ part.text) part.after part.now) (sym is) (run_more x.taken part.text part.after part.now part.run);
+              part = part_more why from to on (string_bytes old.page) (string_bytes mid.page) f.told.text part.text whole f.told.printed
+                  (subst (λ (l : List ℕ). AddsPart why to on (l ++ part.text)) page part.part);
+            };
+          }
+
+          nothing_more : [] ≡ x.taken → StopsIn why before old held known further from on
+          nothing_more is =
+              let all = comes_held (prepend_known held known) further longer next read_more in
+              stopped [] is h.bytes
+              (record { ahead = (w.raw ++ 10 ∷ []) ++ all.ahead; read = subst (λ l. Consumes (prepend_known held known) further l) (append_assoc h.bytes (w.raw ++ 10 ∷ []) all.ahead) all.read })
+              (subst (AreTaken old.version h.bytes) (sym (append-nil f.taken)) f.lines) (λ no. subst AllSay (sym (append-nil f.taken)) (f.said no))
+
+          one_more : (t : Taken) (ts : List Taken) → t ∷ ts ≡ x.taken → StopsIn why before old held known further from on
+          one_more t ts is =
+              let first = subst (λ (l : List Taken). IsFirst came.version came.line.items l) (sym is) x.reads in
+              stopped (t ∷ ts) is longer (comes_held (prepend_known held known) further longer next read_more)
+              (subst (λ (l : List Taken). AreTaken old.version longer (f.taken ++ t ∷ l)) (sym first.1) (taken_more old.version h.bytes w.raw f.taken t f.lines w.one (reads_as t first.0)))
+              (λ no. say_more f.taken (t ∷ ts) (f.said no) (subst AllSay (sym is) (x.said (skips_is ∙ no))))
+
+  pub so_far_page : AreWhole (string_bytes old.page) → AreWhole (string_bytes mid.page)
+  so_far_page whole = page_whole from to (string_bytes old.page) (string_bytes mid.page) f.told.text f.told.printed whole
+
+  -- ---- no line more
+
+  -- the input is over
+  pub over : (next : List ℕ) (further : Option (List ℕ)) (line : List ℕ) → TakesNone kept left next further line → Consumes (prepend_known held known) further h.bytes × IsAtEnd further
+  over next further line w =
+      let all = Consumes-trans (prepend_known held known) (prepend_known kept left) (prepend_known next further) h.bytes [] h.read w.taken in
+      (subst (λ (o : Option (List ℕ)). Consumes (prepend_known held known) o h.bytes) (held_none further next w.ended.0) (subst (Consumes (prepend_known held known) (prepend_known next further)) (append-nil h.bytes) all), w.ended.1)
+
+  -- it could not be read further
+  pub unread : (next : List ℕ) (further : Option (List ℕ)) → Loses kept left next further → ComesFrom (prepend_known held known) further h.bytes
+  unread next further (lost, taken) =
+      let all = comes_held (prepend_known held known) further (h.bytes ++ lost) next (Consumes-trans (prepend_known held known) (prepend_known kept left) (prepend_known next further) h.bytes lost h.read taken) in
+      record { ahead = lost ++ all.ahead; read = subst (λ l. Consumes (prepend_known held known) further l) (append_assoc h.bytes lost all.ahead) all.read }
+
+  -- memory ran out
+  pub stops_here : (why : Stop) (next : List ℕ) (further : Option (List ℕ)) → why ≡ stop.Memory → AreWhole (string_bytes old.page) → Loses kept left next further → StopsIn why before old held known further from to
+  stops_here why next further is whole lost = record {
+    bytes = h.bytes;
+    comes = unread next further lost;
+    taken = f.taken;
+    lines = f.lines;
+    said = f.said;
+    part = record {
+      text = f.told.text;
+      after = f.told.after;
+      now = mid.core;
+      run = f.told.run;
+      part = subst (λ (w : Stop). AddsPart w from to (string_bytes old.page ++ f.told.text)) (sym is) (part_now from to (string_bytes old.page) (string_bytes mid.page) f.told.text whole f.told.printed);
+    };
+  }
+
+  -- the last line has no line feed
+  pub cut_last : (new : Run) (next : List ℕ) (further : Option (List ℕ)) (line : List ℕ) → TakesLast kept left next further line → IsFollowed before h.bytes old new from to → IsAtFault fault.Truncated before old new held known further from to
+  cut_last new next further line w followed = record {
+    bytes = h.bytes;
+    followed = followed;
+    raw = w.raw;
+    line = w.one;
+    comes = comes_held (prepend_known held known) further (h.bytes ++ w.raw) next (Consumes-trans (prepend_known held known) (prepend_known kept left) (prepend_known next further) h.bytes w.raw h.read w.taken);
+    is = inr (w.some, refl, w.ended.1);
+  }

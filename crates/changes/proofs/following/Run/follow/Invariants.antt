@@ -1,0 +1,13 @@
+use Rattle.event_core.specs.Cores.{IsCore, IsCurrent}
+use Rattle.changes.specs.Changes.{Give}
+use Rattle.changes.specs.Lines.{Change}
+use Rattle.std.proofs.Common.{List}
+use Rattle.changes.proofs.FollowSteps.{SoFar}
+use Rattle.changes.proofs.following.Run.follow.Given as goal
+
+abbrev pub invariant-loop : goal.invariant-loop
+invariant-loop g l = record {
+  kept : IsCore l.self.core;
+  current : IsCurrent l.self.core;
+  taken : (before : List Change) → Give before l.initial.self.core → SoFar before l.initial.self l.self l.initial.lines l.lines (g.R.Read.remaining l.initial.input) (g.R.Read.remaining l.input) (g.W.Write.contents l.initial.out) (g.W.Write.contents l.out);
+}

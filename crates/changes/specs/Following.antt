@@ -1,0 +1,117 @@
+-- Lines that are taken as they come: from one state of a run to the next.
+use Rattle.std.specs.Prelude.{ℕ, ◌≡◌, ◌≢◌, ◌+◌, ◌⊎◌, ◌++◌, false, List, [], ◌∷◌, length, Option, Some, None, string_bytes}
+use Rattle.std.specs.Io.KnownBytes.{Consumes, IsAtEnd, prepend_known}
+use Rattle.event_core.specs.Cores.{IsCore, IsCurrent}
+use Rattle.line_reader.specs.Shortened.{shortened}
+use Rattle.line_reader.specs.Tails.{HasNoLineFeed}
+use Rattle.recording.specs.declared.fault.Fault.{Fault}
+use Rattle.recording.specs.declared.fault.Fault.TheVariants as fault
+use Rattle.replay.specs.declared.page.Stop.{Stop}
+use Rattle.changes.specs.declared.following.End.{End}
+use Rattle.changes.specs.declared.following.End.TheVariants as end
+use Rattle.changes.specs.declared.following.Run.{Run}
+use Rattle.recording.specs.declared.version.Version.{Version}
+use Rattle.changes.specs.Changes.{Give}
+use Rattle.changes.specs.Lines.{Change}
+use Rattle.changes.specs.Runs.{Fails, Taken, Told, ToldPart, ToldTaken}
+use Rattle.changes.specs.Streams.{AllSay, AreTaken, ComesFrom, IsReadAs}
+
+-- what stays of a run
+pub record IsSameRun (old new : Run) : Type 0 where
+  pub version : new.version ≡ old.version
+  pub skips : new.skips ≡ old.skips
+  pub only : new.at.only ≡ old.at.only
+  pub answers : new.at.answers ≡ old.at.answers
+
+-- ---- one line
+
+-- the line that came was run, or its fault told, and what is told of it stands behind the page
+pub record IsTold (old new : Run) (from to : Option (List ℕ)) : Type 0 where
+  pub same : IsSameRun old new
+  pub counted : new.at.number ≡ old.at.number
+  pub taken : Taken
+  pub reads : IsReadAs old.version old.line.items taken
+  pub said : old.skips ≡ false → AllSay (taken ∷ [])
+  pub told : ToldTaken old.at.only old.at.answers old.core old.at.number taken new.core from to (string_bytes old.page) (string_bytes new.page)
+  pub core : IsCore new.core
+  pub current : IsCurrent new.core
+
+-- the line that came was taken, and what is told of it stands behind the page
+pub record IsTaken (old new : Run) (from to : Option (List ℕ)) : Type 0 where
+  pub same : IsSameRun old new
+  pub counted : new.at.number ≡ old.at.number + 1
+  pub taken : Taken
+  pub reads : IsReadAs old.version old.line.items taken
+  pub said : old.skips ≡ false → AllSay (taken ∷ [])
+  pub told : ToldTaken old.at.only old.at.answers old.core old.at.number taken new.core from to (string_bytes old.page) (string_bytes new.page)
+  pub core : IsCore new.core
+  pub current : IsCurrent new.core
+
+-- the line that came is at fault, and nothing changed
+pub record IsLeft (f : Fault) (old new : Run) (from to : Option (List ℕ)) : Type 0 where
+  pub same : IsSameRun old new
+  pub counted : new.at.number ≡ old.at.number
+  pub reads : IsReadAs old.version old.line.items (Fails f)
+  pub core : new.core ≡ old.core
+  pub page : string_bytes new.page ≡ string_bytes old.page
+  pub out : to ≡ from
+
+abbrev pub Tells : Option Fault → (old new : Run) → (from to : Option (List ℕ)) → Type 0
+Tells None old new from to = IsTold old new from to
+Tells (Some f) old new from to = IsLeft f old new from to
+
+abbrev pub Takes : Option Fault → (old new : Run) → (from to : Option (List ℕ)) → Type 0
+Takes None old new from to = IsTaken old new from to
+Takes (Some f) old new from to = IsLeft f old new from to
+
+-- this is what the line that came was taken for, or it was not taken
+abbrev pub IsFirst : Version → List ℕ → List Taken → Type 0
+IsFirst v line [] = Unit {0}
+IsFirst v line (t ∷ taken) = IsReadAs v line t × (taken ≡ [])
+
+-- The line that came was taken, and a beginning of what is told of it was written; or it was not.
+pub record StopsTaking (why : Stop) (old : Run) (from to : Option (List ℕ)) : Type 0 where
+  pub taken : List Taken
+  pub reads : IsFirst old.version old.line.items taken
+  pub said : old.skips ≡ false → AllSay taken
+  pub part : (before : List Change) → Give before old.core → ToldPart why old.at.only old.at.answers old.core old.at.number taken before from to (string_bytes old.page)
+
+-- ---- lines, one after the other
+
+-- these bytes were taken, and what is told of their lines stands behind the page
+pub record IsFollowed (before : List Change) (bytes : List ℕ) (old new : Run) (from to : Option (List ℕ)) : Type 0 where
+  pub same : IsSameRun old new
+  pub taken : List Taken
+  pub lines : AreTaken old.version bytes taken
+  pub said : old.skips ≡ false → AllSay taken
+  pub counted : new.at.number ≡ old.at.number + length taken
+  pub told : Told old.at.only old.at.answers old.core old.at.number taken before new.core from to (string_bytes old.page) (string_bytes new.page)
+
+-- what has come and was not yet taken, and what is left of the input
+abbrev pub left_of : List ℕ → Option (List ℕ) → Option (List ℕ)
+left_of held known = prepend_known held known
+
+-- the next line is at fault, or there is no line feed behind the last
+pub record IsAtFault (f : Fault) (before : List Change) (old new : Run) (held : List ℕ) (known left : Option (List ℕ)) (from to : Option (List ℕ)) : Type 0 where
+  pub bytes : List ℕ
+  pub followed : IsFollowed before bytes old new from to
+  pub raw : List ℕ
+  pub line : HasNoLineFeed raw
+  pub comes : ComesFrom (left_of held known) left (bytes ++ raw)
+  pub is : IsReadAs old.version (shortened raw) (Fails f) ⊎ ((raw ≢ []) × (f ≡ fault.Truncated) × IsAtEnd left)
+
+-- how it ends: the input is over, it could not be read further, or a line is at fault
+abbrev pub Ends : End → (before : List Change) → (old new : Run) → (held : List ℕ) → (known left : Option (List ℕ)) → (from to : Option (List ℕ)) → Type 0
+Ends end.Over before old new held known left from to =
+    (bytes : List ℕ) × IsFollowed before bytes old new from to × Consumes (left_of held known) left bytes × IsAtEnd left
+Ends end.Unread before old new held known left from to = (bytes : List ℕ) × IsFollowed before bytes old new from to × ComesFrom (left_of held known) left bytes
+Ends (end.AtFault f) before old new held known left from to = IsAtFault f before old new held known left from to
+
+-- a beginning of what is told of these bytes was written
+pub record StopsIn (why : Stop) (before : List Change) (old : Run) (held : List ℕ) (known left : Option (List ℕ)) (from to : Option (List ℕ)) : Type 0 where
+  pub bytes : List ℕ
+  pub comes : ComesFrom (left_of held known) left bytes
+  pub taken : List Taken
+  pub lines : AreTaken old.version bytes taken
+  pub said : old.skips ≡ false → AllSay taken
+  pub part : ToldPart why old.at.only old.at.answers old.core old.at.number taken before from to (string_bytes old.page)

@@ -1,0 +1,238 @@
+//! Lines that are taken as they come.
+ghost use Rattle.std.specs.Prelude.{◌++◌, ◌∷◌, List, [], OnOk, IfOk, IfErr, string_bytes};
+ghost use Rattle.event_core.specs.Cores.{IsCore, IsCurrent};
+ghost use Rattle.replay.specs.Pages.{Adds, AddsPart};
+ghost use Rattle.replay.specs.Stops.{AreWhole, stop_of};
+ghost use Rattle.changes.specs.Changes.{Give};
+ghost use Rattle.changes.specs.Lines as told;
+ghost use Rattle.changes.specs.Lines.{Change, lines_of};
+ghost use Rattle.changes.specs.Runs.{Fails, MayRoll, Says, StopsAtTaken, ToldTaken};
+ghost use Rattle.changes.specs.Streams.{IsReadAs};
+ghost use Rattle.changes.specs.Begun.{Closes};
+ghost use Rattle.changes.specs.Following.{Ends, StopsIn, StopsTaking, Takes, Tells};
+
+use crate::lines::{Place, put_fault};
+use crate::running::tell_line;
+use event_core::Core;
+use line_reader::{LONGEST, LineReader, Next, ReadFault};
+use recording::{Fault, Line, LineFault, Version, read_line};
+use replay::{CannotWrite, ReplayFault, Stop, fault_of, spill, write_page};
+use std::alloc::Global;
+use std::io;
+
+// How many events a journal has where it is rolled.
+const LONG_JOURNAL: usize = 65_536;
+
+/// A recording whose front was read. Its lines are taken as they come.
+#[derive(Drop)]
+pub(crate) struct Run {
+    pub(crate) alloc: Global,
+    pub(crate) version: Version,
+    pub(crate) core: Core,
+    /// The place of the line that comes next.
+    pub(crate) at: Place,
+    /// Whether a line at fault is told of and skipped.
+    pub(crate) skips: bool,
+    /// What is not yet written of what was told.
+    pub(crate) page: String,
+    /// The line that came, and the bytes of its LSA.
+    pub(crate) line: Vec<u8>,
+    pub(crate) room: Vec<u8>,
+}
+
+/// Why no more lines are taken.
+#[derive(Clone, Copy)]
+pub(crate) enum End {
+    /// None comes any more.
+    Over,
+    /// The input could not be read.
+    Unread,
+    /// The next line is at fault.
+    AtFault(Fault),
+}
+
+impl Run {
+    /// Takes lines for as long as any come, and prints what is told of each.
+    pub(crate) fn follow<R: io::Read, W: io::Write>(
+        &mut self,
+        lines: &mut LineReader,
+        input: &mut R,
+        out: &mut W,
+    ) -> Result<End, Stop>
+        requires kept { IsCore self.old.core }
+        requires current { IsCurrent self.old.core }
+        ensures ok { (before : List Change) → Give before self.old.core → IfOk result (λ end.
+            Ends end before self.old self.new lines.old (R.remaining input.old)
+            (R.remaining input.new) (W.contents out.old) (W.contents out.new)) }
+        ensures err { (before : List Change) → Give before self.old.core
+            → AreWhole (string_bytes self.old.page) → IfErr result (λ why.
+            StopsIn why before self.old lines.old (R.remaining input.old)
+            (R.remaining input.new) (W.contents out.old) (W.contents out.new)) }
+    {
+        for _ in 0..usize::MAX {
+            match lines.next(input, &mut self.line) {
+                Ok(Next::Line) => {}
+                Ok(Next::Cut) => return Ok(End::AtFault(Fault::Truncated)),
+                Ok(Next::End) => return Ok(End::Over),
+                Err(ReadFault::Read) => return Ok(End::Unread),
+                Err(ReadFault::Memory) => return Err(Stop::Memory),
+            }
+            if let Some(fault) = self.take(out)? {
+                return Ok(End::AtFault(fault));
+            }
+        }
+        Err(Stop::Memory)
+    }
+
+    // Takes the line that came, and prints what is told of it. What is returned is a fault behind which no line is taken.
+    fn take<W: io::Write>(&mut self, out: &mut W) -> Result<Option<Fault>, Stop>
+        requires kept { IsCore self.old.core }
+        requires current { IsCurrent self.old.core }
+        ensures ok { IfOk result (λ fault.
+            Takes fault self.old self.new (W.contents out.old) (W.contents out.new)) }
+        ensures err { AreWhole (string_bytes self.old.page) → IfErr result (λ why.
+            StopsTaking why self.old (W.contents out.old) (W.contents out.new)) }
+    {
+        if let Some(fault) = self.tell(out)? {
+            return Ok(Some(fault));
+        }
+        hand_on(&self.at, out, &mut self.page)?;
+        let Some(next) = self.at.number.checked_add(1) else {
+            return Err(Stop::Memory);
+        };
+        self.at.number = next;
+        Ok(None)
+    }
+
+    // Runs the line that came and prints what is told of it, or its fault. What is returned is a fault that is not skipped.
+    fn tell<W: io::Write>(&mut self, out: &mut W) -> Result<Option<Fault>, Stop>
+        requires kept { IsCore self.old.core }
+        requires current { IsCurrent self.old.core }
+        ensures ok { IfOk result (λ fault.
+            Tells fault self.old self.new (W.contents out.old) (W.contents out.new)) }
+        ensures err { AreWhole (string_bytes self.old.page) → IfErr result (λ why.
+            StopsTaking why self.old (W.contents out.old) (W.contents out.new)) }
+    {
+        let line = match take_line(
+            self.alloc,
+            self.version,
+            self.line.as_slice(),
+            &mut self.room,
+        ) {
+            Ok(line) => line,
+            Err(Fault::Memory) => return Err(Stop::Memory),
+            Err(fault) => {
+                if !self.skips {
+                    return Ok(Some(fault));
+                }
+                tell_fault(&self.at, fault, out, &mut self.page)?;
+                return Ok(None);
+            }
+        };
+        tell_next(&mut self.core, &self.at, line, out, &mut self.page)?;
+        Ok(None)
+    }
+
+    /// Writes what is left of what was told, and tells how it ends.
+    pub(crate) fn close<W: io::Write>(&mut self, end: End, out: &mut W) -> Result<(), ReplayFault>
+        ensures { Closes self.old end result (W.contents out.old) (W.contents out.new) }
+    {
+        if let Err(why) = write_page(out, &mut self.page) {
+            return Err(fault_of(Stop::from(why)));
+        }
+        match end {
+            End::Over => Ok(()),
+            End::Unread => Err(ReplayFault::Read),
+            End::AtFault(fault) => Err(ReplayFault::Line(LineFault {
+                line: self.at.number,
+                fault,
+            })),
+        }
+    }
+}
+
+// Writes what was told, where answers are asked for.
+fn hand_on<W: io::Write>(at: &Place, out: &mut W, page: &mut String) -> Result<(), CannotWrite>
+    ensures ok { OnOk result (Adds (W.contents out.old) (W.contents out.new) (string_bytes page.old)
+        (string_bytes page.new) []) }
+    ensures err { IfErr result (λ why. AddsPart (stop_of why) (W.contents out.old)
+        (W.contents out.new) (string_bytes page.old)) }
+{
+    if !at.answers {
+        return Ok(());
+    }
+    write_page(out, page)
+}
+
+// What the line says behind the base. A line that is too long to be read whole is at fault.
+fn take_line(
+    alloc: Global,
+    version: Version,
+    line: &[u8],
+    room: &mut Vec<u8>,
+) -> Result<Line, Fault>
+    ensures says { IfOk result (λ l. IsReadAs version line.now (Says l)) }
+    ensures fails { IfErr result (λ f. IsReadAs version line.now (Fails f)) }
+{
+    let read = read_line(alloc, version, line, room);
+    if line.len() < LONGEST {
+        return read;
+    }
+    match read {
+        Ok(_) => Err(Fault::Line),
+        Err(fault) => Err(fault),
+    }
+}
+
+// Rolls the journal where it has become long, and then runs the line and prints what is told of it.
+fn tell_next<W: io::Write>(
+    core: &mut Core,
+    at: &Place,
+    line: Line,
+    out: &mut W,
+    page: &mut String,
+) -> Result<(), Stop>
+    requires current { IsCurrent core.old }
+    ensures ok { OnOk result (ToldTaken at.now.only at.now.answers core.old at.now.number (Says line)
+        core.new (W.contents out.old) (W.contents out.new) (string_bytes page.old)
+        (string_bytes page.new)) }
+    ensures kept { OnOk result (IsCore core.new) }
+    ensures err { AreWhole (string_bytes page.old) → IfErr result (λ why.
+        StopsAtTaken why at.now.only at.now.answers core.old at.now.number (Says line) core.new
+        (W.contents out.old) (W.contents out.new) (string_bytes page.old)) }
+{
+    shorten_journal(core);
+    tell_line(core, at, line, out, page)
+}
+
+// Rolls the journal where it has become long.
+fn shorten_journal(core: &mut Core)
+    requires current { IsCurrent core.old }
+    ensures rolled { MayRoll core.old core.new }
+    ensures kept { IsCore core.new }
+    ensures current { IsCurrent core.new }
+{
+    if core.journal().len() >= LONG_JOURNAL {
+        let _ = core.roll();
+    }
+    // proof: what holds of every core.
+    let _ = core.table();
+}
+
+// Prints that the line is at fault.
+fn tell_fault<W: io::Write>(
+    at: &Place,
+    fault: Fault,
+    out: &mut W,
+    page: &mut String,
+) -> Result<(), Stop>
+    ensures ok { OnOk result (Adds (W.contents out.old) (W.contents out.new) (string_bytes page.old)
+        (string_bytes page.new) (lines_of at.now.number at.now.only (told.AtFault fault ∷ []))) }
+    ensures err { AreWhole (string_bytes page.old) → IfErr result (λ why.
+        AddsPart why (W.contents out.old) (W.contents out.new) (string_bytes page.old
+        ++ lines_of at.now.number at.now.only (told.AtFault fault ∷ []))) }
+{
+    put_fault(at.number, fault, page)?;
+    spill(out, page)?;
+    Ok(())
+}
