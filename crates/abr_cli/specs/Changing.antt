@@ -1,20 +1,19 @@
--- What `abr changes` wrote.
-use Rattle.std.specs.Prelude.{ℕ, ◌≡◌, ◌⊎◌, List, Option, Some, None}
+-- What `abr changes` and `abr follow` wrote.
+use Rattle.std.specs.Prelude.{ℕ, ◌≡◌, ◌⊎◌, Bool, List, Option, Some, None}
 use Rattle.std.specs.Borrow.{Bor}
 use Rattle.ospf_types.specs.declared.prefix.Prefix.{Prefix}
-use Rattle.recording.specs.Faults.{IsFaultOf}
 use Rattle.word_reading.specs.Writing.{WritesNetwork}
-use Rattle.replay.specs.Inputs.{ReadsAll}
 use Rattle.replay.specs.declared.fault.ReplayFault.{ReplayFault}
 use Rattle.replay.specs.declared.fault.ReplayFault.TheVariants.{Read, Write, Closed, Memory, Line}
 use Rattle.replay.specs.declared.page.Stop.TheVariants as stop
-use Rattle.changes.specs.Outputs.{TellsAll, TellsPart}
+use Rattle.changes.specs.Outputs.{FailsAtFront, FailsBehind, TellsAll, TellsPart, TellsThese}
+use Rattle.changes.specs.declared.telling.Telling.{Telling}
 use Rattle.worker_replay.specs.declared.fault.ManyFault.TheVariants.{Replay}
 use Rattle.command_answers.specs.declared.command_fault.CommandFault.TheVariants as fault
 use Rattle.command_answers.specs.declared.words.WordFault.TheVariants.{NotANetwork}
 use Rattle.command_answers.specs.Answers.{IsSaid}
 use Rattle.command_answers.specs.Faults.{command_fault_text, fault_line}
-use Rattle.abr_cli.specs.Replaying.{IsFaultSaid}
+use Rattle.abr_cli.specs.Replaying.{IsEndSaid}
 
 -- the word asks for this network; without a word all are asked for
 abbrev pub Asks : Option (Bor (List ℕ)) → Option Prefix → Type 0
@@ -29,24 +28,24 @@ LacksNetwork None = ⊥
 LacksNetwork (Some word) = (p : Prefix) → ¬ WritesNetwork word.now p
 
 -- what was made of the input and the output where it ended early for this fault
-abbrev pub TellsEarly : Option Prefix → ReplayFault → (i i' o o' : Option (List ℕ)) → Type 0
-TellsEarly only Read i i' o o' = o' ≡ o
-TellsEarly only Write i i' o o' = TellsPart stop.Write only i i' o o'
-TellsEarly only Closed i i' o o' = TellsPart stop.Closed only i i' o o'
-TellsEarly only Memory i i' o o' = (o' ≡ o) ⊎ TellsPart stop.Memory only i i' o o'
-TellsEarly only (Line f) i i' o o' = (o' ≡ o) × ((bytes : List ℕ) × ReadsAll i i' bytes × IsFaultOf bytes f)
+abbrev pub TellsEarly : Telling → ReplayFault → (i i' o o' : Option (List ℕ)) → Type 0
+TellsEarly t Read i i' o o' = (o' ≡ o) ⊎ ((bytes : List ℕ) × TellsThese t i i' bytes o o')
+TellsEarly t Write i i' o o' = TellsPart stop.Write t i i' o o'
+TellsEarly t Closed i i' o o' = TellsPart stop.Closed t i i' o o'
+TellsEarly t Memory i i' o o' = (o' ≡ o) ⊎ TellsPart stop.Memory t i i' o o'
+TellsEarly t (Line f) i i' o o' = ((o' ≡ o) × FailsAtFront i i' f) ⊎ FailsBehind t i i' f o o'
 
 -- nothing was read, and it was said that the word is no network, or that there is no memory for that line
 abbrev pub IsWordSaid : (status : ℕ) (i i' o o' f f' : Option (List ℕ)) → Type 0
 IsWordSaid status i i' o o' f f' =
     (i' ≡ i) × (o' ≡ o) × (IsSaid (fault_line (command_fault_text (fault.Word NotANetwork))) 2 status f f' ⊎ IsSaid (fault_line (command_fault_text fault.Memory)) 1 status f f')
 
--- what is told of the networks that are asked for went to its end, and nothing was said; or it ended early, and its fault was said
-abbrev pub IsTellingTold : Bor (List ℕ) → Option Prefix → (status : ℕ) (i i' o o' f f' : Option (List ℕ)) → Type 0
-IsTellingTold file only status i i' o o' f f' = ((status ≡ 0) × TellsAll only i i' o o' × (f' ≡ f))
-    ⊎ ((e : ReplayFault) × TellsEarly only e i i' o o' × IsFaultSaid file (Replay e) status f f')
+-- what is to be told went to its end, and nothing was said; or it ended early, and its fault was said, or want of memory in its place
+abbrev pub IsTellingTold : Bor (List ℕ) → Telling → (status : ℕ) (i i' o o' f f' : Option (List ℕ)) → Type 0
+IsTellingTold file t status i i' o o' f f' = ((status ≡ 0) × TellsAll t i i' o o' × (f' ≡ f))
+    ⊎ ((e : ReplayFault) × TellsEarly t e i i' o o' × IsEndSaid file (Replay e) status f f')
 
 -- the word of the one network, if there is one, was no network; or what is asked for was told
-abbrev pub IsChangesTold : Bor (List ℕ) → Option (Bor (List ℕ)) → (status : ℕ) (i i' o o' f f' : Option (List ℕ)) → Type 0
-IsChangesTold file word status i i' o o' f f' = (LacksNetwork word × IsWordSaid status i i' o o' f f')
-    ⊎ ((only : Option Prefix) × Asks word only × IsTellingTold file only status i i' o o' f f')
+abbrev pub IsChangesTold : Bor (List ℕ) → Option (Bor (List ℕ)) → (answers skips : Bool) (status : ℕ) (i i' o o' f f' : Option (List ℕ)) → Type 0
+IsChangesTold file word answers skips status i i' o o' f f' = (LacksNetwork word × IsWordSaid status i i' o o' f f')
+    ⊎ ((only : Option Prefix) × Asks word only × IsTellingTold file (record { only = only; answers = answers; skips = skips }) status i i' o o' f f')

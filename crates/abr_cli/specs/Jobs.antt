@@ -1,5 +1,6 @@
 -- What the program wrote, whatever its words were.
-use Rattle.std.specs.Prelude.{ℕ, ◌≡◌, List, Option, Result, Ok, Err}
+use Rattle.std.specs.Borrow.{Bor}
+use Rattle.std.specs.Prelude.{ℕ, ◌≡◌, true, false, not, List, Option, Result, Ok, Err, codes}
 use Rattle.command_line.specs.declared.command.Job.{Job}
 use Rattle.command_line.specs.declared.command.Job.TheVariants as job
 use Rattle.command_line.specs.declared.command.Usage.{Usage}
@@ -17,7 +18,8 @@ abbrev pub IsDone : Job → (status : ℕ) (i i' o o' f f' : Option (List ℕ)) 
 IsDone (job.One words) status i i' o o' f f' = (i' ≡ i) × Tells (IsOneAnswer (texts_of words)) status o o' f f'
 IsDone (job.Decode hex long) status i i' o o' f f' = (i' ≡ i) × Tells (IsDecodeAnswer long hex.now) status o o' f f'
 IsDone (job.Replay file workers show) status i i' o o' f f' = IsReplayTold file workers show status i i' o o' f f'
-IsDone (job.Changes file only) status i i' o o' f f' = IsChangesTold file only status i i' o o' f f'
+IsDone (job.Changes file only) status i i' o o' f f' = IsChangesTold file only false false status i i' o o' f f'
+IsDone (job.Follow only strict) status i i' o o' f f' = (file : Bor (List ℕ)) × (file.now ≡ codes "-") × IsChangesTold file only true (not strict) status i i' o o' f f'
 IsDone (job.Fault number) status i i' o o' f f' = (i' ≡ i) × Tells (IsNumberAnswer number.now) status o o' f f'
 
 -- the job was done, or it was said why there is none

@@ -1,11 +1,11 @@
-//! The command `changes`.
+//! The commands `changes` and `follow`.
 ghost use Rattle.std.specs.Prelude.{◌≡◌, IfOk, IfErr};
 ghost use Rattle.command_answers.specs.declared.command_fault.CommandFault.TheVariants as fault;
 ghost use Rattle.command_answers.specs.declared.words.WordFault.TheVariants.{NotANetwork};
 ghost use Rattle.abr_cli.specs.Changing.{Asks, IsChangesTold, LacksNetwork};
 
 use crate::replaying::{say_end, say_fault};
-use changes::tell_changes;
+use changes::{Telling, tell_changes};
 use command_answers::{CommandFault, read_network};
 use ospf_types::prefix::Prefix;
 use std::alloc::Global;
@@ -13,19 +13,23 @@ use std::hash::RandomState;
 use std::io;
 use worker_replay::ManyFault;
 
-/// The command `changes`, as it was given.
+/// The command `changes` or `follow`, as it was given.
 #[derive(Clone, Copy)]
 pub struct Changes<'a> {
     /// The recording's name.
     pub file: &'a str,
     /// The word of the one network that is asked for, where not all are.
     pub only: Option<&'a str>,
+    /// Whether it is told too what came of a line that changed nothing, and of each line before the next is waited for.
+    pub answers: bool,
+    /// Whether a line at fault behind the front is told of and skipped.
+    pub skips: bool,
 }
 
 impl Changes<'_> {
-    /// Runs the recording that `input` holds, and writes to `out` what each of its events changed. Why it ends early is written
-    /// to `faults`; what is returned is the status: 2 where the word is no network, and then nothing was read, and else 0
-    /// or 1.
+    /// Runs the recording that comes from `input`, and writes to `out` what each of its events changed. Why it ends early is
+    /// written to `faults`; what is returned is the status: 2 where the word is no network, and then nothing was read, and
+    /// else 0 or 1.
     pub fn run<R: io::Read, W: io::Write, F: io::Write>(
         self,
         alloc: Global,
@@ -34,15 +38,21 @@ impl Changes<'_> {
         out: &mut W,
         faults: &mut F,
     ) -> u8
-        ensures { IsChangesTold self.entry.file self.entry.only result (R.remaining input.old)
-            (R.remaining input.new) (W.contents out.old) (W.contents out.new)
-            (F.contents faults.old) (F.contents faults.new) }
+        ensures { IsChangesTold self.entry.file self.entry.only self.entry.answers
+            self.entry.skips result (R.remaining input.old) (R.remaining input.new)
+            (W.contents out.old) (W.contents out.new) (F.contents faults.old)
+            (F.contents faults.new) }
     {
         let only = match asked(self.only) {
             Ok(only) => only,
             Err(fault) => return say_fault(alloc, fault, faults),
         };
-        match tell_changes(alloc, hashing, input, out, only) {
+        let telling = Telling {
+            only,
+            answers: self.answers,
+            skips: self.skips,
+        };
+        match tell_changes(alloc, hashing, input, out, telling) {
             Ok(()) => 0,
             Err(fault) => say_end(alloc, self.file, ManyFault::Replay(fault), faults),
         }

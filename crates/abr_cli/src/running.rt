@@ -1,5 +1,5 @@
 //! What the program does with its words.
-ghost use Rattle.std.specs.Prelude.{IfOk};
+ghost use Rattle.std.specs.Prelude.{◌≡◌, IfOk, codes, false, not, true};
 ghost use Rattle.command_line.specs.Command.{IsFit};
 ghost use Rattle.abr_cli.specs.Jobs.{IsJobTold};
 
@@ -55,10 +55,42 @@ impl Invocation<'_> {
                 replay.run(rt, alloc, hashing, input, out, faults)
             }
             Job::Changes { file, only } => {
-                let changes = Changes { file, only };
-                changes.run(alloc, hashing, input, out, faults)
+                changes_of(file, only).run(alloc, hashing, input, out, faults)
+            }
+            Job::Follow { only, strict } => {
+                follow_of(only, strict).run(alloc, hashing, input, out, faults)
             }
             Job::Fault(word) => fault(alloc, word, out, faults),
         }
+    }
+}
+
+// The command `changes`: it tells what changed, and ends at the first fault.
+fn changes_of<'a>(file: &'a str, only: Option<&'a str>) -> Changes<'a>
+    ensures file { result.file ≡ file.entry }
+    ensures only { result.only ≡ only.entry }
+    ensures answers { result.answers ≡ false }
+    ensures skips { result.skips ≡ false }
+{
+    Changes {
+        file,
+        only,
+        answers: false,
+        skips: false,
+    }
+}
+
+// The command `follow`: it reads standard input, tells what came of each line, and goes on behind a fault unless it is strict.
+fn follow_of<'a>(only: Option<&'a str>, strict: bool) -> Changes<'a>
+    ensures file { result.file.now ≡ codes "-" }
+    ensures only { result.only ≡ only.entry }
+    ensures answers { result.answers ≡ true }
+    ensures skips { result.skips ≡ not strict }
+{
+    Changes {
+        file: "-",
+        only,
+        answers: true,
+        skips: !strict,
     }
 }

@@ -1,5 +1,5 @@
 use Rattle.std.proofs.Common.{ap, Err, inl, inr, refl}
-use Rattle.abr_cli.proofs.Changed.{early_by_fault, told_early, word_said}
+use Rattle.abr_cli.proofs.Changed.{early_by_fault, word_said}
 use Rattle.abr_cli.proofs.changing.Changes.run.Goals as goal
 
 pub returns-in-Err : goal.returns-in-Err
@@ -11,7 +11,5 @@ returns-in-Ok-tell_changes g c = inr (c.in-Ok.only, c.in-Ok.ensures.asked, inl (
 pub returns-in-Err-tell_changes : goal.returns-in-Err-tell_changes
 returns-in-Err-tell_changes g c =
     let said = c.in-Err-tell_changes.ensures in
-    let held = g.W.Write.contents in
-    let early = early_by_fault c.in-Ok.only c.in-Err-tell_changes.fault _ _ _ _ (λ e. ap held (said.read (ap Err e))) (λ f e. let h = said.line f (ap Err e) in (ap held h.0, h.1)) (λ e. said.write (ap Err e)) (λ e. said.closed (ap Err e))
-    (λ e. elim (said.memory (ap Err e)) [ inl h ↦ inl (ap held h) | inr h ↦ inr h ]) in
-    inr (c.in-Ok.only, c.in-Ok.ensures.asked, told_early _ _ c.in-Err-tell_changes.fault _ _ _ _ _ _ _ early c.say_end.ensures)
+    let early = early_by_fault g.W.Write.contents _ c.in-Err-tell_changes.fault _ _ _ _ (λ e. said.read (ap Err e)) (λ f e. said.line f (ap Err e)) (λ e. said.write (ap Err e)) (λ e. said.closed (ap Err e)) (λ e. said.memory (ap Err e)) in
+    inr (c.in-Ok.only, c.in-Ok.ensures.asked, inr (c.in-Err-tell_changes.fault, early, c.say_end.ensures))
