@@ -27,7 +27,7 @@ use std::{fs, io};
 use trial::is_as_wanted;
 
 // The files of rows.
-const FILES: [&str; 12] = [
+const FILES: [&str; 13] = [
     "commands.rows",
     "recordings.rows",
     "versions.rows",
@@ -40,6 +40,7 @@ const FILES: [&str; 12] = [
     "updates.rows",
     "workers.rows",
     "changes.rows",
+    "follow.rows",
 ];
 
 /// How many rows ran, and how many of them differ.

@@ -1,7 +1,7 @@
 //! What events changed, over readers and writers that fail.
 
 use crate::replays::{RECORDING, some_device};
-use changes::tell_changes;
+use changes::{Telling, tell_changes};
 use recording::{Fault, LineFault};
 use replay::ReplayFault;
 use std::alloc::Global;
@@ -11,6 +11,20 @@ use std::test::Fail;
 
 const CHANGES: &str = "5 set 192.0.2.0/24 intra 0.0.0.0 10 0 direct:1
 ";
+
+// All that is told, and no answers; the first fault ends it.
+const ALL: Telling = Telling {
+    only: None,
+    answers: false,
+    skips: false,
+};
+
+// Answers too, and faults are skipped.
+const ANSWERS: Telling = Telling {
+    only: None,
+    answers: true,
+    skips: true,
+};
 
 // What is answered with so many reads and writes, and whether what was written is a beginning of the
 // changes, and all of them.
@@ -23,7 +37,7 @@ fn tells(
 ) -> (Result<(), ReplayFault>, bool, bool) {
     let mut input = some_device(alloc, text, calls.0, None);
     let mut out = some_device(alloc, "", calls.1, failure);
-    let answer = tell_changes(alloc, hashing, &mut input, &mut out, None);
+    let answer = tell_changes(alloc, hashing, &mut input, &mut out, ALL);
     let written = out.taken.as_slice();
     let begins = CHANGES.as_bytes().starts_with(written);
     (answer, begins, written.len() == CHANGES.len())
@@ -35,8 +49,8 @@ fn a_reader_that_fails(rt: HostRuntime) -> Result<(), Fail> {
     let hashing = RandomState::new(&rt)?;
     let mut all = true;
     for calls in 0..15 {
-        let found = tells(rt.alloc(), hashing, RECORDING, (calls, 255), None);
-        all &= found == (Err(ReplayFault::Read), true, false);
+        let (answer, begins, _) = tells(rt.alloc(), hashing, RECORDING, (calls, 255), None);
+        all &= answer == Err(ReplayFault::Read) && begins;
     }
     let whole = tells(rt.alloc(), hashing, RECORDING, (255, 255), None);
     assert!(rt; all && whole == (Ok(()), true, true));
@@ -69,5 +83,36 @@ fn a_fault_of_the_input_writes_nothing(rt: HostRuntime) -> Result<(), Fail> {
     let line_fault = ReplayFault::Line(LineFault { line, fault });
     let found = tells(rt.alloc(), hashing, "abr 1\n", (255, 0), None);
     assert!(rt; found == (Err(line_fault), true, false));
+    Ok(())
+}
+
+/// Gives a line at each call, and counts them.
+#[derive(Drop)]
+struct LineByLine<'a> {
+    left: &'a [u8],
+    calls: usize,
+}
+
+impl io::Read for LineByLine<'_> {
+    fn read(&mut self, buf: &mut [u8]) -> io::Result<usize> {
+        self.calls = self.calls.saturating_add(1);
+        let end = self.left.iter().position(|byte| *byte == b'\n');
+        let most = end.map_or(0, |place| place + 1).min(buf.len());
+        self.left.read(&mut buf[..most])
+    }
+}
+
+// Nothing can be written: it ends with the first line of which something is told, before the next is read.
+#[test]
+fn a_line_is_answered_before_the_next_is_read(rt: HostRuntime) -> Result<(), Fail> {
+    let hashing = RandomState::new(&rt)?;
+    let mut input = LineByLine {
+        left: RECORDING.as_bytes(),
+        calls: 0,
+    };
+    let closed = Some(io::ErrorKind::BrokenPipe);
+    let mut out = some_device(rt.alloc(), "", 0, closed);
+    let answer = tell_changes(rt.alloc(), hashing, &mut input, &mut out, ANSWERS);
+    assert!(rt; answer == Err(ReplayFault::Closed) && input.calls == 5);
     Ok(())
 }
