@@ -1,11 +1,12 @@
 #!/usr/bin/env python3
 """Takes what `abr changes` tells, one change after the other, and compares what comes out with what `abr replay` prints.
 
-    bench/fold.py [--program FILE] [--cuts N] RECORDING..
+    bench/fold.py [--program FILE] [--cuts N] [--follow] RECORDING..
 
 From nothing on, the changes have to give the routing table and what is due in each area: after the recording, and with --cuts
 also where it is cut off behind each of N of its lines, spread over it. Each change has to change something, and the numbers
-of their lines ascend. A recording that is refused has to be refused alike by both commands.
+of their lines ascend. A recording that is refused has to be refused alike by both commands. With --follow, `abr follow --strict`
+has to tell these changes too, and between them what the replay prints of look-ups and of what was refused.
 The program is what `./abr build` built, unless FILE is another. The last line counts, and the status is 1 where any differs.
 """
 import argparse
@@ -20,6 +21,7 @@ def main():
     words = argparse.ArgumentParser()
     words.add_argument("--program", default=f"{TOP}/crates/abr/out/abr")
     words.add_argument("--cuts", type=int, default=0)
+    words.add_argument("--follow", action="store_true")
     words.add_argument("recordings", nargs="+")
     given = words.parse_args()
     count = differ = 0
@@ -28,7 +30,10 @@ def main():
             lines = it.read().splitlines(keepends=True)
         for end in ends_of(len(lines), given.cuts):
             count += 1
-            fault = fault_of(given.program, b"".join(lines[:end]))
+            recording = b"".join(lines[:end])
+            fault = fault_of(given.program, recording)
+            if not fault and given.follow:
+                fault = fault_of_following(given.program, recording)
             if fault:
                 differ += 1
                 print(f"{file}, {end} lines: {fault}")
@@ -57,6 +62,21 @@ def fault_of(program, recording):
     if due != due_of(run(program, recording, "replay", "-", "--show", "due").stdout.decode().splitlines()):
         return "what is due differs"
     return ""
+
+
+def fault_of_following(program, recording):
+    """Returns what is wrong with what is told of a recording as it comes, or nothing."""
+    routes = run(program, recording, "replay", "-")
+    changes = run(program, recording, "changes", "-")
+    followed = run(program, recording, "follow", "--strict")
+    if (followed.returncode, followed.stderr) != (changes.returncode, changes.stderr):
+        return f"{followed.stderr} is not {changes.stderr}"
+    told = followed.stdout.decode().splitlines()
+    answers = [line for line in told if line.split(" ")[1] in ("lookup", "refused")]
+    if [line for line in told if line not in answers] != changes.stdout.decode().splitlines():
+        return "what is told as it comes differs"
+    printed = [line for line in routes.stdout.decode().splitlines() if line[:1].isdigit()]
+    return "" if routes.returncode or answers == printed else "what is answered as it comes differs"
 
 
 def run(program, recording, *words):
