@@ -6,9 +6,11 @@ use Rattle.clap.specs.Faults.{fault_of}
 use Rattle.clap.specs.Kinds.{HasKind, IsAmong, Kinds}
 use Rattle.clap.specs.declared.error.Error.{Error}
 use Rattle.clap.specs.declared.error.kind.ErrorKind.TheVariants.{OutOfMemory}
+use Rattle.output_format.specs.declared.Format.{Format}
+use Rattle.output_format.specs.declared.Format.TheVariants as form
 use Rattle.recording.specs.declared.show.Show.{Show}
 use Rattle.recording.specs.declared.show.Show.TheVariants.{Routes, Due, Lsdb, Journal}
-use Rattle.command_line.specs.Command.{HasChangesWords, HasDecodeWords, HasFlag, HasFollowWords, HasJob, HasJobWords, HasReplayWords, HasTexts, HasWords, IsFit, IsJob, IsMistake, JobTexts, OfOne, OfDecode, OfReplay, OfChanges, OfFollow, OfFault, OneTexts, WritesWorkers, command_name, job_texts, program, show_name}
+use Rattle.command_line.specs.Command.{ReplayTexts, ChangesTexts, FollowTexts, HasFormat, HasChangesWords, HasDecodeWords, HasFlag, HasFollowWords, HasJob, HasJobWords, HasReplayWords, HasTexts, HasWords, IsFit, IsJob, IsMistake, JobTexts, OfOne, OfDecode, OfReplay, OfChanges, OfFollow, OfFault, OneTexts, WritesWorkers, command_name, job_texts, program, show_name, format_name}
 use Rattle.command_line.specs.declared.command.Job.{Job}
 use Rattle.command_line.specs.declared.command.Job.TheVariants.{One, Decode, Replay, Changes, Follow, Fault}
 use Rattle.command_line.specs.declared.command.Usage.{Usage}
@@ -46,6 +48,12 @@ show_unique Journal Due e = absurd (shows_differ (show_name Journal) (show_name 
 show_unique Journal Lsdb e = absurd (shows_differ (show_name Journal) (show_name Journal) (show_name Lsdb) (lit< tt) refl e)
 show_unique Journal Journal e = refl
 
+format_unique : (a b : Format) → format_name a ≡ format_name b → a ≡ b
+format_unique form.Text form.Text e = refl
+format_unique form.Text form.Json e = absurd (apart (format_name form.Text) (format_name form.Json) refl e)
+format_unique form.Json form.Text e = absurd (apart (format_name form.Json) (format_name form.Text) refl e)
+format_unique form.Json form.Json e = refl
+
 workers_unique : (word : Text) (m n : ℕ) → WritesWorkers word m → WritesWorkers word n → m ≡ n
 workers_unique word m n h k = sym h.written ∙ k.written
 
@@ -55,16 +63,40 @@ flag_unique rows id a b h k = sym h.2 ∙ ap (λ (value : Text). bytes_eq value 
 decode_unique : (rows : List Row) (a b : Text) (x y : Bool) → HasDecodeWords rows a x → HasDecodeWords rows b y → OfDecode a x ≡ OfDecode b y
 decode_unique rows a b x y h k = rw (one_given _ a b h.0 k.0, flag_unique rows (codes "long") x y h.1 k.1) refl
 
-replay_unique : (rows : List Row) (a b : Text) (m n : ℕ) (x y : Show) → HasReplayWords rows a m x → HasReplayWords rows b n y → OfReplay a m x ≡ OfReplay b n y
-replay_unique rows a b m n x y h k =
-    let count = workers_unique k.1.0 m n (subst (λ (w : Text). WritesWorkers w m) (one_given _ h.1.0 k.1.0 h.1.1 k.1.1) h.1.2) k.1.2 in
-    rw (one_given _ a b h.0 k.0, count, show_unique x y (one_given _ (show_name x) (show_name y) h.2 k.2)) refl
+form_unique : (rows : List Row) (a b : Format) → HasFormat rows a → HasFormat rows b → a ≡ b
+form_unique rows a b h k = format_unique a b (one_given _ (format_name a) (format_name b) h k)
 
-changes_unique : (rows : List Row) (a b : Text) (x y : Option Text) → HasChangesWords rows a x → HasChangesWords rows b y → OfChanges a x ≡ OfChanges b y
-changes_unique rows a b x y h k = rw (one_given _ a b h.0 k.0, sym h.1 ∙ k.1) refl
+replays_same : (a b : Text) (m n : ℕ) (x y : Show) (v w : Format) (p q : Bool) → a ≡ b → m ≡ n → x ≡ y → v ≡ w → p ≡ q
+    → (let t : ReplayTexts = record { file = a; workers = m; show = x; format = v; progress = p } in
+    let u : ReplayTexts = record { file = b; workers = n; show = y; format = w; progress = q } in t ≡ u)
+replays_same a b m n x y v w p q e f g h k = rw (e, f, g, h, k) refl
 
-follow_unique : (rows : List Row) (a b : Option Text) (x y : Bool) → HasFollowWords rows a x → HasFollowWords rows b y → OfFollow a x ≡ OfFollow b y
-follow_unique rows a b x y h k = rw (sym h.0 ∙ k.0, flag_unique rows (codes "strict") x y h.1 k.1) refl
+replay_unique : (rows : List Row) (t u : ReplayTexts) → HasReplayWords rows t → HasReplayWords rows u → t ≡ u
+replay_unique rows t u h k =
+    let count = workers_unique k.1.0 t.workers u.workers (subst (λ (w : Text). WritesWorkers w t.workers) (one_given _ h.1.0 k.1.0 h.1.1 k.1.1) h.1.2) k.1.2 in
+    let shown = show_unique t.show u.show (one_given _ (show_name t.show) (show_name u.show) h.2 k.2) in
+    replays_same t.file u.file t.workers u.workers t.show u.show t.format u.format t.progress u.progress
+    (one_given _ t.file u.file h.0 k.0) count shown (form_unique rows t.format u.format h.3 k.3) (flag_unique rows (codes "progress") t.progress u.progress h.4 k.4)
+
+changes_same : (a b : Text) (x y : Option Text) (v w : Format) (p q : Bool) → a ≡ b → x ≡ y → v ≡ w → p ≡ q
+    → (let t : ChangesTexts = record { file = a; only = x; format = v; progress = p } in
+    let u : ChangesTexts = record { file = b; only = y; format = w; progress = q } in t ≡ u)
+changes_same a b x y v w p q e f g h = rw (e, f, g, h) refl
+
+changes_unique : (rows : List Row) (t u : ChangesTexts) → HasChangesWords rows t → HasChangesWords rows u → t ≡ u
+changes_unique rows t u h k =
+    changes_same t.file u.file t.only u.only t.format u.format t.progress u.progress
+    (one_given _ t.file u.file h.0 k.0) (sym h.1 ∙ k.1) (form_unique rows t.format u.format h.2 k.2) (flag_unique rows (codes "progress") t.progress u.progress h.3 k.3)
+
+follows_same : (x y : Option Text) (p q : Bool) (v w : Format) → x ≡ y → p ≡ q → v ≡ w
+    → (let t : FollowTexts = record { only = x; strict = p; format = v } in
+    let u : FollowTexts = record { only = y; strict = q; format = w } in t ≡ u)
+follows_same x y p q v w e f g = rw (e, f, g) refl
+
+follow_unique : (rows : List Row) (t u : FollowTexts) → HasFollowWords rows t → HasFollowWords rows u → t ≡ u
+follow_unique rows t u h k =
+    follows_same t.only u.only t.strict u.strict t.format u.format
+    (sym h.0 ∙ k.0) (flag_unique rows (codes "strict") t.strict u.strict h.1 k.1) (form_unique rows t.format u.format h.2 k.2)
 
 -- the words of one command were given for one job
 same_texts : (rows : List Row) (a b : JobTexts) → command_name a ≡ command_name b → HasJobWords rows a → HasJobWords rows b → a ≡ b
@@ -72,12 +104,12 @@ same_texts rows (OfOne t) (OfOne u) e h k = ap OfOne (words_unique rows t u h k)
 same_texts rows (OfOne t) other e h k = absurd (apart (codes "one") (command_name other) refl e)
 same_texts rows (OfDecode a x) (OfDecode b y) e h k = decode_unique rows a b x y h k
 same_texts rows (OfDecode a x) other e h k = absurd (apart (codes "decode") (command_name other) refl e)
-same_texts rows (OfReplay a m x) (OfReplay b n y) e h k = replay_unique rows a b m n x y h k
-same_texts rows (OfReplay a m x) other e h k = absurd (apart (codes "replay") (command_name other) refl e)
-same_texts rows (OfChanges a x) (OfChanges b y) e h k = changes_unique rows a b x y h k
-same_texts rows (OfChanges a x) other e h k = absurd (apart (codes "changes") (command_name other) refl e)
-same_texts rows (OfFollow a x) (OfFollow b y) e h k = follow_unique rows a b x y h k
-same_texts rows (OfFollow a x) other e h k = absurd (apart (codes "follow") (command_name other) refl e)
+same_texts rows (OfReplay t) (OfReplay u) e h k = ap OfReplay (replay_unique rows t u h k)
+same_texts rows (OfReplay t) other e h k = absurd (apart (codes "replay") (command_name other) refl e)
+same_texts rows (OfChanges t) (OfChanges u) e h k = ap OfChanges (changes_unique rows t u h k)
+same_texts rows (OfChanges t) other e h k = absurd (apart (codes "changes") (command_name other) refl e)
+same_texts rows (OfFollow t) (OfFollow u) e h k = ap OfFollow (follow_unique rows t u h k)
+same_texts rows (OfFollow t) other e h k = absurd (apart (codes "follow") (command_name other) refl e)
 same_texts rows (OfFault a) (OfFault b) e h k = ap OfFault (one_given _ a b h k)
 same_texts rows (OfFault a) other e h k = absurd (apart (codes "fault") (command_name other) refl e)
 
@@ -90,9 +122,9 @@ unique s a b h k =
 pub job_is_fit : (s : Option (Text × List Row)) (job : Job) → IsJob s job → IsFit job
 job_is_fit s (One w) h = tt
 job_is_fit s (Decode word long) h = tt
-job_is_fit s (Replay file workers show) h = h.2.1.2.within
-job_is_fit s (Changes file only) h = tt
-job_is_fit s (Follow only strict) h = tt
+job_is_fit s (Replay file workers show format progress) h = h.2.1.2.within
+job_is_fit s (Changes file only format progress) h = tt
+job_is_fit s (Follow only strict format) h = tt
 job_is_fit s (Fault number) h = tt
 
 -- ---- a known line

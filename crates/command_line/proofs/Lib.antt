@@ -2,5 +2,9 @@ pub mod Building
 pub mod Matches
 pub mod Parsers
 pub mod Names
+pub mod Walks
 pub mod Line
+pub mod ReplayLines
+pub mod ChangesLines
+pub mod FollowLines
 pub mod Jobs

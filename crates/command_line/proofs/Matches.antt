@@ -10,8 +10,7 @@ use Rattle.clap.specs.declared.parser.matches.Found.{Found}
 use Rattle.clap.specs.declared.parser.matches.SubCommand.{SubCommand}
 use Rattle.clap.specs.declared.parser.matches.ArgMatches.TheViews.{out-SubCommand}
 use Rattle.clap.proofs.WalkLemmas.{first_value-rows}
-use Rattle.recording.specs.declared.show.Show.{Show}
-use Rattle.command_line.specs.Command.{OneTexts, HasChangesWords, HasDecodeWords, HasFollowWords, HasJob, HasJobWords, HasReplayWords, HasWords, IsJob, IsJobOf, JobTexts, OfOne, OfDecode, OfReplay, OfChanges, OfFollow, OfFault, command_name}
+use Rattle.command_line.specs.Command.{OneTexts, ReplayTexts, ChangesTexts, FollowTexts, HasChangesWords, HasDecodeWords, HasFollowWords, HasJob, HasJobWords, HasReplayWords, HasWords, IsJob, IsJobOf, JobTexts, OfOne, OfDecode, OfReplay, OfChanges, OfFollow, OfFault, command_name}
 use Rattle.command_line.specs.declared.command.Job.{Job}
 
 pub same_text : (xs ys : List ℕ) → bytes_eq xs ys ≡ true → xs ≡ ys
@@ -68,16 +67,16 @@ pub no_decode : (name : Text) (rows : List Row) → name ≡ codes "decode" → 
 no_decode name rows is none (OfDecode hex long) e h = none hex long h
 no_decode name rows is none other e h = apart (command_name other) (codes "decode") refl (e ∙ is)
 
-pub no_replay : (name : Text) (rows : List Row) → name ≡ codes "replay" → ((file : Text) (workers : ℕ) (show : Show) → HasReplayWords rows file workers show → ⊥) → NoJobOf name rows
-no_replay name rows is none (OfReplay file workers show) e h = none file workers show h
+pub no_replay : (name : Text) (rows : List Row) → name ≡ codes "replay" → ((t : ReplayTexts) → HasReplayWords rows t → ⊥) → NoJobOf name rows
+no_replay name rows is none (OfReplay t) e h = none t h
 no_replay name rows is none other e h = apart (command_name other) (codes "replay") refl (e ∙ is)
 
-pub no_changes : (name : Text) (rows : List Row) → name ≡ codes "changes" → ((file : Text) (only : Option Text) → HasChangesWords rows file only → ⊥) → NoJobOf name rows
-no_changes name rows is none (OfChanges file only) e h = none file only h
+pub no_changes : (name : Text) (rows : List Row) → name ≡ codes "changes" → ((t : ChangesTexts) → HasChangesWords rows t → ⊥) → NoJobOf name rows
+no_changes name rows is none (OfChanges t) e h = none t h
 no_changes name rows is none other e h = apart (command_name other) (codes "changes") refl (e ∙ is)
 
-pub no_follow : (name : Text) (rows : List Row) → name ≡ codes "follow" → ((only : Option Text) (strict : Bool) → HasFollowWords rows only strict → ⊥) → NoJobOf name rows
-no_follow name rows is none (OfFollow only strict) e h = none only strict h
+pub no_follow : (name : Text) (rows : List Row) → name ≡ codes "follow" → ((t : FollowTexts) → HasFollowWords rows t → ⊥) → NoJobOf name rows
+no_follow name rows is none (OfFollow t) e h = none t h
 no_follow name rows is none other e h = apart (command_name other) (codes "follow") refl (e ∙ is)
 
 pub no_fault : (name : Text) (rows : List Row) → name ≡ codes "fault" → ((number : Text) → first_of (codes "NUMBER") rows ≡ Some number → ⊥) → NoJobOf name rows

@@ -1,4 +1,4 @@
--- Where the names of what is shown stand in memory is of no matter to the command line.
+-- Where the names that options take stand in memory is of no matter to the command line.
 use Rattle.std.proofs.Common.{◌≡◌, ◌∙◌, ◌||◌, Bool, sym, ap, ap₂, subst, refl, List, [], ◌∷◌, map, Option, Some, None, is_some, true}
 use Rattle.std.specs.Prelude.{option_map, if◌then◌else◌}
 use Rattle.std.specs.List.{list_any}
@@ -16,7 +16,7 @@ use Rattle.clap.specs.declared.error.Error.{Error}
 use Rattle.clap.specs.declared.error.kind.ErrorKind.TheVariants.{InvalidValue}
 use Rattle.clap.proofs.OnLiterals.{clap_on_literals}
 use Rattle.command_line.proofs.Parsers.{below, entered_fault_same, entered_same}
-use Rattle.command_line.specs.Command.{AreShowNames, IsProgram, References, program, program_with, reference}
+use Rattle.command_line.specs.Command.{HaveNames, IsProgram, Places, References, format_names, program, program_with, reference, references, show_names}
 
 -- the parser with other references to its names
 abbrev moved : ValueParser → ValueParser
@@ -44,29 +44,42 @@ checks ignore_case (Some _) t = refl
 abbrev stop_of : List Text → Option (Text × List Text)
 stop_of words = stop_after (built program).top.rules (names_of (built program)) (argument_words program words)
 
-program_is : (names : References) → AreShowNames names → below moved_if_some reads checks (built (program_with names)) ≡ built program
-program_is names h = ap (λ (texts : List Text). built (program_with (reference (map reference texts)))) h
+abbrev texts_at : References → List Text
+texts_at names = map (λ s. s.now) names.now
 
-entered_is : (names : References) (stop : Option (Text × List Text)) → AreShowNames names → entered (built (program_with names)) stop ≡ entered (built program) stop
-entered_is names stop h =
-    sym (entered_same moved_if_some reads checks (built (program_with names)) stop) ∙ ap (λ (a : App). entered a stop) (program_is names h)
+-- the places of these names
+abbrev placed : List Text → List Text → List Text → List Text → Places
+placed a b c d = record { shows = references a; of_replay = references b; of_changes = references c; of_follow = references d }
 
-subcommand_is : (names : References) (words : List Text) → AreShowNames names → subcommand_of (program_with names) words ≡ subcommand_of program words
-subcommand_is names words h = entered_is names (stop_of words) h
+placed_same : (a b c d a2 b2 c2 d2 : List Text) → a ≡ a2 → b ≡ b2 → c ≡ c2 → d ≡ d2 → placed a b c d ≡ placed a2 b2 c2 d2
+placed_same a b c d a2 b2 c2 d2 p q r s = rw (p, q, r, s) refl
 
-fault_is : (names : References) (words : List Text) → AreShowNames names → fault_of (program_with names) words ≡ fault_of program words
-fault_is names words h =
+program_is : (p : Places) → HaveNames p → below moved_if_some reads checks (built (program_with p)) ≡ built program
+program_is p h =
+    ap (λ (q : Places). built (program_with q))
+    (placed_same (texts_at p.shows) (texts_at p.of_replay) (texts_at p.of_changes) (texts_at p.of_follow) show_names format_names format_names format_names
+    h.shows h.of_replay h.of_changes h.of_follow)
+
+entered_is : (p : Places) (stop : Option (Text × List Text)) → HaveNames p → entered (built (program_with p)) stop ≡ entered (built program) stop
+entered_is p stop h =
+    sym (entered_same moved_if_some reads checks (built (program_with p)) stop) ∙ ap (λ (a : App). entered a stop) (program_is p h)
+
+subcommand_is : (p : Places) (words : List Text) → HaveNames p → subcommand_of (program_with p) words ≡ subcommand_of program words
+subcommand_is p words h = entered_is p (stop_of words) h
+
+fault_is : (p : Places) (words : List Text) → HaveNames p → fault_of (program_with p) words ≡ fault_of program words
+fault_is p words h =
     ap₂ (λ (has_subcommand : Bool) (kinds : Kinds). level_fault (built program).top (names_of (built program)) nothing_held (argument_words program words) has_subcommand kinds)
-    (ap is_some (entered_is names (stop_of words) h))
-    (sym (entered_fault_same moved_if_some reads checks (built (program_with names)) (stop_of words)) ∙ ap (λ (a : App). entered_fault a (stop_of words)) (program_is names h))
+    (ap is_some (entered_is p (stop_of words) h))
+    (sym (entered_fault_same moved_if_some reads checks (built (program_with p)) (stop_of words)) ∙ ap (λ (a : App). entered_fault a (stop_of words)) (program_is p h))
 
-is_simple_with : (names : References) → is_simple (program_with names) ≡ true
+is_simple_with : (p : Places) → is_simple (program_with p) ≡ true
 unfolding clap_on_literals
-is_simple_with names = refl
+is_simple_with p = refl
 
-is_free_with : (names : References) → is_simple_and_free (program_with names) ≡ true
+is_free_with : (p : Places) → is_simple_and_free (program_with p) ≡ true
 unfolding clap_on_literals
-is_free_with names = refl
+is_free_with p = refl
 
 -- the matches of the program, and why it fails, are those of its words
 pub met_as_given : (a : App) (m : ArgMatches) (words : List Text) → IsProgram a → HasMatchesOf a words m → subcommand_rows_of m ≡ subcommand_of program words

@@ -1,4 +1,4 @@
--- The command line: `abr one ROUTER AREA ADDRESS HEX LOOKUP`, `abr decode HEX [--long]`, `abr replay FILE [--workers N] [--show NAME]`, `abr changes FILE [--only PREFIX]`, `abr follow [--only PREFIX] [--strict]` and `abr fault NUMBER`.
+-- The command line: `abr one ROUTER AREA ADDRESS HEX LOOKUP`, `abr decode HEX [--long]`, `abr replay FILE [--workers N] [--show NAME] [--format NAME] [--progress]`, `abr changes FILE [--only PREFIX] [--format NAME] [--progress]`, `abr follow [--only PREFIX] [--strict] [--format NAME]` and `abr fault NUMBER`.
 use Rattle.std.specs.Prelude.{ℕ, ◌≡◌, ◌⊎◌, ◌≤◌, Bool, true, false, List, [], ◌∷◌, Option, Some, None, Result, MatchResult, codes, map, option_map}
 use Rattle.std.specs.Borrow.{Bor}
 use Rattle.std.specs.Str.{bytes_eq}
@@ -8,6 +8,8 @@ use Rattle.clap.specs.Lexer.{strip_byte}
 use Rattle.clap.specs.declared.builder.action.ArgAction.TheVariants.{SetTrue}
 use Rattle.clap.specs.declared.builder.value_parser.ValueParser.TheVariants.{Names, Unsigned}
 use Rattle.clap.specs.declared.error.kind.ErrorKind.TheVariants.{MissingRequiredArgument}
+use Rattle.output_format.specs.declared.Format.{Format}
+use Rattle.output_format.specs.declared.Format.TheVariants as form
 use Rattle.recording.specs.declared.show.Show.{Show}
 use Rattle.recording.specs.declared.show.Show.TheVariants.{Routes, Due, Lsdb, Journal}
 use Rattle.command_line.specs.declared.command.OneWords.{OneWords}
@@ -35,15 +37,13 @@ decode_command = with_rule (with_rule (new_app (codes "decode")) (required_word 
 abbrev pub only_option : Rule
 only_option = record (new_rule (codes "only")) { long = Some (codes "only"); value_names = 1 }
 
-abbrev pub changes_command : App
-changes_command = with_rule (with_rule (new_app (codes "changes")) (required_word (codes "FILE"))) only_option
+-- the flag `--progress`
+abbrev pub progress_flag : Rule
+progress_flag = record (new_rule (codes "progress")) { long = Some (codes "progress"); action = Some SetTrue }
 
 -- the flag `--strict`
 abbrev pub strict_flag : Rule
 strict_flag = record (new_rule (codes "strict")) { long = Some (codes "strict"); action = Some SetTrue }
-
-abbrev pub follow_command : App
-follow_command = with_rule (with_rule (new_app (codes "follow")) only_option) strict_flag
 
 abbrev pub fault_command : App
 fault_command = with_rule (new_app (codes "fault")) (required_word (codes "NUMBER"))
@@ -59,6 +59,15 @@ show_name Journal = codes "journal"
 abbrev pub show_names : List Text
 show_names = show_name Routes ∷ show_name Due ∷ show_name Lsdb ∷ show_name Journal ∷ []
 
+-- the name of the form
+abbrev pub format_name : Format → Text
+format_name form.Text = codes "text"
+format_name form.Json = codes "json"
+
+-- the names that `--format` takes
+abbrev pub format_names : List Text
+format_names = format_name form.Text ∷ format_name form.Json ∷ []
+
 -- a reference to references to names
 abbrev pub References : Type 0
 References = Bor (List (Bor Text))
@@ -67,6 +76,10 @@ References = Bor (List (Bor Text))
 abbrev pub AreShowNames : References → Type 0
 AreShowNames names = map (λ s. s.now) names.now ≡ show_names
 
+-- they point to the names that `--format` takes
+abbrev pub AreFormatNames : References → Type 0
+AreFormatNames names = map (λ s. s.now) names.now ≡ format_names
+
 -- `--show NAME`, by default `routes`
 abbrev pub show_option : References → Rule
 show_option names = record (new_rule (codes "show")) {
@@ -74,6 +87,15 @@ show_option names = record (new_rule (codes "show")) {
   value_names = 1;
   parser = Some (Names names);
   defaults = show_name Routes ∷ [];
+}
+
+-- `--format NAME`, by default `text`
+abbrev pub format_option : References → Rule
+format_option names = record (new_rule (codes "format")) {
+  long = Some (codes "format");
+  value_names = 1;
+  parser = Some (Names names);
+  defaults = format_name form.Text ∷ [];
 }
 
 -- `--workers N`, by default 1
@@ -85,38 +107,84 @@ workers_option = record (new_rule (codes "workers")) {
   defaults = codes "1" ∷ [];
 }
 
-abbrev pub replay_command : References → App
-replay_command names =
-    with_rule (with_rule (with_rule (new_app (codes "replay")) (required_word (codes "FILE"))) workers_option) (show_option names)
+-- a command that reads a file
+abbrev pub file_command : Text → App
+file_command name = with_rule (new_app name) (required_word (codes "FILE"))
+
+-- with the names that `--show` takes, and those that `--format` does
+abbrev pub replay_command : References → References → App
+replay_command shows formats =
+    with_rule (with_rule (with_rule (with_rule (file_command (codes "replay")) workers_option) (show_option shows)) (format_option formats)) progress_flag
+
+abbrev pub changes_command : References → App
+changes_command formats = with_rule (with_rule (with_rule (file_command (codes "changes")) only_option) (format_option formats)) progress_flag
+
+abbrev pub follow_command : References → App
+follow_command formats = with_rule (with_rule (with_rule (new_app (codes "follow")) only_option) strict_flag) (format_option formats)
 
 -- the command `abr replay`, wherever its references point
 abbrev pub IsReplayCommand : App → Type 0
-IsReplayCommand a = (names : References) × AreShowNames names × (a ≡ replay_command names)
+IsReplayCommand a = (shows formats : References) × AreShowNames shows × AreFormatNames formats × (a ≡ replay_command shows formats)
+
+-- the command `abr changes`, wherever its references point
+abbrev pub IsChangesCommand : App → Type 0
+IsChangesCommand a = (formats : References) × AreFormatNames formats × (a ≡ changes_command formats)
+
+-- the command `abr follow`, wherever its references point
+abbrev pub IsFollowCommand : App → Type 0
+IsFollowCommand a = (formats : References) × AreFormatNames formats × (a ≡ follow_command formats)
 
 -- the option `--show`, wherever its references point
 abbrev pub IsShowOption : Rule → Type 0
 IsShowOption rule = (names : References) × AreShowNames names × (rule ≡ show_option names)
 
+-- the option `--format`, wherever its references point
+abbrev pub IsFormatOption : Rule → Type 0
+IsFormatOption rule = (names : References) × AreFormatNames names × (rule ≡ format_option names)
+
+-- where the options of the program have their names: those of `--show`, and of `--format` in each command
+pub record Places : Type 0 where
+  pub shows : References
+  pub of_replay : References
+  pub of_changes : References
+  pub of_follow : References
+
+-- the names stand there
+pub record HaveNames (p : Places) : Type 0 where
+  pub shows : AreShowNames p.shows
+  pub of_replay : AreFormatNames p.of_replay
+  pub of_changes : AreFormatNames p.of_changes
+  pub of_follow : AreFormatNames p.of_follow
+
 -- what follows the program's name is one of its commands, or asks for its version
-abbrev pub program_with : References → App
-program_with names =
-    let p = new_app (codes "abr") in
-    let top = record p { top = record p.top { has_version = true; subcommand_required = true; arg_required_else_help = true } } in
+abbrev pub program_with : Places → App
+program_with p =
+    let named = new_app (codes "abr") in
+    let top = record named { top = record named.top { has_version = true; subcommand_required = true; arg_required_else_help = true } } in
     let first = with_subcommand (with_subcommand top one_command.top) decode_command.top in
-    let second = with_subcommand (with_subcommand first (replay_command names).top) changes_command.top in
-    with_subcommand (with_subcommand second follow_command.top) fault_command.top
+    let second = with_subcommand (with_subcommand first (replay_command p.shows p.of_replay).top) (changes_command p.of_changes).top in
+    with_subcommand (with_subcommand second (follow_command p.of_follow).top) fault_command.top
 
 -- the program, wherever its references point
 abbrev pub IsProgram : App → Type 0
-IsProgram a = (names : References) × AreShowNames names × (a ≡ program_with names)
+IsProgram a = (p : Places) × HaveNames p × (a ≡ program_with p)
 
 -- a reference to the value, at no place
 abbrev pub reference : {X : Type 0} → X → Bor X
 reference x = record { ref_ptr = (0, 0); now = x }
 
+-- references to the names, at no place
+abbrev pub references : List Text → References
+references names = reference (map reference names)
+
 -- The program. A parse gives the same for all its references, and here they point nowhere.
 abbrev pub program : App
-program = program_with (reference (map reference show_names))
+program = program_with (record {
+  shows = references show_names;
+  of_replay = references format_names;
+  of_changes = references format_names;
+  of_follow = references format_names;
+})
 
 -- the texts of the words of `abr one`
 pub record OneTexts : Type 0 where
@@ -161,53 +229,88 @@ pub record WritesWorkers (word : Text) (n : ℕ) : Type 0 where
   pub written : digits_value 10 (without_leading_plus word) ≡ n
   pub within : AreWorkers n
 
--- this file, so many workers and the name of what is shown were given; if no number was given, the matches have 1, and if no name was, `routes`
-abbrev pub HasReplayWords : List Row → Text → ℕ → Show → Type 0
-HasReplayWords rows file workers show = (first_of (codes "FILE") rows ≡ Some file)
-    × ((word : Text) × (first_of (codes "workers") rows ≡ Some word) × WritesWorkers word workers)
-    × (first_of (codes "show") rows ≡ Some (show_name show))
+-- what the words of `abr replay` say
+pub record ReplayTexts : Type 0 where
+  pub file : Text
+  pub workers : ℕ
+  pub show : Show
+  pub format : Format
+  pub progress : Bool
 
--- this file was given, and this network or none
-abbrev pub HasChangesWords : List Row → Text → Option Text → Type 0
-HasChangesWords rows file only = (first_of (codes "FILE") rows ≡ Some file) × (first_of (codes "only") rows ≡ only)
+-- what the words of `abr changes` say
+pub record ChangesTexts : Type 0 where
+  pub file : Text
+  pub only : Option Text
+  pub format : Format
+  pub progress : Bool
 
--- this network was given or none, and `--strict` or not; if not, the matches have `false`
-abbrev pub HasFollowWords : List Row → Option Text → Bool → Type 0
-HasFollowWords rows only strict = (first_of (codes "only") rows ≡ only) × HasFlag rows (codes "strict") strict
+-- what the words of `abr follow` say
+pub record FollowTexts : Type 0 where
+  pub only : Option Text
+  pub strict : Bool
+  pub format : Format
+
+-- the name of the form was given; if none was, the matches have `text`
+abbrev pub HasFormat : List Row → Format → Type 0
+HasFormat rows format = first_of (codes "format") rows ≡ Some (format_name format)
+
+-- this file, so many workers, the name of what is shown, its form, and `--progress` or not were given; if no number was given, the matches have 1, if no name was, `routes`, and if `--progress` was not, `false`
+abbrev pub HasReplayWords : List Row → ReplayTexts → Type 0
+HasReplayWords rows t = (first_of (codes "FILE") rows ≡ Some t.file)
+    × ((word : Text) × (first_of (codes "workers") rows ≡ Some word) × WritesWorkers word t.workers)
+    × (first_of (codes "show") rows ≡ Some (show_name t.show))
+    × HasFormat rows t.format
+    × HasFlag rows (codes "progress") t.progress
+
+-- this file was given, this network or none, the form, and `--progress` or not; if not, the matches have `false`
+abbrev pub HasChangesWords : List Row → ChangesTexts → Type 0
+HasChangesWords rows t = (first_of (codes "FILE") rows ≡ Some t.file)
+    × (first_of (codes "only") rows ≡ t.only)
+    × HasFormat rows t.format
+    × HasFlag rows (codes "progress") t.progress
+
+-- this network was given or none, `--strict` or not, and the form; if `--strict` was not given, the matches have `false`
+abbrev pub HasFollowWords : List Row → FollowTexts → Type 0
+HasFollowWords rows t = (first_of (codes "only") rows ≡ t.only) × HasFlag rows (codes "strict") t.strict × HasFormat rows t.format
 
 -- a job, with the texts of its words
 pub data JobTexts : Type 0 where
   OfOne : (texts : OneTexts) → JobTexts
   OfDecode : (hex : Text) (long : Bool) → JobTexts
-  OfReplay : (file : Text) (workers : ℕ) (show : Show) → JobTexts
-  OfChanges : (file : Text) (only : Option Text) → JobTexts
-  OfFollow : (only : Option Text) (strict : Bool) → JobTexts
+  OfReplay : (texts : ReplayTexts) → JobTexts
+  OfChanges : (texts : ChangesTexts) → JobTexts
+  OfFollow : (texts : FollowTexts) → JobTexts
   OfFault : (number : Text) → JobTexts
+
+-- the network of the word, where there is one
+abbrev pub network_text : Option (Bor Text) → Option Text
+network_text only = option_map (λ prefix. prefix.now) only
 
 abbrev pub job_texts : Job → JobTexts
 job_texts (One w) = OfOne (texts_of w)
 job_texts (Decode word long) = OfDecode word.now long
-job_texts (Replay file workers show) = OfReplay file.now workers show
-job_texts (Changes file only) = OfChanges file.now (option_map (λ prefix. prefix.now) only)
-job_texts (Follow only strict) = OfFollow (option_map (λ prefix. prefix.now) only) strict
+job_texts (Replay file workers show format progress) =
+    OfReplay (record { file = file.now; workers = workers; show = show; format = format; progress = progress })
+job_texts (Changes file only format progress) = OfChanges (record { file = file.now; only = network_text only; format = format; progress = progress })
+job_texts (Follow only strict format) = OfFollow (record { only = network_text only; strict = strict; format = format })
 job_texts (Fault number) = OfFault number.now
 
 -- the name of its command
 abbrev pub command_name : JobTexts → Text
 command_name (OfOne t) = codes "one"
 command_name (OfDecode hex long) = codes "decode"
-command_name (OfReplay file workers show) = codes "replay"
-command_name (OfChanges file only) = codes "changes"
-command_name (OfFollow only strict) = codes "follow"
+command_name (OfReplay t) = codes "replay"
+command_name (OfChanges t) = codes "changes"
+command_name (OfFollow t) = codes "follow"
 command_name (OfFault number) = codes "fault"
 
 -- its words were given
 abbrev pub HasJobWords : List Row → JobTexts → Type 0
 HasJobWords rows (OfOne t) = HasWords rows t
 HasJobWords rows (OfDecode hex long) = HasDecodeWords rows hex long
-HasJobWords rows (OfReplay file workers show) = HasReplayWords rows file workers show
-HasJobWords rows (OfChanges file only) = HasChangesWords rows file only
-HasJobWords rows (OfFollow only strict) = HasFollowWords rows only strict
+HasJobWords rows (OfReplay t) = HasReplayWords rows t
+HasJobWords rows (OfChanges t) = HasChangesWords rows t
+HasJobWords rows (OfFollow t) = HasFollowWords rows t
 HasJobWords rows (OfFault number) = first_of (codes "NUMBER") rows ≡ Some number
 
 -- the job is one of the command with this name, and its words were given
@@ -230,9 +333,9 @@ IsJob met job = HasTexts met (job_texts job)
 abbrev pub IsFit : Job → Type 0
 IsFit (One w) = Unit {0}
 IsFit (Decode word long) = Unit {0}
-IsFit (Replay file workers show) = AreWorkers workers
-IsFit (Changes file only) = Unit {0}
-IsFit (Follow only strict) = Unit {0}
+IsFit (Replay file workers show format progress) = AreWorkers workers
+IsFit (Changes file only format progress) = Unit {0}
+IsFit (Follow only strict format) = Unit {0}
 IsFit (Fault number) = Unit {0}
 
 -- A mistake is one that the command line has. If no mistake is found and there is no job, a word is missing.
@@ -280,6 +383,14 @@ show_line name file show = name ∷ codes "replay" ∷ file ∷ codes "--show" �
 abbrev pub workers_line : Text → Text → Text → List Text
 workers_line name file number = name ∷ codes "replay" ∷ file ∷ codes "--workers" ∷ number ∷ []
 
+-- the command line `abr replay` with this file, `--format` and a name
+abbrev pub replay_format_line : Text → Text → Format → List Text
+replay_format_line name file format = name ∷ codes "replay" ∷ file ∷ codes "--format" ∷ format_name format ∷ []
+
+-- the command line `abr replay` with this file and `--progress`
+abbrev pub replay_progress_line : Text → Text → List Text
+replay_progress_line name file = name ∷ codes "replay" ∷ file ∷ codes "--progress" ∷ []
+
 -- the command line `abr changes` with this file, whatever the program is called
 abbrev pub changes_line : Text → Text → List Text
 changes_line name file = name ∷ codes "changes" ∷ file ∷ []
@@ -287,6 +398,14 @@ changes_line name file = name ∷ codes "changes" ∷ file ∷ []
 -- the command line `abr changes` with this file, `--only` and a network
 abbrev pub only_line : Text → Text → Text → List Text
 only_line name file prefix = name ∷ codes "changes" ∷ file ∷ codes "--only" ∷ prefix ∷ []
+
+-- the command line `abr changes` with this file, `--format` and a name
+abbrev pub changes_format_line : Text → Text → Format → List Text
+changes_format_line name file format = name ∷ codes "changes" ∷ file ∷ codes "--format" ∷ format_name format ∷ []
+
+-- the command line `abr changes` with this file and `--progress`
+abbrev pub changes_progress_line : Text → Text → List Text
+changes_progress_line name file = name ∷ codes "changes" ∷ file ∷ codes "--progress" ∷ []
 
 -- the command line `abr follow`, whatever the program is called
 abbrev pub follow_line : Text → List Text
@@ -300,11 +419,27 @@ strict_line name = name ∷ codes "follow" ∷ codes "--strict" ∷ []
 abbrev pub follow_only_line : Text → Text → List Text
 follow_only_line name prefix = name ∷ codes "follow" ∷ codes "--only" ∷ prefix ∷ []
 
+-- the command line `abr follow` with `--format` and a name
+abbrev pub follow_format_line : Text → Format → List Text
+follow_format_line name format = name ∷ codes "follow" ∷ codes "--format" ∷ format_name format ∷ []
+
 -- the command line `abr fault` with this word, whatever the program is called
 abbrev pub fault_line : Text → Text → List Text
 fault_line name number = name ∷ codes "fault" ∷ number ∷ []
 
 -- ---- what each command line gives
+
+-- `abr replay` with this file only: one worker, and the routing table as text, without progress
+abbrev pub plain_replay : Text → ReplayTexts
+plain_replay file = record { file = file; workers = 1; show = Routes; format = form.Text; progress = false }
+
+-- `abr changes` with this file only: of all networks, as text, without progress
+abbrev pub plain_changes : Text → ChangesTexts
+plain_changes file = record { file = file; only = None; format = form.Text; progress = false }
+
+-- `abr follow` with no further word: of all networks, not strict, as text
+abbrev pub plain_follow : FollowTexts
+plain_follow = record { only = None; strict = false; format = form.Text }
 
 -- the command line that the words are
 abbrev pub command_words : List (Bor Text) → List Text
@@ -326,43 +461,80 @@ GivesDecode line result = (name hex : Text) → line ≡ decode_line name hex �
 abbrev pub GivesLong : List Text → Result Job Usage → Type 0
 GivesLong line result = (name hex : Text) → line ≡ long_line name hex → IsPlainWord hex → GivesJob result (OfDecode hex true)
 
--- if the line is `abr replay` with a file, the job is `replay` of it by one worker, to show the routing table
+-- if the line is `abr replay` with a file, the job is `replay` of it by one worker, to show the routing table as text, and no progress
 abbrev pub GivesReplay : List Text → Result Job Usage → Type 0
-GivesReplay line result = (name file : Text) → line ≡ replay_line name file → IsFileWord file → GivesJob result (OfReplay file 1 Routes)
+GivesReplay line result = (name file : Text) → line ≡ replay_line name file → IsFileWord file → GivesJob result (OfReplay (plain_replay file))
 
 -- if the line is `abr replay` with a file and `--workers`, the job is `replay` of it by so many
 abbrev pub GivesWorkers : List Text → Result Job Usage → Type 0
 GivesWorkers line result =
     (name file number : Text) (count : ℕ) → line ≡ workers_line name file number
-    → IsFileWord file → WritesWorkers number count → GivesJob result (OfReplay file count Routes)
+    → IsFileWord file → WritesWorkers number count → GivesJob result (OfReplay (record (plain_replay file) { workers = count }))
 
 -- if the line is `abr replay` with a file and `--show`, the job is `replay` of it by one worker, to show that
 abbrev pub GivesShow : List Text → Result Job Usage → Type 0
 GivesShow line result =
-    (name file : Text) (show : Show) → line ≡ show_line name file show → IsFileWord file → GivesJob result (OfReplay file 1 show)
+    (name file : Text) (show : Show) → line ≡ show_line name file show → IsFileWord file → GivesJob result (OfReplay (record (plain_replay file) { show = show }))
 
--- if the line is `abr changes` with a file, the job is `changes` of it, of all networks
+-- if the line is `abr changes` with a file, the job is `changes` of it, of all networks, as text and without progress
 abbrev pub GivesChanges : List Text → Result Job Usage → Type 0
-GivesChanges line result = (name file : Text) → line ≡ changes_line name file → IsFileWord file → GivesJob result (OfChanges file None)
+GivesChanges line result = (name file : Text) → line ≡ changes_line name file → IsFileWord file → GivesJob result (OfChanges (plain_changes file))
 
 -- if the line is `abr changes` with a file, `--only` and a plain word, the job is `changes` of it, of that network
 abbrev pub GivesOnly : List Text → Result Job Usage → Type 0
 GivesOnly line result =
     (name file prefix : Text) → line ≡ only_line name file prefix
-    → IsFileWord file → IsPlainWord prefix → GivesJob result (OfChanges file (Some prefix))
+    → IsFileWord file → IsPlainWord prefix → GivesJob result (OfChanges (record (plain_changes file) { only = Some prefix }))
 
--- if the line is `abr follow`, the job is `follow` of all networks, not strict
+-- if the line is `abr follow`, the job is `follow` of all networks, not strict, as text
 abbrev pub GivesFollow : List Text → Result Job Usage → Type 0
-GivesFollow line result = (name : Text) → line ≡ follow_line name → GivesJob result (OfFollow None false)
+GivesFollow line result = (name : Text) → line ≡ follow_line name → GivesJob result (OfFollow plain_follow)
 
 -- if the line is `abr follow` with `--strict`, the job is `follow` of all networks, strict
 abbrev pub GivesStrict : List Text → Result Job Usage → Type 0
-GivesStrict line result = (name : Text) → line ≡ strict_line name → GivesJob result (OfFollow None true)
+GivesStrict line result = (name : Text) → line ≡ strict_line name → GivesJob result (OfFollow (record plain_follow { strict = true }))
 
 -- if the line is `abr follow` with `--only` and a plain word, the job is `follow` of that network, not strict
 abbrev pub GivesFollowOnly : List Text → Result Job Usage → Type 0
 GivesFollowOnly line result =
-    (name prefix : Text) → line ≡ follow_only_line name prefix → IsPlainWord prefix → GivesJob result (OfFollow (Some prefix) false)
+    (name prefix : Text) → line ≡ follow_only_line name prefix → IsPlainWord prefix → GivesJob result (OfFollow (record plain_follow { only = Some prefix }))
+
+-- if the line is `abr replay` with a file and `--format`, the job is `replay` of it, in that form
+abbrev pub GivesReplayFormat : List Text → Result Job Usage → Type 0
+GivesReplayFormat line result =
+    (name file : Text) (format : Format) → line ≡ replay_format_line name file format
+    → IsFileWord file → GivesJob result (OfReplay (record (plain_replay file) { format = format }))
+
+-- if the line is `abr changes` with a file and `--format`, the job is `changes` of it, in that form
+abbrev pub GivesChangesFormat : List Text → Result Job Usage → Type 0
+GivesChangesFormat line result =
+    (name file : Text) (format : Format) → line ≡ changes_format_line name file format
+    → IsFileWord file → GivesJob result (OfChanges (record (plain_changes file) { format = format }))
+
+-- if the line is `abr follow` with `--format`, the job is `follow` in that form
+abbrev pub GivesFollowFormat : List Text → Result Job Usage → Type 0
+GivesFollowFormat line result =
+    (name : Text) (format : Format) → line ≡ follow_format_line name format → GivesJob result (OfFollow (record plain_follow { format = format }))
+
+-- `--format` gives the form, in each command that takes it
+abbrev pub GivesFormat : List Text → Result Job Usage → Type 0
+GivesFormat line result = GivesReplayFormat line result × GivesChangesFormat line result × GivesFollowFormat line result
+
+-- if the line is `abr replay` with a file and `--progress`, the job is `replay` of it, with progress
+abbrev pub GivesReplayProgress : List Text → Result Job Usage → Type 0
+GivesReplayProgress line result =
+    (name file : Text) → line ≡ replay_progress_line name file
+    → IsFileWord file → GivesJob result (OfReplay (record (plain_replay file) { progress = true }))
+
+-- if the line is `abr changes` with a file and `--progress`, the job is `changes` of it, with progress
+abbrev pub GivesChangesProgress : List Text → Result Job Usage → Type 0
+GivesChangesProgress line result =
+    (name file : Text) → line ≡ changes_progress_line name file
+    → IsFileWord file → GivesJob result (OfChanges (record (plain_changes file) { progress = true }))
+
+-- `--progress` asks for progress, in each command that takes it
+abbrev pub GivesProgress : List Text → Result Job Usage → Type 0
+GivesProgress line result = GivesReplayProgress line result × GivesChangesProgress line result
 
 -- if the line is `abr fault` with a plain word, the job is `fault` with it
 abbrev pub GivesFault : List Text → Result Job Usage → Type 0

@@ -1,6 +1,7 @@
 //! The commands of the program.
 ghost use Rattle.std.specs.Prelude.{◌≡◌};
 
+use output_format::Format;
 use recording::Show;
 use std::alloc::AllocError;
 use thiserror::Error;
@@ -25,24 +26,31 @@ pub enum Job<'a> {
         word: &'a str,
         long: bool,
     },
-    /// `abr replay`, with its file (`-` is standard input), how many workers there are, 1 to 16, and
-    /// what is shown.
+    /// `abr replay`, with its file (`-` is standard input), how many workers there are, 1 to 16, what
+    /// is shown and in which form, and whether it was asked to show how many lines are done.
     Replay {
         file: &'a str,
         workers: usize,
         show: Show,
+        format: Format,
+        progress: bool,
     },
-    /// `abr changes`, with its file (`-` is standard input), and the word of the one network that is
-    /// told of; if there is none, all are.
+    /// `abr changes`, with its file (`-` is standard input), the word of the one network that is told
+    /// of (if there is none, all are), the form of what is told, and whether it was asked to show how
+    /// many lines are done.
     Changes {
         file: &'a str,
         only: Option<&'a str>,
+        format: Format,
+        progress: bool,
     },
-    /// `abr follow`, which reads standard input, with the word of the one network that is told of; if
-    /// there is none, all are. If it is strict, it ends at the first line at fault.
+    /// `abr follow`, which reads standard input, with the word of the one network that is told of (if
+    /// there is none, all are), and the form of what is told. If it is strict, it ends at the first
+    /// line at fault.
     Follow {
         only: Option<&'a str>,
         strict: bool,
+        format: Format,
     },
     /// `abr fault`, with the word that is to be a number.
     Fault(&'a str),

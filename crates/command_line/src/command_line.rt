@@ -2,13 +2,15 @@
 ghost use Rattle.std.specs.Prelude.{ℕ, Bool, ◌≡◌, ◌≢◌, ◌⊎◌, IfOk, IfErr, IfSome, IsNone, Option, codes, false};
 ghost use Rattle.clap.specs.Words.{Text, app_of, rows_of, found_of, rule_of, subcommand_of, subcommand_rows_of, kind_of};
 ghost use Rattle.clap.specs.declared.builder.command.Command.TheViews.{out-Command};
+ghost use Rattle.output_format.specs.declared.Format.{Format};
 ghost use Rattle.recording.specs.declared.show.Show.{Show};
-ghost use Rattle.command_line.specs.Command.{one_command, decode_command, changes_command, follow_command, fault_command, program, required_word, show_name, References, AreShowNames, OneTexts, texts_of, HasWords, HasJob, IsJob, IsJobOf, IsMistake, IsProgram, IsReplayCommand, IsShowOption, HasDecodeWords, HasReplayWords, HasChangesWords, HasFollowWords, IsFit, WritesWorkers, workers_option, long_flag, only_option, strict_flag, command_words, GivesChanges, GivesDecode, GivesFault, GivesFollow, GivesFollowOnly, GivesLong, GivesOne, GivesOnly, GivesReplay, GivesShow, GivesStrict, GivesWorkers};
+ghost use Rattle.command_line.specs.Command.{one_command, decode_command, fault_command, program, required_word, show_name, format_name, References, AreShowNames, AreFormatNames, OneTexts, ReplayTexts, ChangesTexts, FollowTexts, texts_of, HasWords, HasJob, IsJob, IsJobOf, IsMistake, IsProgram, IsReplayCommand, IsChangesCommand, IsFollowCommand, IsShowOption, IsFormatOption, HasDecodeWords, HasFlag, HasReplayWords, HasChangesWords, HasFollowWords, IsFit, WritesWorkers, workers_option, long_flag, only_option, strict_flag, progress_flag, command_words, GivesChanges, GivesDecode, GivesFault, GivesFollow, GivesFollowOnly, GivesFormat, GivesLong, GivesOne, GivesOnly, GivesProgress, GivesReplay, GivesShow, GivesStrict, GivesWorkers};
 
 use crate::command::{Job, OneWords, Usage};
 use clap::builder::ValueParser;
 use clap::error::ErrorKind;
 use clap::{Arg, ArgAction, ArgMatches, Command, Error};
+use output_format::Format;
 use recording::Show;
 use std::alloc::{AllocError, Global};
 
@@ -30,6 +32,9 @@ const ONE_EXAMPLE: &str = "Example: abr one 10.0.0.1 0.0.0.0 192.0.2.1 \
 // What `--show` takes.
 const SHOW_NAMES: &[&str] = &["routes", "due", "lsdb", "journal"];
 
+// What `--format` takes.
+const FORMAT_NAMES: &[&str] = &["text", "json"];
+
 /// The job that the words name, the first of them the program's name.
 pub fn job<'a>(alloc: Global, words: &'a [&'a str]) -> Result<Job<'a>, Usage>
     ensures job { IfOk result (IsJob (subcommand_of program (command_words words.entry.now))) }
@@ -46,6 +51,8 @@ pub fn job<'a>(alloc: Global, words: &'a [&'a str]) -> Result<Job<'a>, Usage>
     ensures follow { GivesFollow (command_words words.entry.now) result }
     ensures strict { GivesStrict (command_words words.entry.now) result }
     ensures follow_only { GivesFollowOnly (command_words words.entry.now) result }
+    ensures format { GivesFormat (command_words words.entry.now) result }
+    ensures progress { GivesProgress (command_words words.entry.now) result }
     ensures fault { GivesFault (command_words words.entry.now) result }
 {
     let command = program_command(alloc)?;
@@ -112,36 +119,50 @@ fn decode_job<'a>(words: &ArgMatches<'a>) -> Option<Job<'a>>
 
 fn changes_job<'a>(words: &ArgMatches<'a>) -> Option<Job<'a>>
     ensures some { IfSome result (IsJobOf (codes "changes") (rows_of (found_of words.now))) }
-    ensures none { IsNone result → (file : Text) (only : Option Text)
-        → ¬ HasChangesWords (rows_of (found_of words.now)) file only }
+    ensures none { IsNone result → (t : ChangesTexts)
+        → ¬ HasChangesWords (rows_of (found_of words.now)) t }
 {
     Some(Job::Changes {
         file: words.get_str("FILE")?,
         only: words.get_str("only"),
+        format: format_of(words.get_str("format")?)?,
+        progress: progress_of(words)?,
     })
 }
 
 fn follow_job<'a>(words: &ArgMatches<'a>) -> Option<Job<'a>>
     ensures some { IfSome result (IsJobOf (codes "follow") (rows_of (found_of words.now))) }
-    ensures none { IsNone result → (only : Option Text) (strict : Bool)
-        → ¬ HasFollowWords (rows_of (found_of words.now)) only strict }
+    ensures none { IsNone result → (t : FollowTexts)
+        → ¬ HasFollowWords (rows_of (found_of words.now)) t }
 {
     Some(Job::Follow {
         only: words.get_str("only"),
         strict: words.get_str("strict")? == "true",
+        format: format_of(words.get_str("format")?)?,
     })
 }
 
 fn replay_job<'a>(words: &ArgMatches<'a>) -> Option<Job<'a>>
     ensures some { IfSome result (IsJobOf (codes "replay") (rows_of (found_of words.now))) }
-    ensures none { IsNone result → (file : Text) (workers : ℕ) (show : Show)
-        → ¬ HasReplayWords (rows_of (found_of words.now)) file workers show }
+    ensures none { IsNone result → (t : ReplayTexts)
+        → ¬ HasReplayWords (rows_of (found_of words.now)) t }
 {
     Some(Job::Replay {
         file: words.get_str("FILE")?,
         workers: workers_of(words.get_str("workers")?)?,
         show: show_of(words.get_str("show")?)?,
+        format: format_of(words.get_str("format")?)?,
+        progress: progress_of(words)?,
     })
+}
+
+// Whether it was asked to show how many lines are done.
+fn progress_of(words: &ArgMatches<'_>) -> Option<bool>
+    ensures some { IfSome result (HasFlag (rows_of (found_of words.now)) (codes "progress")) }
+    ensures none { IsNone result → (progress : Bool)
+        → ¬ HasFlag (rows_of (found_of words.now)) (codes "progress") progress }
+{
+    Some(words.get_str("progress")? == "true")
 }
 
 fn one_words<'a>(matches: &ArgMatches<'a>) -> Option<OneWords<'a>>
@@ -180,6 +201,19 @@ fn show_of(name: &str) -> Option<Show>
         Some(Show::Lsdb)
     } else if name == "journal" {
         Some(Show::Journal)
+    } else {
+        None
+    }
+}
+
+fn format_of(name: &str) -> Option<Format>
+    ensures some { IfSome result (λ format. format_name format ≡ name.now) }
+    ensures none { IsNone result → (format : Format) → format_name format ≢ name.now }
+{
+    if name == "text" {
+        Some(Format::Text)
+    } else if name == "json" {
+        Some(Format::Json)
     } else {
         None
     }
@@ -237,29 +271,34 @@ fn replay<'a>(alloc: Global) -> Result<Command<'a>, AllocError>
         .after_help("Example: abr replay examples/border_router.rec --show due")
         .arg(word(alloc, "FILE", FILE_HELP))?
         .arg(workers_option(alloc))?
-        .arg(show_option(alloc))
+        .arg(show_option(alloc))?
+        .arg(format_option(alloc))?
+        .arg(progress_flag(alloc))
 }
 
 fn changes<'a>(alloc: Global) -> Result<Command<'a>, AllocError>
-    ensures app { IfOk result (λ c. app_of c ≡ changes_command) }
+    ensures app { IfOk result (λ c. IsChangesCommand (app_of c)) }
     ensures local { IfOk result (λ c. (out-Command c).has_globals ≡ false) }
 {
     Command::new(alloc, "changes")
         .about("Tells what each event of a recording changed")
         .after_help("Example: abr changes examples/border_router.rec --only 203.0.113.0/25")
         .arg(word(alloc, "FILE", FILE_HELP))?
-        .arg(only_option(alloc))
+        .arg(only_option(alloc))?
+        .arg(format_option(alloc))?
+        .arg(progress_flag(alloc))
 }
 
 fn follow<'a>(alloc: Global) -> Result<Command<'a>, AllocError>
-    ensures app { IfOk result (λ c. app_of c ≡ follow_command) }
+    ensures app { IfOk result (λ c. IsFollowCommand (app_of c)) }
     ensures local { IfOk result (λ c. (out-Command c).has_globals ≡ false) }
 {
     Command::new(alloc, "follow")
         .about("Tells what each event changed as it comes")
         .after_help("Example: tail -n +1 -f router.rec | abr follow --only 203.0.113.0/25")
         .arg(only_option(alloc))?
-        .arg(strict_flag(alloc))
+        .arg(strict_flag(alloc))?
+        .arg(format_option(alloc))
 }
 
 fn fault<'a>(alloc: Global) -> Result<Command<'a>, AllocError>
@@ -290,6 +329,16 @@ fn strict_flag<'a>(alloc: Global) -> Arg<'a>
         .long("strict")
         .action(ArgAction::SetTrue)
         .help("Ends at the first line at fault")
+}
+
+fn progress_flag<'a>(alloc: Global) -> Arg<'a>
+    ensures rule { rule_of result ≡ progress_flag }
+    ensures local { result.global ≡ false }
+{
+    Arg::new(alloc, "progress")
+        .long("progress")
+        .action(ArgAction::SetTrue)
+        .help("Shows on standard error how many lines are done")
 }
 
 fn only_option<'a>(alloc: Global) -> Arg<'a>
@@ -330,6 +379,24 @@ fn show_parser<'a>() -> ValueParser<'a>
     ensures { (names : References) × AreShowNames names × (result ≡ ValueParser.Names names) }
 {
     ValueParser::Names(SHOW_NAMES)
+}
+
+fn format_option<'a>(alloc: Global) -> Arg<'a>
+    ensures rule { IsFormatOption (rule_of result) }
+    ensures local { result.global ≡ false }
+{
+    Arg::new(alloc, "format")
+        .long("format")
+        .value_name("NAME")
+        .value_parser(format_parser())
+        .default_value("text")
+        .help("The form of the lines: text, or json, an object a line")
+}
+
+fn format_parser<'a>() -> ValueParser<'a>
+    ensures { (names : References) × AreFormatNames names × (result ≡ ValueParser.Names names) }
+{
+    ValueParser::Names(FORMAT_NAMES)
 }
 
 // A word that has to be there.

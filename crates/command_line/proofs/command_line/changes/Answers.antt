@@ -10,10 +10,15 @@ pub returns-clause-app : goal.returns-clause-app
 returns-clause-app c =
     let start : app_of c.after_help.result ≡ new_app (codes "changes") = ap app_of_fields c.after_help.ensures ∙ ap app_of_fields c.about.ensures ∙ c.new.ensures.app in
     let file = added_app _ _ _ _ _ c.in_ok-arg.ensures c.word.ensures.local start c.word.ensures.rule in
-    IfOk-weaker c.arg-2.result _ _ (λ r h. added_app _ _ _ _ _ h c.only_option.ensures.local file c.only_option.ensures.rule) c.arg-2.ensures
+    let only = added_app _ _ _ _ _ c.in_ok-arg-2.ensures c.only_option.ensures.local file c.only_option.ensures.rule in
+    let formats = c.format_option.ensures.rule in
+    let format = added_app _ _ _ _ _ c.in_ok-arg-3.ensures c.format_option.ensures.local only formats.2 in
+    IfOk-weaker c.arg-4.result _ _ (λ r h. (formats.0, formats.1, added_app _ _ _ _ _ h c.progress_flag.ensures.local format c.progress_flag.ensures.rule)) c.arg-4.ensures
 
 pub returns-clause-local : goal.returns-clause-local
 returns-clause-local c =
     let start : (out-Command c.after_help.result).has_globals ≡ false = ap (λ f. f.has_globals) c.after_help.ensures ∙ ap (λ f. f.has_globals) c.about.ensures ∙ c.new.ensures.local in
     let file = added_local _ _ _ c.in_ok-arg.ensures c.word.ensures.local start in
-    IfOk-weaker c.arg-2.result _ _ (λ r h. added_local _ _ _ h c.only_option.ensures.local file) c.arg-2.ensures
+    let only = added_local _ _ _ c.in_ok-arg-2.ensures c.only_option.ensures.local file in
+    let format = added_local _ _ _ c.in_ok-arg-3.ensures c.format_option.ensures.local only in
+    IfOk-weaker c.arg-4.result _ _ (λ r h. added_local _ _ _ h c.progress_flag.ensures.local format) c.arg-4.ensures

@@ -10,10 +10,13 @@ pub returns-clause-app : goal.returns-clause-app
 returns-clause-app c =
     let start : app_of c.after_help.result ≡ new_app (codes "follow") = ap app_of_fields c.after_help.ensures ∙ ap app_of_fields c.about.ensures ∙ c.new.ensures.app in
     let only = added_app _ _ _ _ _ c.in_ok-arg.ensures c.only_option.ensures.local start c.only_option.ensures.rule in
-    IfOk-weaker c.arg-2.result _ _ (λ r h. added_app _ _ _ _ _ h c.strict_flag.ensures.local only c.strict_flag.ensures.rule) c.arg-2.ensures
+    let strict = added_app _ _ _ _ _ c.in_ok-arg-2.ensures c.strict_flag.ensures.local only c.strict_flag.ensures.rule in
+    let formats = c.format_option.ensures.rule in
+    IfOk-weaker c.arg-3.result _ _ (λ r h. (formats.0, formats.1, added_app _ _ _ _ _ h c.format_option.ensures.local strict formats.2)) c.arg-3.ensures
 
 pub returns-clause-local : goal.returns-clause-local
 returns-clause-local c =
     let start : (out-Command c.after_help.result).has_globals ≡ false = ap (λ f. f.has_globals) c.after_help.ensures ∙ ap (λ f. f.has_globals) c.about.ensures ∙ c.new.ensures.local in
     let only = added_local _ _ _ c.in_ok-arg.ensures c.only_option.ensures.local start in
-    IfOk-weaker c.arg-2.result _ _ (λ r h. added_local _ _ _ h c.strict_flag.ensures.local only) c.arg-2.ensures
+    let strict = added_local _ _ _ c.in_ok-arg-2.ensures c.strict_flag.ensures.local only in
+    IfOk-weaker c.arg-3.result _ _ (λ r h. added_local _ _ _ h c.format_option.ensures.local strict) c.arg-3.ensures

@@ -1,8 +1,10 @@
-use Rattle.std.proofs.Common.{Some, None, true, false, sym, map, subst, inr, refl}
-use Rattle.recording.specs.declared.show.Show.TheVariants.{Routes}
-use Rattle.command_line.specs.Command.{HasJob, IsJob, OfOne, OfDecode, OfReplay, OfChanges, OfFollow, OfFault, one_line, decode_line, long_line, replay_line, workers_line, show_line, changes_line, only_line, follow_line, strict_line, follow_only_line, fault_line}
+use Rattle.std.proofs.Common.{Some, true, false, sym, map, subst, inr, refl}
+use Rattle.command_line.specs.Command.{HasJob, IsJob, OfOne, OfDecode, OfReplay, OfChanges, OfFollow, OfFault, one_line, decode_line, long_line, replay_line, workers_line, show_line, changes_line, only_line, follow_line, strict_line, follow_only_line, fault_line, plain_replay, plain_changes, plain_follow, replay_format_line, changes_format_line, follow_format_line, replay_progress_line, changes_progress_line}
 use Rattle.command_line.proofs.Jobs.{gives, has_job, job_is_fit, mistake_is, only_memory}
-use Rattle.command_line.proofs.Line.{one_has, one_faultless, decode_has, decode_faultless, long_has, long_faultless, replay_has, replay_faultless, workers_has, workers_faultless, show_has, show_faultless, changes_has, changes_faultless, only_has, only_faultless, follow_has, follow_faultless, strict_has, strict_faultless, follow_only_has, follow_only_faultless, fault_has, fault_faultless}
+use Rattle.command_line.proofs.Line.{one_has, one_faultless, decode_has, decode_faultless, long_has, long_faultless, fault_has, fault_faultless}
+use Rattle.command_line.proofs.ReplayLines.{replay_has, replay_faultless, workers_has, workers_faultless, show_has, show_faultless, replay_format_has, replay_format_faultless, replay_progress_has, replay_progress_faultless}
+use Rattle.command_line.proofs.ChangesLines.{changes_has, changes_faultless, only_has, only_faultless, changes_format_has, changes_format_faultless, changes_progress_has, changes_progress_faultless}
+use Rattle.command_line.proofs.FollowLines.{follow_has, follow_faultless, strict_has, strict_faultless, follow_only_has, follow_only_faultless, follow_format_has, follow_format_faultless}
 use Rattle.command_line.proofs.Names.{met_as_given, fails_as_given}
 use Rattle.command_line.proofs.command_line.job.Goals as goal
 
@@ -32,42 +34,57 @@ returns-in-Some-clause-long c name hex is plain =
 pub returns-in-Some-clause-replay : goal.returns-in-Some-clause-replay
 returns-in-Some-clause-replay c name file is plain =
     let given = met_as_given _ c.in-Ok.matches _ c.in_ok-command.ensures c.in-Ok.ensures.matches in
-    gives _ _ (replay_line name file) c.in-Some.job (OfReplay file 1 Routes) given c.in-Some.ensures.some is (replay_has name file plain)
+    gives _ _ (replay_line name file) c.in-Some.job (OfReplay (plain_replay file)) given c.in-Some.ensures.some is (replay_has name file plain)
 
 pub returns-in-Some-clause-workers : goal.returns-in-Some-clause-workers
 returns-in-Some-clause-workers c name file number count is plain writes =
     let given = met_as_given _ c.in-Ok.matches _ c.in_ok-command.ensures c.in-Ok.ensures.matches in
-    gives _ _ (workers_line name file number) c.in-Some.job (OfReplay file count Routes) given c.in-Some.ensures.some is (workers_has name file number count plain writes)
+    gives _ _ (workers_line name file number) c.in-Some.job (OfReplay (record (plain_replay file) { workers = count })) given c.in-Some.ensures.some is (workers_has name file number count plain writes)
 
 pub returns-in-Some-clause-show : goal.returns-in-Some-clause-show
 returns-in-Some-clause-show c name file show is plain =
     let given = met_as_given _ c.in-Ok.matches _ c.in_ok-command.ensures c.in-Ok.ensures.matches in
-    gives _ _ (show_line name file show) c.in-Some.job (OfReplay file 1 show) given c.in-Some.ensures.some is (show_has name file show plain)
+    gives _ _ (show_line name file show) c.in-Some.job (OfReplay (record (plain_replay file) { show = show })) given c.in-Some.ensures.some is (show_has name file show plain)
 
 pub returns-in-Some-clause-changes : goal.returns-in-Some-clause-changes
 returns-in-Some-clause-changes c name file is plain =
     let given = met_as_given _ c.in-Ok.matches _ c.in_ok-command.ensures c.in-Ok.ensures.matches in
-    gives _ _ (changes_line name file) c.in-Some.job (OfChanges file None) given c.in-Some.ensures.some is (changes_has name file plain)
+    gives _ _ (changes_line name file) c.in-Some.job (OfChanges (plain_changes file)) given c.in-Some.ensures.some is (changes_has name file plain)
 
 pub returns-in-Some-clause-only : goal.returns-in-Some-clause-only
 returns-in-Some-clause-only c name file prefix is plain plain_prefix =
     let given = met_as_given _ c.in-Ok.matches _ c.in_ok-command.ensures c.in-Ok.ensures.matches in
-    gives _ _ (only_line name file prefix) c.in-Some.job (OfChanges file (Some prefix)) given c.in-Some.ensures.some is (only_has name file prefix plain plain_prefix)
+    gives _ _ (only_line name file prefix) c.in-Some.job (OfChanges (record (plain_changes file) { only = Some prefix })) given c.in-Some.ensures.some is (only_has name file prefix plain plain_prefix)
 
 pub returns-in-Some-clause-follow : goal.returns-in-Some-clause-follow
 returns-in-Some-clause-follow c name is =
     let given = met_as_given _ c.in-Ok.matches _ c.in_ok-command.ensures c.in-Ok.ensures.matches in
-    gives _ _ (follow_line name) c.in-Some.job (OfFollow None false) given c.in-Some.ensures.some is (follow_has name)
+    gives _ _ (follow_line name) c.in-Some.job (OfFollow plain_follow) given c.in-Some.ensures.some is (follow_has name)
 
 pub returns-in-Some-clause-strict : goal.returns-in-Some-clause-strict
 returns-in-Some-clause-strict c name is =
     let given = met_as_given _ c.in-Ok.matches _ c.in_ok-command.ensures c.in-Ok.ensures.matches in
-    gives _ _ (strict_line name) c.in-Some.job (OfFollow None true) given c.in-Some.ensures.some is (strict_has name)
+    gives _ _ (strict_line name) c.in-Some.job (OfFollow (record plain_follow { strict = true })) given c.in-Some.ensures.some is (strict_has name)
 
 pub returns-in-Some-clause-follow_only : goal.returns-in-Some-clause-follow_only
 returns-in-Some-clause-follow_only c name prefix is plain =
     let given = met_as_given _ c.in-Ok.matches _ c.in_ok-command.ensures c.in-Ok.ensures.matches in
-    gives _ _ (follow_only_line name prefix) c.in-Some.job (OfFollow (Some prefix) false) given c.in-Some.ensures.some is (follow_only_has name prefix plain)
+    gives _ _ (follow_only_line name prefix) c.in-Some.job (OfFollow (record plain_follow { only = Some prefix })) given c.in-Some.ensures.some is (follow_only_has name prefix plain)
+
+pub returns-in-Some-clause-format : goal.returns-in-Some-clause-format
+returns-in-Some-clause-format c =
+    let given = met_as_given _ c.in-Ok.matches _ c.in_ok-command.ensures c.in-Ok.ensures.matches in (
+      λ name file format is plain. gives _ _ (replay_format_line name file format) c.in-Some.job (OfReplay (record (plain_replay file) { format = format })) given c.in-Some.ensures.some is (replay_format_has name file format plain),
+      λ name file format is plain. gives _ _ (changes_format_line name file format) c.in-Some.job (OfChanges (record (plain_changes file) { format = format })) given c.in-Some.ensures.some is (changes_format_has name file format plain),
+      λ name format is. gives _ _ (follow_format_line name format) c.in-Some.job (OfFollow (record plain_follow { format = format })) given c.in-Some.ensures.some is (follow_format_has name format),
+    )
+
+pub returns-in-Some-clause-progress : goal.returns-in-Some-clause-progress
+returns-in-Some-clause-progress c =
+    let given = met_as_given _ c.in-Ok.matches _ c.in_ok-command.ensures c.in-Ok.ensures.matches in (
+      λ name file is plain. gives _ _ (replay_progress_line name file) c.in-Some.job (OfReplay (record (plain_replay file) { progress = true })) given c.in-Some.ensures.some is (replay_progress_has name file plain),
+      λ name file is plain. gives _ _ (changes_progress_line name file) c.in-Some.job (OfChanges (record (plain_changes file) { progress = true })) given c.in-Some.ensures.some is (changes_progress_has name file plain),
+    )
 
 pub returns-in-Some-clause-fault : goal.returns-in-Some-clause-fault
 returns-in-Some-clause-fault c name number is plain =
@@ -97,42 +114,57 @@ returns-in-Ok-clause-long c name hex is plain =
 pub returns-in-Ok-clause-replay : goal.returns-in-Ok-clause-replay
 returns-in-Ok-clause-replay c name file is plain =
     let given = met_as_given _ c.in-Ok.matches _ c.in_ok-command.ensures c.in-Ok.ensures.matches in
-    absurd (c.in-None.ensures.none refl (has_job _ _ (replay_line name file) (OfReplay file 1 Routes) given is (replay_has name file plain)))
+    absurd (c.in-None.ensures.none refl (has_job _ _ (replay_line name file) (OfReplay (plain_replay file)) given is (replay_has name file plain)))
 
 pub returns-in-Ok-clause-workers : goal.returns-in-Ok-clause-workers
 returns-in-Ok-clause-workers c name file number count is plain writes =
     let given = met_as_given _ c.in-Ok.matches _ c.in_ok-command.ensures c.in-Ok.ensures.matches in
-    absurd (c.in-None.ensures.none refl (has_job _ _ (workers_line name file number) (OfReplay file count Routes) given is (workers_has name file number count plain writes)))
+    absurd (c.in-None.ensures.none refl (has_job _ _ (workers_line name file number) (OfReplay (record (plain_replay file) { workers = count })) given is (workers_has name file number count plain writes)))
 
 pub returns-in-Ok-clause-show : goal.returns-in-Ok-clause-show
 returns-in-Ok-clause-show c name file show is plain =
     let given = met_as_given _ c.in-Ok.matches _ c.in_ok-command.ensures c.in-Ok.ensures.matches in
-    absurd (c.in-None.ensures.none refl (has_job _ _ (show_line name file show) (OfReplay file 1 show) given is (show_has name file show plain)))
+    absurd (c.in-None.ensures.none refl (has_job _ _ (show_line name file show) (OfReplay (record (plain_replay file) { show = show })) given is (show_has name file show plain)))
 
 pub returns-in-Ok-clause-changes : goal.returns-in-Ok-clause-changes
 returns-in-Ok-clause-changes c name file is plain =
     let given = met_as_given _ c.in-Ok.matches _ c.in_ok-command.ensures c.in-Ok.ensures.matches in
-    absurd (c.in-None.ensures.none refl (has_job _ _ (changes_line name file) (OfChanges file None) given is (changes_has name file plain)))
+    absurd (c.in-None.ensures.none refl (has_job _ _ (changes_line name file) (OfChanges (plain_changes file)) given is (changes_has name file plain)))
 
 pub returns-in-Ok-clause-only : goal.returns-in-Ok-clause-only
 returns-in-Ok-clause-only c name file prefix is plain plain_prefix =
     let given = met_as_given _ c.in-Ok.matches _ c.in_ok-command.ensures c.in-Ok.ensures.matches in
-    absurd (c.in-None.ensures.none refl (has_job _ _ (only_line name file prefix) (OfChanges file (Some prefix)) given is (only_has name file prefix plain plain_prefix)))
+    absurd (c.in-None.ensures.none refl (has_job _ _ (only_line name file prefix) (OfChanges (record (plain_changes file) { only = Some prefix })) given is (only_has name file prefix plain plain_prefix)))
 
 pub returns-in-Ok-clause-follow : goal.returns-in-Ok-clause-follow
 returns-in-Ok-clause-follow c name is =
     let given = met_as_given _ c.in-Ok.matches _ c.in_ok-command.ensures c.in-Ok.ensures.matches in
-    absurd (c.in-None.ensures.none refl (has_job _ _ (follow_line name) (OfFollow None false) given is (follow_has name)))
+    absurd (c.in-None.ensures.none refl (has_job _ _ (follow_line name) (OfFollow plain_follow) given is (follow_has name)))
 
 pub returns-in-Ok-clause-strict : goal.returns-in-Ok-clause-strict
 returns-in-Ok-clause-strict c name is =
     let given = met_as_given _ c.in-Ok.matches _ c.in_ok-command.ensures c.in-Ok.ensures.matches in
-    absurd (c.in-None.ensures.none refl (has_job _ _ (strict_line name) (OfFollow None true) given is (strict_has name)))
+    absurd (c.in-None.ensures.none refl (has_job _ _ (strict_line name) (OfFollow (record plain_follow { strict = true })) given is (strict_has name)))
 
 pub returns-in-Ok-clause-follow_only : goal.returns-in-Ok-clause-follow_only
 returns-in-Ok-clause-follow_only c name prefix is plain =
     let given = met_as_given _ c.in-Ok.matches _ c.in_ok-command.ensures c.in-Ok.ensures.matches in
-    absurd (c.in-None.ensures.none refl (has_job _ _ (follow_only_line name prefix) (OfFollow (Some prefix) false) given is (follow_only_has name prefix plain)))
+    absurd (c.in-None.ensures.none refl (has_job _ _ (follow_only_line name prefix) (OfFollow (record plain_follow { only = Some prefix })) given is (follow_only_has name prefix plain)))
+
+pub returns-in-Ok-clause-format : goal.returns-in-Ok-clause-format
+returns-in-Ok-clause-format c =
+    let given = met_as_given _ c.in-Ok.matches _ c.in_ok-command.ensures c.in-Ok.ensures.matches in (
+      λ name file format is plain. absurd (c.in-None.ensures.none refl (has_job _ _ (replay_format_line name file format) (OfReplay (record (plain_replay file) { format = format })) given is (replay_format_has name file format plain))),
+      λ name file format is plain. absurd (c.in-None.ensures.none refl (has_job _ _ (changes_format_line name file format) (OfChanges (record (plain_changes file) { format = format })) given is (changes_format_has name file format plain))),
+      λ name format is. absurd (c.in-None.ensures.none refl (has_job _ _ (follow_format_line name format) (OfFollow (record plain_follow { format = format })) given is (follow_format_has name format))),
+    )
+
+pub returns-in-Ok-clause-progress : goal.returns-in-Ok-clause-progress
+returns-in-Ok-clause-progress c =
+    let given = met_as_given _ c.in-Ok.matches _ c.in_ok-command.ensures c.in-Ok.ensures.matches in (
+      λ name file is plain. absurd (c.in-None.ensures.none refl (has_job _ _ (replay_progress_line name file) (OfReplay (record (plain_replay file) { progress = true })) given is (replay_progress_has name file plain))),
+      λ name file is plain. absurd (c.in-None.ensures.none refl (has_job _ _ (changes_progress_line name file) (OfChanges (record (plain_changes file) { progress = true })) given is (changes_progress_has name file plain))),
+    )
 
 pub returns-in-Ok-clause-fault : goal.returns-in-Ok-clause-fault
 returns-in-Ok-clause-fault c name number is plain =
@@ -198,6 +230,21 @@ pub returns-clause-follow_only : goal.returns-clause-follow_only
 returns-clause-follow_only c name prefix is plain =
     let fails = fails_as_given _ _ c.in-Err.error c.in_ok-command.ensures c.in-Err.ensures.kinds in
     only_memory _ _ c.in-Err.error _ fails c.usage_of.ensures is (follow_only_faultless name prefix plain)
+
+pub returns-clause-format : goal.returns-clause-format
+returns-clause-format c =
+    let fails = fails_as_given _ _ c.in-Err.error c.in_ok-command.ensures c.in-Err.ensures.kinds in (
+      λ name file format is plain. only_memory _ _ c.in-Err.error _ fails c.usage_of.ensures is (replay_format_faultless name file format plain),
+      λ name file format is plain. only_memory _ _ c.in-Err.error _ fails c.usage_of.ensures is (changes_format_faultless name file format plain),
+      λ name format is. only_memory _ _ c.in-Err.error _ fails c.usage_of.ensures is (follow_format_faultless name format),
+    )
+
+pub returns-clause-progress : goal.returns-clause-progress
+returns-clause-progress c =
+    let fails = fails_as_given _ _ c.in-Err.error c.in_ok-command.ensures c.in-Err.ensures.kinds in (
+      λ name file is plain. only_memory _ _ c.in-Err.error _ fails c.usage_of.ensures is (replay_progress_faultless name file plain),
+      λ name file is plain. only_memory _ _ c.in-Err.error _ fails c.usage_of.ensures is (changes_progress_faultless name file plain),
+    )
 
 pub returns-clause-fault : goal.returns-clause-fault
 returns-clause-fault c name number is plain =

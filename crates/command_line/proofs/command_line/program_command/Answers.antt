@@ -12,12 +12,14 @@ returns c =
     let top = ap app_of_fields c.arg_required_else_help.ensures ∙ ap (on_top (λ (s : Shape). record s { arg_required_else_help = true })) wanting in
     let one = c.in_ok-subcommand.ensures.shape c.in_ok-one.ensures.local ∙ ap₂ with_subcommand top (ap (λ (a : App). a.top) c.in_ok-one.ensures.app) in
     let decode = c.in_ok-subcommand-2.ensures.shape c.in_ok-decode.ensures.local ∙ ap₂ with_subcommand one (ap (λ (a : App). a.top) c.in_ok-decode.ensures.app) in
-    let names = c.in_ok-replay.ensures.app in
-    let replay = c.in_ok-subcommand-3.ensures.shape c.in_ok-replay.ensures.local ∙ ap₂ with_subcommand decode (ap (λ (a : App). a.top) names.2) in
-    let changes = c.in_ok-subcommand-4.ensures.shape c.in_ok-changes.ensures.local ∙ ap₂ with_subcommand replay (ap (λ (a : App). a.top) c.in_ok-changes.ensures.app) in
-    let follow = c.in_ok-subcommand-5.ensures.shape c.in_ok-follow.ensures.local ∙ ap₂ with_subcommand changes (ap (λ (a : App). a.top) c.in_ok-follow.ensures.app) in
+    let replay_at = c.in_ok-replay.ensures.app in
+    let replay = c.in_ok-subcommand-3.ensures.shape c.in_ok-replay.ensures.local ∙ ap₂ with_subcommand decode (ap (λ (a : App). a.top) replay_at.4) in
+    let changes_at = c.in_ok-changes.ensures.app in
+    let changes = c.in_ok-subcommand-4.ensures.shape c.in_ok-changes.ensures.local ∙ ap₂ with_subcommand replay (ap (λ (a : App). a.top) changes_at.2) in
+    let follow_at = c.in_ok-follow.ensures.app in
+    let follow = c.in_ok-subcommand-5.ensures.shape c.in_ok-follow.ensures.local ∙ ap₂ with_subcommand changes (ap (λ (a : App). a.top) follow_at.2) in
     IfOk-weaker c.subcommand-6.result _ _ (λ r h. (
-      names.0,
-      names.1,
+      record { shows = replay_at.0; of_replay = replay_at.1; of_changes = changes_at.0; of_follow = follow_at.0 },
+      record { shows = replay_at.2; of_replay = replay_at.3; of_changes = changes_at.1; of_follow = follow_at.1 },
       h.shape c.in_ok-fault.ensures.local ∙ ap₂ with_subcommand follow (ap (λ (a : App). a.top) c.in_ok-fault.ensures.app),
     )) c.subcommand-6.ensures

@@ -11,12 +11,23 @@ returns-clause-app c =
     let start : app_of c.after_help.result ≡ new_app (codes "replay") = ap app_of_fields c.after_help.ensures ∙ ap app_of_fields c.about.ensures ∙ c.new.ensures.app in
     let file = added_app _ _ _ _ _ c.in_ok-arg.ensures c.word.ensures.local start c.word.ensures.rule in
     let workers = added_app _ _ _ _ _ c.in_ok-arg-2.ensures c.workers_option.ensures.local file c.workers_option.ensures.rule in
-    let names = c.show_option.ensures.rule in
-    IfOk-weaker c.arg-3.result _ _ (λ r h. (names.0, names.1, added_app _ _ _ _ _ h c.show_option.ensures.local workers names.2)) c.arg-3.ensures
+    let shows = c.show_option.ensures.rule in
+    let show = added_app _ _ _ _ _ c.in_ok-arg-3.ensures c.show_option.ensures.local workers shows.2 in
+    let formats = c.format_option.ensures.rule in
+    let format = added_app _ _ _ _ _ c.in_ok-arg-4.ensures c.format_option.ensures.local show formats.2 in
+    IfOk-weaker c.arg-5.result _ _ (λ r h. (
+      shows.0,
+      formats.0,
+      shows.1,
+      formats.1,
+      added_app _ _ _ _ _ h c.progress_flag.ensures.local format c.progress_flag.ensures.rule,
+    )) c.arg-5.ensures
 
 pub returns-clause-local : goal.returns-clause-local
 returns-clause-local c =
     let start : (out-Command c.after_help.result).has_globals ≡ false = ap (λ f. f.has_globals) c.after_help.ensures ∙ ap (λ f. f.has_globals) c.about.ensures ∙ c.new.ensures.local in
     let file = added_local _ _ _ c.in_ok-arg.ensures c.word.ensures.local start in
     let workers = added_local _ _ _ c.in_ok-arg-2.ensures c.workers_option.ensures.local file in
-    IfOk-weaker c.arg-3.result _ _ (λ r h. added_local _ _ _ h c.show_option.ensures.local workers) c.arg-3.ensures
+    let show = added_local _ _ _ c.in_ok-arg-3.ensures c.show_option.ensures.local workers in
+    let format = added_local _ _ _ c.in_ok-arg-4.ensures c.format_option.ensures.local show in
+    IfOk-weaker c.arg-5.result _ _ (λ r h. added_local _ _ _ h c.progress_flag.ensures.local format) c.arg-5.ensures
