@@ -53,7 +53,7 @@ pub fn put_undue(line: usize, area: u32, dest: Dest, text: &mut String) -> Resul
     ensures { OnOk result (string_bytes text.new ≡ string_bytes text.old
         ++ json_line (undue_data line area dest)) }
 {
-    // The metric of what is due no longer does not count.
+    // Its metric is not told.
     let due = DueSummary::of(dest, 0);
     let mut object = Object::of_line(*text.allocator(), line, "undue")?;
     object.put_address("area", area)?;

@@ -60,7 +60,7 @@ pub fn put_behind(line: usize, text: &mut String) -> Result<(), Memory>
     object.append_to(text)
 }
 
-/// The line has this fault, and nothing behind it was read.
+/// The line has this fault.
 pub fn put_fault(fault: LineFault, text: &mut String) -> Result<(), Memory>
     ensures { OnOk result (string_bytes text.new ≡ string_bytes text.old
         ++ json_line (fault_data fault)) }
