@@ -1,7 +1,9 @@
 pub mod Written
+pub mod Advance
 pub mod Wholes
 pub mod LineTexts
 pub mod Paging
+pub mod Recorded
 pub mod RunSteps
 pub mod Matching
 pub mod AreaIds

@@ -1,6 +1,7 @@
 -- What is printed line by line: a part of it is written, and the end of it is on the page.
 use Rattle.std.proofs.Common.{◌≡◌, ℕ, suc, ◌<◌, ◌+◌, List, length, get_or, drop, add-one, drop-cons, [], ◌∷◌, ◌++◌, Option, refl, sym, ap, subst, ◌∙◌, append_assoc, append-nil}
 use Rattle.std.specs.List.{flat_map}
+use Rattle.output_format.specs.declared.Format.{Format}
 use Rattle.event_core.specs.DueSummaries.{listed}
 use Rattle.event_core.specs.Lists.{AreaSummariesValue}
 use Rattle.replay.specs.Lines.{area_lines}
@@ -137,9 +138,9 @@ line_next line items i x within is = rw add-one (ap (flat_map line) (drop-cons i
 
 -- ---- the areas, each with the lines of what is due in it
 
-abbrev pub lines_in : AreaSummariesValue → List ℕ
-lines_in w = area_lines (w.area, w.list)
+abbrev pub lines_in : Format → AreaSummariesValue → List ℕ
+lines_in format w = area_lines format (w.area, w.list)
 
-pub lines_listed : (areas : List AreaSummariesValue) → flat_map lines_in areas ≡ flat_map area_lines (listed areas)
-lines_listed [] = refl
-lines_listed (w ∷ areas) = ap (λ rest. lines_in w ++ rest) (lines_listed areas)
+pub lines_listed : (format : Format) (areas : List AreaSummariesValue) → flat_map (lines_in format) areas ≡ flat_map (area_lines format) (listed areas)
+lines_listed format [] = refl
+lines_listed format (w ∷ areas) = ap (λ rest. lines_in format w ++ rest) (lines_listed format areas)

@@ -2,6 +2,7 @@
 use Rattle.std.proofs.Common.{◌≡◌, ℕ, suc, ◌≤◌, ◌+◌, List, [], ◌∷◌, ◌++◌, length, take, Option, refl, sym, ap, subst, ◌∙◌, append_assoc, append-nil, arith}
 use Rattle.std.specs.Prelude.{Result, Ok, Err, IfOk, IfErr, OnOk, OnErr}
 use Rattle.std.proofs.lemmas.List.{length-append, take-append-le, take_all}
+use Rattle.output_format.specs.declared.Format.{Format}
 use Rattle.event_state.specs.declared.event.Event.{Event}
 use Rattle.event_state.specs.declared.refusal.Refusal.{Refusal}
 use Rattle.event_state.specs.States.{serial_of}
@@ -28,98 +29,98 @@ pub rolls_by : (old new : CoreValue) (r : Result ℕ Refusal) → OnOk r (Rolls 
 rolls_by old new (Ok serial) rolled is current refused unchanged = (current, rolled, is)
 rolls_by old new (Err refusal) rolled is current refused unchanged = (refused, unchanged)
 
-event_prints : (old new : CoreValue) (number : ℕ) (e : Event) (answer : Result Reply Refusal) → Applies old e answer new
-    → Prints old number (line.Event e ∷ []) (OfEvent answer ∷ []) (answer_line number answer) new
-event_prints old new number e answer applies = (new, [], applies, sym (append-nil (answer_line number answer)), (refl, refl))
+event_prints : (format : Format) (old new : CoreValue) (number : ℕ) (e : Event) (answer : Result Reply Refusal) → Applies old e answer new
+    → Prints format old number (line.Event e ∷ []) (OfEvent answer ∷ []) (answer_line format number answer) new
+event_prints format old new number e answer applies = (new, [], applies, sym (append-nil (answer_line format number answer)), (refl, refl))
 
-roll_prints : (old new : CoreValue) (number : ℕ) (answer : Result ℕ Refusal) → RollsBy old answer new
-    → Prints old number (line.Roll ∷ []) (OfRoll answer ∷ []) (roll_line number answer) new
-roll_prints old new number answer rolls = (new, [], rolls, sym (append-nil (roll_line number answer)), (refl, refl))
+roll_prints : (format : Format) (old new : CoreValue) (number : ℕ) (answer : Result ℕ Refusal) → RollsBy old answer new
+    → Prints format old number (line.Roll ∷ []) (OfRoll answer ∷ []) (roll_line format number answer) new
+roll_prints format old new number answer rolls = (new, [], rolls, sym (append-nil (roll_line format number answer)), (refl, refl))
 
-lookup_prints : (old : CoreValue) (number address : ℕ) (found : Match) → IsMatch old.table.items address found
-    → Prints old number (line.Lookup address ∷ []) [] (lookup_line number address old.table.serial found) old
-lookup_prints old number address found matched = (found, [], matched, sym (append-nil (lookup_line number address old.table.serial found)), (refl, refl))
+lookup_prints : (format : Format) (old : CoreValue) (number address : ℕ) (found : Match) → IsMatch old.table.items address found
+    → Prints format old number (line.Lookup address ∷ []) [] (lookup_line format number address old.table.serial found) old
+lookup_prints format old number address found matched = (found, [], matched, sym (append-nil (lookup_line format number address old.table.serial found)), (refl, refl))
 
-pub event_ran : (old new : CoreValue) (number : ℕ) (l : Line) (e : Event) (answer : Result Reply Refusal) (before after : List ℕ) → l ≡ line.Event e → Applies old e answer new
-    → after ≡ before ++ answer_line number answer → RanLine old number l new before after
-event_ran old new number l e answer before after is applies printed = record {
+pub event_ran : (format : Format) (old new : CoreValue) (number : ℕ) (l : Line) (e : Event) (answer : Result Reply Refusal) (before after : List ℕ) → l ≡ line.Event e → Applies old e answer new
+    → after ≡ before ++ answer_line format number answer → RanLine format old number l new before after
+event_ran format old new number l e answer before after is applies printed = record {
   answers = OfEvent answer ∷ [];
-  text = answer_line number answer;
-  run = subst (λ (x : Line). Prints old number (x ∷ []) (OfEvent answer ∷ []) (answer_line number answer) new) (sym is) (event_prints old new number e answer applies);
+  text = answer_line format number answer;
+  run = subst (λ (x : Line). Prints format old number (x ∷ []) (OfEvent answer ∷ []) (answer_line format number answer) new) (sym is) (event_prints format old new number e answer applies);
   printed = printed;
-  lines = answer_whole number answer;
+  lines = answer_whole format number answer;
 }
 
-pub roll_ran : (old new : CoreValue) (number : ℕ) (l : Line) (answer : Result ℕ Refusal) (before after : List ℕ) → l ≡ line.Roll → RollsBy old answer new
-    → after ≡ before ++ roll_line number answer → RanLine old number l new before after
-roll_ran old new number l answer before after is rolls printed = record {
+pub roll_ran : (format : Format) (old new : CoreValue) (number : ℕ) (l : Line) (answer : Result ℕ Refusal) (before after : List ℕ) → l ≡ line.Roll → RollsBy old answer new
+    → after ≡ before ++ roll_line format number answer → RanLine format old number l new before after
+roll_ran format old new number l answer before after is rolls printed = record {
   answers = OfRoll answer ∷ [];
-  text = roll_line number answer;
-  run = subst (λ (x : Line). Prints old number (x ∷ []) (OfRoll answer ∷ []) (roll_line number answer) new) (sym is) (roll_prints old new number answer rolls);
+  text = roll_line format number answer;
+  run = subst (λ (x : Line). Prints format old number (x ∷ []) (OfRoll answer ∷ []) (roll_line format number answer) new) (sym is) (roll_prints format old new number answer rolls);
   printed = printed;
-  lines = roll_whole number answer;
+  lines = roll_whole format number answer;
 }
 
-pub lookup_ran : (old : CoreValue) (table : TableValue) (number : ℕ) (l : Line) (address : ℕ) (before after : List ℕ) → l ≡ line.Lookup address → table ≡ old.table
-    → (found : Match) × IsMatch table.items address found × (after ≡ before ++ lookup_line number address table.serial found) → RanLine old number l old before after
-lookup_ran old table number l address before after is same (found, matched, printed) = record {
+pub lookup_ran : (format : Format) (old : CoreValue) (table : TableValue) (number : ℕ) (l : Line) (address : ℕ) (before after : List ℕ) → l ≡ line.Lookup address → table ≡ old.table
+    → (found : Match) × IsMatch table.items address found × (after ≡ before ++ lookup_line format number address table.serial found) → RanLine format old number l old before after
+lookup_ran format old table number l address before after is same (found, matched, printed) = record {
   answers = [];
-  text = lookup_line number address old.table.serial found;
-  run = subst (λ (x : Line). Prints old number (x ∷ []) [] (lookup_line number address old.table.serial found) old) (sym is)
-      (lookup_prints old number address found (subst (λ (t : TableValue). IsMatch t.items address found) same matched));
-  printed = printed ∙ ap (λ (t : TableValue). before ++ lookup_line number address t.serial found) same;
-  lines = lookup_whole number address old.table.serial found;
+  text = lookup_line format number address old.table.serial found;
+  run = subst (λ (x : Line). Prints format old number (x ∷ []) [] (lookup_line format number address old.table.serial found) old) (sym is)
+      (lookup_prints format old number address found (subst (λ (t : TableValue). IsMatch t.items address found) same matched));
+  printed = printed ∙ ap (λ (t : TableValue). before ++ lookup_line format number address t.serial found) same;
+  lines = lookup_whole format number address old.table.serial found;
 }
 
 pub event_taken : (old new : CoreValue) (l : Line) (e : Event) (answer : Result Reply Refusal) → l ≡ line.Event e → Applies old e answer new → IsRunTo old (l ∷ []) new
-event_taken old new l e answer is applies number =
-    subst (λ (x : Line). (answers : Answers) × (text : List ℕ) × Prints old number (x ∷ []) answers text new) (sym is) (OfEvent answer ∷ [], answer_line number answer, event_prints old new number e answer applies)
+event_taken old new l e answer is applies format number =
+    subst (λ (x : Line). (answers : Answers) × (text : List ℕ) × Prints format old number (x ∷ []) answers text new) (sym is) (OfEvent answer ∷ [], answer_line format number answer, event_prints format old new number e answer applies)
 
 pub roll_taken : (old new : CoreValue) (l : Line) (answer : Result ℕ Refusal) → l ≡ line.Roll → RollsBy old answer new → IsRunTo old (l ∷ []) new
-roll_taken old new l answer is rolls number =
-    subst (λ (x : Line). (answers : Answers) × (text : List ℕ) × Prints old number (x ∷ []) answers text new) (sym is) (OfRoll answer ∷ [], roll_line number answer, roll_prints old new number answer rolls)
+roll_taken old new l answer is rolls format number =
+    subst (λ (x : Line). (answers : Answers) × (text : List ℕ) × Prints format old number (x ∷ []) answers text new) (sym is) (OfRoll answer ∷ [], roll_line format number answer, roll_prints format old new number answer rolls)
 
 pub lookup_taken : (old : CoreValue) (table : TableValue) (l : Line) (address : ℕ) (found : Match) → l ≡ line.Lookup address → table ≡ old.table → IsMatch table.items address found
     → IsRunTo old (l ∷ []) old
-lookup_taken old table l address found is same matched number =
-    subst (λ (x : Line). (answers : Answers) × (text : List ℕ) × Prints old number (x ∷ []) answers text old) (sym is)
-    ([], lookup_line number address old.table.serial found, lookup_prints old number address found (subst (λ (t : TableValue). IsMatch t.items address found) same matched))
+lookup_taken old table l address found is same matched format number =
+    subst (λ (x : Line). (answers : Answers) × (text : List ℕ) × Prints format old number (x ∷ []) answers text old) (sym is)
+    ([], lookup_line format number address old.table.serial found, lookup_prints format old number address found (subst (λ (t : TableValue). IsMatch t.items address found) same matched))
 
 -- ---- one run behind the other
 
-pub prints_more : (old mid new : CoreValue) (number : ℕ) (xs ys : List Line) (ps qs : Answers) (t u : List ℕ) → Prints old number xs ps t mid → Prints mid (number + length xs) ys qs u new
-    → Prints old number (xs ++ ys) (ps ++ qs) (t ++ u) new
-prints_more old mid new number [] ys [] qs t u (none, same) q =
+pub prints_more : (format : Format) (old mid new : CoreValue) (number : ℕ) (xs ys : List Line) (ps qs : Answers) (t u : List ℕ) → Prints format old number xs ps t mid → Prints format mid (number + length xs) ys qs u new
+    → Prints format old number (xs ++ ys) (ps ++ qs) (t ++ u) new
+prints_more format old mid new number [] ys [] qs t u (none, same) q =
     let count : number + 0 ≡ number = omega arith in
-    let here : Prints mid number ys qs u new = subst (λ n. Prints mid n ys qs u new) count q in
-    subst (λ (c : CoreValue). Prints c number ys qs (t ++ u) new) same (subst (λ (w : List ℕ). Prints mid number ys qs (w ++ u) new) (sym none) here)
-prints_more old mid new number [] ys (a ∷ ps) qs t u p q = absurd p
-prints_more old mid new number (line.Lookup address ∷ xs) ys ps qs t u (found, rest, matched, text, tail) q =
+    let here : Prints format mid number ys qs u new = subst (λ n. Prints format mid n ys qs u new) count q in
+    subst (λ (c : CoreValue). Prints format c number ys qs (t ++ u) new) same (subst (λ (w : List ℕ). Prints format mid number ys qs (w ++ u) new) (sym none) here)
+prints_more format old mid new number [] ys (a ∷ ps) qs t u p q = absurd p
+prints_more format old mid new number (line.Lookup address ∷ xs) ys ps qs t u (found, rest, matched, text, tail) q =
     let count : number + suc (length xs) ≡ (number + 1) + length xs = omega arith in
-    let more = prints_more old mid new (number + 1) xs ys ps qs rest u tail (subst (λ n. Prints mid n ys qs u new) count q) in
-    (found, rest ++ u, matched, ap (λ w. w ++ u) text ∙ append_assoc (lookup_line number address old.table.serial found) rest u, more)
-prints_more old mid new number (line.Event e ∷ xs) ys [] qs t u p q = absurd p
-prints_more old mid new number (line.Event e ∷ xs) ys (a ∷ ps) qs t u (next, rest, answered, text, tail) q =
+    let more = prints_more format old mid new (number + 1) xs ys ps qs rest u tail (subst (λ n. Prints format mid n ys qs u new) count q) in
+    (found, rest ++ u, matched, ap (λ w. w ++ u) text ∙ append_assoc (lookup_line format number address old.table.serial found) rest u, more)
+prints_more format old mid new number (line.Event e ∷ xs) ys [] qs t u p q = absurd p
+prints_more format old mid new number (line.Event e ∷ xs) ys (a ∷ ps) qs t u (next, rest, answered, text, tail) q =
     let count : number + suc (length xs) ≡ (number + 1) + length xs = omega arith in
-    let more = prints_more next mid new (number + 1) xs ys ps qs rest u tail (subst (λ n. Prints mid n ys qs u new) count q) in
-    (next, rest ++ u, answered, ap (λ w. w ++ u) text ∙ append_assoc (text_of_answer number a) rest u, more)
-prints_more old mid new number (line.Roll ∷ xs) ys [] qs t u p q = absurd p
-prints_more old mid new number (line.Roll ∷ xs) ys (a ∷ ps) qs t u (next, rest, answered, text, tail) q =
+    let more = prints_more format next mid new (number + 1) xs ys ps qs rest u tail (subst (λ n. Prints format mid n ys qs u new) count q) in
+    (next, rest ++ u, answered, ap (λ w. w ++ u) text ∙ append_assoc (text_of_answer format number a) rest u, more)
+prints_more format old mid new number (line.Roll ∷ xs) ys [] qs t u p q = absurd p
+prints_more format old mid new number (line.Roll ∷ xs) ys (a ∷ ps) qs t u (next, rest, answered, text, tail) q =
     let count : number + suc (length xs) ≡ (number + 1) + length xs = omega arith in
-    let more = prints_more next mid new (number + 1) xs ys ps qs rest u tail (subst (λ n. Prints mid n ys qs u new) count q) in
-    (next, rest ++ u, answered, ap (λ w. w ++ u) text ∙ append_assoc (text_of_answer number a) rest u, more)
+    let more = prints_more format next mid new (number + 1) xs ys ps qs rest u tail (subst (λ n. Prints format mid n ys qs u new) count q) in
+    (next, rest ++ u, answered, ap (λ w. w ++ u) text ∙ append_assoc (text_of_answer format number a) rest u, more)
 
 -- ---- how far a run is
 
 -- some of the lines were run and printed, and these are left
-pub record Running (old : CoreValue) (first : ℕ) (lines rest : List Line) (number : ℕ) (now : CoreValue) (from to : Option (List ℕ)) (before page : List ℕ) : Type 0 where
+pub record Running (format : Format) (old : CoreValue) (first : ℕ) (lines rest : List Line) (number : ℕ) (now : CoreValue) (from to : Option (List ℕ)) (before page : List ℕ) : Type 0 where
   pub done : List Line
   pub left : lines ≡ done ++ rest
   pub counted : number ≡ first + length done
-  pub ran : Ran old first done now from to before page
+  pub ran : Ran format old first done now from to before page
 
-pub running_none : (old : CoreValue) (first number : ℕ) (lines rest : List Line) (from : Option (List ℕ)) (page : List ℕ) → number ≡ first → lines ≡ rest → Running old first lines rest number old from from page page
-running_none old first number lines rest from page counted is = record {
+pub running_none : (format : Format) (old : CoreValue) (first number : ℕ) (lines rest : List Line) (from : Option (List ℕ)) (page : List ℕ) → number ≡ first → lines ≡ rest → Running format old first lines rest number old from from page page
+running_none format old first number lines rest from page counted is = record {
   done = [];
   left = is;
   counted = omega arith;
@@ -127,19 +128,19 @@ running_none old first number lines rest from page counted is = record {
 }
 
 -- a line more, and then the page may be written in part
-pub ran_more : (old mid new : CoreValue) (first number : ℕ) (done : List Line) (l : Line) (from to : Option (List ℕ)) (before page put : List ℕ) → number ≡ first + length done → Ran old first done mid from to before page
-    → RanLine mid number l new page put → Ran old first (done ++ l ∷ []) new from to before put
-ran_more old mid new first number done l from to before page put counted ran more = record {
+pub ran_more : (format : Format) (old mid new : CoreValue) (first number : ℕ) (done : List Line) (l : Line) (from to : Option (List ℕ)) (before page put : List ℕ) → number ≡ first + length done → Ran format old first done mid from to before page
+    → RanLine format mid number l new page put → Ran format old first (done ++ l ∷ []) new from to before put
+ran_more format old mid new first number done l from to before page put counted ran more = record {
   answers = ran.answers ++ more.answers;
   text = ran.text ++ more.text;
-  run = prints_more old mid new first done (l ∷ []) ran.answers more.answers ran.text more.text ran.run (subst (λ n. Prints mid n (l ∷ []) more.answers more.text new) counted more.run);
+  run = prints_more format old mid new first done (l ∷ []) ran.answers more.answers ran.text more.text ran.run (subst (λ n. Prints format mid n (l ∷ []) more.answers more.text new) counted more.run);
   printed = adds_put from to before page ran.text put more.text ran.printed more.printed more.lines;
 }
 
-pub running_more : (old mid new : CoreValue) (first number : ℕ) (lines rest more : List Line) (l : Line) (from to on : Option (List ℕ)) (before page put moved : List ℕ) → Running old first lines rest number mid from to before page
-    → rest ≡ l ∷ more → RanLine mid number l new page put → Adds to on put moved [] → Running old first lines more (number + 1) new from on before moved
-running_more old mid new first number lines rest more l from to on before page put moved h next line spilled =
-    let ran = ran_more old mid new first number h.done l from to before page put h.counted h.ran line in
+pub running_more : (format : Format) (old mid new : CoreValue) (first number : ℕ) (lines rest more : List Line) (l : Line) (from to on : Option (List ℕ)) (before page put moved : List ℕ) → Running format old first lines rest number mid from to before page
+    → rest ≡ l ∷ more → RanLine format mid number l new page put → Adds to on put moved [] → Running format old first lines more (number + 1) new from on before moved
+running_more format old mid new first number lines rest more l from to on before page put moved h next line spilled =
+    let ran = ran_more format old mid new first number h.done l from to before page put h.counted h.ran line in
     record {
       done = h.done ++ l ∷ [];
       left = h.left ∙ ap (λ w. h.done ++ w) next ∙ sym (append_assoc h.done (l ∷ []) more);
@@ -148,43 +149,43 @@ running_more old mid new first number lines rest more l from to on before page p
     }
 
 -- the number of a line that is left is not the last of all numbers
-pub running_fits : (old now : CoreValue) (first number : ℕ) (lines rest more : List Line) (l : Line) (from to : Option (List ℕ)) (before page : List ℕ) → Running old first lines rest number now from to before page
+pub running_fits : (format : Format) (old now : CoreValue) (first number : ℕ) (lines rest more : List Line) (l : Line) (from to : Option (List ℕ)) (before page : List ℕ) → Running format old first lines rest number now from to before page
     → rest ≡ l ∷ more → number + 1 ≤ first + length lines
-running_fits old now first number lines rest more l from to before page h next =
+running_fits format old now first number lines rest more l from to before page h next =
     let whole : length lines ≡ length h.done + suc (length more) = ap length (h.left ∙ ap (λ w. h.done ++ w) next) ∙ length-append h.done (l ∷ more) in
     omega (arith, whole, h.counted)
 
-pub running_all : (old now : CoreValue) (first number : ℕ) (lines rest : List Line) (from to : Option (List ℕ)) (before page : List ℕ) → Running old first lines rest number now from to before page
-    → rest ≡ [] → Ran old first lines now from to before page
-running_all old now first number lines rest from to before page h none =
-    subst (λ (done : List Line). Ran old first done now from to before page) (sym (h.left ∙ ap (λ w. h.done ++ w) none ∙ append-nil h.done)) h.ran
+pub running_all : (format : Format) (old now : CoreValue) (first number : ℕ) (lines rest : List Line) (from to : Option (List ℕ)) (before page : List ℕ) → Running format old first lines rest number now from to before page
+    → rest ≡ [] → Ran format old first lines now from to before page
+running_all format old now first number lines rest from to before page h none =
+    subst (λ (done : List Line). Ran format old first done now from to before page) (sym (h.left ∙ ap (λ w. h.done ++ w) none ∙ append-nil h.done)) h.ran
 
 -- a run of the first of the lines
-ran_part : (why : Stop) (old now : CoreValue) (first : ℕ) (lines done rest : List Line) (from to : Option (List ℕ)) (before text : List ℕ) (answers : Answers) → lines ≡ done ++ rest → Prints old first done answers text now
-    → AddsPart why from to (before ++ text) → RanPart why old first lines from to before
-ran_part why old now first lines done rest from to before text answers left run part = record {
+ran_part : (why : Stop) (format : Format) (old now : CoreValue) (first : ℕ) (lines done rest : List Line) (from to : Option (List ℕ)) (before text : List ℕ) (answers : Answers) → lines ≡ done ++ rest → Prints format old first done answers text now
+    → AddsPart why from to (before ++ text) → RanPart why format old first lines from to before
+ran_part why format old now first lines done rest from to before text answers left run part = record {
   count = length done;
   answers = answers;
   text = text;
   now = now;
-  run = subst (λ (front : List Line). Prints old first front answers text now)
+  run = subst (λ (front : List Line). Prints format old first front answers text now)
       (sym (ap (take (length done)) left ∙ take-append-le (length done) done rest (omega arith) ∙ take_all (length done) done (omega arith))) run;
   part = part;
 }
 
 -- memory ran out
-pub running_part : (old now : CoreValue) (first number : ℕ) (lines rest : List Line) (from to : Option (List ℕ)) (before page : List ℕ) → AreWhole before
-    → Running old first lines rest number now from to before page → RanPart stop.Memory old first lines from to before
-running_part old now first number lines rest from to before page whole h =
-    ran_part stop.Memory old now first lines h.done rest from to before h.ran.text h.ran.answers h.left h.ran.run (part_now from to before page h.ran.text whole h.ran.printed)
+pub running_part : (format : Format) (old now : CoreValue) (first number : ℕ) (lines rest : List Line) (from to : Option (List ℕ)) (before page : List ℕ) → AreWhole before
+    → Running format old first lines rest number now from to before page → RanPart stop.Memory format old first lines from to before
+running_part format old now first number lines rest from to before page whole h =
+    ran_part stop.Memory format old now first lines h.done rest from to before h.ran.text h.ran.answers h.left h.ran.run (part_now from to before page h.ran.text whole h.ran.printed)
 
 -- the page could not be written behind a line
-pub running_stopped : (why : Stop) (old mid new : CoreValue) (first number : ℕ) (lines rest more : List Line) (l : Line) (from to on : Option (List ℕ)) (before page put : List ℕ)
-    → AreWhole before → Running old first lines rest number mid from to before page → rest ≡ l ∷ more → RanLine mid number l new page put → AddsPart why to on put
-    → RanPart why old first lines from on before
-running_stopped why old mid new first number lines rest more l from to on before page put whole h next line stopped =
-    let ran = ran_more old mid new first number h.done l from to before page put h.counted h.ran line in
-    ran_part why old new first lines (h.done ++ l ∷ []) more from on before ran.text ran.answers (h.left ∙ ap (λ w. h.done ++ w) next ∙ sym (append_assoc h.done (l ∷ []) more)) ran.run
+pub running_stopped : (why : Stop) (format : Format) (old mid new : CoreValue) (first number : ℕ) (lines rest more : List Line) (l : Line) (from to on : Option (List ℕ)) (before page put : List ℕ)
+    → AreWhole before → Running format old first lines rest number mid from to before page → rest ≡ l ∷ more → RanLine format mid number l new page put → AddsPart why to on put
+    → RanPart why format old first lines from on before
+running_stopped why format old mid new first number lines rest more l from to on before page put whole h next line stopped =
+    let ran = ran_more format old mid new first number h.done l from to before page put h.counted h.ran line in
+    ran_part why format old new first lines (h.done ++ l ∷ []) more from on before ran.text ran.answers (h.left ∙ ap (λ w. h.done ++ w) next ∙ sym (append_assoc h.done (l ∷ []) more)) ran.run
     (part_moved why from to on before put ran.text whole ran.printed stopped)
 
 -- ---- a run that prints nothing
@@ -196,23 +197,23 @@ pub record Taking (old : CoreValue) (lines rest : List Line) (now : CoreValue) :
   pub run : IsRunTo old done now
 
 pub taking_none : (old : CoreValue) (lines rest : List Line) → lines ≡ rest → Taking old lines rest old
-taking_none old lines rest is = record { done = []; left = is; run = λ number. ([], [], (refl, refl)) }
+taking_none old lines rest is = record { done = []; left = is; run = λ format number. ([], [], (refl, refl)) }
 
 pub taking_more : (old mid new : CoreValue) (lines rest more : List Line) (l : Line) → Taking old lines rest mid → rest ≡ l ∷ more → IsRunTo mid (l ∷ []) new → Taking old lines more new
 taking_more old mid new lines rest more l h next line = record {
   done = h.done ++ l ∷ [];
   left = h.left ∙ ap (λ w. h.done ++ w) next ∙ sym (append_assoc h.done (l ∷ []) more);
-  run = λ number.
-      let (ps, t, run) = h.run number in
-      let (qs, u, one) = line (number + length h.done) in
-      (ps ++ qs, t ++ u, prints_more old mid new number h.done (l ∷ []) ps qs t u run one);
+  run = λ format number.
+      let (ps, t, run) = h.run format number in
+      let (qs, u, one) = line format (number + length h.done) in
+      (ps ++ qs, t ++ u, prints_more format old mid new number h.done (l ∷ []) ps qs t u run one);
 }
 
 pub taking_all : (old now : CoreValue) (lines rest : List Line) → Taking old lines rest now → rest ≡ [] → IsRunTo old lines now
 taking_all old now lines rest h none = subst (λ (done : List Line). IsRunTo old done now) (sym (h.left ∙ ap (λ w. h.done ++ w) none ∙ append-nil h.done)) h.run
 
 -- memory ran out behind the last line
-pub ran_whole : (old now : CoreValue) (first : ℕ) (lines : List Line) (from to : Option (List ℕ)) (before page : List ℕ) → AreWhole before → Ran old first lines now from to before page
-    → RanPart stop.Memory old first lines from to before
-ran_whole old now first lines from to before page whole h =
-    ran_part stop.Memory old now first lines lines [] from to before h.text h.answers (sym (append-nil lines)) h.run (part_now from to before page h.text whole h.printed)
+pub ran_whole : (format : Format) (old now : CoreValue) (first : ℕ) (lines : List Line) (from to : Option (List ℕ)) (before page : List ℕ) → AreWhole before → Ran format old first lines now from to before page
+    → RanPart stop.Memory format old first lines from to before
+ran_whole format old now first lines from to before page whole h =
+    ran_part stop.Memory format old now first lines lines [] from to before h.text h.answers (sym (append-nil lines)) h.run (part_now from to before page h.text whole h.printed)

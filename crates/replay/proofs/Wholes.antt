@@ -3,6 +3,8 @@ use Rattle.std.proofs.Common.{◌≡◌, ◌∙◌, ◌+◌, ℕ, List, [], ◌�
 use Rattle.std.specs.Prelude.{Result, Ok, Err, decimal}
 use Rattle.std.specs.List.{flat_map}
 use Rattle.std.proofs.lemmas.List.{length-append, nil_from_length}
+use Rattle.output_format.specs.declared.Format.{Format}
+use Rattle.output_format.specs.declared.Format.TheVariants.{Text, Json}
 use Rattle.ospf_types.specs.declared.key.Scope.{Scope}
 use Rattle.ospf_types.specs.Lsa.{Lsa}
 use Rattle.ospf_types.specs.Network.{Network}
@@ -20,10 +22,14 @@ use Rattle.event_core.specs.declared.reply.Status.TheVariants.{Current, Behind}
 use Rattle.event_core.specs.Cores.{CoreValue}
 use Rattle.event_core.specs.DueSummary.{DueSummary}
 use Rattle.recording.specs.Forms.{Form, line_text, scope_text}
-use Rattle.recording.specs.Recordings.{event_form, ended, text_of_forms}
+use Rattle.recording.specs.Recordings.{event_form, ended}
+use Rattle.serde_json.specs.Data.{Data}
+use Rattle.serde_json.specs.Written.{compact_text}
+use Rattle.json_lines.specs.Members.{json_line}
+use Rattle.json_lines.specs.Lines.{lookup_data, refused_data, behind_data, serial_data, item_data, shown_due_data, lsa_data, recorded_data}
 use Rattle.replay.specs.declared.page.Stop.{Stop}
 use Rattle.replay.specs.declared.page.Stop.TheVariants as stop
-use Rattle.replay.specs.Lines.{lookup_line, answer_line, roll_line, standing_line, serial_line, item_line, due_line, dest_text, lsa_line, header_text, event_line}
+use Rattle.replay.specs.Lines.{lookup_line, behind_line, refused_line, answer_line, roll_line, standing_line, counts_line, serial_line, item_line, due_line, dest_text, lsa_line, header_text, recorded_line, event_line, forms_text}
 use Rattle.replay.specs.Stops.{IsEnded, AreWhole, IsLeft}
 
 pub none_whole : AreWhole []
@@ -70,41 +76,65 @@ left_behind stop.Memory front text rest whole h = append_whole front text whole 
 
 -- ---- the lines that are printed
 
-pub lookup_whole : (number address serial : ℕ) (found : Match) → AreWhole (lookup_line number address serial found)
-lookup_whole number address serial found =
+pub object_whole : (d : Data) → AreWhole (json_line d)
+object_whole d = inr (record { front = compact_text d; ends = refl })
+
+pub lookup_whole : (format : Format) (number address serial : ℕ) (found : Match) → AreWhole (lookup_line format number address serial found)
+lookup_whole Text number address serial found =
     inr (line_ended (decimal number ++ codes " lookup " ++ address_text address ++ codes " " ++ decimal serial ++ codes " " ++ match_text found))
+lookup_whole Json number address serial found = object_whole (lookup_data (record { line = number; address = address; serial = serial }) found)
 
-standing_whole : (number : ℕ) (state : Status) → AreWhole (standing_line number state)
-standing_whole number Current = none_whole
-standing_whole number Behind = inr (ends_behind (decimal number) (codes " behind\n") (line_ended (codes " behind")))
+pub behind_whole : (format : Format) (number : ℕ) → AreWhole (behind_line format number)
+behind_whole Text number = inr (ends_behind (decimal number) (codes " behind\n") (line_ended (codes " behind")))
+behind_whole Json number = object_whole (behind_data number)
 
-pub answer_whole : (number : ℕ) (answer : Result Reply Refusal) → AreWhole (answer_line number answer)
-answer_whole number (Ok reply) = standing_whole number reply.state
-answer_whole number (Err refusal) = inr (line_ended (decimal number ++ codes " refused " ++ refusal_text refusal))
+pub refused_whole : (format : Format) (number : ℕ) (refusal : Refusal) → AreWhole (refused_line format number refusal)
+refused_whole Text number refusal = inr (line_ended (decimal number ++ codes " refused " ++ refusal_text refusal))
+refused_whole Json number refusal = object_whole (refused_data number refusal)
 
-pub roll_whole : (number : ℕ) (answer : Result ℕ Refusal) → AreWhole (roll_line number answer)
-roll_whole number (Ok serial) = none_whole
-roll_whole number (Err refusal) = inr (line_ended (decimal number ++ codes " refused " ++ refusal_text refusal))
+standing_whole : (format : Format) (number : ℕ) (state : Status) → AreWhole (standing_line format number state)
+standing_whole format number Current = none_whole
+standing_whole format number Behind = behind_whole format number
 
-pub serial_whole : (c : CoreValue) → AreWhole (serial_line c)
-serial_whole c = inr (line_ended (codes "serial " ++ decimal (c.base.serial + length c.journal) ++ codes " built " ++ decimal (c.base.serial + c.built)))
+pub answer_whole : (format : Format) (number : ℕ) (answer : Result Reply Refusal) → AreWhole (answer_line format number answer)
+answer_whole format number (Ok reply) = standing_whole format number reply.state
+answer_whole format number (Err refusal) = refused_whole format number refusal
 
-pub item_whole : (e : Network × Item) → AreWhole (item_line e)
-item_whole (p, item.Route entry) = inr (line_ended (codes "route " ++ prefix_text p ++ codes " " ++ entry_text entry))
-item_whole (p, item.Discard) = inr (line_ended (codes "discard " ++ prefix_text p))
+pub roll_whole : (format : Format) (number : ℕ) (answer : Result ℕ Refusal) → AreWhole (roll_line format number answer)
+roll_whole format number (Ok serial) = none_whole
+roll_whole format number (Err refusal) = refused_whole format number refusal
 
-pub due_whole : (area : ℕ) (due : DueSummary) → AreWhole (due_line area due)
-due_whole area due =
+counts_whole : (format : Format) (serial built : ℕ) → AreWhole (counts_line format serial built)
+counts_whole Text serial built = inr (line_ended (codes "serial " ++ decimal serial ++ codes " built " ++ decimal built))
+counts_whole Json serial built = object_whole (serial_data serial built)
+
+pub serial_whole : (format : Format) (c : CoreValue) → AreWhole (serial_line format c)
+serial_whole format c = counts_whole format (c.base.serial + length c.journal) (c.base.serial + c.built)
+
+pub item_whole : (format : Format) (e : Network × Item) → AreWhole (item_line format e)
+item_whole Text (p, item.Route entry) = inr (line_ended (codes "route " ++ prefix_text p ++ codes " " ++ entry_text entry))
+item_whole Text (p, item.Discard) = inr (line_ended (codes "discard " ++ prefix_text p))
+item_whole Json (p, i) = object_whole (item_data p i)
+
+pub due_whole : (format : Format) (area : ℕ) (due : DueSummary) → AreWhole (due_line format area due)
+due_whole Text area due =
     inr (line_ended (codes "due " ++ address_text area ++ codes " " ++ decimal due.kind ++ codes " " ++ dest_text due.dest ++ codes " " ++ decimal due.metric))
+due_whole Json area due = object_whole (shown_due_data area due)
 
-pub lsa_whole : (p : Scope × Lsa) → AreWhole (lsa_line p)
-lsa_whole p = inr (line_ended (codes "lsa " ++ scope_text p.0 ++ codes " " ++ header_text p.1.header))
+pub lsa_whole : (format : Format) (p : Scope × Lsa) → AreWhole (lsa_line format p)
+lsa_whole Text p = inr (line_ended (codes "lsa " ++ scope_text p.0 ++ codes " " ++ header_text p.1.header))
+lsa_whole Json p = object_whole (lsa_data p.0 p.1.header)
 
-pub form_whole : (form : Form) → AreWhole (ended form)
+form_whole : (form : Form) → AreWhole (ended form)
 form_whole form = inr (record { front = line_text form; ends = refl })
 
-pub event_whole : (e : Event) → AreWhole (event_line e)
-event_whole e = form_whole (event_form e)
+pub recorded_whole : (form : Form) → AreWhole (recorded_line form)
+recorded_whole form = object_whole (recorded_data (line_text form))
 
-pub forms_whole : (forms : List Form) → AreWhole (text_of_forms forms)
-forms_whole forms = flat_whole ended form_whole forms
+pub event_whole : (format : Format) (e : Event) → AreWhole (event_line format e)
+event_whole Text e = form_whole (event_form e)
+event_whole Json e = recorded_whole (event_form e)
+
+pub forms_whole : (format : Format) (forms : List Form) → AreWhole (forms_text format forms)
+forms_whole Text forms = flat_whole ended form_whole forms
+forms_whole Json forms = flat_whole recorded_line recorded_whole forms

@@ -5,5 +5,6 @@ pub mod Stops
 pub mod Outputs
 pub mod Texts
 pub mod Writing
+pub mod Advance
 pub mod Pages
 pub mod Parts

@@ -5,26 +5,28 @@ use Rattle.std.specs.FinMap.{entries}
 use Rattle.std.specs.Io.KnownBytes.{Appends}
 use Rattle.ospf_types.specs.declared.key.Scope.{Scope}
 use Rattle.ospf_types.specs.Lsa.{Lsa}
+use Rattle.output_format.specs.declared.Format.{Format}
 use Rattle.event_core.specs.Cores.{CoreValue, state_of}
 use Rattle.event_core.specs.Listings.{AreLsas}
 use Rattle.event_state.specs.declared.base.Base.{Base}
 use Rattle.recording.specs.declared.line.Line.{Line}
 use Rattle.recording.specs.declared.line.Line.TheVariants as line
-use Rattle.recording.specs.Recordings.{RecordingValue, IsText, text_of}
+use Rattle.recording.specs.Recordings.{RecordingValue, IsText}
 use Rattle.recording.specs.declared.show.Show.{Show}
 use Rattle.recording.specs.declared.version.Version.{Version}
 use Rattle.recording.specs.declared.show.Show.TheVariants as show
-use Rattle.replay.specs.Lines.{first_number, serial_line, item_line, area_lines, lsa_line}
+use Rattle.replay.specs.Lines.{first_number, serial_line, item_line, area_lines, lsa_line, recorded_text}
 use Rattle.replay.specs.Runs.{Answers, Prints, IsOpened}
 use Rattle.replay.specs.Inputs.{ReadsAll}
 use Rattle.replay.specs.Stops.{IsBeginning}
 use Rattle.replay.specs.declared.page.Stop.{Stop}
+use Rattle.replay.specs.declared.printing.Printing.{Printing}
 
 -- the recording was run with these answers to its events and rolls, and its lines printed this
-pub record IsRun (r : RecordingValue) (answers : Answers) (printed : List ℕ) (closed : CoreValue) : Type 0 where
+pub record IsRun (format : Format) (r : RecordingValue) (answers : Answers) (printed : List ℕ) (closed : CoreValue) : Type 0 where
   pub opened : CoreValue
   pub opening : IsOpened r.base opened
-  pub run : Prints opened (first_number r.version r.base) r.lines answers printed closed
+  pub run : Prints format opened (first_number r.version r.base) r.lines answers printed closed
 
 -- a recording of the version: a base, and lines
 abbrev pub recording_of : Version → Base → List Line → RecordingValue
@@ -36,44 +38,45 @@ journal_of v c = record { version = v; base = c.base; lines = map line.Event c.j
 
 -- The text after the run: the lines of the run, how far it came, and what is shown. What is due is shown in the order of the areas, which ascend in a
 -- recording. The journal is shown alone, behind its base, in the version of the recording.
-abbrev pub IsShown : Version → Show → (printed : List ℕ) → CoreValue → (text : List ℕ) → Type 0
-IsShown v show.Routes printed c text = text ≡ printed ++ serial_line c ++ flat_map item_line (entries c.table.items)
-IsShown v show.Due printed c text = text ≡ printed ++ serial_line c ++ flat_map area_lines c.summaries
-IsShown v show.Lsdb printed c text = (lsas : List (Scope × Lsa)) × AreLsas (state_of c) lsas × (text ≡ printed ++ serial_line c ++ flat_map lsa_line lsas)
-IsShown v show.Journal printed c text = text ≡ text_of (journal_of v c)
+abbrev pub IsShown : Version → Show → Format → (printed : List ℕ) → CoreValue → (text : List ℕ) → Type 0
+IsShown v show.Routes format printed c text = text ≡ printed ++ serial_line format c ++ flat_map (item_line format) (entries c.table.items)
+IsShown v show.Due format printed c text = text ≡ printed ++ serial_line format c ++ flat_map (area_lines format) c.summaries
+IsShown v show.Lsdb format printed c text =
+    (lsas : List (Scope × Lsa)) × AreLsas (state_of c) lsas × (text ≡ printed ++ serial_line format c ++ flat_map (lsa_line format) lsas)
+IsShown v show.Journal format printed c text = text ≡ recorded_text format (journal_of v c)
 
--- The output of a recording for a show, where its events and rolls had these answers: of the events that the databases take, some may have been refused for
+-- The output of a recording, printed so, where its events and rolls had these answers: of the events that the databases take, some may have been refused for
 -- want of memory, and some answered Behind; a roll may have been refused for want of memory. Each of these is one of the answers.
-pub record IsOutput (r : RecordingValue) (s : Show) (answers : Answers) (text : List ℕ) : Type 0 where
+pub record IsOutput (r : RecordingValue) (p : Printing) (answers : Answers) (text : List ℕ) : Type 0 where
   pub printed : List ℕ
   pub closed : CoreValue
-  pub run : IsRun r answers printed closed
-  pub shown : IsShown r.version s printed closed text
+  pub run : IsRun p.format r answers printed closed
+  pub shown : IsShown r.version p.show p.format printed closed text
 
 -- the text is the beginning of an output that such a stop leaves
-pub record IsCutOutput (why : Stop) (r : RecordingValue) (s : Show) (text : List ℕ) : Type 0 where
+pub record IsCutOutput (why : Stop) (r : RecordingValue) (p : Printing) (text : List ℕ) : Type 0 where
   pub answers : Answers
   pub whole : List ℕ
-  pub output : IsOutput r s answers whole
+  pub output : IsOutput r p answers whole
   pub part : IsBeginning why text whole
 
 -- all the bytes that a reader had were a recording, and a writer's known bytes grew by its output
-pub record Replays (s : Show) (before after : Option (List ℕ)) (old new : Option (List ℕ)) : Type 0 where
+pub record Replays (p : Printing) (before after : Option (List ℕ)) (old new : Option (List ℕ)) : Type 0 where
   pub bytes : List ℕ
   pub read : ReadsAll before after bytes
   pub recording : RecordingValue
   pub text : IsText bytes recording
   pub answers : Answers
   pub output : List ℕ
-  pub is : IsOutput recording s answers output
+  pub is : IsOutput recording p answers output
   pub written : Appends old new output
 
 -- all the bytes that a reader had were a recording, and a writer's known bytes grew by the beginning of its output that such a stop leaves
-pub record ReplaysPart (why : Stop) (s : Show) (before after : Option (List ℕ)) (old new : Option (List ℕ)) : Type 0 where
+pub record ReplaysPart (why : Stop) (p : Printing) (before after : Option (List ℕ)) (old new : Option (List ℕ)) : Type 0 where
   pub bytes : List ℕ
   pub read : ReadsAll before after bytes
   pub recording : RecordingValue
   pub text : IsText bytes recording
   pub part : List ℕ
-  pub is : IsCutOutput why recording s part
+  pub is : IsCutOutput why recording p part
   pub written : Appends old new part

@@ -1,6 +1,7 @@
 -- The page: the end of what is printed, which is not yet written.
 use Rattle.std.specs.Prelude.{ℕ, ◌≡◌, ◌++◌, List, [], ◌∷◌, Option, take}
 use Rattle.std.specs.Io.KnownBytes.{Appends}
+use Rattle.output_format.specs.declared.Format.{Format}
 use Rattle.event_core.specs.Cores.{CoreValue}
 use Rattle.recording.specs.declared.line.Line.{Line}
 use Rattle.replay.specs.Runs.{Answers, Prints}
@@ -25,29 +26,29 @@ pub record AddsPart (why : Stop) (old new : Option (List ℕ)) (whole : List ℕ
 -- ---- runs
 
 -- the line of this number was run, and what it printed stands behind the text of before
-pub record RanLine (old : CoreValue) (number : ℕ) (line : Line) (new : CoreValue) (before after : List ℕ) : Type 0 where
+pub record RanLine (format : Format) (old : CoreValue) (number : ℕ) (line : Line) (new : CoreValue) (before after : List ℕ) : Type 0 where
   pub answers : Answers
   pub text : List ℕ
-  pub run : Prints old number (line ∷ []) answers text new
+  pub run : Prints format old number (line ∷ []) answers text new
   pub printed : after ≡ before ++ text
   pub lines : AreWhole text
 
 -- the lines were run, from this number on, and printed
-pub record Ran (old : CoreValue) (number : ℕ) (lines : List Line) (new : CoreValue) (from to : Option (List ℕ)) (before page : List ℕ) : Type 0 where
+pub record Ran (format : Format) (old : CoreValue) (number : ℕ) (lines : List Line) (new : CoreValue) (from to : Option (List ℕ)) (before page : List ℕ) : Type 0 where
   pub answers : Answers
   pub text : List ℕ
-  pub run : Prints old number lines answers text new
+  pub run : Prints format old number lines answers text new
   pub printed : Adds from to before page text
 
 -- so many of the lines were run, and a beginning of what they printed was written
-pub record RanPart (why : Stop) (old : CoreValue) (number : ℕ) (lines : List Line) (from to : Option (List ℕ)) (before : List ℕ) : Type 0 where
+pub record RanPart (why : Stop) (format : Format) (old : CoreValue) (number : ℕ) (lines : List Line) (from to : Option (List ℕ)) (before : List ℕ) : Type 0 where
   pub count : ℕ
   pub answers : Answers
   pub text : List ℕ
   pub now : CoreValue
-  pub run : Prints old number (take count lines) answers text now
+  pub run : Prints format old number (take count lines) answers text now
   pub part : AddsPart why from to (before ++ text)
 
--- the lines lead from one core to the other, whatever their numbers
+-- the lines lead from one core to the other, whatever their numbers and in whatever form they are printed
 abbrev pub IsRunTo : CoreValue → List Line → CoreValue → Type 0
-IsRunTo old lines new = (number : ℕ) → (answers : Answers) × (text : List ℕ) × Prints old number lines answers text new
+IsRunTo old lines new = (format : Format) (number : ℕ) → (answers : Answers) × (text : List ℕ) × Prints format old number lines answers text new

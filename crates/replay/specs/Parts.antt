@@ -8,6 +8,7 @@ use Rattle.replay.specs.declared.fault.ReplayFault.{ReplayFault}
 use Rattle.replay.specs.declared.fault.ReplayFault.TheVariants as fault
 use Rattle.replay.specs.declared.page.Stop.{Stop}
 use Rattle.replay.specs.declared.page.Stop.TheVariants as stop
+use Rattle.replay.specs.declared.printing.Printing.{Printing}
 use Rattle.recording.specs.declared.show.Show.{Show}
 use Rattle.recording.specs.declared.show.Show.TheVariants as show
 use Rattle.replay.specs.Lines.{first_number}
@@ -37,10 +38,10 @@ IsReadFault before after fault.Memory = Unit {0}
 IsReadFault before after (fault.Line f) = (bytes : List ℕ) × ReadsAll before after bytes × IsFaultOf bytes f
 
 -- a writer's known bytes grew by an output of the recording
-pub record WritesOutput (r : RecordingValue) (s : Show) (old new : Option (List ℕ)) : Type 0 where
+pub record WritesOutput (r : RecordingValue) (p : Printing) (old new : Option (List ℕ)) : Type 0 where
   pub answers : Answers
   pub output : List ℕ
-  pub is : IsOutput r s answers output
+  pub is : IsOutput r p answers output
   pub written : Appends old new output
 
 -- ---- where printing stops
@@ -60,21 +61,21 @@ PrintsRun show.Lsdb = Unit {0}
 PrintsRun show.Journal = ⊥
 
 -- the run came so far, where its lines are printed, and the text is the beginning of what these printed
-pub record IsCutRun (why : Stop) (r : RecordingValue) (s : Show) (text : List ℕ) : Type 0 where
-  pub prints : PrintsRun s
+pub record IsCutRun (why : Stop) (r : RecordingValue) (p : Printing) (text : List ℕ) : Type 0 where
+  pub prints : PrintsRun p.show
   pub count : ℕ
   pub answers : Answers
   pub printed : List ℕ
   pub now : CoreValue
-  pub run : IsRun (record r { lines = take count r.lines }) answers printed now
+  pub run : IsRun p.format (record r { lines = take count r.lines }) answers printed now
   pub part : IsBeginning why text printed
 
 -- what may have been written where printing stops
-abbrev pub IsCut : Stop → RecordingValue → Show → List ℕ → Type 0
-IsCut why r s text = IsBegun why r text ⊎ IsCutRun why r s text ⊎ IsCutOutput why r s text
+abbrev pub IsCut : Stop → RecordingValue → Printing → List ℕ → Type 0
+IsCut why r p text = IsBegun why r text ⊎ IsCutRun why r p text ⊎ IsCutOutput why r p text
 
 -- a writer's known bytes grew by what such a stop leaves of what is to be written
-pub record WritesPart (why : Stop) (r : RecordingValue) (s : Show) (old new : Option (List ℕ)) : Type 0 where
+pub record WritesPart (why : Stop) (r : RecordingValue) (p : Printing) (old new : Option (List ℕ)) : Type 0 where
   pub part : List ℕ
-  pub is : IsCut why r s part
+  pub is : IsCut why r p part
   pub written : Appends old new part

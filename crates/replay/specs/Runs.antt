@@ -4,6 +4,7 @@ use Rattle.event_state.specs.declared.base.Base.{Base}
 use Rattle.event_state.specs.declared.refusal.Refusal.{Refusal}
 use Rattle.event_state.specs.States.{serial_of}
 use Rattle.event_state.specs.Steps.{standard_limits}
+use Rattle.output_format.specs.declared.Format.{Format}
 use Rattle.route_table.specs.declared.table.Match.{Match}
 use Rattle.route_table.specs.Tables.{IsMatch}
 use Rattle.event_core.specs.declared.reply.Reply.{Reply}
@@ -35,22 +36,23 @@ IsAnswered old line.Roll (OfEvent given) new = ⊥
 IsAnswered old (line.Lookup address) answer new = ⊥
 
 -- what is printed of it
-abbrev pub text_of_answer : ℕ → Answer → List ℕ
-text_of_answer number (OfEvent given) = answer_line number given
-text_of_answer number (OfRoll given) = roll_line number given
+abbrev pub text_of_answer : Format → ℕ → Answer → List ℕ
+text_of_answer format number (OfEvent given) = answer_line format number given
+text_of_answer format number (OfRoll given) = roll_line format number given
 
 -- From one core to the other, over lines that are numbered from here on: each event and each roll has its answer, and this is printed.
-abbrev pub Prints : CoreValue → ℕ → List Line → Answers → List ℕ → CoreValue → Type 0
-Prints old number [] [] text new = (text ≡ []) × (new ≡ old)
-Prints old number [] (answer ∷ answers) text new = ⊥
-Prints old number (line.Lookup address ∷ lines) answers text new =
-    (found : Match) × (rest : List ℕ) × IsMatch old.table.items address found × (text ≡ lookup_line number address old.table.serial found ++ rest) × Prints old (number + 1) lines answers rest new
-Prints old number (line.Event e ∷ lines) [] text new = ⊥
-Prints old number (line.Event e ∷ lines) (answer ∷ answers) text new =
-    (mid : CoreValue) × (rest : List ℕ) × IsAnswered old (line.Event e) answer mid × (text ≡ text_of_answer number answer ++ rest) × Prints mid (number + 1) lines answers rest new
-Prints old number (line.Roll ∷ lines) [] text new = ⊥
-Prints old number (line.Roll ∷ lines) (answer ∷ answers) text new =
-    (mid : CoreValue) × (rest : List ℕ) × IsAnswered old line.Roll answer mid × (text ≡ text_of_answer number answer ++ rest) × Prints mid (number + 1) lines answers rest new
+abbrev pub Prints : Format → CoreValue → ℕ → List Line → Answers → List ℕ → CoreValue → Type 0
+Prints format old number [] [] text new = (text ≡ []) × (new ≡ old)
+Prints format old number [] (answer ∷ answers) text new = ⊥
+Prints format old number (line.Lookup address ∷ lines) answers text new =
+    (found : Match) × (rest : List ℕ) × IsMatch old.table.items address found × (text ≡ lookup_line format number address old.table.serial found ++ rest)
+    × Prints format old (number + 1) lines answers rest new
+Prints format old number (line.Event e ∷ lines) [] text new = ⊥
+Prints format old number (line.Event e ∷ lines) (answer ∷ answers) text new =
+    (mid : CoreValue) × (rest : List ℕ) × IsAnswered old (line.Event e) answer mid × (text ≡ text_of_answer format number answer ++ rest) × Prints format mid (number + 1) lines answers rest new
+Prints format old number (line.Roll ∷ lines) [] text new = ⊥
+Prints format old number (line.Roll ∷ lines) (answer ∷ answers) text new =
+    (mid : CoreValue) × (rest : List ℕ) × IsAnswered old line.Roll answer mid × (text ≡ text_of_answer format number answer ++ rest) × Prints format mid (number + 1) lines answers rest new
 
 -- what a run begins with: the base, no event since, and the table of the base
 pub record IsOpened (base : Base) (c : CoreValue) : Type 0 where

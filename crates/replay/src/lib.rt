@@ -2,21 +2,29 @@
 #![tactic(auto)]
 
 mod fault;
+mod journal;
 mod lines;
 mod opened;
 mod output;
 mod page;
+mod printing;
+mod progress;
 mod replaying;
 mod running;
 mod showing;
 mod writing;
 
 pub use fault::ReplayFault;
-pub use lines::{put_answer, put_dest, put_lookup, put_roll, put_serial};
+pub use journal::Journal;
+pub use lines::{
+    put_answer, put_behind, put_dest, put_found, put_lookup, put_refused, put_roll, put_serial,
+};
 pub use opened::OpenedRecording;
 pub use page::{Stop, empty_page, fault_of, spill, write_page};
+pub use printing::Printing;
+pub use progress::Progress;
 pub use recording::Show;
 pub use replaying::{parse_bytes, read_recording, replay_one};
 pub use running::number_of_first;
-pub use showing::{show_events, show_items, show_lsas, show_summaries};
+pub use showing::{show_items, show_lsas, show_summaries};
 pub use writing::{CannotWrite, write_whole};

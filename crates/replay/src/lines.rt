@@ -1,83 +1,177 @@
 //! The lines that a replay prints, each appended to a text. If memory runs out, the text may
 //! have a part of the line.
 ghost use Rattle.std.specs.Prelude.{◌≡◌, ◌++◌, OnOk, codes, string_bytes};
+ghost use Rattle.output_format.specs.declared.Format.TheVariants as format_value;
 ghost use Rattle.recording.specs.Forms.{scope_text};
 ghost use Rattle.route_table.specs.declared.table.Match.{Match};
 ghost use Rattle.route_table.specs.Tables.{IsMatch};
-ghost use Rattle.replay.specs.Lines.{lookup_line, answer_line, roll_line, serial_line, item_line, due_line, dest_text, header_text, lsa_line};
+ghost use Rattle.replay.specs.Lines.{lookup_line, behind_line, refused_line, answer_line, roll_line, counts_line, serial_line, item_line, due_line, dest_text, header_text, lsa_line, event_line};
 
-use event_core::{Core, DueSummary, Refusal, Reply, Status};
+use event_core::{Core, DueSummary, Event, Refusal, Reply, Status};
+use json_lines::{Lookup, put_recorded};
 use lsa_codec::{Checked, Header};
 use lsa_words::put_hexadecimal;
 use ospf_types::address::Address;
 use ospf_types::key::{Dest, Scope};
 use ospf_types::memory::Memory;
 use ospf_types::prefix::Prefix;
-use route_table::{Item, Table};
+use output_format::Format;
+use recording::append_event;
+use route_table::{Item, Match, Table};
 
 /// The match of the address in the table.
 pub fn put_lookup(
+    format: Format,
     number: usize,
     address: u32,
     table: &Table,
     text: &mut String,
 ) -> Result<(), Memory>
     ensures { OnOk result ((found : Match) × IsMatch table.now.items address found
-        × (string_bytes text.new ≡ string_bytes text.old ++ lookup_line number address table.now.serial found)) }
+        × (string_bytes text.new ≡ string_bytes text.old ++ lookup_line format number address table.now.serial found)) }
 {
-    let (serial, found) = (table.serial(), table.lookup(address));
-    let address = Address(address);
+    let lookup = Lookup {
+        line: number,
+        address,
+        serial: table.serial(),
+    };
+    // proof: a match that is kept in a variable is not told to the borrow checker as one that may hold a route.
+    match table.lookup(address) {
+        Match::Route(network, entry) => {
+            let found = Match::Route(network, entry);
+            put_found(format, lookup, &found, text)
+        }
+        Match::Discard(network) => put_found(format, lookup, &Match::Discard(network), text),
+        Match::None => put_found(format, lookup, &Match::None, text),
+    }
+}
+
+/// What a look-up found.
+pub fn put_found(
+    format: Format,
+    lookup: Lookup,
+    found: &Match,
+    text: &mut String,
+) -> Result<(), Memory>
+    ensures { OnOk result (string_bytes text.new ≡ string_bytes text.old
+        ++ lookup_line format lookup.line lookup.address lookup.serial found.now) }
+{
+    match format {
+        Format::Text => put_found_words(lookup, found, text),
+        Format::Json => json_lines::put_lookup(lookup, found, text),
+    }
+}
+
+fn put_found_words(lookup: Lookup, found: &Match, text: &mut String) -> Result<(), Memory>
+    ensures { OnOk result (string_bytes text.new ≡ string_bytes text.old
+        ++ lookup_line format_value.Text lookup.line lookup.address lookup.serial found.now) }
+{
+    let (number, serial) = (lookup.line, lookup.serial);
+    let address = Address(lookup.address);
     writeln!(text, "{number} lookup {address} {serial} {found}")?;
     Ok(())
 }
 
 /// The answer to an event: nothing where the event was taken and the table is that of the state now.
 pub fn put_answer(
+    format: Format,
     number: usize,
     answer: Result<Reply, Refusal>,
     text: &mut String,
 ) -> Result<(), Memory>
     ensures { OnOk result (string_bytes text.new ≡ string_bytes text.old
-        ++ answer_line number answer) }
+        ++ answer_line format number answer) }
 {
     match answer {
         Ok(reply) => match reply.state {
-            Status::Current => {}
-            Status::Behind => writeln!(text, "{number} behind")?,
+            Status::Current => Ok(()),
+            Status::Behind => put_behind(format, number, text),
         },
-        Err(refusal) => writeln!(text, "{number} refused {refusal}")?,
+        Err(refusal) => put_refused(format, number, refusal, text),
     }
-    Ok(())
 }
 
 /// The answer to a roll: nothing where it was carried out.
 pub fn put_roll(
+    format: Format,
     number: usize,
     answer: Result<u64, Refusal>,
     text: &mut String,
 ) -> Result<(), Memory>
     ensures { OnOk result (string_bytes text.new ≡ string_bytes text.old
-        ++ roll_line number answer) }
+        ++ roll_line format number answer) }
 {
-    if let Err(refusal) = answer {
-        writeln!(text, "{number} refused {refusal}")?;
+    match answer {
+        Ok(_) => Ok(()),
+        Err(refusal) => put_refused(format, number, refusal, text),
     }
-    Ok(())
+}
+
+/// The event was taken, and the table does not follow it yet.
+pub fn put_behind(format: Format, number: usize, text: &mut String) -> Result<(), Memory>
+    ensures { OnOk result (string_bytes text.new ≡ string_bytes text.old
+        ++ behind_line format number) }
+{
+    match format {
+        Format::Text => Ok(writeln!(text, "{number} behind")?),
+        Format::Json => json_lines::put_behind(number, text),
+    }
+}
+
+/// The event, or the roll, was refused.
+pub fn put_refused(
+    format: Format,
+    number: usize,
+    refusal: Refusal,
+    text: &mut String,
+) -> Result<(), Memory>
+    ensures { OnOk result (string_bytes text.new ≡ string_bytes text.old
+        ++ refused_line format number refusal) }
+{
+    match format {
+        Format::Text => Ok(writeln!(text, "{number} refused {refusal}")?),
+        Format::Json => json_lines::put_refused(number, refusal, text),
+    }
 }
 
 /// The serial, and that of the event which the table is after.
-pub fn put_serial(core: &Core, text: &mut String) -> Result<(), Memory>
-    ensures { OnOk result (string_bytes text.new ≡ string_bytes text.old ++ serial_line core.now) }
+pub fn put_serial(format: Format, core: &Core, text: &mut String) -> Result<(), Memory>
+    ensures { OnOk result (string_bytes text.new ≡ string_bytes text.old
+        ++ serial_line format core.now) }
 {
-    let (serial, built) = (core.serial(), core.built());
-    writeln!(text, "serial {serial} built {built}")?;
-    Ok(())
+    put_counts(format, core.serial(), core.built(), text)
+}
+
+// So many events were taken, and so many of them the table follows.
+fn put_counts(format: Format, serial: u64, built: u64, text: &mut String) -> Result<(), Memory>
+    ensures { OnOk result (string_bytes text.new ≡ string_bytes text.old
+        ++ counts_line format serial built) }
+{
+    match format {
+        Format::Text => Ok(writeln!(text, "serial {serial} built {built}")?),
+        Format::Json => json_lines::put_serial(serial, built, text),
+    }
 }
 
 /// A network with its route, or with a discard.
-pub(crate) fn put_item(prefix: Prefix, item: &Item, text: &mut String) -> Result<(), Memory>
+pub(crate) fn put_item(
+    format: Format,
+    prefix: Prefix,
+    item: &Item,
+    text: &mut String,
+) -> Result<(), Memory>
     ensures { OnOk result (string_bytes text.new ≡ string_bytes text.old
-        ++ item_line (prefix, item.now)) }
+        ++ item_line format (prefix, item.now)) }
+{
+    match format {
+        Format::Text => put_item_words(prefix, item, text),
+        Format::Json => json_lines::put_item(prefix, item, text),
+    }
+}
+
+fn put_item_words(prefix: Prefix, item: &Item, text: &mut String) -> Result<(), Memory>
+    ensures { OnOk result (string_bytes text.new ≡ string_bytes text.old
+        ++ item_line format_value.Text (prefix, item.now)) }
 {
     match item {
         Item::Route(entry) => writeln!(text, "route {prefix} {entry}")?,
@@ -87,8 +181,24 @@ pub(crate) fn put_item(prefix: Prefix, item: &Item, text: &mut String) -> Result
 }
 
 /// A summary that is due in the area.
-pub(crate) fn put_due(area: u32, due: DueSummary, text: &mut String) -> Result<(), Memory>
-    ensures { OnOk result (string_bytes text.new ≡ string_bytes text.old ++ due_line area due) }
+pub(crate) fn put_due(
+    format: Format,
+    area: u32,
+    due: DueSummary,
+    text: &mut String,
+) -> Result<(), Memory>
+    ensures { OnOk result (string_bytes text.new ≡ string_bytes text.old
+        ++ due_line format area due) }
+{
+    match format {
+        Format::Text => put_due_words(area, due, text),
+        Format::Json => json_lines::put_shown_due(area, due, text),
+    }
+}
+
+fn put_due_words(area: u32, due: DueSummary, text: &mut String) -> Result<(), Memory>
+    ensures { OnOk result (string_bytes text.new ≡ string_bytes text.old
+        ++ due_line format_value.Text area due) }
 {
     let (area, kind, metric) = (Address(area), due.kind, due.metric);
     write!(text, "due {area} {kind} ")?;
@@ -112,9 +222,24 @@ pub fn put_dest(dest: Dest, text: &mut String) -> Result<(), Memory>
 }
 
 /// The key of an LSA, and what tells its instances apart.
-pub(crate) fn put_lsa(scope: Scope, lsa: &Checked, text: &mut String) -> Result<(), Memory>
+pub(crate) fn put_lsa(
+    format: Format,
+    scope: Scope,
+    lsa: &Checked,
+    text: &mut String,
+) -> Result<(), Memory>
     ensures { OnOk result (string_bytes text.new ≡ string_bytes text.old
-        ++ lsa_line (scope, lsa.now)) }
+        ++ lsa_line format (scope, lsa.now)) }
+{
+    match format {
+        Format::Text => put_lsa_words(scope, lsa, text),
+        Format::Json => json_lines::put_lsa(scope, &lsa.header(), text),
+    }
+}
+
+fn put_lsa_words(scope: Scope, lsa: &Checked, text: &mut String) -> Result<(), Memory>
+    ensures { OnOk result (string_bytes text.new ≡ string_bytes text.old
+        ++ lsa_line format_value.Text (scope, lsa.now)) }
 {
     put_scope(scope, text)?;
     put_header(&lsa.header(), text)?;
@@ -148,4 +273,23 @@ fn put_header(header: &Header, text: &mut String) -> Result<(), Memory>
     put_hexadecimal(&header.sum.to_be_bytes(), text)?;
     write!(text, " {age}")?;
     Ok(())
+}
+
+/// The event as a line of a recording.
+pub(crate) fn put_event(format: Format, event: &Event, text: &mut String) -> Result<(), Memory>
+    ensures { OnOk result (string_bytes text.new ≡ string_bytes text.old
+        ++ event_line format event.now) }
+{
+    let alloc = *text.allocator();
+    match format {
+        Format::Text => append_event(alloc, event, text),
+        Format::Json => {
+            let mut ended = String::new(alloc);
+            append_event(alloc, event, &mut ended)?;
+            let Some(line) = ended.strip_suffix('\n') else {
+                unreachable!()
+            };
+            put_recorded(line, text)
+        }
+    }
 }

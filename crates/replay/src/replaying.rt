@@ -11,41 +11,42 @@ ghost use Rattle.replay.specs.Parts.{IsParsed, IsRead, IsReadFault};
 use crate::fault::ReplayFault;
 use crate::opened::OpenedRecording;
 use crate::page::fault_of;
-use recording::{Recording, Show, parse};
+use crate::printing::Printing;
+use recording::{Recording, parse};
 use std::alloc::Global;
 use std::hash::RandomState;
 use std::io;
 
-/// Reads its input to the end as a recording, runs it on one thread, and writes what `show` names. For a
+/// Reads its input to the end as a recording, runs it on one thread, and writes what `printing` names. For a
 /// fault of the input nothing is written. Where a write fails or memory runs out, a beginning of the output
 /// is written: something is missing where a write failed, and no line is cut where memory ran out. A failed
 /// write is told as `Closed` where the writer's error is of the kind `BrokenPipe`, and else as `Write`.
 pub fn replay_one<R: io::Read, W: io::Write>(
     alloc: Global,
     hashing: RandomState,
+    printing: Printing,
     input: &mut R,
     out: &mut W,
-    show: Show,
 ) -> Result<(), ReplayFault>
-    ensures ok { OnOk result (Replays show (R.remaining input.old) (R.remaining input.new)
+    ensures ok { OnOk result (Replays printing (R.remaining input.old) (R.remaining input.new)
         (W.contents out.old) (W.contents out.new)) }
     ensures read { result ≡ Err replay_fault.Read → out.new ≡ out.old }
     ensures line { (f : LineFault) → result ≡ Err (replay_fault.Line f) → (out.new ≡ out.old)
         × ((bytes : List ℕ) × ReadsAll (R.remaining input.old) (R.remaining input.new) bytes × IsFaultOf bytes f) }
     ensures write { result ≡ Err replay_fault.Write
-        → ReplaysPart stop.Write show (R.remaining input.old) (R.remaining input.new)
+        → ReplaysPart stop.Write printing (R.remaining input.old) (R.remaining input.new)
         (W.contents out.old) (W.contents out.new) }
     ensures closed { result ≡ Err replay_fault.Closed
-        → ReplaysPart stop.Closed show (R.remaining input.old) (R.remaining input.new)
+        → ReplaysPart stop.Closed printing (R.remaining input.old) (R.remaining input.new)
         (W.contents out.old) (W.contents out.new) }
     ensures memory { result ≡ Err replay_fault.Memory → (out.new ≡ out.old)
-        ⊎ ReplaysPart stop.Memory show (R.remaining input.old) (R.remaining input.new) (W.contents out.old) (W.contents out.new) }
+        ⊎ ReplaysPart stop.Memory printing (R.remaining input.old) (R.remaining input.new) (W.contents out.old) (W.contents out.new) }
 {
     let recording = read_recording(alloc, input)?;
     let Ok(opened) = OpenedRecording::open(alloc, hashing, recording) else {
         return Err(ReplayFault::Memory);
     };
-    match opened.print(alloc, out, show) {
+    match opened.print(alloc, printing, out) {
         Ok(()) => Ok(()),
         Err(stop) => Err(fault_of(stop)),
     }

@@ -11,6 +11,7 @@ use crate::opened::OpenedRecording;
 use crate::page::{Stop, spill};
 use event_core::{Base, Core, Refusal};
 use ospf_types::memory::Memory;
+use output_format::Format;
 use recording::{Line, Version};
 use std::io;
 
@@ -18,14 +19,15 @@ impl OpenedRecording {
     /// Runs the lines behind the base, and prints what comes of them. What is returned is the core after the last line.
     pub(crate) fn run_lines<W: io::Write>(
         self,
+        format: Format,
         out: &mut W,
         page: &mut String,
     ) -> Result<Core, Stop>
-        ensures ok { IfOk result (λ core. Ran self.core (first_number self.version self.core.base)
+        ensures ok { IfOk result (λ core. Ran format self.core (first_number self.version self.core.base)
             self.lines.items core (W.contents out.old) (W.contents out.new)
             (string_bytes page.old) (string_bytes page.new)) }
         ensures err { AreWhole (string_bytes page.old) → IfErr result (λ why.
-            RanPart why self.core (first_number self.version self.core.base) self.lines.items
+            RanPart why format self.core (first_number self.version self.core.base) self.lines.items
             (W.contents out.old) (W.contents out.new) (string_bytes page.old)) }
     {
         let OpenedRecording {
@@ -35,7 +37,7 @@ impl OpenedRecording {
         } = self;
         let mut number = number_of_first(version, core.base());
         for line in lines {
-            run_line(&mut core, number, line, page)?;
+            run_line(format, &mut core, number, line, page)?;
             spill(out, page)?;
             number += 1;
         }
@@ -69,14 +71,20 @@ fn first_lines(version: Version) -> usize
 }
 
 // Runs a line, and appends what comes of it.
-fn run_line(core: &mut Core, number: usize, line: Line, text: &mut String) -> Result<(), Memory>
-    ensures { OnOk result (RanLine core.old number line core.new (string_bytes text.old)
+fn run_line(
+    format: Format,
+    core: &mut Core,
+    number: usize,
+    line: Line,
+    text: &mut String,
+) -> Result<(), Memory>
+    ensures { OnOk result (RanLine format core.old number line core.new (string_bytes text.old)
         (string_bytes text.new)) }
 {
     match line {
-        Line::Event(event) => put_answer(number, core.apply(event), text),
-        Line::Lookup(address) => put_lookup(number, address, core.table(), text),
-        Line::Roll => put_roll(number, roll(core), text),
+        Line::Event(event) => put_answer(format, number, core.apply(event), text),
+        Line::Lookup(address) => put_lookup(format, number, address, core.table(), text),
+        Line::Roll => put_roll(format, number, roll(core), text),
     }
 }
 

@@ -3,30 +3,34 @@ ghost use Rattle.std.specs.Prelude.{◌++◌, OnOk, IfErr, string_bytes};
 ghost use Rattle.std.specs.List.{flat_map};
 ghost use Rattle.std.specs.FinMap.{entries};
 ghost use Rattle.event_core.specs.DueSummaries.{lists_of};
-ghost use Rattle.replay.specs.Lines.{area_lines, due_line, item_line, lsa_line, event_line};
+ghost use Rattle.replay.specs.Lines.{area_lines, due_line, item_line, lsa_line};
 ghost use Rattle.replay.specs.Pages.{Adds, AddsPart};
 ghost use Rattle.replay.specs.Stops.{AreWhole};
 
 use crate::lines::{put_due, put_item, put_lsa};
 use crate::page::{Stop, spill};
-use event_core::{DueSummaries, DueSummary, Event};
+use event_core::{DueSummaries, DueSummary};
 use lsa_codec::Checked;
 use ospf_types::key::Scope;
-use recording::append_event;
+use output_format::Format;
 use route_table::Table;
-use std::alloc::Global;
 use std::io;
 
 /// The items of the table.
-pub fn show_items<W: io::Write>(table: &Table, out: &mut W, page: &mut String) -> Result<(), Stop>
+pub fn show_items<W: io::Write>(
+    format: Format,
+    table: &Table,
+    out: &mut W,
+    page: &mut String,
+) -> Result<(), Stop>
     ensures ok { OnOk result (Adds (W.contents out.old) (W.contents out.new) (string_bytes page.old)
-        (string_bytes page.new) (flat_map item_line (entries table.now.items))) }
+        (string_bytes page.new) (flat_map (item_line format) (entries table.now.items))) }
     ensures err { AreWhole (string_bytes page.old)
         → IfErr result (λ why. AddsPart why (W.contents out.old) (W.contents out.new)
-        (string_bytes page.old ++ flat_map item_line (entries table.now.items))) }
+        (string_bytes page.old ++ flat_map (item_line format) (entries table.now.items))) }
 {
     for (prefix, item) in table.items() {
-        put_item(prefix, item, page)?;
+        put_item(format, prefix, item, page)?;
         spill(out, page)?;
     }
     Ok(())
@@ -34,37 +38,39 @@ pub fn show_items<W: io::Write>(table: &Table, out: &mut W, page: &mut String) -
 
 /// What is due in each area.
 pub fn show_summaries<W: io::Write>(
+    format: Format,
     summaries: &DueSummaries,
     out: &mut W,
     page: &mut String,
 ) -> Result<(), Stop>
     ensures ok { OnOk result (Adds (W.contents out.old) (W.contents out.new) (string_bytes page.old)
-        (string_bytes page.new) (flat_map area_lines (lists_of summaries.now))) }
+        (string_bytes page.new) (flat_map (area_lines format) (lists_of summaries.now))) }
     ensures err { AreWhole (string_bytes page.old)
         → IfErr result (λ why. AddsPart why (W.contents out.old) (W.contents out.new)
-        (string_bytes page.old ++ flat_map area_lines (lists_of summaries.now))) }
+        (string_bytes page.old ++ flat_map (area_lines format) (lists_of summaries.now))) }
 {
     for area in summaries.areas() {
-        show_area(area.area(), area.as_slice(), out, page)?;
+        show_area(format, area.area(), area.as_slice(), out, page)?;
     }
     Ok(())
 }
 
 // What is due in an area.
 fn show_area<W: io::Write>(
+    format: Format,
     area: u32,
     list: &[DueSummary],
     out: &mut W,
     page: &mut String,
 ) -> Result<(), Stop>
     ensures ok { OnOk result (Adds (W.contents out.old) (W.contents out.new) (string_bytes page.old)
-        (string_bytes page.new) (area_lines (area, list.now))) }
+        (string_bytes page.new) (area_lines format (area, list.now))) }
     ensures err { AreWhole (string_bytes page.old)
         → IfErr result (λ why. AddsPart why (W.contents out.old) (W.contents out.new)
-        (string_bytes page.old ++ area_lines (area, list.now))) }
+        (string_bytes page.old ++ area_lines format (area, list.now))) }
 {
     for due in list {
-        put_due(area, *due, page)?;
+        put_due(format, area, *due, page)?;
         spill(out, page)?;
     }
     Ok(())
@@ -72,38 +78,19 @@ fn show_area<W: io::Write>(
 
 /// The LSAs, each with its scope.
 pub fn show_lsas<W: io::Write>(
+    format: Format,
     lsas: Vec<(Scope, Checked)>,
     out: &mut W,
     page: &mut String,
 ) -> Result<(), Stop>
     ensures ok { OnOk result (Adds (W.contents out.old) (W.contents out.new) (string_bytes page.old)
-        (string_bytes page.new) (flat_map lsa_line lsas.items)) }
+        (string_bytes page.new) (flat_map (lsa_line format) lsas.items)) }
     ensures err { AreWhole (string_bytes page.old)
         → IfErr result (λ why. AddsPart why (W.contents out.old) (W.contents out.new)
-        (string_bytes page.old ++ flat_map lsa_line lsas.items)) }
+        (string_bytes page.old ++ flat_map (lsa_line format) lsas.items)) }
 {
     for (scope, lsa) in lsas {
-        put_lsa(scope, &lsa, page)?;
-        spill(out, page)?;
-    }
-    Ok(())
-}
-
-/// The events, as lines of a recording.
-pub fn show_events<W: io::Write>(
-    alloc: Global,
-    events: &[Event],
-    out: &mut W,
-    page: &mut String,
-) -> Result<(), Stop>
-    ensures ok { OnOk result (Adds (W.contents out.old) (W.contents out.new) (string_bytes page.old)
-        (string_bytes page.new) (flat_map event_line events.now)) }
-    ensures err { AreWhole (string_bytes page.old)
-        → IfErr result (λ why. AddsPart why (W.contents out.old) (W.contents out.new)
-        (string_bytes page.old ++ flat_map event_line events.now)) }
-{
-    for event in events {
-        append_event(alloc, event, page)?;
+        put_lsa(format, scope, &lsa, page)?;
         spill(out, page)?;
     }
     Ok(())

@@ -1,12 +1,15 @@
 use Rattle.std.proofs.Common.{inr}
 use Rattle.replay.specs.declared.page.Stop.TheVariants as stop
-use Rattle.replay.proofs.Ends.{output_of, part_of, replays, replays_part, stop_of_write, stop_of_closed, stop_of_memory, stopped_by}
+use Rattle.replay.proofs.Ends.{output_of, part_of, replays, replays_part, no_line, stop_of_write, stop_of_closed, stop_of_memory, stopped_by}
 use Rattle.replay.proofs.replaying.replay_one.Goals as goal
 
 pub returns-in-Ok-print-clause-ok : goal.returns-in-Ok-print-clause-ok
 returns-in-Ok-print-clause-ok g c =
     let opened = c.in-Ok.ensures in
     replays _ _ _ _ _ _ c.in_ok-recording.ensures.recording (output_of _ _ _ _ _ _ _ opened.version opened.base opened.lines c.in-Ok-print.ensures.ok)
+
+pub returns-in-Err-clause-line : goal.returns-in-Err-clause-line
+returns-in-Err-clause-line g c f h = absurd (no_line c.in-Err.stop _ f c.fault_of.ensures (cc h))
 
 pub returns-in-Err-clause-write : goal.returns-in-Err-clause-write
 returns-in-Err-clause-write g c h =

@@ -9,10 +9,10 @@ use Rattle.replay.proofs.Paging.{adding_none, adding_more, adding_part, adding_s
 use Rattle.replay.proofs.showing.show_items.Goals as goal
 
 pub loop-prefix-init : goal.loop-prefix-init
-loop-prefix-init g c = adding_none _ _ _ _ (ap (flat_map item_line) (sym (c.into_iter-prefix-iterator.ensures.into_iter_gives ∙ c.items-prefix-items.ensures.all)))
+loop-prefix-init g c = adding_none _ _ _ _ (ap (flat_map (item_line c.args.format)) (sym (c.into_iter-prefix-iterator.ensures.into_iter_gives ∙ c.items-prefix-items.ensures.all)))
 
 pub loop-prefix-preserved : goal.loop-prefix-preserved
-loop-prefix-preserved g c = adding_more _ _ _ _ _ _ _ _ _ _ _ c.loop-prefix.invariant (ap (flat_map item_line) c.in-Some.ensures.steps) c.in_ok-put_item.ensures (item_whole (c.in-Some.prefix, c.in-Some.item.now)) c.in_ok-spill.ensures.ok
+loop-prefix-preserved g c = adding_more _ _ _ _ _ _ _ _ _ _ _ c.loop-prefix.invariant (ap (flat_map (item_line c.args.format)) c.in-Some.ensures.steps) c.in_ok-put_item.ensures (item_whole c.args.format (c.in-Some.prefix, c.in-Some.item.now)) c.in_ok-spill.ensures.ok
 
 pub returns-in_err-put_item-clause-err : goal.returns-in_err-put_item-clause-err
 returns-in_err-put_item-clause-err g c = λ whole. err_as _ c.from_residual.result stop.Memory c.from_residual.ensures.1 (adding_part _ _ _ _ _ _ whole c.loop-prefix.invariant)
@@ -20,4 +20,4 @@ returns-in_err-put_item-clause-err g c = λ whole. err_as _ c.from_residual.resu
 pub returns-in_err-spill-clause-err : goal.returns-in_err-spill-clause-err
 returns-in_err-spill-clause-err g c =
     λ whole. err_as _ c.from_residual-in_err-spill.result (stop_of c.in_err-spill.field-0.0) c.from_residual-in_err-spill.ensures.1
-    (adding_stopped (stop_of c.in_err-spill.field-0.0) _ _ _ _ _ _ _ _ _ _ whole c.loop-prefix.invariant (ap (flat_map item_line) c.in-Some.ensures.steps) c.in_ok-put_item.ensures (item_whole (c.in-Some.prefix, c.in-Some.item.now)) c.in_err-spill.ensures.err)
+    (adding_stopped (stop_of c.in_err-spill.field-0.0) _ _ _ _ _ _ _ _ _ _ whole c.loop-prefix.invariant (ap (flat_map (item_line c.args.format)) c.in-Some.ensures.steps) c.in_ok-put_item.ensures (item_whole c.args.format (c.in-Some.prefix, c.in-Some.item.now)) c.in_err-spill.ensures.err)

@@ -6,5 +6,5 @@ use Rattle.replay.proofs.opened.OpenedRecording.run_lines.Given as goal
 
 abbrev pub invariant-loop-line : goal.invariant-loop-line
 invariant-loop-line g l =
-    Running l.fn.self.core (first_number l.fn.self.version l.fn.self.core.base) l.fn.self.lines.items (into_iter_items l.line-iterator) l.number l.core (g.W.Write.contents l.initial.out) (g.W.Write.contents l.out)
+    Running l.fn.format l.fn.self.core (first_number l.fn.self.version l.fn.self.core.base) l.fn.self.lines.items (into_iter_items l.line-iterator) l.number l.core (g.W.Write.contents l.initial.out) (g.W.Write.contents l.out)
     (string_bytes l.initial.page) (string_bytes l.page)

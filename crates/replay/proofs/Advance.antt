@@ -1,0 +1,71 @@
+-- How much is done, shown place by place.
+use Rattle.std.proofs.Common.{◌≡◌, ◌++◌, ◌%◌, ◌==◌, ◌&&◌, ◌||◌, ℕ, Bool, true, false, List, [], ◌∷◌, Option, refl, sym, subst, ◌∙◌, append-nil}
+use Rattle.std.specs.Prelude.{Result, Ok, Err, OnErr, OnOk, if◌then◌else◌}
+use Rattle.std.specs.Io.KnownBytes.{Appends}
+use Rattle.replay.specs.Advance.{AppendsSome, IsProgress, Shows, ShowsEach, is_all, is_due}
+use Rattle.replay.specs.Writing.{AppendsPart}
+use Rattle.replay.specs.declared.progress.Progress.{Progress}
+use Rattle.replay.specs.declared.writing.CannotWrite.{CannotWrite}
+use Rattle.replay.proofs.Written.{appends_none}
+
+-- nothing was shown
+pub progress_none : (p : Progress) (a : Option (List ℕ)) → IsProgress p a a
+progress_none p a = ([], refl)
+
+each_more : (p : Progress) (numbers : List ℕ) (done : ℕ) (a b c : Option (List ℕ)) → ShowsEach p numbers a b → Shows p done b c → ShowsEach p (numbers ++ done ∷ []) a c
+each_more p [] done a b c same shows = (c, subst (λ (o : Option (List ℕ)). Shows p done o c) same shows, refl)
+each_more p (x ∷ numbers) done a b c (mid, first, left) shows = (mid, first, each_more p numbers done mid b c left shows)
+
+-- one more
+pub progress_more : (p : Progress) (done : ℕ) (a b c : Option (List ℕ)) → IsProgress p a b → Shows p done b c → IsProgress p a c
+progress_more p done a b c (numbers, each) shows = (numbers ++ done ∷ [], each_more p numbers done a b c each shows)
+
+each_joined : (p : Progress) (xs ys : List ℕ) (a b c : Option (List ℕ)) → ShowsEach p xs a b → ShowsEach p ys b c → ShowsEach p (xs ++ ys) a c
+each_joined p [] ys a b c same each = subst (λ (o : Option (List ℕ)). ShowsEach p ys o c) same each
+each_joined p (x ∷ xs) ys a b c (mid, first, left) each = (mid, first, each_joined p xs ys mid b c left each)
+
+-- and then what is shown behind it
+pub progress_joined : (p : Progress) (a b c : Option (List ℕ)) → IsProgress p a b → IsProgress p b c → IsProgress p a c
+progress_joined p a b c (xs, first) (ys, second) = (xs ++ ys, each_joined p xs ys a b c first second)
+
+each_silent : (p : Progress) (numbers : List ℕ) (a b : Option (List ℕ)) → p.is_shown ≡ false → ShowsEach p numbers a b → b ≡ a
+each_silent p [] a b off same = same
+each_silent p (x ∷ numbers) a b off (mid, first, left) = each_silent p numbers mid b off left ∙ first.silent off
+
+-- where it is not to be shown, nothing is written
+pub progress_silent : (p : Progress) (a b : Option (List ℕ)) → p.is_shown ≡ false → IsProgress p a b → b ≡ a
+progress_silent p a b off (numbers, each) = each_silent p numbers a b off each
+
+-- ---- one place
+
+pub some_none : (a : Option (List ℕ)) (text : List ℕ) → AppendsSome a a text
+some_none a text = record { part = []; rest = text; joined = refl; written = appends_none a }
+
+some_all : (a b : Option (List ℕ)) (text : List ℕ) → Appends a b text → AppendsSome a b text
+some_all a b text all = record { part = text; rest = []; joined = sym (append-nil text); written = all }
+
+some_part : (a b : Option (List ℕ)) (text : List ℕ) → AppendsPart a b text → AppendsSome a b text
+some_part a b text part = record { part = part.part; rest = part.rest; joined = part.joined; written = part.written }
+
+-- what a write of the text comes to
+pub some_written : (a b : Option (List ℕ)) (text : List ℕ) (r : Result (Unit {0}) CannotWrite) → OnOk r (Appends a b text) → OnErr r (AppendsPart a b text) → AppendsSome a b text
+some_written a b text (Ok u) all part = some_all a b text all
+some_written a b text (Err why) all part = some_part a b text part
+
+-- it is due, and was written as far as the writer took it
+pub shown_text : (p : Progress) (done : ℕ) (a b : Option (List ℕ)) (text : List ℕ) → is_due p done ≡ true → AppendsSome a b text → AppendsSome a b (if is_due p done then text else [])
+shown_text p done a b text due some = subst (λ (d : Bool). AppendsSome a b (if d then text else [])) (sym due) some
+
+abbrev both : Bool → Bool → Bool
+both shown due = shown && due
+
+apart : true ≡ false → ⊥
+apart e = cc
+
+no_more : (shown due : Bool) → both shown due ≡ true → shown ≡ false → ⊥
+no_more true due is off = apart off
+no_more false due is off = apart (sym is)
+
+-- what is due is to be shown
+pub due_shown : (p : Progress) (done : ℕ) → is_due p done ≡ true → p.is_shown ≡ false → ⊥
+due_shown p done due off = no_more p.is_shown (done % 1000 == 0 || is_all p.all done) due off

@@ -1,0 +1,16 @@
+use Rattle.std.proofs.Common.{List, length, string_bytes}
+use denote.Text.{Utf8}
+use denote.Shadow.{shadow}
+use Rattle.recording.specs.Forms.{Form}
+use Rattle.replay.specs.Lines.{IsTextOf}
+use Rattle.replay.proofs.Recorded.{Showing}
+use Rattle.replay.proofs.journal.show_recorded.Given as goal
+
+-- what is left is text, and how far the lines are printed
+abbrev pub invariant-loop-line : goal.invariant-loop-line
+invariant-loop-line g l =
+    shadow (Utf8 l.left) × ((forms : List Form) → IsTextOf l.fn.text forms
+    → Showing (g.W.Write.contents l.initial.out) (g.W.Write.contents l.out) (string_bytes l.initial.page) (string_bytes l.page) forms l.left)
+
+abbrev pub decreases-loop-line : goal.decreases-loop-line
+decreases-loop-line g l = length l.left

@@ -1,0 +1,43 @@
+-- What is shown of how much is done.
+use Rattle.std.specs.Prelude.{ℕ, ◌≡◌, ◌++◌, ◌%◌, ◌==◌, ◌&&◌, ◌||◌, Bool, false, List, [], ◌∷◌, Option, Some, None, codes, decimal, if◌then◌else◌}
+use Rattle.std.specs.Io.KnownBytes.{Appends}
+use Rattle.replay.specs.declared.progress.Progress.{Progress}
+
+-- on a line that is written over: so many lines are done, of how many where that is known
+abbrev pub progress_text : Option ℕ → ℕ → List ℕ
+progress_text (Some all) done = codes "\r" ++ decimal done ++ codes " of " ++ decimal all ++ codes " lines"
+progress_text None done = codes "\r" ++ decimal done ++ codes " lines"
+
+abbrev pub is_all : Option ℕ → ℕ → Bool
+is_all (Some all) done = done == all
+is_all None done = false
+
+-- it is shown behind each thousand lines, and behind the last
+abbrev pub is_due : Progress → ℕ → Bool
+is_due p done = p.is_shown && (done % 1000 == 0 || is_all p.all done)
+
+-- a writer's known bytes grew by a beginning of the text: all of it, where no write failed
+pub record AppendsSome (old new : Option (List ℕ)) (text : List ℕ) : Type 0 where
+  pub part : List ℕ
+  pub rest : List ℕ
+  pub joined : text ≡ part ++ rest
+  pub written : Appends old new part
+
+-- It is shown that so many lines are done. Where it is not to be shown, nothing is written.
+pub record Shows (p : Progress) (done : ℕ) (old new : Option (List ℕ)) : Type 0 where
+  pub shown : AppendsSome old new (if is_due p done then progress_text p.all done else [])
+  pub silent : p.is_shown ≡ false → new ≡ old
+
+-- The line that is written over is ended. Where there is none, nothing is written.
+pub record EndsShowing (p : Progress) (old new : Option (List ℕ)) : Type 0 where
+  pub shown : AppendsSome old new (if p.is_shown then codes "\n" else [])
+  pub silent : p.is_shown ≡ false → new ≡ old
+
+-- one number after the other is shown
+abbrev pub ShowsEach : Progress → List ℕ → (old new : Option (List ℕ)) → Type 0
+ShowsEach p [] old new = new ≡ old
+ShowsEach p (done ∷ numbers) old new = (mid : Option (List ℕ)) × Shows p done old mid × ShowsEach p numbers mid new
+
+-- it is shown how much is done, at some places
+abbrev pub IsProgress : Progress → (old new : Option (List ℕ)) → Type 0
+IsProgress p old new = (numbers : List ℕ) × ShowsEach p numbers old new
