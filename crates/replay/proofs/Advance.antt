@@ -1,8 +1,8 @@
 -- How much is done, shown place by place.
-use Rattle.std.proofs.Common.{◌≡◌, ◌++◌, ◌%◌, ◌==◌, ◌&&◌, ◌||◌, ℕ, Bool, true, false, List, [], ◌∷◌, Option, refl, sym, subst, ◌∙◌, append-nil}
+use Rattle.std.proofs.Common.{◌≡◌, ◌++◌, ◌+◌, zero, suc, ◌%◌, ◌==◌, ◌&&◌, ◌||◌, ℕ, Bool, true, false, List, [], ◌∷◌, Option, None, refl, sym, subst, ◌∙◌, append-nil, arith}
 use Rattle.std.specs.Prelude.{Result, Ok, Err, OnErr, OnOk, if◌then◌else◌}
 use Rattle.std.specs.Io.KnownBytes.{Appends}
-use Rattle.replay.specs.Advance.{AppendsSome, IsProgress, Shows, ShowsEach, is_all, is_due}
+use Rattle.replay.specs.Advance.{AppendsSome, IsProgress, Shows, ShowsEach, ShowsFrom, ShowsProgress, is_all, is_due}
 use Rattle.replay.specs.Writing.{AppendsPart}
 use Rattle.replay.specs.declared.progress.Progress.{Progress}
 use Rattle.replay.specs.declared.writing.CannotWrite.{CannotWrite}
@@ -69,3 +69,46 @@ no_more false due is off = apart (sym is)
 -- what is due is to be shown
 pub due_shown : (p : Progress) (done : ℕ) → is_due p done ≡ true → p.is_shown ≡ false → ⊥
 due_shown p done due off = no_more p.is_shown (done % 1000 == 0 || is_all p.all done) due off
+
+-- ---- line by line
+
+from_more : (p : Progress) (number count : ℕ) (a b c : Option (List ℕ)) → ShowsFrom p number count a b → Shows p (number + count) b c → ShowsFrom p number (suc count) a c
+from_more p number zero a b c same shows =
+    let here : number + 0 ≡ number = omega arith in
+    (c, subst (λ (o : Option (List ℕ)). Shows p number o c) same (subst (λ n. Shows p n b c) here shows), refl)
+from_more p number (suc count) a b c (mid, first, left) shows =
+    let here : number + suc count ≡ (number + 1) + count = omega arith in
+    (mid, first, from_more p (number + 1) count mid b c left (subst (λ n. Shows p n b c) here shows))
+
+-- the lines from the first on were run, and this number is that of the next
+pub record Advanced (p : Progress) (first number : ℕ) (old new : Option (List ℕ)) : Type 0 where
+  pub count : ℕ
+  pub counted : number ≡ first + count
+  pub each : ShowsFrom p first count old new
+
+pub advanced_none : (p : Progress) (first number : ℕ) (a : Option (List ℕ)) → number ≡ first → Advanced p first number a a
+advanced_none p first number a same = record { count = 0; counted = omega (arith, same); each = refl }
+
+pub advanced_more : (p : Progress) (first number : ℕ) (a b c : Option (List ℕ)) → Advanced p first number a b → Shows p number b c → Advanced p first (number + 1) a c
+advanced_more p first number a b c h shows =
+    record { count = suc h.count; counted = omega (arith, h.counted); each = from_more p first h.count a b c h.each (subst (λ n. Shows p n b c) h.counted shows) }
+
+pub advanced_shows : (p : Progress) (first number : ℕ) (shown : Bool) (a b : Option (List ℕ)) → p.is_shown ≡ shown → Advanced p first number a b → ShowsProgress shown a b
+advanced_shows p first number shown a b same h = record { progress = p; same = same; number = first; count = h.count; each = h.each }
+
+-- no line was run
+pub shows_none : (shown : Bool) (a : Option (List ℕ)) → ShowsProgress shown a a
+shows_none shown a = record { progress = record { is_shown = shown; all = None }; same = refl; number = 0; count = 0; each = refl }
+
+pub from_places : (p : Progress) (number count : ℕ) (a b : Option (List ℕ)) → ShowsFrom p number count a b → IsProgress p a b
+from_places p number zero a b same = ([], same)
+from_places p number (suc count) a b (mid, first, left) = let more = from_places p (number + 1) count mid b left in (number ∷ more.0, (mid, first, more.1))
+
+-- where it is not to be shown, nothing is written
+pub shows_silent : (a b : Option (List ℕ)) → ShowsProgress false a b → b ≡ a
+shows_silent a b h = progress_silent h.progress a b h.same (from_places h.progress h.number h.count a b h.each)
+
+-- ---- the line that is written over
+
+pub end_silent : (p : Progress) → p.is_shown ≡ true → p.is_shown ≡ false → ⊥
+end_silent p on off = apart (sym on ∙ off)

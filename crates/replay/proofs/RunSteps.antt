@@ -191,16 +191,18 @@ running_stopped why format old mid new first number lines rest more l from to on
 -- ---- a run that prints nothing
 
 -- some of the lines were run, and these are left
-pub record Taking (old : CoreValue) (lines rest : List Line) (now : CoreValue) : Type 0 where
+pub record Taking (first number : ℕ) (old : CoreValue) (lines rest : List Line) (now : CoreValue) : Type 0 where
   pub done : List Line
   pub left : lines ≡ done ++ rest
+  pub counted : number ≡ first + length done
   pub run : IsRunTo old done now
 
-pub taking_none : (old : CoreValue) (lines rest : List Line) → lines ≡ rest → Taking old lines rest old
-taking_none old lines rest is = record { done = []; left = is; run = λ format number. ([], [], (refl, refl)) }
+pub taking_none : (first number : ℕ) (old : CoreValue) (lines rest : List Line) → number ≡ first → lines ≡ rest → Taking first number old lines rest old
+taking_none first number old lines rest counted is = record { done = []; left = is; counted = omega (arith, counted); run = λ format number. ([], [], (refl, refl)) }
 
-pub taking_more : (old mid new : CoreValue) (lines rest more : List Line) (l : Line) → Taking old lines rest mid → rest ≡ l ∷ more → IsRunTo mid (l ∷ []) new → Taking old lines more new
-taking_more old mid new lines rest more l h next line = record {
+pub taking_more : (first number : ℕ) (old mid new : CoreValue) (lines rest more : List Line) (l : Line) → Taking first number old lines rest mid → rest ≡ l ∷ more → IsRunTo mid (l ∷ []) new → Taking first (number + 1) old lines more new
+taking_more first number old mid new lines rest more l h next line = record {
+  counted = omega (arith, h.counted, length-append h.done (l ∷ []));
   done = h.done ++ l ∷ [];
   left = h.left ∙ ap (λ w. h.done ++ w) next ∙ sym (append_assoc h.done (l ∷ []) more);
   run = λ format number.
@@ -209,8 +211,14 @@ taking_more old mid new lines rest more l h next line = record {
       (ps ++ qs, t ++ u, prints_more format old mid new number h.done (l ∷ []) ps qs t u run one);
 }
 
-pub taking_all : (old now : CoreValue) (lines rest : List Line) → Taking old lines rest now → rest ≡ [] → IsRunTo old lines now
-taking_all old now lines rest h none = subst (λ (done : List Line). IsRunTo old done now) (sym (h.left ∙ ap (λ w. h.done ++ w) none ∙ append-nil h.done)) h.run
+-- the number of a line that is left is not the last of all numbers
+pub taking_fits : (first number : ℕ) (old now : CoreValue) (lines rest more : List Line) (l : Line) → Taking first number old lines rest now → rest ≡ l ∷ more → number + 1 ≤ first + length lines
+taking_fits first number old now lines rest more l h next =
+    let whole : length lines ≡ length h.done + suc (length more) = ap length (h.left ∙ ap (λ w. h.done ++ w) next) ∙ length-append h.done (l ∷ more) in
+    omega (arith, whole, h.counted)
+
+pub taking_all : (first number : ℕ) (old now : CoreValue) (lines rest : List Line) → Taking first number old lines rest now → rest ≡ [] → IsRunTo old lines now
+taking_all first number old now lines rest h none = subst (λ (done : List Line). IsRunTo old done now) (sym (h.left ∙ ap (λ w. h.done ++ w) none ∙ append-nil h.done)) h.run
 
 -- memory ran out behind the last line
 pub ran_whole : (format : Format) (old now : CoreValue) (first : ℕ) (lines : List Line) (from to : Option (List ℕ)) (before page : List ℕ) → AreWhole before → Ran format old first lines now from to before page

@@ -1,5 +1,5 @@
 -- What is shown of how much is done.
-use Rattle.std.specs.Prelude.{ℕ, ◌≡◌, ◌++◌, ◌%◌, ◌==◌, ◌&&◌, ◌||◌, Bool, false, List, [], ◌∷◌, Option, Some, None, codes, decimal, if◌then◌else◌}
+use Rattle.std.specs.Prelude.{ℕ, ◌≡◌, ◌++◌, ◌%◌, ◌==◌, ◌&&◌, ◌||◌, Bool, false, ◌+◌, zero, suc, List, [], ◌∷◌, Option, Some, None, codes, decimal, if◌then◌else◌}
 use Rattle.std.specs.Io.KnownBytes.{Appends}
 use Rattle.replay.specs.declared.progress.Progress.{Progress}
 
@@ -41,3 +41,16 @@ ShowsEach p (done ∷ numbers) old new = (mid : Option (List ℕ)) × Shows p do
 -- it is shown how much is done, at some places
 abbrev pub IsProgress : Progress → (old new : Option (List ℕ)) → Type 0
 IsProgress p old new = (numbers : List ℕ) × ShowsEach p numbers old new
+
+-- so many lines are run, the first of this number, and behind each it is shown how many are done
+abbrev pub ShowsFrom : Progress → (number count : ℕ) → (old new : Option (List ℕ)) → Type 0
+ShowsFrom p number zero old new = new ≡ old
+ShowsFrom p number (suc count) old new = (mid : Option (List ℕ)) × Shows p number old mid × ShowsFrom p (number + 1) count mid new
+
+-- it is shown, or not, how much is done, line by line
+pub record ShowsProgress (is_shown : Bool) (old new : Option (List ℕ)) : Type 0 where
+  pub progress : Progress
+  pub same : progress.is_shown ≡ is_shown
+  pub number : ℕ
+  pub count : ℕ
+  pub each : ShowsFrom progress number count old new

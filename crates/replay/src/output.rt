@@ -1,5 +1,6 @@
 //! The output of a replay, printed: the run, and what is shown after it.
 ghost use Rattle.std.specs.Prelude.{◌≡◌, OnOk, IfErr};
+ghost use Rattle.replay.specs.Advance.{ShowsProgress};
 ghost use Rattle.replay.specs.Runs.{IsOpened};
 ghost use Rattle.replay.specs.Outputs.{recording_of};
 ghost use Rattle.replay.specs.Parts.{WritesOutput, WritesPart};
@@ -10,7 +11,6 @@ use crate::lines::put_serial;
 use crate::opened::OpenedRecording;
 use crate::page::{Stop, empty_page, write_page};
 use crate::printing::Printing;
-use crate::running::run_silently;
 use crate::showing::{show_items, show_lsas, show_summaries};
 use recording::Show;
 use std::alloc::Global;
@@ -18,32 +18,36 @@ use std::io;
 
 impl OpenedRecording {
     /// Runs the lines, and prints what `printing` names.
-    pub(crate) fn print<W: io::Write>(
+    pub(crate) fn print<W: io::Write, F: io::Write>(
         self,
         alloc: Global,
         printing: Printing,
         out: &mut W,
+        faults: &mut F,
     ) -> Result<(), Stop>
         requires { IsOpened self.core.base self.core }
         ensures ok { OnOk result (WritesOutput (recording_of self.version self.core.base
             self.lines.items) printing (W.contents out.old) (W.contents out.new)) }
         ensures err { IfErr result (λ why. WritesPart why (recording_of self.version
             self.core.base self.lines.items) printing (W.contents out.old) (W.contents out.new)) }
+        ensures progress { ShowsProgress printing.progress (F.contents faults.old)
+            (F.contents faults.new) }
     {
         match printing.show {
-            Show::Routes => self.print_routes(alloc, printing, out),
-            Show::Due => self.print_due(alloc, printing, out),
-            Show::Lsdb => self.print_lsdb(alloc, printing, out),
-            Show::Journal => self.print_journal(alloc, printing, out),
+            Show::Routes => self.print_routes(alloc, printing, out, faults),
+            Show::Due => self.print_due(alloc, printing, out, faults),
+            Show::Lsdb => self.print_lsdb(alloc, printing, out, faults),
+            Show::Journal => self.print_journal(alloc, printing, out, faults),
         }
     }
 
     // Prints the run and the routing table.
-    fn print_routes<W: io::Write>(
+    fn print_routes<W: io::Write, F: io::Write>(
         self,
         alloc: Global,
         printing: Printing,
         out: &mut W,
+        faults: &mut F,
     ) -> Result<(), Stop>
         requires opened { IsOpened self.core.base self.core }
         requires show { printing.show ≡ show_value.Routes }
@@ -52,9 +56,11 @@ impl OpenedRecording {
         ensures err { IfErr result (λ why. WritesPart why (recording_of self.version
             self.core.base self.lines.items) printing (W.contents out.old)
             (W.contents out.new)) }
+        ensures progress { ShowsProgress printing.progress (F.contents faults.old)
+            (F.contents faults.new) }
     {
         let mut page = empty_page(alloc)?;
-        let core = self.run_lines(printing.format, out, &mut page)?;
+        let core = self.run_lines(printing, out, &mut page, faults)?;
         put_serial(printing.format, &core, &mut page)?;
         show_items(printing.format, core.table(), out, &mut page)?;
         write_page(out, &mut page)?;
@@ -62,11 +68,12 @@ impl OpenedRecording {
     }
 
     // Prints the run and what is due in each area.
-    fn print_due<W: io::Write>(
+    fn print_due<W: io::Write, F: io::Write>(
         self,
         alloc: Global,
         printing: Printing,
         out: &mut W,
+        faults: &mut F,
     ) -> Result<(), Stop>
         requires opened { IsOpened self.core.base self.core }
         requires show { printing.show ≡ show_value.Due }
@@ -75,9 +82,11 @@ impl OpenedRecording {
         ensures err { IfErr result (λ why. WritesPart why (recording_of self.version
             self.core.base self.lines.items) printing (W.contents out.old)
             (W.contents out.new)) }
+        ensures progress { ShowsProgress printing.progress (F.contents faults.old)
+            (F.contents faults.new) }
     {
         let mut page = empty_page(alloc)?;
-        let core = self.run_lines(printing.format, out, &mut page)?;
+        let core = self.run_lines(printing, out, &mut page, faults)?;
         put_serial(printing.format, &core, &mut page)?;
         show_summaries(printing.format, core.summaries(), out, &mut page)?;
         write_page(out, &mut page)?;
@@ -85,11 +94,12 @@ impl OpenedRecording {
     }
 
     // Prints the run and all LSAs.
-    fn print_lsdb<W: io::Write>(
+    fn print_lsdb<W: io::Write, F: io::Write>(
         self,
         alloc: Global,
         printing: Printing,
         out: &mut W,
+        faults: &mut F,
     ) -> Result<(), Stop>
         requires opened { IsOpened self.core.base self.core }
         requires show { printing.show ≡ show_value.Lsdb }
@@ -98,9 +108,11 @@ impl OpenedRecording {
         ensures err { IfErr result (λ why. WritesPart why (recording_of self.version
             self.core.base self.lines.items) printing (W.contents out.old)
             (W.contents out.new)) }
+        ensures progress { ShowsProgress printing.progress (F.contents faults.old)
+            (F.contents faults.new) }
     {
         let mut page = empty_page(alloc)?;
-        let core = self.run_lines(printing.format, out, &mut page)?;
+        let core = self.run_lines(printing, out, &mut page, faults)?;
         let lsas = core.lsas()?;
         put_serial(printing.format, &core, &mut page)?;
         show_lsas(printing.format, lsas, out, &mut page)?;
@@ -109,11 +121,12 @@ impl OpenedRecording {
     }
 
     // Prints only the base and the events that were taken since, as a recording of the version.
-    fn print_journal<W: io::Write>(
+    fn print_journal<W: io::Write, F: io::Write>(
         self,
         alloc: Global,
         printing: Printing,
         out: &mut W,
+        faults: &mut F,
     ) -> Result<(), Stop>
         requires opened { IsOpened self.core.base self.core }
         requires show { printing.show ≡ show_value.Journal }
@@ -122,14 +135,12 @@ impl OpenedRecording {
         ensures err { IfErr result (λ why. WritesPart why (recording_of self.version
             self.core.base self.lines.items) printing (W.contents out.old)
             (W.contents out.new)) }
+        ensures progress { ShowsProgress printing.progress (F.contents faults.old)
+            (F.contents faults.new) }
     {
-        let OpenedRecording {
-            version,
-            mut core,
-            lines,
-        } = self;
+        let version = self.version;
         let mut page = empty_page(alloc)?;
-        run_silently(&mut core, lines);
+        let core = self.run_silently(alloc, printing.progress, faults);
         let journal = Journal {
             version,
             core: &core,

@@ -8,7 +8,7 @@ use ospf_types::memory::Memory;
 use std::alloc::Global;
 use std::io;
 
-/// How many lines of a recording are done, on one line of standard error that is written over.
+/// How many lines of a recording are done, shown on one line of standard error that is written over.
 #[derive(Clone, Copy, Debug, PartialEq, Eq)]
 pub struct Progress {
     /// Whether it is shown.

@@ -3,6 +3,7 @@ ghost use Rattle.std.specs.Prelude.{◌≡◌, ◌⊎◌, ℕ, List, IfOk, IfErr
 ghost use Rattle.recording.specs.Faults.{IsFaultOf};
 ghost use Rattle.replay.specs.declared.fault.ReplayFault.TheVariants as replay_fault;
 ghost use Rattle.recording.specs.declared.fault.LineFault.{LineFault};
+ghost use Rattle.replay.specs.Advance.{ShowsProgress};
 ghost use Rattle.replay.specs.Inputs.{ReadsAll};
 ghost use Rattle.replay.specs.declared.page.Stop.TheVariants as stop;
 ghost use Rattle.replay.specs.Outputs.{Replays, ReplaysPart};
@@ -20,13 +21,16 @@ use std::io;
 /// Reads its input to the end as a recording, runs it on one thread, and writes what `printing` names. For a
 /// fault of the input nothing is written. Where a write fails or memory runs out, a beginning of the output
 /// is written: something is missing where a write failed, and no line is cut where memory ran out. A failed
-/// write is told as `Closed` where the writer's error is of the kind `BrokenPipe`, and else as `Write`.
-pub fn replay_one<R: io::Read, W: io::Write>(
+/// write is told as `Closed` where the writer's error is of the kind `BrokenPipe`, and else as `Write`. If
+/// `printing.progress` is set, `faults` is shown how many lines are done; what cannot be written there is left
+/// out. The line that is written over is left for the caller to end.
+pub fn replay_one<R: io::Read, W: io::Write, F: io::Write>(
     alloc: Global,
     hashing: RandomState,
     printing: Printing,
     input: &mut R,
     out: &mut W,
+    faults: &mut F,
 ) -> Result<(), ReplayFault>
     ensures ok { OnOk result (Replays printing (R.remaining input.old) (R.remaining input.new)
         (W.contents out.old) (W.contents out.new)) }
@@ -41,12 +45,14 @@ pub fn replay_one<R: io::Read, W: io::Write>(
         (W.contents out.old) (W.contents out.new) }
     ensures memory { result ≡ Err replay_fault.Memory → (out.new ≡ out.old)
         ⊎ ReplaysPart stop.Memory printing (R.remaining input.old) (R.remaining input.new) (W.contents out.old) (W.contents out.new) }
+    ensures progress { ShowsProgress printing.progress (F.contents faults.old)
+        (F.contents faults.new) }
 {
     let recording = read_recording(alloc, input)?;
     let Ok(opened) = OpenedRecording::open(alloc, hashing, recording) else {
         return Err(ReplayFault::Memory);
     };
-    match opened.print(alloc, printing, out) {
+    match opened.print(alloc, printing, out, faults) {
         Ok(()) => Ok(()),
         Err(stop) => Err(fault_of(stop)),
     }

@@ -1,6 +1,7 @@
 //! The run of a recording's lines.
 ghost use Rattle.std.specs.Prelude.{◌≡◌, [], ◌∷◌, ◌+◌, ◌^◌, ◌<◌, ◌≤◌, length, IfOk, OnOk, IfErr, string_bytes};
 ghost use Rattle.recording.specs.Places.{first_lines};
+ghost use Rattle.replay.specs.Advance.{ShowsProgress};
 ghost use Rattle.replay.specs.Lines.{first_number};
 ghost use Rattle.replay.specs.Pages.{Ran, RanPart, RanLine, IsRunTo};
 ghost use Rattle.replay.specs.Runs.{RollsBy};
@@ -9,27 +10,35 @@ ghost use Rattle.replay.specs.Stops.{AreWhole};
 use crate::lines::{put_answer, put_lookup, put_roll};
 use crate::opened::OpenedRecording;
 use crate::page::{Stop, spill};
+use crate::printing::Printing;
+use crate::progress::Progress;
 use event_core::{Base, Core, Refusal};
 use ospf_types::memory::Memory;
 use output_format::Format;
 use recording::{Line, Version};
+use std::alloc::Global;
 use std::io;
 
 impl OpenedRecording {
     /// Runs the lines behind the base, and prints what comes of them. What is returned is the core after the last line.
-    pub(crate) fn run_lines<W: io::Write>(
+    pub(crate) fn run_lines<W: io::Write, F: io::Write>(
         self,
-        format: Format,
+        printing: Printing,
         out: &mut W,
         page: &mut String,
+        faults: &mut F,
     ) -> Result<Core, Stop>
-        ensures ok { IfOk result (λ core. Ran format self.core (first_number self.version self.core.base)
-            self.lines.items core (W.contents out.old) (W.contents out.new)
-            (string_bytes page.old) (string_bytes page.new)) }
+        ensures ok { IfOk result (λ core. Ran printing.format self.core
+            (first_number self.version self.core.base) self.lines.items core (W.contents out.old)
+            (W.contents out.new) (string_bytes page.old) (string_bytes page.new)) }
         ensures err { AreWhole (string_bytes page.old) → IfErr result (λ why.
-            RanPart why format self.core (first_number self.version self.core.base) self.lines.items
-            (W.contents out.old) (W.contents out.new) (string_bytes page.old)) }
+            RanPart why printing.format self.core (first_number self.version self.core.base)
+            self.lines.items (W.contents out.old) (W.contents out.new) (string_bytes page.old)) }
+        ensures progress { ShowsProgress printing.progress (F.contents faults.old)
+            (F.contents faults.new) }
     {
+        let alloc = *page.allocator();
+        let progress = self.progress(printing.progress);
         let OpenedRecording {
             version,
             mut core,
@@ -37,11 +46,48 @@ impl OpenedRecording {
         } = self;
         let mut number = number_of_first(version, core.base());
         for line in lines {
-            run_line(format, &mut core, number, line, page)?;
+            run_line(printing.format, &mut core, number, line, page)?;
             spill(out, page)?;
+            progress.show(alloc, number, faults);
             number += 1;
         }
         Ok(core)
+    }
+
+    /// Runs the lines behind the base, and prints nothing of them. What is returned is the core after the last line.
+    pub(crate) fn run_silently<F: io::Write>(
+        self,
+        alloc: Global,
+        is_shown: bool,
+        faults: &mut F,
+    ) -> Core
+        ensures run { IsRunTo self.core self.lines.items result }
+        ensures progress { ShowsProgress is_shown (F.contents faults.old) (F.contents faults.new) }
+    {
+        let progress = self.progress(is_shown);
+        let OpenedRecording {
+            version,
+            mut core,
+            lines,
+        } = self;
+        let mut number = number_of_first(version, core.base());
+        for line in lines {
+            take_line(&mut core, line);
+            progress.show(alloc, number, faults);
+            number += 1;
+        }
+        core
+    }
+
+    // How much is done, of all the lines of the recording.
+    fn progress(&self, is_shown: bool) -> Progress
+        ensures { result.is_shown ≡ is_shown }
+    {
+        let before = number_of_first(self.version, self.core.base()) - 1;
+        Progress {
+            is_shown,
+            all: Some(before + self.lines.len()),
+        }
     }
 }
 
@@ -85,15 +131,6 @@ fn run_line(
         Line::Event(event) => put_answer(format, number, core.apply(event), text),
         Line::Lookup(address) => put_lookup(format, number, address, core.table(), text),
         Line::Roll => put_roll(format, number, roll(core), text),
-    }
-}
-
-/// Runs the lines, and prints nothing.
-pub(crate) fn run_silently(core: &mut Core, lines: Vec<Line>)
-    ensures { IsRunTo core.old lines.items core.new }
-{
-    for line in lines {
-        take_line(core, line);
     }
 }
 

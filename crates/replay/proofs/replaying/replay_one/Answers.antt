@@ -1,7 +1,14 @@
 use Rattle.std.proofs.Common.{inr}
 use Rattle.replay.specs.declared.page.Stop.TheVariants as stop
+use Rattle.replay.proofs.Advance.{shows_none}
 use Rattle.replay.proofs.Ends.{output_of, part_of, replays, replays_part, no_line, stop_of_write, stop_of_closed, stop_of_memory, stopped_by}
 use Rattle.replay.proofs.replaying.replay_one.Goals as goal
+
+pub returns-in_err-recording-clause-progress : goal.returns-in_err-recording-clause-progress
+returns-in_err-recording-clause-progress g c = shows_none _ _
+
+pub returns-in_default-clause-progress : goal.returns-in_default-clause-progress
+returns-in_default-clause-progress g c = shows_none _ _
 
 pub returns-in-Ok-print-clause-ok : goal.returns-in-Ok-print-clause-ok
 returns-in-Ok-print-clause-ok g c =

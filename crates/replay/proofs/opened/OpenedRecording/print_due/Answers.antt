@@ -6,9 +6,13 @@ use Rattle.recording.specs.declared.show.Show.TheVariants as show
 use Rattle.replay.specs.declared.page.Stop.TheVariants as stop
 use Rattle.replay.specs.Stops.{stop_of}
 use Rattle.replay.proofs.Written.{err_as}
+use Rattle.replay.proofs.Advance.{shows_none}
 use Rattle.replay.proofs.RunSteps.{ran_whole}
 use Rattle.replay.proofs.Ends.{none_written, run_cut, shown_whole, shown_cut, whole_cut, whole_written}
 use Rattle.replay.proofs.opened.OpenedRecording.print_due.Goals as goal
+
+pub returns-in_err-page-clause-progress : goal.returns-in_err-page-clause-progress
+returns-in_err-page-clause-progress g c = shows_none _ _
 
 pub returns-in_err-page-clause-err : goal.returns-in_err-page-clause-err
 returns-in_err-page-clause-err g c = err_as _ c.from_residual.result stop.Memory c.from_residual.ensures.1 (none_written _ _ _ _ _ c.requires.opened)
