@@ -34,10 +34,10 @@ module _ (t : Telling) (r : RecordingValue) (opened : CoreValue) (opening : IsOp
   first = first_number r.version r.base
 
   abbrev base : List ℕ
-  base = base_lines t.only r opened
+  base = base_lines t.wanted r opened
 
   -- the lines of the recording that were run, and those behind them
-  pub telling : (ls : List Line) (taken : List Taken) (text : List ℕ) (after : List Change) (now : CoreValue) → TellsLines t.only t.answers opened first (map Says ls ++ taken) (all_of opened) text after now
+  pub telling : (ls : List Line) (taken : List Taken) (text : List ℕ) (after : List Change) (now : CoreValue) → TellsLines t.wanted t.answers opened first (map Says ls ++ taken) (all_of opened) text after now
       → IsTelling t (record r { lines = ls }) taken (base ++ text)
   telling ls taken text after now run = record {
     opened = opened;
@@ -50,52 +50,52 @@ module _ (t : Telling) (r : RecordingValue) (opened : CoreValue) (opening : IsOp
     is = refl;
   }
 
-  cut : (why : Stop) (a b : Option (List ℕ)) (count : ℕ) (text : List ℕ) (after : List Change) (now : CoreValue) → TellsLines t.only t.answers opened first (map Says (take count r.lines)) (all_of opened) text after now
+  cut : (why : Stop) (a b : Option (List ℕ)) (count : ℕ) (text : List ℕ) (after : List Change) (now : CoreValue) → TellsLines t.wanted t.answers opened first (map Says (take count r.lines)) (all_of opened) text after now
       → AddsPart why a b (base ++ text) → StopsAtBase why t r a b
   cut why a b count text after now run part = record {
     count = count;
     whole = base ++ text;
-    telling = telling (take count r.lines) [] text after now (subst (λ (ts : List Taken). TellsLines t.only t.answers opened first ts (all_of opened) text after now) (sym (append-nil (map Says (take count r.lines)))) run);
+    telling = telling (take count r.lines) [] text after now (subst (λ (ts : List Taken). TellsLines t.wanted t.answers opened first ts (all_of opened) text after now) (sym (append-nil (map Says (take count r.lines)))) run);
     part = part.part;
     beginning = part.beginning;
     written = part.appended;
   }
 
-  shown_at : (number : ℕ) (a b : Option (List ℕ)) (page put : List ℕ) → number ≡ first → Adds a b page put (lines_of (number - 1) t.only (all_of opened)) → Adds a b page put base
-  shown_at number a b page put counted h = subst (λ n. Adds a b page put (lines_of (n - 1) t.only (all_of opened))) counted h
+  shown_at : (number : ℕ) (a b : Option (List ℕ)) (page put : List ℕ) → number ≡ first → Adds a b page put (lines_of (number - 1) t.wanted (all_of opened)) → Adds a b page put base
+  shown_at number a b page put counted h = subst (λ n. Adds a b page put (lines_of (n - 1) t.wanted (all_of opened))) counted h
 
   -- memory ran out before anything was written
   pub not_begun : (a : Option (List ℕ)) → StopsAtBase stop.Memory t r a a
   not_begun a = cut stop.Memory a a 0 [] (all_of opened) opened (refl, refl, refl) (record { part = []; beginning = record { rest = base ++ []; joined = refl; left = none_whole }; appended = appends_none a })
 
   -- it stops in what the base gives
-  pub base_cut : (number : ℕ) (why : Stop) (a b : Option (List ℕ)) (page : List ℕ) → number ≡ first → page ≡ [] → AddsPart why a b (page ++ lines_of (number - 1) t.only (all_of opened)) → StopsAtBase why t r a b
+  pub base_cut : (number : ℕ) (why : Stop) (a b : Option (List ℕ)) (page : List ℕ) → number ≡ first → page ≡ [] → AddsPart why a b (page ++ lines_of (number - 1) t.wanted (all_of opened)) → StopsAtBase why t r a b
   base_cut number why a b page counted none part =
       cut why a b 0 [] (all_of opened) opened (refl, refl, refl)
-      (subst (AddsPart why a b) (ap (λ l. l ++ base) none ∙ sym (append-nil base)) (subst (λ n. AddsPart why a b (page ++ lines_of (n - 1) t.only (all_of opened))) counted part))
+      (subst (AddsPart why a b) (ap (λ l. l ++ base) none ∙ sym (append-nil base)) (subst (λ n. AddsPart why a b (page ++ lines_of (n - 1) t.wanted (all_of opened))) counted part))
 
   -- it stops in the lines
-  pub lines_cut : (number : ℕ) (why : Stop) (a b c : Option (List ℕ)) (page put : List ℕ) → number ≡ first → page ≡ [] → Adds a b page put (lines_of (number - 1) t.only (all_of opened))
-      → (count : ℕ) × ToldPart why t.only t.answers opened number (map Says (take count r.lines)) (all_of opened) b c put → StopsAtBase why t r a c
+  pub lines_cut : (number : ℕ) (why : Stop) (a b c : Option (List ℕ)) (page put : List ℕ) → number ≡ first → page ≡ [] → Adds a b page put (lines_of (number - 1) t.wanted (all_of opened))
+      → (count : ℕ) × ToldPart why t.wanted t.answers opened number (map Says (take count r.lines)) (all_of opened) b c put → StopsAtBase why t r a c
   lines_cut number why a b c page put counted none shown (count, part) =
       let printed : Adds a b [] put base = subst (λ l. Adds a b l put base) none (shown_at number a b page put counted shown) in
-      let h : ToldPart why t.only t.answers opened first (map Says (take count r.lines)) (all_of opened) b c put =
-      subst (λ n. ToldPart why t.only t.answers opened n (map Says (take count r.lines)) (all_of opened) b c put) counted part in
+      let h : ToldPart why t.wanted t.answers opened first (map Says (take count r.lines)) (all_of opened) b c put =
+      subst (λ n. ToldPart why t.wanted t.answers opened n (map Says (take count r.lines)) (all_of opened) b c put) counted part in
       cut why a c count h.text h.after h.now h.run (part_more why a b c [] put base h.text none_whole printed h.part)
 
   -- all of them are told
-  pub begun : (run : Run) (number : ℕ) (a b c : Option (List ℕ)) (page put moved : List ℕ) → number ≡ first → page ≡ [] → Adds a b page put (lines_of (number - 1) t.only (all_of opened))
-      → Told t.only t.answers opened number (map Says r.lines) (all_of opened) run.core b c put moved → IsCore run.core → IsCurrent run.core
-      → run.version ≡ r.version → run.skips ≡ t.skips → run.at.only ≡ t.only → run.at.answers ≡ t.answers → run.at.number ≡ number + length r.lines → string_bytes run.page ≡ moved
+  pub begun : (run : Run) (number : ℕ) (a b c : Option (List ℕ)) (page put moved : List ℕ) → number ≡ first → page ≡ [] → Adds a b page put (lines_of (number - 1) t.wanted (all_of opened))
+      → Told t.wanted t.answers opened number (map Says r.lines) (all_of opened) run.core b c put moved → IsCore run.core → IsCurrent run.core
+      → run.version ≡ r.version → run.skips ≡ t.skips → run.at.wanted ≡ t.wanted → run.at.answers ≡ t.answers → run.at.number ≡ number + length r.lines → string_bytes run.page ≡ moved
       → IsBegun t r run a c
-  begun run number a b c page put moved counted none shown told core current version skips only answers next is =
+  begun run number a b c page put moved counted none shown told core current version skips wanted answers next is =
       let printed : Adds a b [] put base = subst (λ l. Adds a b l put base) none (shown_at number a b page put counted shown) in
-      let h : Told t.only t.answers opened first (map Says r.lines) (all_of opened) run.core b c put moved =
-      subst (λ n. Told t.only t.answers opened n (map Says r.lines) (all_of opened) run.core b c put moved) counted told in
+      let h : Told t.wanted t.answers opened first (map Says r.lines) (all_of opened) run.core b c put moved =
+      subst (λ n. Told t.wanted t.answers opened n (map Says r.lines) (all_of opened) run.core b c put moved) counted told in
       record {
         version = version;
         skips = skips;
-        only = only;
+        wanted = wanted;
         answers = answers;
         number = next ∙ ap (λ n. n + length r.lines) counted;
         core = core;

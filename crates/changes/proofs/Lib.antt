@@ -9,5 +9,7 @@ pub mod RunSteps
 pub mod Ends
 pub mod Comes
 pub mod FollowSteps
+pub mod Behind
 pub mod Reached
+pub mod Fronts
 pub mod OpeningSteps

@@ -1,5 +1,5 @@
 -- The lines at the front, one after the other.
-use Rattle.std.proofs.Common.{◌≡◌, ◌≢◌, ◌<◌, ◌≤◌, ℕ, Bool, true, false, List, [], ◌∷◌, ◌++◌, if◌then◌else◌, length, nat_le, take, drop, Option, refl, sym, ap, subst, ◌∙◌, append-nil, arith, inl, inr}
+use Rattle.std.proofs.Common.{◌≡◌, ◌≢◌, ◌<◌, ◌≤◌, ℕ, suc, Bool, true, false, List, [], ◌∷◌, ◌++◌, if◌then◌else◌, length, nat_lt, take, drop, Option, refl, sym, ap, subst, ◌∙◌, append-nil, arith, inl, inr}
 use Rattle.std.proofs.KnownBytes.{Consumes-nil, Consumes-trans}
 use Rattle.std.proofs.lemmas.Bool.Decides.{leb_tells}
 use Rattle.std.proofs.lemmas.List.{drop_all, take_all}
@@ -10,118 +10,175 @@ use Rattle.line_reader.specs.Taking.{Takes, TakesLast, TakesNone, TakesWhole}
 use Rattle.line_reader.specs.declared.line.TheConstants.{LONGEST}
 use Rattle.recording.specs.Places.{is_front_word}
 use Rattle.recording.specs.Reading.{cut, first_word}
-use Rattle.changes.specs.Openings.{Opens, ends_after}
+use Rattle.recording.specs.declared.fault.LineFault.{LineFault}
+use Rattle.changes.specs.Openings.{IsLooked, Opens, ends_after, front_with}
 use Rattle.changes.specs.declared.opening.FrontEnd.{FrontEnd}
 use Rattle.changes.specs.declared.opening.FrontEnd.TheVariants as front_end
-use Rattle.changes.specs.declared.opening.Opening.{Opening}
-use Rattle.changes.proofs.Comes.{comes_held}
 
 -- ---- lines that are too long to be read whole
 
-abbrev end_of : Bool → Bool → FrontEnd
-end_of long of_front = if long then front_end.LongLine else (if of_front then front_end.Over else front_end.Line)
-
-not_long : (long of_front : Bool) → end_of long of_front ≢ front_end.LongLine → long ≡ false
-not_long true of_front h = absurd (h refl)
-not_long false of_front h = refl
-
-is_long : (long of_front : Bool) → end_of long of_front ≡ front_end.LongLine → long ≡ true
-is_long true of_front h = refl
-is_long false true h = absurd cc
-is_long false false h = absurd cc
-
-below : (limit n : ℕ) → nat_le limit n ≡ false → n < limit
-below limit n h = elim (leb_tells limit n) [ inl is ↦ absurd (both (nat_le limit n) is.0 h) | inr other ↦ other.1 ]
+both : (b : Bool) → b ≡ true → b ≡ false → ⊥
+both b t f = apart (sym t ∙ f)
   where
-    both : (b : Bool) → b ≡ true → b ≡ false → ⊥
-    both b t f = cc
+    apart : true ≡ false → ⊥
+    apart e = cc
 
-from : (limit n : ℕ) → nat_le limit n ≡ true → limit ≤ n
-from limit n h = elim (leb_tells limit n) [ inl is ↦ is.1 | inr other ↦ absurd (both (nat_le limit n) h other.0) ]
-  where
-    both : (b : Bool) → b ≡ true → b ≡ false → ⊥
-    both b t f = cc
+below : (n limit : ℕ) → nat_lt n limit ≡ true → n < limit
+below n limit h = elim (leb_tells (suc n) limit) [ inl is ↦ is.1 | inr other ↦ absurd (both (nat_lt n limit) h other.0) ]
+
+from : (n limit : ℕ) → nat_lt n limit ≡ false → limit ≤ n
+from n limit h = elim (leb_tells (suc n) limit) [ inl is ↦ absurd (both (nat_lt n limit) is.0 h) | inr other ↦ omega (arith, other.1) ]
 
 -- what has room is handed on as it is
-no_mark : (limit : ℕ) (raw : List ℕ) → length raw < limit → take limit raw ++ mark_of (drop limit raw) ≡ raw
+pub no_mark : (limit : ℕ) (raw : List ℕ) → length raw < limit → take limit raw ++ mark_of (drop limit raw) ≡ raw
 no_mark limit raw within = ap (λ rest. take limit raw ++ mark_of rest) (drop_all limit raw (omega arith)) ∙ append-nil (take limit raw) ∙ take_all limit raw (omega arith)
 
-short_raw : (raw : List ℕ) → ends_after (shortened raw) ≢ front_end.LongLine → shortened raw ≡ raw
-short_raw raw h = shortened_short raw (below LONGEST (length (shortened raw)) (not_long (nat_le LONGEST (length (shortened raw))) (is_front_word (first_word (cut (shortened raw)))) h))
+-- where a line that was handed on is long, so is what came
+at_least : (limit : ℕ) (raw : List ℕ) → limit ≤ length (take limit raw ++ mark_of (drop limit raw)) → limit ≤ length raw
+at_least limit raw long = elim (leb_tells limit (length raw)) [
+  | inl is ↦ is.1
+  | inr other ↦ let same = ap length (no_mark limit raw other.1) in absurd (omega (arith, same, long, other.1))
+]
 
-long_raw : (raw : List ℕ) → ends_after (shortened raw) ≡ front_end.LongLine → LONGEST ≤ length raw
-long_raw raw h =
-    let long : LONGEST ≤ length (shortened raw) = from LONGEST (length (shortened raw)) (is_long (nat_le LONGEST (length (shortened raw))) (is_front_word (first_word (cut (shortened raw)))) h) in
-    at_least LONGEST raw long
-  where
-    at_least : (limit : ℕ) (raw : List ℕ) → limit ≤ length (take limit raw ++ mark_of (drop limit raw)) → limit ≤ length raw
-    at_least limit raw long = elim (leb_tells limit (length raw)) [
-      | inl is ↦ is.1
-      | inr other ↦ let same = ap length (no_mark limit raw other.1) in absurd (omega (arith, same, long, other.1))
-    ]
+-- ---- what ends the front
+
+abbrev end_of : (of_front short : Bool) → FrontEnd → FrontEnd
+end_of of_front short other = if of_front then (if short then front_end.Over else front_end.LongLine) else other
+
+short_over : (of_front short : Bool) (other : FrontEnd) → end_of of_front short other ≡ front_end.Over → other ≢ front_end.Over → short ≡ true
+short_over true true other h apart = refl
+short_over true false other h apart = absurd cc
+short_over false short other h apart = absurd (apart h)
+
+long_line : (of_front short : Bool) (other : FrontEnd) → end_of of_front short other ≡ front_end.LongLine → other ≢ front_end.LongLine → short ≡ false
+long_line true true other h apart = absurd cc
+long_line true false other h apart = refl
+long_line false short other h apart = absurd (apart h)
+
+no_cut : (of_front short : Bool) → end_of of_front short front_end.Line ≡ front_end.Cut → ⊥
+no_cut true true h = cc
+no_cut true false h = cc
+no_cut false short h = cc
+
+no_line : (of_front short : Bool) → end_of of_front short front_end.Cut ≡ front_end.Line → ⊥
+no_line true true h = cc
+no_line true false h = cc
+no_line false short h = cc
+
+no_fault : (of_front short : Bool) (f : LineFault) → end_of of_front short front_end.Line ≡ front_end.AtFault f → ⊥
+no_fault true true f h = cc
+no_fault true false f h = cc
+no_fault false short f h = cc
+
+no_cut_fault : (of_front short : Bool) (f : LineFault) → end_of of_front short front_end.Cut ≡ front_end.AtFault f → ⊥
+no_cut_fault true true f h = cc
+no_cut_fault true false f h = cc
+no_cut_fault false short f h = cc
+
+abbrev of_front : List ℕ → Bool
+of_front line = is_front_word (first_word (cut line))
+
+abbrev short : List ℕ → Bool
+short line = nat_lt (length line) LONGEST
+
+-- a line of the front that is no longer came as it is
+whole_raw : (raw line : List ℕ) (other : FrontEnd) → line ≡ shortened raw → ends_after line other ≡ front_end.Over → other ≢ front_end.Over → line ≡ raw
+whole_raw raw line other is over apart =
+    let within : short line ≡ true = short_over (of_front line) (short line) other over apart in
+    is ∙ shortened_short raw (subst (λ l. length l < LONGEST) is (below (length line) LONGEST within))
+
+long_raw : (raw line : List ℕ) (other : FrontEnd) → line ≡ shortened raw → ends_after line other ≡ front_end.LongLine → other ≢ front_end.LongLine → LONGEST ≤ length raw
+long_raw raw line other is long apart =
+    let beyond : short line ≡ false = long_line (of_front line) (short line) other long apart in
+    at_least LONGEST raw (subst (λ l. LONGEST ≤ length l) is (from (length line) LONGEST beyond))
 
 -- ---- the front
 
 pub front_none : (held : List ℕ) (known : Option (List ℕ)) → Takes held known held known []
 front_none held known = Consumes-nil (prepend_known held known)
 
-module _ (text held kept next : List ℕ) (known left further : Option (List ℕ)) (read : Takes held known kept left text) where
-  more : (bytes : List ℕ) → Takes kept left next further bytes → Takes held known next further (text ++ bytes)
-  more bytes taken = Consumes-trans (prepend_known held known) (prepend_known kept left) (prepend_known next further) text bytes read taken
+module _ (front held kept next : List ℕ) (known left further : Option (List ℕ)) (read : Takes held known kept left front) where
+  more : (bytes : List ℕ) → Takes kept left next further bytes → Takes held known next further (front ++ bytes)
+  more bytes taken = Consumes-trans (prepend_known held known) (prepend_known kept left) (prepend_known next further) front bytes read taken
 
   -- nothing came any more
-  pub front_over : (o : Opening) (line : List ℕ) → o.text.items ≡ text → o.end ≡ front_end.Over → TakesNone kept left next further line → Opens o held known next further
-  front_over o line is end w = record {
-    whole = λ short. subst (Takes held known next further) (append-nil text ∙ sym is) (more [] w.taken);
-    long = λ long. absurd (differ (sym end ∙ long));
-    over = λ same. w.ended;
-  }
-    where
-      differ : front_end.Over ≡ front_end.LongLine → ⊥
-      differ e = cc
+  pub front_over : (end : FrontEnd) (line last : List ℕ) → end ≡ front_end.Over → TakesNone kept left next further line → Opens end front last held known next further
+  front_over end line last is w = subst (λ e. Opens e front last held known next further) (sym is) (subst (Takes held known next further) (append-nil front) (more [] w.taken), w.ended)
 
   -- a line more
   module _ (line : List ℕ) (w : TakesWhole kept left next further line) where
-    taken_if : (end : FrontEnd) → end ≡ ends_after line → end ≢ front_end.LongLine → Takes held known next further (text ++ (line ++ 10 ∷ []))
-    taken_if end is short =
-        let same : line ≡ w.raw = w.handed_on ∙ short_raw w.raw (λ e. short (is ∙ ap ends_after w.handed_on ∙ e)) in
-        subst (λ l. Takes held known next further (text ++ (l ++ 10 ∷ []))) (sym same) (more (w.raw ++ 10 ∷ []) w.taken)
-
     -- it is one of the front
-    pub front_more : (end : FrontEnd) (grown : List ℕ) → grown ≡ text ++ (line ++ 10 ∷ []) → end ≡ ends_after line → end ≡ front_end.Over → Takes held known next further grown
-    front_more end grown is ends over = subst (Takes held known next further) (sym is) (taken_if end ends (λ e. differ (sym over ∙ e)))
+    pub front_more : (end : FrontEnd) (grown : List ℕ) → end ≡ ends_after line front_end.Line → end ≡ front_end.Over → grown ≡ front_with (ends_after line front_end.Line) front (line ++ 10 ∷ []) → Takes held known next further grown
+    front_more end grown ends over is =
+        let same : line ≡ w.raw = whole_raw w.raw line front_end.Line w.handed_on (sym ends ∙ over) (λ e. differ e) in
+        let grew : grown ≡ front ++ (w.raw ++ 10 ∷ []) = is ∙ ap (λ e. front_with e front (line ++ 10 ∷ [])) (sym ends ∙ over) ∙ ap (λ l. front ++ (l ++ 10 ∷ [])) same in
+        subst (Takes held known next further) (sym grew) (more (w.raw ++ 10 ∷ []) w.taken)
       where
-        differ : front_end.Over ≡ front_end.LongLine → ⊥
+        differ : front_end.Line ≡ front_end.Over → ⊥
         differ e = cc
 
     -- it ends the front
-    pub front_ended : (o : Opening) → o.text.items ≡ text ++ (line ++ 10 ∷ []) → o.end ≡ ends_after line → o.end ≢ front_end.Over → Opens o held known next further
-    front_ended o is ends other = record {
-      whole = λ short. subst (Takes held known next further) (sym is) (taken_if o.end ends short);
-      long = λ long. (
-        text ++ (w.raw ++ 10 ∷ []),
-        comes_held (prepend_known held known) further (text ++ (w.raw ++ 10 ∷ [])) next (more (w.raw ++ 10 ∷ []) w.taken),
-        record { before = text; raw = w.raw; after = 10 ∷ []; joined = refl; line = w.one; long = long_raw w.raw (ap ends_after (sym w.handed_on) ∙ sym ends ∙ long) },
-      );
-      over = λ same. absurd (other same);
+    ended : (end : FrontEnd) (grown last : List ℕ) → end ≡ ends_after line front_end.Line → end ≢ front_end.Over → grown ≡ front_with end front (line ++ 10 ∷ []) → last ≡ line → Opens end grown last held known next further
+    ended front_end.Over grown last ends other is same = absurd (other refl)
+    ended front_end.Line grown last ends other is same =
+        (kept, left, subst (Takes held known kept left) (sym is) read, subst (TakesWhole kept left next further) (sym same) w)
+    ended front_end.Cut grown last ends other is same = absurd (no_cut (of_front line) (short line) (sym ends))
+    ended front_end.LongLine grown last ends other is same = record {
+      before = front;
+      raw = w.raw;
+      after = 10 ∷ [];
+      joined = is ∙ ap (λ l. front ++ (l ++ 10 ∷ [])) w.handed_on;
+      line = w.one;
+      long = long_raw w.raw line front_end.Line w.handed_on (sym ends) (λ e. differ e);
+      read = more (w.raw ++ 10 ∷ []) w.taken;
     }
+      where
+        differ : front_end.Line ≡ front_end.LongLine → ⊥
+        differ e = cc
+    ended (front_end.AtFault f) grown last ends other is same = absurd (no_fault (of_front line) (short line) f (sym ends))
+
+    pub front_ended : (end : FrontEnd) (grown last : List ℕ) → end ≡ ends_after line front_end.Line → end ≢ front_end.Over → grown ≡ front_with (ends_after line front_end.Line) front (line ++ 10 ∷ []) → last ≡ line
+        → Opens end grown last held known next further
+    front_ended end grown last ends other is same = ended end grown last ends other (is ∙ ap (λ e. front_with e front (line ++ 10 ∷ [])) (sym ends)) same
 
   -- the last line has no line feed
-  pub front_cut : (o : Opening) (line : List ℕ) → o.text.items ≡ text ++ line → o.end ≡ ends_after line → TakesLast kept left next further line → Opens o held known next further
-  front_cut o line is ends w = record {
-    whole = λ short. let same : line ≡ w.raw = w.handed_on ∙ short_raw w.raw (λ e. short (ends ∙ ap ends_after w.handed_on ∙ e)) in
-        subst (Takes held known next further) (ap (λ l. text ++ l) (sym same) ∙ sym is) (more w.raw w.taken);
-    long = λ long. (
-      text ++ w.raw,
-      comes_held (prepend_known held known) further (text ++ w.raw) next (more w.raw w.taken),
-      record { before = text; raw = w.raw; after = []; joined = ap (λ l. text ++ l) (sym (append-nil w.raw)); line = w.one; long = long_raw w.raw (ap ends_after (sym w.handed_on) ∙ sym ends ∙ long) },
-    );
-    over = λ same. w.ended;
-  }
+  module _ (line : List ℕ) (w : TakesLast kept left next further line) where
+    last_of : (end : FrontEnd) (grown last : List ℕ) → end ≡ ends_after line front_end.Cut → grown ≡ front_with end front (line ++ []) → last ≡ line → Opens end grown last held known next further
+    last_of front_end.Over grown last ends is same =
+        let whole : line ≡ w.raw = whole_raw w.raw line front_end.Cut w.handed_on (sym ends) (λ e. differ e) in
+        let grew : grown ≡ front ++ w.raw = is ∙ ap (λ l. front ++ l) (append-nil line ∙ whole) in
+        (subst (Takes held known next further) (sym grew) (more w.raw w.taken), w.ended)
+      where
+        differ : front_end.Cut ≡ front_end.Over → ⊥
+        differ e = cc
+    last_of front_end.Line grown last ends is same = absurd (no_line (of_front line) (short line) (sym ends))
+    last_of front_end.Cut grown last ends is same = (kept, left, subst (Takes held known kept left) (sym is) read, subst (TakesLast kept left next further) (sym same) w)
+    last_of front_end.LongLine grown last ends is same = record {
+      before = front;
+      raw = w.raw;
+      after = [];
+      joined = is ∙ ap (λ l. front ++ (l ++ [])) w.handed_on;
+      line = w.one;
+      long = long_raw w.raw line front_end.Cut w.handed_on (sym ends) (λ e. differ e);
+      read = subst (Takes held known next further) (ap (λ l. front ++ l) (sym (append-nil w.raw))) (more w.raw w.taken);
+    }
+      where
+        differ : front_end.Cut ≡ front_end.LongLine → ⊥
+        differ e = cc
+    last_of (front_end.AtFault f) grown last ends is same = absurd (no_cut_fault (of_front line) (short line) f (sym ends))
 
--- the line by another name
-pub whole_as : {old new : List ℕ} {before after : Option (List ℕ)} (line given : List ℕ) → given ≡ line → TakesWhole old before new after line → TakesWhole old before new after given
-whole_as {old} {new} {before} {after} line given is h = subst (TakesWhole old before new after) (sym is) h
+    pub front_cut : (end : FrontEnd) (grown last : List ℕ) → end ≡ ends_after line front_end.Cut → grown ≡ front_with (ends_after line front_end.Cut) front (line ++ []) → last ≡ line → Opens end grown last held known next further
+    front_cut end grown last ends is same = last_of end grown last ends (is ∙ ap (λ e. front_with e front (line ++ [])) (sym ends)) same
 
-pub last_as : {old new : List ℕ} {before after : Option (List ℕ)} (line given : List ℕ) → given ≡ line → TakesLast old before new after line → TakesLast old before new after given
-last_as {old} {new} {before} {after} line given is h = subst (TakesLast old before new after) (sym is) h
+-- a fault of the front was found
+pub front_looked : (front line held kept : List ℕ) (known left : Option (List ℕ)) (old new : FrontEnd) → Takes held known kept left front → IsLooked front old new → old ≡ front_end.Over → new ≢ front_end.Over
+    → Opens new front line held known kept left
+front_looked front line held kept known left old new read (inl same) over other = absurd (other (same ∙ over))
+front_looked front line held kept known left old new read (inr (f, is, has)) over other = subst (λ e. Opens e front line held known kept left) (sym is) (read, has)
+
+pub looked_as : (front named : List ℕ) (old new : FrontEnd) → front ≡ named → IsLooked front old new → IsLooked named old new
+looked_as front named old new is h = subst (λ l. IsLooked l old new) is h
+
+-- the front by another name
+pub takes_as : (held kept : List ℕ) (known left : Option (List ℕ)) (front named : List ℕ) → front ≡ named → Takes held known kept left front → Takes held known kept left named
+takes_as held kept known left front named is h = subst (Takes held known kept left) is h

@@ -1,10 +1,10 @@
 -- Where the lines behind the front were taken: what is told, and what is written where it ends.
 use Rattle.std.proofs.Common.{◌≡◌, ◌≢◌, ◌+◌, ◌⊎◌, ℕ, false, OnOk, Result, Ok, Err, List, [], ◌∷◌, ◌++◌, length, map, take, Option, refl, sym, ap, subst, ◌∙◌, append_assoc, append-nil, arith, inl, inr}
-use Rattle.std.proofs.KnownBytes.{Consumes-nil, Consumes-trans}
+use Rattle.std.proofs.KnownBytes.{Consumes-trans}
 use Rattle.std.proofs.lemmas.List.{length-map, take_all}
 use Rattle.std.specs.Prelude.{string_bytes}
 use Rattle.std.specs.Io.KnownBytes.{Consumes, IsAtEnd, prepend_known}
-use Rattle.ospf_types.specs.declared.prefix.Prefix.{Prefix}
+use Rattle.changes.specs.declared.telling.Wanted.{Wanted}
 use Rattle.recording.specs.declared.line.Line.{Line}
 use Rattle.event_core.specs.Cores.{CoreValue}
 use Rattle.line_reader.specs.Shortened.{shortened}
@@ -20,23 +20,17 @@ use Rattle.replay.specs.Pages.{Adds, AddsPart}
 use Rattle.replay.specs.declared.page.Stop.{Stop}
 use Rattle.replay.proofs.Paging.{adds_more, adds_moved, page_whole, part_more, part_moved}
 use Rattle.replay.proofs.Wholes.{none_whole}
-use Rattle.replay.proofs.Written.{err_as}
-use Rattle.std.specs.Prelude.{IfErr, IsErrAnd}
-use Rattle.recording.specs.Faults.{IsFaultOf}
 use Rattle.replay.specs.Stops.{AreWhole, fault_of}
 use Rattle.replay.specs.declared.fault.ReplayFault.{ReplayFault}
 use Rattle.replay.specs.declared.fault.ReplayFault.TheVariants as replay_fault
 use Rattle.replay.specs.declared.page.Stop.TheVariants as stop
 use Rattle.changes.specs.Begun.{Closes, IsBegun, StopsAtBase}
-use Rattle.changes.specs.Openings.{Opens}
 use Rattle.changes.specs.declared.following.End.{End}
 use Rattle.changes.specs.declared.following.End.TheVariants as end
-use Rattle.changes.specs.declared.opening.FrontEnd.TheVariants as front_end
-use Rattle.changes.specs.declared.opening.Opening.{Opening}
 use Rattle.changes.specs.Following.{Ends, IsAtFault, IsFollowed, StopsIn}
 use Rattle.changes.specs.Lines.{Change}
 use Rattle.changes.specs.Changes.{Give, all_of}
-use Rattle.changes.specs.Outputs.{AreBytes, FailsAtFront, FailsBehind, IsTelling, TellsAll, TellsPart, TellsThese, base_lines}
+use Rattle.changes.specs.Outputs.{AreBytes, FailsBehind, IsTelling, TellsAll, TellsPart, TellsThese, base_lines}
 use Rattle.changes.specs.Runs.{Fails, Says, Taken, TellsLines}
 use Rattle.line_reader.proofs.Short.{shortened_short}
 use Rattle.recording.specs.Progress.{IsLineOf}
@@ -44,8 +38,7 @@ use Rattle.recording.proofs.Growing.{text_grows}
 use Rattle.changes.specs.Streams.{AllSay, AreTaken, ComesFrom, IsReadAs, lines_in}
 use Rattle.changes.specs.declared.following.Run.{Run}
 use Rattle.changes.specs.declared.telling.Telling.{Telling}
-use Rattle.changes.proofs.Comes.{comes_all, comes_behind, comes_held, comes_less, held_none}
-use Rattle.changes.proofs.FollowSteps.{followed_none}
+use Rattle.changes.proofs.Comes.{comes_all, comes_behind, comes_less}
 use Rattle.changes.proofs.Ends.{all_out, telling}
 use Rattle.changes.proofs.RunSteps.{gives_after, given_first, tells_more}
 
@@ -85,36 +78,27 @@ module _ (t : Telling) (r : RecordingValue) (run : Run) (from to : Option (List 
   first = first_number r.version r.base
 
   abbrev base : List ℕ
-  base = base_lines t.only r h.opened
+  base = base_lines t.wanted r h.opened
 
   pub given_begun : Give h.after run.core
-  given_begun = gives_after t.only t.answers h.opened run.core first (map Says r.lines) (all_of h.opened) h.after h.told (given_first h.opened h.opening.core) h.lines
+  given_begun = gives_after t.wanted t.answers h.opened run.core first (map Says r.lines) (all_of h.opened) h.after h.told (given_first h.opened h.opening.core) h.lines
 
   pub begun_page : AreWhole (string_bytes run.page)
   begun_page = page_whole from to [] (string_bytes run.page) (base ++ h.told) h.printed none_whole
 
   -- the telling of the front and of these lines
-  told_behind : (taken : List Taken) (text : List ℕ) (after : List Change) (now : CoreValue) → TellsLines run.at.only run.at.answers run.core run.at.number taken h.after text after now
+  told_behind : (taken : List Taken) (text : List ℕ) (after : List Change) (now : CoreValue) → TellsLines run.at.wanted run.at.answers run.core run.at.number taken h.after text after now
       → IsTelling t r taken (base ++ (h.told ++ text))
   told_behind taken text after now lines =
       let n : run.at.number ≡ first + length (map Says r.lines) = h.number ∙ ap (λ k. first + k) (sym (length-map r.lines Says)) in
-      let numbered : TellsLines run.at.only run.at.answers run.core (first + length (map Says r.lines)) taken h.after text after now =
-      subst (λ k. TellsLines run.at.only run.at.answers run.core k taken h.after text after now) n lines in
-      let only : TellsLines t.only run.at.answers run.core (first + length (map Says r.lines)) taken h.after text after now =
-      subst (λ (o : Option Prefix). TellsLines o run.at.answers run.core (first + length (map Says r.lines)) taken h.after text after now) h.only numbered in
-      let asked : TellsLines t.only t.answers run.core (first + length (map Says r.lines)) taken h.after text after now =
-      subst (λ b. TellsLines t.only b run.core (first + length (map Says r.lines)) taken h.after text after now) h.answers only in
+      let numbered : TellsLines run.at.wanted run.at.answers run.core (first + length (map Says r.lines)) taken h.after text after now =
+      subst (λ k. TellsLines run.at.wanted run.at.answers run.core k taken h.after text after now) n lines in
+      let wanted : TellsLines t.wanted run.at.answers run.core (first + length (map Says r.lines)) taken h.after text after now =
+      subst (λ (o : Wanted). TellsLines o run.at.answers run.core (first + length (map Says r.lines)) taken h.after text after now) h.wanted numbered in
+      let asked : TellsLines t.wanted t.answers run.core (first + length (map Says r.lines)) taken h.after text after now =
+      subst (λ b. TellsLines t.wanted b run.core (first + length (map Says r.lines)) taken h.after text after now) h.answers wanted in
       telling t r h.opened h.opening r.lines taken (h.told ++ text) after now
-      (tells_more t.only t.answers h.opened run.core now first (map Says r.lines) taken (all_of h.opened) h.after after h.told text h.lines asked)
-
-  -- nothing came behind the front
-  pub told_front : IsTelling t r [] (base ++ h.told)
-  told_front =
-      telling t r h.opened h.opening r.lines [] h.told h.after run.core
-      (subst (λ (ts : List Taken). TellsLines t.only t.answers h.opened first ts (all_of h.opened) h.told h.after run.core) (sym (append-nil (map Says r.lines))) h.lines)
-
-  are_front : (front : List ℕ) → IsText front r → AreBytes t front r []
-  are_front front is = front_bytes t r front is
+      (tells_more t.wanted t.answers h.opened run.core now first (map Says r.lines) taken (all_of h.opened) h.after after h.told text h.lines asked)
 
   are_all : (front behind : List ℕ) (taken : List Taken) → IsText front r → AreTaken run.version behind taken → (run.skips ≡ false → AllSay taken) → AreBytes t (front ++ behind) r taken
   are_all front behind taken is lines said = record {
@@ -190,17 +174,6 @@ base_part why t before after r front from to comes text h = record {
 
 module _ (t : Telling) (before mid after : Option (List ℕ)) (held front : List ℕ) (r : RecordingValue) (run : Run) (from to : Option (List ℕ))
     (h : IsBegun t r run from to) (read : Consumes before (prepend_known held mid) front) (text : IsText front r) where
-  -- nothing came behind the front
-  pub front_reached : Reached t before mid r front (string_bytes run.page) from to
-  front_reached = record {
-    comes = comes_held before mid front held read;
-    taken = [];
-    are = are_front t r run from to h front text;
-    text = base t r run from to h ++ h.told;
-    telling = told_front t r run from to h;
-    printed = h.printed;
-  }
-
   -- these bytes came
   module _ (new : Run) (on : Option (List ℕ)) (behind : List ℕ) (f : IsFollowed h.after behind run new to on) where
     abbrev text_behind : List ℕ
@@ -320,11 +293,6 @@ module _ (t : Telling) (before mid after : Option (List ℕ)) (held front : List
     pub ended_memory : res ≡ Err replay_fault.Memory → ⊥
     ended_memory is = subst (λ x. Closes new e x on last) is closes
 
-  -- nothing comes behind the front
-  pub front_over : (held ≡ []) × IsAtEnd mid → Ends end.Over h.after run run held mid mid to to
-  front_over (none, at_end) =
-      ([], followed_none h.after run to, subst (λ (o : Option (List ℕ)). Consumes (prepend_known held mid) o []) (held_none mid held none) (Consumes-nil (prepend_known held mid)), at_end)
-
 -- ---- why a stop is no other fault
 
 apart_read : (why : Stop) → fault_of why ≡ replay_fault.Read → ⊥
@@ -354,46 +322,6 @@ line_apart given f is = (λ write. write_apart (sym is ∙ write), λ closed. cl
 
 pub stopped_at : (why known : Stop) (t : Telling) (before after from to : Option (List ℕ)) → why ≡ known → TellsPart why t before after from to → TellsPart known t before after from to
 stopped_at why known t before after from to is h = subst (λ (w : Stop). TellsPart w t before after from to) is h
-
--- ---- the front
-
-module _ (o : Opening) (held kept : List ℕ) (before left : Option (List ℕ)) (none : held ≡ []) (h : Opens o held before kept left) where
-  -- the lines of the front, none of which was too long
-  pub front_read : o.end ≢ front_end.LongLine → Consumes before (prepend_known kept left) o.text.items
-  front_read short = subst (λ (a : Option (List ℕ)). Consumes a (prepend_known kept left) o.text.items) (held_none before held none) (h.whole short)
-
-  pub front_long : (f : LineFault) → o.end ≡ front_end.LongLine → FailsAtFront before left f
-  front_long f long =
-      let (bytes, comes, has) = h.long long in
-      record { bytes = bytes; comes = subst (λ (a : Option (List ℕ)). ComesFrom a left bytes) (held_none before held none) comes; is = inr has }
-
-  pub front_fault : (f : LineFault) → IsFaultOf o.text.items f → FailsAtFront before left f
-  front_fault f is = elim o.end as (λ x. x ≡ o.end → FailsAtFront before left f) [
-    | front_end.Over ↦ λ e. short (λ long. over_apart (e ∙ long))
-    | front_end.Line ↦ λ e. short (λ long. line_end_apart (e ∙ long))
-    | front_end.LongLine ↦ λ e. front_long f (sym e)
-  ] refl
-    where
-      over_apart : front_end.Over ≡ front_end.LongLine → ⊥
-      over_apart e = cc
-
-      line_end_apart : front_end.Line ≡ front_end.LongLine → ⊥
-      line_end_apart e = cc
-
-      short : o.end ≢ front_end.LongLine → FailsAtFront before left f
-      short other = record { bytes = o.text.items; comes = comes_held before left o.text.items kept (front_read other); is = inl is }
-
-abbrev line_in : LineFault → ReplayFault → LineFault
-line_in default (replay_fault.Line f) = f
-line_in default _ = default
-
--- the fault that was found of the text is the one that is answered
-pub front_faulty : {X : Type 0} (o : Opening) (held kept : List ℕ) (before left : Option (List ℕ)) → held ≡ [] → Opens o held before kept left → (given : List ℕ) → given ≡ o.text.items → (e : ReplayFault)
-    → ((f : LineFault) × (e ≡ replay_fault.Line f) × IsFaultOf given f) → (r : Result X ReplayFault) → IsErrAnd r (λ x. x ≡ e) → (f : LineFault) → r ≡ Err (replay_fault.Line f) → FailsAtFront before left f
-front_faulty {X} o held kept before left none h given same e (g, is, has) r answer f line =
-    let found : IfErr r (λ x. x ≡ e) = err_as (λ x. x ≡ e) r e answer refl in
-    let both : replay_fault.Line f ≡ replay_fault.Line g = subst (λ (x : Result X ReplayFault). IfErr x (λ y. y ≡ e)) line found ∙ is in
-    front_fault o held kept before left none h f (subst (λ (x : LineFault). IsFaultOf o.text.items x) (sym (ap (line_in f) both)) (subst (λ (l : List ℕ). IsFaultOf l g) same has))
 
 -- the text of the front, by the parts of its recording
 pub opened_text : (given front : List ℕ) (r : RecordingValue) (v : Version) (b : Base) (lines : List Line) → given ≡ front → v ≡ r.version → b ≡ r.base → lines ≡ r.lines → IsText given r → IsText front (recording_of v b lines)

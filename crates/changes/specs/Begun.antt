@@ -24,7 +24,7 @@ use Rattle.changes.specs.declared.telling.Telling.{Telling}
 pub record IsBegun (t : Telling) (r : RecordingValue) (run : Run) (from to : Option (List ℕ)) : Type 0 where
   pub version : run.version ≡ r.version
   pub skips : run.skips ≡ t.skips
-  pub only : run.at.only ≡ t.only
+  pub wanted : run.at.wanted ≡ t.wanted
   pub answers : run.at.answers ≡ t.answers
   pub number : run.at.number ≡ first_number r.version r.base + length r.lines
   pub core : IsCore run.core
@@ -33,8 +33,8 @@ pub record IsBegun (t : Telling) (r : RecordingValue) (run : Run) (from to : Opt
   pub opening : IsOpened r.base opened
   pub told : List ℕ
   pub after : List Change
-  pub lines : TellsLines t.only t.answers opened (first_number r.version r.base) (map Says r.lines) (all_of opened) told after run.core
-  pub printed : Adds from to [] (string_bytes run.page) (base_lines t.only r opened ++ told)
+  pub lines : TellsLines t.wanted t.answers opened (first_number r.version r.base) (map Says r.lines) (all_of opened) told after run.core
+  pub printed : Adds from to [] (string_bytes run.page) (base_lines t.wanted r opened ++ told)
 
 -- a beginning of it was written
 pub record StopsAtBase (why : Stop) (t : Telling) (r : RecordingValue) (from to : Option (List ℕ)) : Type 0 where

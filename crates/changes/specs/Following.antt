@@ -12,6 +12,9 @@ use Rattle.changes.specs.declared.following.End.TheVariants as end
 use Rattle.changes.specs.declared.following.Run.{Run}
 use Rattle.recording.specs.declared.version.Version.{Version}
 use Rattle.changes.specs.Changes.{Give}
+use Rattle.changes.specs.Openings.{IsWhole, Opens}
+use Rattle.changes.specs.declared.opening.FrontEnd.{FrontEnd}
+use Rattle.line_reader.specs.Taking as input
 use Rattle.changes.specs.Lines.{Change}
 use Rattle.changes.specs.Runs.{Fails, Taken, Told, ToldPart, ToldTaken}
 use Rattle.changes.specs.Streams.{AllSay, AreTaken, ComesFrom, IsReadAs}
@@ -20,30 +23,19 @@ use Rattle.changes.specs.Streams.{AllSay, AreTaken, ComesFrom, IsReadAs}
 pub record IsSameRun (old new : Run) : Type 0 where
   pub version : new.version ≡ old.version
   pub skips : new.skips ≡ old.skips
-  pub only : new.at.only ≡ old.at.only
+  pub progress : new.progress ≡ old.progress
+  pub wanted : new.at.wanted ≡ old.at.wanted
   pub answers : new.at.answers ≡ old.at.answers
 
 -- ---- one line
 
--- the line that came was run, or its fault told, and what is told of it stands behind the page
-pub record IsTold (old new : Run) (from to : Option (List ℕ)) : Type 0 where
-  pub same : IsSameRun old new
-  pub counted : new.at.number ≡ old.at.number
-  pub taken : Taken
-  pub reads : IsReadAs old.version old.line.items taken
-  pub said : old.skips ≡ false → AllSay (taken ∷ [])
-  pub told : ToldTaken old.at.only old.at.answers old.core old.at.number taken new.core from to (string_bytes old.page) (string_bytes new.page)
-  pub core : IsCore new.core
-  pub current : IsCurrent new.core
-
 -- the line that came was taken, and what is told of it stands behind the page
 pub record IsTaken (old new : Run) (from to : Option (List ℕ)) : Type 0 where
   pub same : IsSameRun old new
-  pub counted : new.at.number ≡ old.at.number + 1
   pub taken : Taken
   pub reads : IsReadAs old.version old.line.items taken
   pub said : old.skips ≡ false → AllSay (taken ∷ [])
-  pub told : ToldTaken old.at.only old.at.answers old.core old.at.number taken new.core from to (string_bytes old.page) (string_bytes new.page)
+  pub told : ToldTaken old.at.wanted old.at.answers old.core old.at.number taken new.core from to (string_bytes old.page) (string_bytes new.page)
   pub core : IsCore new.core
   pub current : IsCurrent new.core
 
@@ -57,11 +49,11 @@ pub record IsLeft (f : Fault) (old new : Run) (from to : Option (List ℕ)) : Ty
   pub out : to ≡ from
 
 abbrev pub Tells : Option Fault → (old new : Run) → (from to : Option (List ℕ)) → Type 0
-Tells None old new from to = IsTold old new from to
+Tells None old new from to = IsTaken old new from to × (new.at.number ≡ old.at.number)
 Tells (Some f) old new from to = IsLeft f old new from to
 
 abbrev pub Takes : Option Fault → (old new : Run) → (from to : Option (List ℕ)) → Type 0
-Takes None old new from to = IsTaken old new from to
+Takes None old new from to = IsTaken old new from to × (new.at.number ≡ old.at.number + 1)
 Takes (Some f) old new from to = IsLeft f old new from to
 
 -- this is what the line that came was taken for, or it was not taken
@@ -74,7 +66,7 @@ pub record StopsTaking (why : Stop) (old : Run) (from to : Option (List ℕ)) : 
   pub taken : List Taken
   pub reads : IsFirst old.version old.line.items taken
   pub said : old.skips ≡ false → AllSay taken
-  pub part : (before : List Change) → Give before old.core → ToldPart why old.at.only old.at.answers old.core old.at.number taken before from to (string_bytes old.page)
+  pub part : (before : List Change) → Give before old.core → ToldPart why old.at.wanted old.at.answers old.core old.at.number taken before from to (string_bytes old.page)
 
 -- ---- lines, one after the other
 
@@ -85,11 +77,7 @@ pub record IsFollowed (before : List Change) (bytes : List ℕ) (old new : Run) 
   pub lines : AreTaken old.version bytes taken
   pub said : old.skips ≡ false → AllSay taken
   pub counted : new.at.number ≡ old.at.number + length taken
-  pub told : Told old.at.only old.at.answers old.core old.at.number taken before new.core from to (string_bytes old.page) (string_bytes new.page)
-
--- what has come and was not yet taken, and what is left of the input
-abbrev pub left_of : List ℕ → Option (List ℕ) → Option (List ℕ)
-left_of held known = prepend_known held known
+  pub told : Told old.at.wanted old.at.answers old.core old.at.number taken before new.core from to (string_bytes old.page) (string_bytes new.page)
 
 -- the next line is at fault, or there is no line feed behind the last
 pub record IsAtFault (f : Fault) (before : List Change) (old new : Run) (held : List ℕ) (known left : Option (List ℕ)) (from to : Option (List ℕ)) : Type 0 where
@@ -97,21 +85,35 @@ pub record IsAtFault (f : Fault) (before : List Change) (old new : Run) (held : 
   pub followed : IsFollowed before bytes old new from to
   pub raw : List ℕ
   pub line : HasNoLineFeed raw
-  pub comes : ComesFrom (left_of held known) left (bytes ++ raw)
+  pub comes : ComesFrom (prepend_known held known) left (bytes ++ raw)
   pub is : IsReadAs old.version (shortened raw) (Fails f) ⊎ ((raw ≢ []) × (f ≡ fault.Truncated) × IsAtEnd left)
 
 -- how it ends: the input is over, it could not be read further, or a line is at fault
 abbrev pub Ends : End → (before : List Change) → (old new : Run) → (held : List ℕ) → (known left : Option (List ℕ)) → (from to : Option (List ℕ)) → Type 0
 Ends end.Over before old new held known left from to =
-    (bytes : List ℕ) × IsFollowed before bytes old new from to × Consumes (left_of held known) left bytes × IsAtEnd left
-Ends end.Unread before old new held known left from to = (bytes : List ℕ) × IsFollowed before bytes old new from to × ComesFrom (left_of held known) left bytes
+    (bytes : List ℕ) × IsFollowed before bytes old new from to × Consumes (prepend_known held known) left bytes × IsAtEnd left
+Ends end.Unread before old new held known left from to = (bytes : List ℕ) × IsFollowed before bytes old new from to × ComesFrom (prepend_known held known) left bytes
 Ends (end.AtFault f) before old new held known left from to = IsAtFault f before old new held known left from to
 
 -- a beginning of what is told of these bytes was written
 pub record StopsIn (why : Stop) (before : List Change) (old : Run) (held : List ℕ) (known left : Option (List ℕ)) (from to : Option (List ℕ)) : Type 0 where
   pub bytes : List ℕ
-  pub comes : ComesFrom (left_of held known) left bytes
+  pub comes : ComesFrom (prepend_known held known) left bytes
   pub taken : List Taken
   pub lines : AreTaken old.version bytes taken
   pub said : old.skips ≡ false → AllSay taken
-  pub part : ToldPart why old.at.only old.at.answers old.core old.at.number taken before from to (string_bytes old.page)
+  pub part : ToldPart why old.at.wanted old.at.answers old.core old.at.number taken before from to (string_bytes old.page)
+
+-- ---- lines behind the front, of which one came with it
+
+-- How it ends behind a front, whichever that is.
+abbrev pub EndsBehind : FrontEnd → End → (old new : Run) → (kept : List ℕ) → (left further : Option (List ℕ)) → (from to : Option (List ℕ)) → Type 0
+EndsBehind front e old new kept left further from to =
+    (text held : List ℕ) → (known : Option (List ℕ)) → IsWhole front → Opens front text old.line.items held known kept left → (before : List Change) → Give before old.core
+    → (mid : List ℕ) × (rest : Option (List ℕ)) × input.Takes held known mid rest text × Ends e before old new mid rest further from to
+
+-- it stops behind a front
+abbrev pub StopsBehind : FrontEnd → Stop → (old : Run) → (kept : List ℕ) → (left further : Option (List ℕ)) → (from to : Option (List ℕ)) → Type 0
+StopsBehind front why old kept left further from to =
+    (text held : List ℕ) → (known : Option (List ℕ)) → IsWhole front → Opens front text old.line.items held known kept left → (before : List Change) → Give before old.core
+    → (mid : List ℕ) × (rest : Option (List ℕ)) × input.Takes held known mid rest text × StopsIn why before old mid rest further from to

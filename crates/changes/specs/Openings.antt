@@ -1,21 +1,83 @@
 -- The front of a recording, as it comes.
-use Rattle.std.specs.Prelude.{ℕ, ◌≡◌, ◌≢◌, List, nat_le, length, Option, if◌then◌else◌}
-use Rattle.std.specs.Io.KnownBytes.{prepend_known}
-use Rattle.line_reader.specs.Taking.{HasEnded, Takes}
+use Rattle.std.specs.Prelude.{ℕ, ◌≡◌, ◌≤◌, ◌⊎◌, ◌++◌, List, [], ◌∷◌, nat_lt, length, Option, if◌then◌else◌}
+use Rattle.line_reader.specs.Shortened.{shortened}
+use Rattle.line_reader.specs.Tails.{HasNoLineFeed}
+use Rattle.line_reader.specs.Taking.{HasEnded, Takes, TakesLast, TakesWhole}
 use Rattle.line_reader.specs.declared.line.TheConstants.{LONGEST}
+use Rattle.recording.specs.Faults.{IsFaultOf}
 use Rattle.recording.specs.Places.{is_front_word}
 use Rattle.recording.specs.Reading.{cut, first_word}
+use Rattle.recording.specs.declared.fault.Fault.TheVariants as fault
+use Rattle.recording.specs.declared.fault.LineFault.{LineFault}
+use Rattle.replay.specs.declared.fault.ReplayFault.{ReplayFault}
+use Rattle.replay.specs.declared.fault.ReplayFault.TheVariants as replay_fault
 use Rattle.changes.specs.declared.opening.FrontEnd.{FrontEnd}
 use Rattle.changes.specs.declared.opening.FrontEnd.TheVariants as front_end
 use Rattle.changes.specs.declared.opening.Opening.{Opening}
-use Rattle.changes.specs.Streams.{ComesFrom, HasLongLine}
 
--- what a line comes to for the front
-abbrev pub ends_after : List ℕ → FrontEnd
-ends_after line = if nat_le LONGEST (length line) then front_end.LongLine else (if is_front_word (first_word (cut line)) then front_end.Over else front_end.Line)
+-- what a line comes to for the front, and what one that is none of it does
+abbrev pub ends_after : List ℕ → FrontEnd → FrontEnd
+ends_after line other = if is_front_word (first_word (cut line)) then (if nat_lt (length line) LONGEST then front_end.Over else front_end.LongLine) else other
 
--- These lines came, and the input is over where they say so. Where one of them was too long to be read whole, it stands there shortened.
-pub record Opens (o : Opening) (held : List ℕ) (known : Option (List ℕ)) (kept : List ℕ) (left : Option (List ℕ)) : Type 0 where
-  pub whole : o.end ≢ front_end.LongLine → Takes held known kept left o.text.items
-  pub long : o.end ≡ front_end.LongLine → (bytes : List ℕ) × ComesFrom (prepend_known held known) left bytes × HasLongLine bytes
-  pub over : o.end ≡ front_end.Over → HasEnded kept left
+-- the front with a line more, where that is one of the front
+abbrev pub front_with : FrontEnd → (front line : List ℕ) → List ℕ
+front_with front_end.Over front line = front ++ line
+front_with front_end.Line front line = front
+front_with front_end.Cut front line = front
+front_with front_end.LongLine front line = front ++ line
+front_with (front_end.AtFault f) front line = front
+
+-- the line that came, and its line feed, was added, where it is one of the front
+pub record IsAdded (end : FrontEnd) (feed : List ℕ) (old new : Opening) : Type 0 where
+  pub ends : new.end ≡ end
+  pub line : new.line.items ≡ old.line.items
+  pub front : new.front.items ≡ front_with end old.front.items (old.line.items ++ feed)
+
+-- the front has a fault that was found, or nothing changed
+abbrev pub IsLooked : (front : List ℕ) → (old new : FrontEnd) → Type 0
+IsLooked front old new = (new ≡ old) ⊎ ((f : LineFault) × (new ≡ front_end.AtFault f) × IsFaultOf front f)
+
+-- The lines of the front came, and the last of them is too long to be read whole. It stands there cut short.
+pub record IsLongFront (front held : List ℕ) (known : Option (List ℕ)) (kept : List ℕ) (left : Option (List ℕ)) : Type 0 where
+  pub before : List ℕ
+  pub raw : List ℕ
+  pub after : List ℕ
+  pub joined : front ≡ before ++ (shortened raw ++ after)
+  pub line : HasNoLineFeed raw
+  pub long : LONGEST ≤ length raw
+  pub read : Takes held known kept left (before ++ (raw ++ after))
+
+-- The front was taken, and the line that ended it.
+abbrev pub Opens : FrontEnd → (front line held : List ℕ) → (known : Option (List ℕ)) → (kept : List ℕ) → (left : Option (List ℕ)) → Type 0
+Opens front_end.Over front line held known kept left = Takes held known kept left front × HasEnded kept left
+Opens front_end.Line front line held known kept left = (mid : List ℕ) × (rest : Option (List ℕ)) × Takes held known mid rest front × TakesWhole mid rest kept left line
+Opens front_end.Cut front line held known kept left = (mid : List ℕ) × (rest : Option (List ℕ)) × Takes held known mid rest front × TakesLast mid rest kept left line
+Opens front_end.LongLine front line held known kept left = IsLongFront front held known kept left
+Opens (front_end.AtFault f) front line held known kept left = Takes held known kept left front × IsFaultOf front f
+
+-- each line of the front was taken whole, and none of them is known to be at fault
+abbrev pub IsWhole : FrontEnd → Type 0
+IsWhole front_end.Over = Unit {0}
+IsWhole front_end.Line = Unit {0}
+IsWhole front_end.Cut = Unit {0}
+IsWhole front_end.LongLine = ⊥
+IsWhole (front_end.AtFault f) = ⊥
+
+-- the fault is one of the front, or of the front and these bytes
+abbrev pub IsFaultUpTo : (more front : List ℕ) → LineFault → Type 0
+IsFaultUpTo more front f = IsFaultOf front f ⊎ IsFaultOf (front ++ more) f
+
+-- it is, or memory ran out
+abbrev pub IsFaultWith : (more front : List ℕ) → ReplayFault → Type 0
+IsFaultWith more front e = (e ≡ replay_fault.Memory) ⊎ ((f : LineFault) × (e ≡ replay_fault.Line f) × IsFaultUpTo more front f)
+
+-- why there is no recording
+abbrev pub HasFault : FrontEnd → (front line : List ℕ) → LineFault → Type 0
+HasFault front_end.Over front line f = IsFaultOf front f
+HasFault front_end.Line front line f = IsFaultUpTo (line ++ 10 ∷ []) front f
+HasFault front_end.Cut front line f = IsFaultUpTo (line ++ []) front f
+HasFault front_end.LongLine front line f = IsFaultOf front f ⊎ (f.fault ≡ fault.Line)
+HasFault (front_end.AtFault g) front line f = f ≡ g
+
+abbrev pub IsFrontFault : Opening → ReplayFault → Type 0
+IsFrontFault o e = (e ≡ replay_fault.Memory) ⊎ ((f : LineFault) × (e ≡ replay_fault.Line f) × HasFault o.end o.front.items o.line.items f)

@@ -1,7 +1,7 @@
 -- What is printed of the lines that came: what each of them changed.
 use Rattle.std.specs.Prelude.{ℕ, ◌≡◌, ◌≢◌, ◌-◌, ◌+◌, ◌⊎◌, ◌++◌, false, List, [], length, Option, map, take}
 use Rattle.std.specs.Io.KnownBytes.{Appends, IsAtEnd}
-use Rattle.ospf_types.specs.declared.prefix.Prefix.{Prefix}
+use Rattle.changes.specs.declared.telling.Wanted.{Wanted}
 use Rattle.event_core.specs.Cores.{CoreValue}
 use Rattle.line_reader.specs.Shortened.{shortened}
 use Rattle.line_reader.specs.Tails.{HasNoLineFeed}
@@ -20,8 +20,8 @@ use Rattle.changes.specs.Streams.{AllSay, AreTaken, ComesFrom, IsFaultOfFront, I
 use Rattle.changes.specs.declared.telling.Telling.{Telling}
 
 -- what the base gives is told at its last line
-abbrev pub base_lines : Option Prefix → RecordingValue → CoreValue → List ℕ
-base_lines only r opened = lines_of (first_number r.version r.base - 1) only (all_of opened)
+abbrev pub base_lines : Wanted → RecordingValue → CoreValue → List ℕ
+base_lines wanted r opened = lines_of (first_number r.version r.base - 1) wanted (all_of opened)
 
 -- The text tells what the base of the recording gives, and then what came of each of its lines and of those behind them. From nothing on, the changes give
 -- table and due summaries behind each line.
@@ -32,8 +32,8 @@ pub record IsTelling (t : Telling) (r : RecordingValue) (taken : List Taken) (te
   pub told : List ℕ
   pub after : List Change
   pub closed : CoreValue
-  pub run : TellsLines t.only t.answers opened (first_number r.version r.base) (map Says r.lines ++ taken) (all_of opened) told after closed
-  pub is : text ≡ base_lines t.only r opened ++ told
+  pub run : TellsLines t.wanted t.answers opened (first_number r.version r.base) (map Says r.lines ++ taken) (all_of opened) told after closed
+  pub is : text ≡ base_lines t.wanted r opened ++ told
 
 -- The bytes are the text of a recording, and behind it lines that were taken. Where none may be skipped, none of them is at fault, and all is the text of one.
 pub record AreBytes (t : Telling) (bytes : List ℕ) (r : RecordingValue) (taken : List Taken) : Type 0 where

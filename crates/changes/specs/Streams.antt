@@ -40,15 +40,16 @@ pub record ComesFrom (before after : Option (List ℕ)) (bytes : List ℕ) : Typ
   pub ahead : List ℕ
   pub read : Consumes before after (bytes ++ ahead)
 
--- the bytes have a line that is too long to be read whole
-pub record HasLongLine (bytes : List ℕ) : Type 0 where
+-- The bytes have a line that is too long to be read whole, and the fault is one of the text with that line cut short, or that the line has no form.
+pub record IsLongFault (bytes : List ℕ) (f : LineFault) : Type 0 where
   pub before : List ℕ
   pub raw : List ℕ
   pub after : List ℕ
   pub joined : bytes ≡ before ++ (raw ++ after)
   pub line : HasNoLineFeed raw
   pub long : LONGEST ≤ length raw
+  pub is : IsFaultOf (before ++ (shortened raw ++ after)) f ⊎ (f.fault ≡ fault.Line)
 
--- the fault of the lines up to the first that is none of the front
+-- the fault is one of the lines up to the first that is none of the front
 abbrev pub IsFaultOfFront : List ℕ → LineFault → Type 0
-IsFaultOfFront bytes f = IsFaultOf bytes f ⊎ HasLongLine bytes
+IsFaultOfFront bytes f = IsFaultOf bytes f ⊎ IsLongFault bytes f

@@ -9,14 +9,16 @@ ghost use Rattle.changes.specs.Lines.{Change, lines_of};
 ghost use Rattle.changes.specs.Runs.{Fails, MayRoll, Says, StopsAtTaken, ToldTaken};
 ghost use Rattle.changes.specs.Streams.{IsReadAs};
 ghost use Rattle.changes.specs.Begun.{Closes};
-ghost use Rattle.changes.specs.Following.{Ends, StopsIn, StopsTaking, Takes, Tells};
+ghost use Rattle.changes.specs.Following.{Ends, EndsBehind, StopsBehind, StopsIn, StopsTaking, Takes, Tells};
+ghost use Rattle.replay.specs.Advance.{IsProgress};
 
 use crate::lines::{Place, put_fault};
+use crate::opening::FrontEnd;
 use crate::running::tell_line;
 use event_core::Core;
 use line_reader::{LONGEST, LineReader, Next, ReadFault};
 use recording::{Fault, Line, LineFault, Version, read_line};
-use replay::{CannotWrite, ReplayFault, Stop, fault_of, spill, write_page};
+use replay::{CannotWrite, Progress, ReplayFault, Stop, fault_of, spill, write_page};
 use std::alloc::Global;
 use std::io;
 
@@ -33,6 +35,8 @@ pub(crate) struct Run {
     pub(crate) at: Place,
     /// Whether a line at fault is told of and skipped.
     pub(crate) skips: bool,
+    /// How much is done, where that is shown.
+    pub(crate) progress: Progress,
     /// What is not yet written of what was told.
     pub(crate) page: String,
     /// The line that came, and the bytes of its LSA.
@@ -52,12 +56,46 @@ pub(crate) enum End {
 }
 
 impl Run {
-    /// Takes lines for as long as any come, and prints what is told of each.
-    pub(crate) fn follow<R: io::Read, W: io::Write>(
+    /// Takes the line that ended the front, if there is one, and then lines for as long as any come. What is told of each is
+    /// printed.
+    pub(crate) fn go_on<R: io::Read, W: io::Write, F: io::Write>(
+        &mut self,
+        front: FrontEnd,
+        lines: &mut LineReader,
+        input: &mut R,
+        out: &mut W,
+        faults: &mut F,
+    ) -> Result<End, Stop>
+        requires kept { IsCore self.old.core }
+        requires current { IsCurrent self.old.core }
+        ensures ok { IfOk result (λ end. EndsBehind front end self.old self.new lines.old
+            (R.remaining input.old) (R.remaining input.new) (W.contents out.old)
+            (W.contents out.new)) }
+        ensures err { AreWhole (string_bytes self.old.page) → IfErr result (λ why.
+            StopsBehind front why self.old lines.old (R.remaining input.old)
+            (R.remaining input.new) (W.contents out.old) (W.contents out.new)) }
+        ensures progress { IsProgress self.old.progress (F.contents faults.old)
+            (F.contents faults.new) }
+    {
+        match front {
+            FrontEnd::Line => {
+                if let Some(fault) = self.take(out)? {
+                    return Ok(End::AtFault(fault));
+                }
+                self.follow(lines, input, out, faults)
+            }
+            FrontEnd::Cut => Ok(End::AtFault(Fault::Truncated)),
+            FrontEnd::Over | FrontEnd::LongLine | FrontEnd::AtFault(_) => Ok(End::Over),
+        }
+    }
+
+    // Takes lines for as long as any come, and prints what is told of each.
+    fn follow<R: io::Read, W: io::Write, F: io::Write>(
         &mut self,
         lines: &mut LineReader,
         input: &mut R,
         out: &mut W,
+        faults: &mut F,
     ) -> Result<End, Stop>
         requires kept { IsCore self.old.core }
         requires current { IsCurrent self.old.core }
@@ -68,8 +106,12 @@ impl Run {
             → AreWhole (string_bytes self.old.page) → IfErr result (λ why.
             StopsIn why before self.old lines.old (R.remaining input.old)
             (R.remaining input.new) (W.contents out.old) (W.contents out.new)) }
+        ensures progress { IsProgress self.old.progress (F.contents faults.old)
+            (F.contents faults.new) }
     {
         for _ in 0..usize::MAX {
+            let done = self.at.number.saturating_sub(1);
+            self.progress.show(self.alloc, done, faults);
             match lines.next(input, &mut self.line) {
                 Ok(Next::Line) => {}
                 Ok(Next::Cut) => return Ok(End::AtFault(Fault::Truncated)),
@@ -193,12 +235,12 @@ fn tell_next<W: io::Write>(
     page: &mut String,
 ) -> Result<(), Stop>
     requires current { IsCurrent core.old }
-    ensures ok { OnOk result (ToldTaken at.now.only at.now.answers core.old at.now.number (Says line)
+    ensures ok { OnOk result (ToldTaken at.now.wanted at.now.answers core.old at.now.number (Says line)
         core.new (W.contents out.old) (W.contents out.new) (string_bytes page.old)
         (string_bytes page.new)) }
     ensures kept { OnOk result (IsCore core.new) }
     ensures err { AreWhole (string_bytes page.old) → IfErr result (λ why.
-        StopsAtTaken why at.now.only at.now.answers core.old at.now.number (Says line) core.new
+        StopsAtTaken why at.now.wanted at.now.answers core.old at.now.number (Says line) core.new
         (W.contents out.old) (W.contents out.new) (string_bytes page.old)) }
 {
     shorten_journal(core);
@@ -227,12 +269,12 @@ fn tell_fault<W: io::Write>(
     page: &mut String,
 ) -> Result<(), Stop>
     ensures ok { OnOk result (Adds (W.contents out.old) (W.contents out.new) (string_bytes page.old)
-        (string_bytes page.new) (lines_of at.now.number at.now.only (told.AtFault fault ∷ []))) }
+        (string_bytes page.new) (lines_of at.now.number at.now.wanted (told.AtFault fault ∷ []))) }
     ensures err { AreWhole (string_bytes page.old) → IfErr result (λ why.
         AddsPart why (W.contents out.old) (W.contents out.new) (string_bytes page.old
-        ++ lines_of at.now.number at.now.only (told.AtFault fault ∷ []))) }
+        ++ lines_of at.now.number at.now.wanted (told.AtFault fault ∷ []))) }
 {
-    put_fault(at.number, fault, page)?;
+    put_fault(at, fault, page)?;
     spill(out, page)?;
     Ok(())
 }

@@ -7,5 +7,6 @@ mod opening;
 mod running;
 mod showing;
 mod telling;
+mod words;
 
-pub use telling::{Telling, tell_changes};
+pub use telling::{Telling, Wanted, tell_changes};

@@ -1,26 +1,25 @@
-//! The lines that tell what changed, and what came of a line that changed nothing, each appended to a text. If memory runs out,
-//! the text may have a part of the line.
+//! The lines that tell what changed, and what came of a line that changed nothing, in words or as JSON. Each is appended to a
+//! text. If memory runs out, the text may have a part of the line.
 ghost use Rattle.std.specs.Prelude.{◌≡◌, ◌++◌, OnOk, option_map, string_bytes};
-ghost use Rattle.summary_lists.specs.Lists.{kind_of};
 ghost use Rattle.changes.specs.Lines as told;
 ghost use Rattle.changes.specs.Lines.{change_line, line_of};
 ghost use Rattle.changes.specs.Changes.{change_to, due_change};
 
+use crate::telling::Wanted;
+use crate::words;
 use event_core::{DueSummary, Refusal};
-use ospf_types::address::Address;
 use ospf_types::key::Dest;
 use ospf_types::memory::Memory;
 use ospf_types::prefix::Prefix;
-use recording::Fault;
-use replay::put_dest;
+use output_format::Format;
+use recording::{Fault, LineFault};
 use route_table::Item;
 
 /// The number of the line in its recording, and what is told of it.
 #[derive(Clone, Copy)]
 pub(crate) struct Place {
     pub(crate) number: usize,
-    /// The one network that is asked for, where not all are.
-    pub(crate) only: Option<Prefix>,
+    pub(crate) wanted: Wanted,
     /// Whether it is told what came of a line that changed nothing: a look-up, and what was refused.
     pub(crate) answers: bool,
 }
@@ -33,34 +32,35 @@ pub(crate) fn put_network(
     text: &mut String,
 ) -> Result<(), Memory>
     ensures { OnOk result (string_bytes text.new ≡ string_bytes text.old
-        ++ line_of at.now.number at.now.only (change_to prefix (option_map (λ i. i.now) item.entry))) }
+        ++ line_of at.now.number at.now.wanted (change_to prefix (option_map (λ i. i.now) item.entry))) }
 {
-    if !is_asked(at.only, prefix) {
+    if !is_asked(at.wanted.only, prefix) {
         return Ok(());
     }
     match item {
-        Some(item) => put_set(at.number, prefix, item, text),
-        None => put_drop(at.number, prefix, text),
+        Some(item) => put_set(at, prefix, item, text),
+        None => put_drop(at, prefix, text),
     }
 }
 
-fn put_set(number: usize, prefix: Prefix, item: &Item, text: &mut String) -> Result<(), Memory>
+fn put_set(at: &Place, prefix: Prefix, item: &Item, text: &mut String) -> Result<(), Memory>
     ensures { OnOk result (string_bytes text.new ≡ string_bytes text.old
-        ++ change_line number (told.Set prefix item.now)) }
+        ++ change_line at.now.wanted.format at.now.number (told.Set prefix item.now)) }
 {
-    match item {
-        Item::Route(entry) => writeln!(text, "{number} set {prefix} {entry}")?,
-        Item::Discard => writeln!(text, "{number} set {prefix} discard")?,
+    match at.wanted.format {
+        Format::Text => words::put_set(at.number, prefix, item, text),
+        Format::Json => json_lines::put_set(at.number, prefix, item, text),
     }
-    Ok(())
 }
 
-fn put_drop(number: usize, prefix: Prefix, text: &mut String) -> Result<(), Memory>
+fn put_drop(at: &Place, prefix: Prefix, text: &mut String) -> Result<(), Memory>
     ensures { OnOk result (string_bytes text.new ≡ string_bytes text.old
-        ++ change_line number (told.Drop prefix)) }
+        ++ change_line at.now.wanted.format at.now.number (told.Drop prefix)) }
 {
-    writeln!(text, "{number} drop {prefix}")?;
-    Ok(())
+    match at.wanted.format {
+        Format::Text => words::put_drop(at.number, prefix, text),
+        Format::Json => json_lines::put_drop(at.number, prefix, text),
+    }
 }
 
 /// The metric at which a destination is due in the area now, or that it is due no longer; nothing where another network is
@@ -72,58 +72,61 @@ pub(crate) fn put_summary(
     text: &mut String,
 ) -> Result<(), Memory>
     ensures { OnOk result (string_bytes text.new ≡ string_bytes text.old
-        ++ line_of at.now.number at.now.only (due_change area change)) }
+        ++ line_of at.now.number at.now.wanted (due_change area change)) }
 {
-    if !is_dest_asked(at.only, &change.0) {
+    if !is_dest_asked(at.wanted.only, &change.0) {
         return Ok(());
     }
     match change.1 {
-        Some(metric) => put_due(at.number, area, DueSummary::of(change.0, metric), text),
-        None => put_undue(at.number, area, DueSummary::of(change.0, 0), text),
+        Some(metric) => put_due(at, area, change.0, metric, text),
+        None => put_undue(at, area, change.0, text),
     }
 }
 
-fn put_due(number: usize, area: u32, due: DueSummary, text: &mut String) -> Result<(), Memory>
-    requires { due.kind ≡ kind_of due.dest }
+fn put_due(at: &Place, area: u32, dest: Dest, metric: u32, text: &mut String) -> Result<(), Memory>
     ensures { OnOk result (string_bytes text.new ≡ string_bytes text.old
-        ++ change_line number (told.Due area due.dest due.metric)) }
+        ++ change_line at.now.wanted.format at.now.number (told.Due area dest metric)) }
 {
-    let (area, kind, metric) = (Address(area), due.kind, due.metric);
-    write!(text, "{number} due {area} {kind} ")?;
-    put_dest(due.dest, text)?;
-    writeln!(text, " {metric}")?;
-    Ok(())
+    let due = DueSummary::of(dest, metric);
+    match at.wanted.format {
+        Format::Text => words::put_due(at.number, area, due, text),
+        Format::Json => json_lines::put_due(at.number, area, due, text),
+    }
 }
 
-// The metric is not printed.
-fn put_undue(number: usize, area: u32, due: DueSummary, text: &mut String) -> Result<(), Memory>
-    requires { due.kind ≡ kind_of due.dest }
+fn put_undue(at: &Place, area: u32, dest: Dest, text: &mut String) -> Result<(), Memory>
     ensures { OnOk result (string_bytes text.new ≡ string_bytes text.old
-        ++ change_line number (told.Undue area due.dest)) }
+        ++ change_line at.now.wanted.format at.now.number (told.Undue area dest)) }
 {
-    let (area, kind) = (Address(area), due.kind);
-    write!(text, "{number} undue {area} {kind} ")?;
-    put_dest(due.dest, text)?;
-    text.push_str("\n")?;
-    Ok(())
+    match at.wanted.format {
+        Format::Text => words::put_undue(at.number, area, DueSummary::of(dest, 0), text),
+        Format::Json => json_lines::put_undue(at.number, area, dest, text),
+    }
 }
 
 /// The event, or the roll, was refused.
-pub(crate) fn put_refused(number: usize, refusal: Refusal, text: &mut String) -> Result<(), Memory>
+pub(crate) fn put_refused(at: &Place, refusal: Refusal, text: &mut String) -> Result<(), Memory>
     ensures { OnOk result (string_bytes text.new ≡ string_bytes text.old
-        ++ change_line number (told.Refused refusal)) }
+        ++ change_line at.now.wanted.format at.now.number (told.Refused refusal)) }
 {
-    writeln!(text, "{number} refused {refusal}")?;
-    Ok(())
+    match at.wanted.format {
+        Format::Text => words::put_refused(at.number, refusal, text),
+        Format::Json => json_lines::put_refused(at.number, refusal, text),
+    }
 }
 
 /// The line is at fault.
-pub(crate) fn put_fault(number: usize, fault: Fault, text: &mut String) -> Result<(), Memory>
+pub(crate) fn put_fault(at: &Place, fault: Fault, text: &mut String) -> Result<(), Memory>
     ensures { OnOk result (string_bytes text.new ≡ string_bytes text.old
-        ++ change_line number (told.AtFault fault)) }
+        ++ change_line at.now.wanted.format at.now.number (told.AtFault fault)) }
 {
-    writeln!(text, "{number} fault {fault}")?;
-    Ok(())
+    match at.wanted.format {
+        Format::Text => words::put_fault(at.number, fault, text),
+        Format::Json => {
+            let line = at.number;
+            json_lines::put_fault(LineFault { line, fault }, text)
+        }
+    }
 }
 
 // Whether the network is asked for.

@@ -28,13 +28,13 @@ pub(crate) fn tell_lines<W: io::Write>(
     requires kept { IsCore core.old }
     requires current { IsCurrent core.old }
     requires few { from.number + length lines.items < 2 ^ 64 }
-    ensures ok { OnOk result (Told from.only from.answers core.old from.number
+    ensures ok { OnOk result (Told from.wanted from.answers core.old from.number
         (map Says lines.items) (all_of core.old) core.new (W.contents out.old) (W.contents out.new)
         (string_bytes page.old) (string_bytes page.new)) }
     ensures kept { OnOk result (IsCore core.new) }
     ensures current { OnOk result (IsCurrent core.new) }
     ensures err { AreWhole (string_bytes page.old) → IfErr result (λ why. (count : ℕ)
-        × ToldPart why from.only from.answers core.old from.number
+        × ToldPart why from.wanted from.answers core.old from.number
         (map Says (take count lines.items)) (all_of core.old) (W.contents out.old)
         (W.contents out.new) (string_bytes page.old)) }
 {
@@ -55,12 +55,12 @@ pub(crate) fn tell_line<W: io::Write>(
     page: &mut String,
 ) -> Result<(), Stop>
     requires current { IsCurrent core.old }
-    ensures ok { OnOk result (ToldLine at.now.only at.now.answers core.old at.now.number line
+    ensures ok { OnOk result (ToldLine at.now.wanted at.now.answers core.old at.now.number line
         core.new (W.contents out.old) (W.contents out.new) (string_bytes page.old)
         (string_bytes page.new)) }
     ensures kept { OnOk result (IsCore core.new) }
     ensures err { AreWhole (string_bytes page.old) → IfErr result (λ why.
-        StopsAtLine why at.now.only at.now.answers core.old at.now.number line core.new
+        StopsAtLine why at.now.wanted at.now.answers core.old at.now.number line core.new
         (W.contents out.old) (W.contents out.new) (string_bytes page.old)) }
 {
     match line {
@@ -82,11 +82,11 @@ fn tell_event<W: io::Write>(
     page: &mut String,
 ) -> Result<(), Stop>
     requires current { IsCurrent core.old }
-    ensures ok { OnOk result (ToldLine at.now.only at.now.answers core.old at.now.number
+    ensures ok { OnOk result (ToldLine at.now.wanted at.now.answers core.old at.now.number
         (line_is.Event event) core.new (W.contents out.old) (W.contents out.new)
         (string_bytes page.old) (string_bytes page.new)) }
     ensures err { AreWhole (string_bytes page.old) → IfErr result (λ why.
-        StopsAtLine why at.now.only at.now.answers core.old at.now.number (line_is.Event event)
+        StopsAtLine why at.now.wanted at.now.answers core.old at.now.number (line_is.Event event)
         core.new (W.contents out.old) (W.contents out.new) (string_bytes page.old)) }
 {
     let reply = match core.apply(event) {
@@ -109,17 +109,17 @@ fn tell_lookup<W: io::Write>(
     out: &mut W,
     page: &mut String,
 ) -> Result<(), Stop>
-    ensures ok { OnOk result (ToldLine at.now.only at.now.answers core.now at.now.number
+    ensures ok { OnOk result (ToldLine at.now.wanted at.now.answers core.now at.now.number
         (line_is.Lookup address) core.now (W.contents out.old) (W.contents out.new)
         (string_bytes page.old) (string_bytes page.new)) }
     ensures err { AreWhole (string_bytes page.old) → IfErr result (λ why.
-        StopsAtLine why at.now.only at.now.answers core.now at.now.number (line_is.Lookup address)
+        StopsAtLine why at.now.wanted at.now.answers core.now at.now.number (line_is.Lookup address)
         core.now (W.contents out.old) (W.contents out.new) (string_bytes page.old)) }
 {
     if !at.answers {
         return Ok(());
     }
-    put_lookup(at.number, address, core.table(), page)?;
+    put_lookup(at.wanted.format, at.number, address, core.table(), page)?;
     spill(out, page)?;
     Ok(())
 }
@@ -131,11 +131,11 @@ fn tell_roll<W: io::Write>(
     out: &mut W,
     page: &mut String,
 ) -> Result<(), Stop>
-    ensures ok { OnOk result (ToldLine at.now.only at.now.answers core.old at.now.number
+    ensures ok { OnOk result (ToldLine at.now.wanted at.now.answers core.old at.now.number
         line_is.Roll core.new (W.contents out.old) (W.contents out.new) (string_bytes page.old)
         (string_bytes page.new)) }
     ensures err { AreWhole (string_bytes page.old) → IfErr result (λ why.
-        StopsAtLine why at.now.only at.now.answers core.old at.now.number line_is.Roll core.new
+        StopsAtLine why at.now.wanted at.now.answers core.old at.now.number line_is.Roll core.new
         (W.contents out.old) (W.contents out.new) (string_bytes page.old)) }
 {
     match core.roll() {
@@ -153,15 +153,15 @@ fn tell_refused<W: io::Write>(
 ) -> Result<(), Stop>
     ensures ok { OnOk result (Adds (W.contents out.old) (W.contents out.new) (string_bytes page.old)
         (string_bytes page.new)
-        (lines_of at.now.number at.now.only (answered at.now.answers (told.Refused refusal)))) }
+        (lines_of at.now.number at.now.wanted (answered at.now.answers (told.Refused refusal)))) }
     ensures err { AreWhole (string_bytes page.old) → IfErr result (λ why.
         AddsPart why (W.contents out.old) (W.contents out.new) (string_bytes page.old
-        ++ lines_of at.now.number at.now.only (answered at.now.answers (told.Refused refusal)))) }
+        ++ lines_of at.now.number at.now.wanted (answered at.now.answers (told.Refused refusal)))) }
 {
     if !at.answers {
         return Ok(());
     }
-    put_refused(at.number, refusal, page)?;
+    put_refused(at, refusal, page)?;
     spill(out, page)?;
     Ok(())
 }

@@ -24,10 +24,10 @@ pub(crate) fn show_all<W: io::Write>(
     page: &mut String,
 ) -> Result<(), Stop>
     ensures ok { OnOk result (Adds (W.contents out.old) (W.contents out.new) (string_bytes page.old)
-        (string_bytes page.new) (lines_of at.now.number at.now.only (all_of core.now))) }
+        (string_bytes page.new) (lines_of at.now.number at.now.wanted (all_of core.now))) }
     ensures err { AreWhole (string_bytes page.old) → IfErr result (λ why.
         AddsPart why (W.contents out.old) (W.contents out.new)
-        (string_bytes page.old ++ lines_of at.now.number at.now.only (all_of core.now))) }
+        (string_bytes page.old ++ lines_of at.now.number at.now.wanted (all_of core.now))) }
 {
     show_items(core.table(), at, out, page)?;
     show_summaries(core.summaries(), at, out, page)?;
@@ -43,10 +43,10 @@ fn show_items<W: io::Write>(
 ) -> Result<(), Stop>
     ensures ok { OnOk result (Adds (W.contents out.old) (W.contents out.new) (string_bytes page.old)
         (string_bytes page.new)
-        (lines_of at.now.number at.now.only (map item_set (entries table.now.items)))) }
+        (lines_of at.now.number at.now.wanted (map item_set (entries table.now.items)))) }
     ensures err { AreWhole (string_bytes page.old) → IfErr result (λ why.
         AddsPart why (W.contents out.old) (W.contents out.new) (string_bytes page.old
-        ++ lines_of at.now.number at.now.only (map item_set (entries table.now.items)))) }
+        ++ lines_of at.now.number at.now.wanted (map item_set (entries table.now.items)))) }
 {
     for (prefix, item) in table.items() {
         put_network(at, prefix, Some(item), page)?;
@@ -64,10 +64,10 @@ fn show_summaries<W: io::Write>(
 ) -> Result<(), Stop>
     ensures ok { OnOk result (Adds (W.contents out.old) (W.contents out.new) (string_bytes page.old)
         (string_bytes page.new)
-        (lines_of at.now.number at.now.only (flat_map area_due (lists_of summaries.now)))) }
+        (lines_of at.now.number at.now.wanted (flat_map area_due (lists_of summaries.now)))) }
     ensures err { AreWhole (string_bytes page.old) → IfErr result (λ why.
         AddsPart why (W.contents out.old) (W.contents out.new) (string_bytes page.old
-        ++ lines_of at.now.number at.now.only (flat_map area_due (lists_of summaries.now)))) }
+        ++ lines_of at.now.number at.now.wanted (flat_map area_due (lists_of summaries.now)))) }
 {
     for area in summaries.areas() {
         show_area(area.area(), area.as_slice(), at, out, page)?;
@@ -84,10 +84,10 @@ fn show_area<W: io::Write>(
     page: &mut String,
 ) -> Result<(), Stop>
     ensures ok { OnOk result (Adds (W.contents out.old) (W.contents out.new) (string_bytes page.old)
-        (string_bytes page.new) (lines_of at.now.number at.now.only (area_due (area, list.now)))) }
+        (string_bytes page.new) (lines_of at.now.number at.now.wanted (area_due (area, list.now)))) }
     ensures err { AreWhole (string_bytes page.old) → IfErr result (λ why.
         AddsPart why (W.contents out.old) (W.contents out.new)
-        (string_bytes page.old ++ lines_of at.now.number at.now.only (area_due (area, list.now)))) }
+        (string_bytes page.old ++ lines_of at.now.number at.now.wanted (area_due (area, list.now)))) }
 {
     for &due in list {
         put_summary(at, area, (due.dest, Some(due.metric)), page)?;
@@ -104,12 +104,12 @@ pub(crate) fn show_changes<W: io::Write>(
     page: &mut String,
 ) -> Result<(), Stop>
     ensures ok { OnOk result (Adds (W.contents out.old) (W.contents out.new) (string_bytes page.old)
-        (string_bytes page.new) (lines_of at.now.number at.now.only
+        (string_bytes page.new) (lines_of at.now.number at.now.wanted
         (map (network_change core.now.table.items) core.now.changes
         ++ flat_map area_changes core.now.due_changes))) }
     ensures err { AreWhole (string_bytes page.old) → IfErr result (λ why.
         AddsPart why (W.contents out.old) (W.contents out.new) (string_bytes page.old
-        ++ lines_of at.now.number at.now.only (map (network_change core.now.table.items) core.now.changes
+        ++ lines_of at.now.number at.now.wanted (map (network_change core.now.table.items) core.now.changes
         ++ flat_map area_changes core.now.due_changes))) }
 {
     show_networks(core.changes(), core.table(), at, out, page)?;
@@ -127,10 +127,10 @@ fn show_networks<W: io::Write>(
 ) -> Result<(), Stop>
     ensures ok { OnOk result (Adds (W.contents out.old) (W.contents out.new) (string_bytes page.old)
         (string_bytes page.new)
-        (lines_of at.now.number at.now.only (map (network_change table.now.items) networks.now))) }
+        (lines_of at.now.number at.now.wanted (map (network_change table.now.items) networks.now))) }
     ensures err { AreWhole (string_bytes page.old) → IfErr result (λ why.
         AddsPart why (W.contents out.old) (W.contents out.new) (string_bytes page.old
-        ++ lines_of at.now.number at.now.only (map (network_change table.now.items) networks.now))) }
+        ++ lines_of at.now.number at.now.wanted (map (network_change table.now.items) networks.now))) }
 {
     for &prefix in networks {
         put_network(at, prefix, table.get(prefix), page)?;
@@ -148,10 +148,10 @@ fn show_due_changes<W: io::Write>(
 ) -> Result<(), Stop>
     ensures ok { OnOk result (Adds (W.contents out.old) (W.contents out.new) (string_bytes page.old)
         (string_bytes page.new)
-        (lines_of at.now.number at.now.only (flat_map area_changes changes.now))) }
+        (lines_of at.now.number at.now.wanted (flat_map area_changes changes.now))) }
     ensures err { AreWhole (string_bytes page.old) → IfErr result (λ why.
         AddsPart why (W.contents out.old) (W.contents out.new) (string_bytes page.old
-        ++ lines_of at.now.number at.now.only (flat_map area_changes changes.now))) }
+        ++ lines_of at.now.number at.now.wanted (flat_map area_changes changes.now))) }
 {
     for place in 0..changes.areas() {
         let Some((area, metrics)) = changes.at(place) else {
@@ -171,10 +171,10 @@ fn show_metrics<W: io::Write>(
     page: &mut String,
 ) -> Result<(), Stop>
     ensures ok { OnOk result (Adds (W.contents out.old) (W.contents out.new) (string_bytes page.old)
-        (string_bytes page.new) (lines_of at.now.number at.now.only (area_changes (area, metrics.now)))) }
+        (string_bytes page.new) (lines_of at.now.number at.now.wanted (area_changes (area, metrics.now)))) }
     ensures err { AreWhole (string_bytes page.old) → IfErr result (λ why.
         AddsPart why (W.contents out.old) (W.contents out.new)
-        (string_bytes page.old ++ lines_of at.now.number at.now.only (area_changes (area, metrics.now)))) }
+        (string_bytes page.old ++ lines_of at.now.number at.now.wanted (area_changes (area, metrics.now)))) }
 {
     for &change in metrics {
         put_summary(at, area, change, page)?;

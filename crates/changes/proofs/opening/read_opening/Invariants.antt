@@ -6,5 +6,5 @@ use Rattle.changes.proofs.opening.read_opening.Given as goal
 abbrev pub invariant-loop : goal.invariant-loop
 invariant-loop g l = record {
   front : l.opening.end ≡ front_end.Over;
-  read : Takes l.initial.lines (g.R.Read.remaining l.initial.input) l.lines (g.R.Read.remaining l.input) l.opening.text.items;
+  read : Takes l.initial.lines (g.R.Read.remaining l.initial.input) l.lines (g.R.Read.remaining l.input) l.opening.front.items;
 }

@@ -6,7 +6,7 @@ use Rattle.changes.proofs.RunSteps.{asked_line, asked_stop, telling_none, tellin
 use Rattle.changes.proofs.running.tell_lines.Goals as goal
 
 pub loop-line-init : goal.loop-line-init
-loop-line-init g c = record { only = refl; answers = refl; told = telling_none _ _ _ _ _ _ _ _ _ c.requires.kept c.requires.current refl (sym c.into_iter-line-iterator.ensures.into_iter_gives.0) }
+loop-line-init g c = record { wanted = refl; answers = refl; told = telling_none _ _ _ _ _ _ _ _ _ c.requires.kept c.requires.current refl (sym c.into_iter-line-iterator.ensures.into_iter_gives.0) }
 
 pub tell_line-requires : goal.tell_line-requires
 tell_line-requires g c = record { current = c.loop-line.invariant.told.current }
@@ -18,18 +18,18 @@ overflow_add-at g c =
 
 pub loop-line-preserved : goal.loop-line-preserved
 loop-line-preserved g c = record {
-  only = c.loop-line.invariant.only;
+  wanted = c.loop-line.invariant.wanted;
   answers = c.loop-line.invariant.answers;
   told =
       telling_more _ _ _ _ _ _ _ _ _ _ _ _ _ _ _ _ _ c.loop-line.invariant.told c.in-Some.ensures.steps.0
-      (asked_line _ _ _ _ _ _ _ _ _ _ _ _ c.loop-line.invariant.only c.loop-line.invariant.answers c.in_ok-tell_line.ensures.ok) c.in_ok-tell_line.ensures.kept;
+      (asked_line _ _ _ _ _ _ _ _ _ _ _ _ c.loop-line.invariant.wanted c.loop-line.invariant.answers c.in_ok-tell_line.ensures.ok) c.in_ok-tell_line.ensures.kept;
 }
 
 pub returns-in_err-tell_line-clause-err : goal.returns-in_err-tell_line-clause-err
 returns-in_err-tell_line-clause-err g c =
     λ whole. err_as _ c.from_residual.result c.in_err-tell_line.field-0.0 c.from_residual.ensures.1
     (telling_stopped _ _ _ _ _ _ _ _ _ _ _ _ _ _ _ _ _ whole c.loop-line.invariant.told c.in-Some.ensures.steps.0
-    (asked_stop _ _ _ _ _ _ _ _ _ _ _ _ c.loop-line.invariant.only c.loop-line.invariant.answers (c.in_err-tell_line.ensures.err (telling_page _ _ _ _ _ _ _ _ _ _ _ _ c.loop-line.invariant.told whole))))
+    (asked_stop _ _ _ _ _ _ _ _ _ _ _ _ c.loop-line.invariant.wanted c.loop-line.invariant.answers (c.in_err-tell_line.ensures.err (telling_page _ _ _ _ _ _ _ _ _ _ _ _ c.loop-line.invariant.told whole))))
 
 pub returns-clause-ok : goal.returns-clause-ok
 returns-clause-ok g c =

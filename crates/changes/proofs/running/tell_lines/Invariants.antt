@@ -5,8 +5,8 @@ use Rattle.changes.proofs.running.tell_lines.Given as goal
 
 abbrev pub invariant-loop-line : goal.invariant-loop-line
 invariant-loop-line g l = record {
-  only : l.at.only ≡ l.fn.from.only;
+  wanted : l.at.wanted ≡ l.fn.from.wanted;
   answers : l.at.answers ≡ l.fn.from.answers;
-  told : Telling l.fn.from.only l.fn.from.answers l.initial.core l.fn.from.number l.fn.lines.items (into_iter_items l.line-iterator) l.at.number l.core (g.W.Write.contents l.initial.out) (g.W.Write.contents l.out)
+  told : Telling l.fn.from.wanted l.fn.from.answers l.initial.core l.fn.from.number l.fn.lines.items (into_iter_items l.line-iterator) l.at.number l.core (g.W.Write.contents l.initial.out) (g.W.Write.contents l.out)
       (string_bytes l.initial.page) (string_bytes l.page);
 }

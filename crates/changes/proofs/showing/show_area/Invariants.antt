@@ -8,4 +8,4 @@ use Rattle.changes.proofs.showing.show_area.Given as goal
 abbrev pub invariant-loop-due : goal.invariant-loop-due
 invariant-loop-due g l =
     Adding (g.W.Write.contents l.initial.out) (g.W.Write.contents l.out) (string_bytes l.initial.page) (string_bytes l.page)
-    (lines_of l.at.number l.at.only (area_due (l.area, l.list))) (flat_map (λ due. line_of l.at.number l.at.only (summary_due l.area due)) (drop l.due-index l.list))
+    (lines_of l.at.number l.at.wanted (area_due (l.area, l.list))) (flat_map (λ due. line_of l.at.number l.at.wanted (summary_due l.area due)) (drop l.due-index l.list))

@@ -14,7 +14,7 @@ returns-in_err-show_networks-clause-err g c =
     let all : List Change = map (network_change core.table.items) core.changes ++ due in
     let is : all ≡ named ++ due = λ i. map (network_change (sym c.table.ensures.value i).items) (sym c.changes.ensures i) ++ due in
     λ whole. err_as _ c.from_residual.result c.in_err-show_networks.field-0.0 c.from_residual.ensures.1
-    (first_cut c.args.at.now.number c.args.at.now.only named due all is _ _ _ _ (c.in_err-show_networks.ensures.err whole))
+    (first_cut c.args.at.now.number c.args.at.now.wanted named due all is _ _ _ _ (c.in_err-show_networks.ensures.err whole))
 
 pub returns-in_err-show_due_changes-clause-err : goal.returns-in_err-show_due_changes-clause-err
 returns-in_err-show_due_changes-clause-err g c =
@@ -24,7 +24,7 @@ returns-in_err-show_due_changes-clause-err g c =
     let all : List Change = map (network_change core.table.items) core.changes ++ flat_map area_changes core.due_changes in
     let is : all ≡ named ++ due = λ i. map (network_change (sym c.table.ensures.value i).items) (sym c.changes.ensures i) ++ flat_map area_changes (sym c.due_changes.ensures i) in
     λ whole. err_as _ c.from_residual-in_err-show_due_changes.result c.in_err-show_due_changes.field-0.0 c.from_residual-in_err-show_due_changes.ensures.1
-    (second_cut c.args.at.now.number c.args.at.now.only named due all is _ _ _ _ _ _ whole c.in_ok-show_networks.ensures.ok c.in_err-show_due_changes.ensures.err)
+    (second_cut c.args.at.now.number c.args.at.now.wanted named due all is _ _ _ _ _ _ whole c.in_ok-show_networks.ensures.ok c.in_err-show_due_changes.ensures.err)
 
 pub returns-clause-ok : goal.returns-clause-ok
 returns-clause-ok g c =
@@ -33,4 +33,4 @@ returns-clause-ok g c =
     let due : List Change = flat_map area_changes c.due_changes.result.now in
     let all : List Change = map (network_change core.table.items) core.changes ++ flat_map area_changes core.due_changes in
     let is : all ≡ named ++ due = λ i. map (network_change (sym c.table.ensures.value i).items) (sym c.changes.ensures i) ++ flat_map area_changes (sym c.due_changes.ensures i) in
-    both_shown c.args.at.now.number c.args.at.now.only named due all is _ _ _ _ _ _ c.in_ok-show_networks.ensures.ok c.in_ok-show_due_changes.ensures.ok
+    both_shown c.args.at.now.number c.args.at.now.wanted named due all is _ _ _ _ _ _ c.in_ok-show_networks.ensures.ok c.in_ok-show_due_changes.ensures.ok

@@ -16,33 +16,33 @@ loop-area-init g c = adding_none _ _ _ _ refl
 pub loop-area-preserved : goal.loop-area-preserved
 loop-area-preserved g c =
     let number = c.args.at.now.number in
-    let only = c.args.at.now.only in
+    let wanted = c.args.at.now.wanted in
     let w : AreaSummariesValue = c.area-item.result in
     let items : List AreaSummariesValue = c.areas-area-items.result.now in
     let i = c.loop-area.area-index in
-    let printed : lines_of number only (area_due (c.area.result, c.as_slice.result.now)) ≡ listed_in number only w = λ j. lines_of number only (area_due (c.area.ensures j, c.as_slice.ensures.value j)) in
-    let next = line_next (listed_in number only) items i w c.loop-area-test.true c.area-item.is ∙ ap (λ l. l ++ flat_map (listed_in number only) (drop (i + 1) items)) (sym printed) in
+    let printed : lines_of number wanted (area_due (c.area.result, c.as_slice.result.now)) ≡ listed_in number wanted w = λ j. lines_of number wanted (area_due (c.area.ensures j, c.as_slice.ensures.value j)) in
+    let next = line_next (listed_in number wanted) items i w c.loop-area-test.true c.area-item.is ∙ ap (λ l. l ++ flat_map (listed_in number wanted) (drop (i + 1) items)) (sym printed) in
     adding_lines _ _ _ _ _ _ _ _ _ _ c.loop-area.invariant next c.in_ok-show_area.ensures.ok
 
 pub returns-in_err-show_area-clause-err : goal.returns-in_err-show_area-clause-err
 returns-in_err-show_area-clause-err g c =
     let number = c.args.at.now.number in
-    let only = c.args.at.now.only in
+    let wanted = c.args.at.now.wanted in
     let w : AreaSummariesValue = c.area-item.result in
     let items : List AreaSummariesValue = c.areas-area-items.result.now in
     let i = c.loop-area.area-index in
-    let printed : lines_of number only (area_due (c.area.result, c.as_slice.result.now)) ≡ listed_in number only w = λ j. lines_of number only (area_due (c.area.ensures j, c.as_slice.ensures.value j)) in
-    let next = line_next (listed_in number only) items i w c.loop-area-test.true c.area-item.is ∙ ap (λ l. l ++ flat_map (listed_in number only) (drop (i + 1) items)) (sym printed) in
-    let all : all_listed number only items ≡ lines_of number only (flat_map area_due (listed c.args.summaries.now.areas)) =
-    listed_is number only items ∙ ap (λ (areas : List AreaSummariesValue). lines_of number only (flat_map area_due (listed areas))) c.areas-area-items.ensures in
+    let printed : lines_of number wanted (area_due (c.area.result, c.as_slice.result.now)) ≡ listed_in number wanted w = λ j. lines_of number wanted (area_due (c.area.ensures j, c.as_slice.ensures.value j)) in
+    let next = line_next (listed_in number wanted) items i w c.loop-area-test.true c.area-item.is ∙ ap (λ l. l ++ flat_map (listed_in number wanted) (drop (i + 1) items)) (sym printed) in
+    let all : all_listed number wanted items ≡ lines_of number wanted (flat_map area_due (listed c.args.summaries.now.areas)) =
+    listed_is number wanted items ∙ ap (λ (areas : List AreaSummariesValue). lines_of number wanted (flat_map area_due (listed areas))) c.areas-area-items.ensures in
     λ whole. err_as _ c.from_residual.result c.in_err-show_area.field-0.0 c.from_residual.ensures.1
     (adding_cut _ _ _ _ _ _ _ _ _ _ whole (adding_as _ _ _ _ _ _ _ c.loop-area.invariant all) next (c.in_err-show_area.ensures.err (adding_page _ _ _ _ _ _ c.loop-area.invariant whole)))
 
 pub returns-clause-ok : goal.returns-clause-ok
 returns-clause-ok g c =
     let number = c.args.at.now.number in
-    let only = c.args.at.now.only in
+    let wanted = c.args.at.now.wanted in
     let items : List AreaSummariesValue = c.areas-area-items.result.now in
-    let all : all_listed number only items ≡ lines_of number only (flat_map area_due (listed c.args.summaries.now.areas)) =
-    listed_is number only items ∙ ap (λ (areas : List AreaSummariesValue). lines_of number only (flat_map area_due (listed areas))) c.areas-area-items.ensures in
-    adding_whole _ _ _ _ _ _ (adding_as _ _ _ _ _ _ _ c.loop-area.invariant all) (ap (flat_map (listed_in number only)) (drop_all c.loop-area.area-index items c.loop-area-test.false))
+    let all : all_listed number wanted items ≡ lines_of number wanted (flat_map area_due (listed c.args.summaries.now.areas)) =
+    listed_is number wanted items ∙ ap (λ (areas : List AreaSummariesValue). lines_of number wanted (flat_map area_due (listed areas))) c.areas-area-items.ensures in
+    adding_whole _ _ _ _ _ _ (adding_as _ _ _ _ _ _ _ c.loop-area.invariant all) (ap (flat_map (listed_in number wanted)) (drop_all c.loop-area.area-index items c.loop-area-test.false))

@@ -16,16 +16,18 @@ returns-in_err-tell_next-clause-err g c =
     (stops_at _ c.args.self.now (Says c.in-Ok.line) _ _ _ reads (λ no. tt) whole (c.in_err-tell_next.ensures.err whole))
 
 pub returns-clause-ok : goal.returns-clause-ok
-returns-clause-ok g c = record {
-  same = record { version = refl; skips = refl; only = refl; answers = refl };
-  counted = refl;
-  taken = Says c.in-Ok.line;
-  reads = read_as _ _ _ (Says c.in-Ok.line) c.as_slice.ensures.value c.in-Ok.ensures.says;
-  said = λ no. tt;
-  told = c.in_ok-tell_next.ensures.ok;
-  core = c.in_ok-tell_next.ensures.kept;
-  current = current_taken c.args.self.now.at.answers c.in_ok-tell_next.ensures.ok.told c.args.self.now.core c.tell_next.new.core (Says c.in-Ok.line) c.requires.current c.in_ok-tell_next.ensures.ok.tells;
-}
+returns-clause-ok g c = (
+  record {
+    same = record { version = refl; skips = refl; progress = refl; wanted = refl; answers = refl };
+    taken = Says c.in-Ok.line;
+    reads = read_as _ _ _ (Says c.in-Ok.line) c.as_slice.ensures.value c.in-Ok.ensures.says;
+    said = λ no. tt;
+    told = c.in_ok-tell_next.ensures.ok;
+    core = c.in_ok-tell_next.ensures.kept;
+    current = current_taken c.args.self.now.at.answers c.in_ok-tell_next.ensures.ok.told c.args.self.now.core c.tell_next.new.core (Says c.in-Ok.line) c.requires.current c.in_ok-tell_next.ensures.ok.tells;
+  },
+  refl,
+)
 
 pub returns-in_err-tell_fault-in-Err : goal.returns-in_err-tell_fault-in-Err
 returns-in_err-tell_fault-in-Err g c =
@@ -40,15 +42,17 @@ returns-in_err-tell_fault-in-Err g c =
 
 pub returns-in-Err : goal.returns-in-Err
 returns-in-Err g c = record {
-  ok = record {
-    same = record { version = refl; skips = refl; only = refl; answers = refl };
-    counted = refl;
-    taken = Fails c.in-Err.fault;
-    reads = read_as _ _ _ (Fails c.in-Err.fault) c.as_slice.ensures.value c.in-Err.ensures.fails;
-    said = λ no. absurd (skipped _ c.if-not-self.false no);
-    told = fault_tells c.args.self.now c.in-Err.fault _ _ _ c.in_ok-tell_fault-in-Err.ensures.ok;
-    core = c.requires.kept;
-    current = c.requires.current;
-  };
+  ok = (
+    record {
+      same = record { version = refl; skips = refl; progress = refl; wanted = refl; answers = refl };
+      taken = Fails c.in-Err.fault;
+      reads = read_as _ _ _ (Fails c.in-Err.fault) c.as_slice.ensures.value c.in-Err.ensures.fails;
+      said = λ no. absurd (skipped _ c.if-not-self.false no);
+      told = fault_tells c.args.self.now c.in-Err.fault _ _ _ c.in_ok-tell_fault-in-Err.ensures.ok;
+      core = c.requires.kept;
+      current = c.requires.current;
+    },
+    refl,
+  );
   err = λ whole. tt;
 }
