@@ -3,6 +3,7 @@ use Rattle.std.proofs.Common.{◌≡◌, ℕ, ◌≤◌, ◌+◌, List, [], ◌�
 use Rattle.std.specs.Prelude.{Result}
 use Rattle.event_state.specs.declared.refusal.Refusal.{Refusal}
 use Rattle.route_table.specs.Tables.{TableValue}
+use Rattle.output_format.specs.declared.Format.{Format}
 use Rattle.engine.specs.Reply.{Reply}
 use Rattle.publication.specs.Names.{Name}
 use Rattle.engine_state.specs.Answers.{AreAnswered}
@@ -15,47 +16,47 @@ use Rattle.worker_replay.specs.Runs.{Answers, Prints, events_of, reply_of, rolle
 use Rattle.worker_replay.specs.Parts.{HasAllReplies, PrintsAll, AppendsAll, AppendsLine, asks_of}
 
 -- some of the lines are printed, and these are left
-pub record Printing (table : TableValue) (serial first : ℕ) (asks : List Ask) (replies : List (Result Reply Refusal)) (roll : Option (Result ℕ Refusal)) (old : List ℕ) (rest : List Ask) (left : List (Result Reply Refusal)) (number : ℕ) (now : List ℕ)
+pub record Printing (format : Format) (table : TableValue) (serial first : ℕ) (asks : List Ask) (replies : List (Result Reply Refusal)) (roll : Option (Result ℕ Refusal)) (old : List ℕ) (rest : List Ask) (left : List (Result Reply Refusal)) (number : ℕ) (now : List ℕ)
     : Type 0 where
   pub has : HasAllReplies rest left
   pub counted : number + length rest ≡ first + length asks
-  pub goes : (more : List ℕ) → PrintsAll table serial number rest left roll more → AppendsAll table serial first asks replies roll old (now ++ more)
+  pub goes : (more : List ℕ) → PrintsAll format table serial number rest left roll more → AppendsAll format table serial first asks replies roll old (now ++ more)
 
-module _ (table : TableValue) (serial first : ℕ) (asks : List Ask) (replies : List (Result Reply Refusal)) (roll : Option (Result ℕ Refusal)) (old : List ℕ) where
-  pub printing_none : (rest : List Ask) → asks ≡ rest → HasAllReplies asks replies → Printing table serial first asks replies roll old rest replies first old
+module _ (format : Format) (table : TableValue) (serial first : ℕ) (asks : List Ask) (replies : List (Result Reply Refusal)) (roll : Option (Result ℕ Refusal)) (old : List ℕ) where
+  pub printing_none : (rest : List Ask) → asks ≡ rest → HasAllReplies asks replies → Printing format table serial first asks replies roll old rest replies first old
   printing_none rest is has =
-      subst (λ r. Printing table serial first asks replies roll old r replies first old) is
+      subst (λ r. Printing format table serial first asks replies roll old r replies first old) is
       (record { has = has; counted = refl; goes = λ more prints. record { text = more; prints = prints; appended = refl } })
 
   -- a line more
-  more_line : (a : Ask) (rest : List Ask) (left less : List (Result Reply Refusal)) (number : ℕ) (now put : List ℕ) → Printing table serial first asks replies roll old (a ∷ rest) left number now
-      → AppendsLine table serial number a left less roll now put → Printing table serial first asks replies roll old rest less (number + 1) put
+  more_line : (a : Ask) (rest : List Ask) (left less : List (Result Reply Refusal)) (number : ℕ) (now put : List ℕ) → Printing format table serial first asks replies roll old (a ∷ rest) left number now
+      → AppendsLine format table serial number a left less roll now put → Printing format table serial first asks replies roll old rest less (number + 1) put
   more_line (ask.Lookup address) rest left less number now put h (found, matched, written, same) =
-      let line = lookup_line number address serial found in record {
+      let line = lookup_line format number address serial found in record {
         has = subst (HasAllReplies rest) (sym same) h.has;
         counted = omega (arith, h.counted);
-        goes = λ more prints. subst (AppendsAll table serial first asks replies roll old) (sym (append_assoc now line more) ∙ ap (λ w. w ++ more) (sym written))
-            (h.goes (line ++ more) (found, more, matched, refl, subst (λ (l : List (Result Reply Refusal)). PrintsAll table serial (number + 1) rest l roll more) same prints));
+        goes = λ more prints. subst (AppendsAll format table serial first asks replies roll old) (sym (append_assoc now line more) ∙ ap (λ w. w ++ more) (sym written))
+            (h.goes (line ++ more) (found, more, matched, refl, subst (λ (l : List (Result Reply Refusal)). PrintsAll format table serial (number + 1) rest l roll more) same prints));
       }
   more_line (ask.Roll last) rest left less number now put h (written, same) =
-      let line = rolled_line last number roll in record {
+      let line = rolled_line format last number roll in record {
         has = subst (HasAllReplies rest) (sym same) h.has;
         counted = omega (arith, h.counted);
-        goes = λ more prints. subst (AppendsAll table serial first asks replies roll old) (sym (append_assoc now line more) ∙ ap (λ w. w ++ more) (sym written))
-            (h.goes (line ++ more) (more, refl, subst (λ (l : List (Result Reply Refusal)). PrintsAll table serial (number + 1) rest l roll more) same prints));
+        goes = λ more prints. subst (AppendsAll format table serial first asks replies roll old) (sym (append_assoc now line more) ∙ ap (λ w. w ++ more) (sym written))
+            (h.goes (line ++ more) (more, refl, subst (λ (l : List (Result Reply Refusal)). PrintsAll format table serial (number + 1) rest l roll more) same prints));
       }
   more_line ask.Event rest left less number now put h (reply, is, written) =
-      let line = answer_line number reply in record {
+      let line = answer_line format number reply in record {
         has = subst (HasAllReplies (ask.Event ∷ rest)) is h.has;
         counted = omega (arith, h.counted);
-        goes = λ more prints. subst (AppendsAll table serial first asks replies roll old) (sym (append_assoc now line more) ∙ ap (λ w. w ++ more) (sym written))
-            (h.goes (line ++ more) (subst (λ (l : List (Result Reply Refusal)). PrintsAll table serial number (ask.Event ∷ rest) l roll (line ++ more)) (sym is) (more, refl, prints)));
+        goes = λ more prints. subst (AppendsAll format table serial first asks replies roll old) (sym (append_assoc now line more) ∙ ap (λ w. w ++ more) (sym written))
+            (h.goes (line ++ more) (subst (λ (l : List (Result Reply Refusal)). PrintsAll format table serial number (ask.Event ∷ rest) l roll (line ++ more)) (sym is) (more, refl, prints)));
       }
 
-  pub printing_more : (a : Ask) (rest more : List Ask) (left less : List (Result Reply Refusal)) (number : ℕ) (now put : List ℕ) → Printing table serial first asks replies roll old rest left number now
-      → rest ≡ a ∷ more → AppendsLine table serial number a left less roll now put → Printing table serial first asks replies roll old more less (number + 1) put
+  pub printing_more : (a : Ask) (rest more : List Ask) (left less : List (Result Reply Refusal)) (number : ℕ) (now put : List ℕ) → Printing format table serial first asks replies roll old rest left number now
+      → rest ≡ a ∷ more → AppendsLine format table serial number a left less roll now put → Printing format table serial first asks replies roll old more less (number + 1) put
   printing_more a rest more left less number now put h next appends =
-      more_line a more left less number now put (subst (λ (r : List Ask). Printing table serial first asks replies roll old r left number now) next h) appends
+      more_line a more left less number now put (subst (λ (r : List Ask). Printing format table serial first asks replies roll old r left number now) next h) appends
 
   -- the next line has its reply, and its number is not the last of all numbers
   one_of_all : (a : Ask) (rest : List Ask) (left : List (Result Reply Refusal)) → HasAllReplies (a ∷ rest) left → HasAllReplies (a ∷ []) left
@@ -64,18 +65,18 @@ module _ (table : TableValue) (serial first : ℕ) (asks : List Ask) (replies : 
   one_of_all ask.Event rest [] has = has
   one_of_all ask.Event rest (reply ∷ left) has = tt
 
-  pub printing_has : (a : Ask) (rest more : List Ask) (left : List (Result Reply Refusal)) (number : ℕ) (now : List ℕ) → Printing table serial first asks replies roll old rest left number now
+  pub printing_has : (a : Ask) (rest more : List Ask) (left : List (Result Reply Refusal)) (number : ℕ) (now : List ℕ) → Printing format table serial first asks replies roll old rest left number now
       → rest ≡ a ∷ more → HasAllReplies (a ∷ []) left
   printing_has a rest more left number now h next = one_of_all a more left (subst (λ (r : List Ask). HasAllReplies r left) next h.has)
 
-  pub printing_fits : (a : Ask) (rest more : List Ask) (left : List (Result Reply Refusal)) (number : ℕ) (now : List ℕ) → Printing table serial first asks replies roll old rest left number now
+  pub printing_fits : (a : Ask) (rest more : List Ask) (left : List (Result Reply Refusal)) (number : ℕ) (now : List ℕ) → Printing format table serial first asks replies roll old rest left number now
       → rest ≡ a ∷ more → number + 1 ≤ first + length asks
   printing_fits a rest more left number now h next = omega (arith, h.counted, ap length next)
 
-  pub printing_all : (rest : List Ask) (left : List (Result Reply Refusal)) (number : ℕ) (now : List ℕ) → Printing table serial first asks replies roll old rest left number now → rest ≡ []
-      → AppendsAll table serial first asks replies roll old now
+  pub printing_all : (rest : List Ask) (left : List (Result Reply Refusal)) (number : ℕ) (now : List ℕ) → Printing format table serial first asks replies roll old rest left number now → rest ≡ []
+      → AppendsAll format table serial first asks replies roll old now
   printing_all rest left number now h none =
-      subst (AppendsAll table serial first asks replies roll old) (append-nil now) (h.goes [] (subst (λ (r : List Ask). PrintsAll table serial number r left roll []) (sym none) refl))
+      subst (AppendsAll format table serial first asks replies roll old) (append-nil now) (h.goes [] (subst (λ (r : List Ask). PrintsAll format table serial number r left roll []) (sym none) refl))
 
 -- ---- the lines and their answers
 
@@ -87,12 +88,12 @@ has_replies name (line.Roll ∷ lines) answers h = has_replies name lines answer
 has_replies name (line.Event e ∷ lines) [] h = h
 has_replies name (line.Event e ∷ lines) (a ∷ answers) h = has_replies name lines answers h.1
 
-pub prints_lines : (name : Name) (table : TableValue) (serial number : ℕ) (lines : List Line) (answers : Answers) (roll : Option (Result ℕ Refusal)) (text : List ℕ) → AreAnswered name (events_of lines) answers
-    → PrintsAll table serial number (asks_of lines) (map reply_of answers) roll text → Prints table serial number lines answers roll text
-prints_lines name table serial number [] [] roll text h prints = prints
-prints_lines name table serial number [] (a ∷ answers) roll text h prints = h
-prints_lines name table serial number (line.Lookup address ∷ lines) answers roll text h (found, rest, matched, is, prints) =
-    (found, rest, matched, is, prints_lines name table serial (number + 1) lines answers roll rest h prints)
-prints_lines name table serial number (line.Roll ∷ lines) answers roll text h (rest, is, prints) = (rest, is, prints_lines name table serial (number + 1) lines answers roll rest h prints)
-prints_lines name table serial number (line.Event e ∷ lines) [] roll text h prints = h
-prints_lines name table serial number (line.Event e ∷ lines) (a ∷ answers) roll text h (rest, is, prints) = (rest, is, prints_lines name table serial (number + 1) lines answers roll rest h.1 prints)
+pub prints_lines : (format : Format) (name : Name) (table : TableValue) (serial number : ℕ) (lines : List Line) (answers : Answers) (roll : Option (Result ℕ Refusal)) (text : List ℕ) → AreAnswered name (events_of lines) answers
+    → PrintsAll format table serial number (asks_of lines) (map reply_of answers) roll text → Prints format table serial number lines answers roll text
+prints_lines format name table serial number [] [] roll text h prints = prints
+prints_lines format name table serial number [] (a ∷ answers) roll text h prints = h
+prints_lines format name table serial number (line.Lookup address ∷ lines) answers roll text h (found, rest, matched, is, prints) =
+    (found, rest, matched, is, prints_lines format name table serial (number + 1) lines answers roll rest h prints)
+prints_lines format name table serial number (line.Roll ∷ lines) answers roll text h (rest, is, prints) = (rest, is, prints_lines format name table serial (number + 1) lines answers roll rest h prints)
+prints_lines format name table serial number (line.Event e ∷ lines) [] roll text h prints = h
+prints_lines format name table serial number (line.Event e ∷ lines) (a ∷ answers) roll text h (rest, is, prints) = (rest, is, prints_lines format name table serial (number + 1) lines answers roll rest h.1 prints)

@@ -17,6 +17,7 @@ use Rattle.engine_state.specs.Answers.{AreAnswered}
 use Rattle.recording.specs.declared.line.Line.{Line}
 use Rattle.recording.specs.Recordings.{RecordingValue}
 use Rattle.recording.specs.declared.version.Version.{Version}
+use Rattle.output_format.specs.declared.Format.{Format}
 use Rattle.replay.specs.Lines.{first_number}
 use Rattle.worker_replay.specs.declared.asking.Ask.{Ask}
 use Rattle.worker_replay.specs.Runs.{Answers, IsAfter, IsNotRolled, IsPrinted, IsRollAnswer, events_of, has_roll, reply_of}
@@ -40,16 +41,16 @@ answered_dealt name items answers events xs ys dealt all = record { lists = map 
 
 -- ---- one look
 
-pub looked : (f : Looker) (s : Sighted) (number : ℕ) (asks : List Ask) (given replies : List (Result Reply Refusal)) (roll : Option (Result ℕ Refusal)) (old new : List ℕ) → Sights f 0 s
-    → AppendsAll s.table s.table.serial number asks given roll old new → old ≡ [] → given ≡ replies → Looks f number asks replies roll new
-looked f s number asks given replies roll old new sights h none same =
+pub looked : (format : Format) (f : Looker) (s : Sighted) (number : ℕ) (asks : List Ask) (given replies : List (Result Reply Refusal)) (roll : Option (Result ℕ Refusal)) (old new : List ℕ) → Sights f 0 s
+    → AppendsAll format s.table s.table.serial number asks given roll old new → old ≡ [] → given ≡ replies → Looks format f number asks replies roll new
+looked format f s number asks given replies roll old new sights h none same =
     let whole : new ≡ h.text = h.appended ∙ ap (λ w. w ++ h.text) none in
     record {
       seen = s.list;
       table = s.table;
       after = sights.2;
       right = subst (λ (n : Name). IsTableFor n.base s.list s.table) sights.0 sights.3;
-      prints = subst (λ (w : List ℕ). PrintsAll s.table s.table.serial number asks replies roll w) (sym whole) (subst (λ (rs : List (Result Reply Refusal)). PrintsAll s.table s.table.serial number asks rs roll h.text) same h.prints);
+      prints = subst (λ (w : List ℕ). PrintsAll format s.table s.table.serial number asks replies roll w) (sym whole) (subst (λ (rs : List (Result Reply Refusal)). PrintsAll format s.table s.table.serial number asks rs roll h.text) same h.prints);
     }
 
 -- ---- the lines
@@ -77,13 +78,13 @@ pub roll_answered : (name : Name) (lines : List Line) (asked : Bool) (roll : Opt
 roll_answered name lines asked None is some answered = sym is ∙ sym some
 roll_answered name lines asked (Some answer) is some answered = (sym is ∙ sym some, answered)
 
-module _ (name : Name) (lines : List Line) (events : List Event) (asks : List Ask) (answers : Answers) (f g : Looker) (replies : List (Result Reply Refusal)) (roll : Option (Result ℕ Refusal)) (first : ℕ) (text : List ℕ)
+module _ (format : Format) (name : Name) (lines : List Line) (events : List Event) (asks : List Ask) (answers : Answers) (f g : Looker) (replies : List (Result Reply Refusal)) (roll : Option (Result ℕ Refusal)) (first : ℕ) (text : List ℕ)
     (events_are : events ≡ events_of lines) (asks_are : asks ≡ asks_of lines) (answered : AreAnswered name events answers) (named : f.name ≡ name) (same : g.name ≡ f.name) (after : All (IsAfter g.known) answers)
     (replies_are : replies ≡ map reply_of answers) (rolled : IsRollAnswer name lines roll) where
   of_lines : AreAnswered name (events_of lines) answers
   of_lines = subst (λ (es : List Event). AreAnswered name es answers) events_are answered
 
-  pub has_printed : Looks g first asks replies roll text → HasPrinted name lines first text
+  pub has_printed : Looks format g first asks replies roll text → HasPrinted format name lines first text
   has_printed looks = record {
     answers = answers;
     is = record {
@@ -94,22 +95,22 @@ module _ (name : Name) (lines : List Line) (events : List Event) (asks : List As
       after = all_longer g.known looks.seen answers looks.after after;
       roll = roll;
       rolled = rolled;
-      prints = prints_lines name looks.table looks.table.serial first lines answers roll text of_lines
-          (subst (λ (given : List Ask). PrintsAll looks.table looks.table.serial first given (map reply_of answers) roll text) asks_are
-          (subst (λ (rs : List (Result Reply Refusal)). PrintsAll looks.table looks.table.serial first asks rs roll text) replies_are looks.prints));
+      prints = prints_lines format name looks.table looks.table.serial first lines answers roll text of_lines
+          (subst (λ (given : List Ask). PrintsAll format looks.table looks.table.serial first given (map reply_of answers) roll text) asks_are
+          (subst (λ (rs : List (Result Reply Refusal)). PrintsAll format looks.table looks.table.serial first asks rs roll text) replies_are looks.prints));
     };
   }
 
 -- ---- the recording
 
-pub has_run : (r : RecordingValue) (name : Name) (v : Version) (base : Base) (lines : List Line) (first : ℕ) (text : List ℕ) (closed : CoreValue) → v ≡ r.version → base ≡ r.base → lines ≡ r.lines → name.base ≡ base
-    → first ≡ first_number v base → HasPrinted name lines first text → (events : List Event) × IsRolled name.base standard_limits events closed.base → closed.limits ≡ standard_limits → IsCore closed → HasRun r text closed
-has_run r name v base lines first text closed version_is base_is lines_are named number h (events, left) limits core = record {
+pub has_run : (format : Format) (r : RecordingValue) (name : Name) (v : Version) (base : Base) (lines : List Line) (first : ℕ) (text : List ℕ) (closed : CoreValue) → v ≡ r.version → base ≡ r.base → lines ≡ r.lines → name.base ≡ base
+    → first ≡ first_number v base → HasPrinted format name lines first text → (events : List Event) × IsRolled name.base standard_limits events closed.base → closed.limits ≡ standard_limits → IsCore closed → HasRun format r text closed
+has_run format r name v base lines first text closed version_is base_is lines_are named number h (events, left) limits core = record {
   answers = h.answers;
   is = record {
     name = name;
     named = named ∙ base_is;
-    lines = subst (λ (n : ℕ). IsPrinted name r.lines n h.answers text) (number ∙ (λ i. first_number (version_is i) (base_is i))) (subst (λ (ls : List Line). IsPrinted name ls first h.answers text) lines_are h.is);
+    lines = subst (λ (n : ℕ). IsPrinted format name r.lines n h.answers text) (number ∙ (λ i. first_number (version_is i) (base_is i))) (subst (λ (ls : List Line). IsPrinted format name ls first h.answers text) lines_are h.is);
     left = record { events = events; rolled = subst (λ (b : Base). IsRolled b standard_limits events closed.base) (named ∙ base_is) left; limits = limits; core = core };
   };
 }

@@ -4,7 +4,8 @@ use Rattle.std.specs.Prelude.{Result}
 use Rattle.event_state.specs.declared.refusal.Refusal.{Refusal}
 use Rattle.engine.specs.Cores.{CoreValue}
 use Rattle.recording.specs.Recordings.{RecordingValue}
-use Rattle.recording.specs.declared.show.Show.{Show}
+use Rattle.replay.specs.declared.printing.Printing.{Printing}
+use Rattle.output_format.specs.declared.Format.{Format}
 use Rattle.recording.specs.declared.version.Version.{Version}
 use Rattle.recording.specs.declared.line.Line.{Line}
 use Rattle.recording.specs.declared.line.Line.TheVariants as line
@@ -19,8 +20,8 @@ use Rattle.worker_replay.specs.Runs.{Answers, Prints, has_roll, reply_of, rolled
 use Rattle.worker_replay.specs.Outputs.{Replays, ReplaysPart}
 use Rattle.worker_replay.specs.Parts.{HasRun, Writes, WritesPart}
 
-module _ (s : Show) (before after old new : Option (List ℕ)) (r : RecordingValue) (v : Version) (same : v ≡ r.version) (printed : List ℕ) (c : CoreValue) (read : IsRead before after r) (run : HasRun r printed c) where
-  pub replays : Writes v s printed c old new → Replays s before after old new
+module _ (p : Printing) (before after old new : Option (List ℕ)) (r : RecordingValue) (v : Version) (same : v ≡ r.version) (printed : List ℕ) (c : CoreValue) (read : IsRead before after r) (run : HasRun p.format r printed c) where
+  pub replays : Writes v p.show p.format printed c old new → Replays p before after old new
   replays h = record {
     bytes = read.bytes;
     read = read.read;
@@ -28,42 +29,42 @@ module _ (s : Show) (before after old new : Option (List ℕ)) (r : RecordingVal
     text = read.text;
     answers = run.answers;
     output = h.text;
-    is = record { printed = printed; closed = c; run = run.is; shown = subst (λ w. IsShown w s printed c h.text) same h.shown };
+    is = record { printed = printed; closed = c; run = run.is; shown = subst (λ w. IsShown w p.show p.format printed c h.text) same h.shown };
     written = h.written;
   }
 
-  pub replays_part : (why : Stop) → WritesPart why v s printed c old new → ReplaysPart why s before after old new
+  pub replays_part : (why : Stop) → WritesPart why v p.show p.format printed c old new → ReplaysPart why p before after old new
   replays_part why h = record {
     bytes = read.bytes;
     read = read.read;
     recording = r;
     text = read.text;
     part = h.part.part;
-    is = record { answers = run.answers; whole = h.whole; output = record { printed = printed; closed = c; run = run.is; shown = subst (λ w. IsShown w s printed c h.whole) same h.shown }; part = h.part.beginning };
+    is = record { answers = run.answers; whole = h.whole; output = record { printed = printed; closed = c; run = run.is; shown = subst (λ w. IsShown w p.show p.format printed c h.whole) same h.shown }; part = h.part.beginning };
     written = h.part.appended;
   }
 
-rolled_whole : (last : Bool) (number : ℕ) (roll : Option (Result ℕ Refusal)) → AreWhole (rolled_line last number roll)
-rolled_whole false number roll = none_whole
-rolled_whole true number None = none_whole
-rolled_whole true number (Some answer) = roll_whole number answer
+rolled_whole : (format : Format) (last : Bool) (number : ℕ) (roll : Option (Result ℕ Refusal)) → AreWhole (rolled_line format last number roll)
+rolled_whole format false number roll = none_whole
+rolled_whole format true number None = none_whole
+rolled_whole format true number (Some answer) = roll_whole format number answer
 
 -- what the lines of a run print is whole lines
-prints_whole : (table : TableValue) (serial number : ℕ) (lines : List Line) (answers : Answers) (roll : Option (Result ℕ Refusal)) (text : List ℕ) → Prints table serial number lines answers roll text → AreWhole text
-prints_whole table serial number [] [] roll text none = inl none
-prints_whole table serial number [] (answer ∷ answers) roll text h = absurd h
-prints_whole table serial number (line.Lookup address ∷ lines) answers roll text (found, rest, matched, is, more) =
-    subst AreWhole (sym is) (append_whole (lookup_line number address serial found) rest (lookup_whole number address serial found) (prints_whole table serial (number + 1) lines answers roll rest more))
-prints_whole table serial number (line.Roll ∷ lines) answers roll text (rest, is, more) =
+prints_whole : (format : Format) (table : TableValue) (serial number : ℕ) (lines : List Line) (answers : Answers) (roll : Option (Result ℕ Refusal)) (text : List ℕ) → Prints format table serial number lines answers roll text → AreWhole text
+prints_whole format table serial number [] [] roll text none = inl none
+prints_whole format table serial number [] (answer ∷ answers) roll text h = absurd h
+prints_whole format table serial number (line.Lookup address ∷ lines) answers roll text (found, rest, matched, is, more) =
+    subst AreWhole (sym is) (append_whole (lookup_line format number address serial found) rest (lookup_whole format number address serial found) (prints_whole format table serial (number + 1) lines answers roll rest more))
+prints_whole format table serial number (line.Roll ∷ lines) answers roll text (rest, is, more) =
     let last = not (has_roll lines) in
-    subst AreWhole (sym is) (append_whole (rolled_line last number roll) rest (rolled_whole last number roll) (prints_whole table serial (number + 1) lines answers roll rest more))
-prints_whole table serial number (line.Event e ∷ lines) [] roll text h = absurd h
-prints_whole table serial number (line.Event e ∷ lines) (answer ∷ answers) roll text (rest, is, more) =
-    subst AreWhole (sym is) (append_whole (answer_line number (reply_of answer)) rest (answer_whole number (reply_of answer)) (prints_whole table serial (number + 1) lines answers roll rest more))
+    subst AreWhole (sym is) (append_whole (rolled_line format last number roll) rest (rolled_whole format last number roll) (prints_whole format table serial (number + 1) lines answers roll rest more))
+prints_whole format table serial number (line.Event e ∷ lines) [] roll text h = absurd h
+prints_whole format table serial number (line.Event e ∷ lines) (answer ∷ answers) roll text (rest, is, more) =
+    subst AreWhole (sym is) (append_whole (answer_line format number (reply_of answer)) rest (answer_whole format number (reply_of answer)) (prints_whole format table serial (number + 1) lines answers roll rest more))
 
-pub run_whole : (r : RecordingValue) (printed : List ℕ) (c : CoreValue) → HasRun r printed c → AreWhole printed
-run_whole r printed c h =
-    let lines = h.is.lines in prints_whole lines.table lines.table.serial (first_number r.version r.base) r.lines h.answers lines.roll printed lines.prints
+pub run_whole : (format : Format) (r : RecordingValue) (printed : List ℕ) (c : CoreValue) → HasRun format r printed c → AreWhole printed
+run_whole format r printed c h =
+    let lines = h.is.lines in prints_whole format lines.table lines.table.serial (first_number r.version r.base) r.lines h.answers lines.roll printed lines.prints
 
 pub or_else : {P A B : Type 0} → (A → B) → P ⊎ A → P ⊎ B
 or_else f (inl p) = inl p

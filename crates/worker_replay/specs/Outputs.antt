@@ -3,7 +3,7 @@ use Rattle.std.specs.Prelude.{ℕ, List, Option}
 use Rattle.std.specs.Io.KnownBytes.{Appends}
 use Rattle.engine.specs.Cores.{CoreValue}
 use Rattle.recording.specs.Recordings.{RecordingValue, IsText}
-use Rattle.recording.specs.declared.show.Show.{Show}
+use Rattle.replay.specs.declared.printing.Printing.{Printing}
 use Rattle.replay.specs.declared.page.Stop.{Stop}
 use Rattle.replay.specs.Inputs.{ReadsAll}
 use Rattle.replay.specs.Stops.{IsBeginning}
@@ -12,36 +12,36 @@ use Rattle.worker_replay.specs.Runs.{Answers, IsRun}
 
 -- The output of a recording for a show, where its events had these answers: they may have been taken in any order that keeps that of each worker's, some may have
 -- been refused for want of memory, and some answered Behind; each of these is one of the answers. All `roll` lines together are one roll behind the last event.
-pub record IsOutput (r : RecordingValue) (s : Show) (answers : Answers) (text : List ℕ) : Type 0 where
+pub record IsOutput (r : RecordingValue) (p : Printing) (answers : Answers) (text : List ℕ) : Type 0 where
   pub printed : List ℕ
   pub closed : CoreValue
-  pub run : IsRun r answers printed closed
-  pub shown : IsShown r.version s printed closed text
+  pub run : IsRun p.format r answers printed closed
+  pub shown : IsShown r.version p.show p.format printed closed text
 
 -- the text is the beginning of an output that such a stop leaves
-pub record IsCutOutput (why : Stop) (r : RecordingValue) (s : Show) (text : List ℕ) : Type 0 where
+pub record IsCutOutput (why : Stop) (r : RecordingValue) (p : Printing) (text : List ℕ) : Type 0 where
   pub answers : Answers
   pub whole : List ℕ
-  pub output : IsOutput r s answers whole
+  pub output : IsOutput r p answers whole
   pub part : IsBeginning why text whole
 
 -- all the bytes that a reader had were a recording, and a writer's known bytes grew by its output
-pub record Replays (s : Show) (before after : Option (List ℕ)) (old new : Option (List ℕ)) : Type 0 where
+pub record Replays (p : Printing) (before after : Option (List ℕ)) (old new : Option (List ℕ)) : Type 0 where
   pub bytes : List ℕ
   pub read : ReadsAll before after bytes
   pub recording : RecordingValue
   pub text : IsText bytes recording
   pub answers : Answers
   pub output : List ℕ
-  pub is : IsOutput recording s answers output
+  pub is : IsOutput recording p answers output
   pub written : Appends old new output
 
 -- all the bytes that a reader had were a recording, and a writer's known bytes grew by the beginning of its output that such a stop leaves
-pub record ReplaysPart (why : Stop) (s : Show) (before after : Option (List ℕ)) (old new : Option (List ℕ)) : Type 0 where
+pub record ReplaysPart (why : Stop) (p : Printing) (before after : Option (List ℕ)) (old new : Option (List ℕ)) : Type 0 where
   pub bytes : List ℕ
   pub read : ReadsAll before after bytes
   pub recording : RecordingValue
   pub text : IsText bytes recording
   pub part : List ℕ
-  pub is : IsCutOutput why recording s part
+  pub is : IsCutOutput why recording p part
   pub written : Appends old new part

@@ -18,6 +18,7 @@ use Rattle.recording.specs.declared.line.Line.{Line}
 use Rattle.recording.specs.declared.line.Line.TheVariants as line
 use Rattle.replay.specs.declared.fault.ReplayFault.TheVariants as replay_fault
 use Rattle.recording.specs.declared.show.Show.{Show}
+use Rattle.output_format.specs.declared.Format.{Format}
 use Rattle.recording.specs.declared.version.Version.{Version}
 use Rattle.replay.specs.Lines.{lookup_line, answer_line}
 use Rattle.replay.specs.Outputs.{IsShown}
@@ -70,58 +71,58 @@ HasAllReplies (ask.Event ∷ asks) [] = ⊥
 HasAllReplies (ask.Event ∷ asks) (reply ∷ replies) = HasAllReplies asks replies
 
 -- numbered from here on they print this
-abbrev pub PrintsAll : TableValue → (serial number : ℕ) → List Ask → List (Result Reply Refusal) → Option (Result ℕ Refusal) → List ℕ → Type 0
-PrintsAll table serial number [] replies roll text = text ≡ []
-PrintsAll table serial number (ask.Lookup address ∷ asks) replies roll text =
-    (found : Match) × (rest : List ℕ) × IsMatch table.items address found × (text ≡ lookup_line number address serial found ++ rest) × PrintsAll table serial (number + 1) asks replies roll rest
-PrintsAll table serial number (ask.Roll last ∷ asks) replies roll text =
-    (rest : List ℕ) × (text ≡ rolled_line last number roll ++ rest) × PrintsAll table serial (number + 1) asks replies roll rest
-PrintsAll table serial number (ask.Event ∷ asks) [] roll text = ⊥
-PrintsAll table serial number (ask.Event ∷ asks) (reply ∷ replies) roll text =
-    (rest : List ℕ) × (text ≡ answer_line number reply ++ rest) × PrintsAll table serial (number + 1) asks replies roll rest
+abbrev pub PrintsAll : Format → TableValue → (serial number : ℕ) → List Ask → List (Result Reply Refusal) → Option (Result ℕ Refusal) → List ℕ → Type 0
+PrintsAll format table serial number [] replies roll text = text ≡ []
+PrintsAll format table serial number (ask.Lookup address ∷ asks) replies roll text =
+    (found : Match) × (rest : List ℕ) × IsMatch table.items address found × (text ≡ lookup_line format number address serial found ++ rest) × PrintsAll format table serial (number + 1) asks replies roll rest
+PrintsAll format table serial number (ask.Roll last ∷ asks) replies roll text =
+    (rest : List ℕ) × (text ≡ rolled_line format last number roll ++ rest) × PrintsAll format table serial (number + 1) asks replies roll rest
+PrintsAll format table serial number (ask.Event ∷ asks) [] roll text = ⊥
+PrintsAll format table serial number (ask.Event ∷ asks) (reply ∷ replies) roll text =
+    (rest : List ℕ) × (text ≡ answer_line format number reply ++ rest) × PrintsAll format table serial (number + 1) asks replies roll rest
 
 -- what they print stands behind the text of before
-pub record AppendsAll (table : TableValue) (serial number : ℕ) (asks : List Ask) (replies : List (Result Reply Refusal)) (roll : Option (Result ℕ Refusal)) (old new : List ℕ) : Type 0 where
+pub record AppendsAll (format : Format) (table : TableValue) (serial number : ℕ) (asks : List Ask) (replies : List (Result Reply Refusal)) (roll : Option (Result ℕ Refusal)) (old new : List ℕ) : Type 0 where
   pub text : List ℕ
-  pub prints : PrintsAll table serial number asks replies roll text
+  pub prints : PrintsAll format table serial number asks replies roll text
   pub appended : new ≡ old ++ text
 
 -- what the line prints stands behind the text of before, and these replies are left
-abbrev pub AppendsLine : TableValue → (serial number : ℕ) → Ask → (replies left : List (Result Reply Refusal)) → Option (Result ℕ Refusal) → (old new : List ℕ) → Type 0
-AppendsLine table serial number (ask.Lookup address) replies left roll old new =
-    (found : Match) × IsMatch table.items address found × (new ≡ old ++ lookup_line number address serial found) × (left ≡ replies)
-AppendsLine table serial number (ask.Roll last) replies left roll old new = (new ≡ old ++ rolled_line last number roll) × (left ≡ replies)
-AppendsLine table serial number ask.Event replies left roll old new =
-    (reply : Result Reply Refusal) × (replies ≡ reply ∷ left) × (new ≡ old ++ answer_line number reply)
+abbrev pub AppendsLine : Format → TableValue → (serial number : ℕ) → Ask → (replies left : List (Result Reply Refusal)) → Option (Result ℕ Refusal) → (old new : List ℕ) → Type 0
+AppendsLine format table serial number (ask.Lookup address) replies left roll old new =
+    (found : Match) × IsMatch table.items address found × (new ≡ old ++ lookup_line format number address serial found) × (left ≡ replies)
+AppendsLine format table serial number (ask.Roll last) replies left roll old new = (new ≡ old ++ rolled_line format last number roll) × (left ≡ replies)
+AppendsLine format table serial number ask.Event replies left roll old new =
+    (reply : Result Reply Refusal) × (replies ≡ reply ∷ left) × (new ≡ old ++ answer_line format number reply)
 
 -- the forwarder looked once, and they printed this
-pub record Looks (f : Looker) (number : ℕ) (asks : List Ask) (replies : List (Result Reply Refusal)) (roll : Option (Result ℕ Refusal)) (text : List ℕ) : Type 0 where
+pub record Looks (format : Format) (f : Looker) (number : ℕ) (asks : List Ask) (replies : List (Result Reply Refusal)) (roll : Option (Result ℕ Refusal)) (text : List ℕ) : Type 0 where
   pub seen : List Event
   pub table : TableValue
   pub after : IsPrefix f.known seen
   pub right : IsTableFor f.name.base seen table
-  pub prints : PrintsAll table table.serial number asks replies roll text
+  pub prints : PrintsAll format table table.serial number asks replies roll text
 
 -- ---- the parts
 
 -- the lines were run, and printed this
-pub record HasPrinted (name : Name) (lines : List Line) (number : ℕ) (printed : List ℕ) : Type 0 where
+pub record HasPrinted (format : Format) (name : Name) (lines : List Line) (number : ℕ) (printed : List ℕ) : Type 0 where
   pub answers : Answers
-  pub is : IsPrinted name lines number answers printed
+  pub is : IsPrinted format name lines number answers printed
 
 -- the recording was run
-pub record HasRun (r : RecordingValue) (printed : List ℕ) (closed : CoreValue) : Type 0 where
+pub record HasRun (format : Format) (r : RecordingValue) (printed : List ℕ) (closed : CoreValue) : Type 0 where
   pub answers : Answers
-  pub is : IsRun r answers printed closed
+  pub is : IsRun format r answers printed closed
 
 -- a writer's known bytes grew by what is shown, a journal in this version
-pub record Writes (v : Version) (s : Show) (printed : List ℕ) (c : CoreValue) (old new : Option (List ℕ)) : Type 0 where
+pub record Writes (v : Version) (s : Show) (format : Format) (printed : List ℕ) (c : CoreValue) (old new : Option (List ℕ)) : Type 0 where
   pub text : List ℕ
-  pub shown : IsShown v s printed c text
+  pub shown : IsShown v s format printed c text
   pub written : Appends old new text
 
 -- a writer's known bytes grew by the beginning of what is shown that such a stop leaves
-pub record WritesPart (why : Stop) (v : Version) (s : Show) (printed : List ℕ) (c : CoreValue) (old new : Option (List ℕ)) : Type 0 where
+pub record WritesPart (why : Stop) (v : Version) (s : Show) (format : Format) (printed : List ℕ) (c : CoreValue) (old new : Option (List ℕ)) : Type 0 where
   pub whole : List ℕ
-  pub shown : IsShown v s printed c whole
+  pub shown : IsShown v s format printed c whole
   pub part : AddsPart why old new whole

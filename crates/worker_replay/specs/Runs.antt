@@ -9,6 +9,7 @@ use Rattle.event_state.specs.Rolls.{IsRolled}
 use Rattle.event_state.specs.Steps.{standard_limits}
 use Rattle.route_table.specs.declared.table.Match.{Match}
 use Rattle.route_table.specs.Tables.{TableValue, IsMatch}
+use Rattle.output_format.specs.declared.Format.{Format}
 use Rattle.engine.specs.Reply.{Reply}
 use Rattle.engine.specs.Cores.{CoreValue, IsCore}
 use Rattle.engine.specs.Opens.{IsRolledSerial}
@@ -71,29 +72,29 @@ IsRollAnswer name lines None = has_roll lines ≡ false
 IsRollAnswer name lines (Some answer) = (has_roll lines ≡ true) × MatchResult answer (IsRolledSerial name.base) IsNotRolled
 
 -- what a `roll` line prints: the last one why the roll was refused, if it was, and the others nothing
-abbrev pub rolled_line : (last : Bool) (number : ℕ) → Option (Result ℕ Refusal) → List ℕ
-rolled_line false number answer = []
-rolled_line true number None = []
-rolled_line true number (Some answer) = roll_line number answer
+abbrev pub rolled_line : Format → (last : Bool) (number : ℕ) → Option (Result ℕ Refusal) → List ℕ
+rolled_line format false number answer = []
+rolled_line format true number None = []
+rolled_line format true number (Some answer) = roll_line format number answer
 
 -- ---- what is printed
 
 -- Lines that are numbered from here on print this: each event what its answer says, the answers in the order of the lines; each look-up its match in the one
 -- table, with the one serial; and the last `roll` line why the roll was refused, if it was.
-abbrev pub Prints : TableValue → (serial number : ℕ) → List Line → Answers → Option (Result ℕ Refusal) → List ℕ → Type 0
-Prints table serial number [] [] roll text = text ≡ []
-Prints table serial number [] (answer ∷ answers) roll text = ⊥
-Prints table serial number (line.Lookup address ∷ lines) answers roll text =
-    (found : Match) × (rest : List ℕ) × IsMatch table.items address found × (text ≡ lookup_line number address serial found ++ rest) × Prints table serial (number + 1) lines answers roll rest
-Prints table serial number (line.Roll ∷ lines) answers roll text =
-    (rest : List ℕ) × (text ≡ rolled_line (not (has_roll lines)) number roll ++ rest) × Prints table serial (number + 1) lines answers roll rest
-Prints table serial number (line.Event e ∷ lines) [] roll text = ⊥
-Prints table serial number (line.Event e ∷ lines) (answer ∷ answers) roll text =
-    (rest : List ℕ) × (text ≡ answer_line number (reply_of answer) ++ rest) × Prints table serial (number + 1) lines answers roll rest
+abbrev pub Prints : Format → TableValue → (serial number : ℕ) → List Line → Answers → Option (Result ℕ Refusal) → List ℕ → Type 0
+Prints format table serial number [] [] roll text = text ≡ []
+Prints format table serial number [] (answer ∷ answers) roll text = ⊥
+Prints format table serial number (line.Lookup address ∷ lines) answers roll text =
+    (found : Match) × (rest : List ℕ) × IsMatch table.items address found × (text ≡ lookup_line format number address serial found ++ rest) × Prints format table serial (number + 1) lines answers roll rest
+Prints format table serial number (line.Roll ∷ lines) answers roll text =
+    (rest : List ℕ) × (text ≡ rolled_line format (not (has_roll lines)) number roll ++ rest) × Prints format table serial (number + 1) lines answers roll rest
+Prints format table serial number (line.Event e ∷ lines) [] roll text = ⊥
+Prints format table serial number (line.Event e ∷ lines) (answer ∷ answers) roll text =
+    (rest : List ℕ) × (text ≡ answer_line format number (reply_of answer) ++ rest) × Prints format table serial (number + 1) lines answers roll rest
 
 -- The events of a recording have these answers of the engine of a name, which is rolled behind them if a line asks for it, and its lines print this. The table of
 -- all look-ups is right for a list of events that begins with the list of each token among the answers, so it has each event that was answered Current.
-pub record IsPrinted (name : Name) (lines : List Line) (number : ℕ) (answers : Answers) (printed : List ℕ) : Type 0 where
+pub record IsPrinted (format : Format) (name : Name) (lines : List Line) (number : ℕ) (answers : Answers) (printed : List ℕ) : Type 0 where
   pub answered : AreAnswered name (events_of lines) answers
   pub seen : List Event
   pub table : TableValue
@@ -101,7 +102,7 @@ pub record IsPrinted (name : Name) (lines : List Line) (number : ℕ) (answers :
   pub after : All (IsAfter seen) answers
   pub roll : Option (Result ℕ Refusal)
   pub rolled : IsRollAnswer name lines roll
-  pub prints : Prints table table.serial number lines answers roll printed
+  pub prints : Prints format table table.serial number lines answers roll printed
 
 -- What an engine leaves that began with a base: its own is the state after some events, and the journal has those since.
 pub record IsClosed (base : Base) (c : CoreValue) : Type 0 where
@@ -111,8 +112,8 @@ pub record IsClosed (base : Base) (c : CoreValue) : Type 0 where
   pub core : IsCore c
 
 -- the recording was run with these answers to its events, its lines printed this, and a core was left
-pub record IsRun (r : RecordingValue) (answers : Answers) (printed : List ℕ) (closed : CoreValue) : Type 0 where
+pub record IsRun (format : Format) (r : RecordingValue) (answers : Answers) (printed : List ℕ) (closed : CoreValue) : Type 0 where
   pub name : Name
   pub named : name.base ≡ r.base
-  pub lines : IsPrinted name r.lines (first_number r.version r.base) answers printed
+  pub lines : IsPrinted format name r.lines (first_number r.version r.base) answers printed
   pub left : IsClosed r.base closed

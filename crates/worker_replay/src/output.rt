@@ -12,11 +12,11 @@ use engine::Core;
 use lsa_codec::Checked;
 use ospf_types::key::Scope;
 use ospf_types::memory::Memory;
-use recording::{Version, append_front};
+use output_format::Format;
+use recording::Version;
 use replay::{
-    Show, Stop, put_serial, show_events, show_items, show_lsas, show_summaries, write_page,
+    Journal, Printing, Show, Stop, put_serial, show_items, show_lsas, show_summaries, write_page,
 };
-use std::alloc::Global;
 use std::io;
 
 /// The core that a run left, and the version in which its journal is written.
@@ -30,106 +30,116 @@ impl RunEnd<'_> {
     /// Writes what `show` names of the core, and before it what was printed of the lines.
     pub(crate) fn write<W: io::Write>(
         self,
-        alloc: Global,
         printed: String,
         out: &mut W,
-        show: Show,
+        printing: Printing,
     ) -> Result<(), Stop>
-        ensures ok { OnOk result (Writes self.entry.version show (string_bytes printed)
+        ensures ok { OnOk result (Writes self.entry.version printing.show printing.format (string_bytes printed)
             self.entry.core.now (W.contents out.old) (W.contents out.new)) }
         ensures write { AreWhole (string_bytes printed) → result ≡ Err stop.Write
-            → WritesPart stop.Write self.entry.version show (string_bytes printed)
+            → WritesPart stop.Write self.entry.version printing.show printing.format (string_bytes printed)
             self.entry.core.now (W.contents out.old) (W.contents out.new) }
         ensures closed { AreWhole (string_bytes printed) → result ≡ Err stop.Closed
-            → WritesPart stop.Closed self.entry.version show (string_bytes printed)
+            → WritesPart stop.Closed self.entry.version printing.show printing.format (string_bytes printed)
             self.entry.core.now (W.contents out.old) (W.contents out.new) }
         ensures memory { AreWhole (string_bytes printed) → result ≡ Err stop.Memory
-            → (out.new ≡ out.old) ⊎ WritesPart stop.Memory self.entry.version show
-            (string_bytes printed) self.entry.core.now (W.contents out.old) (W.contents out.new) }
+            → (out.new ≡ out.old) ⊎ WritesPart stop.Memory self.entry.version
+            printing.show printing.format (string_bytes printed) self.entry.core.now (W.contents out.old) (W.contents out.new) }
     {
         let RunEnd { version, core } = self;
+        let Printing { show, format, .. } = printing;
         let mut page = printed;
         match show {
-            Show::Routes => write_routes(core, &mut page, out),
-            Show::Due => write_due(core, &mut page, out),
+            Show::Routes => write_routes(format, core, &mut page, out),
+            Show::Due => write_due(format, core, &mut page, out),
             Show::Lsdb => match core.lsas() {
-                Ok(lsas) => write_lsdb(core, lsas, &mut page, out),
+                Ok(lsas) => write_lsdb(format, core, lsas, &mut page, out),
                 Err(Memory) => Err(Stop::Memory),
             },
             Show::Journal => {
                 page.clear();
-                write_journal(alloc, version, core, &mut page, out)
+                write_journal(format, version, core, &mut page, out)
             }
         }
     }
 }
 
-fn write_routes<W: io::Write>(core: &Core, page: &mut String, out: &mut W) -> Result<(), Stop>
+fn write_routes<W: io::Write>(
+    format: Format,
+    core: &Core,
+    page: &mut String,
+    out: &mut W,
+) -> Result<(), Stop>
     ensures ok { OnOk result ((v : VersionValue)
-        → Writes v show_value.Routes (string_bytes page.old) core.now (W.contents out.old)
+        → Writes v show_value.Routes format (string_bytes page.old) core.now (W.contents out.old)
         (W.contents out.new)) }
     ensures err { AreWhole (string_bytes page.old)
         → IfErr result (λ why. (v : VersionValue)
-        → WritesPart why v show_value.Routes (string_bytes page.old) core.now (W.contents out.old)
+        → WritesPart why v show_value.Routes format (string_bytes page.old) core.now (W.contents out.old)
         (W.contents out.new)) }
 {
-    put_serial(core, page)?;
-    show_items(core.table(), out, page)?;
+    put_serial(format, core, page)?;
+    show_items(format, core.table(), out, page)?;
     write_page(out, page)?;
     Ok(())
 }
 
-fn write_due<W: io::Write>(core: &Core, page: &mut String, out: &mut W) -> Result<(), Stop>
+fn write_due<W: io::Write>(
+    format: Format,
+    core: &Core,
+    page: &mut String,
+    out: &mut W,
+) -> Result<(), Stop>
     ensures ok { OnOk result ((v : VersionValue)
-        → Writes v show_value.Due (string_bytes page.old) core.now (W.contents out.old)
+        → Writes v show_value.Due format (string_bytes page.old) core.now (W.contents out.old)
         (W.contents out.new)) }
     ensures err { AreWhole (string_bytes page.old)
         → IfErr result (λ why. (v : VersionValue)
-        → WritesPart why v show_value.Due (string_bytes page.old) core.now (W.contents out.old)
+        → WritesPart why v show_value.Due format (string_bytes page.old) core.now (W.contents out.old)
         (W.contents out.new)) }
 {
-    put_serial(core, page)?;
-    show_summaries(core.summaries(), out, page)?;
+    put_serial(format, core, page)?;
+    show_summaries(format, core.summaries(), out, page)?;
     write_page(out, page)?;
     Ok(())
 }
 
 fn write_lsdb<W: io::Write>(
+    format: Format,
     core: &Core,
     lsas: Vec<(Scope, Checked)>,
     page: &mut String,
     out: &mut W,
 ) -> Result<(), Stop>
     requires { AreLsas (state_of core.now) lsas.items }
-    ensures ok { OnOk result ((v : VersionValue) → Writes v show_value.Lsdb (string_bytes page.old)
+    ensures ok { OnOk result ((v : VersionValue) → Writes v show_value.Lsdb format (string_bytes page.old)
         core.now (W.contents out.old) (W.contents out.new)) }
     ensures err { AreWhole (string_bytes page.old)
         → IfErr result (λ why. (v : VersionValue)
-        → WritesPart why v show_value.Lsdb (string_bytes page.old) core.now (W.contents out.old)
+        → WritesPart why v show_value.Lsdb format (string_bytes page.old) core.now (W.contents out.old)
         (W.contents out.new)) }
 {
-    put_serial(core, page)?;
-    show_lsas(lsas, out, page)?;
+    put_serial(format, core, page)?;
+    show_lsas(format, lsas, out, page)?;
     write_page(out, page)?;
     Ok(())
 }
 
 // On an empty page.
 fn write_journal<W: io::Write>(
-    alloc: Global,
+    format: Format,
     version: Version,
     core: &Core,
     page: &mut String,
     out: &mut W,
 ) -> Result<(), Stop>
     requires { string_bytes page.old ≡ [] }
-    ensures ok { OnOk result (Writes version show_value.Journal [] core.now (W.contents out.old)
+    ensures ok { OnOk result (Writes version show_value.Journal format [] core.now (W.contents out.old)
         (W.contents out.new)) }
-    ensures err { IfErr result (λ why. WritesPart why version show_value.Journal [] core.now
+    ensures err { IfErr result (λ why. WritesPart why version show_value.Journal format [] core.now
         (W.contents out.old) (W.contents out.new)) }
 {
-    append_front(alloc, version, core.base(), page)?;
-    show_events(alloc, core.journal(), out, page)?;
+    Journal { version, core }.show(format, out, page)?;
     write_page(out, page)?;
     Ok(())
 }

@@ -8,9 +8,11 @@ ghost use Rattle.worker_replay.specs.Parts.{HasAllReplies, AppendsAll, AppendsLi
 
 use crate::asking::Ask;
 use engine::{Refusal, Reply, Seen};
-use ospf_types::address::Address;
+use json_lines::Lookup;
 use ospf_types::memory::Memory;
-use replay::{put_answer, put_roll};
+use output_format::Format;
+use replay::{put_answer, put_found, put_roll};
+use route_table::Match;
 
 /// What a roll was answered: the serial, or its refusal. `None` where there was none.
 pub(crate) type Rolled = Option<Result<u64, Refusal>>;
@@ -20,6 +22,8 @@ pub(crate) type Rolled = Option<Result<u64, Refusal>>;
 pub(crate) struct Outcome<'a> {
     pub(crate) rolled: Rolled,
     pub(crate) seen: &'a Seen,
+    /// The form of the lines.
+    pub(crate) format: Format,
 }
 
 impl Outcome<'_> {
@@ -34,7 +38,7 @@ impl Outcome<'_> {
     ) -> Result<(), Memory>
         requires replies { HasAllReplies asks.items replies.now }
         requires few { first + length asks.items < 2 ^ 64 }
-        ensures { OnOk result (AppendsAll self.entry.seen.now.table
+        ensures { OnOk result (AppendsAll self.entry.format self.entry.seen.now.table
             self.entry.seen.now.table.serial first asks.items replies.now self.entry.rolled
             (string_bytes text.old) (string_bytes text.new)) }
     {
@@ -56,7 +60,7 @@ impl Outcome<'_> {
         text: &mut String,
     ) -> Result<&'a [Result<Reply, Refusal>], Memory>
         requires { HasAllReplies (ask ∷ []) replies.now }
-        ensures { IfOk result (λ rest. AppendsLine self.entry.seen.now.table
+        ensures { IfOk result (λ rest. AppendsLine self.entry.format self.entry.seen.now.table
             self.entry.seen.now.table.serial number ask replies.now rest.now self.entry.rolled
             (string_bytes text.old) (string_bytes text.new)) }
     {
@@ -65,15 +69,15 @@ impl Outcome<'_> {
                 let [reply, rest @ ..] = replies else {
                     unreachable!()
                 };
-                put_answer(number, *reply, text)?;
+                put_answer(self.format, number, *reply, text)?;
                 Ok(rest)
             }
             Ask::Lookup(address) => {
-                put_lookup(number, address, self.seen, text)?;
+                put_lookup(self.format, number, address, self.seen, text)?;
                 Ok(replies)
             }
             Ask::Roll { is_last } => {
-                put_rolled(number, is_last, self.rolled, text)?;
+                put_rolled(self.format, number, is_last, self.rolled, text)?;
                 Ok(replies)
             }
         }
@@ -81,26 +85,49 @@ impl Outcome<'_> {
 }
 
 // The match of the address in the table that is seen.
-fn put_lookup(number: usize, address: u32, seen: &Seen, text: &mut String) -> Result<(), Memory>
+fn put_lookup(
+    format: Format,
+    number: usize,
+    address: u32,
+    seen: &Seen,
+    text: &mut String,
+) -> Result<(), Memory>
     ensures { OnOk result ((found : Match) × IsMatch seen.now.table.items address found
-        × (string_bytes text.new ≡ string_bytes text.old ++ lookup_line number address seen.now.table.serial found)) }
+        × (string_bytes text.new ≡ string_bytes text.old
+        ++ lookup_line format number address seen.now.table.serial found)) }
 {
-    let (serial, found) = (seen.serial(), seen.find(address));
-    let address = Address(address);
-    writeln!(text, "{number} lookup {address} {serial} {found}")?;
-    Ok(())
+    let lookup = Lookup {
+        line: number,
+        address,
+        serial: seen.serial(),
+    };
+    // proof: a match that is kept in a variable is not told to the borrow checker as one that may hold a route.
+    match seen.find(address) {
+        Match::Route(network, entry) => {
+            let found = Match::Route(network, entry);
+            put_found(format, lookup, &found, text)
+        }
+        Match::Discard(network) => put_found(format, lookup, &Match::Discard(network), text),
+        Match::None => put_found(format, lookup, &Match::None, text),
+    }
 }
 
 // The answer to the roll, in the place of the last line that asks for it.
-fn put_rolled(number: usize, is_last: bool, rolled: Rolled, text: &mut String) -> Result<(), Memory>
+fn put_rolled(
+    format: Format,
+    number: usize,
+    is_last: bool,
+    rolled: Rolled,
+    text: &mut String,
+) -> Result<(), Memory>
     ensures { OnOk result (string_bytes text.new ≡ string_bytes text.old
-        ++ rolled_line is_last number rolled) }
+        ++ rolled_line format is_last number rolled) }
 {
     if !is_last {
         return Ok(());
     }
     match rolled {
-        Some(answer) => put_roll(number, answer, text),
+        Some(answer) => put_roll(format, number, answer, text),
         None => Ok(()),
     }
 }

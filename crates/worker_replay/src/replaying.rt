@@ -12,7 +12,7 @@ ghost use Rattle.worker_replay.specs.Parts.{AreWorkers};
 use crate::fault::ManyFault;
 use crate::output::RunEnd;
 use crate::running::run_recording;
-use replay::{Show, fault_of, read_recording};
+use replay::{Printing, fault_of, read_recording};
 use std::alloc::Global;
 use std::hash::RandomState;
 use std::io;
@@ -24,12 +24,12 @@ use std::thread::Threads;
 pub struct ReplayOptions {
     /// How many workers there are, 1 to 16.
     pub workers: usize,
-    /// What is written behind the lines of the run.
-    pub show: Show,
+    /// What is written. It is not shown how much is done, since several workers take lines at the same time.
+    pub printing: Printing,
 }
 
 /// Reads its input to the end as a recording, submits its events to an engine from `options.workers` threads, and writes what
-/// `options.show` names. The events of a thread are submitted in their order, those of two threads in any; the look-ups see
+/// `options.printing` names. The events of a thread are submitted in their order, those of two threads in any; the look-ups see
 /// all that were answered `Current`. Where it ends early nothing is written, but for a failed write, or want of memory while
 /// writing: then a beginning of the output. Something is missing where a write failed, and no line is cut where memory ran out.
 /// A failed write is told as `Closed` where the writer's error is of the kind `BrokenPipe`, and else as `Write`.
@@ -42,7 +42,7 @@ pub fn replay_many<S: Threads + Wait + Sync, R: io::Read, W: io::Write>(
     out: &mut W,
 ) -> Result<(), ManyFault>
     requires { AreWorkers options.workers }
-    ensures ok { OnOk result (Replays options.show (R.remaining input.old) (R.remaining input.new)
+    ensures ok { OnOk result (Replays options.printing (R.remaining input.old) (R.remaining input.new)
         (W.contents out.old) (W.contents out.new)) }
     ensures read { result ≡ Err (many_fault.Replay replay_fault.Read) → out.new ≡ out.old }
     ensures line { (f : LineFault) → result ≡ Err (many_fault.Replay (replay_fault.Line f))
@@ -52,25 +52,32 @@ pub fn replay_many<S: Threads + Wait + Sync, R: io::Read, W: io::Write>(
     ensures place { result ≡ Err many_fault.Place → out.new ≡ out.old }
     ensures no_entry { result ≡ Err many_fault.NoEntry → out.new ≡ out.old }
     ensures write { result ≡ Err (many_fault.Replay replay_fault.Write)
-        → ReplaysPart stop.Write options.show (R.remaining input.old) (R.remaining input.new)
+        → ReplaysPart stop.Write options.printing (R.remaining input.old) (R.remaining input.new)
         (W.contents out.old) (W.contents out.new) }
     ensures closed { result ≡ Err (many_fault.Replay replay_fault.Closed)
-        → ReplaysPart stop.Closed options.show (R.remaining input.old) (R.remaining input.new)
+        → ReplaysPart stop.Closed options.printing (R.remaining input.old) (R.remaining input.new)
         (W.contents out.old) (W.contents out.new) }
     ensures memory { result ≡ Err (many_fault.Replay replay_fault.Memory) → (out.new ≡ out.old)
-        ⊎ ReplaysPart stop.Memory options.show (R.remaining input.old) (R.remaining input.new) (W.contents out.old) (W.contents out.new) }
+        ⊎ ReplaysPart stop.Memory options.printing (R.remaining input.old) (R.remaining input.new) (W.contents out.old) (W.contents out.new) }
 {
     let recording = match read_recording(alloc, input) {
         Ok(recording) => recording,
         Err(fault) => return Err(ManyFault::Replay(fault)),
     };
     let version = recording.version();
-    let (printed, core) = run_recording(rt, alloc, hashing, recording, options.workers)?;
+    let (printed, core) = run_recording(
+        rt,
+        alloc,
+        hashing,
+        recording,
+        options.workers,
+        options.printing.format,
+    )?;
     let end = RunEnd {
         version,
         core: &core,
     };
-    match end.write(alloc, printed, out, options.show) {
+    match end.write(printed, out, options.printing) {
         Ok(()) => Ok(()),
         Err(stop) => Err(ManyFault::Replay(fault_of(stop))),
     }

@@ -15,6 +15,7 @@ use crate::learning::{Replies, learn_all};
 use crate::printing::{Outcome, Rolled};
 use engine::{Base, ConfigFault, Core, Engine, Event, Forwarder, Open, OpenFault, Refusal};
 use ospf_types::memory::Memory;
+use output_format::Format;
 use recording::{Line, Recording};
 use replay::number_of_first;
 use std::alloc::Global;
@@ -29,17 +30,18 @@ pub(crate) fn run_recording<S: Threads + Wait + Sync>(
     hashing: RandomState,
     recording: Recording,
     workers: usize,
+    format: Format,
 ) -> Result<(String, Core), ManyFault>
     requires workers { AreWorkers workers }
     requires few { first_number recording.version recording.base + length recording.lines < 2 ^ 64 }
-    ensures run { IfOk result (λ r. HasRun recording (string_bytes r.0) r.1) }
+    ensures run { IfOk result (λ r. HasRun format recording (string_bytes r.0) r.1) }
     ensures fault { IfErr result IsRunFault }
 {
     let (version, base, lines) = recording.into_parts();
     let first = number_of_first(version, &base);
     let numbered = NumberedLines { first, lines };
     let (engine, forwarder) = open_engine(rt, alloc, base, hashing)?;
-    let printed = numbered.run(rt, alloc, &engine, forwarder, workers);
+    let printed = numbered.run(rt, alloc, &engine, forwarder, workers, format);
     let core = engine.close(rt);
     Ok((printed?, core))
 }
@@ -86,11 +88,12 @@ impl NumberedLines {
         engine: &Engine,
         forwarder: Forwarder,
         workers: usize,
+        format: Format,
     ) -> Result<String, ManyFault>
         requires workers { AreWorkers workers }
         requires named { forwarder.name ≡ engine.now }
         requires few { self.first + length self.lines.items < 2 ^ 64 }
-        ensures printed { IfOk result (λ text. HasPrinted engine.now self.lines.items self.first
+        ensures printed { IfOk result (λ text. HasPrinted format engine.now self.lines.items self.first
             (string_bytes text)) }
         ensures fault { IfErr result IsRunFault }
     {
@@ -108,6 +111,7 @@ impl NumberedLines {
             asks,
             replies,
             rolled,
+            format,
         };
         answered.look(alloc, forwarder)
     }
@@ -155,6 +159,7 @@ struct AnsweredLines {
     asks: Vec<Ask>,
     replies: Replies,
     rolled: Rolled,
+    format: Format,
 }
 
 impl AnsweredLines {
@@ -162,7 +167,7 @@ impl AnsweredLines {
     fn look(self, alloc: Global, forwarder: Forwarder) -> Result<String, ManyFault>
         requires replies { HasAllReplies self.asks.items self.replies.items }
         requires few { self.first + length self.asks.items < 2 ^ 64 }
-        ensures looks { IfOk result (λ text. Looks forwarder self.first self.asks.items
+        ensures looks { IfOk result (λ text. Looks self.format forwarder self.first self.asks.items
             self.replies.items self.rolled (string_bytes text)) }
         ensures fault { IfErr result IsRunFault }
     {
@@ -171,6 +176,7 @@ impl AnsweredLines {
             asks,
             replies,
             rolled,
+            format,
         } = self;
         let mut text = String::new(alloc);
         let Ok(seen) = forwarder.lookup(0) else {
@@ -179,6 +185,7 @@ impl AnsweredLines {
         let outcome = Outcome {
             rolled,
             seen: &seen,
+            format,
         };
         let put = outcome.put_lines(first, asks, replies.as_slice(), &mut text);
         drop(seen.leave());

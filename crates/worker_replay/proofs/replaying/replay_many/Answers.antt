@@ -24,14 +24,14 @@ returns-clause-line g c f h = absurd (no_line c.in-Err-write.stop _ f c.fault_of
 pub returns-clause-write : goal.returns-clause-write
 returns-clause-write g c h =
     replays_part _ _ _ _ _ _ _ c.version-version.ensures.value _ _ c.in-Ok.ensures.recording c.in_ok-printed.ensures.run stop.Write
-    (c.in-Err-write.ensures.write (run_whole _ _ _ c.in_ok-printed.ensures.run) (ap Err (stop_of_write c.in-Err-write.stop _ c.fault_of.ensures (cc h))))
+    (c.in-Err-write.ensures.write (run_whole _ _ _ _ c.in_ok-printed.ensures.run) (ap Err (stop_of_write c.in-Err-write.stop _ c.fault_of.ensures (cc h))))
 
 pub returns-clause-closed : goal.returns-clause-closed
 returns-clause-closed g c h =
     replays_part _ _ _ _ _ _ _ c.version-version.ensures.value _ _ c.in-Ok.ensures.recording c.in_ok-printed.ensures.run stop.Closed
-    (c.in-Err-write.ensures.closed (run_whole _ _ _ c.in_ok-printed.ensures.run) (ap Err (stop_of_closed c.in-Err-write.stop _ c.fault_of.ensures (cc h))))
+    (c.in-Err-write.ensures.closed (run_whole _ _ _ _ c.in_ok-printed.ensures.run) (ap Err (stop_of_closed c.in-Err-write.stop _ c.fault_of.ensures (cc h))))
 
 pub returns-clause-memory : goal.returns-clause-memory
 returns-clause-memory g c h =
     or_else (replays_part _ _ _ _ _ _ _ c.version-version.ensures.value _ _ c.in-Ok.ensures.recording c.in_ok-printed.ensures.run stop.Memory)
-    (c.in-Err-write.ensures.memory (run_whole _ _ _ c.in_ok-printed.ensures.run) (ap Err (stop_of_memory c.in-Err-write.stop _ c.fault_of.ensures (cc h))))
+    (c.in-Err-write.ensures.memory (run_whole _ _ _ _ c.in_ok-printed.ensures.run) (ap Err (stop_of_memory c.in-Err-write.stop _ c.fault_of.ensures (cc h))))
