@@ -1,6 +1,5 @@
 -- How the telling of what events changed ended.
-use Rattle.std.specs.Borrow.{Bor}
-use Rattle.std.proofs.Common.{◌≡◌, ◌⊎◌, ℕ, Bool, List, Option, ap, refl, subst, inl, inr}
+use Rattle.std.proofs.Common.{◌≡◌, ◌⊎◌, ℕ, List, Option, ap, refl, subst, inl, inr}
 use Rattle.recording.specs.declared.fault.LineFault.{LineFault}
 use Rattle.replay.specs.declared.fault.ReplayFault.{ReplayFault}
 use Rattle.replay.specs.declared.fault.ReplayFault.TheVariants.{Read, Write, Closed, Memory, Line}
@@ -12,7 +11,11 @@ use Rattle.command_answers.specs.declared.command_fault.CommandFault.TheVariants
 use Rattle.command_answers.specs.declared.words.WordFault.TheVariants.{NotANetwork}
 use Rattle.command_answers.specs.Answers.{IsSaid}
 use Rattle.command_answers.specs.Faults.{command_fault_text, fault_line, status_of}
-use Rattle.abr_cli.specs.Changing.{IsChangesTold, IsWordSaid, TellsEarly}
+use Rattle.ospf_types.specs.declared.prefix.Prefix.{Prefix}
+use Rattle.replay.specs.Advance.{EndsShowing, IsProgress, Shows}
+use Rattle.abr_cli.specs.Changing.{Asks, IsChangesTold, IsTellingEnded, IsWordSaid, TellsEarly, telling_of}
+use Rattle.abr_cli.specs.declared.changing.Changes.{Changes}
+use Rattle.abr_cli.proofs.Shown.{advance_told}
 
 -- what is said of each fault by itself
 pub early_by_fault : {X : Type 0} (held : X → Option (List ℕ)) (t : Telling) (e : ReplayFault) (i i' : Option (List ℕ)) (old new : X) → (e ≡ Read → (new ≡ old) ⊎ ((bytes : List ℕ) × TellsThese t i i' bytes (held old) (held new)))
@@ -34,9 +37,13 @@ word_said e status i o f f' is said = (
   subst (λ (x : CommandFault). IsSaid (fault_line (command_fault_text x)) (status_of x) status f f' ⊎ IsSaid (fault_line (command_fault_text fault.Memory)) 1 status f f') is said,
 )
 
--- what was told by the parts of the command
-pub told_as : (file : Bor (List ℕ)) (word asked : Option (Bor (List ℕ))) (answers answered skips skipped : Bool) (status : ℕ) (i i' o o' f f' : Option (List ℕ)) → word ≡ asked → answers ≡ answered → skips ≡ skipped
-    → IsChangesTold file word answers skips status i i' o o' f f' → IsChangesTold file asked answered skipped status i i' o o' f f'
-told_as file word asked answers answered skips skipped status i i' o o' f f' words answer skip h =
-    subst (λ (w : Option (Bor (List ℕ))). IsChangesTold file w answered skipped status i i' o o' f f') words
-    (subst (λ b. IsChangesTold file word b skipped status i i' o o' f f') answer (subst (λ b. IsChangesTold file word answers b status i i' o o' f f') skip h))
+-- what was told of the network that is asked for
+pub network_told : (c : Changes) (only : Option Prefix) (t : Telling) (status : ℕ) (i i' o o' f start shown mid f' : Option (List ℕ)) → Asks c.only only → t ≡ telling_of c only
+    → Shows c.progress 0 f start → IsProgress t.progress start shown → EndsShowing c.progress shown mid → IsTellingEnded c.file t status i i' o o' mid f' → IsChangesTold c status i i' o o' f f'
+network_told c only t status i i' o o' f start shown mid f' asks is begun progress ended told =
+    let shows : IsProgress c.progress start shown = subst (λ (x : Telling). IsProgress x.progress start shown) is progress in
+    inr (only, asks, (mid, advance_told c.progress f start shown mid begun shows ended, subst (λ (x : Telling). IsTellingEnded c.file x status i i' o o' mid f') is told))
+
+-- what was told of the command that is asked for
+pub told_as : (c asked : Changes) (status : ℕ) (i i' o o' f f' : Option (List ℕ)) → c ≡ asked → IsChangesTold c status i i' o o' f f' → IsChangesTold asked status i i' o o' f f'
+told_as c asked status i i' o o' f f' same told = subst (λ (x : Changes). IsChangesTold x status i i' o o' f f') same told

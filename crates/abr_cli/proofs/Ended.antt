@@ -8,7 +8,7 @@ use Rattle.recording.specs.declared.fault.LineFault.{LineFault}
 use Rattle.recording.specs.Faults.{IsFaultOf}
 use Rattle.replay.specs.declared.fault.ReplayFault.{ReplayFault}
 use Rattle.replay.specs.declared.fault.ReplayFault.TheVariants.{Read, Write, Closed, Memory, Line}
-use Rattle.recording.specs.declared.show.Show.{Show}
+use Rattle.replay.specs.declared.printing.Printing.{Printing}
 use Rattle.worker_replay.specs.declared.fault.ManyFault.{ManyFault}
 use Rattle.worker_replay.specs.declared.fault.ManyFault.TheVariants.{Replay, Spawn, Place, NoEntry}
 use Rattle.worker_replay.specs.Outputs as many
@@ -18,58 +18,58 @@ use Rattle.command_answers.specs.declared.command_fault.CommandFault.TheVariants
 use Rattle.command_answers.specs.Faults.{command_fault_text, fault_line, status_of}
 use Rattle.command_answers.specs.Answers.{IsSaid, IsSaidOf, IsUnwrittenSaid}
 use Rattle.command_answers.proofs.Said.{said_of}
-use Rattle.abr_cli.specs.Replaying.{fault_from, EndsBy, EndsEarly, IsEndSaid, IsReplayTold, IsReplayedPart}
+use Rattle.abr_cli.specs.Replaying.{fault_from, EndsBy, EndsEarly, IsEndSaid, IsReplayEnded, IsReplayedPart}
 
 -- a replay may end for want of memory wherever it may end but with a failed write
-pub ended_early : (file : Bor (List ℕ)) (workers : ℕ) (e : ManyFault) (s : Show) (status : ℕ) (i i' o o' f f' : Option (List ℕ)) → EndsEarly workers e s i i' o o' → IsEndSaid file e status f f'
-    → IsReplayTold file workers s status i i' o o' f f'
-ended_early file workers (Replay Read) s status i i' o o' f f' h (inl said) = inr (Replay Read, h, said)
-ended_early file workers (Replay Read) s status i i' o o' f f' h (inr said) = inr (Replay Memory, inl h, said)
-ended_early file workers (Replay Write) s status i i' o o' f f' h said = inr (Replay Write, h, said)
-ended_early file workers (Replay Closed) s status i i' o o' f f' h said = inr (Replay Closed, h, said)
-ended_early file workers (Replay Memory) s status i i' o o' f f' h (inl said) = inr (Replay Memory, h, said)
-ended_early file workers (Replay Memory) s status i i' o o' f f' h (inr said) = inr (Replay Memory, h, said)
-ended_early file workers (Replay (Line l)) s status i i' o o' f f' h (inl said) = inr (Replay (Line l), h, said)
-ended_early file workers (Replay (Line l)) s status i i' o o' f f' h (inr said) = inr (Replay Memory, inl h.0, said)
-ended_early file workers Spawn s status i i' o o' f f' h (inl said) = inr (Spawn, h, said)
-ended_early file workers Spawn s status i i' o o' f f' h (inr said) = inr (Replay Memory, inl h.1, said)
-ended_early file workers Place s status i i' o o' f f' h (inl said) = inr (Place, h, said)
-ended_early file workers Place s status i i' o o' f f' h (inr said) = inr (Replay Memory, inl h.1, said)
-ended_early file workers NoEntry s status i i' o o' f f' h (inl said) = inr (NoEntry, h, said)
-ended_early file workers NoEntry s status i i' o o' f f' h (inr said) = inr (Replay Memory, inl h.1, said)
+pub ended_early : (file : Bor (List ℕ)) (workers : ℕ) (e : ManyFault) (p : Printing) (status : ℕ) (i i' o o' f f' : Option (List ℕ)) → EndsEarly workers e p i i' o o' → IsEndSaid file e status f f'
+    → IsReplayEnded file workers p status i i' o o' f f'
+ended_early file workers (Replay Read) p status i i' o o' f f' h (inl said) = inr (Replay Read, h, said)
+ended_early file workers (Replay Read) p status i i' o o' f f' h (inr said) = inr (Replay Memory, inl h, said)
+ended_early file workers (Replay Write) p status i i' o o' f f' h said = inr (Replay Write, h, said)
+ended_early file workers (Replay Closed) p status i i' o o' f f' h said = inr (Replay Closed, h, said)
+ended_early file workers (Replay Memory) p status i i' o o' f f' h (inl said) = inr (Replay Memory, h, said)
+ended_early file workers (Replay Memory) p status i i' o o' f f' h (inr said) = inr (Replay Memory, h, said)
+ended_early file workers (Replay (Line l)) p status i i' o o' f f' h (inl said) = inr (Replay (Line l), h, said)
+ended_early file workers (Replay (Line l)) p status i i' o o' f f' h (inr said) = inr (Replay Memory, inl h.0, said)
+ended_early file workers Spawn p status i i' o o' f f' h (inl said) = inr (Spawn, h, said)
+ended_early file workers Spawn p status i i' o o' f f' h (inr said) = inr (Replay Memory, inl h.1, said)
+ended_early file workers Place p status i i' o o' f f' h (inl said) = inr (Place, h, said)
+ended_early file workers Place p status i i' o o' f f' h (inr said) = inr (Replay Memory, inl h.1, said)
+ended_early file workers NoEntry p status i i' o o' f f' h (inl said) = inr (NoEntry, h, said)
+ended_early file workers NoEntry p status i i' o o' f f' h (inr said) = inr (Replay Memory, inl h.1, said)
 
 -- what is said of each fault by itself
-pub by_fault : (workers : ℕ) (e : ReplayFault) (s : Show) (i i' o o' : Option (List ℕ)) → (e ≡ Read → o' ≡ o)
+pub by_fault : (workers : ℕ) (e : ReplayFault) (p : Printing) (i i' o o' : Option (List ℕ)) → (e ≡ Read → o' ≡ o)
     → ((f : LineFault) → e ≡ Line f → (o' ≡ o) × ((bytes : List ℕ) × ReadsAll i i' bytes × IsFaultOf bytes f))
-    → (e ≡ Write → IsReplayedPart workers stop.Write s i i' o o') → (e ≡ Closed → IsReplayedPart workers stop.Closed s i i' o o') → (e ≡ Memory → (o' ≡ o) ⊎ IsReplayedPart workers stop.Memory s i i' o o') → EndsEarly workers (Replay e) s i i' o o'
-by_fault workers Read s i i' o o' read line write closed memory = read refl
-by_fault workers Write s i i' o o' read line write closed memory = write refl
-by_fault workers Closed s i i' o o' read line write closed memory = closed refl
-by_fault workers Memory s i i' o o' read line write closed memory = memory refl
-by_fault workers (Line f) s i i' o o' read line write closed memory = line f refl
+    → (e ≡ Write → IsReplayedPart workers stop.Write p i i' o o') → (e ≡ Closed → IsReplayedPart workers stop.Closed p i i' o o') → (e ≡ Memory → (o' ≡ o) ⊎ IsReplayedPart workers stop.Memory p i i' o o') → EndsEarly workers (Replay e) p i i' o o'
+by_fault workers Read p i i' o o' read line write closed memory = read refl
+by_fault workers Write p i i' o o' read line write closed memory = write refl
+by_fault workers Closed p i i' o o' read line write closed memory = closed refl
+by_fault workers Memory p i i' o o' read line write closed memory = memory refl
+by_fault workers (Line f) p i i' o o' read line write closed memory = line f refl
 
 -- a replay by several workers, by its clauses
-pub many_ends : {X : Type 0} (held : X → Option (List ℕ)) (workers : ℕ) (r : Result (Unit {0}) ManyFault) (s : Show) (i i' : Option (List ℕ)) (old new : X) → 1 < workers
-    → OnOk r (many.Replays s i i' (held old) (held new)) → (r ≡ Err (Replay Read) → new ≡ old)
+pub many_ends : {X : Type 0} (held : X → Option (List ℕ)) (workers : ℕ) (r : Result (Unit {0}) ManyFault) (p : Printing) (i i' : Option (List ℕ)) (old new : X) → 1 < workers
+    → OnOk r (many.Replays p i i' (held old) (held new)) → (r ≡ Err (Replay Read) → new ≡ old)
     → ((f : LineFault) → r ≡ Err (Replay (Line f)) → (new ≡ old) × ((bytes : List ℕ) × ReadsAll i i' bytes × IsFaultOf bytes f))
     → (r ≡ Err Spawn → new ≡ old) → (r ≡ Err Place → new ≡ old) → (r ≡ Err NoEntry → new ≡ old)
-    → (r ≡ Err (Replay Write) → many.ReplaysPart stop.Write s i i' (held old) (held new))
-    → (r ≡ Err (Replay Closed) → many.ReplaysPart stop.Closed s i i' (held old) (held new))
-    → (r ≡ Err (Replay Memory) → (new ≡ old) ⊎ many.ReplaysPart stop.Memory s i i' (held old) (held new)) → EndsBy workers s r i i' (held old) (held new)
-many_ends held workers (Ok u) s i i' old new several ok read line spawn place entry write closed memory = inr (several, ok)
-many_ends held workers (Err (Replay Read)) s i i' old new several ok read line spawn place entry write closed memory = ap held (read refl)
-many_ends held workers (Err (Replay Write)) s i i' old new several ok read line spawn place entry write closed memory = inr (several, write refl)
-many_ends held workers (Err (Replay Closed)) s i i' old new several ok read line spawn place entry write closed memory = inr (several, closed refl)
-many_ends held workers (Err (Replay Memory)) s i i' old new several ok read line spawn place entry write closed memory = go (memory refl)
+    → (r ≡ Err (Replay Write) → many.ReplaysPart stop.Write p i i' (held old) (held new))
+    → (r ≡ Err (Replay Closed) → many.ReplaysPart stop.Closed p i i' (held old) (held new))
+    → (r ≡ Err (Replay Memory) → (new ≡ old) ⊎ many.ReplaysPart stop.Memory p i i' (held old) (held new)) → EndsBy workers p r i i' (held old) (held new)
+many_ends held workers (Ok u) p i i' old new several ok read line spawn place entry write closed memory = inr (several, ok)
+many_ends held workers (Err (Replay Read)) p i i' old new several ok read line spawn place entry write closed memory = ap held (read refl)
+many_ends held workers (Err (Replay Write)) p i i' old new several ok read line spawn place entry write closed memory = inr (several, write refl)
+many_ends held workers (Err (Replay Closed)) p i i' old new several ok read line spawn place entry write closed memory = inr (several, closed refl)
+many_ends held workers (Err (Replay Memory)) p i i' old new several ok read line spawn place entry write closed memory = go (memory refl)
   where
-    go : (new ≡ old) ⊎ many.ReplaysPart stop.Memory s i i' (held old) (held new) → (held new ≡ held old) ⊎ IsReplayedPart workers stop.Memory s i i' (held old) (held new)
+    go : (new ≡ old) ⊎ many.ReplaysPart stop.Memory p i i' (held old) (held new) → (held new ≡ held old) ⊎ IsReplayedPart workers stop.Memory p i i' (held old) (held new)
     go (inl same) = inl (ap held same)
     go (inr part) = inr (inr (several, part))
-many_ends held workers (Err (Replay (Line f))) s i i' old new several ok read line spawn place entry write closed memory =
+many_ends held workers (Err (Replay (Line f))) p i i' old new several ok read line spawn place entry write closed memory =
     let h = line f refl in (ap held h.0, h.1)
-many_ends held workers (Err Spawn) s i i' old new several ok read line spawn place entry write closed memory = (several, ap held (spawn refl))
-many_ends held workers (Err Place) s i i' old new several ok read line spawn place entry write closed memory = (several, ap held (place refl))
-many_ends held workers (Err NoEntry) s i i' old new several ok read line spawn place entry write closed memory = (several, ap held (entry refl))
+many_ends held workers (Err Spawn) p i i' old new several ok read line spawn place entry write closed memory = (several, ap held (spawn refl))
+many_ends held workers (Err Place) p i i' old new several ok read line spawn place entry write closed memory = (several, ap held (place refl))
+many_ends held workers (Err NoEntry) p i i' old new several ok read line spawn place entry write closed memory = (several, ap held (entry refl))
 
 -- ---- what is said of it
 

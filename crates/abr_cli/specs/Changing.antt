@@ -1,5 +1,5 @@
 -- What `abr changes` and `abr follow` wrote.
-use Rattle.std.specs.Prelude.{ℕ, ◌≡◌, ◌⊎◌, Bool, List, Option, Some, None}
+use Rattle.std.specs.Prelude.{ℕ, ◌≡◌, ◌⊎◌, List, Option, Some, None}
 use Rattle.std.specs.Borrow.{Bor}
 use Rattle.ospf_types.specs.declared.prefix.Prefix.{Prefix}
 use Rattle.word_reading.specs.Writing.{WritesNetwork}
@@ -14,6 +14,8 @@ use Rattle.command_answers.specs.declared.words.WordFault.TheVariants.{NotANetwo
 use Rattle.command_answers.specs.Answers.{IsSaid}
 use Rattle.command_answers.specs.Faults.{command_fault_text, fault_line}
 use Rattle.abr_cli.specs.Replaying.{IsEndSaid}
+use Rattle.abr_cli.specs.Showing.{IsAdvanceTold}
+use Rattle.abr_cli.specs.declared.changing.Changes.{Changes}
 
 -- the word asks for this network; without a word all are asked for
 abbrev pub Asks : Option (Bor (List ℕ)) → Option Prefix → Type 0
@@ -40,12 +42,25 @@ abbrev pub IsWordSaid : (status : ℕ) (i i' o o' f f' : Option (List ℕ)) → 
 IsWordSaid status i i' o o' f f' =
     (i' ≡ i) × (o' ≡ o) × (IsSaid (fault_line (command_fault_text (fault.Word NotANetwork))) 2 status f f' ⊎ IsSaid (fault_line (command_fault_text fault.Memory)) 1 status f f')
 
+-- what the command tells, where this network is asked for
+abbrev pub telling_of : Changes → Option Prefix → Telling
+telling_of c only = record {
+  wanted = record { only = only; format = c.format };
+  answers = c.answers;
+  skips = c.skips;
+  progress = c.progress;
+}
+
 -- what is to be told went to its end, and nothing was said; or it ended early, and its fault was said, or want of memory in its place
-abbrev pub IsTellingTold : Bor (List ℕ) → Telling → (status : ℕ) (i i' o o' f f' : Option (List ℕ)) → Type 0
-IsTellingTold file t status i i' o o' f f' = ((status ≡ 0) × TellsAll t i i' o o' × (f' ≡ f))
+abbrev pub IsTellingEnded : Bor (List ℕ) → Telling → (status : ℕ) (i i' o o' f f' : Option (List ℕ)) → Type 0
+IsTellingEnded file t status i i' o o' f f' = ((status ≡ 0) × TellsAll t i i' o o' × (f' ≡ f))
     ⊎ ((e : ReplayFault) × TellsEarly t e i i' o o' × IsEndSaid file (Replay e) status f f')
 
+-- it was shown how much is done, where that is to be shown, and then said how the telling ended
+abbrev pub IsTellingTold : Bor (List ℕ) → Telling → (status : ℕ) (i i' o o' f f' : Option (List ℕ)) → Type 0
+IsTellingTold file t status i i' o o' f f' = (mid : Option (List ℕ)) × IsAdvanceTold t.progress f mid × IsTellingEnded file t status i i' o o' mid f'
+
 -- the word of the one network, if there is one, was no network; or what is asked for was told
-abbrev pub IsChangesTold : Bor (List ℕ) → Option (Bor (List ℕ)) → (answers skips : Bool) (status : ℕ) (i i' o o' f f' : Option (List ℕ)) → Type 0
-IsChangesTold file word answers skips status i i' o o' f f' = (LacksNetwork word × IsWordSaid status i i' o o' f f')
-    ⊎ ((only : Option Prefix) × Asks word only × IsTellingTold file (record { only = only; answers = answers; skips = skips }) status i i' o o' f f')
+abbrev pub IsChangesTold : Changes → (status : ℕ) (i i' o o' f f' : Option (List ℕ)) → Type 0
+IsChangesTold c status i i' o o' f f' = (LacksNetwork c.only × IsWordSaid status i i' o o' f f')
+    ⊎ ((only : Option Prefix) × Asks c.only only × IsTellingTold c.file (telling_of c only) status i i' o o' f f')

@@ -1,6 +1,6 @@
 -- What the program wrote, whatever its words were.
 use Rattle.std.specs.Borrow.{Bor}
-use Rattle.std.specs.Prelude.{ℕ, ◌≡◌, true, false, not, List, Option, Result, Ok, Err, codes}
+use Rattle.std.specs.Prelude.{ℕ, ◌≡◌, ◌||◌, Bool, true, false, not, List, Option, None, Result, Ok, Err, codes}
 use Rattle.command_line.specs.declared.command.Job.{Job}
 use Rattle.command_line.specs.declared.command.Job.TheVariants as job
 use Rattle.command_line.specs.declared.command.Usage.{Usage}
@@ -9,20 +9,44 @@ use Rattle.command_answers.specs.Answers.{Tells}
 use Rattle.command_answers.specs.One.{IsOneAnswer}
 use Rattle.command_answers.specs.Decode.{IsDecodeAnswer}
 use Rattle.command_answers.specs.Number.{IsNumberAnswer}
+use Rattle.output_format.specs.declared.Format.{Format}
+use Rattle.replay.specs.declared.progress.Progress.{Progress}
+use Rattle.abr_cli.specs.declared.changing.Changes.{Changes}
 use Rattle.abr_cli.specs.Changing.{IsChangesTold}
 use Rattle.abr_cli.specs.Replaying.{IsReplayTold}
 use Rattle.command_answers.specs.Usage.{IsUsageAnswer}
 
+-- how much is shown, where the words ask for it or not
+abbrev pub shown_progress : Bool → Progress → Progress
+shown_progress asked own = record own { is_shown = asked || own.is_shown }
+
+-- what `abr changes` asks for: what changed, up to the first fault
+abbrev pub changes_asked : Bor (List ℕ) → Option (Bor (List ℕ)) → Format → Progress → Changes
+changes_asked file only format progress = record { file = file; only = only; format = format; answers = false; skips = false; progress = progress }
+
+-- what `abr follow` asks for: what came of each line, also behind a fault unless it is strict
+abbrev pub follow_asked : Bor (List ℕ) → Option (Bor (List ℕ)) → (strict : Bool) → Format → Changes
+follow_asked file only strict format = record {
+  file = file;
+  only = only;
+  format = format;
+  answers = true;
+  skips = not strict;
+  progress = record { is_shown = false; all = None };
+}
+
 -- The job was done. Only where a recording is run the input is read.
-abbrev pub IsDone : Job → (status : ℕ) (i i' o o' f f' : Option (List ℕ)) → Type 0
-IsDone (job.One words) status i i' o o' f f' = (i' ≡ i) × Tells (IsOneAnswer (texts_of words)) status o o' f f'
-IsDone (job.Decode hex long) status i i' o o' f f' = (i' ≡ i) × Tells (IsDecodeAnswer long hex.now) status o o' f f'
-IsDone (job.Replay file workers show) status i i' o o' f f' = IsReplayTold file workers show status i i' o o' f f'
-IsDone (job.Changes file only) status i i' o o' f f' = IsChangesTold file only false false status i i' o o' f f'
-IsDone (job.Follow only strict) status i i' o o' f f' = (file : Bor (List ℕ)) × (file.now ≡ codes "-") × IsChangesTold file only true (not strict) status i i' o o' f f'
-IsDone (job.Fault number) status i i' o o' f f' = (i' ≡ i) × Tells (IsNumberAnswer number.now) status o o' f f'
+abbrev pub IsDone : Progress → Job → (status : ℕ) (i i' o o' f f' : Option (List ℕ)) → Type 0
+IsDone own (job.One words) status i i' o o' f f' = (i' ≡ i) × Tells (IsOneAnswer (texts_of words)) status o o' f f'
+IsDone own (job.Decode hex long) status i i' o o' f f' = (i' ≡ i) × Tells (IsDecodeAnswer long hex.now) status o o' f f'
+IsDone own (job.Replay file workers show format progress) status i i' o o' f f' =
+    IsReplayTold file workers (record { show = show; format = format; progress = (shown_progress progress own).is_shown }) status i i' o o' f f'
+IsDone own (job.Changes file only format progress) status i i' o o' f f' = IsChangesTold (changes_asked file only format (shown_progress progress own)) status i i' o o' f f'
+IsDone own (job.Follow only strict format) status i i' o o' f f' =
+    (file : Bor (List ℕ)) × (file.now ≡ codes "-") × IsChangesTold (follow_asked file only strict format) status i i' o o' f f'
+IsDone own (job.Fault number) status i i' o o' f f' = (i' ≡ i) × Tells (IsNumberAnswer number.now) status o o' f f'
 
 -- the job was done, or it was said why there is none
-abbrev pub IsJobTold : Result Job Usage → (status : ℕ) (i i' o o' f f' : Option (List ℕ)) → Type 0
-IsJobTold (Ok job) status i i' o o' f f' = IsDone job status i i' o o' f f'
-IsJobTold (Err usage) status i i' o o' f f' = (i' ≡ i) × Tells (IsUsageAnswer usage) status o o' f f'
+abbrev pub IsJobTold : Progress → Result Job Usage → (status : ℕ) (i i' o o' f f' : Option (List ℕ)) → Type 0
+IsJobTold own (Ok job) status i i' o o' f f' = IsDone own job status i i' o o' f f'
+IsJobTold own (Err usage) status i i' o o' f f' = (i' ≡ i) × Tells (IsUsageAnswer usage) status o o' f f'

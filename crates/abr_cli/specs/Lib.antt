@@ -1,3 +1,4 @@
+pub mod Showing
 pub mod Replaying
 pub mod Changing
 pub mod Jobs

@@ -8,7 +8,7 @@ use Rattle.replay.specs.declared.writing.CannotWrite.{CannotWrite}
 use Rattle.replay.specs.declared.writing.CannotWrite.TheVariants as cannot_write
 use Rattle.recording.specs.Faults.{IsFaultOf}
 use Rattle.replay.specs.declared.fault.ReplayFault.TheVariants.{Read, Write, Closed, Memory, Line}
-use Rattle.recording.specs.declared.show.Show.{Show}
+use Rattle.replay.specs.declared.printing.Printing.{Printing}
 use Rattle.replay.specs.Outputs as one
 use Rattle.worker_replay.specs.declared.fault.ManyFault.{ManyFault}
 use Rattle.worker_replay.specs.declared.fault.ManyFault.TheVariants.{Replay, Spawn, Place, NoEntry}
@@ -16,6 +16,7 @@ use Rattle.worker_replay.specs.Outputs as many
 use Rattle.command_answers.specs.declared.command_fault.CommandFault.{CommandFault}
 use Rattle.command_answers.specs.declared.command_fault.CommandFault.TheVariants as fault
 use Rattle.command_answers.specs.Answers.{IsSaidOf, IsUnwrittenSaid}
+use Rattle.abr_cli.specs.Showing.{IsRunTold}
 
 -- the fault of a replay as one of the command, which names the file where it cannot be read; or why the output was not written whole
 abbrev pub fault_from : Bor (List ℕ) → ManyFault → Result CommandFault CannotWrite
@@ -29,27 +30,27 @@ fault_from file Place = Ok fault.Place
 fault_from file NoEntry = Ok fault.NoEntry
 
 -- a replay by so many workers went to its end
-abbrev pub IsReplayed : ℕ → Show → (i i' o o' : Option (List ℕ)) → Type 0
-IsReplayed workers s i i' o o' = ((workers ≡ 1) × one.Replays s i i' o o') ⊎ ((1 < workers) × many.Replays s i i' o o')
+abbrev pub IsReplayed : ℕ → Printing → (i i' o o' : Option (List ℕ)) → Type 0
+IsReplayed workers p i i' o o' = ((workers ≡ 1) × one.Replays p i i' o o') ⊎ ((1 < workers) × many.Replays p i i' o o')
 
 -- the beginning of its output was written that such a stop leaves
-abbrev pub IsReplayedPart : ℕ → Stop → Show → (i i' o o' : Option (List ℕ)) → Type 0
-IsReplayedPart workers why s i i' o o' = ((workers ≡ 1) × one.ReplaysPart why s i i' o o') ⊎ ((1 < workers) × many.ReplaysPart why s i i' o o')
+abbrev pub IsReplayedPart : ℕ → Stop → Printing → (i i' o o' : Option (List ℕ)) → Type 0
+IsReplayedPart workers why p i i' o o' = ((workers ≡ 1) × one.ReplaysPart why p i i' o o') ⊎ ((1 < workers) × many.ReplaysPart why p i i' o o')
 
 -- What a replay that ended early for this fault made of the input and the output. Only of several workers one may not start, or get no entry.
-abbrev pub EndsEarly : ℕ → ManyFault → Show → (i i' o o' : Option (List ℕ)) → Type 0
-EndsEarly workers (Replay Read) s i i' o o' = o' ≡ o
-EndsEarly workers (Replay Write) s i i' o o' = IsReplayedPart workers stop.Write s i i' o o'
-EndsEarly workers (Replay Closed) s i i' o o' = IsReplayedPart workers stop.Closed s i i' o o'
-EndsEarly workers (Replay Memory) s i i' o o' = (o' ≡ o) ⊎ IsReplayedPart workers stop.Memory s i i' o o'
-EndsEarly workers (Replay (Line f)) s i i' o o' = (o' ≡ o) × ((bytes : List ℕ) × ReadsAll i i' bytes × IsFaultOf bytes f)
-EndsEarly workers Spawn s i i' o o' = (1 < workers) × (o' ≡ o)
-EndsEarly workers Place s i i' o o' = (1 < workers) × (o' ≡ o)
-EndsEarly workers NoEntry s i i' o o' = (1 < workers) × (o' ≡ o)
+abbrev pub EndsEarly : ℕ → ManyFault → Printing → (i i' o o' : Option (List ℕ)) → Type 0
+EndsEarly workers (Replay Read) p i i' o o' = o' ≡ o
+EndsEarly workers (Replay Write) p i i' o o' = IsReplayedPart workers stop.Write p i i' o o'
+EndsEarly workers (Replay Closed) p i i' o o' = IsReplayedPart workers stop.Closed p i i' o o'
+EndsEarly workers (Replay Memory) p i i' o o' = (o' ≡ o) ⊎ IsReplayedPart workers stop.Memory p i i' o o'
+EndsEarly workers (Replay (Line f)) p i i' o o' = (o' ≡ o) × ((bytes : List ℕ) × ReadsAll i i' bytes × IsFaultOf bytes f)
+EndsEarly workers Spawn p i i' o o' = (1 < workers) × (o' ≡ o)
+EndsEarly workers Place p i i' o o' = (1 < workers) × (o' ≡ o)
+EndsEarly workers NoEntry p i i' o o' = (1 < workers) × (o' ≡ o)
 
 -- a replay by so many workers
-abbrev pub EndsBy : ℕ → Show → Result (Unit {0}) ManyFault → (i i' o o' : Option (List ℕ)) → Type 0
-EndsBy workers s result i i' o o' = MatchResult result (λ _. IsReplayed workers s i i' o o') (λ e. EndsEarly workers e s i i' o o')
+abbrev pub EndsBy : ℕ → Printing → Result (Unit {0}) ManyFault → (i i' o o' : Option (List ℕ)) → Type 0
+EndsBy workers p result i i' o o' = MatchResult result (λ _. IsReplayed workers p i i' o o') (λ e. EndsEarly workers e p i i' o o')
 
 -- What has to be said of a replay that ended early was said, and the status is 1: the line of its fault, or that the output is not written whole, of
 -- which nothing is said where its pipe was closed.
@@ -61,6 +62,10 @@ abbrev pub IsEndSaid : Bor (List ℕ) → ManyFault → (status : ℕ) (f f' : O
 IsEndSaid file e status f f' = MatchResult (fault_from file e) (λ c. IsSaidOf c status f f' ⊎ IsSaidOf fault.Memory status f f') (λ why. IsUnwrittenSaid why status f f')
 
 -- the replay by so many workers went to its end, and nothing was said; or it ended early, and its fault was said
-abbrev pub IsReplayTold : Bor (List ℕ) → ℕ → Show → (status : ℕ) (i i' o o' f f' : Option (List ℕ)) → Type 0
-IsReplayTold file workers s status i i' o o' f f' = ((status ≡ 0) × IsReplayed workers s i i' o o' × (f' ≡ f))
-    ⊎ ((e : ManyFault) × EndsEarly workers e s i i' o o' × IsFaultSaid file e status f f')
+abbrev pub IsReplayEnded : Bor (List ℕ) → ℕ → Printing → (status : ℕ) (i i' o o' f f' : Option (List ℕ)) → Type 0
+IsReplayEnded file workers p status i i' o o' f f' = ((status ≡ 0) × IsReplayed workers p i i' o o' × (f' ≡ f))
+    ⊎ ((e : ManyFault) × EndsEarly workers e p i i' o o' × IsFaultSaid file e status f f')
+
+-- it was shown how much is done, where that is to be shown, and then said how the replay ended
+abbrev pub IsReplayTold : Bor (List ℕ) → ℕ → Printing → (status : ℕ) (i i' o o' f f' : Option (List ℕ)) → Type 0
+IsReplayTold file workers p status i i' o o' f f' = (mid : Option (List ℕ)) × IsRunTold workers p.progress f mid × IsReplayEnded file workers p status i i' o o' mid f'

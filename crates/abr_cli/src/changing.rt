@@ -2,12 +2,14 @@
 ghost use Rattle.std.specs.Prelude.{◌≡◌, IfOk, IfErr};
 ghost use Rattle.command_answers.specs.declared.command_fault.CommandFault.TheVariants as fault;
 ghost use Rattle.command_answers.specs.declared.words.WordFault.TheVariants.{NotANetwork};
-ghost use Rattle.abr_cli.specs.Changing.{Asks, IsChangesTold, LacksNetwork};
+ghost use Rattle.abr_cli.specs.Changing.{Asks, IsChangesTold, LacksNetwork, telling_of};
 
 use crate::replaying::{say_end, say_fault};
-use changes::{Telling, tell_changes};
+use changes::{Telling, Wanted, tell_changes};
 use command_answers::{CommandFault, read_network};
 use ospf_types::prefix::Prefix;
+use output_format::Format;
+use replay::Progress;
 use std::alloc::Global;
 use std::hash::RandomState;
 use std::io;
@@ -20,16 +22,20 @@ pub struct Changes<'a> {
     pub file: &'a str,
     /// The word of the one network that is asked for, where not all are.
     pub only: Option<&'a str>,
+    /// The form of the lines.
+    pub format: Format,
     /// Whether it is told too what came of a line that changed nothing, and of each line before the next is waited for.
     pub answers: bool,
     /// Whether a line at fault behind the front is told of and skipped.
     pub skips: bool,
+    /// How many lines there are, and whether it is shown how many of them are done.
+    pub progress: Progress,
 }
 
 impl Changes<'_> {
-    /// Runs the recording that comes from `input`, and writes to `out` what each of its events changed. Why it ends early is
-    /// written to `faults`; what is returned is the status: 2 where the word is no network, and then nothing was read, and
-    /// else 0 or 1.
+    /// Runs the recording that comes from `input`, and writes to `out` what each of its events changed. How much is done, and
+    /// why it ends early, is written to `faults`; what is returned is the status: 2 where the word is no network, and then
+    /// nothing was read, and else 0 or 1.
     pub fn run<R: io::Read, W: io::Write, F: io::Write>(
         self,
         alloc: Global,
@@ -38,8 +44,7 @@ impl Changes<'_> {
         out: &mut W,
         faults: &mut F,
     ) -> u8
-        ensures { IsChangesTold self.entry.file self.entry.only self.entry.answers
-            self.entry.skips result (R.remaining input.old) (R.remaining input.new)
+        ensures { IsChangesTold self.entry result (R.remaining input.old) (R.remaining input.new)
             (W.contents out.old) (W.contents out.new) (F.contents faults.old)
             (F.contents faults.new) }
     {
@@ -47,14 +52,27 @@ impl Changes<'_> {
             Ok(only) => only,
             Err(fault) => return say_fault(alloc, fault, faults),
         };
-        let telling = Telling {
-            only,
-            answers: self.answers,
-            skips: self.skips,
-        };
-        match tell_changes(alloc, hashing, input, out, telling) {
+        self.progress.show(alloc, 0, faults);
+        let ended = tell_changes(alloc, hashing, self.telling(only), input, out, faults);
+        self.progress.end(faults);
+        match ended {
             Ok(()) => 0,
             Err(fault) => say_end(alloc, self.file, ManyFault::Replay(fault), faults),
+        }
+    }
+
+    // What is told, where this network is asked for.
+    fn telling(self, only: Option<Prefix>) -> Telling
+        ensures { result ≡ telling_of self.entry only }
+    {
+        Telling {
+            wanted: Wanted {
+                only,
+                format: self.format,
+            },
+            answers: self.answers,
+            skips: self.skips,
+            progress: self.progress,
         }
     }
 }

@@ -4,9 +4,10 @@ ghost use Rattle.command_answers.specs.Faults.{command_fault_text, fault_line, s
 ghost use Rattle.command_answers.specs.Answers.{IsSaid};
 ghost use Rattle.command_line.specs.Command.{AreWorkers};
 ghost use Rattle.abr_cli.specs.Replaying.{fault_from as from_replay, EndsBy, IsEndSaid, IsReplayTold};
+ghost use Rattle.abr_cli.specs.Showing.{IsRunTold};
 
 use command_answers::{CommandFault, NO_MEMORY, line_of, say, say_unwritten};
-use replay::{CannotWrite, ReplayFault, replay_one};
+use replay::{CannotWrite, Progress, ReplayFault, replay_one};
 use std::alloc::Global;
 use std::hash::RandomState;
 use std::io;
@@ -23,9 +24,9 @@ pub struct Replay<'a> {
 }
 
 impl Replay<'_> {
-    /// Runs the recording that `input` holds. Its answers and then what the options show are written to `out`, and the fault
-    /// for which it ends early to `faults`, where nothing is said if `out` is a pipe and was closed; what is returned is the
-    /// status, 0 or 1.
+    /// Runs the recording that `input` holds. Its answers and then what the options show are written to `out`. How much is
+    /// done, and the fault for which it ends early, is written to `faults`, where no fault is said if `out` is a pipe and was
+    /// closed; what is returned is the status, 0 or 1. Of a run by several workers it is not shown how much is done.
     pub fn run<S: Threads + Wait + Sync, R: io::Read, W: io::Write, F: io::Write>(
         self,
         rt: &S,
@@ -37,33 +38,45 @@ impl Replay<'_> {
     ) -> u8
         requires { AreWorkers self.options.workers }
         ensures { IsReplayTold self.entry.file self.entry.options.workers
-            self.entry.options.show result (R.remaining input.old) (R.remaining input.new)
+            self.entry.options.printing result (R.remaining input.old) (R.remaining input.new)
             (W.contents out.old) (W.contents out.new) (F.contents faults.old)
             (F.contents faults.new) }
     {
-        match run_with(rt, alloc, hashing, self.options, input, out) {
+        match run_with(rt, alloc, hashing, self.options, input, out, faults) {
             Ok(()) => 0,
             Err(fault) => say_end(alloc, self.file, fault, faults),
         }
     }
 }
 
-fn run_with<S: Threads + Wait + Sync, R: io::Read, W: io::Write>(
+// Runs the recording, and shows how much is done.
+fn run_with<S: Threads + Wait + Sync, R: io::Read, W: io::Write, F: io::Write>(
     rt: &S,
     alloc: Global,
     hashing: RandomState,
     options: ReplayOptions,
     input: &mut R,
     out: &mut W,
+    faults: &mut F,
 ) -> Result<(), ManyFault>
     requires { AreWorkers options.workers }
-    ensures { EndsBy options.workers options.show result (R.remaining input.old)
+    ensures end { EndsBy options.workers options.printing result (R.remaining input.old)
         (R.remaining input.new) (W.contents out.old) (W.contents out.new) }
+    ensures progress { IsRunTold options.workers options.printing.progress
+        (F.contents faults.old) (F.contents faults.new) }
 {
-    if options.workers > 1 {
+    let ReplayOptions { workers, printing } = options;
+    if workers > 1 {
         return replay_many(rt, alloc, hashing, options, input, out);
     }
-    match replay_one(alloc, hashing, input, out, options.show) {
+    let progress = Progress {
+        is_shown: printing.progress,
+        all: None,
+    };
+    progress.show(alloc, 0, faults);
+    let ended = replay_one(alloc, hashing, printing, input, out, faults);
+    progress.end(faults);
+    match ended {
         Ok(()) => Ok(()),
         Err(fault) => Err(ManyFault::Replay(fault)),
     }

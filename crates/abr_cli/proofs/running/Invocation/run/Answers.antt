@@ -8,4 +8,4 @@ returns-in-Decode g c = rw c.in-Ok.is (rw c.in-Decode.is (refl, c.decode.ensures
 pub returns-in-Follow : goal.returns-in-Follow
 returns-in-Follow g c =
     let asked = c.follow_of.ensures in
-    rw c.in-Ok.is (rw c.in-Follow.is (c.follow_of.result.file, asked.file, told_as _ _ _ _ _ _ _ _ _ _ _ _ _ _ asked.only asked.answers asked.skips c.run-in-Follow.ensures))
+    rw c.in-Ok.is (rw c.in-Follow.is (c.follow_of.result.file, asked.file, told_as _ _ _ _ _ _ _ _ _ asked.asked c.run-in-Follow.ensures))
