@@ -3,9 +3,12 @@
 //! the system.
 #![tactic(auto)]
 
+mod counting;
+mod progress;
 mod source;
 
 use abr_cli::{Answer, Invocation, job, tell};
+use progress::progress_of;
 use source::Source;
 use std::hash::RandomState;
 use std::io;
@@ -35,6 +38,11 @@ fn status<S: Threads + Wait + Sync>(rt: &HostRuntime, threads: &S) -> io::Result
     let hashing = RandomState::new(rt)?;
     let mut input = Source::of(rt, &job);
     let (out, faults) = (&mut rt.stdout(), &mut rt.stderr());
-    let called = Invocation { job, hashing };
+    let progress = progress_of(rt, &job);
+    let called = Invocation {
+        job,
+        hashing,
+        progress,
+    };
     Ok(called.run(threads, rt.alloc(), &mut input, out, faults))
 }

@@ -1,0 +1,14 @@
+-- How many lines come.
+use Rattle.std.specs.Prelude.{ℕ, ◌≡◌, ◌==◌, List, Option, count_by}
+use Rattle.std.specs.Io.KnownBytes.{Consumes, IsAtEnd}
+
+-- the bytes have so many line feeds
+abbrev pub line_feeds : List ℕ → ℕ
+line_feeds bytes = count_by (λ b. b == 10) bytes
+
+-- what a reader had left, up to its end, has so many lines
+pub record CountsLines (before after : Option (List ℕ)) (lines : ℕ) : Type 0 where
+  pub bytes : List ℕ
+  pub read : Consumes before after bytes
+  pub end : IsAtEnd after
+  pub counted : line_feeds bytes ≡ lines
