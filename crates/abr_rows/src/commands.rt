@@ -1,5 +1,6 @@
 //! Commands over writers that fail.
 
+use crate::trial::UNSHOWN;
 use abr_cli::{Invocation, job};
 use std::alloc::Global;
 use std::hash::RandomState;
@@ -33,7 +34,12 @@ fn status<S: Threads + Wait + Sync, W: io::Write, F: io::Write>(
 ) -> u8 {
     let mut input: &[u8] = b"abr 1\nrouter 1.2.3.4\narea 0.0.0.0 normal\n";
     let job = job(alloc, words);
-    Invocation { job, hashing }.run(rt, alloc, &mut input, out, faults)
+    let called = Invocation {
+        job,
+        hashing,
+        progress: UNSHOWN,
+    };
+    called.run(rt, alloc, &mut input, out, faults)
 }
 
 // A device that fails at each write, with an error of this kind.

@@ -27,7 +27,7 @@ use std::{fs, io};
 use trial::is_as_wanted;
 
 // The files of rows.
-const FILES: [&str; 13] = [
+const FILES: [&str; 14] = [
     "commands.rows",
     "recordings.rows",
     "versions.rows",
@@ -41,6 +41,7 @@ const FILES: [&str; 13] = [
     "workers.rows",
     "changes.rows",
     "follow.rows",
+    "progress.rows",
 ];
 
 /// How many rows ran, and how many of them differ.

@@ -1,7 +1,8 @@
 //! Replays over readers and writers that fail.
 
+use abr_cli::Format;
 use recording::{Fault, LineFault};
-use replay::{ReplayFault, Show, replay_one};
+use replay::{Printing, ReplayFault, Show, replay_one};
 use std::alloc::Global;
 use std::hash::RandomState;
 use std::io;
@@ -84,6 +85,13 @@ pub fn some_device(
     }
 }
 
+/// The routing table, in words; how much is done is not shown.
+pub const PRINTING: Printing = Printing {
+    show: Show::Routes,
+    format: Format::Text,
+    progress: false,
+};
+
 // What a replay with so many reads and writes answers, and whether what it wrote is a beginning of the
 // routes, and all of them.
 fn replays(
@@ -95,7 +103,8 @@ fn replays(
 ) -> (Result<(), ReplayFault>, bool, bool) {
     let mut input = some_device(alloc, text, calls.0, None);
     let mut out = some_device(alloc, "", calls.1, failure);
-    let answer = replay_one(alloc, hashing, &mut input, &mut out, Show::Routes);
+    let mut faults = Vec::new(alloc);
+    let answer = replay_one(alloc, hashing, PRINTING, &mut input, &mut out, &mut faults);
     let written = out.taken.as_slice();
     let begins = ROUTES.as_bytes().starts_with(written);
     (answer, begins, written.len() == ROUTES.len())

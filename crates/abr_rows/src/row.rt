@@ -11,6 +11,7 @@
 //! | `>` | a line of the output that is wanted |
 //! | `>*` | a part of that output, so many times |
 //! | `!` | a line that is wanted on standard error |
+//! | `!~` | such a line, with `~` for each carriage return |
 //! | `?` | whatever is printed is as it is wanted |
 //! | `=` | the status that is wanted, and the end of the row |
 //! | `#` | a remark |
@@ -142,6 +143,8 @@ fn go_on<'a>(mut row: Row<'a>, number: usize, line: &str) -> Result<Step<'a>, Ro
         add_line(&mut row.output, text)?;
     } else if let Some(text) = line.strip_prefix("! ") {
         add_line(&mut row.faults, text)?;
+    } else if let Some(text) = line.strip_prefix("!~ ") {
+        add_over(&mut row.faults, text)?;
     } else if line == "x" {
         row.is_readable = false;
     } else if line == "?" {
@@ -155,6 +158,15 @@ fn go_on<'a>(mut row: Row<'a>, number: usize, line: &str) -> Result<Step<'a>, Ro
 // Adds the text and a line feed.
 fn add_line(to: &mut Vec<u8>, text: &str) -> Result<(), RowFault> {
     to.extend_from_slice(text.as_bytes())?;
+    to.push(b'\n')?;
+    Ok(())
+}
+
+// Adds a line that is written over: each `~` is a carriage return.
+fn add_over(to: &mut Vec<u8>, text: &str) -> Result<(), RowFault> {
+    for byte in text.as_bytes() {
+        to.push(if *byte == b'~' { b'\r' } else { *byte })?;
+    }
     to.push(b'\n')?;
     Ok(())
 }

@@ -1,7 +1,9 @@
 //! What events changed, over readers and writers that fail.
 
 use crate::replays::{RECORDING, some_device};
-use changes::{Telling, tell_changes};
+use crate::trial::UNSHOWN;
+use abr_cli::Format;
+use changes::{Telling, Wanted, tell_changes};
 use recording::{Fault, LineFault};
 use replay::ReplayFault;
 use std::alloc::Global;
@@ -12,18 +14,26 @@ use std::test::Fail;
 const CHANGES: &str = "5 set 192.0.2.0/24 intra 0.0.0.0 10 0 direct:1
 ";
 
+// The changes of all networks, in words.
+const WANTED: Wanted = Wanted {
+    only: None,
+    format: Format::Text,
+};
+
 // All that is told, and no answers; the first fault ends it.
 const ALL: Telling = Telling {
-    only: None,
+    wanted: WANTED,
     answers: false,
     skips: false,
+    progress: UNSHOWN,
 };
 
 // Answers too, and faults are skipped.
 const ANSWERS: Telling = Telling {
-    only: None,
+    wanted: WANTED,
     answers: true,
     skips: true,
+    progress: UNSHOWN,
 };
 
 // What is answered with so many reads and writes, and whether what was written is a beginning of the
@@ -37,7 +47,8 @@ fn tells(
 ) -> (Result<(), ReplayFault>, bool, bool) {
     let mut input = some_device(alloc, text, calls.0, None);
     let mut out = some_device(alloc, "", calls.1, failure);
-    let answer = tell_changes(alloc, hashing, &mut input, &mut out, ALL);
+    let mut faults = Vec::new(alloc);
+    let answer = tell_changes(alloc, hashing, ALL, &mut input, &mut out, &mut faults);
     let written = out.taken.as_slice();
     let begins = CHANGES.as_bytes().starts_with(written);
     (answer, begins, written.len() == CHANGES.len())
@@ -112,7 +123,15 @@ fn a_line_is_answered_before_the_next_is_read(rt: HostRuntime) -> Result<(), Fai
     };
     let closed = Some(io::ErrorKind::BrokenPipe);
     let mut out = some_device(rt.alloc(), "", 0, closed);
-    let answer = tell_changes(rt.alloc(), hashing, &mut input, &mut out, ANSWERS);
+    let mut faults = Vec::new(rt.alloc());
+    let answer = tell_changes(
+        rt.alloc(),
+        hashing,
+        ANSWERS,
+        &mut input,
+        &mut out,
+        &mut faults,
+    );
     assert!(rt; answer == Err(ReplayFault::Closed) && input.calls == 5);
     Ok(())
 }

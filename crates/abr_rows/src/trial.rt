@@ -2,11 +2,17 @@
 
 use crate::input::Input;
 use crate::row::Row;
-use abr_cli::{Invocation, job};
+use abr_cli::{Invocation, Progress, job};
 use std::alloc::{AllocError, Global};
 use std::hash::RandomState;
 use std::sync::Wait;
 use std::thread::Threads;
+
+/// It is not shown how much is done, unless the words ask for it.
+pub const UNSHOWN: Progress = Progress {
+    is_shown: false,
+    all: None,
+};
 
 /// Whether the command answers what the row wants.
 pub fn is_as_wanted<S: Threads + Wait + Sync>(
@@ -22,7 +28,11 @@ pub fn is_as_wanted<S: Threads + Wait + Sync>(
     };
     let (mut out, mut faults) = (Vec::new(alloc), Vec::new(alloc));
     let job = job(alloc, row.words.as_slice());
-    let called = Invocation { job, hashing };
+    let called = Invocation {
+        job,
+        hashing,
+        progress: UNSHOWN,
+    };
     let status = called.run(rt, alloc, &mut input, &mut out, &mut faults);
     let is_text = row.is_any_text
         || (out.as_slice() == row.output.as_slice() && faults.as_slice() == row.faults.as_slice());

@@ -1,6 +1,6 @@
 //! A replay over two workers.
 
-use replay::Show;
+use crate::replays::PRINTING;
 use std::hash::RandomState;
 use std::test::Fail;
 use worker_replay::{ReplayOptions, replay_many};
@@ -30,8 +30,10 @@ fn look_ups_see_all_events_that_were_taken(rt: HostRuntime) -> Result<(), Fail> 
     let hashing = RandomState::new(&rt)?;
     let mut input = RECORDING.as_bytes();
     let mut out = Vec::new(rt.alloc());
-    let (workers, show) = (2, Show::Routes);
-    let options = ReplayOptions { workers, show };
+    let options = ReplayOptions {
+        workers: 2,
+        printing: PRINTING,
+    };
     replay_many(&rt, rt.alloc(), hashing, options, &mut input, &mut out)?;
     assert!(rt; out.as_slice() == ROUTES.as_bytes());
     Ok(())
