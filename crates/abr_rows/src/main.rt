@@ -27,7 +27,7 @@ use std::{fs, io};
 use trial::is_as_wanted;
 
 // The files of rows.
-const FILES: [&str; 14] = [
+const FILES: [&str; 15] = [
     "commands.rows",
     "recordings.rows",
     "versions.rows",
@@ -41,6 +41,7 @@ const FILES: [&str; 14] = [
     "workers.rows",
     "changes.rows",
     "follow.rows",
+    "json.rows",
     "progress.rows",
 ];
 
