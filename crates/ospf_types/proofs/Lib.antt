@@ -15,3 +15,4 @@ pub mod Forwards
 pub mod Examined
 pub mod Stable
 pub mod RangeChanges
+pub mod Written

@@ -1,8 +1,9 @@
 ghost use Rattle.std.specs.Prelude.{◌≡◌, ◌≢◌, ◌^◌, ◌<◌, ℕ, Some, IfSome, IsNone};
 ghost use Rattle.ospf_types.specs.Text.{address_text};
 
-use std::fmt;
+use crate::dotted::{MOST, write_dotted};
 use std::net::Ipv4Addr;
+use std::{fmt, str};
 
 /// An address, a Router ID or an Area ID, in host order. It prints in dotted form.
 #[derive(Clone, Copy, Debug, PartialEq, Eq, Hash, PartialOrd, Ord)]
@@ -24,6 +25,9 @@ impl fmt::Display for Address {
     ghost output = { λ a. Some (address_text a.0) };
 
     fn fmt<W: fmt::Write>(&self, f: &mut fmt::Formatter<W>) -> fmt::Result {
-        Ipv4Addr::from_bits(self.0).fmt(f)
+        let mut text = [0; MOST];
+        let start = write_dotted(self.0, &mut text, MOST);
+        // SAFETY: Digits and dots are ASCII.
+        f.pad(unsafe { str::from_utf8_unchecked(&text[start..]) })
     }
 }

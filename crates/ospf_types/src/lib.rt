@@ -5,6 +5,7 @@
 
 pub mod address;
 pub mod config;
+mod dotted;
 pub mod entry;
 pub mod hop;
 pub mod key;

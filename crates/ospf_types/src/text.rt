@@ -3,18 +3,26 @@ ghost use Rattle.std.specs.Prelude.{Some};
 ghost use Rattle.ospf_types.specs.Text.{prefix_text, kind_text, hop_text, path_text, paths_text, entry_text, area_text};
 
 use crate::address::Address;
+use crate::dotted::{MOST, write_dotted};
 use crate::entry::{Entry, PathType, Paths};
 use crate::hop::{NextHop, Path};
 use crate::prefix::Prefix;
-use std::fmt;
+use itoa::write_digits;
+use std::{fmt, str};
 
 /// The network number and how many bits count, as `192.0.2.0/24`.
 impl fmt::Display for Prefix {
     ghost output = { λ p. Some (prefix_text p) };
 
     fn fmt<W: fmt::Write>(&self, f: &mut fmt::Formatter<W>) -> fmt::Result {
-        let (address, length) = (Address(self.address()), self.length());
-        write!(f, "{address}/{length}")
+        // (a slash and two digits behind the address)
+        const END: usize = MOST + 3;
+        let mut text = [0; END];
+        let start = write_digits(u64::from(self.length()), &mut text, END);
+        text[start - 1] = b'/';
+        let start = write_dotted(self.address(), &mut text, start - 1);
+        // SAFETY: Digits, dots and a slash are ASCII.
+        f.pad(unsafe { str::from_utf8_unchecked(&text[start..]) })
     }
 }
 

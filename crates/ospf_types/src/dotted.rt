@@ -1,0 +1,31 @@
+//! Addresses in dotted form, written from the last digit to the first.
+ghost use Rattle.std.specs.Prelude.{◌≡◌, ◌+◌, ◌≤◌, ◌++◌, length, drop, codes, decimal};
+ghost use Rattle.ospf_types.specs.Text.{address_text};
+
+use itoa::write_digits;
+
+/// The most bytes that an address takes, as in `255.255.255.255`.
+pub(crate) const MOST: usize = 15;
+
+/// Writes the address so that its text ends at `end`, and returns where it starts.
+pub(crate) fn write_dotted(address: u32, text: &mut [u8], end: usize) -> usize
+    requires { (MOST ≤ end) × (end ≤ length text.old) }
+    ensures end { result ≤ end }
+    ensures text { drop result text.new ≡ address_text address ++ drop end text.old }
+{
+    let [first, second, third, last] = address.to_be_bytes();
+    let start = write_digits(u64::from(last), text, end);
+    let start = write_octet(third, text, start);
+    let start = write_octet(second, text, start);
+    write_octet(first, text, start)
+}
+
+// Writes the octet and a dot before what starts at `end`.
+fn write_octet(octet: u8, text: &mut [u8], end: usize) -> usize
+    requires { (4 ≤ end) × (end ≤ length text.old) }
+    ensures start { (result ≤ end) × (end ≤ result + 4) }
+    ensures text { drop result text.new ≡ decimal octet ++ codes "." ++ drop end text.old }
+{
+    text[end - 1] = b'.';
+    write_digits(u64::from(octet), text, end - 1)
+}
