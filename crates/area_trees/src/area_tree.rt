@@ -6,6 +6,7 @@ ghost use Rattle.ospf_types.specs.Lsa.{key_of};
 ghost use Rattle.ospf_types.specs.Hops.{hop_cmp};
 ghost use Rattle.spf.specs.Maps.{most_distance};
 ghost use Rattle.spf.specs.TreeValues.{AreOthersKept, listed_hops};
+ghost use Rattle.tree_paths.specs.LeastPaths.{IsPathOver, links_at};
 ghost use Rattle.vertex_graph.specs.Graphs.{most_routers};
 ghost use Rattle.area_trees.specs.Areas.{FollowsInterfaces, FollowsLsas, HasBoundedWork, IsBuiltByWork, IsBuiltFor, IsStanding, IsTreeBut, IsTreeIn, IsTreeOfSome, IsWorkBetween, NamesChanged, vertex_of};
 
@@ -20,7 +21,7 @@ use spf::{Touched, Tree};
 use std::alloc::Global;
 use std::hash::RandomState;
 use std::marker::Model;
-use vertex_graph::{LinkChanges, Up};
+use vertex_graph::{Link, LinkChanges, Up};
 use vertex_map::Placed;
 
 /// The graph of an area and its shortest-path tree.
@@ -165,6 +166,20 @@ impl AreaTree {
         ensures in_order { IsStrictlySortedBy hop_cmp result.now }
     {
         self.tree.hops_at(vertex)
+    }
+
+    /// The links of a path of least cost from the root to the vertex, in their order, by which it has this next hop (RFC 2328,
+    /// 16.1 and 16.1.1); none where it has not. Of several such paths it is one.
+    pub fn links_of_path(
+        &self,
+        alloc: Global,
+        vertex: Vertex,
+        hop: NextHop,
+    ) -> Result<Vec<&Link>, Memory>
+        requires { IsTreeOfSome self.now }
+        ensures { IfOk result (λ links. IsPathOver self.now.area.graph vertex hop (links_at links.items)) }
+    {
+        tree_paths::links_of_path(alloc, self.area.graph(), &self.tree, vertex, hop)
     }
 
     /// The vertices whose distance or next hops the last change changed, ascending, each once.

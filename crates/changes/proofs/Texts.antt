@@ -11,6 +11,7 @@ use Rattle.event_core.specs.DueSummaries.{listed}
 use Rattle.event_core.specs.Lists.{AreaSummariesValue}
 use Rattle.replay.specs.Stops.{AreWhole}
 use Rattle.event_state.specs.Texts.{refusal_text}
+use Rattle.event_state.specs.declared.refusal.Refusal.{Refusal}
 use Rattle.recording.specs.Texts.{fault_text}
 use Rattle.replay.proofs.Wholes.{lookup_whole, none_whole}
 use Rattle.summary_lists.specs.Lists.{Metrics, due_for, kind_of}
@@ -18,7 +19,7 @@ use Rattle.serde_json.specs.Data.{Data}
 use Rattle.serde_json.specs.Written.{compact_text}
 use Rattle.json_lines.specs.Lines.{set_data, drop_data, due_data, undue_data, lookup_data, refused_data, fault_data}
 use Rattle.json_lines.specs.Members.{json_line}
-use Rattle.replay.specs.Lines.{dest_text, lookup_line}
+use Rattle.replay.specs.Lines.{dest_text, lookup_line, refused_line}
 use Rattle.changes.specs.Changes.{area_changes, area_due}
 use Rattle.changes.specs.Lines.{Change, Set, Drop, Due, Undue, Found, Refused, AtFault, change_line, is_told, item_text, line_of, lines_of, object_line, place_text, words_of}
 use Rattle.output_format.specs.declared.Format.{Format}
@@ -60,6 +61,11 @@ line_whole number wanted change = elim (is_told wanted.only change) as (λ b. Ar
 pub found_line : (fm : Format) (number address serial : ℕ) (found : Match) → lookup_line fm number address serial found ≡ change_line fm number (Found address serial found)
 found_line format.Text number address serial found = refl
 found_line format.Json number address serial found = refl
+
+-- and so is what is printed of a refusal
+pub refusal_line : (fm : Format) (number : ℕ) (refusal : Refusal) → refused_line fm number refusal ≡ change_line fm number (Refused refusal)
+refusal_line format.Text number refusal = refl
+refusal_line format.Json number refusal = refl
 
 -- ---- lists
 

@@ -109,10 +109,7 @@ pub(crate) fn put_refused(at: &Place, refusal: Refusal, text: &mut String) -> Re
     ensures { OnOk result (string_bytes text.new ≡ string_bytes text.old
         ++ change_line at.now.wanted.format at.now.number (told.Refused refusal)) }
 {
-    match at.wanted.format {
-        Format::Text => words::put_refused(at.number, refusal, text),
-        Format::Json => json_lines::put_refused(at.number, refusal, text),
-    }
+    replay::put_refused(at.wanted.format, at.number, refusal, text)
 }
 
 /// The line is at fault.

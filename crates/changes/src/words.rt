@@ -4,7 +4,7 @@ ghost use Rattle.summary_lists.specs.Lists.{kind_of};
 ghost use Rattle.changes.specs.Lines as told;
 ghost use Rattle.changes.specs.Lines.{words_of};
 
-use event_core::{DueSummary, Refusal};
+use event_core::DueSummary;
 use ospf_types::address::Address;
 use ospf_types::memory::Memory;
 use ospf_types::prefix::Prefix;
@@ -68,14 +68,6 @@ pub(crate) fn put_undue(
     write!(text, "{number} undue {area} {kind} ")?;
     put_dest(due.dest, text)?;
     text.push_str("\n")?;
-    Ok(())
-}
-
-pub(crate) fn put_refused(number: usize, refusal: Refusal, text: &mut String) -> Result<(), Memory>
-    ensures { OnOk result (string_bytes text.new ≡ string_bytes text.old
-        ++ words_of number (told.Refused refusal)) }
-{
-    writeln!(text, "{number} refused {refusal}")?;
     Ok(())
 }
 

@@ -5,7 +5,8 @@
 //! the same, parallel links, a link that only one end has, one LSA in the place of another, and a repair
 //! that is refused memory. A walk of 400 changes compares each repaired tree with the one that is built.
 //! What a tree stands on has small tests too: sets of next hops, the queue of a search, the links of a
-//! graph alone; and so has the tree of an area that follows its database.
+//! graph alone; and so has the tree of an area that follows its database. Paths are found link by link in the
+//! first network, and through a line of 600 routers.
 #![tactic(auto)]
 
 #[cfg(test)]
@@ -16,6 +17,8 @@ mod hops;
 mod links;
 #[cfg(test)]
 mod network;
+#[cfg(test)]
+mod paths;
 #[cfg(test)]
 mod places;
 #[cfg(test)]

@@ -13,21 +13,21 @@ use vertex_graph::{Graph, Up};
 const ROOT: Vertex = Vertex::Router(1);
 
 // The router that lies on N alone.
-const LEAF: Vertex = Vertex::Router(2);
+pub(crate) const LEAF: Vertex = Vertex::Router(2);
 
 // The neighbour at the other end of the root's point-to-point link.
-const PEER: Vertex = Vertex::Router(3);
+pub(crate) const PEER: Vertex = Vertex::Router(3);
 
 const LAN: u32 = 0xc000_0202;
 
-const N: Vertex = Vertex::Network(LAN);
+pub(crate) const N: Vertex = Vertex::Network(LAN);
 
 const BY_N: NextHop = NextHop::Direct(1);
 
-const BY_PEER: NextHop = NextHop::Peer(2);
+pub(crate) const BY_PEER: NextHop = NextHop::Peer(2);
 
 // The next hops at the addresses of the leaf and of the peer on N.
-const AT_LEAF: NextHop = NextHop::Router(1, 0xc000_0202);
+pub(crate) const AT_LEAF: NextHop = NextHop::Router(1, 0xc000_0202);
 
 const AT_PEER: NextHop = NextHop::Router(1, 0xc000_0203);
 
@@ -52,7 +52,7 @@ const OF_PEER: [Way; 2] = [(ROOT, 0xc633_6402, 5), (N, 0xc000_0203, 5)];
 
 // The root reaches the broadcast network N at 10 over interface 1, and the peer at 5 over interface 2,
 // which is point-to-point; the peer reaches N at 5, and the leaf lies on N.
-fn connect(alloc: Global, trial: &mut Trial) -> Result<(), Fail> {
+pub(crate) fn connect(alloc: Global, trial: &mut Trial) -> Result<(), Fail> {
     trial.interfaces(alloc, &UPS)?;
     put(alloc, trial, 1, &OF_ROOT)?;
     put(alloc, trial, 2, &OF_LEAF)?;
@@ -61,7 +61,12 @@ fn connect(alloc: Global, trial: &mut Trial) -> Result<(), Fail> {
 }
 
 // Hands in the router's LSA with these links, and answers the work of the repair.
-fn put(alloc: Global, trial: &mut Trial, id: u32, ways: &[Way]) -> Result<Touched, Fail> {
+pub(crate) fn put(
+    alloc: Global,
+    trial: &mut Trial,
+    id: u32,
+    ways: &[Way],
+) -> Result<Touched, Fail> {
     let lsa = router(alloc, id, ways)?;
     Ok(trial.replace(alloc, &[(Vertex::Router(id), Some(&lsa))])?)
 }

@@ -6,12 +6,14 @@ ghost use Rattle.test_trees.specs.Changes.{AreTogether, AreChangesOf, AreChanges
 
 use lsa_codec::Checked;
 use ospf_types::entry::Vertex;
+use ospf_types::hop::NextHop;
 use ospf_types::memory::Memory;
 use spf::{Touched, Tree};
 use std::alloc::Global;
 use std::hash::RandomState;
 use std::marker::Model;
-use vertex_graph::{Graph, LinkChanges, Up};
+use tree_paths::links_of_path;
+use vertex_graph::{Graph, Link, LinkChanges, Up};
 
 /// A graph and the tree of its links.
 #[derive(Drop)]
@@ -55,6 +57,19 @@ impl Trial {
         lsas: &[(Vertex, Option<&Checked>)],
     ) -> Result<Touched, Memory> {
         replace(alloc, &mut self.graph, &mut self.tree, lsas)
+    }
+
+    /// The links of a path to the vertex by this next hop; none where it has no such next hop. A spent tree has no memory.
+    pub(crate) fn path(
+        &self,
+        alloc: Global,
+        to: Vertex,
+        hop: NextHop,
+    ) -> Result<Vec<&Link>, Memory> {
+        if self.tree.spent() {
+            return Err(Memory);
+        }
+        links_of_path(alloc, &self.graph, &self.tree, to, hop)
     }
 
     /// Takes these as the interfaces that are up.

@@ -1,0 +1,7 @@
+//! Paths in a shortest-path tree (RFC 2328, 16.1): over which links a vertex has a next hop.
+#![tactic(auto)]
+
+mod last_link;
+mod path;
+
+pub use path::links_of_path;

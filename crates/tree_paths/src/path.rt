@@ -1,0 +1,42 @@
+//! Paths of least cost, link by link.
+ghost use Rattle.std.specs.Prelude.{IfOk};
+ghost use Rattle.spf.specs.TreeValues.{IsTreeOf};
+ghost use Rattle.tree_paths.specs.LeastPaths.{IsPathOver, links_at};
+
+use crate::last_link::{Before, TreeOf};
+use ospf_types::entry::Vertex;
+use ospf_types::hop::NextHop;
+use ospf_types::memory::Memory;
+use spf::Tree;
+use std::alloc::Global;
+use vertex_graph::{Graph, Link};
+
+/// The links of a path of least cost from the root to a vertex, in their order, by which the vertex has this next hop (RFC
+/// 2328, 16.1 and 16.1.1). Where it has no such next hop, there are none. Of several such paths it is one, and always the
+/// same for one history of the graph.
+pub fn links_of_path<'a>(
+    alloc: Global,
+    graph: &'a Graph,
+    tree: &Tree,
+    to: Vertex,
+    hop: NextHop,
+) -> Result<Vec<&'a Link>, Memory>
+    requires { IsTreeOf graph.now tree.now }
+    ensures { IfOk result (λ links. IsPathOver graph.now to hop (links_at links.items)) }
+{
+    let tree_of = TreeOf { graph, tree };
+    let mut links = Vec::new(alloc);
+    let mut at = to;
+    let mut left = tree_of.hop_at(to, hop);
+    while let Some(hop) = left {
+        let last = tree_of.last_link(at, hop);
+        links.push(last.link)?;
+        at = last.link.from.vertex();
+        left = match last.before {
+            Before::Root => None,
+            Before::Path(hop) => Some(hop),
+        };
+    }
+    links.reverse();
+    Ok(links)
+}
