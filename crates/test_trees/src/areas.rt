@@ -1,13 +1,15 @@
 //! The tree of a small area, built and kept (RFC 2328, 16.1).
 ghost use Rattle.std.specs.Prelude.{◌≡◌, ℕ, List, OnOk};
 ghost use Rattle.vertex_graph.specs.Up.{Up as UpValue};
-ghost use Rattle.area_trees.specs.Areas.{IsAreaTree};
+ghost use Rattle.area_trees.specs.Areas.{IsAreaTree, IsTreeOfSome};
 
 use crate::network::{network, router};
+use crate::paths::leads;
 use area_trees::AreaTree;
 use lsa_codec::Checked;
 use lsdb::Database;
 use ospf_types::entry::Vertex;
+use ospf_types::hop::NextHop;
 use ospf_types::key::Key;
 use std::alloc::Global;
 use std::hash::RandomState;
@@ -88,6 +90,14 @@ fn reaches(tree: &AreaTree) -> bool {
     tree.distance(LEAF) == Some(10) && tree.hops(LEAF).len() == 1
 }
 
+// Whether the path to the leaf leads to the network, and from there to the leaf.
+fn leads_over(alloc: Global, tree: &AreaTree) -> Result<bool, Fail>
+    requires { IsTreeOfSome tree.now }
+{
+    let links = tree.links_of_path(alloc, LEAF, NextHop::Router(1, 2))?;
+    Ok(leads(&links, &[(N, 10), (LEAF, 0)]))
+}
+
 // Whether one stands and then the other, and both the leaf and the network go with the interface.
 fn follows(alloc: Global, tree: &mut AreaTree, database: &mut Database) -> Result<bool, Fail>
     requires limit { database.old.limit ≡ 8 }
@@ -95,7 +105,7 @@ fn follows(alloc: Global, tree: &mut AreaTree, database: &mut Database) -> Resul
 {
     let greatest = stands(tree, database);
     lose(alloc, tree, database)?;
-    let reached = reaches(tree);
+    let reached = reaches(tree) && leads_over(alloc, tree)?;
     tree.interfaces(alloc, &[])?;
     Ok(greatest && reached && tree.changed() == [LEAF, N].as_slice())
 }

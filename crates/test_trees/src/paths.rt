@@ -9,8 +9,8 @@ use std::hash::RandomState;
 use std::test::Fail;
 use vertex_graph::{Link, Up};
 
-// Whether the links lead to these vertices one after the other, at these costs.
-fn leads(links: &[&Link], to: &[(Vertex, u16)]) -> bool {
+/// Whether the links lead to these vertices one after the other, at these costs.
+pub(crate) fn leads(links: &[&Link], to: &[(Vertex, u16)]) -> bool {
     let mut all = links.len() == to.len();
     for (link, (vertex, cost)) in links.iter().zip(to) {
         all &= link.to.vertex() == *vertex && link.cost == *cost;
