@@ -81,6 +81,11 @@ IsStanding d (Network id) body =
     ((router : ℕ) × IsGreatestOf d id router × (body ≡ body_at d (network_key id router)))
     ⊎ (((router : ℕ) → IsUsed d (network_key id router) → ⊥) × (body ≡ None))
 
+-- The key of the LSA that stands for the vertex, where one does.
+abbrev pub IsStandingKey : Database → Vertex → Key → Type 0
+IsStandingKey d (Router router) key = key ≡ router_key router
+IsStandingKey d (Network id) key = (router : ℕ) × IsGreatestOf d id router × (key ≡ network_key id router)
+
 -- each of these vertices with what stands for it
 abbrev pub AreStanding : Database → List Vertex → List Handed → Type 0
 AreStanding d [] [] = Unit {0}

@@ -4,7 +4,7 @@ ghost use Rattle.std.specs.FinMap as map;
 ghost use Rattle.lsdb.specs.Databases.{Database as Lsas};
 ghost use Rattle.ospf_types.specs.Lsa.{key_of};
 ghost use Rattle.vertex_graph.specs.Graphs.{AreLinkChanges, HasEnds, most_routers};
-ghost use Rattle.area_trees.specs.Areas.{IsGraphBut, IsGraphOf, IsStanding, vertex_of};
+ghost use Rattle.area_trees.specs.Areas.{IsGraphBut, IsGraphOf, IsStanding, IsStandingKey, vertex_of};
 
 use crate::networks::Networks;
 use crate::vertices::{list_vertices, lsa_of, standing};
@@ -101,6 +101,7 @@ impl AreaGraph {
         requires { IsGraphOf database.now.lsas self.now }
         ensures body { IsStanding database.now.lsas vertex (option_map (λ l. l.now.body) result) }
         ensures own { IfSome result (λ l. vertex_of (key_of l.now) ≡ Some vertex) }
+        ensures key { IfSome result (λ l. IsStandingKey database.now.lsas vertex (key_of l.now)) }
     {
         lsa_of(database, &self.networks, vertex)
     }

@@ -8,7 +8,7 @@ ghost use Rattle.spf.specs.Maps.{most_distance};
 ghost use Rattle.spf.specs.TreeValues.{AreOthersKept, listed_hops};
 ghost use Rattle.tree_paths.specs.LeastPaths.{IsPathOver, links_at};
 ghost use Rattle.vertex_graph.specs.Graphs.{most_routers};
-ghost use Rattle.area_trees.specs.Areas.{FollowsInterfaces, FollowsLsas, HasBoundedWork, IsBuiltByWork, IsBuiltFor, IsStanding, IsTreeBut, IsTreeIn, IsTreeOfSome, IsWorkBetween, NamesChanged, vertex_of};
+ghost use Rattle.area_trees.specs.Areas.{FollowsInterfaces, FollowsLsas, HasBoundedWork, IsBuiltByWork, IsBuiltFor, IsStanding, IsStandingKey, IsTreeBut, IsTreeIn, IsTreeOfSome, IsWorkBetween, NamesChanged, vertex_of};
 
 use crate::area_graph::AreaGraph;
 use lsa_codec::Checked;
@@ -125,6 +125,7 @@ impl AreaTree {
         requires { IsTreeIn database.now.lsas self.now }
         ensures body { IsStanding database.now.lsas vertex (option_map (λ l. l.now.body) result) }
         ensures own { IfSome result (λ l. vertex_of (key_of l.now) ≡ Some vertex) }
+        ensures key { IfSome result (λ l. IsStandingKey database.now.lsas vertex (key_of l.now)) }
     {
         self.area.standing(database, vertex)
     }

@@ -4,7 +4,7 @@ ghost use Rattle.std.specs.List.{filter_map};
 ghost use Rattle.std.specs.List.Sorted.{IsStrictlySortedBy};
 ghost use Rattle.ospf_types.specs.Lsa.{key_of};
 ghost use Rattle.ospf_types.specs.Vertices.{vertex_cmp};
-ghost use Rattle.area_trees.specs.Areas.{vertex_of as vertex_of_key, AddsVertexOf, AreNetworksOf, AreVerticesOf, IsStanding, IsUsed, StandFor};
+ghost use Rattle.area_trees.specs.Areas.{vertex_of as vertex_of_key, AddsVertexOf, AreNetworksOf, AreVerticesOf, IsStanding, IsStandingKey, IsUsed, StandFor};
 
 use crate::networks::Networks;
 use lsa_codec::Checked;
@@ -89,6 +89,7 @@ pub(crate) fn lsa_of<'a>(
     requires { AreNetworksOf database.now.lsas networks.now }
     ensures body { IsStanding database.now.lsas vertex (option_map (λ l. l.now.body) result) }
     ensures own { IfSome result (λ l. vertex_of_key (key_of l.now) ≡ Some vertex) }
+    ensures key { IfSome result (λ l. IsStandingKey database.now.lsas vertex (key_of l.now)) }
 {
     match vertex {
         Vertex::Router(router) => database.usable(Key {
