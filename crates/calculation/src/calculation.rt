@@ -213,6 +213,51 @@ impl Calculation {
         Ok(plan)
     }
 
+    /// The tree of each area, in the order of the configuration.
+    pub fn trees(&self) -> &[AreaTree]
+        ensures { result.now ≡ self.now.trees }
+    {
+        &self.trees
+    }
+
+    /// The intra-area routes.
+    pub fn intra(&self) -> &Intra
+        ensures { result.now ≡ self.now.intra }
+    {
+        &self.intra
+    }
+
+    /// The address ranges that are active.
+    pub fn active(&self) -> &ActiveRanges
+        ensures { result.now ≡ self.now.active }
+    {
+        &self.active
+    }
+
+    /// The inter-area routes.
+    pub fn inter(&self) -> &Inter
+        ensures { result.now ≡ self.now.inter }
+    {
+        &self.inter
+    }
+
+    /// The external routes.
+    pub fn external(&self) -> &External
+        ensures { result.now ≡ self.now.external }
+    {
+        &self.external
+    }
+
+    /// The network's entry: intra-area, else inter-area, else external (RFC 2328, 11).
+    pub fn entry(&self, network: Prefix) -> Option<&Entry>
+        ensures { option_copied result ≡ entry_at self.now network }
+    {
+        if let Some(entry) = self.intra.get(network) {
+            return Some(entry);
+        }
+        self.outer_entry(network)
+    }
+
     /// What the routing table has for the network.
     pub fn item(&self, alloc: Global, network: Prefix) -> Result<Option<Item>, Memory>
         ensures { IfOk result (IsItemOf self.now network) }
@@ -319,16 +364,6 @@ impl Calculation {
             inter: &self.inter,
             external: &self.external,
         }
-    }
-
-    // The network's entry: intra-area, else inter-area, else external (RFC 2328, 11).
-    fn entry(&self, network: Prefix) -> Option<&Entry>
-        ensures { option_copied result ≡ entry_at self.now network }
-    {
-        if let Some(entry) = self.intra.get(network) {
-            return Some(entry);
-        }
-        self.outer_entry(network)
     }
 
     // The network's entry, read where the last event left it if `next` tells where.

@@ -1,6 +1,7 @@
-ghost use Rattle.std.specs.Prelude.{◌≡◌, ◌≤◌, ◌<◌, ◌+◌, length, None, IfErr, IfOk, MatchBool, OnOk, OnErr, option_map};
+ghost use Rattle.std.specs.Prelude.{◌≡◌, ◌≤◌, ◌<◌, ◌+◌, length, None, IfErr, IfNone, IfOk, IfSome, MatchBool, OnOk, OnErr, option_map};
 ghost use Rattle.vertex_graph.specs.Graphs.{most_routers};
 ghost use Rattle.event_state.specs.BaseFaults.{base_fault_of};
+ghost use Rattle.calculation.specs.Calculations.{IsCalculationOf};
 ghost use Rattle.summaries.specs.DueSummaries.{lists_of};
 ghost use Rattle.event_core.specs.Right.{IsDueIn, list_under};
 ghost use Rattle.event_core.specs.Cores.{IsBaseFaultOf, IsCore, IsCurrent, IsOpening, IsFaultOf, IsRollRefusal, Rolls, Applies, NamesChanges, HasBoundedWork, Stands, Runs, built_state, state_of};
@@ -9,6 +10,7 @@ ghost use Rattle.event_state.specs.States.{serial_of};
 ghost use Rattle.event_state.specs.Steps.{standard_limits};
 ghost use Rattle.event_state.specs.Listings.{AreLsas};
 
+use crate::calculated::Calculated;
 use crate::listing::{base_of, lsas};
 use crate::named::named_by;
 use crate::reply::{Reply, Status};
@@ -281,6 +283,22 @@ impl Core {
         ensures { result ≡ self.now.work }
     {
         self.routes.work()
+    }
+
+    /// The state, and what table and due summaries are made of; `None` where they are behind.
+    pub fn calculated(&self) -> Option<Calculated<'_>>
+        ensures state { IfSome result (λ found. found.state.now ≡ state_of self.now) }
+        ensures right { IfSome result (λ found.
+            IsCalculationOf found.state.now found.calculation.now) }
+        ensures none { IfNone result (IsCurrent self.now → ⊥) }
+    {
+        if self.built != self.state.journal().len() as u64 {
+            return None;
+        }
+        Some(Calculated {
+            state: &self.state,
+            calculation: self.routes.calculation(),
+        })
     }
 
     /// What the journal begins with.

@@ -2,15 +2,18 @@
 //! routing table and the summary-LSAs due in each area follow.
 #![tactic(auto)]
 
+mod calculated;
 mod core_state;
 mod listing;
 mod named;
 mod reply;
 mod routes;
 
+pub use calculated::Calculated;
+pub use calculation::Calculation;
 pub use config_faults::{ConfigFault, fault_in};
 pub use core_state::Core;
-pub use event_state::{Base, Event, Limits, Refusal};
+pub use event_state::{Base, Event, Limits, Refusal, State};
 pub use reply::{Reply, Status};
 pub use route_table as table;
 pub use spf::Touched;

@@ -183,6 +183,12 @@ impl Routes {
         Ok(())
     }
 
+    pub(crate) fn calculation(&self) -> &Calculation
+        ensures { result.now ≡ self.now.calculation }
+    {
+        &self.calculation
+    }
+
     pub(crate) fn table(&self) -> &Table
         ensures { result.now ≡ self.now.table }
     {

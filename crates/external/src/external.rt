@@ -138,6 +138,14 @@ impl External {
         self.preferred.get(router)
     }
 
+    /// Where a forwarding address leads (RFC 2328, 16.4 (3)); none where no AS-external-LSA that counts has it, or where
+    /// all is spent.
+    pub fn forward(&self, address: u32) -> Option<&Forward>
+        ensures { option_copied result ≡ map.get self.now.forwards address }
+    {
+        self.forwards.get(address)
+    }
+
     /// The AS boundary routers that have a preferred entry, in no stated order, each once.
     pub fn routers(&self, alloc: Global) -> Result<Vec<u32>, Memory>
         ensures exact { IfOk result (λ routers. HasJust (HasPreferred self.now) routers.items) }

@@ -16,7 +16,7 @@ use std::alloc::Global;
 use std::marker::Model;
 
 /// A way to a forwarding address: its class, its cost, and its next hops, each toward the address.
-pub(crate) struct Way {
+pub struct Way {
     class: u8,
     cost: u32,
     hops: Vec<NextHop>,
@@ -46,14 +46,16 @@ impl Model for Way {
 }
 
 impl Way {
-    pub(crate) fn class(&self) -> u8
+    /// 0 where the entry is an intra-area path through another area than the backbone, and else 1; with RFC1583Compatibility
+    /// enabled 0 (RFC 2328, 16.4.1).
+    pub fn class(&self) -> u8
         ensures { result ≡ self.now.class }
     {
         self.class
     }
 
     /// The cost, a sum of metrics.
-    pub(crate) fn cost(&self) -> u32
+    pub fn cost(&self) -> u32
         ensures value { result ≡ self.now.cost }
         ensures bounded { self.now.cost < most_cost }
     {
@@ -61,7 +63,7 @@ impl Way {
     }
 
     /// The next hops, in the order of the entry's paths.
-    pub(crate) fn hops(&self) -> &[NextHop]
+    pub fn hops(&self) -> &[NextHop]
         ensures { result.now ≡ self.now.hops }
     {
         self.hops.as_slice()
@@ -82,7 +84,7 @@ impl Same for Way {
 }
 
 /// The longest match of a forwarding address, and the way there; none where the match is a discard.
-pub(crate) struct Forward {
+pub struct Forward {
     matched: Option<Prefix>,
     way: Option<Way>,
 }
@@ -107,14 +109,14 @@ impl Model for Forward {
 
 impl Forward {
     /// The longest match of the address; none where nothing contains it.
-    pub(crate) fn matched(&self) -> Option<Prefix>
+    pub fn matched(&self) -> Option<Prefix>
         ensures { result ≡ self.now.matched }
     {
         self.matched
     }
 
     /// The way there; none where nothing matches, and where the match is a discard.
-    pub(crate) fn way(&self) -> Option<&Way>
+    pub fn way(&self) -> Option<&Way>
         ensures { option_copied result ≡ self.now.way }
     {
         self.way.as_ref()

@@ -11,5 +11,6 @@ mod preferred;
 mod update;
 
 pub use external::External;
+pub use forward::{Forward, Way};
 pub use inputs::ExternalInputs;
 pub use preferred::Preferred;

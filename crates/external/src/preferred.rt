@@ -123,9 +123,9 @@ impl Preferred {
         self.hops.as_slice()
     }
 
-    // 0 where the entry is an intra-area path through another area than the backbone, and else 1; with RFC1583Compatibility
-    // enabled 0.
-    pub(crate) fn class(&self) -> u8
+    /// 0 where the entry is an intra-area path through another area than the backbone, and else 1; with RFC1583Compatibility
+    /// enabled 0 (RFC 2328, 16.4.1).
+    pub fn class(&self) -> u8
         ensures { result ≡ self.now.preference.class }
     {
         self.class
