@@ -1,0 +1,108 @@
+-- What became of offers, one after the other; and traces by the kind of their offer.
+use Rattle.std.proofs.Common.{◌≡◌, ◌<◌, ◌≤◌, ◌+◌, ℕ, List, [], ◌∷◌, ◌++◌, Option, take, length, get_or, refl, sym, ap, subst, ◌∙◌, inl, inr}
+use Rattle.std.specs.Prelude.{Contains}
+use Rattle.std.proofs.lemmas.List.{append-nil, append_assoc, take_all, take_more}
+use Rattle.std.proofs.lemmas.List.Elements.{Contains-append_left, Contains-append_right, Contains-append_cases, Contains-push, Contains-push_cases}
+use Rattle.ospf_types.proofs.Elements.{contains_more, no_element}
+use Rattle.ospf_types.specs.declared.entry.Entry.{Entry}
+use Rattle.ospf_types.specs.declared.key.Scope.TheVariants.{Area}
+use Rattle.ospf_types.specs.declared.lsa.External.{External}
+use Rattle.ospf_types.specs.declared.prefix.Prefix.{Prefix}
+use Rattle.explanation.specs.declared.explained.Candidate.{Candidate}
+use Rattle.explanation.specs.declared.layers.Layers.{Layers}
+use Rattle.explanation.specs.declared.offer.Offer.{Offer}
+use Rattle.explanation.specs.declared.offer.OfferKind.{OfferKind}
+use Rattle.explanation.specs.declared.offer.OfferKind.TheVariants as kind
+use Rattle.explanation.specs.declared.offered.ExternalKey.{ExternalKey}
+use Rattle.explanation.specs.declared.trace.Trace.{Trace}
+use Rattle.explanation.specs.Judging.{IsJudged, IsRivalsOf}
+use Rattle.explanation.specs.Outside.{AreOfNetwork, IsTraceAt, IsWithin}
+use Rattle.explanation.specs.Explained.{AddsJudged, AddsNetwork, AreCandidates, AreNetworks, AreTracesFor, IsCandidate, MakesMore}
+
+-- a trace of an offer of an area
+pub trace_within : (w : Layers) (o : Offer) (area : ℕ) (t : Trace) (k : OfferKind) → ((metric : ℕ) (external : External) → k ≡ kind.AsExternal metric external → ⊥) → IsWithin w area o t → IsTraceAt w o (Area area) k t
+trace_within w o area t (kind.Stub metric) other within = within
+trace_within w o area t kind.Transit other within = within
+trace_within w o area t (kind.Summary metric) other within = within
+trace_within w o area t (kind.AsExternal metric external) other within = absurd (other metric external refl)
+
+module _ (w : Layers) (all : List Offer) where
+  -- beside its rivals
+  pub one_candidate : (p : Prefix) (group : List Offer) → AreOfNetwork p all group → (internal : Option Entry) (greatest : Option ℕ) (least : Option ExternalKey) → IsRivalsOf w p group internal greatest least
+      → (o : Offer) → Contains group o → (before after : List Candidate) → (adds : AddsJudged w internal greatest least o before after) → IsCandidate w all adds.0
+  one_candidate p group of internal greatest least rivals o among before after adds =
+      let c = adds.0 in
+      let same : c.offer.network ≡ p = ap (λ (x : Offer). x.network) adds.1 ∙ ((of o).0 among).1 in record {
+        among = group;
+        among_are = subst (λ (q : Prefix). AreOfNetwork q all group) (sym same) of;
+        internal = internal;
+        greatest = greatest;
+        least = least;
+        rivals = subst (λ (q : Prefix). IsRivalsOf w q group internal greatest least) (sym same) rivals;
+        judged = subst (λ (x : Offer). IsJudged w internal greatest least x (record { cost = c.cost; fate = c.fate })) (sym adds.1) adds.2;
+        traces = subst (λ (x : Offer). AreTracesFor w x c.traces.items) (sym adds.1) adds.3;
+      }
+
+  -- none of the group yet
+  pub begin : (group : List Offer) (before : List Candidate) → MakesMore w all (take 0 group) before before
+  begin group before others are = subst (λ (os : List Offer). AreCandidates w all os before) (sym (append-nil others)) are
+
+  -- one more candidate
+  more_candidate : (offers : List Offer) (o : Offer) (c : Candidate) (before : List Candidate) → AreCandidates w all offers before → c.offer ≡ o → IsCandidate w all c → AreCandidates w all (offers ++ o ∷ []) (before ++ c ∷ [])
+  more_candidate offers o c before are same is = record {
+    sound = λ d among. elim (Contains-push_cases before c d among) [
+      | inl was ↦ let old = are.sound d was in (Contains-append_left offers (o ∷ []) d.offer old.0, old.1)
+      | inr new ↦ subst (λ (x : Candidate). Contains (offers ++ o ∷ []) x.offer × IsCandidate w all x) new (subst (λ (x : Offer). Contains (offers ++ o ∷ []) x) (sym same) (Contains-push offers o), is)
+    ];
+    complete = λ x among. elim (Contains-push_cases offers o x among) [
+      | inl was ↦ let old = are.complete x was in (old.0, Contains-append_left before (c ∷ []) old.0 old.1, old.2)
+      | inr new ↦ (c, Contains-push before c, same ∙ new)
+    ];
+  }
+
+  pub more : (group : List Offer) (i : ℕ) (o : Offer) (first before after : List Candidate) (c : Candidate) → i < length group → o ≡ get_or group i o → c.offer ≡ o → IsCandidate w all c → after ≡ before ++ c ∷ []
+      → MakesMore w all (take i group) first before → MakesMore w all (take (i + 1) group) first after
+  more group i o first before after c lt here same is added so_far others are =
+      let cut : take (i + 1) group ≡ take i group ++ o ∷ [] = take_more group i o lt ∙ ap (λ (x : Offer). take i group ++ x ∷ []) (sym here) in
+      let joined : others ++ take (i + 1) group ≡ (others ++ take i group) ++ o ∷ [] = ap (λ (os : List Offer). others ++ os) cut ∙ sym (append_assoc others (take i group) (o ∷ [])) in
+      subst (λ (os : List Offer). AreCandidates w all os after) (sym joined)
+      (subst (AreCandidates w all ((others ++ take i group) ++ o ∷ [])) (sym added) (more_candidate (others ++ take i group) o c before (so_far others are) same is))
+
+  pub whole : (group : List Offer) (i : ℕ) (first after : List Candidate) → length group ≤ i → MakesMore w all (take i group) first after → MakesMore w all group first after
+  whole group i first after past so_far = subst (λ (os : List Offer). MakesMore w all os first after) (take_all i group past) so_far
+
+  -- of the offers of the networks up to here
+  pub record IsDone (networks : List Prefix) (candidates : List Candidate) : Type 0 where
+    pub offers : List Offer
+    pub are : AreCandidates w all offers candidates
+    pub some : (o : Offer) → Contains offers o → Contains all o
+    pub every : (o : Offer) → Contains all o → Contains networks o.network → Contains offers o
+
+  pub none_done : (networks : List Prefix) → IsDone (take 0 networks) []
+  none_done networks = record {
+    offers = [];
+    are = record { sound = λ c among. absurd (no_element c among); complete = λ o among. absurd (no_element o among) };
+    some = λ o among. absurd (no_element o among);
+    every = λ o has among. absurd (no_element o.network among);
+  }
+
+  pub more_done : (networks : List Prefix) (i : ℕ) (p : Prefix) (before after : List Candidate) → i < length networks → p ≡ get_or networks i p → AddsNetwork w all p before after → IsDone (take i networks) before → IsDone (take (i + 1) networks) after
+  more_done networks i p before after lt here adds done = record {
+    offers = done.offers ++ adds.0;
+    are = adds.2 done.offers done.are;
+    some = λ o among. elim (Contains-append_cases done.offers adds.0 o among) [
+      | inl was ↦ done.some o was
+      | inr new ↦ ((adds.1 o).0 new).0
+    ];
+    every = λ o has among. elim ((contains_more networks i p o.network lt here).0 among) [
+      | inl was ↦ Contains-append_left done.offers adds.0 o (done.every o has was)
+      | inr same ↦ Contains-append_right done.offers adds.0 o ((adds.1 o).1 (has, same))
+    ];
+  }
+
+  pub all_done : (networks : List Prefix) (i : ℕ) (candidates : List Candidate) → length networks ≤ i → AreNetworks all networks → IsDone (take i networks) candidates → AreCandidates w all all candidates
+  all_done networks i candidates past are done =
+      let every : (o : Offer) → Contains all o → Contains done.offers o = λ o has. done.every o has (subst (λ (ps : List Prefix). Contains ps o.network) (sym (take_all i networks past)) (are o has)) in record {
+        sound = λ c among. let is = done.are.sound c among in (done.some c.offer is.0, is.1);
+        complete = λ o has. done.are.complete o (every o has);
+      }

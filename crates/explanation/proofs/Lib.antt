@@ -1,0 +1,12 @@
+pub mod StubLinks
+pub mod Tails
+pub mod PathLinks
+pub mod TraceLists
+pub mod Interfaces
+pub mod Rivals
+pub mod Standings
+pub mod OwnTraces
+pub mod OfNetwork
+pub mod Forwarding
+pub mod Candidates
+pub mod Areas

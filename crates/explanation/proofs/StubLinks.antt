@@ -1,0 +1,11 @@
+-- The TOS entries of a stub link do not count.
+use Rattle.std.proofs.Common.{◌≡◌, ℕ, List, [], ◌∷◌, map, refl, ap}
+use Rattle.std.specs.List.{filter_map, cons_option}
+use Rattle.ospf_types.specs.declared.key.Scope.{Scope}
+use Rattle.ospf_types.specs.Lsa.{Lsa, RouterLink}
+use Rattle.lsa_codec.specs.Readers.{without_tos}
+use Rattle.explanation.specs.Offers.{stub_around}
+
+pub stubs_without_tos : (scope : Scope) (address : ℕ) (l : Lsa) (ks : List RouterLink) → filter_map (stub_around scope address l) (map without_tos ks) ≡ filter_map (λ (k : RouterLink). stub_around scope address l (without_tos k)) ks
+stubs_without_tos scope address l [] = refl
+stubs_without_tos scope address l (k ∷ ks) = ap (cons_option (stub_around scope address l (without_tos k))) (stubs_without_tos scope address l ks)

@@ -1,0 +1,34 @@
+use Rattle.std.proofs.Common.{rules, List, [], ◌∷◌, ◌++◌, Some, ap, ◌∙◌, inl, refl}
+use Rattle.std.specs.Prelude.{Contains}
+use Rattle.ospf_types.specs.declared.entry.Vertex.{Vertex}
+use Rattle.ospf_types.specs.declared.entry.Vertex.TheVariants.{Router}
+use Rattle.ospf_types.specs.declared.hop.Path.{Path}
+use Rattle.explanation.specs.declared.trace.Place.TheVariants as place
+use Rattle.explanation.specs.declared.trace.Step.{Step}
+use Rattle.explanation.specs.Traces.{last_from}
+use Rattle.explanation.proofs.layers.Layers.push_told.Goals as goal
+
+pub returns : goal.returns
+returns c =
+    let o = c.args.told.offer.now in
+    let path : Path = record { hop = c.args.within.now.hop; advertiser = Some o.source.key.router } in
+    let told = c.in-Some-told_step.step in
+    let among : Contains c.args.told.paths.now path = c.has_path.ensures.0 (search rules) in
+    let last = c.last_step.ensures ∙ ap (λ (v : Vertex). last_from (place.Vertex v) o) c.vertex.ensures in
+    let whole = c.in_ok-push-2.ensures.items
+    ∙ ap (λ (steps : List Step). steps ++ c.last_step.result ∷ []) c.in_ok-push.ensures.items
+    ∙ ap (λ (s : Step). (c.in_ok-steps.steps.items ++ told ∷ []) ++ s ∷ []) last in
+    inl (
+      record { path = path; steps = c.push-2.new.self },
+      record {
+        area = c.args.told.area;
+        border = c.in-Some.border;
+        steps = c.in_ok-steps.steps.items;
+        told = told;
+        steps_are = c.in_ok-steps.ensures;
+        told_is = c.in-Some-told_step.ensures;
+        whole = whole;
+      },
+      among,
+      c.in_ok-push-3.ensures.items,
+    )

@@ -1,0 +1,24 @@
+use Rattle.std.proofs.Common.{rules, subst, sym, ◌∙◌, inl, inr, refl}
+use Rattle.explanation.specs.Traces.{AreSteps}
+use Rattle.explanation.proofs.TraceLists.{no_items, none_there, some_items}
+use Rattle.explanation.proofs.layers.Layers.push_trace.Goals as goal
+
+pub returns-then-is_empty : goal.returns-then-is_empty
+returns-then-is_empty c =
+    let t = c.args.target in
+    let none = no_items c.in_ok-steps.steps (sym c.is_empty.ensures ∙ c.if-is_empty.true) in
+    inr (refl, λ a names has hop. none_there c.args.self.areas.now c.requires t.area t.vertex c.args.path.now.hop (subst (AreSteps c.args.self.areas.now t.area t.vertex c.args.path.now.hop) none c.in_ok-steps.ensures) a has hop)
+
+pub returns : goal.returns
+returns c = inl (
+  record { path = c.args.path.now; steps = c.extend_from_slice.new.self },
+  record {
+    names = search rules;
+    steps = c.in_ok-steps.steps.items;
+    steps_are = c.in_ok-steps.ensures;
+    some = some_items c.in_ok-steps.steps (sym c.is_empty.ensures ∙ c.if-is_empty.false);
+    whole = c.in_ok-extend_from_slice.ensures.items;
+  },
+  refl,
+  c.in_ok-push.ensures.items,
+)

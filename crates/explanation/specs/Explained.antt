@@ -1,0 +1,64 @@
+-- What is explained of an address (RFC 2328, 11.1 and 16).
+use Rattle.std.specs.Prelude.{ℕ, ◌≡◌, List, [], ◌∷◌, ◌++◌, Contains, Option, Some}
+use Rattle.ospf_types.specs.declared.entry.Entry.{Entry}
+use Rattle.ospf_types.specs.declared.prefix.Prefix.{Prefix}
+use Rattle.event_state.specs.States.{State}
+use Rattle.calculation.specs.Calculations.{entry_at}
+use Rattle.route_layers.specs.Layers.{AreActive}
+use Rattle.explanation.specs.declared.explained.Candidate.{Candidate}
+use Rattle.explanation.specs.declared.layers.Layers.{Layers}
+use Rattle.explanation.specs.declared.offer.Offer.{Offer}
+use Rattle.explanation.specs.declared.offered.ExternalKey.{ExternalKey}
+use Rattle.explanation.specs.declared.trace.Trace.{Trace}
+use Rattle.explanation.specs.Judging.{IsJudged, IsRivalsOf}
+use Rattle.explanation.specs.Layers.{AreLayers}
+use Rattle.explanation.specs.Outside.{AreOfNetwork, IsTraceOf, all_offers}
+
+-- each is a trace of the offer, for a path of its network's route
+abbrev pub AreTracesFor : Layers → Offer → List Trace → Type 0
+AreTracesFor w o traces = (t : Trace) → Contains traces t → (e : Entry) × (entry_at w.calculation.now o.network ≡ Some e) × Contains e.paths t.path × IsTraceOf w o t
+
+-- what became of the offer, beside just those of all for its network
+pub record IsCandidate (w : Layers) (all : List Offer) (c : Candidate) : Type 0 where
+  pub among : List Offer
+  pub among_are : AreOfNetwork c.offer.network all among
+  pub internal : Option Entry
+  pub greatest : Option ℕ
+  pub least : Option ExternalKey
+  pub rivals : IsRivalsOf w c.offer.network among internal greatest least
+  pub judged : IsJudged w internal greatest least c.offer (record { cost = c.cost; fate = c.fate })
+  pub traces : AreTracesFor w c.offer c.traces.items
+
+-- what became of each of these offers
+pub record AreCandidates (w : Layers) (all offers : List Offer) (candidates : List Candidate) : Type 0 where
+  pub sound : (c : Candidate) → Contains candidates c → Contains offers c.offer × IsCandidate w all c
+  pub complete : (o : Offer) → Contains offers o → (c : Candidate) × Contains candidates c × (c.offer ≡ o)
+
+-- of each offer of a network that contains the address, by what is calculated of the state
+pub record IsExplained (s : State) (address : ℕ) (candidates : List Candidate) : Type 0 where
+  pub layers : Layers
+  pub state : layers.state.now ≡ s
+  pub right : AreLayers s layers.calculation.now layers.areas.now
+  pub active : AreActive s layers.active.now
+  pub candidates_are : AreCandidates layers (all_offers layers address) (all_offers layers address) candidates
+
+-- what became of this offer beside these rivals is added
+abbrev pub AddsJudged : Layers → Option Entry → Option ℕ → Option ExternalKey → Offer → List Candidate → List Candidate → Type 0
+AddsJudged w internal greatest least o before after = (c : Candidate) × (c.offer ≡ o)
+    × IsJudged w internal greatest least o (record { cost = c.cost; fate = c.fate }) × AreTracesFor w o c.traces.items × (after ≡ before ++ c ∷ [])
+
+-- what became of this offer is added
+abbrev pub AddsCandidate : Layers → List Offer → Offer → List Candidate → List Candidate → Type 0
+AddsCandidate w all o before after = (c : Candidate) × IsCandidate w all c × (c.offer ≡ o) × (after ≡ before ++ c ∷ [])
+
+-- what became of these offers is there too, beside that of others
+abbrev pub MakesMore : Layers → List Offer → List Offer → List Candidate → List Candidate → Type 0
+MakesMore w all group before after = (others : List Offer) → AreCandidates w all others before → AreCandidates w all (others ++ group) after
+
+-- of all the offers of the network
+abbrev pub AddsNetwork : Layers → List Offer → Prefix → List Candidate → List Candidate → Type 0
+AddsNetwork w all p before after = (group : List Offer) × AreOfNetwork p all group × MakesMore w all group before after
+
+-- the networks of all these offers
+abbrev pub AreNetworks : List Offer → List Prefix → Type 0
+AreNetworks offers networks = (o : Offer) → Contains offers o → Contains networks o.network

@@ -1,0 +1,119 @@
+-- What an offer comes to by itself, whatever others offer (RFC 2328, 16.1, 16.2 and 16.4).
+use Rattle.std.specs.Prelude.{ℕ, ◌+◌, ◌≡◌, ◌≢◌, ◌<◌, ◌≤◌, ◌⊎◌, Bool, false, true, IsTrue, Contains, Option, Some, None, bit_and, if◌then◌else◌}
+use Rattle.std.specs.FinMap.{get, entries}
+use Rattle.ospf_types.specs.declared.config.Interface.{Interface}
+use Rattle.ospf_types.specs.declared.entry.Vertex.TheVariants.{Router, Network}
+use Rattle.ospf_types.specs.declared.key.Key.{Key}
+use Rattle.ospf_types.specs.declared.lsa.External.{External}
+use Rattle.ospf_types.specs.declared.prefix.Prefix.{Prefix}
+use Rattle.ospf_types.specs.Inter.{LSInfinity}
+use Rattle.ospf_types.specs.Intra.{B, LiesIn}
+use Rattle.ospf_types.specs.Lsa.{MaxAge}
+use Rattle.path_choice.specs.Reached.{ReachedValue}
+use Rattle.intra.specs.Intras.{reached_at}
+use Rattle.active_ranges.specs.Active.{IsActiveIn}
+use Rattle.external.specs.Preferred.{PreferredValue}
+use Rattle.external.specs.Forwards.{ForwardValue, WayValue}
+use Rattle.explanation.specs.declared.fate.Fate.{Fate}
+use Rattle.explanation.specs.declared.fate.Fate.TheVariants as fate
+use Rattle.explanation.specs.declared.layers.Layers.{Layers}
+use Rattle.explanation.specs.declared.offer.Offer.{Offer}
+use Rattle.explanation.specs.declared.offered.ExternalKey.{ExternalKey}
+use Rattle.explanation.specs.Layers.{IsDistanceOf, IsKeyStanding, is_examined}
+
+abbrev pub root_of : Layers → ℕ
+root_of w = w.state.now.config.router
+
+-- ---- stub networks and transit networks (16.1)
+
+-- the interface is one of the area's, is up, and lies in the network
+abbrev pub IsOn : ℕ → Prefix → Interface → Type 0
+IsOn area p i = (i.area ≡ area) × IsTrue i.up × LiesIn i p
+
+-- the root has an interface on the network in the area
+abbrev pub HasInterfaceOn : Layers → ℕ → Prefix → Type 0
+HasInterfaceOn w area p = (e : ℕ × Interface) × Contains (entries w.state.now.interfaces) e × IsOn area p e.1
+
+-- the cost of a stub network: the distance of its router and the metric, or, of the root's own, the metric
+abbrev pub IsStubCost : Layers → ℕ → Offer → ℕ → ℕ → Type 0
+IsStubCost w area o metric cost = (o.age < MaxAge) × (
+    ((o.source.key.router ≡ root_of w) × HasInterfaceOn w area o.network × (cost ≡ metric))
+    ⊎ ((o.source.key.router ≢ root_of w) × ((distance : ℕ) × IsDistanceOf w.areas.now area (Router o.source.key.router) (Some distance) × (cost ≡ distance + metric))))
+
+-- why a stub network has none
+abbrev pub LacksStubCost : Layers → ℕ → Offer → Fate → Type 0
+LacksStubCost w area o fate.MaxAge = MaxAge ≤ o.age
+LacksStubCost w area o fate.NoInterface = (o.source.key.router ≡ root_of w) × (HasInterfaceOn w area o.network → ⊥)
+LacksStubCost w area o fate.Unreached = (o.source.key.router ≢ root_of w) × IsDistanceOf w.areas.now area (Router o.source.key.router) None
+LacksStubCost w area o _ = ⊥
+
+-- the cost of a transit network, for which the LSA stands: its distance
+abbrev pub IsTransitCost : Layers → ℕ → Offer → ℕ → Type 0
+IsTransitCost w area o cost = (o.age < MaxAge)
+    × IsKeyStanding w.areas.now area (Network o.source.key.id) (Some o.source.key) × IsDistanceOf w.areas.now area (Network o.source.key.id) (Some cost)
+
+-- why a transit network has none
+abbrev pub LacksTransitCost : Layers → ℕ → Offer → Fate → Type 0
+LacksTransitCost w area o fate.MaxAge = MaxAge ≤ o.age
+LacksTransitCost w area o fate.Another = (key : Option Key) × IsKeyStanding w.areas.now area (Network o.source.key.id) key × (key ≢ Some o.source.key)
+LacksTransitCost w area o fate.Unreached = IsDistanceOf w.areas.now area (Network o.source.key.id) None
+LacksTransitCost w area o _ = ⊥
+
+-- ---- summaries (16.2)
+
+-- the border router is reached in the area
+abbrev pub IsBorderReached : Layers → ℕ → ℕ → ReachedValue → Type 0
+IsBorderReached w area router r = (reached_at w.calculation.now.intra.areas area router ≡ Some r) × (0 < bit_and r.flags B)
+
+-- an LSA that is passed over at once: at MaxAge, at LSInfinity, or the router's own
+abbrev pub IsUnfit : Layers → Offer → ℕ → Fate → Type 0
+IsUnfit w o metric fate.MaxAge = MaxAge ≤ o.age
+IsUnfit w o metric fate.Infinity = LSInfinity ≤ metric
+IsUnfit w o metric fate.Own = o.source.key.router ≡ root_of w
+IsUnfit w o metric _ = ⊥
+
+-- none of that
+abbrev pub IsFit : Layers → Offer → ℕ → Type 0
+IsFit w o metric = (o.age < MaxAge) × (metric < LSInfinity) × (o.source.key.router ≢ root_of w)
+
+-- the cost of a summary: the distance of its border router and the metric
+abbrev pub IsSummaryCost : Layers → ℕ → Offer → ℕ → ℕ → Type 0
+IsSummaryCost w area o metric cost =
+    (is_examined w.active.now area ≡ true) × IsFit w o metric × (IsActiveIn w.calculation.now.active o.network → ⊥)
+    × ((r : ReachedValue) × IsBorderReached w area o.source.key.router r × (cost ≡ r.distance + metric))
+
+-- why a summary has none
+abbrev pub LacksSummaryCost : Layers → ℕ → Offer → ℕ → Fate → Type 0
+LacksSummaryCost w area o metric fate.NotExamined = is_examined w.active.now area ≡ false
+LacksSummaryCost w area o metric fate.ActiveRange = IsActiveIn w.calculation.now.active o.network
+LacksSummaryCost w area o metric fate.NoBorderRouter = (r : ReachedValue) → IsBorderReached w area o.source.key.router r → ⊥
+LacksSummaryCost w area o metric f = IsUnfit w o metric f
+
+-- ---- AS-external-LSAs (16.4)
+
+-- the class and the distance of the AS boundary router, or of the forwarding address if there is one
+abbrev pub LeadsAt : Layers → ℕ → ℕ → ℕ → ℕ → Type 0
+LeadsAt w router address class distance =
+    ((address ≡ 0) × ((p : PreferredValue) × (get w.calculation.now.external.preferred router ≡ Some p) × (class ≡ p.preference.class) × (distance ≡ p.preference.cost)))
+    ⊎ ((0 < address) × ((f : ForwardValue) × (way : WayValue) × (get w.calculation.now.external.forwards address ≡ Some f) × (f.way ≡ Some way) × (class ≡ way.class) × (distance ≡ way.cost)))
+
+-- type 1 before type 2, the metric of type 2, the class, and then the cost
+abbrev pub key_by : Bool → ℕ → ℕ → ℕ → ExternalKey
+key_by is_type_2 metric class distance =
+    if is_type_2 then record { is_type_2 = is_type_2; metric = metric; class = class; cost = distance }
+    else record { is_type_2 = is_type_2; metric = 0; class = class; cost = distance + metric }
+
+-- what an AS-external-LSA is compared by
+abbrev pub IsExternalKey : Layers → Offer → ℕ → External → ExternalKey → Type 0
+IsExternalKey w o metric external key = IsFit w o metric
+    × ((class distance : ℕ) × LeadsAt w o.source.key.router external.forwarding class distance × (key ≡ key_by external.is_type_2 metric class distance))
+
+-- the forwarding address leads nowhere
+abbrev pub LeadsNowhere : Layers → ℕ → Type 0
+LeadsNowhere w address = (0 < address) × ((f : ForwardValue) (way : WayValue) → get w.calculation.now.external.forwards address ≡ Some f → f.way ≡ Some way → ⊥)
+
+-- why it is not compared
+abbrev pub LacksKey : Layers → Offer → ℕ → External → Fate → Type 0
+LacksKey w o metric external fate.NoBoundaryRouter = get w.calculation.now.external.preferred o.source.key.router ≡ None
+LacksKey w o metric external fate.NoForward = LeadsNowhere w external.forwarding
+LacksKey w o metric external f = IsUnfit w o metric f

@@ -1,0 +1,195 @@
+//! Why the routing table has what it has for an address (RFC 2328, 11.1 and 16).
+ghost use Rattle.std.specs.Prelude.{IfNone, IfOk, IfSome, OnOk, option_copied};
+ghost use Rattle.calculation.specs.Calculations.{IsCalculationOf};
+ghost use Rattle.event_core.specs.Cores.{IsCurrent, state_of};
+ghost use Rattle.explanation.specs.Layers.{AreAreas};
+ghost use Rattle.explanation.specs.Outside.{AreTraces, all_offers};
+ghost use Rattle.explanation.specs.Explained.{AddsJudged, AddsNetwork, AreCandidates, AreNetworks, AreTracesFor, IsExplained};
+
+use crate::all_offers::of_network;
+use crate::fate::Fate;
+use crate::forward::{Forwarded, is_taken};
+use crate::judging::{Judged, Rivals};
+use crate::layers::Layers;
+use crate::offer::{Offer, OfferKind};
+use crate::trace::Trace;
+use event_core::{Calculated, Core};
+use ospf_types::hop::Path;
+use ospf_types::key::Scope;
+use ospf_types::memory::Memory;
+use ospf_types::prefix::Prefix;
+use result_map::ascending;
+use route_layers::active_areas;
+use state_trees::area_inputs;
+use std::alloc::Global;
+
+/// An offer, and what became of it.
+#[derive(Debug)]
+pub struct Candidate {
+    pub offer: Offer,
+    /// What its paths cost; of a type 2 external metric, to the forwarding address or the AS boundary router. None where it has
+    /// no path.
+    pub cost: Option<u32>,
+    pub fate: Fate,
+    /// If it is taken, traces for its paths.
+    pub traces: Vec<Trace>,
+}
+
+// proof: one call drops it, in place of a drop of each part wherever one is held.
+impl Drop for Candidate {
+    fn drop(self) {
+        let Candidate {
+            offer: _,
+            cost: _,
+            fate: _,
+            traces: _traces,
+        } = self;
+    }
+}
+
+/// What became of all that LSAs offer of networks that contain the address, network by network in the table's order; of each
+/// network first what LSAs of the areas offer, in the order of the configuration, and then the AS-external-LSAs, those of a
+/// database as `Core::lsas` has them. None where the core's table is behind.
+pub fn explain(alloc: Global, core: &Core, address: u32) -> Result<Option<Vec<Candidate>>, Memory>
+    ensures none { IfOk result (λ found. IfNone found (IsCurrent core.now → ⊥)) }
+    ensures explained { IfOk result (λ found. IfSome found (λ candidates.
+        IsExplained (state_of core.now) address candidates.items)) }
+{
+    match core.calculated() {
+        Some(found) => {
+            let candidates = explain_by(alloc, found, address)?;
+            Ok(Some(candidates))
+        }
+        None => Ok(None),
+    }
+}
+
+// By what is calculated of a state.
+fn explain_by(alloc: Global, found: Calculated<'_>, address: u32) -> Result<Vec<Candidate>, Memory>
+    requires { IsCalculationOf found.state.now found.calculation.now }
+    ensures { IfOk result (λ candidates.
+        IsExplained found.entry.state.now address candidates.items) }
+{
+    let areas = area_inputs(alloc, found.state, found.calculation.trees())?;
+    let active = active_areas(alloc, found.state)?;
+    let layers = Layers {
+        state: found.state,
+        calculation: found.calculation,
+        areas: &areas,
+        active: active.as_slice(),
+    };
+    let candidates = layers.explain(alloc, address)?;
+    Ok(candidates)
+}
+
+impl Layers<'_, '_> {
+    // What became of each offer.
+    fn explain(self, alloc: Global, address: u32) -> Result<Vec<Candidate>, Memory>
+        requires { AreAreas self.areas.now }
+        ensures { IfOk result (λ candidates. AreCandidates self.entry
+            (all_offers self.entry address) (all_offers self.entry address) candidates.items) }
+    {
+        let all = self.all_offers(alloc, address)?;
+        let networks = networks_of(alloc, &all)?;
+        let mut candidates = Vec::with_capacity(alloc, all.len())?;
+        for network in &networks {
+            self.push_network(*network, &all, &mut candidates)?;
+        }
+        Ok(candidates)
+    }
+
+    // Adds what became of the offers of a network.
+    fn push_network(
+        self,
+        network: Prefix,
+        all: &[Offer],
+        candidates: &mut Vec<Candidate>,
+    ) -> Result<(), Memory>
+        requires { AreAreas self.areas.now }
+        ensures { OnOk result (AddsNetwork self.entry all.now network candidates.old.items
+            candidates.new.items) }
+    {
+        let offers = of_network(*candidates.allocator(), network, all)?;
+        let rivals = self.rivals(network, &offers);
+        for offer in &offers {
+            self.push_candidate(offer, &rivals, candidates)?;
+        }
+        Ok(())
+    }
+
+    // Adds what became of an offer.
+    fn push_candidate(
+        self,
+        offer: &Offer,
+        rivals: &Rivals<'_>,
+        candidates: &mut Vec<Candidate>,
+    ) -> Result<(), Memory>
+        requires { AreAreas self.areas.now }
+        ensures { OnOk result (AddsJudged self.entry (option_copied rivals.now.internal)
+            rivals.now.greatest rivals.now.least offer.now candidates.old.items
+            candidates.new.items) }
+    {
+        let Judged { cost, fate } = self.judge(offer, rivals);
+        let traces = self.traces_if(*candidates.allocator(), fate, offer)?;
+        candidates.push(Candidate {
+            offer: *offer,
+            cost,
+            fate,
+            traces,
+        })?;
+        Ok(())
+    }
+
+    // If the offer is taken, traces of it for the paths of its network's route.
+    fn traces_if(self, alloc: Global, fate: Fate, offer: &Offer) -> Result<Vec<Trace>, Memory>
+        requires { AreAreas self.areas.now }
+        ensures { IfOk result (λ traces. AreTracesFor self.entry offer.now traces.items) }
+    {
+        match self.calculation.entry(offer.network) {
+            Some(entry) if is_taken(fate) => {
+                let traces = self.traces(alloc, offer, entry.paths.as_slice())?;
+                Ok(traces)
+            }
+            _ => Ok(Vec::new(alloc)),
+        }
+    }
+
+    // Traces of the offer for these paths.
+    fn traces(self, alloc: Global, offer: &Offer, paths: &[Path]) -> Result<Vec<Trace>, Memory>
+        requires { AreAreas self.areas.now }
+        ensures { IfOk result (λ traces. AreTraces self.entry offer.now paths.now traces.items) }
+    {
+        if let OfferKind::AsExternal(_, external) = offer.kind {
+            let address = external.forwarding;
+            if address == 0 {
+                let traces = self.boundary_traces(alloc, offer, paths)?;
+                return Ok(traces);
+            }
+            let forwarded = Forwarded {
+                offer,
+                address,
+                paths,
+            };
+            let traces = self.forward_traces(alloc, forwarded)?;
+            return Ok(traces);
+        }
+        match offer.source.scope {
+            Scope::Area(area) => {
+                let traces = self.traces_within(alloc, area, offer, paths)?;
+                Ok(traces)
+            }
+            Scope::As => Ok(Vec::new(alloc)),
+        }
+    }
+}
+
+// The networks of the offers, ascending, each once.
+fn networks_of(alloc: Global, offers: &[Offer]) -> Result<Vec<Prefix>, Memory>
+    ensures { IfOk result (λ networks. AreNetworks offers.now networks.items) }
+{
+    let mut networks = Vec::with_capacity(alloc, offers.len())?;
+    for offer in offers {
+        networks.push(offer.network)?;
+    }
+    Ok(ascending(networks))
+}

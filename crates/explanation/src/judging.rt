@@ -1,0 +1,297 @@
+//! What becomes of an offer beside others for its network (RFC 2328, 16.1, 16.2 and 16.4).
+ghost use Rattle.std.specs.Prelude.{◌≡◌, ◌↔◌, ◌<◌, IfErr, IfNone, IfOk, IfSome, IsTrue, option_copied};
+ghost use Rattle.explanation.specs.Layers.{AreAreas};
+ghost use Rattle.explanation.specs.Judging.{HasKey, HasNoKey, IsCostWithin, IsFateOutside, IsFateWithin, IsGreater, IsGreatestId, IsJudged, IsJudgedBy, IsLeastKey, IsLesser, IsRivalsOf, IsSummary, IsTransitAt, LacksCostWithin, fate_beside, rank};
+
+use crate::fate::Fate;
+use crate::layers::Layers;
+use crate::offer::{Offer, OfferKind};
+use crate::offered::ExternalKey;
+use ospf_types::entry::{Entry, PathType};
+use ospf_types::key::Scope;
+use ospf_types::prefix::Prefix;
+
+/// What an offer comes to.
+#[derive(Clone, Copy, Debug, PartialEq, Eq)]
+pub(crate) struct Judged {
+    /// What its paths cost; none where it has none.
+    pub(crate) cost: Option<u32>,
+    pub(crate) fate: Fate,
+}
+
+/// What the offers for a network are compared with.
+#[derive(Clone, Copy)]
+pub(crate) struct Rivals<'c> {
+    /// The network's intra-area route, else its inter-area one.
+    pub(crate) internal: Option<&'c Entry>,
+    /// The greatest Link State ID of a transit network that is the network, in the area of the route and at its cost.
+    pub(crate) greatest: Option<u32>,
+    /// The least key of an AS-external-LSA for the network.
+    pub(crate) least: Option<ExternalKey>,
+}
+
+impl Rivals<'_> {
+    // What an offer within the AS comes to, by the cost that was found.
+    fn judge_within(&self, offer: &Offer, area: u32, found: Result<u32, Fate>) -> Judged
+        ensures { IsJudgedBy (λ cost. cost) (IsFateWithin (option_copied self.now.internal)
+            self.now.greatest offer.now area) found result }
+    {
+        match found {
+            Ok(cost) => Judged {
+                cost: Some(cost),
+                fate: self.fate_within(offer, area, cost),
+            },
+            Err(fate) => Judged { cost: None, fate },
+        }
+    }
+
+    fn fate_within(&self, offer: &Offer, area: u32, cost: u32) -> Fate
+        ensures { IsFateWithin (option_copied self.now.internal) self.now.greatest offer.now area
+            cost result }
+    {
+        let Some(entry) = self.internal else {
+            return Fate::Unreached;
+        };
+        // 16.2 (6)
+        if is_summary(offer.kind) && is_intra(entry) {
+            return Fate::IntraArea;
+        }
+        // 16.1 (2d), 16.2 (7)
+        if cost > entry.cost {
+            return Fate::Costlier;
+        }
+        if entry.area != Some(area) {
+            return Fate::LesserArea;
+        }
+        // 16.1 (4)
+        if is_transit(offer.kind) && self.greatest != Some(offer.source.key.id) {
+            return Fate::LesserId;
+        }
+        Fate::Taken
+    }
+
+    // What an AS-external-LSA comes to, by the key that was found.
+    fn judge_external(&self, found: Result<ExternalKey, Fate>) -> Judged
+        ensures { IsJudgedBy (λ key. key.cost) (IsFateOutside (option_copied self.now.internal)
+            self.now.least) found result }
+    {
+        match found {
+            Ok(key) => Judged {
+                cost: Some(key.cost),
+                fate: self.fate_outside(key),
+            },
+            Err(fate) => Judged { cost: None, fate },
+        }
+    }
+
+    fn fate_outside(&self, key: ExternalKey) -> Fate
+        ensures { IsFateOutside (option_copied self.now.internal) self.now.least key result }
+    {
+        // 16.4 (6a)
+        if self.internal.is_some() {
+            return Fate::Internal;
+        }
+        match self.least {
+            Some(least) => key.fate_beside(least),
+            None => Fate::Taken,
+        }
+    }
+}
+
+fn is_summary(kind: OfferKind) -> bool
+    ensures { IsTrue result ↔ IsSummary kind }
+{
+    matches!(kind, OfferKind::Summary(_))
+}
+
+fn is_transit(kind: OfferKind) -> bool
+    ensures { IsTrue result ↔ (kind ≡ OfferKind.Transit) }
+{
+    matches!(kind, OfferKind::Transit)
+}
+
+fn is_intra(entry: &Entry) -> bool
+    ensures { IsTrue result ↔ (entry.now.kind ≡ PathType.Intra) }
+{
+    matches!(entry.kind, PathType::Intra)
+}
+
+// The lesser of the two.
+fn lesser(least: Option<ExternalKey>, key: ExternalKey) -> ExternalKey
+    ensures { IsLesser least key result }
+{
+    match least {
+        Some(least) if !key.is_before(least) => least,
+        _ => key,
+    }
+}
+
+// The greater of the two.
+fn greater(greatest: Option<u32>, id: u32) -> u32
+    ensures { IsGreater greatest id result }
+{
+    match greatest {
+        Some(greatest) if greatest > id => greatest,
+        _ => id,
+    }
+}
+
+impl ExternalKey {
+    // Whether this one is preferred.
+    fn is_before(self, other: ExternalKey) -> bool
+        ensures { IsTrue result ↔ (rank self < rank other) }
+    {
+        if self.is_type_2 != other.is_type_2 {
+            return other.is_type_2;
+        }
+        if self.metric != other.metric {
+            return self.metric < other.metric;
+        }
+        if self.class != other.class {
+            return self.class < other.class;
+        }
+        self.cost < other.cost
+    }
+
+    // What becomes of a path with this key beside one with the other.
+    fn fate_beside(self, other: ExternalKey) -> Fate
+        ensures { fate_beside self other result }
+    {
+        // 16.4 (6b)
+        if self.is_type_2 && !other.is_type_2 {
+            return Fate::Type2;
+        }
+        if self.is_type_2 != other.is_type_2 {
+            return Fate::Taken;
+        }
+        if self.metric > other.metric {
+            return Fate::Metric2;
+        }
+        if self.metric < other.metric {
+            return Fate::Taken;
+        }
+        // 16.4 (6c)
+        if self.class > other.class {
+            return Fate::Class;
+        }
+        if self.class < other.class {
+            return Fate::Taken;
+        }
+        // 16.4 (6d)
+        if self.cost > other.cost {
+            return Fate::Costlier;
+        }
+        Fate::Taken
+    }
+}
+
+impl<'c> Layers<'c, '_> {
+    /// What the offers for this network are compared with.
+    pub(crate) fn rivals(self, network: Prefix, offers: &[Offer]) -> Rivals<'c>
+        requires { AreAreas self.areas.now }
+        ensures { IsRivalsOf self.entry network offers.now (option_copied result.internal)
+            result.greatest result.least }
+    {
+        let internal = self.internal(network);
+        Rivals {
+            internal,
+            greatest: match internal {
+                Some(entry) => self.greatest_id(entry, offers),
+                None => None,
+            },
+            least: self.least_key(offers),
+        }
+    }
+
+    /// What the offer comes to.
+    pub(crate) fn judge(self, offer: &Offer, rivals: &Rivals<'_>) -> Judged
+        requires { AreAreas self.areas.now }
+        ensures { IsJudged self.entry (option_copied rivals.now.internal) rivals.now.greatest
+            rivals.now.least offer.now result }
+    {
+        if let OfferKind::AsExternal(metric, external) = offer.kind {
+            return rivals.judge_external(self.external_key(offer, metric, external));
+        }
+        match offer.source.scope {
+            Scope::Area(area) => { rivals.judge_within(offer, area, self.cost_within(area, offer)) }
+            Scope::As => Judged {
+                cost: None,
+                fate: Fate::NotExamined,
+            },
+        }
+    }
+
+    // The cost of an offer within the AS.
+    fn cost_within(self, area: u32, offer: &Offer) -> Result<u32, Fate>
+        requires { AreAreas self.areas.now }
+        ensures cost { IfOk result (IsCostWithin self.entry area offer.now offer.now.kind) }
+        ensures none { IfErr result (LacksCostWithin self.entry area offer.now offer.now.kind) }
+    {
+        match offer.kind {
+            OfferKind::Stub(metric) => self.stub_cost(area, offer, metric),
+            OfferKind::Transit => self.transit_cost(area, offer),
+            OfferKind::Summary(metric) => self.summary_cost(area, offer, metric),
+            OfferKind::AsExternal(_, _) => Err(Fate::NotExamined),
+        }
+    }
+
+    // The least key of the AS-external-LSAs among the offers.
+    fn least_key(self, offers: &[Offer]) -> Option<ExternalKey>
+        ensures { IsLeastKey self.entry offers.now result }
+    {
+        let mut least = None;
+        for offer in offers {
+            if let Some(key) = self.key_of(offer) {
+                least = Some(lesser(least, key));
+            }
+        }
+        least
+    }
+
+    // The key of the offer, if it is of an AS-external-LSA that has one.
+    fn key_of(self, offer: &Offer) -> Option<ExternalKey>
+        ensures some { IfSome result (HasKey self.entry offer.now.kind offer.now) }
+        ensures none { IfNone result (HasNoKey self.entry offer.now.kind offer.now) }
+    {
+        match offer.kind {
+            OfferKind::AsExternal(metric, external) => {
+                match self.external_key(offer, metric, external) {
+                    Ok(key) => Some(key),
+                    Err(_) => None,
+                }
+            }
+            OfferKind::Stub(_) | OfferKind::Transit | OfferKind::Summary(_) => None,
+        }
+    }
+
+    // The greatest Link State ID of the transit networks among the offers that are in the area of the route and at its cost.
+    fn greatest_id(self, entry: &Entry, offers: &[Offer]) -> Option<u32>
+        requires { AreAreas self.areas.now }
+        ensures { IsGreatestId self.entry entry.now offers.now result }
+    {
+        let mut greatest = None;
+        for offer in offers {
+            if self.is_at(entry, offer) {
+                greatest = Some(greater(greatest, offer.source.key.id));
+            }
+        }
+        greatest
+    }
+
+    // Whether the offer is of a transit network in the area of the route and at its cost.
+    fn is_at(self, entry: &Entry, offer: &Offer) -> bool
+        requires { AreAreas self.areas.now }
+        ensures { IsTrue result ↔ IsTransitAt self.entry entry.now offer.now }
+    {
+        if !is_transit(offer.kind) {
+            return false;
+        }
+        let Some(area) = entry.area else {
+            return false;
+        };
+        match self.transit_cost(area, offer) {
+            Ok(cost) => cost == entry.cost && offer.source.scope == Scope::Area(area),
+            Err(_) => false,
+        }
+    }
+}

@@ -1,0 +1,202 @@
+//! What an offer comes to by itself, whatever others offer (RFC 2328, 16.1, 16.2 and 16.4): what its paths cost, or why it has
+//! none.
+ghost use Rattle.std.specs.Prelude.{ℕ, ◌≡◌, ◌↔◌, ◌<◌, IfErr, IfNone, IfOk, IfSome, IsTrue};
+ghost use Rattle.ospf_types.specs.Inter.{LSInfinity};
+ghost use Rattle.ospf_types.specs.Intra.{LiesIn};
+ghost use Rattle.intra.specs.Intras.{most_cost};
+ghost use Rattle.explanation.specs.Layers.{AreAreas};
+ghost use Rattle.explanation.specs.Offered.{HasInterfaceOn, IsExternalKey, IsFit, IsOn, IsStubCost, IsSummaryCost, IsTransitCost, IsUnfit, LacksKey, LacksStubCost, LacksSummaryCost, LacksTransitCost, LeadsAt, LeadsNowhere, key_by};
+
+use crate::fate::Fate;
+use crate::layers::Layers;
+use crate::offer::Offer;
+use ospf_types::config::Interface;
+use ospf_types::entry::Vertex;
+use ospf_types::lsa::{External, LS_INFINITY, MAX_AGE};
+use ospf_types::prefix::Prefix;
+use state_trees::is_up_in;
+
+/// What AS-external-LSAs for one network are compared by (16.4 (6)): type 1 before type 2, the metric of type 2, the class of
+/// 16.4.1, and the cost.
+#[derive(Clone, Copy, Debug, PartialEq, Eq, PartialOrd, Ord)]
+pub(crate) struct ExternalKey {
+    pub(crate) is_type_2: bool,
+    pub(crate) metric: u32,
+    pub(crate) class: u8,
+    pub(crate) cost: u32,
+}
+
+impl Layers<'_, '_> {
+    /// The cost of a stub network (16.1, the second stage).
+    pub(crate) fn stub_cost(self, area: u32, offer: &Offer, metric: u16) -> Result<u32, Fate>
+        ensures cost { IfOk result (IsStubCost self.entry area offer.now metric) }
+        ensures none { IfErr result (LacksStubCost self.entry area offer.now) }
+    {
+        // 16.1 (2b)
+        if offer.age >= MAX_AGE {
+            return Err(Fate::MaxAge);
+        }
+        let router = offer.source.key.router;
+        if router == self.root() {
+            if self.is_on(area, offer.network) {
+                return Ok(u32::from(metric));
+            }
+            return Err(Fate::NoInterface);
+        }
+        match self.distance(area, Vertex::Router(router)) {
+            Some(distance) => Ok(distance + u32::from(metric)),
+            None => Err(Fate::Unreached),
+        }
+    }
+
+    /// The cost of a transit network (16.1 (4)).
+    pub(crate) fn transit_cost(self, area: u32, offer: &Offer) -> Result<u32, Fate>
+        requires { AreAreas self.areas.now }
+        ensures cost { IfOk result (IsTransitCost self.entry area offer.now) }
+        ensures none { IfErr result (LacksTransitCost self.entry area offer.now) }
+    {
+        // 16.1 (2b)
+        if offer.age >= MAX_AGE {
+            return Err(Fate::MaxAge);
+        }
+        let key = offer.source.key;
+        let vertex = Vertex::Network(key.id);
+        if self.standing(area, vertex) != Some(key) {
+            return Err(Fate::Another);
+        }
+        match self.distance(area, vertex) {
+            Some(distance) => Ok(distance),
+            None => Err(Fate::Unreached),
+        }
+    }
+
+    /// The cost of a summary (16.2).
+    pub(crate) fn summary_cost(self, area: u32, offer: &Offer, metric: u32) -> Result<u32, Fate>
+        ensures cost { IfOk result (IsSummaryCost self.entry area offer.now metric) }
+        ensures none { IfErr result (LacksSummaryCost self.entry area offer.now metric) }
+    {
+        if !self.is_examined(area) {
+            return Err(Fate::NotExamined);
+        }
+        // 16.2 (1), (2)
+        if let Some(fate) = self.unfit(offer, metric) {
+            return Err(fate);
+        }
+        // 16.2 (3)
+        if self.calculation.active().contains(offer.network) {
+            return Err(Fate::ActiveRange);
+        }
+        // 16.2 (4)
+        match self.reached(area, offer.source.key.router) {
+            Some(border) if border.is_border() => Ok(border.distance() + metric),
+            _ => Err(Fate::NoBorderRouter),
+        }
+    }
+
+    /// What an AS-external-LSA is compared by (16.4).
+    pub(crate) fn external_key(
+        self,
+        offer: &Offer,
+        metric: u32,
+        external: External,
+    ) -> Result<ExternalKey, Fate>
+        ensures key { IfOk result (IsExternalKey self.entry offer.now metric external) }
+        ensures none { IfErr result (LacksKey self.entry offer.now metric external) }
+    {
+        // 16.4 (1), (2)
+        if let Some(fate) = self.unfit(offer, metric) {
+            return Err(fate);
+        }
+        // 16.4 (3)
+        let Some(preferred) = self
+            .calculation
+            .external()
+            .preferred(offer.source.key.router)
+        else {
+            return Err(Fate::NoBoundaryRouter);
+        };
+        if external.forwarding == 0 {
+            let (class, distance) = (preferred.class(), preferred.cost());
+            return Ok(key_by(external.is_type_2, metric, class, distance));
+        }
+        match self.forward(external.forwarding) {
+            Some((class, distance)) => { Ok(key_by(external.is_type_2, metric, class, distance)) }
+            None => Err(Fate::NoForward),
+        }
+    }
+
+    // The class and the distance of a forwarding address.
+    fn forward(self, address: u32) -> Option<(u8, u32)>
+        requires { 0 < address }
+        ensures some { IfSome result (λ found. (router : ℕ) → LeadsAt self.entry router address found.0 found.1) }
+        ensures bounded { IfSome result (λ found. found.1 < most_cost) }
+        ensures none { IfNone result (LeadsNowhere self.entry address) }
+    {
+        let way = self.calculation.external().forward(address)?.way()?;
+        Some((way.class(), way.cost()))
+    }
+
+    // Why a summary-LSA or an AS-external-LSA is passed over at once.
+    fn unfit(self, offer: &Offer, metric: u32) -> Option<Fate>
+        ensures some { IfSome result (IsUnfit self.entry offer.now metric) }
+        ensures none { IfNone result (IsFit self.entry offer.now metric) }
+    {
+        if metric >= LS_INFINITY {
+            return Some(Fate::Infinity);
+        }
+        if offer.age >= MAX_AGE {
+            return Some(Fate::MaxAge);
+        }
+        if offer.source.key.router == self.root() {
+            return Some(Fate::Own);
+        }
+        None
+    }
+
+    // Whether the root has an interface of the area that is up and lies in the network.
+    fn is_on(self, area: u32, network: Prefix) -> bool
+        ensures { IsTrue result ↔ HasInterfaceOn self.entry area network }
+    {
+        for (_, interface) in self.state.interfaces() {
+            if is_on(interface, area, network) {
+                return true;
+            }
+        }
+        false
+    }
+}
+
+// The distance X and the metric Y of an AS-external-LSA as it is compared (16.4 (4)).
+fn key_by(is_type_2: bool, metric: u32, class: u8, distance: u32) -> ExternalKey
+    requires metric { metric < LSInfinity }
+    requires distance { distance < most_cost }
+    ensures { result ≡ key_by is_type_2 metric class distance }
+{
+    if is_type_2 {
+        return ExternalKey {
+            is_type_2,
+            metric,
+            class,
+            cost: distance,
+        };
+    }
+    ExternalKey {
+        is_type_2,
+        metric: 0,
+        class,
+        cost: distance + metric,
+    }
+}
+
+/// Whether the interface is one of the area's, is up, and lies in the network, by its address or by its peer's.
+pub(crate) fn is_on(interface: &Interface, area: u32, network: Prefix) -> bool
+    ensures { IsTrue result ↔ IsOn area network interface.now }
+{
+    is_up_in(interface, area) && lies_in(interface, network)
+}
+
+fn lies_in(interface: &Interface, network: Prefix) -> bool
+    ensures { IsTrue result ↔ LiesIn interface.now network }
+{
+    network.contains(interface.address) || interface.peer > 0 && network.contains(interface.peer)
+}

@@ -1,0 +1,155 @@
+//! The traces of the paths that an AS-external-LSA gives (RFC 2328, 16.4 (3)).
+ghost use Rattle.std.specs.Prelude.{◌↔◌, Contains, IfOk, IfSome, IsTrue, OnOk};
+ghost use Rattle.explanation.specs.Layers.{AreAreas};
+ghost use Rattle.explanation.specs.Outside.{AreOutside, AreWithin, IsToldStep, MayAddTold};
+
+use crate::layers::Layers;
+use crate::offer::{Offer, OfferKind, Source};
+use crate::trace::{Place, Step, Trace};
+use ospf_types::entry::Vertex;
+use ospf_types::hop::Path;
+use ospf_types::key::{Dest, Key, Scope};
+use ospf_types::lsa::{BOUNDARY_SUMMARY_LSA, MAX_AGE};
+use ospf_types::memory::Memory;
+use std::alloc::Global;
+
+/// An AS-external-LSA, the area whose border routers tell of its AS boundary router, and the paths of the route that it is to
+/// give.
+#[derive(Clone, Copy)]
+struct Told<'a> {
+    area: u32,
+    offer: &'a Offer,
+    paths: &'a [Path],
+}
+
+impl Layers<'_, '_> {
+    /// A trace for each of the paths that an offer of the area gives.
+    pub(crate) fn traces_within(
+        self,
+        alloc: Global,
+        area: u32,
+        offer: &Offer,
+        paths: &[Path],
+    ) -> Result<Vec<Trace>, Memory>
+        requires { AreAreas self.areas.now }
+        ensures { IfOk result (λ traces. AreWithin self.entry area offer.now paths.now traces.items) }
+    {
+        if matches!(offer.kind, OfferKind::Stub(_)) && offer.source.key.router == self.root() {
+            let traces = self.own_traces(alloc, area, offer, paths)?;
+            return Ok(traces);
+        }
+        let traces = self.traces_by(alloc, area, offer, paths)?;
+        Ok(traces)
+    }
+
+    /// A trace for each of the paths that an AS-external-LSA without a forwarding address gives.
+    pub(crate) fn boundary_traces(
+        self,
+        alloc: Global,
+        offer: &Offer,
+        paths: &[Path],
+    ) -> Result<Vec<Trace>, Memory>
+        requires { AreAreas self.areas.now }
+        ensures { IfOk result (λ traces. AreOutside self.entry 0 offer.now paths.now traces.items) }
+    {
+        let router = offer.source.key.router;
+        if let Some(preferred) = self.calculation.external().preferred(router) {
+            if self.is_boundary(preferred.area(), router) {
+                let traces = self.traces_by(alloc, preferred.area(), offer, paths)?;
+                return Ok(traces);
+            }
+        }
+        let traces = self.told_traces(alloc, offer, paths)?;
+        Ok(traces)
+    }
+
+    // The step from a border router to the AS boundary router, as the summary-LSA of the border router tells it.
+    fn told_step(self, area: u32, border: u32, router: u32) -> Option<Step>
+        ensures { IfSome result (IsToldStep self.entry area border router) }
+    {
+        let within = self.area(area)?;
+        let (lsa, age) = within.database.get(Key {
+            kind: BOUNDARY_SUMMARY_LSA,
+            id: router,
+            router: border,
+        })?;
+        if age >= MAX_AGE {
+            return None;
+        }
+        let cost = lsa.metric()?;
+        Some(Step {
+            from: Place::Vertex(Vertex::Router(border)),
+            to: Place::Vertex(Vertex::Router(router)),
+            cost,
+            source: Source::of(Scope::Area(area), lsa),
+        })
+    }
+
+    // Whether the AS boundary router is reached in the area.
+    fn is_boundary(self, area: u32, router: u32) -> bool {
+        match self.reached(area, router) {
+            Some(reached) => reached.is_boundary(),
+            None => false,
+        }
+    }
+}
+
+impl Layers<'_, '_> {
+    // By way of border routers that tell of the AS boundary router (16.2).
+    fn told_traces(self, alloc: Global, offer: &Offer, paths: &[Path]) -> Result<Vec<Trace>, Memory>
+        requires { AreAreas self.areas.now }
+        ensures { IfOk result (λ traces. AreOutside self.entry 0 offer.now paths.now traces.items) }
+    {
+        let mut traces = Vec::new(alloc);
+        let Some(entry) = self
+            .calculation
+            .inter()
+            .get(Dest::Router(offer.source.key.router))
+        else {
+            return Ok(traces);
+        };
+        let Some(area) = entry.area else {
+            return Ok(traces);
+        };
+        let told = Told { area, offer, paths };
+        for within in entry.paths.as_slice() {
+            self.push_told(told, within, &mut traces)?;
+        }
+        Ok(traces)
+    }
+
+    // Adds a trace by way of the border router that this path names, if the route has such a path.
+    fn push_told(self, told: Told<'_>, within: &Path, traces: &mut Vec<Trace>) -> Result<(), Memory>
+        requires { AreAreas self.areas.now }
+        ensures { OnOk result (MayAddTold self.entry told.entry.offer.now told.entry.paths.now
+            traces.old.items traces.new.items) }
+    {
+        let Told { area, offer, paths } = told;
+        let alloc = *traces.allocator();
+        let path = Path {
+            hop: within.hop,
+            advertiser: Some(offer.source.key.router),
+        };
+        let Some(border) = within.advertiser else {
+            return Ok(());
+        };
+        let Some(step) = self.told_step(area, border, offer.source.key.router) else {
+            return Ok(());
+        };
+        if !has_path(paths, path) {
+            return Ok(());
+        }
+        let mut steps = self.steps_to(alloc, area, Vertex::Router(border), path.hop)?;
+        steps.push(step)?;
+        steps.push(offer.last_step(Place::Vertex(offer.vertex())))?;
+        traces.push(Trace { path, steps })?;
+        Ok(())
+    }
+}
+
+/// Whether it is one of the paths.
+pub(crate) fn has_path(paths: &[Path], path: Path) -> bool
+    ensures { IsTrue result ↔ Contains paths.now path }
+{
+    paths.contains(&path)
+}
