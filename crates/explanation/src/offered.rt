@@ -18,7 +18,7 @@ use state_trees::is_up_in;
 
 /// What AS-external-LSAs for one network are compared by (16.4 (6)): type 1 before type 2, the metric of type 2, the class of
 /// 16.4.1, and the cost.
-#[derive(Clone, Copy, Debug, PartialEq, Eq, PartialOrd, Ord)]
+#[derive(Clone, Copy, Debug, PartialEq, Eq)]
 pub(crate) struct ExternalKey {
     pub(crate) is_type_2: bool,
     pub(crate) metric: u32,

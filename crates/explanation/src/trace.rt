@@ -37,10 +37,3 @@ impl Drop for Trace {
         } = self;
     }
 }
-
-impl Trace {
-    pub(crate) fn into_steps(self) -> Vec<Step> {
-        let Trace { path: _, steps } = self;
-        steps
-    }
-}
