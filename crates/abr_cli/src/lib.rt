@@ -12,8 +12,7 @@ pub use command_answers::{
     one, tell,
 };
 pub use command_line::{Job, OneWords, Usage, job};
-pub use output_format::Format;
-pub use recording::Show;
+pub use output_format::{Format, Show};
 pub use replay::{Printing, Progress, ReplayFault, replay_one};
 pub use replaying::Replay;
 pub use running::Invocation;

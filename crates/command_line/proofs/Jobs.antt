@@ -8,8 +8,8 @@ use Rattle.clap.specs.declared.error.Error.{Error}
 use Rattle.clap.specs.declared.error.kind.ErrorKind.TheVariants.{OutOfMemory}
 use Rattle.output_format.specs.declared.Format.{Format}
 use Rattle.output_format.specs.declared.Format.TheVariants as form
-use Rattle.recording.specs.declared.show.Show.{Show}
-use Rattle.recording.specs.declared.show.Show.TheVariants.{Routes, Due, Lsdb, Journal}
+use Rattle.output_format.specs.declared.Show.{Show}
+use Rattle.output_format.specs.declared.Show.TheVariants.{Routes, Due, Lsdb, Journal}
 use Rattle.command_line.specs.Command.{ReplayTexts, ChangesTexts, FollowTexts, HasFormat, HasChangesWords, HasDecodeWords, HasFlag, HasFollowWords, HasJob, HasJobWords, HasReplayWords, HasTexts, HasWords, IsFit, IsJob, IsMistake, JobTexts, OfOne, OfDecode, OfReplay, OfChanges, OfFollow, OfFault, OneTexts, WritesWorkers, command_name, job_texts, program, show_name, format_name}
 use Rattle.command_line.specs.declared.command.Job.{Job}
 use Rattle.command_line.specs.declared.command.Job.TheVariants.{One, Decode, Replay, Changes, Follow, Fault}

@@ -11,8 +11,8 @@ use Rattle.clap.proofs.KindLemmas.{value_kinds-ok}
 use Rattle.clap.proofs.OnLiterals.{clap_on_literals}
 use Rattle.output_format.specs.declared.Format.{Format}
 use Rattle.output_format.specs.declared.Format.TheVariants as form
-use Rattle.recording.specs.declared.show.Show.{Show}
-use Rattle.recording.specs.declared.show.Show.TheVariants.{Routes, Due, Lsdb, Journal}
+use Rattle.output_format.specs.declared.Show.{Show}
+use Rattle.output_format.specs.declared.Show.TheVariants.{Routes, Due, Lsdb, Journal}
 use Rattle.command_line.specs.Command.{HasReplayWords, HasTexts, IsFileWord, IsPlainWord, OfReplay, ReplayTexts, WritesWorkers, format_name, format_names, plain_replay, program, references, replay_command, replay_format_line, replay_line, replay_progress_line, show_line, show_name, show_names, workers_line}
 use Rattle.command_line.proofs.Walks.{IsCommand, end_fault, first_walk, given_faultless, held_waiting, line_faultless, line_gives, option_step, rows_given, rows_given_are, rows_on, rows_on_are, walk_given, walk_on, walk_waiting, words_faultless}
 

@@ -10,8 +10,8 @@ use Rattle.clap.specs.declared.builder.value_parser.ValueParser.TheVariants.{Nam
 use Rattle.clap.specs.declared.error.kind.ErrorKind.TheVariants.{MissingRequiredArgument}
 use Rattle.output_format.specs.declared.Format.{Format}
 use Rattle.output_format.specs.declared.Format.TheVariants as form
-use Rattle.recording.specs.declared.show.Show.{Show}
-use Rattle.recording.specs.declared.show.Show.TheVariants.{Routes, Due, Lsdb, Journal}
+use Rattle.output_format.specs.declared.Show.{Show}
+use Rattle.output_format.specs.declared.Show.TheVariants.{Routes, Due, Lsdb, Journal}
 use Rattle.command_line.specs.declared.command.OneWords.{OneWords}
 use Rattle.command_line.specs.declared.command.Job.{Job}
 use Rattle.command_line.specs.declared.command.Job.TheVariants.{One, Decode, Replay, Changes, Follow, Fault}

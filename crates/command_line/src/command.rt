@@ -1,8 +1,7 @@
 //! The commands of the program.
 ghost use Rattle.std.specs.Prelude.{◌≡◌};
 
-use output_format::Format;
-use recording::Show;
+use output_format::{Format, Show};
 use std::alloc::AllocError;
 use thiserror::Error;
 

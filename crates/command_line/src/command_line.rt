@@ -3,15 +3,14 @@ ghost use Rattle.std.specs.Prelude.{ℕ, Bool, ◌≡◌, ◌≢◌, ◌⊎◌, 
 ghost use Rattle.clap.specs.Words.{Text, app_of, rows_of, found_of, rule_of, subcommand_of, subcommand_rows_of, kind_of};
 ghost use Rattle.clap.specs.declared.builder.command.Command.TheViews.{out-Command};
 ghost use Rattle.output_format.specs.declared.Format.{Format};
-ghost use Rattle.recording.specs.declared.show.Show.{Show};
+ghost use Rattle.output_format.specs.declared.Show.{Show};
 ghost use Rattle.command_line.specs.Command.{one_command, decode_command, fault_command, program, required_word, show_name, format_name, References, AreShowNames, AreFormatNames, OneTexts, ReplayTexts, ChangesTexts, FollowTexts, texts_of, HasWords, HasJob, IsJob, IsJobOf, IsMistake, IsProgram, IsReplayCommand, IsChangesCommand, IsFollowCommand, IsShowOption, IsFormatOption, HasDecodeWords, HasFlag, HasReplayWords, HasChangesWords, HasFollowWords, IsFit, WritesWorkers, workers_option, long_flag, only_option, strict_flag, progress_flag, command_words, GivesChanges, GivesDecode, GivesFault, GivesFollow, GivesFollowOnly, GivesFormat, GivesLong, GivesOne, GivesOnly, GivesProgress, GivesReplay, GivesShow, GivesStrict, GivesWorkers};
 
 use crate::command::{Job, OneWords, Usage};
 use clap::builder::ValueParser;
 use clap::error::ErrorKind;
 use clap::{Arg, ArgAction, ArgMatches, Command, Error};
-use output_format::Format;
-use recording::Show;
+use output_format::{Format, Show};
 use std::alloc::{AllocError, Global};
 
 // What `--version` says.

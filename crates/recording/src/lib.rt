@@ -14,7 +14,6 @@ mod parsing;
 mod printing;
 mod reader;
 mod recording;
-mod show;
 mod version;
 mod words;
 
@@ -25,5 +24,4 @@ pub use line::Line;
 pub use parsing::parse;
 pub use printing::{append_event, append_front, print};
 pub use recording::Recording;
-pub use show::Show;
 pub use version::Version;

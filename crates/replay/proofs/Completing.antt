@@ -17,9 +17,9 @@ use Rattle.event_core.specs.Listings.{AreLsas, lsas_in}
 use Rattle.recording.specs.declared.line.Line.{Line}
 use Rattle.recording.specs.declared.line.Line.TheVariants as line
 use Rattle.recording.specs.Recordings.{RecordingValue}
-use Rattle.recording.specs.declared.show.Show.{Show}
+use Rattle.output_format.specs.declared.Show.{Show}
 use Rattle.recording.specs.declared.version.Version.{Version}
-use Rattle.recording.specs.declared.show.Show.TheVariants as show
+use Rattle.output_format.specs.declared.Show.TheVariants as show
 use Rattle.replay.specs.Lines.{first_number, lookup_line, answer_line, roll_line, serial_line, item_line, area_lines, lsa_line, recorded_text}
 use Rattle.replay.specs.Runs.{OfEvent, OfRoll, Answers, Prints}
 use Rattle.replay.specs.declared.page.Stop.{Stop}

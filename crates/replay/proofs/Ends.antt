@@ -7,9 +7,9 @@ use Rattle.event_core.specs.Cores.{CoreValue}
 use Rattle.recording.specs.declared.fault.LineFault.{LineFault}
 use Rattle.recording.specs.declared.line.Line.{Line}
 use Rattle.recording.specs.Recordings.{RecordingValue}
-use Rattle.recording.specs.declared.show.Show.{Show}
+use Rattle.output_format.specs.declared.Show.{Show}
 use Rattle.recording.specs.declared.version.Version.{Version}
-use Rattle.recording.specs.declared.show.Show.TheVariants as show
+use Rattle.output_format.specs.declared.Show.TheVariants as show
 use Rattle.replay.specs.Lines.{first_number, serial_line, recorded_text}
 use Rattle.replay.specs.Runs.{Answers, Prints, IsOpened}
 use Rattle.replay.specs.declared.fault.ReplayFault.{ReplayFault}

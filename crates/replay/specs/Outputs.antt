@@ -12,9 +12,9 @@ use Rattle.event_state.specs.declared.base.Base.{Base}
 use Rattle.recording.specs.declared.line.Line.{Line}
 use Rattle.recording.specs.declared.line.Line.TheVariants as line
 use Rattle.recording.specs.Recordings.{RecordingValue, IsText}
-use Rattle.recording.specs.declared.show.Show.{Show}
+use Rattle.output_format.specs.declared.Show.{Show}
 use Rattle.recording.specs.declared.version.Version.{Version}
-use Rattle.recording.specs.declared.show.Show.TheVariants as show
+use Rattle.output_format.specs.declared.Show.TheVariants as show
 use Rattle.replay.specs.Lines.{first_number, serial_line, item_line, area_lines, lsa_line, recorded_text}
 use Rattle.replay.specs.Runs.{Answers, Prints, IsOpened}
 use Rattle.replay.specs.Inputs.{ReadsAll}

@@ -9,8 +9,8 @@ use Rattle.replay.specs.declared.fault.ReplayFault.TheVariants as fault
 use Rattle.replay.specs.declared.page.Stop.{Stop}
 use Rattle.replay.specs.declared.page.Stop.TheVariants as stop
 use Rattle.replay.specs.declared.printing.Printing.{Printing}
-use Rattle.recording.specs.declared.show.Show.{Show}
-use Rattle.recording.specs.declared.show.Show.TheVariants as show
+use Rattle.output_format.specs.declared.Show.{Show}
+use Rattle.output_format.specs.declared.Show.TheVariants as show
 use Rattle.replay.specs.Lines.{first_number}
 use Rattle.replay.specs.Runs.{Answers, IsOpened}
 use Rattle.replay.specs.Inputs.{ReadsAll}

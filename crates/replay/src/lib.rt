@@ -20,10 +20,10 @@ pub use lines::{
     put_answer, put_behind, put_dest, put_found, put_lookup, put_refused, put_roll, put_serial,
 };
 pub use opened::OpenedRecording;
+pub use output_format::Show;
 pub use page::{Stop, empty_page, fault_of, spill, write_page};
 pub use printing::Printing;
 pub use progress::Progress;
-pub use recording::Show;
 pub use replaying::{parse_bytes, read_recording, replay_one};
 pub use running::number_of_first;
 pub use showing::{show_items, show_lsas, show_summaries};

@@ -4,7 +4,7 @@ ghost use Rattle.replay.specs.Advance.{ShowsProgress};
 ghost use Rattle.replay.specs.Runs.{IsOpened};
 ghost use Rattle.replay.specs.Outputs.{recording_of};
 ghost use Rattle.replay.specs.Parts.{WritesOutput, WritesPart};
-ghost use Rattle.recording.specs.declared.show.Show.TheVariants as show_value;
+ghost use Rattle.output_format.specs.declared.Show.TheVariants as show_value;
 
 use crate::journal::Journal;
 use crate::lines::put_serial;
@@ -12,7 +12,7 @@ use crate::opened::OpenedRecording;
 use crate::page::{Stop, empty_page, write_page};
 use crate::printing::Printing;
 use crate::showing::{show_items, show_lsas, show_summaries};
-use recording::Show;
+use output_format::Show;
 use std::alloc::Global;
 use std::io;
 

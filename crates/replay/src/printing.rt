@@ -1,7 +1,6 @@
 //! What a replay prints, and how.
 
-use output_format::Format;
-use recording::Show;
+use output_format::{Format, Show};
 
 /// What a replay prints.
 #[derive(Clone, Copy, Debug, PartialEq, Eq)]

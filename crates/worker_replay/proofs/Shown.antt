@@ -2,7 +2,7 @@
 use Rattle.std.proofs.Common.{◌≡◌, ℕ, List, [], ◌++◌, Option, refl, sym, ap, subst, inl, ◌∙◌, append-nil}
 use Rattle.std.specs.Io.KnownBytes.{Appends}
 use Rattle.engine.specs.Cores.{CoreValue}
-use Rattle.recording.specs.declared.show.Show.{Show}
+use Rattle.output_format.specs.declared.Show.{Show}
 use Rattle.output_format.specs.declared.Format.{Format}
 use Rattle.recording.specs.declared.version.Version.{Version}
 use Rattle.replay.specs.declared.page.Stop.{Stop}

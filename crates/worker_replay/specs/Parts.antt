@@ -17,7 +17,7 @@ use Rattle.recording.specs.Recordings.{RecordingValue}
 use Rattle.recording.specs.declared.line.Line.{Line}
 use Rattle.recording.specs.declared.line.Line.TheVariants as line
 use Rattle.replay.specs.declared.fault.ReplayFault.TheVariants as replay_fault
-use Rattle.recording.specs.declared.show.Show.{Show}
+use Rattle.output_format.specs.declared.Show.{Show}
 use Rattle.output_format.specs.declared.Format.{Format}
 use Rattle.recording.specs.declared.version.Version.{Version}
 use Rattle.replay.specs.Lines.{lookup_line, answer_line}

@@ -3,7 +3,7 @@ ghost use Rattle.std.specs.Prelude.{◌≡◌, ◌⊎◌, [], OnOk, IfErr, strin
 ghost use Rattle.engine.specs.Cores.{state_of};
 ghost use Rattle.engine.specs.Listings.{AreLsas};
 ghost use Rattle.replay.specs.declared.page.Stop.TheVariants as stop;
-ghost use Rattle.recording.specs.declared.show.Show.TheVariants as show_value;
+ghost use Rattle.output_format.specs.declared.Show.TheVariants as show_value;
 ghost use Rattle.recording.specs.declared.version.Version.{Version as VersionValue};
 ghost use Rattle.replay.specs.Stops.{AreWhole};
 ghost use Rattle.worker_replay.specs.Parts.{Writes, WritesPart};
