@@ -290,6 +290,7 @@ impl Core {
         ensures state { IfSome result (λ found. found.state.now ≡ state_of self.now) }
         ensures right { IfSome result (λ found.
             IsCalculationOf found.state.now found.calculation.now) }
+        ensures current { IfSome result (λ _. IsCurrent self.now) }
         ensures none { IfNone result (IsCurrent self.now → ⊥) }
     {
         if self.built != self.state.journal().len() as u64 {
