@@ -7,6 +7,7 @@
 //! | `<+` | such a line, so many times: the number, and the line |
 //! | `\|` | a part of the input, or its end, which has none |
 //! | `<*` | a part of the input, so many times: the number, and the part |
+//! | `^` | the input of the row before |
 //! | `x` | the input cannot be read |
 //! | `>` | a line of the output that is wanted |
 //! | `>*` | a part of that output, so many times |
@@ -67,7 +68,7 @@ pub fn read_rows<'a>(alloc: Global, text: &'a str) -> Result<Vec<Row<'a>>, RowFa
         number = number.saturating_add(1);
         open = match open {
             None => begin_row(alloc, number, line)?,
-            Some(row) => match go_on(row, number, line)? {
+            Some(row) => match go_on(row, rows.last(), number, line)? {
                 Step::Open(row) => Some(row),
                 Step::Ended(row) => {
                     rows.push(row)?;
@@ -123,8 +124,13 @@ fn words_of<'a>(alloc: Global, text: &'a str) -> Result<Vec<&'a str>, RowFault> 
     Ok(words)
 }
 
-// The row with a further line.
-fn go_on<'a>(mut row: Row<'a>, number: usize, line: &str) -> Result<Step<'a>, RowFault> {
+// The row with a further line. The row before it may be none.
+fn go_on<'a>(
+    mut row: Row<'a>,
+    before: Option<&Row<'a>>,
+    number: usize,
+    line: &str,
+) -> Result<Step<'a>, RowFault> {
     if let Some(status) = line.strip_prefix("= ") {
         row.status = status.parse().map_err(|_| RowFault::Line(number))?;
         return Ok(Step::Ended(row));
@@ -145,6 +151,9 @@ fn go_on<'a>(mut row: Row<'a>, number: usize, line: &str) -> Result<Step<'a>, Ro
         add_line(&mut row.faults, text)?;
     } else if let Some(text) = line.strip_prefix("!~ ") {
         add_over(&mut row.faults, text)?;
+    } else if line == "^" {
+        let before = before.ok_or(RowFault::Line(number))?;
+        row.input.extend_from_slice(&before.input)?;
     } else if line == "x" {
         row.is_readable = false;
     } else if line == "?" {
