@@ -10,9 +10,9 @@ use Rattle.output_format.specs.declared.Format.{Format}
 use Rattle.output_format.specs.declared.Format.TheVariants as form
 use Rattle.output_format.specs.declared.Show.{Show}
 use Rattle.output_format.specs.declared.Show.TheVariants.{Routes, Due, Lsdb, Journal}
-use Rattle.command_line.specs.Command.{ReplayTexts, ChangesTexts, FollowTexts, HasFormat, HasChangesWords, HasDecodeWords, HasFlag, HasFollowWords, HasJob, HasJobWords, HasReplayWords, HasTexts, HasWords, IsFit, IsJob, IsMistake, JobTexts, OfOne, OfDecode, OfReplay, OfChanges, OfFollow, OfFault, OneTexts, WritesWorkers, command_name, job_texts, program, show_name, format_name}
+use Rattle.command_line.specs.Command.{ReplayTexts, ChangesTexts, FollowTexts, ExplainTexts, HasFormat, HasChangesWords, HasDecodeWords, HasExplainWords, HasFlag, HasFollowWords, HasJob, HasJobWords, HasReplayWords, HasTexts, HasWords, IsFit, IsJob, IsMistake, JobTexts, OfOne, OfDecode, OfReplay, OfChanges, OfFollow, OfExplain, OfFault, OneTexts, WritesWorkers, command_name, job_texts, program, show_name, format_name}
 use Rattle.command_line.specs.declared.command.Job.{Job}
-use Rattle.command_line.specs.declared.command.Job.TheVariants.{One, Decode, Replay, Changes, Follow, Fault}
+use Rattle.command_line.specs.declared.command.Job.TheVariants.{One, Decode, Replay, Changes, Follow, Explain, Fault}
 use Rattle.command_line.specs.declared.command.Usage.{Usage}
 use Rattle.command_line.specs.declared.command.Usage.TheVariants.{Told, Memory}
 use Rattle.command_line.proofs.Matches.{apart, one_given}
@@ -98,6 +98,17 @@ follow_unique rows t u h k =
     follows_same t.only u.only t.strict u.strict t.format u.format
     (sym h.0 ∙ k.0) (flag_unique rows (codes "strict") t.strict u.strict h.1 k.1) (form_unique rows t.format u.format h.2 k.2)
 
+explains_same : (a b c d : Text) (x y : Option Text) (v w : Format) (p q : Bool) → a ≡ b → c ≡ d → x ≡ y → v ≡ w → p ≡ q
+    → (let t : ExplainTexts = record { file = a; address = c; due = x; format = v; progress = p } in
+    let u : ExplainTexts = record { file = b; address = d; due = y; format = w; progress = q } in t ≡ u)
+explains_same a b c d x y v w p q e f g h k = rw (e, f, g, h, k) refl
+
+explain_unique : (rows : List Row) (t u : ExplainTexts) → HasExplainWords rows t → HasExplainWords rows u → t ≡ u
+explain_unique rows t u h k =
+    explains_same t.file u.file t.address u.address t.due u.due t.format u.format t.progress u.progress
+    (one_given _ t.file u.file h.0 k.0) (one_given _ t.address u.address h.1 k.1) (sym h.2 ∙ k.2)
+    (form_unique rows t.format u.format h.3 k.3) (flag_unique rows (codes "progress") t.progress u.progress h.4 k.4)
+
 -- the words of one command were given for one job
 same_texts : (rows : List Row) (a b : JobTexts) → command_name a ≡ command_name b → HasJobWords rows a → HasJobWords rows b → a ≡ b
 same_texts rows (OfOne t) (OfOne u) e h k = ap OfOne (words_unique rows t u h k)
@@ -110,6 +121,8 @@ same_texts rows (OfChanges t) (OfChanges u) e h k = ap OfChanges (changes_unique
 same_texts rows (OfChanges t) other e h k = absurd (apart (codes "changes") (command_name other) refl e)
 same_texts rows (OfFollow t) (OfFollow u) e h k = ap OfFollow (follow_unique rows t u h k)
 same_texts rows (OfFollow t) other e h k = absurd (apart (codes "follow") (command_name other) refl e)
+same_texts rows (OfExplain t) (OfExplain u) e h k = ap OfExplain (explain_unique rows t u h k)
+same_texts rows (OfExplain t) other e h k = absurd (apart (codes "explain") (command_name other) refl e)
 same_texts rows (OfFault a) (OfFault b) e h k = ap OfFault (one_given _ a b h k)
 same_texts rows (OfFault a) other e h k = absurd (apart (codes "fault") (command_name other) refl e)
 
@@ -125,6 +138,7 @@ job_is_fit s (Decode word long) h = tt
 job_is_fit s (Replay file workers show format progress) h = h.2.1.2.within
 job_is_fit s (Changes file only format progress) h = tt
 job_is_fit s (Follow only strict format) h = tt
+job_is_fit s (Explain file address due format progress) h = tt
 job_is_fit s (Fault number) h = tt
 
 -- ---- a known line

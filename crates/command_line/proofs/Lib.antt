@@ -6,5 +6,6 @@ pub mod Walks
 pub mod Line
 pub mod ReplayLines
 pub mod ChangesLines
+pub mod ExplainLines
 pub mod FollowLines
 pub mod Jobs

@@ -48,17 +48,18 @@ abbrev texts_at : References → List Text
 texts_at names = map (λ s. s.now) names.now
 
 -- the places of these names
-abbrev placed : List Text → List Text → List Text → List Text → Places
-placed a b c d = record { shows = references a; of_replay = references b; of_changes = references c; of_follow = references d }
+abbrev placed : List Text → List Text → List Text → List Text → List Text → Places
+placed a b c d e =
+    record { shows = references a; of_replay = references b; of_changes = references c; of_follow = references d; of_explain = references e }
 
-placed_same : (a b c d a2 b2 c2 d2 : List Text) → a ≡ a2 → b ≡ b2 → c ≡ c2 → d ≡ d2 → placed a b c d ≡ placed a2 b2 c2 d2
-placed_same a b c d a2 b2 c2 d2 p q r s = rw (p, q, r, s) refl
+placed_same : (a b c d e a2 b2 c2 d2 e2 : List Text) → a ≡ a2 → b ≡ b2 → c ≡ c2 → d ≡ d2 → e ≡ e2 → placed a b c d e ≡ placed a2 b2 c2 d2 e2
+placed_same a b c d e a2 b2 c2 d2 e2 p q r s u = rw (p, q, r, s, u) refl
 
 program_is : (p : Places) → HaveNames p → below moved_if_some reads checks (built (program_with p)) ≡ built program
 program_is p h =
     ap (λ (q : Places). built (program_with q))
-    (placed_same (texts_at p.shows) (texts_at p.of_replay) (texts_at p.of_changes) (texts_at p.of_follow) show_names format_names format_names format_names
-    h.shows h.of_replay h.of_changes h.of_follow)
+    (placed_same (texts_at p.shows) (texts_at p.of_replay) (texts_at p.of_changes) (texts_at p.of_follow) (texts_at p.of_explain)
+    show_names format_names format_names format_names format_names h.shows h.of_replay h.of_changes h.of_follow h.of_explain)
 
 entered_is : (p : Places) (stop : Option (Text × List Text)) → HaveNames p → entered (built (program_with p)) stop ≡ entered (built program) stop
 entered_is p stop h =

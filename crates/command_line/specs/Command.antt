@@ -1,4 +1,4 @@
--- The command line: `abr one ROUTER AREA ADDRESS HEX LOOKUP`, `abr decode HEX [--long]`, `abr replay FILE [--workers N] [--show NAME] [--format NAME] [--progress]`, `abr changes FILE [--only PREFIX] [--format NAME] [--progress]`, `abr follow [--only PREFIX] [--strict] [--format NAME]` and `abr fault NUMBER`.
+-- The command line: `abr one ROUTER AREA ADDRESS HEX LOOKUP`, `abr decode HEX [--long]`, `abr replay FILE [--workers N] [--show NAME] [--format NAME] [--progress]`, `abr changes FILE [--only PREFIX] [--format NAME] [--progress]`, `abr follow [--only PREFIX] [--strict] [--format NAME]`, `abr explain FILE ADDRESS [--due AREA] [--format NAME] [--progress]` and `abr fault NUMBER`.
 use Rattle.std.specs.Prelude.{ℕ, ◌≡◌, ◌⊎◌, ◌≤◌, Bool, true, false, List, [], ◌∷◌, Option, Some, None, Result, MatchResult, codes, map, option_map}
 use Rattle.std.specs.Borrow.{Bor}
 use Rattle.std.specs.Str.{bytes_eq}
@@ -14,7 +14,7 @@ use Rattle.output_format.specs.declared.Show.{Show}
 use Rattle.output_format.specs.declared.Show.TheVariants.{Routes, Due, Lsdb, Journal}
 use Rattle.command_line.specs.declared.command.OneWords.{OneWords}
 use Rattle.command_line.specs.declared.command.Job.{Job}
-use Rattle.command_line.specs.declared.command.Job.TheVariants.{One, Decode, Replay, Changes, Follow, Fault}
+use Rattle.command_line.specs.declared.command.Job.TheVariants.{One, Decode, Replay, Changes, Follow, Explain, Fault}
 use Rattle.command_line.specs.declared.command.Usage.{Usage}
 use Rattle.command_line.specs.declared.command.Usage.TheVariants.{Told, Memory}
 
@@ -36,6 +36,10 @@ decode_command = with_rule (with_rule (new_app (codes "decode")) (required_word 
 -- `--only PREFIX`
 abbrev pub only_option : Rule
 only_option = record (new_rule (codes "only")) { long = Some (codes "only"); value_names = 1 }
+
+-- `--due AREA`
+abbrev pub due_option : Rule
+due_option = record (new_rule (codes "due")) { long = Some (codes "due"); value_names = 1 }
 
 -- the flag `--progress`
 abbrev pub progress_flag : Rule
@@ -122,6 +126,10 @@ changes_command formats = with_rule (with_rule (with_rule (file_command (codes "
 abbrev pub follow_command : References → App
 follow_command formats = with_rule (with_rule (with_rule (new_app (codes "follow")) only_option) strict_flag) (format_option formats)
 
+abbrev pub explain_command : References → App
+explain_command formats =
+    with_rule (with_rule (with_rule (with_rule (file_command (codes "explain")) (required_word (codes "ADDRESS"))) due_option) (format_option formats)) progress_flag
+
 -- the command `abr replay`, wherever its references point
 abbrev pub IsReplayCommand : App → Type 0
 IsReplayCommand a = (shows formats : References) × AreShowNames shows × AreFormatNames formats × (a ≡ replay_command shows formats)
@@ -133,6 +141,10 @@ IsChangesCommand a = (formats : References) × AreFormatNames formats × (a ≡ 
 -- the command `abr follow`, wherever its references point
 abbrev pub IsFollowCommand : App → Type 0
 IsFollowCommand a = (formats : References) × AreFormatNames formats × (a ≡ follow_command formats)
+
+-- the command `abr explain`, wherever its references point
+abbrev pub IsExplainCommand : App → Type 0
+IsExplainCommand a = (formats : References) × AreFormatNames formats × (a ≡ explain_command formats)
 
 -- the option `--show`, wherever its references point
 abbrev pub IsShowOption : Rule → Type 0
@@ -148,6 +160,7 @@ pub record Places : Type 0 where
   pub of_replay : References
   pub of_changes : References
   pub of_follow : References
+  pub of_explain : References
 
 -- the names stand there
 pub record HaveNames (p : Places) : Type 0 where
@@ -155,6 +168,7 @@ pub record HaveNames (p : Places) : Type 0 where
   pub of_replay : AreFormatNames p.of_replay
   pub of_changes : AreFormatNames p.of_changes
   pub of_follow : AreFormatNames p.of_follow
+  pub of_explain : AreFormatNames p.of_explain
 
 -- what follows the program's name is one of its commands, or asks for its version
 abbrev pub program_with : Places → App
@@ -163,7 +177,8 @@ program_with p =
     let top = record named { top = record named.top { has_version = true; subcommand_required = true; arg_required_else_help = true } } in
     let first = with_subcommand (with_subcommand top one_command.top) decode_command.top in
     let second = with_subcommand (with_subcommand first (replay_command p.shows p.of_replay).top) (changes_command p.of_changes).top in
-    with_subcommand (with_subcommand second (follow_command p.of_follow).top) fault_command.top
+    let third = with_subcommand (with_subcommand second (follow_command p.of_follow).top) (explain_command p.of_explain).top in
+    with_subcommand third fault_command.top
 
 -- the program, wherever its references point
 abbrev pub IsProgram : App → Type 0
@@ -184,6 +199,7 @@ program = program_with (record {
   of_replay = references format_names;
   of_changes = references format_names;
   of_follow = references format_names;
+  of_explain = references format_names;
 })
 
 -- the texts of the words of `abr one`
@@ -250,6 +266,14 @@ pub record FollowTexts : Type 0 where
   pub strict : Bool
   pub format : Format
 
+-- what the words of `abr explain` say
+pub record ExplainTexts : Type 0 where
+  pub file : Text
+  pub address : Text
+  pub due : Option Text
+  pub format : Format
+  pub progress : Bool
+
 -- the name of the form was given; if none was, the matches have `text`
 abbrev pub HasFormat : List Row → Format → Type 0
 HasFormat rows format = first_of (codes "format") rows ≡ Some (format_name format)
@@ -273,6 +297,14 @@ HasChangesWords rows t = (first_of (codes "FILE") rows ≡ Some t.file)
 abbrev pub HasFollowWords : List Row → FollowTexts → Type 0
 HasFollowWords rows t = (first_of (codes "only") rows ≡ t.only) × HasFlag rows (codes "strict") t.strict × HasFormat rows t.format
 
+-- this file and this address were given, this area or none, the form, and `--progress` or not; if not, the matches have `false`
+abbrev pub HasExplainWords : List Row → ExplainTexts → Type 0
+HasExplainWords rows t = (first_of (codes "FILE") rows ≡ Some t.file)
+    × (first_of (codes "ADDRESS") rows ≡ Some t.address)
+    × (first_of (codes "due") rows ≡ t.due)
+    × HasFormat rows t.format
+    × HasFlag rows (codes "progress") t.progress
+
 -- a job, with the texts of its words
 pub data JobTexts : Type 0 where
   OfOne : (texts : OneTexts) → JobTexts
@@ -280,19 +312,22 @@ pub data JobTexts : Type 0 where
   OfReplay : (texts : ReplayTexts) → JobTexts
   OfChanges : (texts : ChangesTexts) → JobTexts
   OfFollow : (texts : FollowTexts) → JobTexts
+  OfExplain : (texts : ExplainTexts) → JobTexts
   OfFault : (number : Text) → JobTexts
 
--- the network of the word, where there is one
-abbrev pub network_text : Option (Bor Text) → Option Text
-network_text only = option_map (λ prefix. prefix.now) only
+-- the text of the word, where there is one
+abbrev pub word_text : Option (Bor Text) → Option Text
+word_text given = option_map (λ word. word.now) given
 
 abbrev pub job_texts : Job → JobTexts
 job_texts (One w) = OfOne (texts_of w)
 job_texts (Decode word long) = OfDecode word.now long
 job_texts (Replay file workers show format progress) =
     OfReplay (record { file = file.now; workers = workers; show = show; format = format; progress = progress })
-job_texts (Changes file only format progress) = OfChanges (record { file = file.now; only = network_text only; format = format; progress = progress })
-job_texts (Follow only strict format) = OfFollow (record { only = network_text only; strict = strict; format = format })
+job_texts (Changes file only format progress) = OfChanges (record { file = file.now; only = word_text only; format = format; progress = progress })
+job_texts (Follow only strict format) = OfFollow (record { only = word_text only; strict = strict; format = format })
+job_texts (Explain file address due format progress) =
+    OfExplain (record { file = file.now; address = address.now; due = word_text due; format = format; progress = progress })
 job_texts (Fault number) = OfFault number.now
 
 -- the name of its command
@@ -302,6 +337,7 @@ command_name (OfDecode hex long) = codes "decode"
 command_name (OfReplay t) = codes "replay"
 command_name (OfChanges t) = codes "changes"
 command_name (OfFollow t) = codes "follow"
+command_name (OfExplain t) = codes "explain"
 command_name (OfFault number) = codes "fault"
 
 -- its words were given
@@ -311,6 +347,7 @@ HasJobWords rows (OfDecode hex long) = HasDecodeWords rows hex long
 HasJobWords rows (OfReplay t) = HasReplayWords rows t
 HasJobWords rows (OfChanges t) = HasChangesWords rows t
 HasJobWords rows (OfFollow t) = HasFollowWords rows t
+HasJobWords rows (OfExplain t) = HasExplainWords rows t
 HasJobWords rows (OfFault number) = first_of (codes "NUMBER") rows ≡ Some number
 
 -- the job is one of the command with this name, and its words were given
@@ -336,6 +373,7 @@ IsFit (Decode word long) = Unit {0}
 IsFit (Replay file workers show format progress) = AreWorkers workers
 IsFit (Changes file only format progress) = Unit {0}
 IsFit (Follow only strict format) = Unit {0}
+IsFit (Explain file address due format progress) = Unit {0}
 IsFit (Fault number) = Unit {0}
 
 -- A mistake is one that the command line has. If no mistake is found and there is no job, a word is missing.
@@ -423,6 +461,22 @@ follow_only_line name prefix = name ∷ codes "follow" ∷ codes "--only" ∷ pr
 abbrev pub follow_format_line : Text → Format → List Text
 follow_format_line name format = name ∷ codes "follow" ∷ codes "--format" ∷ format_name format ∷ []
 
+-- the command line `abr explain` with this file and this address, whatever the program is called
+abbrev pub explain_line : Text → Text → Text → List Text
+explain_line name file address = name ∷ codes "explain" ∷ file ∷ address ∷ []
+
+-- the command line `abr explain` with these, `--due` and an area
+abbrev pub due_line : Text → Text → Text → Text → List Text
+due_line name file address area = name ∷ codes "explain" ∷ file ∷ address ∷ codes "--due" ∷ area ∷ []
+
+-- the command line `abr explain` with these, `--format` and a name
+abbrev pub explain_format_line : Text → Text → Text → Format → List Text
+explain_format_line name file address format = name ∷ codes "explain" ∷ file ∷ address ∷ codes "--format" ∷ format_name format ∷ []
+
+-- the command line `abr explain` with these and `--progress`
+abbrev pub explain_progress_line : Text → Text → Text → List Text
+explain_progress_line name file address = name ∷ codes "explain" ∷ file ∷ address ∷ codes "--progress" ∷ []
+
 -- the command line `abr fault` with this word, whatever the program is called
 abbrev pub fault_line : Text → Text → List Text
 fault_line name number = name ∷ codes "fault" ∷ number ∷ []
@@ -440,6 +494,10 @@ plain_changes file = record { file = file; only = None; format = form.Text; prog
 -- `abr follow` with no further word: of all networks, not strict, as text
 abbrev pub plain_follow : FollowTexts
 plain_follow = record { only = None; strict = false; format = form.Text }
+
+-- `abr explain` with this file and this address only: by the routing table, as text, without progress
+abbrev pub plain_explain : Text → Text → ExplainTexts
+plain_explain file address = record { file = file; address = address; due = None; format = form.Text; progress = false }
 
 -- the command line that the words are
 abbrev pub command_words : List (Bor Text) → List Text
@@ -499,6 +557,18 @@ abbrev pub GivesFollowOnly : List Text → Result Job Usage → Type 0
 GivesFollowOnly line result =
     (name prefix : Text) → line ≡ follow_only_line name prefix → IsPlainWord prefix → GivesJob result (OfFollow (record plain_follow { only = Some prefix }))
 
+-- if the line is `abr explain` with a file and a plain word, the job explains the word by the file's routing table, as text and without progress
+abbrev pub GivesExplain : List Text → Result Job Usage → Type 0
+GivesExplain line result =
+    (name file address : Text) → line ≡ explain_line name file address
+    → IsFileWord file → IsPlainWord address → GivesJob result (OfExplain (plain_explain file address))
+
+-- if the line is `abr explain` with a file, a plain word, `--due` and another, the job explains the first word's summary in the area that the other names
+abbrev pub GivesDue : List Text → Result Job Usage → Type 0
+GivesDue line result =
+    (name file address area : Text) → line ≡ due_line name file address area
+    → IsFileWord file → IsPlainWord address → IsPlainWord area → GivesJob result (OfExplain (record (plain_explain file address) { due = Some area }))
+
 -- if the line is `abr replay` with a file and `--format`, the job is `replay` of it, in that form
 abbrev pub GivesReplayFormat : List Text → Result Job Usage → Type 0
 GivesReplayFormat line result =
@@ -516,9 +586,16 @@ abbrev pub GivesFollowFormat : List Text → Result Job Usage → Type 0
 GivesFollowFormat line result =
     (name : Text) (format : Format) → line ≡ follow_format_line name format → GivesJob result (OfFollow (record plain_follow { format = format }))
 
+-- if the line is `abr explain` with a file, a plain word and `--format`, the job explains the word in that form
+abbrev pub GivesExplainFormat : List Text → Result Job Usage → Type 0
+GivesExplainFormat line result =
+    (name file address : Text) (format : Format) → line ≡ explain_format_line name file address format
+    → IsFileWord file → IsPlainWord address → GivesJob result (OfExplain (record (plain_explain file address) { format = format }))
+
 -- `--format` gives the form, in each command that takes it
 abbrev pub GivesFormat : List Text → Result Job Usage → Type 0
-GivesFormat line result = GivesReplayFormat line result × GivesChangesFormat line result × GivesFollowFormat line result
+GivesFormat line result =
+    GivesReplayFormat line result × GivesChangesFormat line result × GivesFollowFormat line result × GivesExplainFormat line result
 
 -- if the line is `abr replay` with a file and `--progress`, the job is `replay` of it, with progress
 abbrev pub GivesReplayProgress : List Text → Result Job Usage → Type 0
@@ -532,9 +609,15 @@ GivesChangesProgress line result =
     (name file : Text) → line ≡ changes_progress_line name file
     → IsFileWord file → GivesJob result (OfChanges (record (plain_changes file) { progress = true }))
 
+-- if the line is `abr explain` with a file, a plain word and `--progress`, the job explains the word, with progress
+abbrev pub GivesExplainProgress : List Text → Result Job Usage → Type 0
+GivesExplainProgress line result =
+    (name file address : Text) → line ≡ explain_progress_line name file address
+    → IsFileWord file → IsPlainWord address → GivesJob result (OfExplain (record (plain_explain file address) { progress = true }))
+
 -- `--progress` asks for progress, in each command that takes it
 abbrev pub GivesProgress : List Text → Result Job Usage → Type 0
-GivesProgress line result = GivesReplayProgress line result × GivesChangesProgress line result
+GivesProgress line result = GivesReplayProgress line result × GivesChangesProgress line result × GivesExplainProgress line result
 
 -- if the line is `abr fault` with a plain word, the job is `fault` with it
 abbrev pub GivesFault : List Text → Result Job Usage → Type 0

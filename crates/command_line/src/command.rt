@@ -51,6 +51,18 @@ pub enum Job<'a> {
         strict: bool,
         format: Format,
     },
+    /// `abr explain`, with its file (`-` is standard input), the word that is explained, the word
+    /// of an area or none, the form of the lines, and whether it was asked to show how many lines are
+    /// done. With no area, it is explained why the routing table has what it has for an address
+    /// (RFC 2328 section 11.1). With one, it is explained why the summary of a network, or of the
+    /// Router ID of an AS boundary router, is due in that area, or is not (section 12.4.3).
+    Explain {
+        file: &'a str,
+        address: &'a str,
+        due: Option<&'a str>,
+        format: Format,
+        progress: bool,
+    },
     /// `abr fault`, with the word that is to be a number.
     Fault(&'a str),
 }

@@ -4,7 +4,7 @@ ghost use Rattle.clap.specs.Words.{Text, app_of, rows_of, found_of, rule_of, sub
 ghost use Rattle.clap.specs.declared.builder.command.Command.TheViews.{out-Command};
 ghost use Rattle.output_format.specs.declared.Format.{Format};
 ghost use Rattle.output_format.specs.declared.Show.{Show};
-ghost use Rattle.command_line.specs.Command.{one_command, decode_command, fault_command, program, required_word, show_name, format_name, References, AreShowNames, AreFormatNames, OneTexts, ReplayTexts, ChangesTexts, FollowTexts, texts_of, HasWords, HasJob, IsJob, IsJobOf, IsMistake, IsProgram, IsReplayCommand, IsChangesCommand, IsFollowCommand, IsShowOption, IsFormatOption, HasDecodeWords, HasFlag, HasReplayWords, HasChangesWords, HasFollowWords, IsFit, WritesWorkers, workers_option, long_flag, only_option, strict_flag, progress_flag, command_words, GivesChanges, GivesDecode, GivesFault, GivesFollow, GivesFollowOnly, GivesFormat, GivesLong, GivesOne, GivesOnly, GivesProgress, GivesReplay, GivesShow, GivesStrict, GivesWorkers};
+ghost use Rattle.command_line.specs.Command.{one_command, decode_command, fault_command, program, required_word, show_name, format_name, References, AreShowNames, AreFormatNames, OneTexts, ReplayTexts, ChangesTexts, FollowTexts, ExplainTexts, texts_of, HasWords, HasJob, IsJob, IsJobOf, IsMistake, IsProgram, IsReplayCommand, IsChangesCommand, IsFollowCommand, IsExplainCommand, IsShowOption, IsFormatOption, HasDecodeWords, HasFlag, HasReplayWords, HasChangesWords, HasFollowWords, HasExplainWords, IsFit, WritesWorkers, workers_option, long_flag, only_option, due_option, strict_flag, progress_flag, command_words, GivesChanges, GivesDecode, GivesDue, GivesExplain, GivesFault, GivesFollow, GivesFollowOnly, GivesFormat, GivesLong, GivesOne, GivesOnly, GivesProgress, GivesReplay, GivesShow, GivesStrict, GivesWorkers};
 
 use crate::command::{Job, OneWords, Usage};
 use clap::builder::ValueParser;
@@ -23,6 +23,10 @@ const MOST_WORKERS: usize = 16;
 
 // What is said of the word FILE.
 const FILE_HELP: &str = "The recording, or - for standard input";
+
+// What is said of the word ADDRESS of `explain`.
+const ADDRESS_HELP: &str =
+    "The address; with --due a network, or the Router ID of an AS boundary router";
 
 // A command line with `one`.
 const ONE_EXAMPLE: &str = "Example: abr one 10.0.0.1 0.0.0.0 192.0.2.1 \
@@ -50,6 +54,8 @@ pub fn job<'a>(alloc: Global, words: &'a [&'a str]) -> Result<Job<'a>, Usage>
     ensures follow { GivesFollow (command_words words.entry.now) result }
     ensures strict { GivesStrict (command_words words.entry.now) result }
     ensures follow_only { GivesFollowOnly (command_words words.entry.now) result }
+    ensures explain { GivesExplain (command_words words.entry.now) result }
+    ensures due { GivesDue (command_words words.entry.now) result }
     ensures format { GivesFormat (command_words words.entry.now) result }
     ensures progress { GivesProgress (command_words words.entry.now) result }
     ensures fault { GivesFault (command_words words.entry.now) result }
@@ -98,6 +104,8 @@ fn job_in<'a>(matches: &ArgMatches<'a>) -> Option<Job<'a>>
         changes_job(words)
     } else if name == "follow" {
         follow_job(words)
+    } else if name == "explain" {
+        explain_job(words)
     } else if name == "fault" {
         Some(Job::Fault(words.get_str("NUMBER")?))
     } else {
@@ -138,6 +146,20 @@ fn follow_job<'a>(words: &ArgMatches<'a>) -> Option<Job<'a>>
         only: words.get_str("only"),
         strict: words.get_str("strict")? == "true",
         format: format_of(words.get_str("format")?)?,
+    })
+}
+
+fn explain_job<'a>(words: &ArgMatches<'a>) -> Option<Job<'a>>
+    ensures some { IfSome result (IsJobOf (codes "explain") (rows_of (found_of words.now))) }
+    ensures none { IsNone result → (t : ExplainTexts)
+        → ¬ HasExplainWords (rows_of (found_of words.now)) t }
+{
+    Some(Job::Explain {
+        file: words.get_str("FILE")?,
+        address: words.get_str("ADDRESS")?,
+        due: words.get_str("due"),
+        format: format_of(words.get_str("format")?)?,
+        progress: progress_of(words)?,
     })
 }
 
@@ -231,6 +253,7 @@ fn program_command<'a>(alloc: Global) -> Result<Command<'a>, AllocError>
         .subcommand(replay(alloc)?)?
         .subcommand(changes(alloc)?)?
         .subcommand(follow(alloc)?)?
+        .subcommand(explain(alloc)?)?
         .subcommand(fault(alloc)?)
 }
 
@@ -300,6 +323,20 @@ fn follow<'a>(alloc: Global) -> Result<Command<'a>, AllocError>
         .arg(format_option(alloc))
 }
 
+fn explain<'a>(alloc: Global) -> Result<Command<'a>, AllocError>
+    ensures app { IfOk result (λ c. IsExplainCommand (app_of c)) }
+    ensures local { IfOk result (λ c. (out-Command c).has_globals ≡ false) }
+{
+    Command::new(alloc, "explain")
+        .about("Explains why the routing table has what it has for an address")
+        .after_help("Example: abr explain examples/border_router.rec 203.0.113.5 --format json")
+        .arg(word(alloc, "FILE", FILE_HELP))?
+        .arg(word(alloc, "ADDRESS", ADDRESS_HELP))?
+        .arg(due_option(alloc))?
+        .arg(format_option(alloc))?
+        .arg(progress_flag(alloc))
+}
+
 fn fault<'a>(alloc: Global) -> Result<Command<'a>, AllocError>
     ensures app { IfOk result (λ c. app_of c ≡ fault_command) }
     ensures local { IfOk result (λ c. (out-Command c).has_globals ≡ false) }
@@ -348,6 +385,15 @@ fn only_option<'a>(alloc: Global) -> Arg<'a>
         .long("only")
         .value_name("PREFIX")
         .help("The only network that is told of, as 203.0.113.0/25")
+}
+
+fn due_option<'a>(alloc: Global) -> Arg<'a>
+    ensures rule { rule_of result ≡ due_option }
+    ensures local { result.global ≡ false }
+{
+    Arg::new(alloc, "due").long("due").value_name("AREA").help(
+        "Explains why a summary for ADDRESS is due in this area, or is not",
+    )
 }
 
 fn workers_option<'a>(alloc: Global) -> Arg<'a>

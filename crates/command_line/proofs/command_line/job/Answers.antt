@@ -1,9 +1,10 @@
 use Rattle.std.proofs.Common.{Some, true, false, sym, map, subst, inr, refl}
-use Rattle.command_line.specs.Command.{HasJob, IsJob, OfOne, OfDecode, OfReplay, OfChanges, OfFollow, OfFault, one_line, decode_line, long_line, replay_line, workers_line, show_line, changes_line, only_line, follow_line, strict_line, follow_only_line, fault_line, plain_replay, plain_changes, plain_follow, replay_format_line, changes_format_line, follow_format_line, replay_progress_line, changes_progress_line}
+use Rattle.command_line.specs.Command.{HasJob, IsJob, OfOne, OfDecode, OfReplay, OfChanges, OfFollow, OfExplain, OfFault, one_line, decode_line, long_line, replay_line, workers_line, show_line, changes_line, only_line, follow_line, strict_line, follow_only_line, explain_line, due_line, fault_line, plain_replay, plain_changes, plain_follow, plain_explain, replay_format_line, changes_format_line, follow_format_line, explain_format_line, replay_progress_line, changes_progress_line, explain_progress_line}
 use Rattle.command_line.proofs.Jobs.{gives, has_job, job_is_fit, mistake_is, only_memory}
 use Rattle.command_line.proofs.Line.{one_has, one_faultless, decode_has, decode_faultless, long_has, long_faultless, fault_has, fault_faultless}
 use Rattle.command_line.proofs.ReplayLines.{replay_has, replay_faultless, workers_has, workers_faultless, show_has, show_faultless, replay_format_has, replay_format_faultless, replay_progress_has, replay_progress_faultless}
 use Rattle.command_line.proofs.ChangesLines.{changes_has, changes_faultless, only_has, only_faultless, changes_format_has, changes_format_faultless, changes_progress_has, changes_progress_faultless}
+use Rattle.command_line.proofs.ExplainLines.{explain_has, explain_faultless, due_has, due_faultless, explain_format_has, explain_format_faultless, explain_progress_has, explain_progress_faultless}
 use Rattle.command_line.proofs.FollowLines.{follow_has, follow_faultless, strict_has, strict_faultless, follow_only_has, follow_only_faultless, follow_format_has, follow_format_faultless}
 use Rattle.command_line.proofs.Names.{met_as_given, fails_as_given}
 use Rattle.command_line.proofs.command_line.job.Goals as goal
@@ -71,12 +72,23 @@ returns-in-Some-clause-follow_only c name prefix is plain =
     let given = met_as_given _ c.in-Ok.matches _ c.in_ok-command.ensures c.in-Ok.ensures.matches in
     gives _ _ (follow_only_line name prefix) c.in-Some.job (OfFollow (record plain_follow { only = Some prefix })) given c.in-Some.ensures.some is (follow_only_has name prefix plain)
 
+pub returns-in-Some-clause-explain : goal.returns-in-Some-clause-explain
+returns-in-Some-clause-explain c name file address is plain plain_address =
+    let given = met_as_given _ c.in-Ok.matches _ c.in_ok-command.ensures c.in-Ok.ensures.matches in
+    gives _ _ (explain_line name file address) c.in-Some.job (OfExplain (plain_explain file address)) given c.in-Some.ensures.some is (explain_has name file address plain plain_address)
+
+pub returns-in-Some-clause-due : goal.returns-in-Some-clause-due
+returns-in-Some-clause-due c name file address area is plain plain_address plain_area =
+    let given = met_as_given _ c.in-Ok.matches _ c.in_ok-command.ensures c.in-Ok.ensures.matches in
+    gives _ _ (due_line name file address area) c.in-Some.job (OfExplain (record (plain_explain file address) { due = Some area })) given c.in-Some.ensures.some is (due_has name file address area plain plain_address plain_area)
+
 pub returns-in-Some-clause-format : goal.returns-in-Some-clause-format
 returns-in-Some-clause-format c =
     let given = met_as_given _ c.in-Ok.matches _ c.in_ok-command.ensures c.in-Ok.ensures.matches in (
       λ name file format is plain. gives _ _ (replay_format_line name file format) c.in-Some.job (OfReplay (record (plain_replay file) { format = format })) given c.in-Some.ensures.some is (replay_format_has name file format plain),
       λ name file format is plain. gives _ _ (changes_format_line name file format) c.in-Some.job (OfChanges (record (plain_changes file) { format = format })) given c.in-Some.ensures.some is (changes_format_has name file format plain),
       λ name format is. gives _ _ (follow_format_line name format) c.in-Some.job (OfFollow (record plain_follow { format = format })) given c.in-Some.ensures.some is (follow_format_has name format),
+      λ name file address format is plain plain_address. gives _ _ (explain_format_line name file address format) c.in-Some.job (OfExplain (record (plain_explain file address) { format = format })) given c.in-Some.ensures.some is (explain_format_has name file address format plain plain_address),
     )
 
 pub returns-in-Some-clause-progress : goal.returns-in-Some-clause-progress
@@ -84,6 +96,7 @@ returns-in-Some-clause-progress c =
     let given = met_as_given _ c.in-Ok.matches _ c.in_ok-command.ensures c.in-Ok.ensures.matches in (
       λ name file is plain. gives _ _ (replay_progress_line name file) c.in-Some.job (OfReplay (record (plain_replay file) { progress = true })) given c.in-Some.ensures.some is (replay_progress_has name file plain),
       λ name file is plain. gives _ _ (changes_progress_line name file) c.in-Some.job (OfChanges (record (plain_changes file) { progress = true })) given c.in-Some.ensures.some is (changes_progress_has name file plain),
+      λ name file address is plain plain_address. gives _ _ (explain_progress_line name file address) c.in-Some.job (OfExplain (record (plain_explain file address) { progress = true })) given c.in-Some.ensures.some is (explain_progress_has name file address plain plain_address),
     )
 
 pub returns-in-Some-clause-fault : goal.returns-in-Some-clause-fault
@@ -151,12 +164,23 @@ returns-in-Ok-clause-follow_only c name prefix is plain =
     let given = met_as_given _ c.in-Ok.matches _ c.in_ok-command.ensures c.in-Ok.ensures.matches in
     absurd (c.in-None.ensures.none refl (has_job _ _ (follow_only_line name prefix) (OfFollow (record plain_follow { only = Some prefix })) given is (follow_only_has name prefix plain)))
 
+pub returns-in-Ok-clause-explain : goal.returns-in-Ok-clause-explain
+returns-in-Ok-clause-explain c name file address is plain plain_address =
+    let given = met_as_given _ c.in-Ok.matches _ c.in_ok-command.ensures c.in-Ok.ensures.matches in
+    absurd (c.in-None.ensures.none refl (has_job _ _ (explain_line name file address) (OfExplain (plain_explain file address)) given is (explain_has name file address plain plain_address)))
+
+pub returns-in-Ok-clause-due : goal.returns-in-Ok-clause-due
+returns-in-Ok-clause-due c name file address area is plain plain_address plain_area =
+    let given = met_as_given _ c.in-Ok.matches _ c.in_ok-command.ensures c.in-Ok.ensures.matches in
+    absurd (c.in-None.ensures.none refl (has_job _ _ (due_line name file address area) (OfExplain (record (plain_explain file address) { due = Some area })) given is (due_has name file address area plain plain_address plain_area)))
+
 pub returns-in-Ok-clause-format : goal.returns-in-Ok-clause-format
 returns-in-Ok-clause-format c =
     let given = met_as_given _ c.in-Ok.matches _ c.in_ok-command.ensures c.in-Ok.ensures.matches in (
       λ name file format is plain. absurd (c.in-None.ensures.none refl (has_job _ _ (replay_format_line name file format) (OfReplay (record (plain_replay file) { format = format })) given is (replay_format_has name file format plain))),
       λ name file format is plain. absurd (c.in-None.ensures.none refl (has_job _ _ (changes_format_line name file format) (OfChanges (record (plain_changes file) { format = format })) given is (changes_format_has name file format plain))),
       λ name format is. absurd (c.in-None.ensures.none refl (has_job _ _ (follow_format_line name format) (OfFollow (record plain_follow { format = format })) given is (follow_format_has name format))),
+      λ name file address format is plain plain_address. absurd (c.in-None.ensures.none refl (has_job _ _ (explain_format_line name file address format) (OfExplain (record (plain_explain file address) { format = format })) given is (explain_format_has name file address format plain plain_address))),
     )
 
 pub returns-in-Ok-clause-progress : goal.returns-in-Ok-clause-progress
@@ -164,6 +188,7 @@ returns-in-Ok-clause-progress c =
     let given = met_as_given _ c.in-Ok.matches _ c.in_ok-command.ensures c.in-Ok.ensures.matches in (
       λ name file is plain. absurd (c.in-None.ensures.none refl (has_job _ _ (replay_progress_line name file) (OfReplay (record (plain_replay file) { progress = true })) given is (replay_progress_has name file plain))),
       λ name file is plain. absurd (c.in-None.ensures.none refl (has_job _ _ (changes_progress_line name file) (OfChanges (record (plain_changes file) { progress = true })) given is (changes_progress_has name file plain))),
+      λ name file address is plain plain_address. absurd (c.in-None.ensures.none refl (has_job _ _ (explain_progress_line name file address) (OfExplain (record (plain_explain file address) { progress = true })) given is (explain_progress_has name file address plain plain_address))),
     )
 
 pub returns-in-Ok-clause-fault : goal.returns-in-Ok-clause-fault
@@ -231,12 +256,23 @@ returns-clause-follow_only c name prefix is plain =
     let fails = fails_as_given _ _ c.in-Err.error c.in_ok-command.ensures c.in-Err.ensures.kinds in
     only_memory _ _ c.in-Err.error _ fails c.usage_of.ensures is (follow_only_faultless name prefix plain)
 
+pub returns-clause-explain : goal.returns-clause-explain
+returns-clause-explain c name file address is plain plain_address =
+    let fails = fails_as_given _ _ c.in-Err.error c.in_ok-command.ensures c.in-Err.ensures.kinds in
+    only_memory _ _ c.in-Err.error _ fails c.usage_of.ensures is (explain_faultless name file address plain plain_address)
+
+pub returns-clause-due : goal.returns-clause-due
+returns-clause-due c name file address area is plain plain_address plain_area =
+    let fails = fails_as_given _ _ c.in-Err.error c.in_ok-command.ensures c.in-Err.ensures.kinds in
+    only_memory _ _ c.in-Err.error _ fails c.usage_of.ensures is (due_faultless name file address area plain plain_address plain_area)
+
 pub returns-clause-format : goal.returns-clause-format
 returns-clause-format c =
     let fails = fails_as_given _ _ c.in-Err.error c.in_ok-command.ensures c.in-Err.ensures.kinds in (
       λ name file format is plain. only_memory _ _ c.in-Err.error _ fails c.usage_of.ensures is (replay_format_faultless name file format plain),
       λ name file format is plain. only_memory _ _ c.in-Err.error _ fails c.usage_of.ensures is (changes_format_faultless name file format plain),
       λ name format is. only_memory _ _ c.in-Err.error _ fails c.usage_of.ensures is (follow_format_faultless name format),
+      λ name file address format is plain plain_address. only_memory _ _ c.in-Err.error _ fails c.usage_of.ensures is (explain_format_faultless name file address format plain plain_address),
     )
 
 pub returns-clause-progress : goal.returns-clause-progress
@@ -244,6 +280,7 @@ returns-clause-progress c =
     let fails = fails_as_given _ _ c.in-Err.error c.in_ok-command.ensures c.in-Err.ensures.kinds in (
       λ name file is plain. only_memory _ _ c.in-Err.error _ fails c.usage_of.ensures is (replay_progress_faultless name file plain),
       λ name file is plain. only_memory _ _ c.in-Err.error _ fails c.usage_of.ensures is (changes_progress_faultless name file plain),
+      λ name file address is plain plain_address. only_memory _ _ c.in-Err.error _ fails c.usage_of.ensures is (explain_progress_faultless name file address plain plain_address),
     )
 
 pub returns-clause-fault : goal.returns-clause-fault

@@ -18,8 +18,10 @@ returns c =
     let changes = c.in_ok-subcommand-4.ensures.shape c.in_ok-changes.ensures.local ∙ ap₂ with_subcommand replay (ap (λ (a : App). a.top) changes_at.2) in
     let follow_at = c.in_ok-follow.ensures.app in
     let follow = c.in_ok-subcommand-5.ensures.shape c.in_ok-follow.ensures.local ∙ ap₂ with_subcommand changes (ap (λ (a : App). a.top) follow_at.2) in
-    IfOk-weaker c.subcommand-6.result _ _ (λ r h. (
-      record { shows = replay_at.0; of_replay = replay_at.1; of_changes = changes_at.0; of_follow = follow_at.0 },
-      record { shows = replay_at.2; of_replay = replay_at.3; of_changes = changes_at.1; of_follow = follow_at.1 },
-      h.shape c.in_ok-fault.ensures.local ∙ ap₂ with_subcommand follow (ap (λ (a : App). a.top) c.in_ok-fault.ensures.app),
-    )) c.subcommand-6.ensures
+    let explain_at = c.in_ok-explain.ensures.app in
+    let explain = c.in_ok-subcommand-6.ensures.shape c.in_ok-explain.ensures.local ∙ ap₂ with_subcommand follow (ap (λ (a : App). a.top) explain_at.2) in
+    IfOk-weaker c.subcommand-7.result _ _ (λ r h. (
+      record { shows = replay_at.0; of_replay = replay_at.1; of_changes = changes_at.0; of_follow = follow_at.0; of_explain = explain_at.0 },
+      record { shows = replay_at.2; of_replay = replay_at.3; of_changes = changes_at.1; of_follow = follow_at.1; of_explain = explain_at.1 },
+      h.shape c.in_ok-fault.ensures.local ∙ ap₂ with_subcommand explain (ap (λ (a : App). a.top) c.in_ok-fault.ensures.app),
+    )) c.subcommand-7.ensures
