@@ -18,7 +18,7 @@ use Rattle.summary_lists.specs.Lists.{Metrics, due_for, kind_of}
 use Rattle.serde_json.specs.Data.{Data}
 use Rattle.serde_json.specs.Written.{compact_text}
 use Rattle.json_lines.specs.Lines.{set_data, drop_data, due_data, undue_data, lookup_data, refused_data, fault_data}
-use Rattle.json_lines.specs.Members.{json_line}
+use Rattle.json_objects.specs.Members.{json_line}
 use Rattle.replay.specs.Lines.{dest_text, lookup_line, refused_line}
 use Rattle.changes.specs.Changes.{area_changes, area_due}
 use Rattle.changes.specs.Lines.{Change, Set, Drop, Due, Undue, Found, Refused, AtFault, change_line, is_told, item_text, line_of, lines_of, object_line, place_text, words_of}

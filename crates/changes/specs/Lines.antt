@@ -17,7 +17,7 @@ use Rattle.recording.specs.declared.fault.Fault.{Fault}
 use Rattle.recording.specs.Texts.{fault_text}
 use Rattle.event_state.specs.Texts.{refusal_text}
 use Rattle.json_lines.specs.Lines.{set_data, drop_data, due_data, undue_data, lookup_data, refused_data, fault_data}
-use Rattle.json_lines.specs.Members.{json_line}
+use Rattle.json_objects.specs.Members.{json_line}
 use Rattle.output_format.specs.declared.Format.{Format}
 use Rattle.output_format.specs.declared.Format.TheVariants as format
 use Rattle.replay.specs.Lines.{dest_text, lookup_line}

@@ -1,3 +1,1 @@
-pub mod Members
-pub mod Routes
 pub mod Lines

@@ -4,9 +4,7 @@ use Rattle.std.specs.Int.{w16, w32, to_be_bytes}
 use Rattle.serde_json.specs.Data.{Data, boolean, string}
 use Rattle.ospf_types.specs.Network.{Network}
 use Rattle.ospf_types.specs.declared.key.Dest.{Dest}
-use Rattle.ospf_types.specs.declared.key.Dest.TheVariants as dest
 use Rattle.ospf_types.specs.declared.key.Scope.{Scope}
-use Rattle.ospf_types.specs.declared.key.Scope.TheVariants.{Area, As}
 use Rattle.ospf_types.specs.declared.lsa.Header.{Header}
 use Rattle.summary_lists.specs.Lists.{kind_of}
 use Rattle.summary_lists.specs.declared.due.DueSummary.{DueSummary}
@@ -18,8 +16,9 @@ use Rattle.route_table.specs.declared.table.Match.{Match}
 use Rattle.route_table.specs.declared.table.Match.TheVariants as found
 use Rattle.recording.specs.declared.fault.LineFault.{LineFault}
 use Rattle.recording.specs.Texts.{fault_text}
-use Rattle.json_lines.specs.Members.{object_of, number_data, address_data, network_data, hex_data}
-use Rattle.json_lines.specs.Routes.{route_data}
+use Rattle.json_objects.specs.Members.{object_of, number_data, address_data, network_data, hex_data}
+use Rattle.json_objects.specs.Routes.{route_data}
+use Rattle.json_objects.specs.Keys.{dest_data, scope_data}
 use Rattle.json_lines.specs.declared.replayed.Lookup.{Lookup}
 
 -- ---- what an event changed, at the number of its line
@@ -46,11 +45,6 @@ drop_data line p = object_of (
     ∷ (codes "network", network_data p)
     ∷ (codes "type", string (codes "drop"))
     ∷ [])
-
--- a network, or the Router ID of an AS boundary router
-abbrev pub dest_data : Dest → Data
-dest_data (dest.Net p) = network_data p
-dest_data (dest.Router router) = address_data router
 
 -- the summary is due in the area at this metric now
 abbrev pub due_data : (line area : ℕ) → DueSummary → Data
@@ -153,11 +147,6 @@ shown_due_data area due = object_of (
     ∷ (codes "metric", number_data due.metric)
     ∷ (codes "type", string (codes "due"))
     ∷ [])
-
--- the database: that of an area, or that of AS-external-LSAs
-abbrev pub scope_data : Scope → Data
-scope_data (Area area) = address_data area
-scope_data As = string (codes "as")
 
 -- the key of an LSA, and what tells an instance from another: sequence number, checksum and age
 abbrev pub lsa_data : Scope → Header → Data

@@ -1,9 +1,9 @@
 //! What an event changed, at the number of its line in the recording.
-ghost use Rattle.std.specs.Prelude.{◌≡◌, ◌++◌, OnOk, codes, string_bytes};
-ghost use Rattle.json_lines.specs.Members.{json_line, PutsMember};
-ghost use Rattle.json_lines.specs.Lines.{set_data, drop_data, due_data, undue_data, dest_data};
+ghost use Rattle.std.specs.Prelude.{◌≡◌, ◌++◌, OnOk, string_bytes};
+ghost use Rattle.json_objects.specs.Members.{json_line};
+ghost use Rattle.json_lines.specs.Lines.{set_data, drop_data, due_data, undue_data};
 
-use crate::object::Object;
+use json_objects::Object;
 use ospf_types::key::Dest;
 use ospf_types::memory::Memory;
 use ospf_types::prefix::Prefix;
@@ -60,17 +60,4 @@ pub fn put_undue(line: usize, area: u32, dest: Dest, text: &mut String) -> Resul
     object.put_number("kind", u64::from(due.kind))?;
     object.put_dest(due.dest)?;
     object.append_to(text)
-}
-
-impl Object {
-    /// A network, or the Router ID of an AS boundary router, under `destination`.
-    pub(crate) fn put_dest(&mut self, dest: Dest) -> Result<(), Memory>
-        ensures { OnOk result (PutsMember (codes "destination") (dest_data dest)
-            self.old.members.entries self.new.members.entries) }
-    {
-        match dest {
-            Dest::Net(network) => self.put_network("destination", network),
-            Dest::Router(router) => self.put_address("destination", router),
-        }
-    }
 }

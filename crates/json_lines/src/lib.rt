@@ -10,10 +10,8 @@
 #![tactic(auto)]
 
 mod changed;
-mod object;
 mod recorded;
 mod replayed;
-mod route;
 mod shown;
 
 pub use changed::{put_drop, put_due, put_set, put_undue};

@@ -1,9 +1,9 @@
 //! A line of a recording.
 ghost use Rattle.std.specs.Prelude.{◌≡◌, ◌++◌, OnOk, string_bytes};
-ghost use Rattle.json_lines.specs.Members.{json_line};
+ghost use Rattle.json_objects.specs.Members.{json_line};
 ghost use Rattle.json_lines.specs.Lines.{recorded_data};
 
-use crate::object::Object;
+use json_objects::Object;
 use ospf_types::memory::Memory;
 
 /// A line of a recording, without its line feed.

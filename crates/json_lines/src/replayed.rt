@@ -1,10 +1,10 @@
 //! What a line of a recording came to, at its number.
 ghost use Rattle.std.specs.Prelude.{◌≡◌, ◌++◌, OnOk, string_bytes};
-ghost use Rattle.json_lines.specs.Members.{json_line};
+ghost use Rattle.json_objects.specs.Members.{json_line};
 ghost use Rattle.json_lines.specs.Lines.{lookup_data, refused_data, behind_data, fault_data};
 
-use crate::object::Object;
 use event_state::Refusal;
+use json_objects::Object;
 use ospf_types::memory::Memory;
 use recording::LineFault;
 use route_table::Match;

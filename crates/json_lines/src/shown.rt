@@ -1,9 +1,9 @@
 //! What is shown at the end of a replay.
-ghost use Rattle.std.specs.Prelude.{◌≡◌, ◌++◌, OnOk, codes, string_bytes};
-ghost use Rattle.json_lines.specs.Members.{json_line, PutsMember};
-ghost use Rattle.json_lines.specs.Lines.{serial_data, item_data, shown_due_data, lsa_data, scope_data};
+ghost use Rattle.std.specs.Prelude.{◌≡◌, ◌++◌, OnOk, string_bytes};
+ghost use Rattle.json_objects.specs.Members.{json_line};
+ghost use Rattle.json_lines.specs.Lines.{serial_data, item_data, shown_due_data, lsa_data};
 
-use crate::object::Object;
+use json_objects::Object;
 use ospf_types::key::Scope;
 use ospf_types::lsa::Header;
 use ospf_types::memory::Memory;
@@ -69,17 +69,4 @@ pub fn put_lsa(scope: Scope, header: &Header, text: &mut String) -> Result<(), M
     object.put_hexadecimal("checksum", &header.sum.to_be_bytes())?;
     object.put_number("age", u64::from(header.age))?;
     object.append_to(text)
-}
-
-impl Object {
-    // The Area ID of the database, or `"as"` for that of AS-external-LSAs.
-    fn put_scope(&mut self, scope: Scope) -> Result<(), Memory>
-        ensures { OnOk result (PutsMember (codes "scope") (scope_data scope)
-            self.old.members.entries self.new.members.entries) }
-    {
-        match scope {
-            Scope::Area(area) => self.put_address("scope", area),
-            Scope::As => self.put_text("scope", "as"),
-        }
-    }
 }

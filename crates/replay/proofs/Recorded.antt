@@ -17,7 +17,7 @@ use Rattle.recording.specs.declared.version.Version.{Version}
 use Rattle.recording.specs.Forms.{Form, IsForm, line_text}
 use Rattle.recording.specs.Recordings.{front_forms, form_of, ended, text_of_forms}
 use Rattle.recording.proofs.Forms.{no_line_feed}
-use Rattle.json_lines.specs.Members.{json_line}
+use Rattle.json_objects.specs.Members.{json_line}
 use Rattle.json_lines.specs.Lines.{recorded_data}
 use Rattle.replay.specs.Lines.{IsTextOf, event_line, forms_text, recorded_line, recorded_text}
 use Rattle.replay.specs.Outputs.{journal_of}

@@ -25,7 +25,7 @@ use Rattle.recording.specs.Forms.{Form, line_text, scope_text}
 use Rattle.recording.specs.Recordings.{event_form, ended}
 use Rattle.serde_json.specs.Data.{Data}
 use Rattle.serde_json.specs.Written.{compact_text}
-use Rattle.json_lines.specs.Members.{json_line}
+use Rattle.json_objects.specs.Members.{json_line}
 use Rattle.json_lines.specs.Lines.{lookup_data, refused_data, behind_data, serial_data, item_data, shown_due_data, lsa_data, recorded_data}
 use Rattle.replay.specs.declared.page.Stop.{Stop}
 use Rattle.replay.specs.declared.page.Stop.TheVariants as stop

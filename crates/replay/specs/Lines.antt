@@ -28,7 +28,7 @@ use Rattle.event_state.specs.declared.event.Event.{Event}
 use Rattle.recording.specs.Forms.{Form, IsForm, line_text, scope_text}
 use Rattle.recording.specs.Recordings.{RecordingValue, front_forms, forms_of, event_form, ended, text_of_forms}
 use Rattle.recording.specs.declared.version.Version.{Version}
-use Rattle.json_lines.specs.Members.{json_line}
+use Rattle.json_objects.specs.Members.{json_line}
 use Rattle.json_lines.specs.Lines.{lookup_data, refused_data, behind_data, serial_data, item_data, shown_due_data, lsa_data, recorded_data}
 
 -- the number, in its recording, of the first line behind the base

@@ -7,7 +7,7 @@ use Rattle.ospf_types.specs.declared.entry.Entry.{Entry}
 use Rattle.ospf_types.specs.declared.hop.NextHop.{NextHop}
 use Rattle.ospf_types.specs.declared.hop.NextHop.TheVariants.{Direct, Peer, Router}
 use Rattle.ospf_types.specs.declared.hop.Path.{Path}
-use Rattle.json_lines.specs.Members.{Member, object_of, number_data, address_data}
+use Rattle.json_objects.specs.Members.{Member, object_of, number_data, address_data}
 
 -- a next hop of this kind over the interface
 abbrev pub interface_members : (hop : List ℕ) (interface : ℕ) → List Member

@@ -2,8 +2,8 @@
 ghost use Rattle.std.specs.Prelude.{◌≡◌, IfOk, OnOk, codes, false};
 ghost use Rattle.serde_json.specs.View.{view, members_view};
 ghost use Rattle.serde_json.specs.Written.{has_float};
-ghost use Rattle.json_lines.specs.Members.{members_in, PutsMember};
-ghost use Rattle.json_lines.specs.Routes.{route_data, paths_data, path_data, area_data, hop_members, interface_members};
+ghost use Rattle.json_objects.specs.Members.{members_in, PutsMember};
+ghost use Rattle.json_objects.specs.Routes.{route_data, paths_data, path_data, area_data, hop_members, interface_members};
 
 use crate::object::Object;
 use ospf_types::entry::Entry;
@@ -14,18 +14,27 @@ use std::alloc::Global;
 
 impl Object {
     /// The route under `route`.
-    pub(crate) fn put_route(&mut self, entry: &Entry) -> Result<(), Memory>
+    pub fn put_route(&mut self, entry: &Entry) -> Result<(), Memory>
         ensures { OnOk result (PutsMember (codes "route") (route_data entry.now)
-            self.old.members.entries self.new.members.entries) }
+            self.old self.new) }
     {
         let route = route_value(self.alloc(), entry)?;
         self.put("route", route)
     }
 
+    /// The path under `path`.
+    pub fn put_path(&mut self, path: &Path) -> Result<(), Memory>
+        ensures { OnOk result (PutsMember (codes "path") (path_data path.now)
+            self.old self.new) }
+    {
+        let path = path_value(self.alloc(), path)?;
+        self.put("path", path)
+    }
+
     // The Area ID, or null for an external route.
     fn put_area(&mut self, area: Option<u32>) -> Result<(), Memory>
         ensures { OnOk result (PutsMember (codes "area") (area_data area)
-            self.old.members.entries self.new.members.entries) }
+            self.old self.new) }
     {
         match area {
             Some(area) => self.put_address("area", area),
@@ -61,7 +70,8 @@ fn paths_value(alloc: Global, paths: &[Path]) -> Result<Value, Memory>
 
 // The next hop, and the border router, or the AS boundary router, that the path leads to.
 fn path_value(alloc: Global, path: &Path) -> Result<Value, Memory>
-    ensures { IfOk result (λ v. view v ≡ path_data path.now) }
+    ensures value { IfOk result (λ v. view v ≡ path_data path.now) }
+    ensures without_fractions { IfOk result (λ v. has_float (view v) ≡ false) }
 {
     let mut object = hop_object(alloc, path.hop)?;
     if let Some(router) = path.advertiser {
@@ -71,7 +81,7 @@ fn path_value(alloc: Global, path: &Path) -> Result<Value, Memory>
 }
 
 fn hop_object(alloc: Global, hop: NextHop) -> Result<Object, Memory>
-    ensures { IfOk result (λ o. members_view o.members.entries ≡ members_in (hop_members hop)) }
+    ensures { IfOk result (λ o. members_view o ≡ members_in (hop_members hop)) }
 {
     match hop {
         NextHop::Direct(interface) => interface_object(alloc, "direct", interface),
@@ -85,7 +95,7 @@ fn hop_object(alloc: Global, hop: NextHop) -> Result<Object, Memory>
 }
 
 fn interface_object(alloc: Global, hop: &str, interface: u8) -> Result<Object, Memory>
-    ensures { IfOk result (λ o. members_view o.members.entries
+    ensures { IfOk result (λ o. members_view o
         ≡ members_in (interface_members hop.now interface)) }
 {
     let mut object = Object::new(alloc);

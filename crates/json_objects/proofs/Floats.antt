@@ -10,8 +10,8 @@ use Rattle.serde_json.specs.Written.{has_float, members_have_float, items_have_f
 use Rattle.ospf_types.specs.declared.hop.NextHop.{NextHop}
 use Rattle.ospf_types.specs.declared.hop.NextHop.TheVariants.{Direct, Peer, Router}
 use Rattle.ospf_types.specs.declared.hop.Path.{Path}
-use Rattle.json_lines.specs.Members.{object_of}
-use Rattle.json_lines.specs.Routes.{hop_members, through_members, path_data, paths_data}
+use Rattle.json_objects.specs.Members.{object_of}
+use Rattle.json_objects.specs.Routes.{hop_members, through_members, path_data, paths_data}
 
 or_of : (a b : Bool) → a ≡ false → b ≡ false → a || b ≡ false
 or_of true b p q = absurd (true≢false p)
@@ -39,11 +39,16 @@ members_have_float-put name d (member l e ms) plain all =
     let later = second_of_or (has_float e) (members_have_float ms) all in
     whichever (slice_cmp nat_cmp name l) _ _ _ (or_of (has_float d) _ plain all) (or_of (has_float d) _ plain later) (or_of (has_float e) _ here (members_have_float-put name d ms plain later))
 
--- a failed write leaves the members as they were
+-- a write leaves them so
+pub after_written : (name : List ℕ) (d : Data) (old new : List (String Global × Value)) → members_view new ≡ put name d (members_view old)
+    → has_float d ≡ false → members_have_float (members_view old) ≡ false → members_have_float (members_view new) ≡ false
+after_written name d old new done plain all = ap members_have_float done ∙ members_have_float-put name d (members_view old) plain all
+
+-- and a failed one leaves the members as they were
 pub after_put : {E : Type 0} (r : Result (Unit {0}) E) (name : List ℕ) (d : Data) (old new : List (String Global × Value))
     → OnOk r (members_view new ≡ put name d (members_view old)) → OnErr r (new ≡ old)
     → has_float d ≡ false → members_have_float (members_view old) ≡ false → members_have_float (members_view new) ≡ false
-after_put (Ok x) name d old new done failed plain all = ap members_have_float done ∙ members_have_float-put name d (members_view old) plain all
+after_put (Ok x) name d old new done failed plain all = after_written name d old new done plain all
 after_put (Err e) name d old new done failed plain all = ap (λ es. members_have_float (members_view es)) failed ∙ all
 
 path_without : (hop : NextHop) (router : Option ℕ) → has_float (object_of (hop_members hop ++ through_members router)) ≡ false
