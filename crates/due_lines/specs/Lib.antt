@@ -1,0 +1,4 @@
+pub mod Reasons
+pub mod Words
+pub mod Objects
+pub mod Lines

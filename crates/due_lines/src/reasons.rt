@@ -1,0 +1,69 @@
+//! Why a summary is due in an area, or is not, and what becomes of what could give it.
+ghost use Rattle.std.specs.Prelude.{◌≡◌, Some, option_copied};
+ghost use Rattle.summary_lists.specs.Lists.{kind_of as kind_of_dest};
+ghost use Rattle.due_lines.specs.Reasons as reasons;
+
+use due_reasons::{DueFate, DueReason};
+use ospf_types::key::Dest;
+use std::fmt;
+use summary_lists::DueSummary;
+
+/// The section that decides.
+pub(crate) const STEP: &str = "12.4.3";
+
+/// Whether the source gives the summary at its metric.
+pub(crate) fn is_taken(fate: DueFate) -> bool
+    ensures { result ≡ reasons.is_taken fate }
+{
+    matches!(fate, DueFate::Given)
+}
+
+/// The reason that is told of the summary itself; none where its sources are the reason.
+pub(crate) fn due_reason_of(reason: &DueReason) -> Option<&'static str>
+    ensures { option_copied result ≡ reasons.due_reason_text reason.now }
+{
+    match reason {
+        DueReason::NotConfigured => Some("no area has this Area ID"),
+        DueReason::NotBorder => Some("fewer than two areas are active"),
+        DueReason::NotActive => Some("the area is not active"),
+        DueReason::StubRouter => Some("a stub area is sent no AS boundary routers"),
+        DueReason::StubDefault => {
+            Some("a stub area is sent its default route at its StubDefaultCost")
+        }
+        DueReason::StubHides => Some("the stub area is sent no networks but its default route"),
+        DueReason::Sources(sources) if sources.is_empty() => Some("nothing leads there"),
+        DueReason::Sources(_) => None,
+    }
+}
+
+/// Prints why a source gives no summary, or that it gives it.
+#[derive(Clone, Copy)]
+pub(crate) struct FateField(pub(crate) DueFate);
+
+impl fmt::Display for FateField {
+    ghost output = { λ fate. Some (reasons.reason_text fate.0) };
+
+    fn fmt<W: fmt::Write>(&self, f: &mut fmt::Formatter<W>) -> fmt::Result {
+        match self.0 {
+            DueFate::OwnArea => f.write_str("it is of the area itself"),
+            DueFate::Infinity => f.write_str("its cost is LSInfinity or more"),
+            DueFate::InRange(network) => {
+                write!(f, "the range {network} of its area has the network")
+            }
+            DueFate::NotAdvertised => f.write_str("the range is not advertised"),
+            DueFate::NoNetwork => {
+                f.write_str("no network of the range costs less than LSInfinity")
+            }
+            DueFate::Lesser => f.write_str("another one costs more"),
+            DueFate::Given => f.write_str("its cost is the metric"),
+        }
+    }
+}
+
+/// The LS type of a summary for the destination: 3 for a network, 4 for an AS boundary router.
+pub(crate) fn kind_of(dest: &Dest) -> u8
+    ensures { result ≡ kind_of_dest dest.now }
+{
+    // The metric has no part in it.
+    DueSummary::of(*dest, 0).kind
+}
