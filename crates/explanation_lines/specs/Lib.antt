@@ -1,0 +1,5 @@
+pub mod Reasons
+pub mod Words
+pub mod Objects
+pub mod Lines
+pub mod Explanations

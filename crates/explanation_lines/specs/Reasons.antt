@@ -1,0 +1,75 @@
+-- At which step of RFC 2328, 16 an offer was lost, and why.
+use Rattle.std.specs.Prelude.{ℕ, Bool, true, false, List, codes}
+use Rattle.explanation.specs.declared.fate.Fate.{Fate}
+use Rattle.explanation.specs.declared.fate.Fate.TheVariants.{Taken, MaxAge, Infinity, Own, Another, Unreached, NoInterface, LesserId, LesserArea, NotExamined, ActiveRange, NoBorderRouter, IntraArea, NoBoundaryRouter, NoForward, Internal, Type2, Metric2, Class, Costlier}
+use Rattle.explanation.specs.declared.offer.OfferKind.{OfferKind}
+use Rattle.explanation.specs.declared.offer.OfferKind.TheVariants.{Stub, Transit, Summary, AsExternal}
+
+abbrev pub is_taken : Fate → Bool
+is_taken Taken = true
+is_taken _ = false
+
+-- of what router-LSAs and network-LSAs offer
+abbrev pub intra_step : Fate → List ℕ
+intra_step MaxAge = codes "16.1 (2b)"
+intra_step Another = codes "16.1 (2b)"
+intra_step Unreached = codes "16.1 (2b)"
+intra_step Costlier = codes "16.1 (2d)"
+intra_step LesserId = codes "16.1 (4)"
+intra_step LesserArea = codes "16.8"
+intra_step _ = codes "16.1"
+
+-- of what summary-LSAs offer
+abbrev pub inter_step : Fate → List ℕ
+inter_step MaxAge = codes "16.2 (1)"
+inter_step Infinity = codes "16.2 (1)"
+inter_step Own = codes "16.2 (2)"
+inter_step ActiveRange = codes "16.2 (3)"
+inter_step NoBorderRouter = codes "16.2 (4)"
+inter_step IntraArea = codes "16.2 (6)"
+inter_step Costlier = codes "16.2 (7)"
+inter_step LesserArea = codes "16.8"
+inter_step _ = codes "16.2"
+
+-- of what AS-external-LSAs offer
+abbrev pub external_step : Fate → List ℕ
+external_step MaxAge = codes "16.4 (1)"
+external_step Infinity = codes "16.4 (1)"
+external_step Own = codes "16.4 (2)"
+external_step NoBoundaryRouter = codes "16.4 (3)"
+external_step NoForward = codes "16.4 (3)"
+external_step Internal = codes "16.4 (6a)"
+external_step Type2 = codes "16.4 (6b)"
+external_step Metric2 = codes "16.4 (6b)"
+external_step Class = codes "16.4 (6c)"
+external_step Costlier = codes "16.4 (6d)"
+external_step _ = codes "16.4"
+
+-- the step that decides; where the kind cannot have the fate, the section that examines the kind
+abbrev pub step_text : OfferKind → Fate → List ℕ
+step_text (Stub metric) fate = intra_step fate
+step_text Transit fate = intra_step fate
+step_text (Summary metric) fate = inter_step fate
+step_text (AsExternal metric external) fate = external_step fate
+
+abbrev pub reason_text : Fate → List ℕ
+reason_text Taken = codes "its paths are among those of the route"
+reason_text MaxAge = codes "the LSA is at MaxAge"
+reason_text Infinity = codes "its metric is LSInfinity"
+reason_text Own = codes "the router itself originated it"
+reason_text Another = codes "another network-LSA stands for the transit network"
+reason_text Unreached = codes "no links that both ends have lead there"
+reason_text NoInterface = codes "no interface of the area that is up lies in it"
+reason_text LesserId = codes "another transit network of this prefix, at the same distance, has a greater Link State ID"
+reason_text LesserArea = codes "another area offers the same cost, and has a greater Area ID"
+reason_text NotExamined = codes "the summary-LSAs of the area are not examined"
+reason_text ActiveRange = codes "the network is that of an active range"
+reason_text NoBorderRouter = codes "the border router is not reached in the area"
+reason_text IntraArea = codes "there is an intra-area route"
+reason_text NoBoundaryRouter = codes "the AS boundary router is not reached"
+reason_text NoForward = codes "the forwarding address is in no network that has an intra-area or inter-area route"
+reason_text Internal = codes "there is an intra-area or inter-area route"
+reason_text Type2 = codes "another one has a metric of type 1"
+reason_text Metric2 = codes "another one has a lesser metric of type 2"
+reason_text Class = codes "another one leads over an intra-area path through another area than the backbone"
+reason_text Costlier = codes "another one costs less"

@@ -1,0 +1,195 @@
+//! Why the table has what it has for an address, line by line.
+ghost use Rattle.std.specs.Prelude.{List, ℕ, ◌≡◌, ◌≤◌, ◌++◌, OnOk, string_bytes};
+ghost use Rattle.std.specs.List.{flat_map, list_any};
+ghost use Rattle.route_table.specs.declared.table.Match.{Match};
+ghost use Rattle.route_table.specs.Tables.{IsMatch};
+ghost use Rattle.explanation_lines.specs.Lines.{link_line, lookup_line};
+ghost use Rattle.explanation_lines.specs.Explanations.{IsExplanation, candidate_text, is_of as is_offer_of, network_around as around, network_text, networks_below, offers_text, text_if_of, trace_text};
+
+use crate::lines::{Lookup, put_candidate, put_link, put_lookup, put_network, put_path};
+use crate::reasons::is_taken;
+use explanation::{Candidate, Step, Trace};
+use ospf_types::memory::Memory;
+use ospf_types::prefix::Prefix;
+use output_format::Format;
+use route_table::{Match, Table};
+
+/// An address, and what explains the table's answer to it.
+#[derive(Clone, Copy)]
+pub struct Explained<'a> {
+    /// In host order.
+    pub address: u32,
+    pub table: &'a Table,
+    /// What LSAs offer of networks that contain the address, and what became of it.
+    pub candidates: &'a [Candidate],
+}
+
+/// Appends why the table has what it has for the address: what it has for it, and then each network that contains the
+/// address, the longest first, with what is offered of it and what became of that. Costs are metrics. If memory runs
+/// out, the text may have a part of this.
+pub fn put_explanation(
+    format: Format,
+    explained: Explained<'_>,
+    text: &mut String,
+) -> Result<(), Memory>
+    ensures { OnOk result ((added : List ℕ)
+        × IsExplanation format explained.entry.address explained.entry.table.now
+        explained.entry.candidates.now added
+        × (string_bytes text.new ≡ string_bytes text.old ++ added)) }
+{
+    explained.put_match(format, text)?;
+    explained.put_networks(format, text)
+}
+
+// How many lengths a network may have: 0 to 32 bits.
+const LENGTHS: u8 = 33;
+
+impl Explained<'_> {
+    // The match of the address in the table.
+    fn put_match(self, format: Format, text: &mut String) -> Result<(), Memory>
+        ensures { OnOk result ((found : Match)
+            × IsMatch self.entry.table.now.items self.entry.address found
+            × (string_bytes text.new ≡ string_bytes text.old
+            ++ lookup_line format self.entry.address self.entry.table.now.serial found)) }
+    {
+        let table = self.table;
+        let lookup = Lookup {
+            address: self.address,
+            serial: table.serial(),
+        };
+        // proof: a match that is kept in a variable is not told to the borrow checker as one that may hold a route.
+        match table.lookup(self.address) {
+            Match::Route(network, entry) => {
+                let found = Match::Route(network, entry);
+                put_lookup(format, lookup, &found, text)
+            }
+            Match::Discard(network) => put_lookup(format, lookup, &Match::Discard(network), text),
+            Match::None => put_lookup(format, lookup, &Match::None, text),
+        }
+    }
+
+    // Each network that contains the address, the longest first.
+    fn put_networks(self, format: Format, text: &mut String) -> Result<(), Memory>
+        ensures { OnOk result (string_bytes text.new ≡ string_bytes text.old
+            ++ flat_map (network_text format self.entry.table.now.items self.entry.candidates.now)
+            (networks_below self.entry.address 33)) }
+    {
+        for bits in (0..LENGTHS).rev() {
+            let network = network_around(self.address, bits);
+            self.put_network(format, network, text)?;
+        }
+        Ok(())
+    }
+
+    // What the table has for the network and what is offered of it, if there is anything.
+    fn put_network(self, format: Format, network: Prefix, text: &mut String) -> Result<(), Memory>
+        ensures { OnOk result (string_bytes text.new ≡ string_bytes text.old
+            ++ network_text format self.entry.table.now.items self.entry.candidates.now network) }
+    {
+        let table = self.table;
+        let item = table.get(network);
+        if item.is_none() && !is_offered(self.candidates, network) {
+            return Ok(());
+        }
+        put_network(format, network, item, text)?;
+        put_offers(format, network, self.candidates, text)
+    }
+}
+
+// The network of so many bits that contains the address.
+fn network_around(address: u32, bits: u8) -> Prefix
+    requires { bits ≤ 32 }
+    ensures { result ≡ around address bits }
+{
+    match Prefix::new(address, bits) {
+        Some(network) => network,
+        None => unreachable!(),
+    }
+}
+
+// Whether there is an offer of the network.
+fn is_offered(candidates: &[Candidate], network: Prefix) -> bool
+    ensures { result ≡ list_any (is_offer_of network) candidates.now }
+{
+    candidates.iter().any(|candidate| is_of(network, candidate))
+}
+
+// Whether it is an offer of the network.
+fn is_of(network: Prefix, candidate: &Candidate) -> bool
+    ensures { result ≡ is_offer_of network candidate.now }
+{
+    candidate.offer.network == network
+}
+
+// What is offered of the network.
+fn put_offers(
+    format: Format,
+    network: Prefix,
+    candidates: &[Candidate],
+    text: &mut String,
+) -> Result<(), Memory>
+    ensures { OnOk result (string_bytes text.new ≡ string_bytes text.old
+        ++ offers_text format network candidates.now) }
+{
+    for candidate in candidates {
+        put_if_of(format, network, candidate, text)?;
+    }
+    Ok(())
+}
+
+// Nothing of what is offered of another network.
+fn put_if_of(
+    format: Format,
+    network: Prefix,
+    candidate: &Candidate,
+    text: &mut String,
+) -> Result<(), Memory>
+    ensures { OnOk result (string_bytes text.new ≡ string_bytes text.old
+        ++ text_if_of format network candidate.now) }
+{
+    if !is_of(network, candidate) {
+        return Ok(());
+    }
+    put_judged(format, candidate, text)
+}
+
+// An offer, and under one that is taken its traces.
+fn put_judged(format: Format, candidate: &Candidate, text: &mut String) -> Result<(), Memory>
+    ensures { OnOk result (string_bytes text.new ≡ string_bytes text.old
+        ++ candidate_text format candidate.now) }
+{
+    put_candidate(format, candidate, text)?;
+    if !is_taken(candidate.fate) {
+        return Ok(());
+    }
+    put_traces(format, candidate.traces.as_slice(), text)
+}
+
+fn put_traces(format: Format, traces: &[Trace], text: &mut String) -> Result<(), Memory>
+    ensures { OnOk result (string_bytes text.new ≡ string_bytes text.old
+        ++ flat_map (trace_text format) traces.now) }
+{
+    for trace in traces {
+        put_trace(format, trace, text)?;
+    }
+    Ok(())
+}
+
+// A path, and each of its steps.
+fn put_trace(format: Format, trace: &Trace, text: &mut String) -> Result<(), Memory>
+    ensures { OnOk result (string_bytes text.new ≡ string_bytes text.old
+        ++ trace_text format trace.now) }
+{
+    put_path(format, &trace.path, text)?;
+    put_links(format, trace.steps.as_slice(), text)
+}
+
+fn put_links(format: Format, steps: &[Step], text: &mut String) -> Result<(), Memory>
+    ensures { OnOk result (string_bytes text.new ≡ string_bytes text.old
+        ++ flat_map (link_line format) steps.now) }
+{
+    for step in steps {
+        put_link(format, step, text)?;
+    }
+    Ok(())
+}

@@ -1,0 +1,87 @@
+//! The lines of an explanation, each appended to a text.
+ghost use Rattle.std.specs.Prelude.{◌≡◌, ◌++◌, OnOk, option_copied, string_bytes};
+ghost use Rattle.explanation_lines.specs.Lines.{candidate_line, link_line, lookup_line, network_line, path_line};
+
+use crate::{objects, words};
+use explanation::{Candidate, Step};
+use ospf_types::hop::Path;
+use ospf_types::memory::Memory;
+use ospf_types::prefix::Prefix;
+use output_format::Format;
+use route_table::{Item, Match};
+
+/// A look-up of an address in the table that followed so many events.
+#[derive(Clone, Copy)]
+pub(crate) struct Lookup {
+    pub(crate) address: u32,
+    pub(crate) serial: u64,
+}
+
+/// What the table had for the address: its longest match (RFC 2328, 11.1).
+pub(crate) fn put_lookup(
+    format: Format,
+    lookup: Lookup,
+    found: &Match,
+    text: &mut String,
+) -> Result<(), Memory>
+    ensures { OnOk result (string_bytes text.new ≡ string_bytes text.old
+        ++ lookup_line format lookup.address lookup.serial found.now) }
+{
+    match format {
+        Format::Text => words::put_lookup(lookup, found, text),
+        Format::Json => objects::put_lookup(lookup, found, text),
+    }
+}
+
+/// What the table has for this very network.
+pub(crate) fn put_network(
+    format: Format,
+    network: Prefix,
+    item: Option<&Item>,
+    text: &mut String,
+) -> Result<(), Memory>
+    ensures { OnOk result (string_bytes text.new ≡ string_bytes text.old
+        ++ network_line format network (option_copied item.entry)) }
+{
+    match format {
+        Format::Text => words::put_network(network, item, text),
+        Format::Json => objects::put_network(network, item, text),
+    }
+}
+
+/// An offer, and what became of it.
+pub(crate) fn put_candidate(
+    format: Format,
+    candidate: &Candidate,
+    text: &mut String,
+) -> Result<(), Memory>
+    ensures { OnOk result (string_bytes text.new ≡ string_bytes text.old
+        ++ candidate_line format candidate.now) }
+{
+    match format {
+        Format::Text => words::put_candidate(candidate, text),
+        Format::Json => objects::put_candidate(candidate, text),
+    }
+}
+
+/// A path of a route.
+pub(crate) fn put_path(format: Format, path: &Path, text: &mut String) -> Result<(), Memory>
+    ensures { OnOk result (string_bytes text.new ≡ string_bytes text.old
+        ++ path_line format path.now) }
+{
+    match format {
+        Format::Text => words::put_path(path, text),
+        Format::Json => objects::put_path(path, text),
+    }
+}
+
+/// A step of a path.
+pub(crate) fn put_link(format: Format, step: &Step, text: &mut String) -> Result<(), Memory>
+    ensures { OnOk result (string_bytes text.new ≡ string_bytes text.old
+        ++ link_line format step.now) }
+{
+    match format {
+        Format::Text => words::put_link(step, text),
+        Format::Json => objects::put_link(step, text),
+    }
+}

@@ -1,0 +1,163 @@
+//! A table, and what is offered of its networks.
+
+use explanation::{Candidate, Fate, Offer, OfferKind, Place, Source, Step, Trace};
+use ospf_types::entry::{Entry, PathType, Paths, Vertex};
+use ospf_types::hop::{NextHop, Path};
+use ospf_types::key::{Key, Scope};
+use ospf_types::lsa::External;
+use ospf_types::memory::Memory;
+use ospf_types::prefix::Prefix;
+use route_table::{Item, Table};
+use smallvec::SmallVec;
+use std::alloc::Global;
+
+// The Area ID of the backbone, 0.0.0.0.
+const BACKBONE: Scope = Scope::Area(0);
+
+// The Router ID 10.0.0.1.
+const ROOT: u32 = 0x0a00_0001;
+
+// The Router ID 10.0.0.2.
+const ROUTER: u32 = 0x0a00_0002;
+
+// The Designated Router's address on the transit network, 203.0.113.1.
+const DESIGNATED: u32 = 0xcb00_7101;
+
+// The network 203.0.112.0, and its mask.
+const WIDE: (u32, u32) = (0xcb00_7000, 0xffff_f000);
+
+// The path to the transit network.
+const PATH: Path = Path {
+    hop: NextHop::Peer(2),
+    advertiser: None,
+};
+
+// 203.0.113.0/25.
+fn transit() -> Prefix {
+    Prefix::of_mask(0xcb00_7100, 0xffff_ff80)
+}
+
+/// A route and a discard.
+pub(crate) fn fill(alloc: Global, table: &mut Table) -> Result<(), Memory> {
+    let entry = Entry {
+        kind: PathType::Intra,
+        area: Some(0),
+        cost: 11,
+        cost2: 0,
+        paths: Paths::new(SmallVec::from_slice(alloc, &[PATH])?),
+    };
+    table.set(transit(), Item::Route(entry))?;
+    table.set(Prefix::of_mask(WIDE.0, WIDE.1), Item::Discard)
+}
+
+/// What is offered of networks that contain 203.0.113.9.
+pub(crate) fn all_candidates(alloc: Global) -> Result<Vec<Candidate>, Memory> {
+    let mut candidates = Vec::new(alloc);
+    candidates.push(lost(alloc, external(), None, Fate::NoBoundaryRouter))?;
+    candidates.push(lost(alloc, summary(), None, Fate::ActiveRange))?;
+    candidates.push(taken(alloc)?)?;
+    candidates.push(lost(alloc, stub(), Some(128), Fate::Costlier))?;
+    Ok(candidates)
+}
+
+fn lost(alloc: Global, offer: Offer, cost: Option<u32>, fate: Fate) -> Candidate {
+    Candidate {
+        offer,
+        cost,
+        fate,
+        traces: Vec::new(alloc),
+    }
+}
+
+fn taken(alloc: Global) -> Result<Candidate, Memory> {
+    let mut traces = Vec::new(alloc);
+    traces.push(trace(alloc)?)?;
+    let offer = offer(transit(), network_lsa(), OfferKind::Transit);
+    Ok(Candidate {
+        offer,
+        cost: Some(11),
+        fate: Fate::Taken,
+        traces,
+    })
+}
+
+fn trace(alloc: Global) -> Result<Trace, Memory> {
+    let mut steps = Vec::new(alloc);
+    steps.push(Step {
+        from: router(ROOT),
+        to: router(ROUTER),
+        cost: 10,
+        source: router_lsa(ROOT, 3),
+    })?;
+    steps.push(Step {
+        from: router(ROUTER),
+        to: network(),
+        cost: 1,
+        source: router_lsa(ROUTER, 2),
+    })?;
+    steps.push(Step {
+        from: network(),
+        to: Place::Network(transit()),
+        cost: 0,
+        source: network_lsa(),
+    })?;
+    Ok(Trace { path: PATH, steps })
+}
+
+fn router(id: u32) -> Place {
+    Place::Vertex(Vertex::Router(id))
+}
+
+fn network() -> Place {
+    Place::Vertex(Vertex::Network(DESIGNATED))
+}
+
+fn offer(network: Prefix, source: Source, kind: OfferKind) -> Offer {
+    Offer {
+        network,
+        source,
+        age: 1,
+        kind,
+    }
+}
+
+fn stub() -> Offer {
+    let mut source = router_lsa(0x0a00_0003, 1);
+    source.scope = Scope::Area(1);
+    offer(transit(), source, OfferKind::Stub(64))
+}
+
+fn summary() -> Offer {
+    let network = Prefix::of_mask(WIDE.0, WIDE.1);
+    let source = source_of(BACKBONE, 3, WIDE.0, 0x0a00_0004, 7);
+    offer(network, source, OfferKind::Summary(5))
+}
+
+fn external() -> Offer {
+    let source = source_of(Scope::As, 5, 0, 0x0a00_0005, 10);
+    let kind = OfferKind::AsExternal(
+        20,
+        External {
+            is_type_2: true,
+            forwarding: 0,
+        },
+    );
+    offer(Prefix::of_mask(0, 0), source, kind)
+}
+
+fn network_lsa() -> Source {
+    source_of(BACKBONE, 2, DESIGNATED, ROUTER, 1)
+}
+
+fn router_lsa(router: u32, number: u32) -> Source {
+    source_of(BACKBONE, 1, router, router, number)
+}
+
+// The instance of this number, counted from InitialSequenceNumber.
+fn source_of(scope: Scope, kind: u8, id: u32, router: u32, number: u32) -> Source {
+    Source {
+        scope,
+        key: Key { kind, id, router },
+        seq: 0x8000_0000 | number,
+    }
+}
