@@ -18,4 +18,4 @@ pub use fault_number::{answer_number, fault};
 pub use one_lookup::{answer_one, one};
 pub use telling::{NO_MEMORY, say, say_unwritten, tell};
 pub use usage::answer_usage;
-pub use words::{WordFault, read_network};
+pub use words::{WordFault, read_address, read_network};

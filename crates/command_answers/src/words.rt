@@ -62,15 +62,16 @@ pub fn read_one(alloc: Global, words: &OneWords<'_>) -> Result<OneInput, WordFau
     ensures fault { IfErr result (IsFirstFault (texts_of words.now)) }
 {
     Ok(OneInput {
-        router: address(words.router)?,
-        area: address(words.area)?,
-        address: address(words.address)?,
+        router: read_address(words.router)?,
+        area: read_address(words.area)?,
+        address: read_address(words.address)?,
         lsa: bytes(alloc, words.lsa)?,
-        lookup: address(words.lookup)?,
+        lookup: read_address(words.lookup)?,
     })
 }
 
-fn address(word: &str) -> Result<u32, WordFault>
+/// The address of a word, as `192.0.2.1`, in host order.
+pub fn read_address(word: &str) -> Result<u32, WordFault>
     ensures ok { IfOk result (Writes word.now) }
     ensures fault { OnErr result (¬ IsAddress word.now) }
     ensures err { OnErr result (result ≡ Err WordFault.NotAnAddress) }

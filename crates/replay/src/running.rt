@@ -55,7 +55,7 @@ impl OpenedRecording {
     }
 
     /// Runs the lines behind the base, and prints nothing of them. What is returned is the core after the last line.
-    pub(crate) fn run_silently<F: io::Write>(
+    pub fn run_silently<F: io::Write>(
         self,
         alloc: Global,
         is_shown: bool,
