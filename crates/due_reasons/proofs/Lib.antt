@@ -1,0 +1,4 @@
+pub mod Ranges
+pub mod Fates
+pub mod Listing
+pub mod Metrics

@@ -1,0 +1,61 @@
+//! The ranges of the areas (RFC 2328, 3.5): which of them has a network, and which is advertised.
+ghost use Rattle.std.specs.Prelude.{◌↔◌, IfNone, IfSome, IsTrue};
+ghost use Rattle.active_ranges.specs.Active.{HasRange};
+ghost use Rattle.summaries.specs.Giving.{Advertises, IsOutside};
+ghost use Rattle.due_reasons.specs.Sources.{HasRangeAround, IsRangeAround, IsRangeOf};
+
+use ospf_types::config::AreaConfig;
+use ospf_types::prefix::Prefix;
+
+/// The range of the area with this Area ID that has the network.
+pub(crate) fn range_around(areas: &[AreaConfig], id: u32, network: Prefix) -> Option<Prefix>
+    ensures some { IfSome result (IsRangeAround areas.now id network) }
+    ensures none { IfNone result (IsOutside areas.now id network) }
+{
+    for area in areas {
+        if let Some(range) = range_of(area, id, network) {
+            return Some(range);
+        }
+    }
+    None
+}
+
+// Its range that has the network, if it is the area with this Area ID.
+fn range_of(area: &AreaConfig, id: u32, network: Prefix) -> Option<Prefix>
+    ensures some { IfSome result (IsRangeOf id network area.now) }
+    ensures none { IfNone result (HasRangeAround id network area.now → ⊥) }
+{
+    if area.id != id {
+        return None;
+    }
+    for range in area.ranges.as_slice() {
+        if range.prefix.covers(network) {
+            return Some(range.prefix);
+        }
+    }
+    None
+}
+
+/// Whether the area has a range with the prefix.
+pub(crate) fn has_range(area: &AreaConfig, prefix: Prefix) -> bool
+    ensures { IsTrue result ↔ HasRange area.now prefix }
+{
+    for range in area.ranges.as_slice() {
+        if range.prefix == prefix {
+            return true;
+        }
+    }
+    false
+}
+
+/// Whether the area has an advertised range with the prefix.
+pub(crate) fn advertises(area: &AreaConfig, prefix: Prefix) -> bool
+    ensures { IsTrue result ↔ Advertises area.now prefix }
+{
+    for range in area.ranges.as_slice() {
+        if range.prefix == prefix && range.advertise {
+            return true;
+        }
+    }
+    false
+}

@@ -1,0 +1,119 @@
+//! What could give a summary for a destination, kind by kind, and what becomes of it by itself, whichever the area (RFC 2328, 12.4.3).
+ghost use Rattle.std.specs.Prelude.{option_copied};
+ghost use Rattle.std.specs.FinMap as map;
+ghost use Rattle.ospf_types.specs.declared.key.Dest.TheVariants as dest_value;
+ghost use Rattle.due_reasons.specs.Sources.{IsEntrySource, IsInterFate, IsIntraFate, IsPreferredSource, IsRangeFate, IsRangeSource, IsRouteFate};
+ghost use Rattle.due_reasons.specs.declared.due.SourceKind.TheVariants as source_kind;
+
+use crate::area_ranges::{advertises, has_range, range_around};
+use crate::due::{DueFate, DueSource, SourceKind};
+use external::Preferred;
+use ospf_types::config::AreaConfig;
+use ospf_types::key::Dest;
+use ospf_types::prefix::Prefix;
+use summaries::SummaryInputs;
+
+/// The metric of a destination that is not reached (RFC 2328, appendix B).
+const LS_INFINITY: u32 = 0xff_ffff;
+
+/// The intra-area route of a network.
+pub(crate) fn intra_source(inputs: &SummaryInputs<'_>, network: Prefix) -> Option<DueSource>
+    ensures { IsEntrySource source_kind.IntraArea (IsIntraFate inputs.now.areas network)
+        (map.get inputs.now.intra.entries network) result }
+{
+    let entry = inputs.intra.get(network)?;
+    let area = entry.area?;
+    Some(DueSource {
+        kind: SourceKind::IntraArea,
+        area,
+        cost: Some(entry.cost),
+        fate: intra_fate(inputs.areas, area, network, entry.cost),
+    })
+}
+
+/// The inter-area route of a network.
+pub(crate) fn inter_source(inputs: &SummaryInputs<'_>, network: Prefix) -> Option<DueSource>
+    ensures { IsEntrySource source_kind.InterArea IsInterFate
+        (map.get inputs.now.inter.entries (dest_value.Net network)) result }
+{
+    let entry = inputs.inter.get(Dest::Net(network))?;
+    let area = entry.area?;
+    Some(DueSource {
+        kind: SourceKind::InterArea,
+        area,
+        cost: Some(entry.cost),
+        fate: route_fate(entry.cost),
+    })
+}
+
+/// The preferred route of an AS boundary router.
+pub(crate) fn preferred_source(preferred: Option<&Preferred>) -> Option<DueSource>
+    ensures { IsPreferredSource (option_copied preferred.entry) result }
+{
+    let preferred = preferred?;
+    Some(DueSource {
+        kind: SourceKind::Preferred,
+        area: preferred.area(),
+        cost: Some(preferred.cost()),
+        fate: route_fate(preferred.cost()),
+    })
+}
+
+/// The area's range with this prefix.
+pub(crate) fn range_source(
+    inputs: &SummaryInputs<'_>,
+    area: &AreaConfig,
+    prefix: Prefix,
+) -> Option<DueSource>
+    ensures { IsRangeSource inputs.now area.now prefix result }
+{
+    if !has_range(area, prefix) {
+        return None;
+    }
+    // 12.4.3: the cost of a range is the greatest of its networks' costs.
+    let cost = inputs.ranges.costliest(prefix, area.id, LS_INFINITY);
+    Some(DueSource {
+        kind: SourceKind::Range,
+        area: area.id,
+        cost,
+        fate: range_fate(area, prefix, cost),
+    })
+}
+
+// What becomes of a route at this cost.
+fn route_fate(cost: u32) -> DueFate
+    ensures { IsRouteFate cost result }
+{
+    // 12.4.3: a cost of LSInfinity or more gives no summary.
+    if cost >= LS_INFINITY {
+        return DueFate::Infinity;
+    }
+    DueFate::Given
+}
+
+// What becomes of a network's intra-area route through the area at this cost.
+fn intra_fate(areas: &[AreaConfig], through: u32, network: Prefix, cost: u32) -> DueFate
+    ensures { IsIntraFate areas.now network through cost result }
+{
+    if cost >= LS_INFINITY {
+        return DueFate::Infinity;
+    }
+    // 12.4.3: a network that a range of its area has is advertised only by the range.
+    match range_around(areas, through, network) {
+        Some(range) => DueFate::InRange(range),
+        None => DueFate::Given,
+    }
+}
+
+// What becomes of the area's range with this prefix, where this is the greatest cost of its networks.
+fn range_fate(area: &AreaConfig, prefix: Prefix, cost: Option<u32>) -> DueFate
+    ensures { IsRangeFate area.now prefix cost result }
+{
+    if !advertises(area, prefix) {
+        return DueFate::NotAdvertised;
+    }
+    match cost {
+        Some(_) => DueFate::Given,
+        None => DueFate::NoNetwork,
+    }
+}
