@@ -1,0 +1,2 @@
+pub mod Defined
+pub mod Metrics
