@@ -16,16 +16,22 @@ impl Source {
     /// The file that the job names, and standard input for `-` and for `follow`.
     pub fn of(rt: &HostRuntime, job: &Result<Job<'_>, Usage>) -> Source {
         match job {
+            Ok(Job::Follow { .. }) => Source::Standard(rt.stdin()),
             Ok(
-                Job::Replay { file: "-", .. } | Job::Changes { file: "-", .. } | Job::Follow { .. },
-            ) => Source::Standard(rt.stdin()),
-            Ok(Job::Replay { file, .. } | Job::Changes { file, .. }) => match File::open(
-                rt, *file,
-            ) {
-                Ok(file) => Source::File(file),
-                Err(_) => Source::Missing,
-            },
+                Job::Replay { file, .. } | Job::Changes { file, .. } | Job::Explain { file, .. },
+            ) => Source::named(rt, file),
             _ => Source::Missing,
+        }
+    }
+
+    // The file of this name, and standard input for `-`.
+    fn named(rt: &HostRuntime, name: &str) -> Source {
+        if name == "-" {
+            return Source::Standard(rt.stdin());
+        }
+        match File::open(rt, name) {
+            Ok(file) => Source::File(file),
+            Err(_) => Source::Missing,
         }
     }
 }

@@ -1,3 +1,4 @@
 pub mod Ended
 pub mod Shown
 pub mod Changed
+pub mod Explained

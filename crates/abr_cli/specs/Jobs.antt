@@ -11,14 +11,28 @@ use Rattle.command_answers.specs.Decode.{IsDecodeAnswer}
 use Rattle.command_answers.specs.Number.{IsNumberAnswer}
 use Rattle.output_format.specs.declared.Format.{Format}
 use Rattle.replay.specs.declared.progress.Progress.{Progress}
+use Rattle.output_format.specs.declared.Show.{Show}
 use Rattle.abr_cli.specs.declared.changing.Changes.{Changes}
+use Rattle.abr_cli.specs.declared.replaying.Replay.{Replay}
 use Rattle.abr_cli.specs.Changing.{IsChangesTold}
+use Rattle.abr_cli.specs.declared.explaining.Explain.{Explain}
+use Rattle.abr_cli.specs.Explaining.{IsExplainTold}
 use Rattle.abr_cli.specs.Replaying.{IsReplayTold}
 use Rattle.command_answers.specs.Usage.{IsUsageAnswer}
 
 -- how much is shown, where the words ask for it or not
 abbrev pub shown_progress : Bool → Progress → Progress
 shown_progress asked own = record own { is_shown = asked || own.is_shown }
+
+-- what `abr replay` asks for
+abbrev pub replay_asked : Bor (List ℕ) → (workers : ℕ) → Show → Format → (progress : Bool) → Replay
+replay_asked file workers show format progress = record {
+  file = file;
+  options = record {
+    workers = workers;
+    printing = record { show = show; format = format; progress = progress };
+  };
+}
 
 -- what `abr changes` asks for: what changed, up to the first fault
 abbrev pub changes_asked : Bor (List ℕ) → Option (Bor (List ℕ)) → Format → Progress → Changes
@@ -35,6 +49,10 @@ follow_asked file only strict format = record {
   progress = record { is_shown = false; all = None };
 }
 
+-- what `abr explain` asks for
+abbrev pub explain_asked : (file address : Bor (List ℕ)) → Option (Bor (List ℕ)) → Format → Progress → Explain
+explain_asked file address due format progress = record { file = file; address = address; due = due; format = format; progress = progress.is_shown }
+
 -- The job was done. Only where a recording is run the input is read.
 abbrev pub IsDone : Progress → Job → (status : ℕ) (i i' o o' f f' : Option (List ℕ)) → Type 0
 IsDone own (job.One words) status i i' o o' f f' = (i' ≡ i) × Tells (IsOneAnswer (texts_of words)) status o o' f f'
@@ -44,6 +62,7 @@ IsDone own (job.Replay file workers show format progress) status i i' o o' f f' 
 IsDone own (job.Changes file only format progress) status i i' o o' f f' = IsChangesTold (changes_asked file only format (shown_progress progress own)) status i i' o o' f f'
 IsDone own (job.Follow only strict format) status i i' o o' f f' =
     (file : Bor (List ℕ)) × (file.now ≡ codes "-") × IsChangesTold (follow_asked file only strict format) status i i' o o' f f'
+IsDone own (job.Explain file address due format progress) status i i' o o' f f' = IsExplainTold (explain_asked file address due format (shown_progress progress own)) status i i' o o' f f'
 IsDone own (job.Fault number) status i i' o o' f f' = (i' ≡ i) × Tells (IsNumberAnswer number.now) status o o' f f'
 
 -- the job was done, or it was said why there is none

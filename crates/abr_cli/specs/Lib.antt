@@ -1,4 +1,5 @@
 pub mod Showing
 pub mod Replaying
 pub mod Changing
+pub mod Explaining
 pub mod Jobs

@@ -3,6 +3,7 @@
 #![tactic(auto)]
 
 mod changing;
+mod explaining;
 mod replaying;
 mod running;
 
@@ -12,6 +13,7 @@ pub use command_answers::{
     one, tell,
 };
 pub use command_line::{Job, OneWords, Usage, job};
+pub use explaining::Explain;
 pub use output_format::{Format, Show};
 pub use replay::{Printing, Progress, ReplayFault, replay_one};
 pub use replaying::Replay;

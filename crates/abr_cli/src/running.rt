@@ -1,13 +1,14 @@
 //! What the program does with its words.
 ghost use Rattle.std.specs.Prelude.{◌≡◌, IfOk, codes};
-ghost use Rattle.command_line.specs.Command.{IsFit};
-ghost use Rattle.abr_cli.specs.Jobs.{IsJobTold, changes_asked, follow_asked, shown_progress};
+ghost use Rattle.command_line.specs.Command.{AreWorkers, IsFit};
+ghost use Rattle.abr_cli.specs.Jobs.{IsDone, IsJobTold, changes_asked, explain_asked, follow_asked, replay_asked, shown_progress};
 
 use crate::changing::Changes;
+use crate::explaining::Explain;
 use crate::replaying::Replay;
 use command_answers::{answer_usage, decode, fault, one, tell};
 use command_line::{Job, Usage};
-use output_format::Format;
+use output_format::{Format, Show};
 use replay::{Printing, Progress};
 use std::alloc::Global;
 use std::hash::RandomState;
@@ -47,44 +48,87 @@ impl Invocation<'_> {
             hashing,
             progress: own,
         } = self;
-        let job = match job {
-            Ok(job) => job,
-            Err(usage) => return tell(&answer_usage(alloc, usage), out, faults),
-        };
         match job {
-            Job::One(words) => one(rt, alloc, hashing, &words, out, faults),
-            Job::Decode { word, long } => decode(alloc, word, long, out, faults),
-            Job::Replay {
-                file,
-                workers,
-                show,
-                format,
-                progress,
-            } => {
-                let printing = Printing {
-                    show,
-                    format,
-                    progress: shown(progress, own).is_shown,
-                };
-                let options = ReplayOptions { workers, printing };
-                Replay { file, options }.run(rt, alloc, hashing, input, out, faults)
-            }
-            Job::Changes {
-                file,
-                only,
-                format,
-                progress,
-            } => changes_of(file, only, format, shown(progress, own)).run(
-                alloc, hashing, input, out, faults,
-            ),
-            Job::Follow {
-                only,
-                strict,
-                format,
-            } => follow_of(only, strict, format).run(alloc, hashing, input, out, faults),
-            Job::Fault(word) => fault(alloc, word, out, faults),
+            Ok(job) => do_job(rt, alloc, Doing { job, hashing, own }, input, out, faults),
+            Err(usage) => tell(&answer_usage(alloc, usage), out, faults),
         }
     }
+}
+
+// A job that is to be done.
+#[derive(Clone, Copy)]
+struct Doing<'a> {
+    job: Job<'a>,
+    hashing: RandomState,
+    own: Progress,
+}
+
+// Does the job.
+fn do_job<S: Threads + Wait + Sync, R: io::Read, W: io::Write, F: io::Write>(
+    rt: &S,
+    alloc: Global,
+    doing: Doing<'_>,
+    input: &mut R,
+    out: &mut W,
+    faults: &mut F,
+) -> u8
+    requires { IsFit doing.job }
+    ensures { IsDone doing.entry.own doing.entry.job result (R.remaining input.old)
+        (R.remaining input.new) (W.contents out.old) (W.contents out.new)
+        (F.contents faults.old) (F.contents faults.new) }
+{
+    let Doing { job, hashing, own } = doing;
+    match job {
+        Job::One(words) => one(rt, alloc, hashing, &words, out, faults),
+        Job::Decode { word, long } => decode(alloc, word, long, out, faults),
+        Job::Replay {
+            file,
+            workers,
+            show,
+            format,
+            progress,
+        } => {
+            let progress = shown(progress, own).is_shown;
+            replay_of(file, workers, show, format, progress)
+                .run(rt, alloc, hashing, input, out, faults)
+        }
+        Job::Changes {
+            file,
+            only,
+            format,
+            progress,
+        } => changes_of(file, only, format, shown(progress, own))
+            .run(alloc, hashing, input, out, faults),
+        Job::Follow {
+            only,
+            strict,
+            format,
+        } => follow_of(only, strict, format).run(alloc, hashing, input, out, faults),
+        Job::Explain {
+            file,
+            address,
+            due,
+            format,
+            progress,
+        } => explain_of(file, address, due, format, shown(progress, own))
+            .run(alloc, hashing, input, out, faults),
+        Job::Fault(word) => fault(alloc, word, out, faults),
+    }
+}
+
+// The command `replay`.
+fn replay_of(file: &str, workers: usize, show: Show, format: Format, progress: bool) -> Replay<'_>
+    requires { AreWorkers workers }
+    ensures asked { result ≡ replay_asked file.entry workers show format progress }
+    ensures workers { AreWorkers result.options.workers }
+{
+    let printing = Printing {
+        show,
+        format,
+        progress,
+    };
+    let options = ReplayOptions { workers, printing };
+    Replay { file, options }
 }
 
 // How much is shown, where the words ask for it or not.
@@ -113,6 +157,25 @@ fn changes_of<'a>(
         answers: false,
         skips: false,
         progress,
+    }
+}
+
+// The command `explain`. Of a recording that is read whole, it is known how many lines there are.
+fn explain_of<'a>(
+    file: &'a str,
+    address: &'a str,
+    due: Option<&'a str>,
+    format: Format,
+    progress: Progress,
+) -> Explain<'a>
+    ensures { result ≡ explain_asked file.entry address.entry due.entry format progress }
+{
+    Explain {
+        file,
+        address,
+        due,
+        format,
+        progress: progress.is_shown,
     }
 }
 

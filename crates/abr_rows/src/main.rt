@@ -27,7 +27,7 @@ use std::{fs, io};
 use trial::is_as_wanted;
 
 // The files of rows.
-const FILES: [&str; 15] = [
+const FILES: [&str; 17] = [
     "commands.rows",
     "recordings.rows",
     "versions.rows",
@@ -43,6 +43,8 @@ const FILES: [&str; 15] = [
     "follow.rows",
     "json.rows",
     "progress.rows",
+    "explain.rows",
+    "explain_due.rows",
 ];
 
 /// How many rows ran, and how many of them differ.

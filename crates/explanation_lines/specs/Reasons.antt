@@ -14,7 +14,6 @@ abbrev pub intra_step : Fate → List ℕ
 intra_step MaxAge = codes "16.1 (2b)"
 intra_step Another = codes "16.1 (2b)"
 intra_step Unreached = codes "16.1 (2b)"
-intra_step Costlier = codes "16.1 (2d)"
 intra_step LesserId = codes "16.1 (4)"
 intra_step LesserArea = codes "16.8"
 intra_step _ = codes "16.1"

@@ -4,7 +4,7 @@ ghost use Rattle.output_format.specs.declared.Format.TheVariants as format_value
 ghost use Rattle.serde_json.specs.Data.{object};
 ghost use Rattle.serde_json.specs.View.{view, members_view};
 ghost use Rattle.serde_json.specs.Written.{has_float};
-ghost use Rattle.json_objects.specs.Members.{PutsMember, json_line, members_in};
+ghost use Rattle.json_objects.specs.Members.{PutsMember, members_in};
 ghost use Rattle.explanation_lines.specs.Objects.{candidate_data, cost_data, lookup_data, network_line_data, offered_members, place_data, source_data, vertex_data};
 ghost use Rattle.explanation_lines.specs.Lines.{candidate_line, link_line, lookup_line, network_line, path_line};
 

@@ -28,7 +28,6 @@ fn intra_step(fate: Fate) -> &'static str
 {
     match fate {
         Fate::MaxAge | Fate::Another | Fate::Unreached => "16.1 (2b)",
-        Fate::Costlier => "16.1 (2d)",
         Fate::LesserId => "16.1 (4)",
         Fate::LesserArea => "16.8",
         _ => "16.1",

@@ -1,0 +1,75 @@
+-- What `abr explain` wrote.
+use Rattle.std.specs.Prelude.{ℕ, ◌≡◌, ◌⊎◌, List, Option, Some, None}
+use Rattle.std.specs.Borrow.{Bor}
+use Rattle.ospf_types.specs.declared.key.Dest.{Dest}
+use Rattle.ospf_types.specs.declared.key.Dest.TheVariants.{Net, Router}
+use Rattle.word_reading.specs.Writing.{WritesNetwork}
+use Rattle.recording.specs.Faults.{IsFaultOf}
+use Rattle.replay.specs.Advance.{ShowsProgress}
+use Rattle.replay.specs.Inputs.{ReadsAll}
+use Rattle.replay.specs.declared.fault.ReplayFault.{ReplayFault}
+use Rattle.replay.specs.declared.fault.ReplayFault.TheVariants.{Read, Write, Closed, Memory, Line}
+use Rattle.explained_replay.specs.Outputs.{Explains, ExplainsPart}
+use Rattle.explained_replay.specs.declared.question.Explaining.{Explaining}
+use Rattle.explained_replay.specs.declared.question.Question.{Question}
+use Rattle.explained_replay.specs.declared.question.Question.TheVariants.{Address, Due}
+use Rattle.worker_replay.specs.declared.fault.ManyFault.TheVariants.{Replay}
+use Rattle.command_answers.specs.declared.command_fault.CommandFault.TheVariants as fault
+use Rattle.command_answers.specs.declared.words.WordFault.{WordFault}
+use Rattle.command_answers.specs.declared.words.WordFault.TheVariants.{NotAnAddress, NotANetwork}
+use Rattle.command_answers.specs.Answers.{IsSaid}
+use Rattle.command_answers.specs.Faults.{command_fault_text, fault_line}
+use Rattle.command_answers.specs.Words.{IsAddress, IsNoNetwork, Writes}
+use Rattle.abr_cli.specs.Replaying.{IsEndSaid}
+use Rattle.abr_cli.specs.Showing.{IsProgressTold}
+use Rattle.abr_cli.specs.declared.explaining.Explain.{Explain}
+
+-- the word writes a network, or the Router ID of an AS boundary router
+abbrev pub WritesDest : List ℕ → Dest → Type 0
+WritesDest word (Net p) = WritesNetwork word p
+WritesDest word (Router router) = Writes word router
+
+-- the words ask this: of an address, or, where an area is named, of what is due there
+abbrev pub Asks : List ℕ → Option (Bor (List ℕ)) → Question → Type 0
+Asks word None (Address address) = Writes word address
+Asks word None (Due id d) = ⊥
+Asks word (Some area) (Address address) = ⊥
+Asks word (Some area) (Due id d) = Writes area.now id × WritesDest word d
+
+-- a word cannot be read for this reason, the area's first
+abbrev pub IsWordFault : List ℕ → Option (Bor (List ℕ)) → WordFault → Type 0
+IsWordFault word None f = (f ≡ NotAnAddress) × (¬ IsAddress word)
+IsWordFault word (Some area) f =
+    ((f ≡ NotAnAddress) × (¬ IsAddress area.now)) ⊎ ((f ≡ NotANetwork) × IsAddress area.now × (¬ IsAddress word) × IsNoNetwork word)
+
+-- nothing was read, and it was said that a word cannot be read, or that there is no memory for that line
+abbrev pub IsWordSaid : WordFault → (status : ℕ) (i i' o o' f f' : Option (List ℕ)) → Type 0
+IsWordSaid w status i i' o o' f f' =
+    (i' ≡ i) × (o' ≡ o) × (IsSaid (fault_line (command_fault_text (fault.Word w))) 2 status f f' ⊎ IsSaid (fault_line (command_fault_text fault.Memory)) 1 status f f')
+
+-- what was made of the input and the output where there is no whole answer for this fault
+abbrev pub ExplainsEarly : Explaining → ReplayFault → (i i' o o' : Option (List ℕ)) → Type 0
+ExplainsEarly e Read i i' o o' = o' ≡ o
+ExplainsEarly e Write i i' o o' = ExplainsPart e i i' o o'
+ExplainsEarly e Closed i i' o o' = ExplainsPart e i i' o o'
+ExplainsEarly e Memory i i' o o' = o' ≡ o
+ExplainsEarly e (Line f) i i' o o' = (o' ≡ o) × ((bytes : List ℕ) × ReadsAll i i' bytes × IsFaultOf bytes f)
+
+-- the answer was written, and nothing was said; or there is no whole answer, and the fault was said, or want of memory in its place
+abbrev pub IsExplainingEnded : Bor (List ℕ) → Explaining → (status : ℕ) (i i' o o' f f' : Option (List ℕ)) → Type 0
+IsExplainingEnded file e status i i' o o' f f' = ((status ≡ 0) × Explains e i i' o o' × (f' ≡ f))
+    ⊎ ((x : ReplayFault) × ExplainsEarly e x i i' o o' × IsEndSaid file (Replay x) status f f')
+
+-- it was shown how much is done, where that is to be shown, and then said how it ended
+abbrev pub IsExplainingTold : Bor (List ℕ) → Explaining → (status : ℕ) (i i' o o' f f' : Option (List ℕ)) → Type 0
+IsExplainingTold file e status i i' o o' f f' = (mid : Option (List ℕ))
+    × IsProgressTold (record { is_shown = e.progress; all = None }) (ShowsProgress e.progress) f mid × IsExplainingEnded file e status i i' o o' mid f'
+
+-- how the question is to be answered
+abbrev pub explaining_of : Explain → Question → Explaining
+explaining_of c q = record { question = q; format = c.format; progress = c.progress }
+
+-- a word could not be read; or the question was answered
+abbrev pub IsExplainTold : Explain → (status : ℕ) (i i' o o' f f' : Option (List ℕ)) → Type 0
+IsExplainTold c status i i' o o' f f' = ((w : WordFault) × IsWordFault c.address.now c.due w × IsWordSaid w status i i' o o' f f')
+    ⊎ ((q : Question) × Asks c.address.now c.due q × IsExplainingTold c.file (explaining_of c q) status i i' o o' f f')

@@ -1,0 +1,94 @@
+//! The command `explain`.
+ghost use Rattle.std.specs.Prelude.{◌≡◌, ◌×◌, IfErr, IfOk, OnErr};
+ghost use Rattle.command_answers.specs.Words.{IsAddress, IsNoNetwork};
+ghost use Rattle.abr_cli.specs.Explaining.{Asks, IsExplainTold, IsWordFault, WritesDest};
+
+use crate::replaying::{say_end, say_fault};
+use command_answers::{CommandFault, WordFault, read_address, read_network};
+use explained_replay::{Explaining, Question, explain_one};
+use ospf_types::key::Dest;
+use output_format::Format;
+use replay::Progress;
+use std::alloc::Global;
+use std::hash::RandomState;
+use std::io;
+use worker_replay::ManyFault;
+
+/// The command `explain`, as it was given.
+#[derive(Clone, Copy)]
+pub struct Explain<'a> {
+    /// The recording's name.
+    pub file: &'a str,
+    /// The word of the address; where an area is named, of a network or of the Router ID of an AS boundary router.
+    pub address: &'a str,
+    /// The word of the area, where it is asked for what is due there.
+    pub due: Option<&'a str>,
+    /// The form of the lines.
+    pub format: Format,
+    /// Whether it is shown how much of the recording is done.
+    pub progress: bool,
+}
+
+impl Explain<'_> {
+    /// Runs the recording that comes from `input`, and writes the explanation to `out`. How much is done, and why there is no
+    /// explanation, is written to `faults`; what is returned is the status: 2 where a word cannot be read, and then nothing was
+    /// read, and else 0 or 1.
+    pub fn run<R: io::Read, W: io::Write, F: io::Write>(
+        self,
+        alloc: Global,
+        hashing: RandomState,
+        input: &mut R,
+        out: &mut W,
+        faults: &mut F,
+    ) -> u8
+        ensures { IsExplainTold self.entry result (R.remaining input.old) (R.remaining input.new)
+            (W.contents out.old) (W.contents out.new) (F.contents faults.old)
+            (F.contents faults.new) }
+    {
+        let question = match question_of(self.address, self.due) {
+            Ok(question) => question,
+            Err(fault) => return say_fault(alloc, CommandFault::Word(fault), faults),
+        };
+        let explaining = Explaining {
+            question,
+            format: self.format,
+            progress: self.progress,
+        };
+        let progress = Progress {
+            is_shown: self.progress,
+            all: None,
+        };
+        progress.show(alloc, 0, faults);
+        let ended = explain_one(alloc, hashing, explaining, input, out, faults);
+        progress.end(faults);
+        match ended {
+            Ok(()) => 0,
+            Err(fault) => say_end(alloc, self.file, ManyFault::Replay(fault), faults),
+        }
+    }
+}
+
+// What the words ask.
+fn question_of(address: &str, due: Option<&str>) -> Result<Question, WordFault>
+    ensures asks { IfOk result (Asks address.now due.entry) }
+    ensures fault { IfErr result (IsWordFault address.now due.entry) }
+{
+    let Some(area) = due else {
+        return Ok(Question::Address(read_address(address)?));
+    };
+    let area = read_address(area)?;
+    let dest = dest_of(address)?;
+    Ok(Question::Due(area, dest))
+}
+
+// A network, or the Router ID of an AS boundary router.
+fn dest_of(word: &str) -> Result<Dest, WordFault>
+    ensures dest { IfOk result (WritesDest word.now) }
+    ensures fault { OnErr result ((¬ IsAddress word.now) × IsNoNetwork word.now) }
+    ensures err { OnErr result (result ≡ Err WordFault.NotANetwork) }
+{
+    match read_address(word) {
+        Ok(router) => Ok(Dest::Router(router)),
+        Err(_) => Ok(Dest::Net(read_network(word)?)),
+    }
+}
