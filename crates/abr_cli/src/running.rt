@@ -89,16 +89,18 @@ fn do_job<S: Threads + Wait + Sync, R: io::Read, W: io::Write, F: io::Write>(
             progress,
         } => {
             let progress = shown(progress, own).is_shown;
-            replay_of(file, workers, show, format, progress)
-                .run(rt, alloc, hashing, input, out, faults)
+            replay_of(file, workers, show, format, progress).run(
+                rt, alloc, hashing, input, out, faults,
+            )
         }
         Job::Changes {
             file,
             only,
             format,
             progress,
-        } => changes_of(file, only, format, shown(progress, own))
-            .run(alloc, hashing, input, out, faults),
+        } => changes_of(file, only, format, shown(progress, own)).run(
+            alloc, hashing, input, out, faults,
+        ),
         Job::Follow {
             only,
             strict,
@@ -110,8 +112,9 @@ fn do_job<S: Threads + Wait + Sync, R: io::Read, W: io::Write, F: io::Write>(
             due,
             format,
             progress,
-        } => explain_of(file, address, due, format, shown(progress, own))
-            .run(alloc, hashing, input, out, faults),
+        } => explain_of(file, address, due, format, shown(progress, own)).run(
+            alloc, hashing, input, out, faults,
+        ),
         Job::Fault(word) => fault(alloc, word, out, faults),
     }
 }

@@ -94,7 +94,12 @@ fn writers_that_fail_give_status_1(rt: HostRuntime) -> Result<(), Fail> {
     let fail = cannot_print(&rt, rt.alloc(), hashing, &ONE)
         && cannot_print(&rt, rt.alloc(), hashing, &["abr", "decode", STUB])
         && cannot_print(&rt, rt.alloc(), hashing, &["abr", "replay", "-"])
-        && cannot_print(&rt, rt.alloc(), hashing, &["abr", "explain", "-", "192.0.2.1"])
+        && cannot_print(
+            &rt,
+            rt.alloc(),
+            hashing,
+            &["abr", "explain", "-", "192.0.2.1"],
+        )
         && cannot_print(
             &rt,
             rt.alloc(),

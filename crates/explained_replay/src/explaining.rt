@@ -62,12 +62,7 @@ pub fn explain_one<R: io::Read, W: io::Write, F: io::Write>(
 }
 
 // The answer to the question about the core's table.
-fn answer(
-    alloc: Global,
-    format: Format,
-    question: Question,
-    core: &Core,
-) -> Result<String, Memory>
+fn answer(alloc: Global, format: Format, question: Question, core: &Core) -> Result<String, Memory>
     ensures { IfOk result (λ text. IsAnswer question format core.now (string_bytes text)) }
 {
     match question {

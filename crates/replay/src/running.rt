@@ -55,12 +55,7 @@ impl OpenedRecording {
     }
 
     /// Runs the lines behind the base, and prints nothing of them. What is returned is the core after the last line.
-    pub fn run_silently<F: io::Write>(
-        self,
-        alloc: Global,
-        is_shown: bool,
-        faults: &mut F,
-    ) -> Core
+    pub fn run_silently<F: io::Write>(self, alloc: Global, is_shown: bool, faults: &mut F) -> Core
         ensures run { IsRunTo self.core self.lines.items result }
         ensures progress { ShowsProgress is_shown (F.contents faults.old) (F.contents faults.new) }
     {
