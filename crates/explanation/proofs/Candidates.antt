@@ -1,10 +1,12 @@
 -- What became of offers, one after the other; and traces by the kind of their offer.
-use Rattle.std.proofs.Common.{◌≡◌, ◌<◌, ◌≤◌, ◌+◌, ℕ, List, [], ◌∷◌, ◌++◌, Option, take, length, get_or, refl, sym, ap, subst, ◌∙◌, inl, inr}
+use Rattle.std.proofs.Common.{◌≡◌, ◌<◌, ◌≤◌, ◌+◌, ℕ, List, [], ◌∷◌, ◌++◌, Option, take, length, get_or, refl, sym, ap, subst, ◌∙◌, inl, inr, arith}
 use Rattle.std.specs.Prelude.{Contains}
 use Rattle.std.proofs.lemmas.List.{append-nil, append_assoc, take_all, take_more}
 use Rattle.std.proofs.lemmas.List.Elements.{Contains-append_left, Contains-append_right, Contains-append_cases, Contains-push, Contains-push_cases}
 use Rattle.ospf_types.proofs.Elements.{contains_more, no_element}
 use Rattle.ospf_types.specs.declared.entry.Entry.{Entry}
+use Rattle.ospf_types.specs.declared.hop.Path.{Path}
+use Rattle.ospf_types.specs.declared.key.Scope.{Scope}
 use Rattle.ospf_types.specs.declared.key.Scope.TheVariants.{Area}
 use Rattle.ospf_types.specs.declared.lsa.External.{External}
 use Rattle.ospf_types.specs.declared.prefix.Prefix.{Prefix}
@@ -16,15 +18,31 @@ use Rattle.explanation.specs.declared.offer.OfferKind.TheVariants as kind
 use Rattle.explanation.specs.declared.offered.ExternalKey.{ExternalKey}
 use Rattle.explanation.specs.declared.trace.Trace.{Trace}
 use Rattle.explanation.specs.Judging.{IsJudged, IsRivalsOf}
-use Rattle.explanation.specs.Outside.{AreOfNetwork, IsTraceAt, IsWithin}
+use Rattle.explanation.specs.Networks.{AreOfNetwork}
+use Rattle.explanation.specs.Outside.{AreForwarded, AreOutside, AreTracesAs, AreWithin, IsForwarded, IsOutside, LeadsForward, LeadsOutside}
 use Rattle.explanation.specs.Explained.{AddsJudged, AddsNetwork, AreCandidates, AreNetworks, AreTracesFor, IsCandidate, MakesMore}
+use Rattle.explanation.proofs.TraceLists.{traces_as}
 
--- a trace of an offer of an area
-pub trace_within : (w : Layers) (o : Offer) (area : ℕ) (t : Trace) (k : OfferKind) → ((metric : ℕ) (external : External) → k ≡ kind.AsExternal metric external → ⊥) → IsWithin w area o t → IsTraceAt w o (Area area) k t
-trace_within w o area t (kind.Stub metric) other within = within
-trace_within w o area t kind.Transit other within = within
-trace_within w o area t (kind.Summary metric) other within = within
-trace_within w o area t (kind.AsExternal metric external) other within = absurd (other metric external refl)
+module _ (w : Layers) (o : Offer) (paths : List Path) where
+  -- the traces of an offer of an area
+  pub within_as : (area : ℕ) (traces : List Trace) (k : OfferKind) → ((metric : ℕ) (external : External) → k ≡ kind.AsExternal metric external → ⊥) → AreWithin w area o paths traces → AreTracesAs w o (Area area) k paths traces
+  within_as area traces (kind.Stub metric) other are = are
+  within_as area traces kind.Transit other are = are
+  within_as area traces (kind.Summary metric) other are = are
+  within_as area traces (kind.AsExternal metric external) other are = absurd (other metric external refl)
+
+  -- of an AS-external-LSA without a forwarding address, and with one
+  pub outside_as : (scope : Scope) (metric : ℕ) (external : External) (traces : List Trace) → external.forwarding ≡ 0 → AreOutside w 0 o paths traces → AreTracesAs w o scope (kind.AsExternal metric external) paths traces
+  outside_as scope metric external traces none are = subst (λ (address : ℕ). AreOutside w address o paths traces) (sym none) are
+
+  pub forwarded_as : (scope : Scope) (metric : ℕ) (external : External) (traces : List Trace) → 0 < external.forwarding → AreForwarded w external.forwarding o paths traces → AreTracesAs w o scope (kind.AsExternal metric external) paths traces
+  forwarded_as scope metric external traces some are = traces_as (IsForwarded w external.forwarding o) (LeadsForward w external.forwarding o) (IsOutside w external.forwarding o) (LeadsOutside w external.forwarding o) paths traces
+      (λ (t : Trace) is. inr (inr (some, is)))
+      (λ (path : Path) leads. elim leads [
+        | inl l ↦ let none = l.0 in absurd (omega (arith, some, none))
+        | inr (inl l) ↦ let none = l.0 in absurd (omega (arith, some, none))
+        | inr (inr l) ↦ l.1
+      ]) are
 
 module _ (w : Layers) (all : List Offer) where
   -- beside its rivals
@@ -33,14 +51,16 @@ module _ (w : Layers) (all : List Offer) where
   one_candidate p group of internal greatest least rivals o among before after adds =
       let c = adds.0 in
       let same : c.offer.network ≡ p = ap (λ (x : Offer). x.network) adds.1 ∙ ((of o).0 among).1 in record {
-        among = group;
-        among_are = subst (λ (q : Prefix). AreOfNetwork q all group) (sym same) of;
-        internal = internal;
-        greatest = greatest;
-        least = least;
-        rivals = subst (λ (q : Prefix). IsRivalsOf w q group internal greatest least) (sym same) rivals;
-        judged = subst (λ (x : Offer). IsJudged w internal greatest least x (record { cost = c.cost; fate = c.fate })) (sym adds.1) adds.2;
-        traces = subst (λ (x : Offer). AreTracesFor w x c.traces.items) (sym adds.1) adds.3;
+        judged = record {
+          among = group;
+          among_are = subst (λ (q : Prefix). AreOfNetwork q all group) (sym same) of;
+          internal = internal;
+          greatest = greatest;
+          least = least;
+          rivals = subst (λ (q : Prefix). IsRivalsOf w q group internal greatest least) (sym same) rivals;
+          is = subst (λ (x : Offer). IsJudged w internal greatest least x (record { cost = c.cost; fate = c.fate })) (sym adds.1) adds.2;
+        };
+        traces = subst (λ (x : Offer). AreTracesFor w x c.fate c.traces.items) (sym adds.1) adds.3;
       }
 
   -- none of the group yet

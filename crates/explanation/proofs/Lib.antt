@@ -5,8 +5,9 @@ pub mod TraceLists
 pub mod Interfaces
 pub mod Rivals
 pub mod Standings
-pub mod OwnTraces
 pub mod OfNetwork
+pub mod Told
+pub mod OneFate
 pub mod Forwarding
 pub mod Candidates
 pub mod Areas

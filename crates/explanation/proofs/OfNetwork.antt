@@ -6,7 +6,7 @@ use Rattle.std.proofs.lemmas.List.Elements.{Contains-append_left, Contains-push,
 use Rattle.ospf_types.proofs.Elements.{contains_more, no_element}
 use Rattle.ospf_types.specs.declared.prefix.Prefix.{Prefix}
 use Rattle.explanation.specs.declared.offer.Offer.{Offer}
-use Rattle.explanation.specs.Outside.{AreOfNetwork}
+use Rattle.explanation.specs.Networks.{AreOfNetwork}
 
 module _ (p : Prefix) where
   pub none_of : (offers : List Offer) → AreOfNetwork p (take 0 offers) []

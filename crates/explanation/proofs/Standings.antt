@@ -1,5 +1,5 @@
 -- Which LSA stands for a vertex, and what a transit network costs: each is just one.
-use Rattle.std.proofs.Common.{◌≡◌, ◌⊎◌, ◌<◌, ℕ, List, Option, Some, None, refl, sym, ap, subst, ◌∙◌, inl, inr, le_antisymm, arith}
+use Rattle.std.proofs.Common.{◌≡◌, ℕ, List, Option, Some, None, refl, sym, ap, subst, ◌∙◌, inl, inr, le_antisymm, arith}
 use Rattle.std.specs.FinMap.{get}
 use Rattle.ospf_types.specs.declared.entry.Vertex.{Vertex}
 use Rattle.ospf_types.specs.declared.entry.Vertex.TheVariants.{Router, Network}
@@ -51,7 +51,7 @@ module _ (areas : List AreaValue) (are : AreAreas areas) (id : ℕ) (v : Vertex)
   one_key_standing x y (inr none) (inl other) = absurd (none.0 other.0 other.1.0 other.1.1)
   one_key_standing x y (inr none) (inr nor) = none.1 ∙ sym nor.1
 
-  one_distance : (x y : Option ℕ) → IsDistanceOf areas id v x → IsDistanceOf areas id v y → x ≡ y
+  pub one_distance : (x y : Option ℕ) → IsDistanceOf areas id v x → IsDistanceOf areas id v y → x ≡ y
   one_distance x y (inl one) (inl other) = one.2 ∙ ap (λ (a : AreaValue). distance_at a v) (one_area one.0 other.0 one.1 other.1) ∙ sym other.2
   one_distance x y (inl one) (inr none) = absurd (none.0 one.0 one.1.0 one.1.1)
   one_distance x y (inr none) (inl other) = absurd (none.0 other.0 other.1.0 other.1.1)

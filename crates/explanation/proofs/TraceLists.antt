@@ -1,5 +1,5 @@
 -- Traces of the paths of a route, one path after the other.
-use Rattle.std.proofs.Common.{Vec, true, false, ◌≡◌, ◌≢◌, ◌<◌, ◌≤◌, ◌+◌, ℕ, List, [], ◌∷◌, Option, take, length, get_or, sym, ap, subst, ◌∙◌, inl, inr}
+use Rattle.std.proofs.Common.{Vec, true, false, ◌≡◌, ◌≢◌, ◌<◌, ◌≤◌, ◌+◌, ℕ, List, [], ◌∷◌, ◌++◌, take, length, get_or, sym, ap, subst, ◌∙◌, inl, inr}
 use Rattle.std.specs.Prelude.{◌==◌, Contains}
 use Rattle.std.specs.Vec.{vec_len}
 use Rattle.std.proofs.lemmas.Bool.{eqb-true}
@@ -12,10 +12,9 @@ use Rattle.ospf_types.specs.declared.hop.Path.{Path}
 use Rattle.vertex_graph.specs.Link.{Link}
 use Rattle.tree_paths.specs.LeastPaths.{HasHop, IsPathOver}
 use Rattle.intra.specs.Inputs.{AreaValue}
-use Rattle.explanation.specs.declared.trace.Step.{Step}
 use Rattle.explanation.specs.declared.trace.Trace.{Trace}
 use Rattle.explanation.specs.Layers.{AreAreas, HasArea}
-use Rattle.explanation.specs.Traces.{AreLinkSteps, AreSteps, AreTracesTo, IsTraceTo, MayAddTrace}
+use Rattle.explanation.specs.Traces.{AreJustTraces, AreLinkSteps, AreSteps, HasTrace, MayAddTrace}
 
 pub no_items : {A B : Type 0} (v : Vec A B) → (vec_len v == 0) ≡ true → v.items ≡ []
 no_items v none = nil_from_length v.items (sym v.ok.0 ∙ eqb-true (vec_len v) 0 none)
@@ -36,32 +35,57 @@ none_there areas are id v h (inl w) a has hop =
     no_hop w.0 v h w.2.0 w.2.1 w.2.2 (subst (λ (b : AreaValue). HasHop b.tree.area.graph v h) (sym same) hop)
 none_there areas are id v h (inr w) a has hop = w.0 a has.0 has.1
 
-module _ (areas : List AreaValue) (id : ℕ) (v : Vertex) (advertiser : Option ℕ) (on : List Step) where
-  pub no_traces : (paths : List Path) → AreTracesTo areas id v advertiser on (take 0 paths) []
+-- ---- one more trace, or several
+
+pub keeps_trace : (before added after : List Trace) (path : Path) → after ≡ before ++ added → HasTrace before path → HasTrace after path
+keeps_trace before added after path is has = (has.0, subst (λ (ts : List Trace). Contains ts has.0) (sym is) (Contains-append_left before added has.0 has.1), has.2)
+
+pub new_trace : (before after : List Trace) (t : Trace) (path : Path) → after ≡ before ++ t ∷ [] → t.path ≡ path → HasTrace after path
+new_trace before after t path is same = (t, subst (λ (ts : List Trace). Contains ts t) (sym is) (Contains-push before t), same)
+
+pub each_more : (Is : Trace → Type 0) (before after : List Trace) (t : Trace) → after ≡ before ++ t ∷ [] → ((x : Trace) → Contains before x → Is x) → Is t → (x : Trace) → Contains after x → Is x
+each_more Is before after t is all new x among = elim (Contains-push_cases before t x (subst (λ (ts : List Trace). Contains ts x) is among)) [
+  | inl was ↦ all x was
+  | inr same ↦ subst Is same new
+]
+
+module _ (IsTrace : Trace → Type 0) (Leads : Path → Type 0) where
+  pub no_traces : (paths : List Path) → AreJustTraces IsTrace Leads (take 0 paths) []
   no_traces paths = record {
-    sound = λ w among. absurd (no_element w among);
+    sound = λ t among. absurd (no_element t among);
     complete = λ path among. absurd (no_element path among);
   }
 
   pub more_traces : (paths : List Path) (i : ℕ) (path : Path) (before after : List Trace) → i < length paths → path ≡ get_or paths i path
-      → AreTracesTo areas id v advertiser on (take i paths) before → MayAddTrace areas id v advertiser on path before after → AreTracesTo areas id v advertiser on (take (i + 1) paths) after
+      → AreJustTraces IsTrace Leads (take i paths) before → MayAddTrace IsTrace Leads path before after → AreJustTraces IsTrace Leads (take (i + 1) paths) after
   more_traces paths i path before after lt here are (inl added) = record {
-    sound = λ w among. elim (Contains-push_cases before added.0 w (subst (λ (ws : List Trace). Contains ws w) added.3 among)) [
-      | inl was ↦ let old = are.sound w was in ((contains_more paths i path w.path lt here).1 (inl old.0), old.1)
-      | inr new ↦ subst (λ (x : Trace). Contains (take (i + 1) paths) x.path × IsTraceTo areas id v advertiser on x) new ((contains_more paths i path added.0.path lt here).1 (inr added.2), added.1)
-    ];
-    complete = λ p among names a has hop. elim ((contains_more paths i path p lt here).0 among) [
-      | inl was ↦ let old = are.complete p was names a has hop in (old.0, subst (λ (ws : List Trace). Contains ws old.0) (sym added.3) (Contains-append_left before (added.0 ∷ []) old.0 old.1), old.2)
-      | inr new ↦ (added.0, subst (λ (ws : List Trace). Contains ws added.0) (sym added.3) (Contains-push before added.0), added.2 ∙ sym new)
+    sound = each_more (λ (t : Trace). Contains (take (i + 1) paths) t.path × IsTrace t) before after added.0 added.3 (λ t was. let old = are.sound t was in ((contains_more paths i path t.path lt here).1 (inl old.0), old.1)) ((contains_more paths i path added.0.path lt here).1 (inr added.2), added.1);
+    complete = λ p among leads. elim ((contains_more paths i path p lt here).0 among) [
+      | inl was ↦ keeps_trace before (added.0 ∷ []) after p added.3 (are.complete p was leads)
+      | inr new ↦ new_trace before after added.0 p added.3 (added.2 ∙ sym new)
     ];
   }
   more_traces paths i path before after lt here are (inr kept) = record {
-    sound = λ w among. let old = are.sound w (subst (λ (ws : List Trace). Contains ws w) kept.0 among) in ((contains_more paths i path w.path lt here).1 (inl old.0), old.1);
-    complete = λ p among names a has hop. elim ((contains_more paths i path p lt here).0 among) [
-      | inl was ↦ let old = are.complete p was names a has hop in (old.0, subst (λ (ws : List Trace). Contains ws old.0) (sym kept.0) old.1, old.2)
-      | inr new ↦ absurd (kept.1 a (sym (ap (λ (x : Path). x.advertiser) new) ∙ names) has (subst (λ (x : Path). HasHop a.tree.area.graph v x.hop) new hop))
+    sound = λ t among. let old = are.sound t (subst (λ (ts : List Trace). Contains ts t) kept.0 among) in ((contains_more paths i path t.path lt here).1 (inl old.0), old.1);
+    complete = λ p among leads. elim ((contains_more paths i path p lt here).0 among) [
+      | inl was ↦ subst (λ (ts : List Trace). HasTrace ts p) (sym kept.0) (are.complete p was leads)
+      | inr new ↦ absurd (kept.1 (subst Leads new leads))
     ];
   }
 
-  pub all_traces : (paths : List Path) (i : ℕ) (traces : List Trace) → length paths ≤ i → AreTracesTo areas id v advertiser on (take i paths) traces → AreTracesTo areas id v advertiser on paths traces
-  all_traces paths i traces past are = subst (λ (ps : List Path). AreTracesTo areas id v advertiser on ps traces) (take_all i paths past) are
+  pub all_traces : (paths : List Path) (i : ℕ) (traces : List Trace) → length paths ≤ i → AreJustTraces IsTrace Leads (take i paths) traces → AreJustTraces IsTrace Leads paths traces
+  all_traces paths i traces past are = subst (λ (ps : List Path). AreJustTraces IsTrace Leads ps traces) (take_all i paths past) are
+
+  pub none_leads : (paths : List Path) → ((path : Path) → Leads path → ⊥) → AreJustTraces IsTrace Leads paths []
+  none_leads paths none = record {
+    sound = λ t among. absurd (no_element t among);
+    complete = λ path among leads. absurd (none path leads);
+  }
+
+  -- they are traces of another kind too, for the paths that lead there
+  pub traces_as : (IsOther : Trace → Type 0) (LeadsThere : Path → Type 0) (paths : List Path) (traces : List Trace) → ((t : Trace) → IsTrace t → IsOther t) → ((path : Path) → LeadsThere path → Leads path)
+      → AreJustTraces IsTrace Leads paths traces → AreJustTraces IsOther LeadsThere paths traces
+  traces_as IsOther LeadsThere paths traces on back are = record {
+    sound = λ t among. let is = are.sound t among in (is.0, on t is.1);
+    complete = λ path among leads. are.complete path among (back path leads);
+  }

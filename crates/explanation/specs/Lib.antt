@@ -1,7 +1,8 @@
 pub mod Offers
 pub mod Layers
 pub mod Offered
+pub mod Judging
+pub mod Networks
 pub mod Traces
 pub mod Outside
-pub mod Judging
 pub mod Explained

@@ -70,16 +70,30 @@ pub record IsTraceTo (areas : List AreaValue) (id : ℕ) (v : Vertex) (advertise
   pub some : steps ≢ []
   pub whole : w.steps.items ≡ steps ++ on
 
--- a trace for the path is added, just where it leads there
-abbrev pub MayAddTrace : List AreaValue → ℕ → Vertex → Option ℕ → List Step → Path → List Trace → List Trace → Type 0
-MayAddTrace areas id v advertiser on path before after =
-    ((w : Trace) × IsTraceTo areas id v advertiser on w × (w.path ≡ path) × (after ≡ before ++ w ∷ []))
-    ⊎ ((after ≡ before) × ((a : AreaValue) → path.advertiser ≡ advertiser → HasArea areas id a → HasHop a.tree.area.graph v path.hop → ⊥))
+-- The path leads to the vertex in that area: it names the advertiser, and its next hop is one of the vertex.
+abbrev pub LeadsTo : List AreaValue → ℕ → Vertex → Option ℕ → Path → Type 0
+LeadsTo areas id v advertiser path = (path.advertiser ≡ advertiser) × ((a : AreaValue) × HasArea areas id a × HasHop a.tree.area.graph v path.hop)
 
--- Traces to the vertex, each for one of the paths; and one for each of the paths that leads there.
-pub record AreTracesTo (areas : List AreaValue) (id : ℕ) (v : Vertex) (advertiser : Option ℕ) (on : List Step) (paths : List Path) (traces : List Trace) : Type 0 where
-  pub sound : (w : Trace) → Contains traces w → Contains paths w.path × IsTraceTo areas id v advertiser on w
-  pub complete : (path : Path) → Contains paths path → path.advertiser ≡ advertiser → (a : AreaValue) → HasArea areas id a → HasHop a.tree.area.graph v path.hop → (w : Trace) × Contains traces w × (w.path ≡ path)
+-- ---- a trace for each path that leads there
+
+-- one of the traces is for the path
+abbrev pub HasTrace : List Trace → Path → Type 0
+HasTrace traces path = (t : Trace) × Contains traces t × (t.path ≡ path)
+
+-- Each trace is for one of the paths, and each of the paths that leads there has one.
+pub record AreJustTraces (IsTrace : Trace → Type 0) (Leads : Path → Type 0) (paths : List Path) (traces : List Trace) : Type 0 where
+  pub sound : (t : Trace) → Contains traces t → Contains paths t.path × IsTrace t
+  pub complete : (path : Path) → Contains paths path → Leads path → HasTrace traces path
+
+-- a trace for the path is added, just where it leads there
+abbrev pub MayAddTrace : (Trace → Type 0) → (Path → Type 0) → Path → List Trace → List Trace → Type 0
+MayAddTrace IsTrace Leads path before after =
+    ((t : Trace) × IsTrace t × (t.path ≡ path) × (after ≡ before ++ t ∷ []))
+    ⊎ ((after ≡ before) × (Leads path → ⊥))
+
+-- traces to the vertex
+abbrev pub AreTracesTo : List AreaValue → ℕ → Vertex → Option ℕ → List Step → List Path → List Trace → Type 0
+AreTracesTo areas id v advertiser on paths traces = AreJustTraces (IsTraceTo areas id v advertiser on) (LeadsTo areas id v advertiser) paths traces
 
 -- ---- the traces of an offer
 
@@ -113,6 +127,10 @@ last_of o = last_from (place.Vertex (vertex_by o.kind o.source.key)) o
 abbrev pub IsTraceBy : List AreaValue → ℕ → Offer → Trace → Type 0
 IsTraceBy areas area o t = IsTraceTo areas area (vertex_by o.kind o.source.key) (advertiser_by o.kind o.source.key) (last_of o ∷ []) t
 
+-- the path is one that leads to that vertex
+abbrev pub LeadsBy : List AreaValue → ℕ → Offer → Path → Type 0
+LeadsBy areas area o path = LeadsTo areas area (vertex_by o.kind o.source.key) (advertiser_by o.kind o.source.key) path
+
 -- ---- over an interface of the root
 
 -- over an interface of the area that is up and lies in the network
@@ -123,9 +141,5 @@ IsOver w area o path = (id : ℕ) × (i : Interface) × (path.hop ≡ Direct id)
 abbrev pub IsOwnTrace : Layers → ℕ → Offer → Trace → Type 0
 IsOwnTrace w area o t = IsOver w area o t.path × (t.steps.items ≡ last_of o ∷ [])
 
--- such a trace is added for the path, or none
-abbrev pub MayAddOwn : Layers → ℕ → Offer → Path → List Trace → List Trace → Type 0
-MayAddOwn w area o path before after = ((t : Trace) × IsOwnTrace w area o t × (t.path ≡ path) × (after ≡ before ++ t ∷ [])) ⊎ (after ≡ before)
-
 abbrev pub AreOwnTraces : Layers → ℕ → Offer → List Path → List Trace → Type 0
-AreOwnTraces w area o paths traces = (t : Trace) → Contains traces t → Contains paths t.path × IsOwnTrace w area o t
+AreOwnTraces w area o paths traces = AreJustTraces (IsOwnTrace w area o) (IsOver w area o) paths traces

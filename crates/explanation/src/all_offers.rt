@@ -1,6 +1,6 @@
 //! What the databases of a router offer of networks that contain an address.
 ghost use Rattle.std.specs.Prelude.{◌≡◌, ◌↔◌, ◌++◌, IfOk, IsTrue, OnOk};
-ghost use Rattle.explanation.specs.Outside.{AreOfNetwork, all_offers, offers_in_areas};
+ghost use Rattle.explanation.specs.Networks.{AreOfNetwork, all_offers, offers_in_areas};
 
 use crate::layers::Layers;
 use crate::offer::Offer;

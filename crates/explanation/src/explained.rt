@@ -3,7 +3,8 @@ ghost use Rattle.std.specs.Prelude.{IfNone, IfOk, IfSome, OnOk, option_copied};
 ghost use Rattle.calculation.specs.Calculations.{IsCalculationOf};
 ghost use Rattle.event_core.specs.Cores.{IsCurrent, state_of};
 ghost use Rattle.explanation.specs.Layers.{AreAreas};
-ghost use Rattle.explanation.specs.Outside.{AreTraces, all_offers};
+ghost use Rattle.explanation.specs.Networks.{all_offers};
+ghost use Rattle.explanation.specs.Outside.{AreTraces};
 ghost use Rattle.explanation.specs.Explained.{AddsJudged, AddsNetwork, AreCandidates, AreNetworks, AreTracesFor, IsExplained};
 
 use crate::all_offers::of_network;
@@ -51,6 +52,7 @@ impl Drop for Candidate {
 /// network first what LSAs of the areas offer, in the order of the configuration, and then the AS-external-LSAs, those of a
 /// database as `Core::lsas` has them. None where the core's table is behind.
 pub fn explain(alloc: Global, core: &Core, address: u32) -> Result<Option<Vec<Candidate>>, Memory>
+    ensures current { IfOk result (λ found. IfSome found (λ _. IsCurrent core.now)) }
     ensures none { IfOk result (λ found. IfNone found (IsCurrent core.now → ⊥)) }
     ensures explained { IfOk result (λ found. IfSome found (λ candidates.
         IsExplained (state_of core.now) address candidates.items)) }
@@ -143,15 +145,16 @@ impl Layers<'_, '_> {
     // If the offer is taken, traces of it for the paths of its network's route.
     fn traces_if(self, alloc: Global, fate: Fate, offer: &Offer) -> Result<Vec<Trace>, Memory>
         requires { AreAreas self.areas.now }
-        ensures { IfOk result (λ traces. AreTracesFor self.entry offer.now traces.items) }
+        ensures { IfOk result (λ traces. AreTracesFor self.entry offer.now fate traces.items) }
     {
-        match self.calculation.entry(offer.network) {
-            Some(entry) if is_taken(fate) => {
-                let traces = self.traces(alloc, offer, entry.paths.as_slice())?;
-                Ok(traces)
-            }
-            _ => Ok(Vec::new(alloc)),
+        if !is_taken(fate) {
+            return Ok(Vec::new(alloc));
         }
+        let Some(entry) = self.calculation.entry(offer.network) else {
+            return Ok(Vec::new(alloc));
+        };
+        let traces = self.traces(alloc, offer, entry.paths.as_slice())?;
+        Ok(traces)
     }
 
     // Traces of the offer for these paths.

@@ -1,8 +1,8 @@
 //! The traces of the paths that an AS-external-LSA gives by way of its forwarding address (RFC 2328, 16.4 (3)).
-ghost use Rattle.std.specs.Prelude.{◌≡◌, ◌<◌, IfOk, OnOk};
+ghost use Rattle.std.specs.Prelude.{◌≡◌, ◌↔◌, IfOk, IsTrue, OnOk};
 ghost use Rattle.ospf_types.specs.External.{toward};
 ghost use Rattle.explanation.specs.Layers.{AreAreas};
-ghost use Rattle.explanation.specs.Outside.{AreOutside, KeepsOutside, MayAddInner};
+ghost use Rattle.explanation.specs.Outside.{AddsToward, AreForwarded, MayAddInner, match_at};
 
 use crate::all_offers::of_network;
 use crate::fate::Fate;
@@ -31,9 +31,8 @@ impl Layers<'_, '_> {
         alloc: Global,
         forwarded: Forwarded<'_>,
     ) -> Result<Vec<Trace>, Memory>
-        requires areas { AreAreas self.areas.now }
-        requires some { 0 < forwarded.address }
-        ensures { IfOk result (λ traces. AreOutside self.entry forwarded.entry.address
+        requires { AreAreas self.areas.now }
+        ensures { IfOk result (λ traces. AreForwarded self.entry forwarded.entry.address
             forwarded.entry.offer.now forwarded.entry.paths.now traces.items) }
     {
         let mut traces = Vec::new(alloc);
@@ -46,14 +45,16 @@ impl Layers<'_, '_> {
         for by in &offers {
             let judged = self.judge(by, &rivals);
             if is_taken(judged.fate) {
-                self.push_by(network, by, forwarded, &mut traces)?;
+                self.push_by(by, forwarded, &mut traces)?;
             }
         }
         Ok(traces)
     }
 
     // The network that is the longest match of the address.
-    fn matched(self, address: u32) -> Option<Prefix> {
+    fn matched(self, address: u32) -> Option<Prefix>
+        ensures { result ≡ match_at self.entry address }
+    {
         match self.calculation.external().forward(address) {
             Some(forward) => forward.matched(),
             None => None,
@@ -63,21 +64,24 @@ impl Layers<'_, '_> {
     // Adds a trace for each of the paths that this offer gives, which is one of the network's route.
     fn push_by(
         self,
-        network: Prefix,
         by: &Offer,
         forwarded: Forwarded<'_>,
         traces: &mut Vec<Trace>,
     ) -> Result<(), Memory>
-        requires areas { AreAreas self.areas.now }
-        requires some { 0 < forwarded.address }
-        ensures { OnOk result (KeepsOutside self.entry forwarded.entry.address
-            forwarded.entry.offer.now forwarded.entry.paths.now traces.old.items traces.new.items) }
+        requires { AreAreas self.areas.now }
+        ensures { OnOk result (AddsToward self.entry forwarded.entry.address
+            forwarded.entry.offer.now forwarded.entry.paths.now by.now traces.old.items
+            traces.new.items) }
     {
         let alloc = *traces.allocator();
-        let (Scope::Area(area), Some(entry)) = (by.source.scope, self.internal(network)) else {
+        let Scope::Area(area) = by.source.scope else {
             return Ok(());
         };
-        for inner in &self.traces_within(alloc, area, by, entry.paths.as_slice())? {
+        let Some(entry) = self.internal(by.network) else {
+            return Ok(());
+        };
+        let within = self.traces_within(alloc, area, by, entry.paths.as_slice())?;
+        for inner in &within {
             push_inner(by, inner, forwarded, traces)?;
         }
         Ok(())
@@ -109,7 +113,9 @@ fn push_inner(
 }
 
 /// Whether the paths of the offer are among those of the route.
-pub(crate) fn is_taken(fate: Fate) -> bool {
+pub(crate) fn is_taken(fate: Fate) -> bool
+    ensures { IsTrue result ↔ (fate ≡ Fate.Taken) }
+{
     matches!(fate, Fate::Taken)
 }
 

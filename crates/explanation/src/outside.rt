@@ -1,7 +1,8 @@
 //! The traces of the paths that an AS-external-LSA gives (RFC 2328, 16.4 (3)).
-ghost use Rattle.std.specs.Prelude.{◌↔◌, Contains, IfOk, IfSome, IsTrue, OnOk};
+ghost use Rattle.std.specs.Prelude.{ℕ, ◌↔◌, Contains, IfNone, IfOk, IfSome, IsTrue, OnOk};
 ghost use Rattle.explanation.specs.Layers.{AreAreas};
-ghost use Rattle.explanation.specs.Outside.{AreOutside, AreWithin, IsToldStep, MayAddTold};
+ghost use Rattle.explanation.specs.declared.trace.Step.{Step};
+ghost use Rattle.explanation.specs.Outside.{AreOutside, AreTold, AreWithin, IsBoundaryIn, IsOwnStub, IsToldStep, MayAddTold};
 
 use crate::layers::Layers;
 use crate::offer::{Offer, OfferKind, Source};
@@ -34,7 +35,7 @@ impl Layers<'_, '_> {
         requires { AreAreas self.areas.now }
         ensures { IfOk result (λ traces. AreWithin self.entry area offer.now paths.now traces.items) }
     {
-        if matches!(offer.kind, OfferKind::Stub(_)) && offer.source.key.router == self.root() {
+        if self.is_own_stub(offer) {
             let traces = self.own_traces(alloc, area, offer, paths)?;
             return Ok(traces);
         }
@@ -52,20 +53,48 @@ impl Layers<'_, '_> {
         requires { AreAreas self.areas.now }
         ensures { IfOk result (λ traces. AreOutside self.entry 0 offer.now paths.now traces.items) }
     {
-        let router = offer.source.key.router;
-        if let Some(preferred) = self.calculation.external().preferred(router) {
-            if self.is_boundary(preferred.area(), router) {
-                let traces = self.traces_by(alloc, preferred.area(), offer, paths)?;
-                return Ok(traces);
+        match self.boundary_area(offer.source.key.router) {
+            Some(area) => {
+                let traces = self.traces_by(alloc, area, offer, paths)?;
+                Ok(traces)
+            }
+            None => {
+                let traces = self.told_traces(alloc, offer, paths)?;
+                Ok(traces)
             }
         }
-        let traces = self.told_traces(alloc, offer, paths)?;
-        Ok(traces)
+    }
+
+    // Whether it is of a stub network of the root itself.
+    fn is_own_stub(self, offer: &Offer) -> bool
+        ensures { IsTrue result ↔ IsOwnStub self.entry offer.now }
+    {
+        match offer.kind {
+            OfferKind::Stub(_) => offer.source.key.router == self.root(),
+            OfferKind::Transit | OfferKind::Summary(_) | OfferKind::AsExternal(_, _) => false,
+        }
+    }
+
+    // The area of the preferred entry of the AS boundary router, if it is reached there.
+    fn boundary_area(self, router: u32) -> Option<u32>
+        ensures some { IfSome result (IsBoundaryIn self.entry router) }
+        ensures none { IfNone result ((area : ℕ) → IsBoundaryIn self.entry router area → ⊥) }
+    {
+        let preferred = self.calculation.external().preferred(router)?;
+        let area = preferred.area();
+        let reached = self.reached(area, router)?;
+        if !reached.is_boundary() {
+            return None;
+        }
+        Some(area)
     }
 
     // The step from a border router to the AS boundary router, as the summary-LSA of the border router tells it.
     fn told_step(self, area: u32, border: u32, router: u32) -> Option<Step>
-        ensures { IfSome result (IsToldStep self.entry area border router) }
+        requires { AreAreas self.areas.now }
+        ensures some { IfSome result (IsToldStep self.entry area border router) }
+        ensures none { IfNone result
+            ((step : Step) → IsToldStep self.entry area border router step → ⊥) }
     {
         let within = self.area(area)?;
         let (lsa, age) = within.database.get(Key {
@@ -84,21 +113,13 @@ impl Layers<'_, '_> {
             source: Source::of(Scope::Area(area), lsa),
         })
     }
-
-    // Whether the AS boundary router is reached in the area.
-    fn is_boundary(self, area: u32, router: u32) -> bool {
-        match self.reached(area, router) {
-            Some(reached) => reached.is_boundary(),
-            None => false,
-        }
-    }
 }
 
 impl Layers<'_, '_> {
     // By way of border routers that tell of the AS boundary router (16.2).
     fn told_traces(self, alloc: Global, offer: &Offer, paths: &[Path]) -> Result<Vec<Trace>, Memory>
         requires { AreAreas self.areas.now }
-        ensures { IfOk result (λ traces. AreOutside self.entry 0 offer.now paths.now traces.items) }
+        ensures { IfOk result (λ traces. AreTold self.entry offer.now paths.now traces.items) }
     {
         let mut traces = Vec::new(alloc);
         let Some(entry) = self
@@ -121,8 +142,8 @@ impl Layers<'_, '_> {
     // Adds a trace by way of the border router that this path names, if the route has such a path.
     fn push_told(self, told: Told<'_>, within: &Path, traces: &mut Vec<Trace>) -> Result<(), Memory>
         requires { AreAreas self.areas.now }
-        ensures { OnOk result (MayAddTold self.entry told.entry.offer.now told.entry.paths.now
-            traces.old.items traces.new.items) }
+        ensures { OnOk result (MayAddTold self.entry told.entry.area told.entry.offer.now
+            told.entry.paths.now within.now traces.old.items traces.new.items) }
     {
         let Told { area, offer, paths } = told;
         let alloc = *traces.allocator();

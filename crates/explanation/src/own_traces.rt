@@ -1,6 +1,6 @@
 //! The traces of the root's own stub networks (RFC 2328, 16.1): a step each, over an interface.
 ghost use Rattle.std.specs.Prelude.{◌↔◌, IfOk, IsTrue, OnOk};
-ghost use Rattle.explanation.specs.Traces.{AreOwnTraces, IsOver, MayAddOwn};
+ghost use Rattle.explanation.specs.Traces.{AreOwnTraces, IsOver, IsOwnTrace, MayAddTrace};
 
 use crate::layers::Layers;
 use crate::offer::Offer;
@@ -38,8 +38,8 @@ impl Layers<'_, '_> {
         path: &Path,
         traces: &mut Vec<Trace>,
     ) -> Result<(), Memory>
-        ensures { OnOk result (MayAddOwn self.entry area offer.now path.now traces.old.items
-            traces.new.items) }
+        ensures { OnOk result (MayAddTrace (IsOwnTrace self.entry area offer.now)
+            (IsOver self.entry area offer.now) path.now traces.old.items traces.new.items) }
     {
         if !self.is_over(area, offer, path) {
             return Ok(());
@@ -52,7 +52,7 @@ impl Layers<'_, '_> {
 
     // Whether the path is over an interface of the area that is up and lies in the network.
     fn is_over(self, area: u32, offer: &Offer, path: &Path) -> bool
-        ensures { IsTrue result → IsOver self.entry area offer.now path.now }
+        ensures { IsTrue result ↔ IsOver self.entry area offer.now path.now }
     {
         let NextHop::Direct(wanted) = path.hop else {
             return false;

@@ -5,7 +5,7 @@ ghost use Rattle.vertex_graph.specs.Graphs.{LinksOf};
 ghost use Rattle.area_trees.specs.Areas.{IsStanding};
 ghost use Rattle.intra.specs.Inputs.{HasTree};
 ghost use Rattle.explanation.specs.Layers.{AreAreas};
-ghost use Rattle.explanation.specs.Traces.{AreLinksIn, AreLinkSteps, AreSteps, AreTracesTo, IsOneMore, IsSourceAt, MayAddTrace, advertiser_by, last_from, last_of, metric_by, vertex_by};
+ghost use Rattle.explanation.specs.Traces.{AreLinksIn, AreLinkSteps, AreSteps, AreTracesTo, IsOneMore, IsSourceAt, IsTraceTo, LeadsTo, MayAddTrace, advertiser_by, last_from, last_of, metric_by, vertex_by};
 
 use crate::layers::Layers;
 use crate::offer::{Offer, OfferKind, Source};
@@ -82,9 +82,12 @@ impl Layers<'_, '_> {
         traces: &mut Vec<Trace>,
     ) -> Result<(), Memory>
         requires { AreAreas self.areas.now }
-        ensures { OnOk result (MayAddTrace self.entry.areas.now target.entry.area
-            target.entry.vertex target.entry.advertiser target.entry.on.now path.now traces.old.items
-            traces.new.items) }
+        ensures { OnOk result (MayAddTrace
+            (IsTraceTo self.entry.areas.now target.entry.area target.entry.vertex
+            target.entry.advertiser target.entry.on.now)
+            (LeadsTo self.entry.areas.now target.entry.area target.entry.vertex
+            target.entry.advertiser)
+            path.now traces.old.items traces.new.items) }
     {
         if path.advertiser != target.advertiser {
             return Ok(());

@@ -1,5 +1,5 @@
 use Rattle.std.proofs.Common.{◌≡◌, ◌++◌, drop}
-use Rattle.explanation.specs.Outside.{offers_in_areas}
+use Rattle.explanation.specs.Networks.{offers_in_areas}
 use Rattle.explanation.proofs.all_offers.add_areas.Given as goal
 
 -- what is there, and what the areas that are left offer, is what all offer

@@ -1,5 +1,5 @@
 use Rattle.std.proofs.Common.{take}
-use Rattle.explanation.specs.Outside.{AreOfNetwork}
+use Rattle.explanation.specs.Networks.{AreOfNetwork}
 use Rattle.explanation.proofs.all_offers.of_network.Given as goal
 
 -- just those of the network among the offers up to here

@@ -1,7 +1,7 @@
 use Rattle.std.proofs.Common.{◌≡◌, List, take, sym, subst, ◌∙◌}
 use Rattle.explanation.specs.declared.offer.Offer.{Offer}
 use Rattle.explanation.specs.Explained.{AddsNetwork, AreNetworks}
-use Rattle.explanation.specs.Outside.{all_offers}
+use Rattle.explanation.specs.Networks.{all_offers}
 use Rattle.explanation.proofs.Candidates.{IsDone, all_done, more_done, none_done}
 use Rattle.explanation.proofs.layers.Layers.explain.Goals as goal
 

@@ -1,5 +1,5 @@
 use Rattle.std.proofs.Common.{take}
-use Rattle.explanation.specs.Outside.{all_offers}
+use Rattle.explanation.specs.Networks.{all_offers}
 use Rattle.explanation.proofs.Candidates.{IsDone}
 use Rattle.explanation.proofs.layers.Layers.explain.Given as goal
 

@@ -1,6 +1,7 @@
-use Rattle.explanation.specs.Outside.{AreOutside}
+use Rattle.std.proofs.Common.{take}
+use Rattle.explanation.proofs.Forwarding.{IsUpTo}
 use Rattle.explanation.proofs.layers.Layers.forward_traces.Given as goal
 
--- all traces so far are those of the AS-external-LSA
+-- the traces so far are those by the offers up to here that are taken
 abbrev pub invariant-loop-by : goal.invariant-loop-by
-invariant-loop-by l = AreOutside l.self l.forwarded.address l.forwarded.offer.now l.forwarded.paths.now l.traces.items
+invariant-loop-by l = IsUpTo l.self l.forwarded.address l.forwarded.offer.now l.forwarded.paths.now (take l.by-index l.by-items) l.traces.items

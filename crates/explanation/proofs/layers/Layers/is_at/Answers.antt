@@ -1,4 +1,4 @@
-use Rattle.std.proofs.Common.{◌≡◌, rules, sym, subst, ◌∙◌, Some, ℕ}
+use Rattle.std.proofs.Common.{◌≡◌, rules, sym, subst, ◌∙◌, ℕ}
 use Rattle.std.specs.Prelude.{IsTrue}
 use Rattle.ospf_types.specs.declared.key.Scope.TheVariants.{Area}
 use Rattle.explanation.specs.declared.offer.OfferKind.TheVariants.{Transit}

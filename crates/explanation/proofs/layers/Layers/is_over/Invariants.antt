@@ -1,8 +1,10 @@
-use Rattle.std.specs.Prelude.{ℕ, Contains}
+use Rattle.std.specs.Prelude.{ℕ, ◌≡◌}
 use Rattle.std.specs.FinMap.{entries}
 use Rattle.ospf_types.specs.declared.config.Interface.{Interface}
+use Rattle.explanation.specs.Offered.{IsOn}
+use Rattle.explanation.proofs.Interfaces.{IsLeft}
 use Rattle.explanation.proofs.layers.Layers.is_over.Given as goal
 
--- the interfaces that are left are some of all
+-- the interface of the path, if it lies on the network, is among those that are left
 abbrev pub invariant-loop-id : goal.invariant-loop-id
-invariant-loop-id l = (e : ℕ × Interface) → Contains l.id-iterator e → Contains (entries l.self.state.now.interfaces) e
+invariant-loop-id l = IsLeft (λ (e : ℕ × Interface). (e.0 ≡ l.wanted) × IsOn l.area l.offer.network e.1) (entries l.self.state.now.interfaces) l.id-iterator

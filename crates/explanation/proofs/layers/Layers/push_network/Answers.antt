@@ -3,7 +3,7 @@ use Rattle.std.specs.Prelude.{option_copied}
 use Rattle.ospf_types.proofs.Elements.{contains_at}
 use Rattle.explanation.specs.declared.offer.Offer.{Offer}
 use Rattle.explanation.specs.Judging.{IsRivalsOf}
-use Rattle.explanation.specs.Outside.{AreOfNetwork}
+use Rattle.explanation.specs.Networks.{AreOfNetwork}
 use Rattle.explanation.proofs.Candidates.{more, one_candidate}
 use Rattle.explanation.proofs.layers.Layers.push_network.Goals as goal
 

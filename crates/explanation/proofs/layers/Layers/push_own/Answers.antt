@@ -10,7 +10,7 @@ returns c =
     let last = c.last_step-last.ensures ∙ ap (λ (v : Vertex). last_from (place.Vertex v) c.args.offer.now) c.vertex.ensures in
     inl (
       record { path = c.args.path.now; steps = c.in_ok-steps.steps },
-      (c.is_over.ensures (search rules), c.in_ok-steps.ensures.items ∙ ap (λ (s : Step). s ∷ []) last),
+      (c.is_over.ensures.0 (search rules), c.in_ok-steps.ensures.items ∙ ap (λ (s : Step). s ∷ []) last),
       refl,
       c.in_ok-push.ensures.items,
     )

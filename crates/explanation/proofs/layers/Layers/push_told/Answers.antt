@@ -1,12 +1,21 @@
-use Rattle.std.proofs.Common.{rules, List, [], ◌∷◌, ◌++◌, Some, ap, ◌∙◌, inl, refl}
+use Rattle.std.proofs.Common.{rules, ℕ, List, [], ◌∷◌, ◌++◌, Some, ap, sym, subst, ◌∙◌, inl, inr, refl}
 use Rattle.std.specs.Prelude.{Contains}
 use Rattle.ospf_types.specs.declared.entry.Vertex.{Vertex}
-use Rattle.ospf_types.specs.declared.entry.Vertex.TheVariants.{Router}
 use Rattle.ospf_types.specs.declared.hop.Path.{Path}
 use Rattle.explanation.specs.declared.trace.Place.TheVariants as place
 use Rattle.explanation.specs.declared.trace.Step.{Step}
+use Rattle.explanation.specs.Outside.{IsToldStep}
 use Rattle.explanation.specs.Traces.{last_from}
+use Rattle.explanation.proofs.Rivals.{some_same}
 use Rattle.explanation.proofs.layers.Layers.push_told.Goals as goal
+
+pub returns-in_default-told_step : goal.returns-in_default-told_step
+returns-in_default-told_step c = inr (
+  refl,
+  λ told has.
+      let same = some_same told.0 c.in-Some.border (sym told.2 ∙ c.in-Some.is) in
+      absurd (c.in_default-told_step.ensures.none told.1 (subst (λ (border : ℕ). IsToldStep c.args.self c.args.told.area border c.args.told.offer.now.source.key.router told.1) same told.3)),
+)
 
 pub returns : goal.returns
 returns c =
@@ -25,10 +34,12 @@ returns c =
         border = c.in-Some.border;
         steps = c.in_ok-steps.steps.items;
         told = told;
+        names = refl;
         steps_are = c.in_ok-steps.ensures;
-        told_is = c.in-Some-told_step.ensures;
+        told_is = c.in-Some-told_step.ensures.some;
         whole = whole;
       },
+      refl,
       among,
       c.in_ok-push-3.ensures.items,
     )

@@ -7,7 +7,7 @@ pub returns-then-is_empty : goal.returns-then-is_empty
 returns-then-is_empty c =
     let t = c.args.target in
     let none = no_items c.in_ok-steps.steps (sym c.is_empty.ensures ∙ c.if-is_empty.true) in
-    inr (refl, λ a names has hop. none_there c.args.self.areas.now c.requires t.area t.vertex c.args.path.now.hop (subst (AreSteps c.args.self.areas.now t.area t.vertex c.args.path.now.hop) none c.in_ok-steps.ensures) a has hop)
+    inr (refl, λ leads. none_there c.args.self.areas.now c.requires t.area t.vertex c.args.path.now.hop (subst (AreSteps c.args.self.areas.now t.area t.vertex c.args.path.now.hop) none c.in_ok-steps.ensures) leads.1.0 leads.1.1 leads.1.2)
 
 pub returns : goal.returns
 returns c = inl (

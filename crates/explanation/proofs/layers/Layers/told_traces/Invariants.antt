@@ -1,8 +1,7 @@
-use Rattle.std.specs.Prelude.{Contains}
-use Rattle.explanation.specs.declared.trace.Trace.{Trace}
-use Rattle.explanation.specs.Outside.{IsTold}
+use Rattle.std.proofs.Common.{take}
+use Rattle.explanation.specs.Outside.{AreToldOver}
 use Rattle.explanation.proofs.layers.Layers.told_traces.Given as goal
 
--- each trace so far is one of the paths, by way of a border router
+-- the traces so far are those for the paths up to here
 abbrev pub invariant-loop-within : goal.invariant-loop-within
-invariant-loop-within l = (t : Trace) → Contains l.traces.items t → Contains l.paths t.path × IsTold l.self l.offer t
+invariant-loop-within l = AreToldOver l.self l.told.area l.told.offer.now l.told.paths.now (take l.within-index l.within-items) l.traces.items

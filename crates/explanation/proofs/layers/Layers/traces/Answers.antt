@@ -1,24 +1,35 @@
-use Rattle.std.proofs.Common.{ℕ, sym, subst}
+use Rattle.std.proofs.Common.{◌<◌, sym, subst, arith}
 use Rattle.ospf_types.specs.declared.key.Scope.{Scope}
 use Rattle.explanation.specs.declared.offer.OfferKind.{OfferKind}
-use Rattle.explanation.specs.Outside.{IsOutside, IsTraceAt}
-use Rattle.explanation.proofs.Candidates.{trace_within}
+use Rattle.explanation.specs.Outside.{AreTracesAs}
+use Rattle.explanation.proofs.Candidates.{forwarded_as, outside_as, within_as}
 use Rattle.explanation.proofs.layers.Layers.traces.Goals as goal
 
 pub returns-then-address-eq0 : goal.returns-then-address-eq0
-returns-then-address-eq0 c = λ t among.
+returns-then-address-eq0 c =
+    let w = c.args.self in
     let o = c.args.offer.now in
-    let is = c.in_ok-traces.ensures t among in
-    (is.0, subst (λ (k : OfferKind). IsTraceAt c.args.self o o.source.scope k t) (sym c.in-AsExternal.is) (subst (λ (address : ℕ). IsOutside c.args.self address o t) (sym c.if-address-eq0.true) is.1))
+    let paths = c.args.paths.now in
+    let traces = c.in_ok-traces.traces.items in
+    subst (λ (k : OfferKind). AreTracesAs w o o.source.scope k paths traces) (sym c.in-AsExternal.is)
+    (outside_as w o paths o.source.scope c.in-AsExternal.field-0 c.in-AsExternal.external traces c.if-address-eq0.true c.in_ok-traces.ensures)
 
 pub returns-in-AsExternal : goal.returns-in-AsExternal
-returns-in-AsExternal c = λ t among.
+returns-in-AsExternal c =
+    let w = c.args.self in
     let o = c.args.offer.now in
-    let is = c.in_ok-traces-2.ensures t among in
-    (is.0, subst (λ (k : OfferKind). IsTraceAt c.args.self o o.source.scope k t) (sym c.in-AsExternal.is) is.1)
+    let paths = c.args.paths.now in
+    let traces = c.in_ok-traces-2.traces.items in
+    let other = c.if-address-eq0.false in
+    let some : 0 < c.in-AsExternal.external.forwarding = omega (arith, other) in
+    subst (λ (k : OfferKind). AreTracesAs w o o.source.scope k paths traces) (sym c.in-AsExternal.is)
+    (forwarded_as w o paths o.source.scope c.in-AsExternal.field-0 c.in-AsExternal.external traces some c.in_ok-traces-2.ensures)
 
 pub returns-in_ok-traces-in-Area : goal.returns-in_ok-traces-in-Area
-returns-in_ok-traces-in-Area c = λ t among.
+returns-in_ok-traces-in-Area c =
+    let w = c.args.self in
     let o = c.args.offer.now in
-    let is = c.in_ok-traces-in-Area.ensures t among in
-    (is.0, subst (λ (scope : Scope). IsTraceAt c.args.self o scope o.kind t) (sym c.in-Area.is) (trace_within c.args.self o c.in-Area.area t o.kind (λ metric external e. c.in_default.not-AsExternal metric external e) is.1))
+    let paths = c.args.paths.now in
+    let traces = c.in_ok-traces-in-Area.traces.items in
+    subst (λ (scope : Scope). AreTracesAs w o scope o.kind paths traces) (sym c.in-Area.is)
+    (within_as w o paths c.in-Area.area traces o.kind (λ metric external e. c.in_default.not-AsExternal metric external e) c.in_ok-traces-in-Area.ensures)

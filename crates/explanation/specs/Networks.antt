@@ -1,0 +1,42 @@
+-- What all databases offer of networks that contain an address, and what becomes of an offer beside the others for its network (RFC 2328, 11.1 and 16).
+use Rattle.std.specs.Prelude.{ℕ, ◌≡◌, ◌↔◌, List, ◌++◌, Contains, Option}
+use Rattle.std.specs.FinMap.{values}
+use Rattle.std.specs.List.{flat_map}
+use Rattle.ospf_types.specs.declared.entry.Entry.{Entry}
+use Rattle.ospf_types.specs.declared.key.Scope.TheVariants.{Area, As}
+use Rattle.ospf_types.specs.declared.prefix.Prefix.{Prefix}
+use Rattle.event_state.specs.States.{database_of, lsas_of}
+use Rattle.intra.specs.Inputs.{AreaValue}
+use Rattle.explanation.specs.declared.fate.Fate.TheVariants.{Taken}
+use Rattle.explanation.specs.declared.judging.Judged.{Judged}
+use Rattle.explanation.specs.declared.layers.Layers.{Layers}
+use Rattle.explanation.specs.declared.offer.Offer.{Offer}
+use Rattle.explanation.specs.declared.offered.ExternalKey.{ExternalKey}
+use Rattle.explanation.specs.Judging.{IsJudged, IsRivalsOf}
+use Rattle.explanation.specs.Offers.{offers_among}
+
+-- what the LSAs of these areas offer of networks that contain the address
+abbrev pub offers_in_areas : ℕ → List AreaValue → List Offer
+offers_in_areas address areas = flat_map (λ (a : AreaValue). offers_among (Area a.id) address (values a.lsas)) areas
+
+-- what all LSAs do: those of the areas in their order, and then the AS-external-LSAs
+abbrev pub all_offers : Layers → ℕ → List Offer
+all_offers w address = offers_in_areas address w.areas.now ++ offers_among As address (lsas_of (database_of w.state.now As))
+
+-- just those of the offers that are of the network
+abbrev pub AreOfNetwork : Prefix → List Offer → List Offer → Type 0
+AreOfNetwork p all found = (o : Offer) → Contains found o ↔ (Contains all o × (o.network ≡ p))
+
+-- what the offer comes to, beside just those of all that are for its network
+pub record IsJudgedAmong (w : Layers) (all : List Offer) (o : Offer) (judged : Judged) : Type 0 where
+  pub among : List Offer
+  pub among_are : AreOfNetwork o.network all among
+  pub internal : Option Entry
+  pub greatest : Option ℕ
+  pub least : Option ExternalKey
+  pub rivals : IsRivalsOf w o.network among internal greatest least
+  pub is : IsJudged w internal greatest least o judged
+
+-- it is taken
+abbrev pub IsTakenAmong : Layers → List Offer → Offer → Type 0
+IsTakenAmong w all o = (cost : Option ℕ) × IsJudgedAmong w all o (record { cost = cost; fate = Taken })
