@@ -1,7 +1,9 @@
 -- What became of offers, one after the other; and traces by the kind of their offer.
 use Rattle.std.proofs.Common.{◌≡◌, ◌<◌, ◌≤◌, ◌+◌, ℕ, List, [], ◌∷◌, ◌++◌, Option, take, length, get_or, refl, sym, ap, subst, ◌∙◌, inl, inr, arith}
 use Rattle.std.specs.Prelude.{Contains}
-use Rattle.std.proofs.lemmas.List.{append-nil, append_assoc, take_all, take_more}
+use Rattle.std.specs.List.Sorted.{IsStrictlySortedBy}
+use Rattle.std.proofs.lemmas.Grind.{flat_map-append}
+use Rattle.std.proofs.lemmas.List.{append-nil, append_assoc, map-append, take_all, take_more}
 use Rattle.std.proofs.lemmas.List.Elements.{Contains-append_left, Contains-append_right, Contains-append_cases, Contains-push, Contains-push_cases}
 use Rattle.ospf_types.proofs.Elements.{contains_more, no_element}
 use Rattle.ospf_types.specs.declared.entry.Entry.{Entry}
@@ -10,6 +12,7 @@ use Rattle.ospf_types.specs.declared.key.Scope.{Scope}
 use Rattle.ospf_types.specs.declared.key.Scope.TheVariants.{Area}
 use Rattle.ospf_types.specs.declared.lsa.External.{External}
 use Rattle.ospf_types.specs.declared.prefix.Prefix.{Prefix}
+use Rattle.ospf_types.specs.Network.{network_cmp}
 use Rattle.explanation.specs.declared.explained.Candidate.{Candidate}
 use Rattle.explanation.specs.declared.layers.Layers.{Layers}
 use Rattle.explanation.specs.declared.offer.Offer.{Offer}
@@ -18,9 +21,10 @@ use Rattle.explanation.specs.declared.offer.OfferKind.TheVariants as kind
 use Rattle.explanation.specs.declared.offered.ExternalKey.{ExternalKey}
 use Rattle.explanation.specs.declared.trace.Trace.{Trace}
 use Rattle.explanation.specs.Judging.{IsJudged, IsRivalsOf}
-use Rattle.explanation.specs.Networks.{AreOfNetwork}
+use Rattle.explanation.specs.Networks.{AreOfNetwork, by_networks, offers_for}
 use Rattle.explanation.specs.Outside.{AreForwarded, AreOutside, AreTracesAs, AreWithin, IsForwarded, IsOutside, LeadsForward, LeadsOutside}
-use Rattle.explanation.specs.Explained.{AddsJudged, AddsNetwork, AreCandidates, AreNetworks, AreTracesFor, IsCandidate, MakesMore}
+use Rattle.explanation.specs.Explained.{AddsJudged, AddsNetwork, AreCandidates, AreInOrder, AreNetworks, AreTracesFor, IsCandidate, MakesMore, offers_of}
+use Rattle.explanation.proofs.OfNetwork.{just_those}
 use Rattle.explanation.proofs.TraceLists.{traces_as}
 
 module _ (w : Layers) (o : Offer) (paths : List Path) where
@@ -91,8 +95,27 @@ module _ (w : Layers) (all : List Offer) where
   pub whole : (group : List Offer) (i : ℕ) (first after : List Candidate) → length group ≤ i → MakesMore w all (take i group) first after → MakesMore w all group first after
   whole group i first after past so_far = subst (λ (os : List Offer). MakesMore w all os first after) (take_all i group past) so_far
 
+  -- their offers in order, one more
+  pub begin_listed : (group : List Offer) (before : List Candidate) → offers_of before ≡ offers_of before ++ take 0 group
+  begin_listed group before = sym (append-nil (offers_of before))
+
+  pub more_listed : (group : List Offer) (i : ℕ) (o : Offer) (first before after : List Candidate) (c : Candidate) → i < length group → o ≡ get_or group i o → c.offer ≡ o → after ≡ before ++ c ∷ []
+      → offers_of before ≡ offers_of first ++ take i group → offers_of after ≡ offers_of first ++ take (i + 1) group
+  more_listed group i o first before after c lt here same added so_far =
+      let cut : take (i + 1) group ≡ take i group ++ o ∷ [] = take_more group i o lt ∙ ap (λ (x : Offer). take i group ++ x ∷ []) (sym here) in
+      ap offers_of added
+      ∙ map-append (λ (x : Candidate). x.offer) before (c ∷ [])
+      ∙ ap (λ (os : List Offer). os ++ c.offer ∷ []) so_far
+      ∙ ap (λ (x : Offer). (offers_of first ++ take i group) ++ x ∷ []) same
+      ∙ append_assoc (offers_of first) (take i group) (o ∷ [])
+      ∙ ap (λ (os : List Offer). offers_of first ++ os) (sym cut)
+
+  pub whole_listed : (group : List Offer) (i : ℕ) (first after : List Candidate) → length group ≤ i → offers_of after ≡ offers_of first ++ take i group → offers_of after ≡ offers_of first ++ group
+  whole_listed group i first after past so_far = so_far ∙ ap (λ (os : List Offer). offers_of first ++ os) (take_all i group past)
+
   -- of the offers of the networks up to here
   pub record IsDone (networks : List Prefix) (candidates : List Candidate) : Type 0 where
+    pub listed : offers_of candidates ≡ by_networks all networks
     pub offers : List Offer
     pub are : AreCandidates w all offers candidates
     pub some : (o : Offer) → Contains offers o → Contains all o
@@ -100,6 +123,7 @@ module _ (w : Layers) (all : List Offer) where
 
   pub none_done : (networks : List Prefix) → IsDone (take 0 networks) []
   none_done networks = record {
+    listed = refl;
     offers = [];
     are = record { sound = λ c among. absurd (no_element c among); complete = λ o among. absurd (no_element o among) };
     some = λ o among. absurd (no_element o among);
@@ -107,18 +131,29 @@ module _ (w : Layers) (all : List Offer) where
   }
 
   pub more_done : (networks : List Prefix) (i : ℕ) (p : Prefix) (before after : List Candidate) → i < length networks → p ≡ get_or networks i p → AddsNetwork w all p before after → IsDone (take i networks) before → IsDone (take (i + 1) networks) after
-  more_done networks i p before after lt here adds done = record {
-    offers = done.offers ++ adds.0;
-    are = adds.2 done.offers done.are;
-    some = λ o among. elim (Contains-append_cases done.offers adds.0 o among) [
-      | inl was ↦ done.some o was
-      | inr new ↦ ((adds.1 o).0 new).0
-    ];
-    every = λ o has among. elim ((contains_more networks i p o.network lt here).0 among) [
-      | inl was ↦ Contains-append_left done.offers adds.0 o (done.every o has was)
-      | inr same ↦ Contains-append_right done.offers adds.0 o ((adds.1 o).1 (has, same))
-    ];
-  }
+  more_done networks i p before after lt here adds done =
+      let group = offers_for p all in
+      let cut : take (i + 1) networks ≡ take i networks ++ p ∷ [] = take_more networks i p lt ∙ ap (λ (q : Prefix). take i networks ++ q ∷ []) (sym here) in
+      let one : by_networks all (p ∷ []) ≡ group = append-nil group in record {
+        listed = adds.1
+            ∙ ap (λ (os : List Offer). os ++ group) done.listed
+            ∙ ap (λ (os : List Offer). by_networks all (take i networks) ++ os) (sym one)
+            ∙ sym (flat_map-append (λ (q : Prefix). offers_for q all) (take i networks) (p ∷ []))
+            ∙ ap (by_networks all) (sym cut);
+        offers = done.offers ++ group;
+        are = adds.0 done.offers done.are;
+        some = λ o among. elim (Contains-append_cases done.offers group o among) [
+          | inl was ↦ done.some o was
+          | inr new ↦ ((just_those p all o).0 new).0
+        ];
+        every = λ o has among. elim ((contains_more networks i p o.network lt here).0 among) [
+          | inl was ↦ Contains-append_left done.offers group o (done.every o has was)
+          | inr same ↦ Contains-append_right done.offers group o ((just_those p all o).1 (has, same))
+        ];
+      }
+
+  pub all_in_order : (networks : List Prefix) (i : ℕ) (candidates : List Candidate) → length networks ≤ i → IsStrictlySortedBy network_cmp networks → IsDone (take i networks) candidates → AreInOrder all candidates
+  all_in_order networks i candidates past ascend done = record { networks = networks; ascend = ascend; listed = done.listed ∙ ap (by_networks all) (take_all i networks past) }
 
   pub all_done : (networks : List Prefix) (i : ℕ) (candidates : List Candidate) → length networks ≤ i → AreNetworks all networks → IsDone (take i networks) candidates → AreCandidates w all all candidates
   all_done networks i candidates past are done =

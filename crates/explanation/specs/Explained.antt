@@ -1,7 +1,9 @@
 -- What is explained of an address (RFC 2328, 11.1 and 16).
-use Rattle.std.specs.Prelude.{ℕ, ◌≡◌, ◌≢◌, List, [], ◌∷◌, ◌++◌, Contains, Option, Some, None}
+use Rattle.std.specs.Prelude.{ℕ, ◌≡◌, ◌≢◌, List, [], ◌∷◌, ◌++◌, Contains, Option, Some, None, map}
+use Rattle.std.specs.List.Sorted.{IsStrictlySortedBy}
 use Rattle.ospf_types.specs.declared.entry.Entry.{Entry}
 use Rattle.ospf_types.specs.declared.prefix.Prefix.{Prefix}
+use Rattle.ospf_types.specs.Network.{network_cmp}
 use Rattle.event_state.specs.States.{State}
 use Rattle.calculation.specs.Calculations.{entry_at}
 use Rattle.route_layers.specs.Layers.{AreActive}
@@ -14,7 +16,7 @@ use Rattle.explanation.specs.declared.offered.ExternalKey.{ExternalKey}
 use Rattle.explanation.specs.declared.trace.Trace.{Trace}
 use Rattle.explanation.specs.Judging.{IsJudged}
 use Rattle.explanation.specs.Layers.{AreLayers}
-use Rattle.explanation.specs.Networks.{AreOfNetwork, IsJudgedAmong, all_offers}
+use Rattle.explanation.specs.Networks.{IsJudgedAmong, all_offers, by_networks, offers_for}
 use Rattle.explanation.specs.Outside.{AreTraces}
 
 -- Of an offer that is taken, a trace for each of the paths that it gives to its network's route. Of others there is none.
@@ -33,6 +35,15 @@ pub record AreCandidates (w : Layers) (all offers : List Offer) (candidates : Li
   pub sound : (c : Candidate) → Contains candidates c → Contains offers c.offer × IsCandidate w all c
   pub complete : (o : Offer) → Contains offers o → (c : Candidate) × Contains candidates c × (c.offer ≡ o)
 
+abbrev pub offers_of : List Candidate → List Offer
+offers_of candidates = map (λ (c : Candidate). c.offer) candidates
+
+-- They stand network by network, by addresses and then by lengths, and those of a network in the order of all offers.
+pub record AreInOrder (all : List Offer) (candidates : List Candidate) : Type 0 where
+  pub networks : List Prefix
+  pub ascend : IsStrictlySortedBy network_cmp networks
+  pub listed : offers_of candidates ≡ by_networks all networks
+
 -- of each offer of a network that contains the address, by what is calculated of the state
 pub record IsExplained (s : State) (address : ℕ) (candidates : List Candidate) : Type 0 where
   pub layers : Layers
@@ -40,6 +51,7 @@ pub record IsExplained (s : State) (address : ℕ) (candidates : List Candidate)
   pub right : AreLayers s layers.calculation.now layers.areas.now
   pub active : AreActive s layers.active.now
   pub candidates_are : AreCandidates layers (all_offers layers address) (all_offers layers address) candidates
+  pub in_order : AreInOrder (all_offers layers address) candidates
 
 -- what became of this offer beside these rivals is added
 abbrev pub AddsJudged : Layers → Option Entry → Option ℕ → Option ExternalKey → Offer → List Candidate → List Candidate → Type 0
@@ -56,7 +68,7 @@ MakesMore w all group before after = (others : List Offer) → AreCandidates w a
 
 -- of all the offers of the network
 abbrev pub AddsNetwork : Layers → List Offer → Prefix → List Candidate → List Candidate → Type 0
-AddsNetwork w all p before after = (group : List Offer) × AreOfNetwork p all group × MakesMore w all group before after
+AddsNetwork w all p before after = MakesMore w all (offers_for p all) before after × (offers_of after ≡ offers_of before ++ offers_for p all)
 
 -- the networks of all these offers
 abbrev pub AreNetworks : List Offer → List Prefix → Type 0

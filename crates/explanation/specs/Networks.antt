@@ -1,10 +1,11 @@
 -- What all databases offer of networks that contain an address, and what becomes of an offer beside the others for its network (RFC 2328, 11.1 and 16).
-use Rattle.std.specs.Prelude.{ℕ, ◌≡◌, ◌↔◌, List, ◌++◌, Contains, Option}
+use Rattle.std.specs.Prelude.{ℕ, ◌≡◌, ◌↔◌, List, ◌++◌, Contains, Option, filter}
 use Rattle.std.specs.FinMap.{values}
 use Rattle.std.specs.List.{flat_map}
 use Rattle.ospf_types.specs.declared.entry.Entry.{Entry}
 use Rattle.ospf_types.specs.declared.key.Scope.TheVariants.{Area, As}
 use Rattle.ospf_types.specs.declared.prefix.Prefix.{Prefix}
+use Rattle.ospf_types.specs.RangeChanges.{is_same_prefix}
 use Rattle.event_state.specs.States.{database_of, lsas_of}
 use Rattle.intra.specs.Inputs.{AreaValue}
 use Rattle.explanation.specs.declared.fate.Fate.TheVariants.{Taken}
@@ -22,6 +23,14 @@ offers_in_areas address areas = flat_map (λ (a : AreaValue). offers_among (Area
 -- what all LSAs do: those of the areas in their order, and then the AS-external-LSAs
 abbrev pub all_offers : Layers → ℕ → List Offer
 all_offers w address = offers_in_areas address w.areas.now ++ offers_among As address (lsas_of (database_of w.state.now As))
+
+-- those of the offers that are of the network, in their order
+abbrev pub offers_for : Prefix → List Offer → List Offer
+offers_for p all = filter (λ (o : Offer). is_same_prefix o.network p) all
+
+-- those of each of these networks, one network after the other
+abbrev pub by_networks : List Offer → List Prefix → List Offer
+by_networks all networks = flat_map (λ (p : Prefix). offers_for p all) networks
 
 -- just those of the offers that are of the network
 abbrev pub AreOfNetwork : Prefix → List Offer → List Offer → Type 0

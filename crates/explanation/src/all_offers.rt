@@ -1,6 +1,7 @@
 //! What the databases of a router offer of networks that contain an address.
-ghost use Rattle.std.specs.Prelude.{◌≡◌, ◌↔◌, ◌++◌, IfOk, IsTrue, OnOk};
-ghost use Rattle.explanation.specs.Networks.{AreOfNetwork, all_offers, offers_in_areas};
+ghost use Rattle.std.specs.Prelude.{◌≡◌, ◌++◌, IfOk, OnOk};
+ghost use Rattle.ospf_types.specs.RangeChanges.{is_same_prefix};
+ghost use Rattle.explanation.specs.Networks.{all_offers, offers_for, offers_in_areas};
 
 use crate::layers::Layers;
 use crate::offer::Offer;
@@ -37,13 +38,13 @@ fn add_areas(areas: &[AreaInputs<'_>], address: u32, offers: &mut Vec<Offer>) ->
     Ok(())
 }
 
-/// Those of the offers that are of the network.
+/// Those of the offers that are of the network, in their order.
 pub(crate) fn of_network(
     alloc: Global,
     network: Prefix,
     offers: &[Offer],
 ) -> Result<Vec<Offer>, Memory>
-    ensures { IfOk result (λ found. AreOfNetwork network offers.now found.items) }
+    ensures { IfOk result (λ found. found.items ≡ offers_for network offers.now) }
 {
     let mut found = Vec::new(alloc);
     for offer in offers {
@@ -55,7 +56,7 @@ pub(crate) fn of_network(
 }
 
 fn is_of(network: Prefix, offer: &Offer) -> bool
-    ensures { IsTrue result ↔ (offer.now.network ≡ network) }
+    ensures { result ≡ is_same_prefix offer.now.network network }
 {
     offer.network == network
 }

@@ -1,11 +1,13 @@
 //! Why the routing table has what it has for an address (RFC 2328, 11.1 and 16).
 ghost use Rattle.std.specs.Prelude.{IfNone, IfOk, IfSome, OnOk, option_copied};
+ghost use Rattle.std.specs.List.Sorted.{IsStrictlySortedBy};
+ghost use Rattle.ospf_types.specs.Network.{network_cmp};
 ghost use Rattle.calculation.specs.Calculations.{IsCalculationOf};
 ghost use Rattle.event_core.specs.Cores.{IsCurrent, state_of};
 ghost use Rattle.explanation.specs.Layers.{AreAreas};
 ghost use Rattle.explanation.specs.Networks.{all_offers};
 ghost use Rattle.explanation.specs.Outside.{AreTraces};
-ghost use Rattle.explanation.specs.Explained.{AddsJudged, AddsNetwork, AreCandidates, AreNetworks, AreTracesFor, IsExplained};
+ghost use Rattle.explanation.specs.Explained.{AddsJudged, AddsNetwork, AreCandidates, AreInOrder, AreNetworks, AreTracesFor, IsExplained};
 
 use crate::all_offers::of_network;
 use crate::fate::Fate;
@@ -32,7 +34,7 @@ pub struct Candidate {
     /// no path.
     pub cost: Option<u32>,
     pub fate: Fate,
-    /// If it is taken, traces for its paths.
+    /// If it is taken, a trace for each path that it gives to its network's route; else none.
     pub traces: Vec<Trace>,
 }
 
@@ -88,8 +90,10 @@ impl Layers<'_, '_> {
     // What became of each offer.
     fn explain(self, alloc: Global, address: u32) -> Result<Vec<Candidate>, Memory>
         requires { AreAreas self.areas.now }
-        ensures { IfOk result (λ candidates. AreCandidates self.entry
+        ensures right { IfOk result (λ candidates. AreCandidates self.entry
             (all_offers self.entry address) (all_offers self.entry address) candidates.items) }
+        ensures in_order { IfOk result (λ candidates.
+            AreInOrder (all_offers self.entry address) candidates.items) }
     {
         let all = self.all_offers(alloc, address)?;
         let networks = networks_of(alloc, &all)?;
@@ -188,7 +192,8 @@ impl Layers<'_, '_> {
 
 // The networks of the offers, ascending, each once.
 fn networks_of(alloc: Global, offers: &[Offer]) -> Result<Vec<Prefix>, Memory>
-    ensures { IfOk result (λ networks. AreNetworks offers.now networks.items) }
+    ensures all { IfOk result (λ networks. AreNetworks offers.now networks.items) }
+    ensures ascend { IfOk result (λ networks. IsStrictlySortedBy network_cmp networks.items) }
 {
     let mut networks = Vec::with_capacity(alloc, offers.len())?;
     for offer in offers {

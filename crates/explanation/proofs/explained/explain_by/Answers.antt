@@ -28,5 +28,6 @@ returns c =
         areas_are = c.deref.ensures.value ∙ c.in_ok-areas.ensures ∙ ap (λ (trees : List AreaTreeValue). areas_with s s.config.areas trees) c.trees.ensures;
       };
       active = subst (λ (active : List ℕ). AreActive s active) (sym c.as_slice.ensures) c.in_ok-active.ensures;
-      candidates_are = c.in_ok-candidates.ensures;
+      candidates_are = c.in_ok-candidates.ensures.right;
+      in_order = c.in_ok-candidates.ensures.in_order;
     }

@@ -1,8 +1,10 @@
 use Rattle.std.proofs.Common.{◌≡◌, List, take, sym, subst, ◌∙◌}
+use Rattle.std.specs.List.Sorted.{IsStrictlySortedBy}
+use Rattle.ospf_types.specs.Network.{network_cmp}
 use Rattle.explanation.specs.declared.offer.Offer.{Offer}
 use Rattle.explanation.specs.Explained.{AddsNetwork, AreNetworks}
 use Rattle.explanation.specs.Networks.{all_offers}
-use Rattle.explanation.proofs.Candidates.{IsDone, all_done, more_done, none_done}
+use Rattle.explanation.proofs.Candidates.{IsDone, all_done, all_in_order, more_done, none_done}
 use Rattle.explanation.proofs.layers.Layers.explain.Goals as goal
 
 pub loop-network-init : goal.loop-network-init
@@ -18,9 +20,15 @@ loop-network-preserved c =
     let adds = subst (λ (offers : List Offer). AddsNetwork c.args.self offers c.network-item.result c.loop-network.candidates.items c.push_network.new.candidates.items) listed c.in_ok-push_network.ensures in
     more_done c.args.self all c.deref-network-items.result.now c.loop-network.network-index c.network-item.result c.loop-network.candidates.items c.push_network.new.candidates.items c.loop-network-test.true c.network-item.is adds c.loop-network.invariant
 
-pub returns : goal.returns
-returns c =
+pub returns-clause-right : goal.returns-clause-right
+returns-clause-right c =
     let all = all_offers c.args.self c.args.address in
     let listed : c.deref.result.now ≡ all = c.deref.ensures.value ∙ c.in_ok-all.ensures in
-    let are = subst (AreNetworks all) (sym c.deref-network-items.ensures.value) (subst (λ (offers : List Offer). AreNetworks offers c.in_ok-networks.networks.items) listed c.in_ok-networks.ensures) in
+    let are = subst (AreNetworks all) (sym c.deref-network-items.ensures.value) (subst (λ (offers : List Offer). AreNetworks offers c.in_ok-networks.networks.items) listed c.in_ok-networks.ensures.all) in
     all_done c.args.self all c.deref-network-items.result.now c.loop-network.network-index c.loop-network.candidates.items c.loop-network-test.false are c.loop-network.invariant
+
+pub returns-clause-in_order : goal.returns-clause-in_order
+returns-clause-in_order c =
+    let all = all_offers c.args.self c.args.address in
+    let ascend = subst (IsStrictlySortedBy network_cmp) (sym c.deref-network-items.ensures.value) c.in_ok-networks.ensures.ascend in
+    all_in_order c.args.self all c.deref-network-items.result.now c.loop-network.network-index c.loop-network.candidates.items c.loop-network-test.false ascend c.loop-network.invariant

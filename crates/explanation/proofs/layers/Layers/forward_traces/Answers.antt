@@ -5,8 +5,9 @@ use Rattle.ospf_types.specs.declared.prefix.Prefix.{Prefix}
 use Rattle.explanation.specs.declared.offer.Offer.{Offer}
 use Rattle.explanation.specs.declared.trace.Trace.{Trace}
 use Rattle.explanation.specs.Judging.{IsRivalsOf}
-use Rattle.explanation.specs.Networks.{AreOfNetwork, IsTakenAmong, all_offers}
+use Rattle.explanation.specs.Networks.{AreOfNetwork, IsTakenAmong, all_offers, offers_for}
 use Rattle.explanation.proofs.Forwarding.{IsUpTo, all_up_to, matching, more_up_to, same_up_to}
+use Rattle.explanation.proofs.OfNetwork.{just_those}
 use Rattle.explanation.proofs.OneFate.{one_fate, taken_among}
 use Rattle.explanation.proofs.layers.Layers.forward_traces.Goals as goal
 use Rattle.explanation.proofs.layers.Layers.forward_traces.Goals.{then-is_taken+in_ok-push_by, else-is_taken}
@@ -23,7 +24,7 @@ loop-by-preserved c =
     let r = c.rivals-rivals.result in
     let judged = c.judge-judged.result in
     let listed : c.deref.result.now ≡ all = c.deref.ensures.value ∙ c.in_ok-all.ensures ∙ ap (all_offers w) c.address.ensures.value in
-    let of = subst (λ (os : List Offer). AreOfNetwork network os offers) listed (subst (AreOfNetwork network c.deref.result.now) (sym c.deref-by-items.ensures.value) c.in_ok-offers.ensures) in
+    let of = subst (AreOfNetwork network (all_offers w network.address)) (sym (c.deref-by-items.ensures.value ∙ c.in_ok-offers.ensures ∙ ap (offers_for network) listed)) (just_those network (all_offers w network.address)) in
     let rivals = subst (λ (os : List Offer). IsRivalsOf w network os (option_copied r.internal) r.greatest r.least) (c.deref-2.ensures.value ∙ sym c.deref-by-items.ensures.value) c.rivals-rivals.ensures in
     let is = (of by).0 (contains_at offers i by c.loop-by-test.true c.by-item.is) in
     elim c.if-is_taken.branch [
@@ -49,5 +50,5 @@ returns c =
     let network = c.in-Some.network in
     let offers = c.deref-by-items.result.now in
     let listed : c.deref.result.now ≡ all_offers w network.address = c.deref.ensures.value ∙ c.in_ok-all.ensures ∙ ap (all_offers w) c.address.ensures.value in
-    let of = subst (λ (os : List Offer). AreOfNetwork network os offers) listed (subst (AreOfNetwork network c.deref.result.now) (sym c.deref-by-items.ensures.value) c.in_ok-offers.ensures) in
+    let of = subst (AreOfNetwork network (all_offers w network.address)) (sym (c.deref-by-items.ensures.value ∙ c.in_ok-offers.ensures ∙ ap (offers_for network) listed)) (just_those network (all_offers w network.address)) in
     all_up_to w f.address f.offer.now f.paths.now network (sym c.matched.ensures ∙ c.in-Some.is) offers of c.loop-by.by-index c.loop-by.traces.items c.loop-by-test.false c.loop-by.invariant
