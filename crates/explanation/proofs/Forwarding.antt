@@ -61,7 +61,7 @@ module _ (w : Layers) (address : ℕ) (o : Offer) (paths : List Path) where
           → IsAdded (take i inners) first before → MayAddInner address o paths by inner before after → IsAdded (take (i + 1) inners) first after
       more_added i inner first before after lt here has so_far (inl added) =
           let t = added.0 in
-          let is = are.sound inner has in
+          let is = are.just.sound inner has in
           let toward_is : IsToward w address o by t = record { area = area; entry = e; inner = inner; route = route; among = is.0; within = is.1; path_is = added.1; whole = added.3 } in record {
             added = so_far.added ++ t ∷ [];
             whole = added.4 ∙ ap (λ (ts : List Trace). ts ++ t ∷ []) so_far.whole ∙ append_assoc first so_far.added (t ∷ []);
@@ -90,7 +90,7 @@ module _ (w : Layers) (address : ℕ) (o : Offer) (paths : List Path) where
           complete = λ path among leads.
               let here : leads.area ≡ area = one_area leads.area area (sym leads.route.0 ∙ route.0) in
               let same : leads.entry ≡ e = some_same leads.entry e (sym leads.route.1 ∙ route.1) in
-              let found = are.complete leads.within (subst (λ (x : Entry). Contains x.paths leads.within) same leads.among) (subst (λ (a : ℕ). LeadsOver w a by leads.within) here leads.leads) in
+              let found = are.just.complete leads.within (subst (λ (x : Entry). Contains x.paths leads.within) same leads.among) (subst (λ (a : ℕ). LeadsOver w a by leads.within) here leads.leads) in
               let is : path ≡ external_path o (toward address found.0.path.hop) = leads.path_is ∙ ap (λ (p : Path). external_path o (toward address p.hop)) (sym found.2) in
               let one = subst (λ (ts : List Trace). Contains ts found.0) (sym (take_all i inners past)) found.1 in
               subst (HasTrace done.added) (sym is) (done.complete found.0 one (subst (Contains paths) is among));

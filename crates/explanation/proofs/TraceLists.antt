@@ -1,9 +1,9 @@
 -- Traces of the paths of a route, one path after the other.
-use Rattle.std.proofs.Common.{Vec, true, false, ◌≡◌, ◌≢◌, ◌<◌, ◌≤◌, ◌+◌, ℕ, List, [], ◌∷◌, ◌++◌, take, length, get_or, sym, ap, subst, ◌∙◌, inl, inr}
+use Rattle.std.proofs.Common.{Vec, true, false, ◌≡◌, ◌≢◌, ◌<◌, ◌≤◌, ◌+◌, ℕ, List, [], ◌∷◌, ◌++◌, take, length, get_or, refl, sym, ap, subst, ◌∙◌, inl, inr}
 use Rattle.std.specs.Prelude.{◌==◌, Contains}
 use Rattle.std.specs.Vec.{vec_len}
 use Rattle.std.proofs.lemmas.Bool.{eqb-true}
-use Rattle.std.proofs.lemmas.List.{nil_from_length, take_all}
+use Rattle.std.proofs.lemmas.List.{nil_from_length, take_all, take_more}
 use Rattle.std.proofs.lemmas.List.Elements.{Contains-append_left, Contains-push, Contains-push_cases}
 use Rattle.ospf_types.proofs.Elements.{contains_more, no_element}
 use Rattle.ospf_types.specs.declared.entry.Vertex.{Vertex}
@@ -14,7 +14,7 @@ use Rattle.tree_paths.specs.LeastPaths.{HasHop, IsPathOver}
 use Rattle.intra.specs.Inputs.{AreaValue}
 use Rattle.explanation.specs.declared.trace.Trace.{Trace}
 use Rattle.explanation.specs.Layers.{AreAreas, HasArea}
-use Rattle.explanation.specs.Traces.{AreJustTraces, AreLinkSteps, AreSteps, HasTrace, MayAddTrace}
+use Rattle.explanation.specs.Traces.{AreInTurn, AreJustTraces, AreLinkSteps, AreSteps, AreTracesInTurn, HasTrace, MayAddTrace}
 
 pub no_items : {A B : Type 0} (v : Vec A B) → (vec_len v == 0) ≡ true → v.items ≡ []
 no_items v none = nil_from_length v.items (sym v.ok.0 ∙ eqb-true (vec_len v) 0 none)
@@ -49,32 +49,60 @@ each_more Is before after t is all new x among = elim (Contains-push_cases befor
   | inr same ↦ subst Is same new
 ]
 
+-- ---- in the order of the paths
+
+-- a further path without a trace, and with one
+skip : (paths : List Path) (p : Path) (traces : List Trace) → AreInTurn paths traces → AreInTurn (paths ++ p ∷ []) traces
+skip [] p traces is = inl is
+skip (x ∷ paths) p traces (inl is) = inl (skip paths p traces is)
+skip (x ∷ paths) p traces (inr is) = inr (is.0, is.1, is.2, is.3, skip paths p is.1 is.4)
+
+add : (paths : List Path) (p : Path) (traces : List Trace) (t : Trace) → t.path ≡ p → AreInTurn paths traces → AreInTurn (paths ++ p ∷ []) (traces ++ t ∷ [])
+add [] p traces t same is = inr (t, [], ap (λ (ts : List Trace). ts ++ t ∷ []) is, same, refl)
+add (x ∷ paths) p traces t same (inl is) = inl (add paths p traces t same is)
+add (x ∷ paths) p traces t same (inr is) = inr (is.0, is.1 ++ t ∷ [], ap (λ (ts : List Trace). ts ++ t ∷ []) is.2, is.3, add paths p is.1 t same is.4)
+
 module _ (IsTrace : Trace → Type 0) (Leads : Path → Type 0) where
-  pub no_traces : (paths : List Path) → AreJustTraces IsTrace Leads (take 0 paths) []
+  pub no_traces : (paths : List Path) → AreTracesInTurn IsTrace Leads (take 0 paths) []
   no_traces paths = record {
-    sound = λ t among. absurd (no_element t among);
-    complete = λ path among. absurd (no_element path among);
+    just = record {
+      sound = λ t among. absurd (no_element t among);
+      complete = λ path among. absurd (no_element path among);
+    };
+    in_turn = refl;
   }
 
-  pub more_traces : (paths : List Path) (i : ℕ) (path : Path) (before after : List Trace) → i < length paths → path ≡ get_or paths i path
-      → AreJustTraces IsTrace Leads (take i paths) before → MayAddTrace IsTrace Leads path before after → AreJustTraces IsTrace Leads (take (i + 1) paths) after
-  more_traces paths i path before after lt here are (inl added) = record {
-    sound = each_more (λ (t : Trace). Contains (take (i + 1) paths) t.path × IsTrace t) before after added.0 added.3 (λ t was. let old = are.sound t was in ((contains_more paths i path t.path lt here).1 (inl old.0), old.1)) ((contains_more paths i path added.0.path lt here).1 (inr added.2), added.1);
-    complete = λ p among leads. elim ((contains_more paths i path p lt here).0 among) [
-      | inl was ↦ keeps_trace before (added.0 ∷ []) after p added.3 (are.complete p was leads)
-      | inr new ↦ new_trace before after added.0 p added.3 (added.2 ∙ sym new)
-    ];
-  }
-  more_traces paths i path before after lt here are (inr kept) = record {
-    sound = λ t among. let old = are.sound t (subst (λ (ts : List Trace). Contains ts t) kept.0 among) in ((contains_more paths i path t.path lt here).1 (inl old.0), old.1);
-    complete = λ p among leads. elim ((contains_more paths i path p lt here).0 among) [
-      | inl was ↦ subst (λ (ts : List Trace). HasTrace ts p) (sym kept.0) (are.complete p was leads)
-      | inr new ↦ absurd (kept.1 (subst Leads new leads))
-    ];
-  }
+  module _ (paths : List Path) (i : ℕ) (path : Path) (lt : i < length paths) (here : path ≡ get_or paths i path) where
+    just_more : (before after : List Trace) → AreJustTraces IsTrace Leads (take i paths) before → MayAddTrace IsTrace Leads path before after → AreJustTraces IsTrace Leads (take (i + 1) paths) after
+    just_more before after are (inl added) = record {
+      sound = each_more (λ (t : Trace). Contains (take (i + 1) paths) t.path × IsTrace t) before after added.0 added.3
+          (λ t was. let old = are.sound t was in ((contains_more paths i path t.path lt here).1 (inl old.0), old.1)) ((contains_more paths i path added.0.path lt here).1 (inr added.2), added.1);
+      complete = λ p among leads. elim ((contains_more paths i path p lt here).0 among) [
+        | inl was ↦ keeps_trace before (added.0 ∷ []) after p added.3 (are.complete p was leads)
+        | inr new ↦ new_trace before after added.0 p added.3 (added.2 ∙ sym new)
+      ];
+    }
+    just_more before after are (inr kept) = record {
+      sound = λ t among. let old = are.sound t (subst (λ (ts : List Trace). Contains ts t) kept.0 among) in ((contains_more paths i path t.path lt here).1 (inl old.0), old.1);
+      complete = λ p among leads. elim ((contains_more paths i path p lt here).0 among) [
+        | inl was ↦ subst (λ (ts : List Trace). HasTrace ts p) (sym kept.0) (are.complete p was leads)
+        | inr new ↦ absurd (kept.1 (subst Leads new leads))
+      ];
+    }
 
-  pub all_traces : (paths : List Path) (i : ℕ) (traces : List Trace) → length paths ≤ i → AreJustTraces IsTrace Leads (take i paths) traces → AreJustTraces IsTrace Leads paths traces
-  all_traces paths i traces past are = subst (λ (ps : List Path). AreJustTraces IsTrace Leads ps traces) (take_all i paths past) are
+    turn_more : (before after : List Trace) → AreInTurn (take i paths) before → MayAddTrace IsTrace Leads path before after → AreInTurn (take i paths ++ path ∷ []) after
+    turn_more before after are (inl added) = subst (AreInTurn (take i paths ++ path ∷ [])) (sym added.3) (add (take i paths) path before added.0 added.2 are)
+    turn_more before after are (inr kept) = subst (AreInTurn (take i paths ++ path ∷ [])) (sym kept.0) (skip (take i paths) path before are)
+
+    pub more_traces : (before after : List Trace) → AreTracesInTurn IsTrace Leads (take i paths) before → MayAddTrace IsTrace Leads path before after → AreTracesInTurn IsTrace Leads (take (i + 1) paths) after
+    more_traces before after are adds =
+        let cut : take i paths ++ path ∷ [] ≡ take (i + 1) paths = sym (take_more paths i path lt ∙ ap (λ (x : Path). take i paths ++ x ∷ []) (sym here)) in record {
+          just = just_more before after are.just adds;
+          in_turn = subst (λ (ps : List Path). AreInTurn ps after) cut (turn_more before after are.in_turn adds);
+        }
+
+  pub all_traces : (paths : List Path) (i : ℕ) (traces : List Trace) → length paths ≤ i → AreTracesInTurn IsTrace Leads (take i paths) traces → AreTracesInTurn IsTrace Leads paths traces
+  all_traces paths i traces past are = subst (λ (ps : List Path). AreTracesInTurn IsTrace Leads ps traces) (take_all i paths past) are
 
   pub none_leads : (paths : List Path) → ((path : Path) → Leads path → ⊥) → AreJustTraces IsTrace Leads paths []
   none_leads paths none = record {
@@ -89,3 +117,7 @@ module _ (IsTrace : Trace → Type 0) (Leads : Path → Type 0) where
     sound = λ t among. let is = are.sound t among in (is.0, on t is.1);
     complete = λ path among leads. are.complete path among (back path leads);
   }
+
+  pub turn_as : (IsOther : Trace → Type 0) (LeadsThere : Path → Type 0) (paths : List Path) (traces : List Trace) → ((t : Trace) → IsTrace t → IsOther t) → ((path : Path) → LeadsThere path → Leads path)
+      → AreTracesInTurn IsTrace Leads paths traces → AreTracesInTurn IsOther LeadsThere paths traces
+  turn_as IsOther LeadsThere paths traces on back are = record { just = traces_as IsOther LeadsThere paths traces on back are.just; in_turn = are.in_turn }

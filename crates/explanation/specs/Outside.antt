@@ -29,7 +29,7 @@ use Rattle.explanation.specs.declared.offer.OfferKind.TheVariants as kind
 use Rattle.explanation.specs.declared.trace.Place.TheVariants as place
 use Rattle.explanation.specs.declared.trace.Step.{Step}
 use Rattle.explanation.specs.declared.trace.Trace.{Trace}
-use Rattle.explanation.specs.Traces.{AreJustTraces, AreSteps, HasTrace, IsOver, IsOwnTrace, IsTraceBy, LeadsBy, last_from, last_of}
+use Rattle.explanation.specs.Traces.{AreJustTraces, AreSteps, AreTracesInTurn, HasTrace, IsOver, IsOwnTrace, IsTraceBy, LeadsBy, last_from, last_of}
 
 -- ---- of an offer of an area (16.1, 16.2)
 
@@ -46,9 +46,9 @@ LeadsOver w area o path = (IsOwnStub w o × IsOver w area o path) ⊎ ((IsOwnStu
 abbrev pub IsWithin : Layers → ℕ → Offer → Trace → Type 0
 IsWithin w area o t = (IsOwnStub w o × IsOwnTrace w area o t) ⊎ ((IsOwnStub w o → ⊥) × IsTraceBy w.areas.now area o t)
 
--- one for each of the paths that the offer gives
+-- one for each of the paths that the offer gives, in their order
 abbrev pub AreWithin : Layers → ℕ → Offer → List Path → List Trace → Type 0
-AreWithin w area o paths traces = AreJustTraces (IsWithin w area o) (LeadsOver w area o) paths traces
+AreWithin w area o paths traces = AreTracesInTurn (IsWithin w area o) (LeadsOver w area o) paths traces
 
 -- ---- of an AS-external-LSA without a forwarding address (16.4 (3))
 
@@ -191,20 +191,11 @@ IsOutside w address o t =
 abbrev pub AreOutside : Layers → ℕ → Offer → List Path → List Trace → Type 0
 AreOutside w address o paths traces = AreJustTraces (IsOutside w address o) (LeadsOutside w address o) paths traces
 
--- the path is one that the offer gives
-abbrev pub LeadsAs : Layers → Offer → Scope → OfferKind → Path → Type 0
-LeadsAs w o scope (kind.AsExternal metric external) path = LeadsOutside w external.forwarding o path
-LeadsAs w o (Area area) _ path = LeadsOver w area o path
-LeadsAs w o As _ path = ⊥
-
--- a trace of such a path
-abbrev pub IsTraceAs : Layers → Offer → Scope → OfferKind → Trace → Type 0
-IsTraceAs w o scope (kind.AsExternal metric external) t = IsOutside w external.forwarding o t
-IsTraceAs w o (Area area) _ t = IsWithin w area o t
-IsTraceAs w o As _ t = ⊥
-
+-- by how it is offered, and by the scope of its LSA
 abbrev pub AreTracesAs : Layers → Offer → Scope → OfferKind → List Path → List Trace → Type 0
-AreTracesAs w o scope k paths traces = AreJustTraces (IsTraceAs w o scope k) (LeadsAs w o scope k) paths traces
+AreTracesAs w o scope (kind.AsExternal metric external) paths traces = AreOutside w external.forwarding o paths traces
+AreTracesAs w o (Area area) _ paths traces = AreWithin w area o paths traces
+AreTracesAs w o As _ paths traces = traces ≡ []
 
 -- traces of the offer, one for each of the paths that it gives
 abbrev pub AreTraces : Layers → Offer → List Path → List Trace → Type 0

@@ -85,6 +85,16 @@ pub record AreJustTraces (IsTrace : Trace → Type 0) (Leads : Path → Type 0) 
   pub sound : (t : Trace) → Contains traces t → Contains paths t.path × IsTrace t
   pub complete : (path : Path) → Contains paths path → Leads path → HasTrace traces path
 
+-- the traces are for some of the paths, one for each, in their order
+abbrev pub AreInTurn : List Path → List Trace → Type 0
+AreInTurn [] traces = traces ≡ []
+AreInTurn (path ∷ paths) traces = AreInTurn paths traces ⊎ ((t : Trace) × (rest : List Trace) × (traces ≡ t ∷ rest) × (t.path ≡ path) × AreInTurn paths rest)
+
+-- one trace for each of the paths that leads there, in their order, and no other
+pub record AreTracesInTurn (IsTrace : Trace → Type 0) (Leads : Path → Type 0) (paths : List Path) (traces : List Trace) : Type 0 where
+  pub just : AreJustTraces IsTrace Leads paths traces
+  pub in_turn : AreInTurn paths traces
+
 -- a trace for the path is added, just where it leads there
 abbrev pub MayAddTrace : (Trace → Type 0) → (Path → Type 0) → Path → List Trace → List Trace → Type 0
 MayAddTrace IsTrace Leads path before after =
@@ -93,7 +103,7 @@ MayAddTrace IsTrace Leads path before after =
 
 -- traces to the vertex
 abbrev pub AreTracesTo : List AreaValue → ℕ → Vertex → Option ℕ → List Step → List Path → List Trace → Type 0
-AreTracesTo areas id v advertiser on paths traces = AreJustTraces (IsTraceTo areas id v advertiser on) (LeadsTo areas id v advertiser) paths traces
+AreTracesTo areas id v advertiser on paths traces = AreTracesInTurn (IsTraceTo areas id v advertiser on) (LeadsTo areas id v advertiser) paths traces
 
 -- ---- the traces of an offer
 
@@ -142,4 +152,4 @@ abbrev pub IsOwnTrace : Layers → ℕ → Offer → Trace → Type 0
 IsOwnTrace w area o t = IsOver w area o t.path × (t.steps.items ≡ last_of o ∷ [])
 
 abbrev pub AreOwnTraces : Layers → ℕ → Offer → List Path → List Trace → Type 0
-AreOwnTraces w area o paths traces = AreJustTraces (IsOwnTrace w area o) (IsOver w area o) paths traces
+AreOwnTraces w area o paths traces = AreTracesInTurn (IsOwnTrace w area o) (IsOver w area o) paths traces

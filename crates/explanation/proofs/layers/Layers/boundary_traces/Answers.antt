@@ -19,7 +19,7 @@ returns-in_ok-traces-in-Some c =
       | inl l ↦ subst (λ (id : ℕ). LeadsBy w.areas.now id o path) (one_boundary w o.source.key.router l.1.0 area l.1.1 there) l.1.2
       | inr (inl l) ↦ absurd (l.1.0 area there)
       | inr (inr l) ↦ let some = l.0 in absurd (omega (arith, some))
-    ]) c.in_ok-traces-in-Some.ensures
+    ]) c.in_ok-traces-in-Some.ensures.just
 
 pub returns-in_ok-traces-in-None : goal.returns-in_ok-traces-in-None
 returns-in_ok-traces-in-None c =

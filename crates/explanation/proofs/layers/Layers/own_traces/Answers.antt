@@ -12,8 +12,8 @@ loop-path-init c =
 pub loop-path-preserved : goal.loop-path-preserved
 loop-path-preserved c =
     let o = c.args.offer.now in
-    more_traces (IsOwnTrace c.args.self c.args.area o) (IsOver c.args.self c.args.area o) c.args.paths.now c.loop-path.path-index _ c.loop-path.traces.items c.push_own.new.traces.items c.loop-path-test.true
-    (get_or_default c.args.paths.now c.loop-path.path-index _ _ c.loop-path-test.true) c.loop-path.invariant c.in_ok-push_own.ensures
+    more_traces (IsOwnTrace c.args.self c.args.area o) (IsOver c.args.self c.args.area o) c.args.paths.now c.loop-path.path-index _ c.loop-path-test.true (get_or_default c.args.paths.now c.loop-path.path-index _ _ c.loop-path-test.true)
+    c.loop-path.traces.items c.push_own.new.traces.items c.loop-path.invariant c.in_ok-push_own.ensures
 
 pub returns : goal.returns
 returns c =

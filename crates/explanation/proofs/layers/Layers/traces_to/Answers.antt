@@ -15,8 +15,8 @@ pub loop-path-preserved : goal.loop-path-preserved
 loop-path-preserved c =
     let areas = c.args.self.areas.now in
     let t = c.args.target in
-    more_traces (IsTraceTo areas t.area t.vertex t.advertiser t.on.now) (LeadsTo areas t.area t.vertex t.advertiser) c.args.paths.now c.loop-path.path-index _ c.loop-path.traces.items c.push_trace.new.traces.items c.loop-path-test.true
-    (get_or_default c.args.paths.now c.loop-path.path-index _ _ c.loop-path-test.true) c.loop-path.invariant c.in_ok-push_trace.ensures
+    more_traces (IsTraceTo areas t.area t.vertex t.advertiser t.on.now) (LeadsTo areas t.area t.vertex t.advertiser) c.args.paths.now c.loop-path.path-index _ c.loop-path-test.true (get_or_default c.args.paths.now c.loop-path.path-index _ _ c.loop-path-test.true)
+    c.loop-path.traces.items c.push_trace.new.traces.items c.loop-path.invariant c.in_ok-push_trace.ensures
 
 pub returns : goal.returns
 returns c =
