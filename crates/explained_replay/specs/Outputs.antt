@@ -9,7 +9,7 @@ use Rattle.explanation_lines.specs.Explanations.{IsExplanation}
 use Rattle.ospf_types.specs.declared.key.Dest.{Dest}
 use Rattle.due_reasons.specs.declared.due.DueExplained.{DueExplained}
 use Rattle.due_explanation.specs.Explained.{IsDueExplained, IsDueMetric}
-use Rattle.due_lines.specs.Explanations.{due_explanation_text}
+use Rattle.due_lines.specs.Lines.{due_explanation_text}
 use Rattle.recording.specs.Recordings.{RecordingValue, IsText}
 use Rattle.replay.specs.Inputs.{ReadsAll}
 use Rattle.replay.specs.Pages.{IsRunTo}
@@ -28,7 +28,6 @@ pub record IsAddressAnswer (address : ℕ) (format : Format) (c : CoreValue) (te
 
 -- why the summary for the destination is due in the area, or is not
 pub record IsDueAnswer (area : ℕ) (d : Dest) (format : Format) (c : CoreValue) (text : List ℕ) : Type 0 where
-  pub current : IsCurrent c
   pub due : DueExplained
   pub metric : IsDueMetric (state_of c) area d due.metric
   pub explained : IsDueExplained (state_of c) area d due

@@ -67,7 +67,7 @@ fn answer(alloc: Global, format: Format, question: Question, core: &Core) -> Res
 {
     match question {
         Question::Address(address) => answer_address(alloc, format, address, core),
-        Question::Due(area, dest) => answer_due(alloc, format, area, dest, core),
+        Question::Due(area, dest) => answer_due(alloc, format, area, &dest, core),
     }
 }
 
@@ -99,18 +99,18 @@ fn answer_due(
     alloc: Global,
     format: Format,
     area: u32,
-    dest: Dest,
+    dest: &Dest,
     core: &Core,
 ) -> Result<String, Memory>
-    ensures { IfOk result (λ text. IsAnswer (question.Due area dest) format core.now
+    ensures { IfOk result (λ text. IsAnswer (question.Due area dest.now) format core.now
         (string_bytes text)) }
 {
-    let Some(due) = explain_due(alloc, core, area, dest)? else {
+    let Some(due) = explain_due(alloc, core, area, *dest)? else {
         return Err(Memory);
     };
     let explained = ExplainedDue {
         area,
-        dest,
+        dest: *dest,
         due: &due,
     };
     let mut text = String::new(alloc);
