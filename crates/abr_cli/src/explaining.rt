@@ -1,5 +1,5 @@
 //! The command `explain`.
-ghost use Rattle.std.specs.Prelude.{◌≡◌, ◌×◌, IfErr, IfOk, OnErr};
+ghost use Rattle.std.specs.Prelude.{◌≡◌, IfErr, IfOk, OnErr};
 ghost use Rattle.command_answers.specs.Words.{IsAddress, IsNoNetwork};
 ghost use Rattle.abr_cli.specs.Explaining.{Asks, IsExplainTold, IsWordFault, WritesDest};
 
