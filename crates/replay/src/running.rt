@@ -1,9 +1,10 @@
 //! The run of a recording's lines.
-ghost use Rattle.std.specs.Prelude.{◌≡◌, [], ◌∷◌, ◌+◌, ◌^◌, ◌<◌, ◌≤◌, length, IfOk, OnOk, IfErr, string_bytes};
+ghost use Rattle.std.specs.Prelude.{◌≡◌, ◌≢◌, [], ◌∷◌, ◌+◌, ◌^◌, ◌<◌, ◌≤◌, length, IfOk, OnOk, IfErr, string_bytes};
+ghost use Rattle.event_state.specs.declared.refusal.Refusal.TheVariants as refusal_value;
 ghost use Rattle.recording.specs.Places.{first_lines};
 ghost use Rattle.replay.specs.Advance.{ShowsProgress};
 ghost use Rattle.replay.specs.Lines.{first_number};
-ghost use Rattle.replay.specs.Pages.{Ran, RanPart, RanLine, IsRunTo};
+ghost use Rattle.replay.specs.Pages.{Ran, RanPart, RanLine, IsRunTo, TakesEvent, TakesRoll};
 ghost use Rattle.replay.specs.Runs.{RollsBy};
 ghost use Rattle.replay.specs.Stops.{AreWhole};
 
@@ -12,7 +13,7 @@ use crate::opened::OpenedRecording;
 use crate::page::{Stop, spill};
 use crate::printing::Printing;
 use crate::progress::Progress;
-use event_core::{Base, Core, Refusal};
+use event_core::{Base, Core, Event, Refusal};
 use ospf_types::memory::Memory;
 use output_format::Format;
 use recording::{Line, Version};
@@ -54,9 +55,15 @@ impl OpenedRecording {
         Ok(core)
     }
 
-    /// Runs the lines behind the base, and prints nothing of them. What is returned is the core after the last line.
-    pub fn run_silently<F: io::Write>(self, alloc: Global, is_shown: bool, faults: &mut F) -> Core
-        ensures run { IsRunTo self.core self.lines.items result }
+    /// Runs the lines behind the base, and prints nothing of them. What is returned is the core after the last line. It ends where
+    /// memory runs out over a line: what that would have changed is missing then.
+    pub fn run_silently<F: io::Write>(
+        self,
+        alloc: Global,
+        is_shown: bool,
+        faults: &mut F,
+    ) -> Result<Core, Memory>
+        ensures run { IfOk result (IsRunTo self.core self.lines.items) }
         ensures progress { ShowsProgress is_shown (F.contents faults.old) (F.contents faults.new) }
     {
         let progress = self.progress(is_shown);
@@ -67,11 +74,11 @@ impl OpenedRecording {
         } = self;
         let mut number = number_of_first(version, core.base());
         for line in lines {
-            take_line(&mut core, line);
+            take_line(&mut core, line)?;
             progress.show(alloc, number, faults);
             number += 1;
         }
-        core
+        Ok(core)
     }
 
     // How much is done, of all the lines of the recording.
@@ -129,21 +136,47 @@ fn run_line(
     }
 }
 
-// Runs a line.
-fn take_line(core: &mut Core, line: Line)
-    ensures { IsRunTo core.old (line ∷ []) core.new }
+// Runs a line. What is found for an address is not printed, but that something is found is a part of the run.
+fn take_line(core: &mut Core, line: Line) -> Result<(), Memory>
+    ensures { OnOk result (IsRunTo core.old (line ∷ []) core.new) }
 {
     match line {
-        Line::Event(event) => {
-            let _ = core.apply(event);
-        }
-        // What is found is not printed, but that something is found is a part of the run.
+        Line::Event(event) => take_event(core, event),
         Line::Lookup(address) => {
             let _ = core.table().lookup(address);
+            Ok(())
         }
-        Line::Roll => {
-            let _ = roll(core);
-        }
+        Line::Roll => take_roll(core),
+    }
+}
+
+// Applies an event.
+fn take_event(core: &mut Core, event: Event) -> Result<(), Memory>
+    ensures { OnOk result (TakesEvent core.old event core.new) }
+{
+    match core.apply(event) {
+        Ok(_) => Ok(()),
+        Err(refusal) => unless_memory(refusal),
+    }
+}
+
+// An error where the refusal is for want of memory.
+fn unless_memory(refusal: Refusal) -> Result<(), Memory>
+    ensures { OnOk result (refusal ≢ refusal_value.Memory) }
+{
+    if refusal == Refusal::Memory {
+        return Err(Memory);
+    }
+    Ok(())
+}
+
+// Rolls the core. That is refused where memory runs out, and where it ran out before: only then a table is behind.
+fn take_roll(core: &mut Core) -> Result<(), Memory>
+    ensures { OnOk result (TakesRoll core.old core.new) }
+{
+    match roll(core) {
+        Ok(_) => Ok(()),
+        Err(_) => Err(Memory),
     }
 }
 
