@@ -1,13 +1,14 @@
 //! The graph of an area and its shortest-path tree, which stay together.
-ghost use Rattle.std.specs.Prelude.{◌≡◌, ◌≤◌, ◌<◌, [], Some, true, OnOk, OnErr, IfOk, IfSome, option_map};
+ghost use Rattle.std.specs.Prelude.{◌≡◌, ◌≢◌, ◌≤◌, ◌<◌, [], Some, true, OnOk, OnErr, IfOk, IfSome, option_map};
 ghost use Rattle.std.specs.FinMap as map;
+ghost use Rattle.std.specs.List.{AllPairs};
 ghost use Rattle.std.specs.List.Sorted.{IsStrictlySortedBy};
 ghost use Rattle.ospf_types.specs.Lsa.{key_of};
 ghost use Rattle.ospf_types.specs.Hops.{hop_cmp};
 ghost use Rattle.spf.specs.Maps.{most_distance};
 ghost use Rattle.spf.specs.TreeValues.{AreOthersKept, listed_hops};
 ghost use Rattle.tree_paths.specs.LeastPaths.{IsPathOver, links_at};
-ghost use Rattle.vertex_graph.specs.Graphs.{most_routers};
+ghost use Rattle.vertex_graph.specs.Graphs.{AreLinksFrom, most_routers};
 ghost use Rattle.area_trees.specs.Areas.{FollowsInterfaces, FollowsLsas, HasBoundedWork, IsBuiltByWork, IsBuiltFor, IsStanding, IsStandingKey, IsTreeBut, IsTreeIn, IsTreeOfSome, IsWorkBetween, NamesChanged, vertex_of};
 
 use crate::area_graph::AreaGraph;
@@ -167,6 +168,14 @@ impl AreaTree {
         ensures in_order { IsStrictlySortedBy hop_cmp result.now }
     {
         self.tree.hops_at(vertex)
+    }
+
+    /// The links out of a vertex that both ends have (RFC 2328, 16.1 (2b)), each once; none where it is not there.
+    pub fn links_from(&self, vertex: Vertex) -> &[Link]
+        ensures exact { AreLinksFrom self.now.area.graph vertex result.now }
+        ensures each_once { AllPairs (λ k l. k ≢ l) result.now }
+    {
+        self.area.graph().links_from(vertex)
     }
 
     /// The links of a path of least cost from the root to the vertex, in their order, by which it has this next hop (RFC 2328,

@@ -1,8 +1,9 @@
 //! Which area is asked for, and whether summaries are sent into it.
-ghost use Rattle.std.specs.Prelude.{◌≡◌, ◌≢◌, ◌↔◌, ℕ, Contains, IsTrue, option_copied};
+ghost use Rattle.std.specs.Prelude.{◌≡◌, ◌↔◌, Contains, IsTrue, option_copied};
 ghost use Rattle.due_reasons.specs.Reasons.{AreSeveral, area_with};
 
 use ospf_types::config::AreaConfig;
+use summaries::has_other;
 
 /// The first area with this Area ID.
 pub(crate) fn find_area(areas: &[AreaConfig], id: u32) -> Option<&AreaConfig>
@@ -24,19 +25,6 @@ pub(crate) fn are_several(active: &[u32]) -> bool
         Some(first) => has_other(active, *first),
         None => false,
     }
-}
-
-// Whether another area is active.
-fn has_other(active: &[u32], area: u32) -> bool
-    ensures { IsTrue result
-        ↔ ((another : ℕ) × Contains active.now another × (another ≢ area)) }
-{
-    for another in active {
-        if *another != area {
-            return true;
-        }
-    }
-    false
 }
 
 /// Whether the area is active.

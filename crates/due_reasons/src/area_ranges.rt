@@ -1,7 +1,7 @@
 //! The ranges of the areas (RFC 2328, 3.5): which of them has a network, and which is advertised.
 ghost use Rattle.std.specs.Prelude.{◌↔◌, IfNone, IfSome, IsTrue};
 ghost use Rattle.active_ranges.specs.Active.{HasRange};
-ghost use Rattle.summaries.specs.Giving.{Advertises, IsOutside};
+ghost use Rattle.summaries.specs.Giving.{IsOutside};
 ghost use Rattle.due_reasons.specs.Sources.{HasRangeAround, IsRangeAround, IsRangeOf};
 
 use ospf_types::config::AreaConfig;
@@ -42,18 +42,6 @@ pub(crate) fn has_range(area: &AreaConfig, prefix: Prefix) -> bool
 {
     for range in area.ranges.as_slice() {
         if range.prefix == prefix {
-            return true;
-        }
-    }
-    false
-}
-
-/// Whether the area has an advertised range with the prefix.
-pub(crate) fn advertises(area: &AreaConfig, prefix: Prefix) -> bool
-    ensures { IsTrue result ↔ Advertises area.now prefix }
-{
-    for range in area.ranges.as_slice() {
-        if range.prefix == prefix && range.advertise {
             return true;
         }
     }

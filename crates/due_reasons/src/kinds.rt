@@ -5,16 +5,14 @@ ghost use Rattle.ospf_types.specs.declared.key.Dest.TheVariants as dest_value;
 ghost use Rattle.due_reasons.specs.Sources.{IsEntrySource, IsInterFate, IsIntraFate, IsPreferredSource, IsRangeFate, IsRangeSource, IsRouteFate};
 ghost use Rattle.due_reasons.specs.declared.due.SourceKind.TheVariants as source_kind;
 
-use crate::area_ranges::{advertises, has_range, range_around};
+use crate::area_ranges::{has_range, range_around};
 use crate::due::{DueFate, DueSource, SourceKind};
 use external::Preferred;
 use ospf_types::config::AreaConfig;
 use ospf_types::key::Dest;
+use ospf_types::lsa::LS_INFINITY;
 use ospf_types::prefix::Prefix;
-use summaries::SummaryInputs;
-
-/// The metric of a destination that is not reached (RFC 2328, appendix B).
-const LS_INFINITY: u32 = 0xff_ffff;
+use summaries::{SummaryInputs, advertises};
 
 /// The intra-area route of a network.
 pub(crate) fn intra_source(inputs: &SummaryInputs<'_>, network: Prefix) -> Option<DueSource>

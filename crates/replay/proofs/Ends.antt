@@ -117,7 +117,7 @@ module _ (v : Version) (old new : CoreValue) (lines : List Line) (p : Printing) 
 
   journal_output : IsOutput (record { version = v; base = old.base; lines = lines }) p (taken p.format (first_number v old.base)).0 journal
   journal_output =
-      let (answers, text, run) = taken p.format (first_number v old.base) in
+      let (answers, text, run, memory) = taken p.format (first_number v old.base) in
       record {
         printed = text;
         closed = new;

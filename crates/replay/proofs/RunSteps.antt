@@ -1,7 +1,8 @@
 -- Runs of lines, and one line more.
-use Rattle.std.proofs.Common.{◌≡◌, ℕ, suc, ◌≤◌, ◌+◌, List, [], ◌∷◌, ◌++◌, length, take, Option, refl, sym, ap, subst, ◌∙◌, append_assoc, append-nil, arith}
+use Rattle.std.proofs.Common.{◌≡◌, ℕ, suc, ◌≤◌, ◌+◌, List, [], ◌∷◌, ◌++◌, All, length, take, Option, refl, sym, ap, subst, ◌∙◌, append_assoc, append-nil, arith}
 use Rattle.std.specs.Prelude.{Result, Ok, Err, IfOk, IfErr, OnOk, OnErr}
 use Rattle.std.proofs.lemmas.List.{length-append, take-append-le, take_all}
+use Rattle.std.proofs.lemmas.List.Elements.{All-append, All-cons, All-nil}
 use Rattle.output_format.specs.declared.Format.{Format}
 use Rattle.event_state.specs.declared.event.Event.{Event}
 use Rattle.event_state.specs.declared.refusal.Refusal.{Refusal}
@@ -14,7 +15,7 @@ use Rattle.recording.specs.declared.line.Line.{Line}
 use Rattle.recording.specs.declared.line.Line.TheVariants as line
 use Rattle.replay.specs.Lines.{lookup_line, answer_line, roll_line}
 use Rattle.replay.specs.Runs.{OfEvent, OfRoll, Answers, RollsBy, Prints, text_of_answer}
-use Rattle.replay.specs.Pages.{Adds, AddsPart, RanLine, Ran, RanPart, IsRunTo}
+use Rattle.replay.specs.Pages.{Adds, AddsPart, RanLine, Ran, RanPart, HadMemory, IsRunTo}
 use Rattle.replay.specs.Stops.{AreWhole}
 use Rattle.replay.specs.declared.page.Stop.{Stop}
 use Rattle.replay.specs.declared.page.Stop.TheVariants as stop
@@ -72,19 +73,21 @@ lookup_ran format old table number l address before after is same (found, matche
   lines = lookup_whole format number address old.table.serial found;
 }
 
-pub event_taken : (old new : CoreValue) (l : Line) (e : Event) (answer : Result Reply Refusal) → l ≡ line.Event e → Applies old e answer new → IsRunTo old (l ∷ []) new
-event_taken old new l e answer is applies format number =
-    subst (λ (x : Line). (answers : Answers) × (text : List ℕ) × Prints format old number (x ∷ []) answers text new) (sym is) (OfEvent answer ∷ [], answer_line format number answer, event_prints format old new number e answer applies)
+pub event_taken : (old new : CoreValue) (l : Line) (e : Event) (answer : Result Reply Refusal) → l ≡ line.Event e → Applies old e answer new → HadMemory (OfEvent answer) → IsRunTo old (l ∷ []) new
+event_taken old new l e answer is applies memory format number =
+    subst (λ (x : Line). (answers : Answers) × (text : List ℕ) × Prints format old number (x ∷ []) answers text new × All HadMemory answers) (sym is)
+    (OfEvent answer ∷ [], answer_line format number answer, event_prints format old new number e answer applies, All-cons HadMemory (OfEvent answer) [] memory (All-nil HadMemory))
 
-pub roll_taken : (old new : CoreValue) (l : Line) (answer : Result ℕ Refusal) → l ≡ line.Roll → RollsBy old answer new → IsRunTo old (l ∷ []) new
-roll_taken old new l answer is rolls format number =
-    subst (λ (x : Line). (answers : Answers) × (text : List ℕ) × Prints format old number (x ∷ []) answers text new) (sym is) (OfRoll answer ∷ [], roll_line format number answer, roll_prints format old new number answer rolls)
+pub roll_taken : (old new : CoreValue) (l : Line) (answer : Result ℕ Refusal) → l ≡ line.Roll → RollsBy old answer new → HadMemory (OfRoll answer) → IsRunTo old (l ∷ []) new
+roll_taken old new l answer is rolls memory format number =
+    subst (λ (x : Line). (answers : Answers) × (text : List ℕ) × Prints format old number (x ∷ []) answers text new × All HadMemory answers) (sym is)
+    (OfRoll answer ∷ [], roll_line format number answer, roll_prints format old new number answer rolls, All-cons HadMemory (OfRoll answer) [] memory (All-nil HadMemory))
 
 pub lookup_taken : (old : CoreValue) (table : TableValue) (l : Line) (address : ℕ) (found : Match) → l ≡ line.Lookup address → table ≡ old.table → IsMatch table.items address found
     → IsRunTo old (l ∷ []) old
 lookup_taken old table l address found is same matched format number =
-    subst (λ (x : Line). (answers : Answers) × (text : List ℕ) × Prints format old number (x ∷ []) answers text old) (sym is)
-    ([], lookup_line format number address old.table.serial found, lookup_prints format old number address found (subst (λ (t : TableValue). IsMatch t.items address found) same matched))
+    subst (λ (x : Line). (answers : Answers) × (text : List ℕ) × Prints format old number (x ∷ []) answers text old × All HadMemory answers) (sym is)
+    ([], lookup_line format number address old.table.serial found, lookup_prints format old number address found (subst (λ (t : TableValue). IsMatch t.items address found) same matched), All-nil HadMemory)
 
 -- ---- one run behind the other
 
@@ -206,9 +209,9 @@ taking_more first number old mid new lines rest more l h next line = record {
   done = h.done ++ l ∷ [];
   left = h.left ∙ ap (λ w. h.done ++ w) next ∙ sym (append_assoc h.done (l ∷ []) more);
   run = λ format number.
-      let (ps, t, run) = h.run format number in
-      let (qs, u, one) = line format (number + length h.done) in
-      (ps ++ qs, t ++ u, prints_more format old mid new number h.done (l ∷ []) ps qs t u run one);
+      let (ps, t, run, before) = h.run format number in
+      let (qs, u, one, now) = line format (number + length h.done) in
+      (ps ++ qs, t ++ u, prints_more format old mid new number h.done (l ∷ []) ps qs t u run one, All-append HadMemory ps qs before now);
 }
 
 -- the number of a line that is left is not the last of all numbers

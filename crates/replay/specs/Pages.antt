@@ -1,10 +1,11 @@
 -- The page: the end of what is printed, which is not yet written.
-use Rattle.std.specs.Prelude.{ℕ, ◌≡◌, ◌++◌, List, [], ◌∷◌, Option, take}
+use Rattle.std.specs.Prelude.{ℕ, ◌≡◌, ◌≢◌, ◌++◌, List, [], ◌∷◌, All, Option, Ok, Err, take}
 use Rattle.std.specs.Io.KnownBytes.{Appends}
 use Rattle.output_format.specs.declared.Format.{Format}
 use Rattle.event_core.specs.Cores.{CoreValue}
+use Rattle.event_state.specs.declared.refusal.Refusal.TheVariants as refusal
 use Rattle.recording.specs.declared.line.Line.{Line}
-use Rattle.replay.specs.Runs.{Answers, Prints}
+use Rattle.replay.specs.Runs.{Answer, Answers, OfEvent, OfRoll, Prints}
 use Rattle.replay.specs.Stops.{AreWhole, IsBeginning}
 use Rattle.replay.specs.declared.page.Stop.{Stop}
 
@@ -49,6 +50,13 @@ pub record RanPart (why : Stop) (format : Format) (old : CoreValue) (number : �
   pub run : Prints format old number (take count lines) answers text now
   pub part : AddsPart why from to (before ++ text)
 
--- the lines lead from one core to the other, whatever their numbers and in whatever form they are printed
+-- memory did not run out over this line: an event was taken, or refused for another reason, and a roll was done (it is refused for nothing else)
+abbrev pub HadMemory : Answer → Type 0
+HadMemory (OfEvent (Ok reply)) = Unit {0}
+HadMemory (OfEvent (Err why)) = why ≢ refusal.Memory
+HadMemory (OfRoll (Ok serial)) = Unit {0}
+HadMemory (OfRoll (Err why)) = ⊥
+
+-- the lines lead from one core to the other, whatever their numbers and in whatever form they are printed, and memory ran out over none of them
 abbrev pub IsRunTo : CoreValue → List Line → CoreValue → Type 0
-IsRunTo old lines new = (format : Format) (number : ℕ) → (answers : Answers) × (text : List ℕ) × Prints format old number lines answers text new
+IsRunTo old lines new = (format : Format) (number : ℕ) → (answers : Answers) × (text : List ℕ) × Prints format old number lines answers text new × All HadMemory answers

@@ -140,7 +140,7 @@ impl OpenedRecording {
     {
         let version = self.version;
         let mut page = empty_page(alloc)?;
-        let core = self.run_silently(alloc, printing.progress, faults);
+        let core = self.run_silently(alloc, printing.progress, faults)?;
         let journal = Journal {
             version,
             core: &core,

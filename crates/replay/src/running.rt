@@ -54,9 +54,15 @@ impl OpenedRecording {
         Ok(core)
     }
 
-    /// Runs the lines behind the base, and prints nothing of them. What is returned is the core after the last line.
-    pub fn run_silently<F: io::Write>(self, alloc: Global, is_shown: bool, faults: &mut F) -> Core
-        ensures run { IsRunTo self.core self.lines.items result }
+    /// Runs the lines behind the base, and prints nothing of them. What is returned is the core after the last line. It ends where
+    /// memory runs out over a line: what that would have changed is missing then.
+    pub fn run_silently<F: io::Write>(
+        self,
+        alloc: Global,
+        is_shown: bool,
+        faults: &mut F,
+    ) -> Result<Core, Memory>
+        ensures run { IfOk result (IsRunTo self.core self.lines.items) }
         ensures progress { ShowsProgress is_shown (F.contents faults.old) (F.contents faults.new) }
     {
         let progress = self.progress(is_shown);
@@ -67,11 +73,11 @@ impl OpenedRecording {
         } = self;
         let mut number = number_of_first(version, core.base());
         for line in lines {
-            take_line(&mut core, line);
+            take_line(&mut core, line)?;
             progress.show(alloc, number, faults);
             number += 1;
         }
-        core
+        Ok(core)
     }
 
     // How much is done, of all the lines of the recording.
@@ -129,22 +135,27 @@ fn run_line(
     }
 }
 
-// Runs a line.
-fn take_line(core: &mut Core, line: Line)
-    ensures { IsRunTo core.old (line ∷ []) core.new }
+// Runs a line. What is found for an address is not printed, but that something is found is a part of the run.
+fn take_line(core: &mut Core, line: Line) -> Result<(), Memory>
+    ensures { OnOk result (IsRunTo core.old (line ∷ []) core.new) }
 {
     match line {
         Line::Event(event) => {
-            let _ = core.apply(event);
+            if let Err(Refusal::Memory) = core.apply(event) {
+                return Err(Memory);
+            }
         }
-        // What is found is not printed, but that something is found is a part of the run.
         Line::Lookup(address) => {
             let _ = core.table().lookup(address);
         }
+        // A roll is refused where memory runs out, and where it ran out before: only then a table is behind.
         Line::Roll => {
-            let _ = roll(core);
+            if roll(core).is_err() {
+                return Err(Memory);
+            }
         }
     }
+    Ok(())
 }
 
 // Rolls the core.

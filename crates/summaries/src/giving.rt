@@ -12,10 +12,8 @@ use external::Preferred;
 use ospf_types::config::{AreaConfig, Stub};
 use ospf_types::entry::Entry;
 use ospf_types::key::Dest;
+use ospf_types::lsa::LS_INFINITY;
 use ospf_types::prefix::Prefix;
-
-/// The metric of a destination that is not reached (RFC 2328, appendix B).
-pub(crate) const LS_INFINITY: u32 = 0xff_ffff;
 
 /// An area that a route leads through, or whose range it is, and its cost, which is finite.
 #[derive(Clone, Copy, Debug, PartialEq, Eq)]
@@ -142,8 +140,8 @@ pub(crate) fn is_served(active: &[u32], area: u32) -> bool
     active.contains(&area) && has_other(active, area)
 }
 
-// Whether another area is active.
-fn has_other(active: &[u32], area: u32) -> bool
+/// Whether another area is active.
+pub fn has_other(active: &[u32], area: u32) -> bool
     ensures { IsTrue result ↔ ((another : ℕ) × Contains active.now another × (another ≢ area)) }
 {
     for another in active {
@@ -279,8 +277,8 @@ fn range_through(inputs: &SummaryInputs<'_>, area: &AreaConfig, prefix: Prefix) 
     })
 }
 
-// Whether the area has an advertised range with the prefix.
-fn advertises(area: &AreaConfig, prefix: Prefix) -> bool
+/// Whether the area has an advertised range with the prefix.
+pub fn advertises(area: &AreaConfig, prefix: Prefix) -> bool
     ensures { IsTrue result ↔ Advertises area.now prefix }
 {
     for range in area.ranges.as_slice() {

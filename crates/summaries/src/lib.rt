@@ -9,6 +9,7 @@ mod summaries;
 mod touched;
 
 pub use due_changes::DueChanges;
+pub use giving::{advertises, has_other};
 pub use inputs::SummaryInputs;
 pub use summaries::{DueSummaries, Plan};
 pub use summary_lists::{AreaSummaries, DueSummary};
