@@ -44,7 +44,7 @@ module _ (s : State) (active : List ℕ) (are : AreActive s active) (c : Calcula
       let same : Some i ≡ Some j = sym (value_from s.interfaces id i nat_cmp_total first) ∙ value_from s.interfaces id j nat_cmp_total second in
       cc
 
-  due_are : AreInputsOf (inputs_of s) (summary_inputs s active c)
+  pub due_are : AreInputsOf (inputs_of s) (summary_inputs s active c)
   due_are = record {
     areas = due_configured s s.config.areas;
     apart = apart_areas s s.config.areas is.fit.apart;

@@ -95,7 +95,7 @@ event_gives answers before told old new e (Ok reply) core given taken (current, 
     let ids : ids_of new.summaries ≡ ids_of old.summaries =
     due_ids new.base new.limits new.journal new.summaries due ∙ ap (λ (b : Base). config_ids b.config.areas) taken.base ∙ sym (core_ids old core) in
     give_more before told old new given differs ids (distinct_lists old core) (lists_sound (inputs_of s) (inputs_of s).areas new.summaries due)
-event_gives answers before told old new e (Err refusal) core given refused is =
+event_gives answers before told old new e (Err refusal) core given refused (may, is) =
     told_gives before told (answered answers (Refused refusal)) new is (give_answered answers before (Refused refusal) new (subst (Give before) (sym refused.unchanged) given) (λ items. refl) (λ id m. refl))
   where
     told_gives : (before told said : List Change) (c : CoreValue) → told ≡ said → Give (before ++ said) c → Give (before ++ told) c

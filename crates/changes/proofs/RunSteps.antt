@@ -25,7 +25,7 @@ use Rattle.changes.proofs.Texts.{change_whole, found_line}
 use Rattle.replay.specs.Runs.{RollsBy}
 use Rattle.changes.specs.Lines.{Change, Found, Refused, change_line, lines_of}
 use Rattle.changes.specs.Changes.{Give, all_of, area_changes, network_change}
-use Rattle.changes.specs.Runs.{IsFoundIn, IsToldOf, MayRoll, Says, StopsAtLine, StopsAtTaken, Taken, TellsLine, TellsLines, TellsTaken, Told, ToldLine, ToldPart, ToldTaken, answered, told_of_roll}
+use Rattle.changes.specs.Runs.{IsFoundIn, IsToldOf, MayPass, MayRoll, Says, StopsAtLine, StopsAtTaken, Taken, TellsLine, TellsLines, TellsTaken, Told, ToldLine, ToldPart, ToldTaken, answered, told_of_roll}
 use Rattle.changes.proofs.Cores.{current_taken, distinct_lists, give_taken, sound_lists}
 use Rattle.changes.proofs.Giving.{give_all}
 use Rattle.changes.proofs.Shown.{line_cut, line_shown}
@@ -201,9 +201,9 @@ all_changes new = map (network_change new.table.items) new.changes ++ flat_map a
 module _ (wanted : Wanted) (answers : Bool) (old : CoreValue) (number : ℕ) (from : Option (List ℕ)) (page : List ℕ) where
   module _ (e : Event) (new : CoreValue) (answer : Result Reply Refusal) (applies : Applies old e answer new) where
     -- a refused event
-    module _ (refusal : Refusal) (is : answer ≡ Err refusal) where
+    module _ (refusal : Refusal) (is : answer ≡ Err refusal) (may : MayPass answers refusal) where
       refused_tells : TellsLine answers old (line.Event e) new (answered answers (Refused refusal))
-      refused_tells = (answer, applies, subst (λ (a : Result Reply Refusal). IsToldOf answers old a new (answered answers (Refused refusal))) (sym is) refl)
+      refused_tells = (answer, applies, subst (λ (a : Result Reply Refusal). IsToldOf answers old a new (answered answers (Refused refusal))) (sym is) (may, refl))
 
       pub refused_told : (to : Option (List ℕ)) (put : List ℕ) → Adds from to page put (lines_of number wanted (answered answers (Refused refusal))) → ToldLine wanted answers old number (line.Event e) new from to page put
       refused_told to put printed = record { told = answered answers (Refused refusal); tells = refused_tells; printed = printed }

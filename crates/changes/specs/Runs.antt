@@ -1,7 +1,8 @@
 -- A run of a recording's lines, and what is told of it.
-use Rattle.std.specs.Prelude.{ℕ, ◌≡◌, ◌+◌, ◌⊎◌, ◌++◌, Bool, true, false, List, [], ◌∷◌, Option, Result, Ok, Err}
+use Rattle.std.specs.Prelude.{ℕ, ◌≡◌, ◌≢◌, ◌+◌, ◌⊎◌, ◌++◌, Bool, true, false, List, [], ◌∷◌, Option, Result, Ok, Err}
 use Rattle.changes.specs.declared.telling.Wanted.{Wanted}
 use Rattle.event_state.specs.declared.refusal.Refusal.{Refusal}
+use Rattle.event_state.specs.declared.refusal.Refusal.TheVariants as refusal
 use Rattle.event_core.specs.declared.reply.Reply.{Reply}
 use Rattle.event_core.specs.Cores.{CoreValue, Applies, IsCore, IsCurrent}
 use Rattle.recording.specs.declared.fault.Fault.{Fault}
@@ -22,10 +23,15 @@ abbrev pub answered : Bool → Change → List Change
 answered true change = change ∷ []
 answered false change = []
 
+-- a refused event may be passed over: it is told that it was refused, or memory did not run out
+abbrev pub MayPass : Bool → Refusal → Type 0
+MayPass true why = Unit {0}
+MayPass false why = why ≢ refusal.Memory
+
 -- Of an event that was taken, what it changed is told, and table and due summaries follow it. Of a refused one, that it was.
 abbrev pub IsToldOf : Bool → CoreValue → Result Reply Refusal → CoreValue → List Change → Type 0
 IsToldOf answers old (Ok reply) new told = IsCurrent new × AreDifferences old new told
-IsToldOf answers old (Err refusal) new told = told ≡ answered answers (Refused refusal)
+IsToldOf answers old (Err why) new told = MayPass answers why × (told ≡ answered answers (Refused why))
 
 -- what the table has for the address
 abbrev pub IsFoundIn : Bool → CoreValue → ℕ → List Change → Type 0

@@ -9,4 +9,6 @@ mod showing;
 mod telling;
 mod words;
 
+pub use lines::Place;
+pub use running::tell_lines;
 pub use telling::{Telling, Wanted, tell_changes};

@@ -17,11 +17,11 @@ use route_table::Item;
 
 /// The number of the line in its recording, and what is told of it.
 #[derive(Clone, Copy)]
-pub(crate) struct Place {
-    pub(crate) number: usize,
-    pub(crate) wanted: Wanted,
+pub struct Place {
+    pub number: usize,
+    pub wanted: Wanted,
     /// Whether it is told what came of a line that changed nothing: a look-up, and what was refused.
-    pub(crate) answers: bool,
+    pub answers: bool,
 }
 
 /// The item that the network has now, or that it has none; nothing where another network is asked for.

@@ -1,13 +1,14 @@
 //! The run of lines, of each of which is told what it changed.
-ghost use Rattle.std.specs.Prelude.{◌+◌, ◌++◌, ◌^◌, ◌<◌, ℕ, length, map, take, OnOk, IfErr, string_bytes};
+ghost use Rattle.std.specs.Prelude.{◌+◌, ◌++◌, ◌≡◌, ◌^◌, ◌<◌, ℕ, false, length, map, take, IsTrue, OnOk, IfErr, string_bytes};
 ghost use Rattle.event_core.specs.Cores.{IsCore, IsCurrent};
+ghost use Rattle.event_state.specs.declared.refusal.Refusal.TheVariants as refusal_value;
 ghost use Rattle.recording.specs.declared.line.Line.TheVariants as line_is;
 ghost use Rattle.replay.specs.Pages.{Adds, AddsPart};
 ghost use Rattle.replay.specs.Stops.{AreWhole};
 ghost use Rattle.changes.specs.Changes.{all_of};
 ghost use Rattle.changes.specs.Lines as told;
 ghost use Rattle.changes.specs.Lines.{lines_of};
-ghost use Rattle.changes.specs.Runs.{Says, StopsAtLine, Told, ToldLine, ToldPart, answered};
+ghost use Rattle.changes.specs.Runs.{MayPass, Says, StopsAtLine, Told, ToldLine, ToldPart, answered};
 
 use crate::lines::{Place, put_refused};
 use crate::showing::show_changes;
@@ -16,9 +17,9 @@ use recording::Line;
 use replay::{Stop, put_lookup, spill};
 use std::io;
 
-/// Runs the lines, the first of which has its number in `from`, and prints what is told of each of them. Where an event is
-/// taken and memory runs out over what follows from it, it stops there.
-pub(crate) fn tell_lines<W: io::Write>(
+/// Runs the lines, the first of which has its number in `from`, and prints what is told of each of them. Where memory runs out
+/// over an event, it stops there; but where answers are asked for, an event that was refused for it is told of like another.
+pub fn tell_lines<W: io::Write>(
     core: &mut Core,
     from: Place,
     lines: Vec<Line>,
@@ -91,7 +92,12 @@ fn tell_event<W: io::Write>(
 {
     let reply = match core.apply(event) {
         Ok(reply) => reply,
-        Err(refusal) => return tell_refused(at, refusal, out, page),
+        Err(refusal) => {
+            if is_missed(at.answers, refusal) {
+                return Err(Stop::Memory);
+            }
+            return tell_refused(at, refusal, out, page);
+        }
     };
     match reply.state {
         Status::Current => {}
@@ -99,6 +105,14 @@ fn tell_event<W: io::Write>(
     }
     show_changes(core, at, out, page)?;
     Ok(())
+}
+
+// Whether memory ran out over an event, and nobody would be told that it is missing.
+fn is_missed(answers: bool, refusal: Refusal) -> bool
+    ensures missed { IsTrue result → (answers ≡ false) × (refusal ≡ refusal_value.Memory) }
+    ensures passed { (result ≡ false) → MayPass answers refusal }
+{
+    !answers && refusal == Refusal::Memory
 }
 
 // Prints what the table has for the address, where answers are asked for.

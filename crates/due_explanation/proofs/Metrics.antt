@@ -16,7 +16,8 @@ use Rattle.calculation.specs.Summaries.{summary_inputs}
 use Rattle.due_reasons.specs.Reasons.{IsExplainedAt, area_with}
 use Rattle.due_reasons.specs.declared.due.DueExplained.{DueExplained}
 use Rattle.due_explanation.specs.Explained.{IsDueExplained, IsDueMetric}
-use Rattle.due_explanation.proofs.Defined.{due_same, inputs_are}
+use Rattle.calculation.proofs.Summaries.{due_are}
+use Rattle.due_explanation.proofs.Defined.{due_same}
 
 -- ---- the area with the Area ID
 
@@ -59,4 +60,4 @@ module _ (s : State) (v : SummaryInputsValue) (are : AreInputsOf (inputs_of s) v
       )
 
 pub metric_is : (s : State) (id : ℕ) (d : Dest) (x : DueExplained) → IsDueExplained s id d x → IsDueMetric s id d x.metric
-metric_is s id d x is = metric_at s (summary_inputs s is.active is.calculation) (inputs_are s is.active is.active_is is.calculation is.right) id d (area_with s.config.areas id) (area_is s.config.areas id) x is.why
+metric_is s id d x is = metric_at s (summary_inputs s is.active is.calculation) (due_are s is.active is.active_is is.calculation is.right) id d (area_with s.config.areas id) (area_is s.config.areas id) x is.why
