@@ -9,7 +9,7 @@ axis_text height x = codes "<line class=\"axis\" x1=\"" ++ (decimal x ++ (codes 
 
 -- a distance above such a line
 abbrev pub distance_text : (x distance : ℕ) → List ℕ
-distance_text x distance = text_start (codes "c") x 18 ++ decimal distance ++ codes "</text>\n"
+distance_text x distance = text_start (codes "c") x 14 ++ decimal distance ++ codes "</text>\n"
 
 -- a column: which one it is, and the distance of its vertices
 abbrev pub column_text : (height : ℕ) → ℕ × ℕ → List ℕ
@@ -17,7 +17,7 @@ column_text height (column, distance) = axis_text height (x_of column) ++ distan
 
 -- what the numbers above the columns are
 unfoldable pub caption_text : List ℕ
-caption_text = codes "<text class=\"s\" x=\"6\" y=\"18\">cost</text>\n"
+caption_text = codes "<text class=\"s\" x=\"6\" y=\"14\">cost</text>\n"
 
 -- the columns of these distances, from the left, in a picture of this height
 abbrev pub columns_text : (height : ℕ) → (distances : List ℕ) → List ℕ

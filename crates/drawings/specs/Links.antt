@@ -1,5 +1,5 @@
 -- What is drawn of the links: a curve for each, and the costs of those on the tree.
-use Rattle.std.specs.Prelude.{ℕ, ◌+◌, ◌-◌, ◌/◌, ◌++◌, ◌==◌, List, [], codes, decimal, if◌then◌else◌}
+use Rattle.std.specs.Prelude.{ℕ, ◌+◌, ◌-◌, ◌*◌, ◌/◌, ◌++◌, ◌==◌, List, [], codes, decimal, if◌then◌else◌, nat_lt}
 use Rattle.std.specs.List.{flat_map}
 use Rattle.ospf_types.specs.Text.{address_text}
 use Rattle.drawings.specs.declared.drawing.Place.{Place}
@@ -21,16 +21,21 @@ link_title l =
 abbrev pub drawn_link : (class : List ℕ) → DrawnLink → List ℕ
 drawn_link class l = codes "<path class=\"" ++ class ++ codes "\" d=\"" ++ curve_text l.from.place l.to.place ++ codes "\">" ++ link_title l ++ codes "</path>\n"
 
--- how high the cost of a link stands: halfway, and above its curve
+-- where the cost of a link stands: to the right of the middle, or to the left of it where the link leads down
+abbrev pub cost_x : Place → Place → ℕ
+cost_x from to = if nat_lt from.row to.row then bend_x from to - 11 else bend_x from to + 11
+
+-- how high the cost of a link stands: above one that stays in its row, whose curve rises by three quarters of what its control
+-- points do, and else below it, where the names of vertices are not
 abbrev pub cost_y : Place → Place → ℕ
-cost_y from to = (y_of from.row + y_of to.row) / 2 - lift from to - 3
+cost_y from to = if from.row == to.row then y_of from.row - lift from to * 3 / 4 - 3 else (y_of from.row + y_of to.row) / 2 + 8
 
 -- a cost beside the middle of a link between these places; nothing where it is 0, as from a network to its routers
 abbrev pub cost_text : Place → Place → (cost : ℕ) → List ℕ
 cost_text from to cost =
     if cost == 0
     then []
-    else text_start (codes "s") (bend_x from to + 11) (cost_y from to) ++ decimal cost ++ codes "</text>\n"
+    else text_start (codes "s") (cost_x from to) (cost_y from to) ++ decimal cost ++ codes "</text>\n"
 
 -- a link that is not on the tree; nothing of one that is
 abbrev pub link_off_tree : DrawnLink → List ℕ

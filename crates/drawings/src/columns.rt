@@ -24,7 +24,7 @@ pub(crate) fn put_columns(
 fn put_caption(text: &mut String) -> Result<(), Memory>
     ensures { OnOk result (string_bytes text.new ≡ string_bytes text.old ++ caption_text) }
 {
-    text.push_str("<text class=\"s\" x=\"6\" y=\"18\">cost</text>\n")?;
+    text.push_str("<text class=\"s\" x=\"6\" y=\"14\">cost</text>\n")?;
     Ok(())
 }
 
@@ -66,7 +66,7 @@ fn put_distance(x: Pixels, distance: u32, text: &mut String) -> Result<(), Memor
     ensures { OnOk result (string_bytes text.new ≡ string_bytes text.old
         ++ distance_text x distance) }
 {
-    put_text_start("c", Point { x, y: 18 }, text)?;
+    put_text_start("c", Point { x, y: 14 }, text)?;
     writeln!(text, "{distance}</text>")?;
     Ok(())
 }

@@ -109,15 +109,35 @@ fn put_cost(from: Place, to: Place, cost: u32, text: &mut String) -> Result<(), 
     if cost == 0 {
         return Ok(());
     }
-    let (x, y) = (bend_x(from, to) + 11, cost_y(from, to));
-    put_text_start("s", Point { x, y }, text)?;
+    let at = Point {
+        x: cost_x(from, to),
+        y: cost_y(from, to),
+    };
+    put_text_start("s", at, text)?;
     writeln!(text, "{cost}</text>")?;
     Ok(())
 }
 
-// How high the cost of a link stands: halfway, and above its curve.
+// Where the cost of a link stands: to the right of the middle, or to the left of it where the link leads down.
+fn cost_x(from: Place, to: Place) -> Pixels
+    ensures { result ≡ link_words.cost_x from to }
+{
+    let middle = bend_x(from, to);
+    if from.row < to.row {
+        middle - 11
+    } else {
+        middle + 11
+    }
+}
+
+// How high the cost of a link stands: above one that stays in its row, and else below it.
 fn cost_y(from: Place, to: Place) -> Pixels
     ensures { result ≡ link_words.cost_y from to }
 {
-    (y_of(from.row) + y_of(to.row)) / 2 - lift(from, to) - 3
+    if from.row == to.row {
+        // A curve rises by three quarters of what its control points do.
+        y_of(from.row) - lift(from, to) * 3 / 4 - 3
+    } else {
+        (y_of(from.row) + y_of(to.row)) / 2 + 8
+    }
 }
