@@ -2,6 +2,12 @@
 //! numbers, so one drawing gives the same bytes each time.
 #![tactic(auto)]
 
+mod columns;
 mod drawing;
+mod layout;
+mod links;
+mod picture;
+mod vertices;
 
 pub use drawing::{Drawing, DrawnEnd, DrawnLink, DrawnVertex, Place, Roles};
+pub use picture::put_drawing;

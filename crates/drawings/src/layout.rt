@@ -1,0 +1,105 @@
+//! Where things stand in a picture, in pixels from its upper left corner.
+ghost use Rattle.std.specs.Prelude.{◌≡◌, ◌++◌, OnOk, Some, string_bytes};
+ghost use Rattle.drawings.specs.Layout as layout;
+
+use crate::drawing::Place;
+use ospf_types::memory::Memory;
+use std::fmt;
+
+/// Pixels, from the left or from above. The pixels of as many columns as a list may have do not fit in 64 bits.
+pub(crate) type Pixels = u128;
+
+/// The middle of a column.
+pub(crate) fn x_of(column: u64) -> Pixels
+    ensures { result ≡ layout.x_of column }
+{
+    60 + 118 * u128::from(column)
+}
+
+/// The middle of a row.
+pub(crate) fn y_of(row: u32) -> Pixels
+    ensures { result ≡ layout.y_of row }
+{
+    46 + 52 * u128::from(row)
+}
+
+/// The width of a picture of so many columns.
+pub(crate) fn width_of(columns: usize) -> Pixels
+    ensures { result ≡ layout.width_of columns }
+{
+    218 + 118 * (columns.saturating_sub(1) as u128)
+}
+
+/// The height of a picture of so many rows.
+pub(crate) fn height_of(rows: u32) -> Pixels
+    ensures { result ≡ layout.height_of rows }
+{
+    102 + 52 * u128::from(rows.saturating_sub(1))
+}
+
+/// How far the curve from one place to the other is drawn upwards, so that it does not run through what stands between
+/// them.
+pub(crate) fn lift(from: Place, to: Place) -> Pixels
+    ensures { result ≡ layout.lift from to }
+{
+    if is_blocked(from, to) { 26 } else { 0 }
+}
+
+// Whether both are in one row with a column between them.
+fn is_blocked(from: Place, to: Place) -> bool
+    ensures { result ≡ layout.is_blocked from to }
+{
+    from.row == to.row && from.column.abs_diff(to.column) > 1
+}
+
+/// Where the curve from one place to the other is drawn to: halfway, or to the right of both where they are in one
+/// column.
+pub(crate) fn bend_x(from: Place, to: Place) -> Pixels
+    ensures { result ≡ layout.bend_x from to }
+{
+    if from.column == to.column {
+        x_of(u64::from(from.column)) + 44
+    } else {
+        60 + 59 * (u128::from(from.column) + u128::from(to.column))
+    }
+}
+
+/// Prints a point: how far it is from the left, and how far from above.
+#[derive(Clone, Copy)]
+pub(crate) struct Point {
+    pub(crate) x: Pixels,
+    pub(crate) y: Pixels,
+}
+
+impl fmt::Display for Point {
+    ghost output = { λ p. Some (layout.point_text p.x p.y) };
+
+    fn fmt<W: fmt::Write>(&self, f: &mut fmt::Formatter<W>) -> fmt::Result {
+        let (x, y) = (self.x, self.y);
+        write!(f, "{x} {y}")
+    }
+}
+
+/// Where a place is in the picture.
+pub(crate) fn point_of(place: Place) -> Point
+    ensures x { result.x ≡ layout.x_of place.column }
+    ensures y { result.y ≡ layout.y_of place.row }
+{
+    Point {
+        x: x_of(u64::from(place.column)),
+        y: y_of(place.row),
+    }
+}
+
+/// Appends the beginning of a text of this class. The middle of the text stands at the point.
+pub(crate) fn put_text_start(class: &str, at: Point, text: &mut String) -> Result<(), Memory>
+    ensures { OnOk result (string_bytes text.new ≡ string_bytes text.old
+        ++ layout.text_start class.now at.x at.y) }
+{
+    let Point { x, y } = at;
+    write!(
+        text,
+        "<text class=\"{class}\" x=\"{x}\" y=\"{y}\" text-anchor=\"middle\">"
+    )?;
+    Ok(())
+}

@@ -1,0 +1,143 @@
+//! What is drawn of the links: a curve for each, and the costs of those on the tree.
+ghost use Rattle.std.specs.Prelude.{◌≡◌, ◌++◌, OnOk, string_bytes};
+ghost use Rattle.std.specs.List.{flat_map};
+ghost use Rattle.drawings.specs.Links as link_words;
+
+use crate::drawing::{DrawnLink, Place};
+use crate::layout::{Pixels, Point, bend_x, lift, point_of, put_text_start, y_of};
+use crate::vertices::id_of;
+use ospf_types::address::Address;
+use ospf_types::memory::Memory;
+
+/// Appends the links that are not on the tree, and then those that are, so that these lie above.
+pub(crate) fn put_links(links: &[DrawnLink], text: &mut String) -> Result<(), Memory>
+    ensures { OnOk result (string_bytes text.new ≡ string_bytes text.old
+        ++ link_words.links_text links.now) }
+{
+    put_others(links, text)?;
+    put_tree(links, text)
+}
+
+// The links that are not on the tree.
+fn put_others(links: &[DrawnLink], text: &mut String) -> Result<(), Memory>
+    ensures { OnOk result (string_bytes text.new ≡ string_bytes text.old
+        ++ flat_map link_words.link_off_tree links.now) }
+{
+    for link in links {
+        put_off_tree(link, text)?;
+    }
+    Ok(())
+}
+
+// The links that are on the tree.
+fn put_tree(links: &[DrawnLink], text: &mut String) -> Result<(), Memory>
+    ensures { OnOk result (string_bytes text.new ≡ string_bytes text.old
+        ++ flat_map link_words.link_on_tree links.now) }
+{
+    for link in links {
+        put_on_tree(link, text)?;
+    }
+    Ok(())
+}
+
+// A link that is not on the tree; nothing of one that is.
+fn put_off_tree(link: &DrawnLink, text: &mut String) -> Result<(), Memory>
+    ensures { OnOk result (string_bytes text.new ≡ string_bytes text.old
+        ++ link_words.link_off_tree link.now) }
+{
+    if link.on_tree {
+        return Ok(());
+    }
+    put_link("link", link, text)
+}
+
+// A link that is on the tree, with its cost; nothing of one that is not.
+fn put_on_tree(link: &DrawnLink, text: &mut String) -> Result<(), Memory>
+    ensures { OnOk result (string_bytes text.new ≡ string_bytes text.old
+        ++ link_words.link_on_tree link.now) }
+{
+    if !link.on_tree {
+        return Ok(());
+    }
+    put_link("tree", link, text)?;
+    put_cost(link.from.place, link.to.place, link.cost, text)
+}
+
+fn put_link(class: &str, link: &DrawnLink, text: &mut String) -> Result<(), Memory>
+    ensures { OnOk result (string_bytes text.new ≡ string_bytes text.old
+        ++ link_words.drawn_link class.now link.now) }
+{
+    write!(text, "<path class=\"{class}\" d=\"")?;
+    put_curve(link.from.place, link.to.place, text)?;
+    text.push_str("\">")?;
+    put_title(link, text)?;
+    text.push_str("</path>\n")?;
+    Ok(())
+}
+
+// A Bezier curve. Its control points are where it is drawn to.
+fn put_curve(from: Place, to: Place, text: &mut String) -> Result<(), Memory>
+    ensures { OnOk result (string_bytes text.new ≡ string_bytes text.old
+        ++ link_words.curve_text from to) }
+{
+    let (start, end) = (point_of(from), point_of(to));
+    let (x, up) = (bend_x(from, to), lift(from, to));
+    let first = Point { x, y: start.y - up };
+    let last = Point { x, y: end.y - up };
+    write!(text, "M{start}C{first}")?;
+    write!(text, " {last} {end}")?;
+    Ok(())
+}
+
+// What is told of a link under the pointer.
+fn put_title(link: &DrawnLink, text: &mut String) -> Result<(), Memory>
+    ensures { OnOk result (string_bytes text.new ≡ string_bytes text.old
+        ++ link_words.link_title link.now) }
+{
+    let (from, to) = (id_of(link.from.vertex), id_of(link.to.vertex));
+    let (from, to, cost) = (Address(from), Address(to), link.cost);
+    write!(text, "<title>{from} to {to}")?;
+    write!(text, ", cost {cost}</title>")?;
+    Ok(())
+}
+
+// The cost beside the middle of a link; nothing where it is 0, as from a network to its routers.
+fn put_cost(from: Place, to: Place, cost: u32, text: &mut String) -> Result<(), Memory>
+    ensures { OnOk result (string_bytes text.new ≡ string_bytes text.old
+        ++ link_words.cost_text from to cost) }
+{
+    if cost == 0 {
+        return Ok(());
+    }
+    let at = Point {
+        x: cost_x(from, to),
+        y: cost_y(from, to),
+    };
+    put_text_start("s", at, text)?;
+    writeln!(text, "{cost}</text>")?;
+    Ok(())
+}
+
+// Where the cost of a link stands: to the right of the middle, or to the left of it where the link leads down.
+fn cost_x(from: Place, to: Place) -> Pixels
+    ensures { result ≡ link_words.cost_x from to }
+{
+    let middle = bend_x(from, to);
+    if from.row < to.row {
+        middle - 11
+    } else {
+        middle + 11
+    }
+}
+
+// How high the cost of a link stands: above one that stays in its row, and else below it.
+fn cost_y(from: Place, to: Place) -> Pixels
+    ensures { result ≡ link_words.cost_y from to }
+{
+    if from.row == to.row {
+        // A curve rises by three quarters of what its control points do.
+        y_of(from.row) - lift(from, to) * 3 / 4 - 3
+    } else {
+        (y_of(from.row) + y_of(to.row)) / 2 + 8
+    }
+}
