@@ -155,10 +155,7 @@ fn put_row(network: Prefix, item: &Item, text: &mut String) -> Result<(), Memory
 {
     match item {
         Item::Route(entry) => put_route(network, entry, text),
-        Item::Discard => Ok(writeln!(
-            text,
-            "<tr><td>{network}<td>discard<td>-<td>-<td>-<td>-"
-        )?),
+        Item::Discard => Ok(writeln!(text, "<tr><td>{network}<td>discard<td>-<td>-<td>-<td>-")?),
     }
 }
 
@@ -168,10 +165,19 @@ fn put_route(network: Prefix, entry: &Entry, text: &mut String) -> Result<(), Me
         ++ route_text network entry.now) }
 {
     write!(text, "<tr><td>{network}<td>")?;
-    text.push_str(word_of(route_kind(entry.kind)))?;
+    put_type(entry.kind, text)?;
     put_area(entry.area, text)?;
     put_costs(entry, text)?;
     put_paths(entry.paths.as_slice(), text)?;
+    Ok(())
+}
+
+// The type of a route.
+fn put_type(kind: PathType, text: &mut String) -> Result<(), Memory>
+    ensures { OnOk result (string_bytes text.new ≡ string_bytes text.old
+        ++ kind_text (kind_of_route kind)) }
+{
+    text.push_str(word_of(route_kind(kind)))?;
     Ok(())
 }
 

@@ -1,7 +1,8 @@
 //! How the page looks, in light and in dark.
 
 /// The rules of the page, and of the classes that the pictures in it name.
-pub(crate) const STYLE: &str = ":root{color-scheme:light dark;--page:#fff;--text:#222;--quiet:#5c646b;--rule:#e1e4e7;--head:#f3f6f8;--best:#fff3bf;--tree:#2a6f97;--link:#bbb;--router:#fff;--net:#eef3f7;--edge:#7a8c99;--rim:#1b4965;--scale:#335;--axis:#e3e3e3}
+pub(crate) const STYLE: &str =
+    ":root{color-scheme:light dark;--page:#fff;--text:#222;--quiet:#5c646b;--rule:#e1e4e7;--head:#f3f6f8;--best:#fff3bf;--tree:#2a6f97;--link:#bbb;--router:#fff;--net:#eef3f7;--edge:#7a8c99;--rim:#1b4965;--scale:#335;--axis:#e3e3e3}
 @media (prefers-color-scheme:dark){:root{--page:#14181c;--text:#e3e7ea;--quiet:#9ba6af;--rule:#2d353c;--head:#1d242a;--best:#4d4210;--tree:#5fb0de;--link:#5d6870;--router:#14181c;--net:#27333d;--edge:#90a3b0;--rim:#b5dcf3;--scale:#b4bfe3;--axis:#2a3239}}
 body{margin:0 auto;padding:1rem 1.25rem 4rem;max-width:76rem;background:var(--page);color:var(--text);font:15px/1.5 system-ui,sans-serif}
 h1{margin:.5rem 0;font-size:1.7rem}

@@ -11,4 +11,4 @@ pub loop-network-preserved : goal.loop-network-preserved
 loop-network-preserved c = first_printed row_text _ (c.in-Some.network, c.in-Some.item.now) _ _ _ _ c.loop-network.invariant c.in-Some.ensures.steps c.in_ok-put_row.ensures
 
 pub returns : goal.returns
-returns c = all_printed row_text _ _ _ c.loop-network.invariant c.in-None.ensures.steps
+returns c = all_printed row_text _ _ _ c.loop-network.invariant c.in-None.ensures.steps.0
