@@ -1,0 +1,8 @@
+use Rattle.std.proofs.Common.{◌≡◌, ◌++◌, string_bytes, take}
+use Rattle.std.specs.List.{flat_map}
+use Rattle.std.specs.FinMap.{entries}
+use Rattle.page_sections.specs.Ranges.{area_text}
+use Rattle.page_sections.proofs.ranges.put_all.Given as goal
+
+abbrev pub invariant-loop-area : goal.invariant-loop-area
+invariant-loop-area l = string_bytes l.text ≡ string_bytes l.initial.text ++ flat_map (area_text (entries l.table.items)) (take l.area-index l.areas)

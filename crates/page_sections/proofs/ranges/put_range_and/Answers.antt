@@ -1,0 +1,5 @@
+use Rattle.page_sections.proofs.Pieces.{two_pieces}
+use Rattle.page_sections.proofs.ranges.put_range_and.Goals as goal
+
+pub returns : goal.returns
+returns c = two_pieces _ _ _ _ _ c.in_ok-put_range_heading.ensures c.in_ok-put_networks.ensures

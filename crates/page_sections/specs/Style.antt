@@ -1,0 +1,41 @@
+-- How the page looks.
+use Rattle.std.specs.Prelude.{ℕ, List, [], ◌∷◌, codes}
+use Rattle.std.specs.List.{concat}
+
+abbrev pub style_text : List ℕ
+style_text = concat (
+    codes ":root{color-scheme:light dark;--page:#fff;--text:#222;--quiet:#5c646b;--rule:#e1e4e7;--head:#f3f6f8;--best:#fff3bf;--tree:#2a6f97;--link:#bbb;--router:#fff;--net:#eef3f7;--edge:#7a8c99;--rim:#1b4965;--scale:#335;--axis:#e3e3e3}\n"
+    ∷ codes "@media (prefers-color-scheme:dark){:root{--page:#14181c;--text:#e3e7ea;--quiet:#9ba6af;--rule:#2d353c;--head:#1d242a;--best:#4d4210;--tree:#5fb0de;--link:#5d6870;--router:#14181c;--net:#27333d;--edge:#90a3b0;--rim:#b5dcf3;--scale:#b4bfe3;--axis:#2a3239}}\n"
+    ∷ codes "body{margin:0 auto;padding:1rem 1.25rem 4rem;max-width:76rem;background:var(--page);color:var(--text);font:15px/1.5 system-ui,sans-serif}\n"
+    ∷ codes "h1{margin:.5rem 0;font-size:1.7rem}\n"
+    ∷ codes "h2{margin:2.5rem 0 .5rem;padding-bottom:.25rem;border-bottom:1px solid var(--rule);font-size:1.3rem}\n"
+    ∷ codes "h3{margin:1.5rem 0 .5rem;font-size:1.05rem}\n"
+    ∷ codes "h4{margin:1rem 0 .25rem;font-size:1rem;font-weight:500}\n"
+    ∷ codes "a{color:var(--tree)}\n"
+    ∷ codes "nav{display:flex;flex-wrap:wrap;gap:.25rem 1.25rem}\n"
+    ∷ codes "table{border-collapse:collapse;font-variant-numeric:tabular-nums}\n"
+    ∷ codes "th,td{padding:.2rem .75rem;border-bottom:1px solid var(--rule);text-align:left;vertical-align:top}\n"
+    ∷ codes "th{position:sticky;top:0;background:var(--head);font-weight:600;white-space:nowrap}\n"
+    ∷ codes "#table{width:100%}\n"
+    ∷ codes "#table :is(th,td):is(:nth-child(4),:nth-child(5)),.due :is(th,td):nth-child(3){text-align:right}\n"
+    ∷ codes "#table td:not(:last-child){white-space:nowrap}\n"
+    ∷ codes "tbody tr:hover{background:var(--head)}\n"
+    ∷ codes ".best,.best:hover{background:var(--best)!important}\n"
+    ∷ codes ".quiet,.legend{color:var(--quiet)}\n"
+    ∷ codes ".legend svg{vertical-align:middle}\n"
+    ∷ codes ".nets{columns:17rem;margin:0;padding:0 0 0 1rem;list-style:none;font-variant-numeric:tabular-nums}\n"
+    ∷ codes ".nets b{float:right;margin-right:3rem;font-weight:400}\n"
+    ∷ codes "input{width:min(26rem,80vw);padding:.35rem .6rem;border:1px solid var(--edge);border-radius:4px;background:var(--page);color:var(--text);font:inherit}\n"
+    ∷ codes "pre{padding:.75rem;overflow-x:auto;background:var(--head);font:13px/1.5 ui-monospace,monospace}\n"
+    ∷ codes ".picture{overflow-x:auto;margin:.5rem 0 1rem;border:1px solid var(--rule);border-radius:4px}\n"
+    ∷ codes ".picture svg{display:block}\n"
+    ∷ codes ".t{font:12px sans-serif;fill:var(--text)}\n"
+    ∷ codes ".s{font:10px sans-serif;fill:var(--quiet)}\n"
+    ∷ codes ".c{font:bold 10px sans-serif;fill:var(--scale)}\n"
+    ∷ codes ".tree{stroke:var(--tree);stroke-width:2.2;fill:none}\n"
+    ∷ codes ".link{stroke:var(--link);stroke-width:1;fill:none}\n"
+    ∷ codes ".r{fill:var(--router);stroke:var(--tree);stroke-width:1.6}\n"
+    ∷ codes ".n{fill:var(--net);stroke:var(--edge);stroke-width:1.2}\n"
+    ∷ codes ".root{fill:var(--tree);stroke:var(--rim)}\n"
+    ∷ codes ".axis{stroke:var(--axis);stroke-width:1}\n"
+    ∷ [])

@@ -1,0 +1,45 @@
+-- The summary-LSAs that are due.
+use Rattle.std.specs.Prelude.{ℕ, ◌++◌, List, [], ◌∷◌, codes, decimal, length, if◌then◌else◌, ◌==◌}
+use Rattle.std.specs.List.{concat, flat_map}
+use Rattle.ospf_types.specs.Text.{address_text, prefix_text}
+use Rattle.ospf_types.specs.declared.key.Dest.{Dest}
+use Rattle.ospf_types.specs.declared.key.Dest.TheVariants.{Net, Router}
+use Rattle.summary_lists.specs.Lists.{AreaSummariesValue}
+use Rattle.summary_lists.specs.declared.due.DueSummary.{DueSummary}
+
+-- a network, or the Router ID of an AS boundary router
+abbrev pub dest_text : Dest → List ℕ
+dest_text (Net p) = prefix_text p
+dest_text (Router router) = address_text router
+
+-- the LS type, the destination and the metric
+abbrev pub row_text : DueSummary → List ℕ
+row_text due =
+    (codes "<tr><td>" ++ (decimal due.kind ++ codes "<td>"))
+    ++ (dest_text due.dest ++ (codes "<td>" ++ (decimal due.metric ++ codes "\n")))
+
+abbrev pub head_text : List ℕ
+head_text = codes "<table class=\"due\">\n<thead>\n<tr><th>LS type<th>Destination<th>Metric\n</thead>\n<tbody>\n"
+
+-- a table of the list
+abbrev pub table_text : List DueSummary → List ℕ
+table_text list = head_text ++ (flat_map row_text list ++ codes "</tbody>\n</table>\n")
+
+-- a table of the list, or that it is empty
+abbrev pub list_text : List DueSummary → List ℕ
+list_text list = if length list == 0 then codes "<p>No summary-LSA is due in this area.</p>\n" else table_text list
+
+-- what is due in an area
+abbrev pub due_text : (area : ℕ) → List DueSummary → List ℕ
+due_text area list = concat (codes "<h3>Area " ∷ address_text area ∷ codes "</h3>\n" ∷ []) ++ list_text list
+
+abbrev pub area_text : AreaSummariesValue → List ℕ
+area_text a = due_text a.area a.list
+
+-- each area, or that there is none
+abbrev pub areas_text : List AreaSummariesValue → List ℕ
+areas_text areas = if length areas == 0 then codes "<p>No area is configured.</p>\n" else flat_map area_text areas
+
+-- what is due in all areas
+abbrev pub summaries_text : List AreaSummariesValue → List ℕ
+summaries_text areas = codes "<h2 id=\"summaries\">Summary-LSAs that are due</h2>\n" ++ areas_text areas

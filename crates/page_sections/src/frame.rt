@@ -1,0 +1,119 @@
+//! How the page begins and ends, and what changed last.
+ghost use Rattle.std.specs.Prelude.{◌≡◌, ◌++◌, OnOk, string_bytes};
+ghost use Rattle.page_sections.specs.Frame.{about_text, beginning_text, changes_text, end_text, head_text, lines_text, styles_text, title_text};
+
+use crate::script::SCRIPT;
+use crate::style::STYLE;
+use ospf_types::address::Address;
+use ospf_types::memory::Memory;
+
+// What a browser is told first. The policy has it load nothing from elsewhere.
+const HEAD: &str = "<!DOCTYPE html>
+<html lang=\"en\">
+<head>
+<meta charset=\"utf-8\">
+<meta name=\"viewport\" content=\"width=device-width, initial-scale=1\">
+<meta http-equiv=\"Content-Security-Policy\" content=\"default-src 'none'; style-src 'unsafe-inline'; \
+script-src 'unsafe-inline'\">
+";
+
+// The links to the sections of the page.
+const SECTIONS: &str = "<nav>
+<a href=\"#areas\">Areas</a>
+<a href=\"#ranges\">Address ranges</a>
+<a href=\"#routes\">Routing table</a>
+<a href=\"#summaries\">Summary-LSAs</a>
+<a href=\"#changes\">Last changes</a>
+</nav>
+";
+
+/// Appends how the page begins: its head with the style, the Router ID in the heading, how many events the router has
+/// followed, and links to the sections. If memory runs out, the text may have a part of this.
+pub fn put_beginning(router: u32, serial: u64, text: &mut String) -> Result<(), Memory>
+    ensures { OnOk result (string_bytes text.new ≡ string_bytes text.old
+        ++ beginning_text router serial) }
+{
+    put_head(router, text)?;
+    put_style(text)?;
+    put_title(router, text)?;
+    put_about(serial, text)?;
+    text.push_str(SECTIONS)?;
+    Ok(())
+}
+
+// All of the head but the style.
+fn put_head(router: u32, text: &mut String) -> Result<(), Memory>
+    ensures { OnOk result (string_bytes text.new ≡ string_bytes text.old ++ head_text router) }
+{
+    let router = Address(router);
+    text.push_str(HEAD)?;
+    writeln!(text, "<title>Router {router}</title>")?;
+    Ok(())
+}
+
+// The style, and the end of the head.
+fn put_style(text: &mut String) -> Result<(), Memory>
+    ensures { OnOk result (string_bytes text.new ≡ string_bytes text.old ++ styles_text) }
+{
+    text.push_str("<style>\n")?;
+    text.push_str(STYLE)?;
+    text.push_str("</style>\n</head>\n<body>\n")?;
+    Ok(())
+}
+
+// The heading of the page.
+fn put_title(router: u32, text: &mut String) -> Result<(), Memory>
+    ensures { OnOk result (string_bytes text.new ≡ string_bytes text.old ++ title_text router) }
+{
+    let router = Address(router);
+    writeln!(text, "<h1>Router {router}</h1>")?;
+    Ok(())
+}
+
+// What the page shows.
+fn put_about(serial: u64, text: &mut String) -> Result<(), Memory>
+    ensures { OnOk result (string_bytes text.new ≡ string_bytes text.old ++ about_text serial) }
+{
+    writeln!(
+        text,
+        "<p>What this router (OSPF, RFC 2328) has after event number {serial} of its recording: the graph of each \
+area with the shortest-path tree, the address ranges, the routing table, the summary-LSAs that are due, and what \
+changed last.</p>"
+    )?;
+    Ok(())
+}
+
+/// Appends what changed last, in these lines. They have no `<` and no `&`, as no word, number or address has one. If
+/// memory runs out, the text may have a part of this.
+pub fn put_changes(lines: &str, text: &mut String) -> Result<(), Memory>
+    ensures { OnOk result (string_bytes text.new ≡ string_bytes text.old
+        ++ changes_text lines.now) }
+{
+    text.push_str("<h2 id=\"changes\">Last changes</h2>\n")?;
+    put_lines(lines, text)?;
+    Ok(())
+}
+
+// The lines as they are, or that there are none.
+fn put_lines(lines: &str, text: &mut String) -> Result<(), Memory>
+    ensures { OnOk result (string_bytes text.new ≡ string_bytes text.old ++ lines_text lines.now) }
+{
+    if lines.is_empty() {
+        text.push_str("<p>Nothing changed.</p>\n")?;
+        return Ok(());
+    }
+    text.push_str("<pre>")?;
+    text.push_str(lines)?;
+    text.push_str("</pre>\n")?;
+    Ok(())
+}
+
+/// Appends how the page ends: its script. If memory runs out, the text may have a part of this.
+pub fn put_end(text: &mut String) -> Result<(), Memory>
+    ensures { OnOk result (string_bytes text.new ≡ string_bytes text.old ++ end_text) }
+{
+    text.push_str("<script>\n")?;
+    text.push_str(SCRIPT)?;
+    text.push_str("</script>\n</body>\n</html>\n")?;
+    Ok(())
+}
