@@ -1,5 +1,5 @@
 -- What is appended to a text piece by piece.
-use Rattle.std.proofs.Common.{◌≡◌, ℕ, ◌+◌, ◌<◌, List, [], ◌∷◌, ◌++◌, length, take, get_or, ap, sym, ◌∙◌, append_assoc, append-nil}
+use Rattle.std.proofs.Common.{◌≡◌, ℕ, ◌+◌, ◌<◌, List, [], ◌∷◌, ◌++◌, length, take, get_or, map, refl, ap, sym, ◌∙◌, append_assoc, append-nil}
 use Rattle.std.specs.List.{flat_map}
 use Rattle.std.proofs.lemmas.List.{take_more}
 use Rattle.std.proofs.lemmas.List.Concat.{flat_map-append}
@@ -35,3 +35,8 @@ first_printed text left x rest now new whole so_far is printed =
 -- none is left
 pub all_printed : {X : Type 0} (text : X → List ℕ) (left : List X) (now whole : List ℕ) → now ++ flat_map text left ≡ whole → left ≡ [] → now ≡ whole
 all_printed text left now whole so_far none = sym (append-nil now) ∙ ap (λ l. now ++ flat_map text l) (sym none) ∙ so_far
+
+-- what is printed of the elements by way of others
+pub printed_by : {X Y : Type 0} (by : X → Y) (text : Y → List ℕ) (xs : List X) → flat_map (λ x. text (by x)) xs ≡ flat_map text (map by xs)
+printed_by by text [] = refl
+printed_by by text (x ∷ xs) = ap (λ l. text (by x) ++ l) (printed_by by text xs)

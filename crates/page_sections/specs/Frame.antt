@@ -1,5 +1,5 @@
 -- How the page begins and ends, and what changed last.
-use Rattle.std.specs.Prelude.{ℕ, ◌++◌, List, [], ◌∷◌, codes, decimal}
+use Rattle.std.specs.Prelude.{ℕ, ◌++◌, Bool, true, false, List, [], ◌∷◌, codes, decimal}
 use Rattle.std.specs.List.{concat}
 use Rattle.ospf_types.specs.Text.{address_text}
 use Rattle.page_sections.specs.Style.{style_text}
@@ -49,14 +49,20 @@ sections_text = concat (
 abbrev pub beginning_text : (router serial : ℕ) → List ℕ
 beginning_text router serial = head_text router ++ (styles_text ++ (title_text router ++ (about_text serial ++ sections_text)))
 
--- the lines as they are, or that there are none
-abbrev pub lines_text : List ℕ → List ℕ
-lines_text [] = codes "<p>Nothing changed.</p>\n"
-lines_text (c ∷ cs) = codes "<pre>" ++ ((c ∷ cs) ++ codes "</pre>\n")
+-- what comes before the lines that tell what changed last, and that nothing did where there are none
+abbrev pub changes_beginning_text : (is_empty : Bool) → List ℕ
+changes_beginning_text true = codes "<h2 id=\"changes\">Last changes</h2>\n<p>Nothing changed.</p>\n"
+changes_beginning_text false = codes "<h2 id=\"changes\">Last changes</h2>\n<pre>"
+
+-- what comes behind them
+abbrev pub changes_end_text : (is_empty : Bool) → List ℕ
+changes_end_text true = []
+changes_end_text false = codes "</pre>\n"
 
 -- what changed last
 abbrev pub changes_text : (lines : List ℕ) → List ℕ
-changes_text lines = codes "<h2 id=\"changes\">Last changes</h2>\n" ++ lines_text lines
+changes_text [] = changes_beginning_text true
+changes_text (c ∷ cs) = changes_beginning_text false ++ ((c ∷ cs) ++ changes_end_text false)
 
 -- the end of the page, with its script
 abbrev pub end_text : List ℕ

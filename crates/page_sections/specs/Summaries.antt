@@ -1,5 +1,5 @@
 -- The summary-LSAs that are due.
-use Rattle.std.specs.Prelude.{ℕ, ◌++◌, List, [], ◌∷◌, codes, decimal, length, if◌then◌else◌, ◌==◌}
+use Rattle.std.specs.Prelude.{ℕ, ◌++◌, List, [], ◌∷◌, codes, decimal, length, map, if◌then◌else◌, ◌==◌}
 use Rattle.std.specs.List.{concat, flat_map}
 use Rattle.ospf_types.specs.Text.{address_text, prefix_text}
 use Rattle.ospf_types.specs.declared.key.Dest.{Dest}
@@ -33,13 +33,23 @@ list_text list = if length list == 0 then codes "<p>No summary-LSA is due in thi
 abbrev pub due_text : (area : ℕ) → List DueSummary → List ℕ
 due_text area list = concat (codes "<h3>Area " ∷ address_text area ∷ codes "</h3>\n" ∷ []) ++ list_text list
 
-abbrev pub area_text : AreaSummariesValue → List ℕ
-area_text a = due_text a.area a.list
+abbrev pub area_text : ℕ × List DueSummary → List ℕ
+area_text e = due_text e.0 e.1
 
 -- each area, or that there is none
-abbrev pub areas_text : List AreaSummariesValue → List ℕ
+abbrev pub areas_text : List (ℕ × List DueSummary) → List ℕ
 areas_text areas = if length areas == 0 then codes "<p>No area is configured.</p>\n" else flat_map area_text areas
 
--- what is due in all areas
-abbrev pub summaries_text : List AreaSummariesValue → List ℕ
+-- what is due in all areas, each with its Area ID
+abbrev pub summaries_text : List (ℕ × List DueSummary) → List ℕ
 summaries_text areas = codes "<h2 id=\"summaries\">Summary-LSAs that are due</h2>\n" ++ areas_text areas
+
+-- the areas with what is due there
+abbrev pub list_of : AreaSummariesValue → ℕ × List DueSummary
+list_of a = (a.area, a.list)
+
+abbrev pub listed : List AreaSummariesValue → List (ℕ × List DueSummary)
+listed areas = map list_of areas
+
+abbrev pub listed_text : AreaSummariesValue → List ℕ
+listed_text a = area_text (list_of a)

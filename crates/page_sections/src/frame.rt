@@ -1,6 +1,6 @@
 //! How the page begins and ends, and what changed last.
 ghost use Rattle.std.specs.Prelude.{◌≡◌, ◌++◌, OnOk, string_bytes};
-ghost use Rattle.page_sections.specs.Frame.{about_text, beginning_text, changes_text, end_text, head_text, lines_text, styles_text, title_text};
+ghost use Rattle.page_sections.specs.Frame.{about_text, beginning_text, changes_beginning_text, changes_end_text, end_text, head_text, styles_text, title_text};
 
 use crate::script::SCRIPT;
 use crate::style::STYLE;
@@ -83,28 +83,28 @@ changed last.</p>"
     Ok(())
 }
 
-/// Appends what changed last, in these lines. They have no `<` and no `&`, as no word, number or address has one. If
-/// memory runs out, the text may have a part of this.
-pub fn put_changes(lines: &str, text: &mut String) -> Result<(), Memory>
+/// Appends what comes before the lines that tell what changed last, or that nothing changed where there are none. If memory
+/// runs out, the text may have a part of this.
+pub fn put_changes_beginning(is_empty: bool, text: &mut String) -> Result<(), Memory>
     ensures { OnOk result (string_bytes text.new ≡ string_bytes text.old
-        ++ changes_text lines.now) }
+        ++ changes_beginning_text is_empty) }
 {
-    text.push_str("<h2 id=\"changes\">Last changes</h2>\n")?;
-    put_lines(lines, text)?;
+    if is_empty {
+        text.push_str("<h2 id=\"changes\">Last changes</h2>\n<p>Nothing changed.</p>\n")?;
+    } else {
+        text.push_str("<h2 id=\"changes\">Last changes</h2>\n<pre>")?;
+    }
     Ok(())
 }
 
-// The lines as they are, or that there are none.
-fn put_lines(lines: &str, text: &mut String) -> Result<(), Memory>
-    ensures { OnOk result (string_bytes text.new ≡ string_bytes text.old ++ lines_text lines.now) }
+/// Appends what comes behind these lines. They have no `<` and no `&`, as no word, number or address has one.
+pub fn put_changes_end(is_empty: bool, text: &mut String) -> Result<(), Memory>
+    ensures { OnOk result (string_bytes text.new ≡ string_bytes text.old
+        ++ changes_end_text is_empty) }
 {
-    if lines.is_empty() {
-        text.push_str("<p>Nothing changed.</p>\n")?;
-        return Ok(());
+    if !is_empty {
+        text.push_str("</pre>\n")?;
     }
-    text.push_str("<pre>")?;
-    text.push_str(lines)?;
-    text.push_str("</pre>\n")?;
     Ok(())
 }
 

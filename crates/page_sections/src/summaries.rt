@@ -1,7 +1,7 @@
 //! The summary-LSAs that are due.
 ghost use Rattle.std.specs.Prelude.{◌≡◌, ◌++◌, OnOk, string_bytes};
 ghost use Rattle.std.specs.List.{flat_map};
-ghost use Rattle.page_sections.specs.Summaries.{area_text, areas_text, dest_text, due_text, list_text, row_text, summaries_text, table_text};
+ghost use Rattle.page_sections.specs.Summaries.{areas_text, dest_text, due_text, list_text, listed, listed_text, row_text, summaries_text, table_text};
 
 use ospf_types::address::Address;
 use ospf_types::key::Dest;
@@ -20,7 +20,7 @@ const HEAD: &str = "<table class=\"due\">
 /// this.
 pub fn put_summaries(areas: &[AreaSummaries], text: &mut String) -> Result<(), Memory>
     ensures { OnOk result (string_bytes text.new ≡ string_bytes text.old
-        ++ summaries_text areas.now) }
+        ++ summaries_text (listed areas.now)) }
 {
     text.push_str("<h2 id=\"summaries\">Summary-LSAs that are due</h2>\n")?;
     put_areas(areas, text)?;
@@ -29,7 +29,8 @@ pub fn put_summaries(areas: &[AreaSummaries], text: &mut String) -> Result<(), M
 
 // Each area, or that there is none.
 fn put_areas(areas: &[AreaSummaries], text: &mut String) -> Result<(), Memory>
-    ensures { OnOk result (string_bytes text.new ≡ string_bytes text.old ++ areas_text areas.now) }
+    ensures { OnOk result (string_bytes text.new ≡ string_bytes text.old
+        ++ areas_text (listed areas.now)) }
 {
     if areas.is_empty() {
         text.push_str("<p>No area is configured.</p>\n")?;
@@ -41,7 +42,7 @@ fn put_areas(areas: &[AreaSummaries], text: &mut String) -> Result<(), Memory>
 // Each area.
 fn put_each(areas: &[AreaSummaries], text: &mut String) -> Result<(), Memory>
     ensures { OnOk result (string_bytes text.new ≡ string_bytes text.old
-        ++ flat_map area_text areas.now) }
+        ++ flat_map listed_text areas.now) }
 {
     for area in areas {
         put_area(area, text)?;
@@ -51,7 +52,7 @@ fn put_each(areas: &[AreaSummaries], text: &mut String) -> Result<(), Memory>
 
 // What is due in an area.
 fn put_area(area: &AreaSummaries, text: &mut String) -> Result<(), Memory>
-    ensures { OnOk result (string_bytes text.new ≡ string_bytes text.old ++ area_text area.now) }
+    ensures { OnOk result (string_bytes text.new ≡ string_bytes text.old ++ listed_text area.now) }
 {
     put_due(area.area(), area.as_slice(), text)
 }
