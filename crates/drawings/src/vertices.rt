@@ -48,7 +48,8 @@ fn put_mark(root: u32, vertex: &DrawnVertex, text: &mut String) -> Result<(), Me
 
 fn put_circle(class: &str, vertex: &DrawnVertex, text: &mut String) -> Result<(), Memory>
     ensures { OnOk result (string_bytes text.new ≡ string_bytes text.old
-        ++ vertex_words.circle_text class.now vertex.now.place (vertex_words.vertex_title vertex.now)) }
+        ++ vertex_words.circle_text class.now vertex.now.place
+        (vertex_words.vertex_title vertex.now)) }
 {
     put_circle_start(class, point_of(vertex.place), text)?;
     put_title(vertex, text)?;
@@ -71,7 +72,8 @@ fn put_circle_start(class: &str, at: Point, text: &mut String) -> Result<(), Mem
 
 fn put_rectangle(vertex: &DrawnVertex, text: &mut String) -> Result<(), Memory>
     ensures { OnOk result (string_bytes text.new ≡ string_bytes text.old
-        ++ vertex_words.rectangle_text vertex.now.place (vertex_words.vertex_title vertex.now)) }
+        ++ vertex_words.rectangle_text vertex.now.place
+        (vertex_words.vertex_title vertex.now)) }
 {
     let Point { x, y } = point_of(vertex.place);
     put_rectangle_start(Point { x: x - 7, y: y - 6 }, text)?;
