@@ -30,6 +30,7 @@ TYPES = {"intra-area": "intra", "inter-area": "inter", "type 1 external": "ext1"
 # What may stand in the text of a page: words, numbers, addresses and their marks.
 PLAIN = re.compile(r"[\w\s.,:;/@()'!?+*-]*")
 LAST_LINES = 10
+HEADINGS = ("h1", "h2", "h3", "h4")
 # The age at which an LSA is no longer used, in seconds (RFC 2328, appendix B).
 MAX_AGE = 3600
 
@@ -56,48 +57,57 @@ class Reader(html.parser.HTMLParser):
 
     def __init__(self):
         super().__init__()
-        self.heading, self.tables, self.pictures, self.texts, self.pre = [], [], [], [], ""
-        self.open, self.cells = [], None
+        self.heading, self.headings, self.tables, self.lists, self.pictures = [], [], [], [], []
+        self.texts, self.pre, self.open = [], "", []
 
     def handle_starttag(self, tag, attrs):
         given = dict(attrs)
         expect(not any(name in given for name in ("src", "srcset", "background", "action")), given)
         expect(given.get("href", "#").startswith("#") and tag not in ("link", "iframe", "object", "embed", "base"), (tag, given))
-        self.open.append((tag, given))
-        if tag in ("meta", "br", "input", "col"):
-            self.open.pop()
+        if tag in ("tr", "td", "th", "li"):
+            # Their ends may be left out.
+            if tag == "tr":
+                self.tables[-1][1].append([])
+            elif tag == "li":
+                self.lists[-1][1].append("")
+            else:
+                self.tables[-1][1][-1].append("")
+            return
+        if tag not in ("meta", "br", "input", "col"):
+            self.open.append((tag, given))
         if tag == "svg" and "viewbox" in given:
             self.pictures.append((self.heading[-1], []))
-        if tag in ("circle", "rect", "path") and self.pictures and any(it[0] == "svg" and "viewbox" in it[1] for it in self.open):
+        if tag in ("circle", "rect", "path") and any(it[0] == "svg" and "viewbox" in it[1] for it in self.open):
             self.pictures[-1][1].append([tag, given, ""])
         if tag == "table":
             self.tables.append((list(self.heading), []))
-        if tag == "tr":
-            self.cells = []
-        if tag in ("td", "th") and self.cells is not None:
-            self.cells.append("")
-        if tag in ("h1", "h2", "h3", "h4"):
+        if tag == "ul":
+            self.lists.append((list(self.heading), []))
+        if tag in HEADINGS:
             self.heading = [it for it in self.heading if it[0] < tag] + [(tag, given.get("id", ""), "")]
+            self.headings.append(self.heading)
 
     def handle_endtag(self, tag):
         while self.open and self.open.pop()[0] != tag:
             pass
-        if tag == "tr" and self.tables:
-            self.tables[-1][1].append(self.cells)
-            self.cells = None
 
     def handle_data(self, data):
         inside = [it[0] for it in self.open]
         if "style" in inside or "script" in inside:
             return
         self.texts.append(data)
-        if "title" in inside and self.pictures and "svg" in inside:
-            self.pictures[-1][1][-1][2] += data
-        elif self.cells:
-            self.cells[-1] += data
+        if "svg" in inside:
+            if "title" in inside:
+                self.pictures[-1][1][-1][2] += data
+        elif "table" in inside:
+            if self.tables[-1][1] and self.tables[-1][1][-1]:
+                self.tables[-1][1][-1][-1] += data
+        elif "ul" in inside:
+            if self.lists[-1][1]:
+                self.lists[-1][1][-1] += data
         elif "pre" in inside:
             self.pre += data
-        elif inside and inside[-1] in ("h1", "h2", "h3", "h4"):
+        elif inside and inside[-1] in HEADINGS:
             tag, name, text = self.heading.pop()
             self.heading.append((tag, name, text + data))
 
@@ -128,16 +138,46 @@ class Page(Run):
 
     def check_routes(self):
         rows = [row for _, table in self.tables_of("routes") for row in table if "/" in row[0]]
+        told = [[*row[:5], row[5].split()] for row in rows]
         wanted = [self.row_of(words) for words in self.items.values()]
-        expect(rows == wanted, [it for it in zip(rows, wanted) if it[0] != it[1]][:2] or (len(rows), len(wanted)))
+        expect(told == wanted, [it for it in zip(told, wanted) if it[0] != it[1]][:2] or (len(told), len(wanted)))
         return len(rows)
 
     def row_of(self, words):
         if words[0] == "discard":
-            return [words[1], "discard", "", "", "", ""]
+            return [words[1], "discard", "-", "-", "-", ["-"]]
         kinds = {short: long for long, short in TYPES.items()}
         _, prefix, kind, area, cost, cost2, paths = words
-        return [prefix, kinds[kind], "" if area == "-" else area, cost, cost2 if kind == "ext2" else "", paths.replace(",", ", ")]
+        return [prefix, kinds[kind], area, cost, cost2 if kind == "ext2" else "-", paths.split(",")]
+
+    def check_ranges(self):
+        """Compares the networks of each range with those that the table has in it."""
+        told = {}
+        for heading in self.page.headings:
+            if any(name == "ranges" for _, name, _ in heading) and heading[-1][0] == "h4":
+                prefix, advertised, count = re.fullmatch(r"([\d./]+), (advertised|not advertised): (no|\d+) networks?", heading[-1][2]).groups()
+                told[heading[-2][2].split(" ")[1], prefix] = (advertised == "advertised", 0 if count == "no" else int(count), [])
+        for heading, rows in self.page.lists:
+            told[heading[-2][2].split(" ")[1], heading[-1][2].split(",")[0]][2].extend(row.split() for row in rows)
+        wanted = {}
+        for area, prefix, state in self.ranges():
+            inside = [
+                [words[1], words[4]]
+                for words in self.items.values()
+                if words[0] == "route" and words[2] == "intra" and words[3] == area and network(words[1]).subnet_of(network(prefix))
+            ]
+            wanted[area, prefix] = (state == "advertise", len(inside), inside)
+        expect(told == wanted, (told, wanted))
+
+    def ranges(self):
+        """Returns the ranges that are configured in the end."""
+        found = {}
+        for words in self.lines("replay", self.file, "--show", "journal"):
+            if words[0] in ("range", "range-set"):
+                found[words[1], words[2]] = words[3]
+            if words[0] == "range-drop":
+                del found[words[1], words[2]]
+        return [(*key, state) for key, state in found.items()]
 
     def check_summaries(self):
         told = []
