@@ -95,6 +95,13 @@ areas_text items areas =
     then flat_map (area_text items) areas
     else codes "<p>No area has an address range.</p>\n"
 
+-- the heading of the section, and what is told of a range
+abbrev pub section_text : List ℕ
+section_text = concat (
+    codes "<h2 id=\"ranges\">Address ranges</h2>\n"
+    ∷ codes "<p class=\"quiet\">Each range with the networks in it that the area's own routes lead to, and the cost of each.</p>\n"
+    ∷ [])
+
 -- the ranges of all areas
 abbrev pub ranges_text : List (Network × Item) → List AreaConfig → List ℕ
-ranges_text items areas = codes "<h2 id=\"ranges\">Address ranges</h2>\n" ++ areas_text items areas
+ranges_text items areas = section_text ++ areas_text items areas

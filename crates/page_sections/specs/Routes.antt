@@ -86,6 +86,9 @@ row_text x = row_of x.0 x.1
 abbrev pub table_head_text : List ℕ
 table_head_text = concat (
     codes "</p>\n"
+    ∷ codes "<p class=\"quiet\">A path is a way and an interface (direct:1, peer:1, or router:1 with the address of the next router); "
+    ∷ codes "behind @ stands the router that advertised the destination. "
+    ∷ codes "Packets to a network of type discard are dropped: it is an active address range of this router.</p>\n"
     ∷ codes "<p><label>Search <input id=\"search\" type=\"search\" placeholder=\"an IPv4 address, or words\" autocomplete=\"off\" spellcheck=\"false\"></label> <output id=\"found\"></output></p>\n"
     ∷ codes "<table id=\"table\">\n"
     ∷ codes "<thead>\n"

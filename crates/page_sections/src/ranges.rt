@@ -20,13 +20,18 @@ struct Counted {
     cost: u32,
 }
 
+// The heading of the section, and what is told of a range.
+const HEAD: &str = "<h2 id=\"ranges\">Address ranges</h2>
+<p class=\"quiet\">Each range with the networks in it that the area's own routes lead to, and the cost of each.</p>
+";
+
 /// Appends the address ranges of each area that has some (RFC 2328, 3.5), and the networks in each range: those that the
 /// area's own routes lead to. If memory runs out, the text may have a part of this.
 pub fn put_ranges(areas: &[AreaConfig], table: &Table, text: &mut String) -> Result<(), Memory>
     ensures { OnOk result (string_bytes text.new ≡ string_bytes text.old
         ++ ranges_text (entries table.now.items) areas.now) }
 {
-    text.push_str("<h2 id=\"ranges\">Address ranges</h2>\n")?;
+    text.push_str(HEAD)?;
     put_areas(areas, table, text)?;
     Ok(())
 }

@@ -23,6 +23,9 @@ enum Kind {
 
 // The search box, and the head of the table.
 const HEAD: &str = "</p>
+<p class=\"quiet\">A path is a way and an interface (direct:1, peer:1, or router:1 with the address of the next router); \
+behind @ stands the router that advertised the destination. Packets to a network of type discard are dropped: it is an \
+active address range of this router.</p>
 <p><label>Search <input id=\"search\" type=\"search\" placeholder=\"an IPv4 address, or words\" \
 autocomplete=\"off\" spellcheck=\"false\"></label> <output id=\"found\"></output></p>
 <table id=\"table\">

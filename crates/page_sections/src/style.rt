@@ -3,18 +3,20 @@
 /// The rules of the page, and of the classes that the pictures in it name.
 pub(crate) const STYLE: &str =
     ":root{color-scheme:light dark;--page:#fff;--text:#222;--quiet:#5c646b;--rule:#e1e4e7;--head:#f3f6f8;--best:#fff3bf;--tree:#2a6f97;--link:#bbb;--router:#fff;--net:#eef3f7;--edge:#7a8c99;--rim:#1b4965;--scale:#335;--axis:#e3e3e3}
-@media (prefers-color-scheme:dark){:root{--page:#14181c;--text:#e3e7ea;--quiet:#9ba6af;--rule:#2d353c;--head:#1d242a;--best:#4d4210;--tree:#5fb0de;--link:#5d6870;--router:#14181c;--net:#27333d;--edge:#90a3b0;--rim:#b5dcf3;--scale:#b4bfe3;--axis:#2a3239}}
+@media (prefers-color-scheme:dark){:root{--page:#14181c;--text:#e3e7ea;--quiet:#9ba6af;--rule:#2d353c;--head:#1d242a;--best:#4d4210;--tree:#5fb0de;--link:#737f88;--router:#14181c;--net:#27333d;--edge:#90a3b0;--rim:#b5dcf3;--scale:#b4bfe3;--axis:#2a3239}}
 body{margin:0 auto;padding:1rem 1.25rem 4rem;max-width:76rem;background:var(--page);color:var(--text);font:15px/1.5 system-ui,sans-serif}
 h1{margin:.5rem 0;font-size:1.7rem}
 h2{margin:2.5rem 0 .5rem;padding-bottom:.25rem;border-bottom:1px solid var(--rule);font-size:1.3rem}
 h3{margin:1.5rem 0 .5rem;font-size:1.05rem}
 h4{margin:1rem 0 .25rem;font-size:1rem;font-weight:500}
 a{color:var(--tree)}
-nav{display:flex;flex-wrap:wrap;gap:.25rem 1.25rem}
+nav,.counts{display:flex;flex-wrap:wrap;gap:.25rem 1.25rem}
 table{border-collapse:collapse;font-variant-numeric:tabular-nums}
 th,td{padding:.2rem .75rem;border-bottom:1px solid var(--rule);text-align:left;vertical-align:top}
 th{position:sticky;top:0;background:var(--head);font-weight:600;white-space:nowrap}
-#table{width:100%}
+#table{width:100%;min-width:60rem;table-layout:fixed}
+#table th:not(:last-child){width:8rem}
+#table th:first-child{width:11rem}
 #table :is(th,td):is(:nth-child(4),:nth-child(5)),.due :is(th,td):nth-child(3){text-align:right}
 #table td:not(:last-child){white-space:nowrap}
 tbody tr:hover{background:var(--head)}

@@ -1,4 +1,4 @@
-use Rattle.std.proofs.Common.{◌≡◌, ◌<◌, ◌^◌, cond, length, subst, ap, ◌∙◌, sym, arith}
+use Rattle.std.proofs.Common.{◌<◌, ◌^◌, cond, length, subst, ap, ◌∙◌, arith}
 use Rattle.std.specs.FinMap.{entries}
 use Rattle.page_sections.specs.Routes.{is_of, same_kind}
 use Rattle.page_sections.proofs.Counting.{count_fits}

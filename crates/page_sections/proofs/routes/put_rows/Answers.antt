@@ -1,4 +1,4 @@
-use Rattle.std.proofs.Common.{◌++◌, ap, sym, ◌∙◌, string_bytes, append-nil, append_assoc}
+use Rattle.std.proofs.Common.{◌++◌, ap, ◌∙◌, string_bytes}
 use Rattle.std.specs.List.{flat_map}
 use Rattle.page_sections.specs.Routes.{row_text}
 use Rattle.page_sections.proofs.Pieces.{first_printed, all_printed}
