@@ -14,11 +14,12 @@ nav,.counts{display:flex;flex-wrap:wrap;gap:.25rem 1.25rem}
 table{border-collapse:collapse;font-variant-numeric:tabular-nums}
 th,td{padding:.2rem .75rem;border-bottom:1px solid var(--rule);text-align:left;vertical-align:top}
 th{position:sticky;top:0;background:var(--head);font-weight:600;white-space:nowrap}
-#table{width:100%;min-width:60rem;table-layout:fixed}
-#table th:not(:last-child){width:8rem}
+#table{width:100%;min-width:62rem;table-layout:fixed}
+#table th:not(:last-child){box-sizing:border-box;width:8.5rem}
 #table th:first-child{width:11rem}
 #table :is(th,td):is(:nth-child(4),:nth-child(5)),.due :is(th,td):nth-child(3){text-align:right}
 #table td:not(:last-child){white-space:nowrap}
+#table td:last-child{overflow-wrap:anywhere}
 tbody tr:hover{background:var(--head)}
 .best,.best:hover{background:var(--best)!important}
 .quiet,.legend{color:var(--quiet)}
