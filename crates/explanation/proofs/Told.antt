@@ -1,9 +1,9 @@
 -- Traces by way of border routers that tell of an AS boundary router, one path of the inter-area entry after the other.
-use Rattle.std.proofs.Common.{◌≡◌, ◌<◌, ◌≤◌, ◌+◌, ℕ, List, [], ◌∷◌, Some, take, length, get_or, sym, ap, subst, ◌∙◌, inl, inr}
-use Rattle.std.specs.Prelude.{Contains}
+use Rattle.std.proofs.Common.{◌≡◌, ◌<◌, ◌≤◌, ◌+◌, ℕ, List, [], ◌∷◌, Option, Some, None, take, length, get_or, sym, ap, subst, ◌∙◌, inl, inr}
+use Rattle.std.specs.Prelude.{Contains, IfNone}
 use Rattle.std.specs.FinMap.{get}
 use Rattle.std.proofs.lemmas.List.{take_all}
-use Rattle.ospf_types.proofs.Elements.{contains_more}
+use Rattle.ospf_types.proofs.Elements.{contains_more, no_element}
 use Rattle.ospf_types.specs.declared.entry.Entry.{Entry}
 use Rattle.ospf_types.specs.declared.hop.Path.{Path}
 use Rattle.ospf_types.specs.declared.key.Dest.TheVariants as dest
@@ -21,6 +21,10 @@ use Rattle.explanation.specs.Outside.{AreTold, AreToldOver, IsBoundaryIn, IsTold
 use Rattle.explanation.specs.Traces.{HasTrace}
 use Rattle.explanation.proofs.Rivals.{some_same}
 use Rattle.explanation.proofs.TraceLists.{each_more, keeps_trace, new_trace}
+
+pub if_none : {A : Type 0} (o : Option A) (P : Type 0) → P → IfNone o P
+if_none None P is = is
+if_none (Some x) P is = tt
 
 -- the key of the summary-LSA of the border router
 abbrev pub told_key : ℕ → ℕ → Key
@@ -55,6 +59,12 @@ module _ (w : Layers) (o : Offer) (paths : List Path) where
       }
 
   module _ (area : ℕ) where
+    pub none_told : (withins : List Path) → AreToldOver w area o paths (take 0 withins) []
+    none_told withins = record {
+      sound = λ t among. absurd (no_element t among);
+      complete = λ within among. absurd (no_element within among);
+    }
+
     pub more_told : (withins : List Path) (i : ℕ) (within : Path) (before after : List Trace) → i < length withins → within ≡ get_or withins i within
         → AreToldOver w area o paths (take i withins) before → MayAddTold w area o paths within before after → AreToldOver w area o paths (take (i + 1) withins) after
     more_told withins i within before after lt here are (inl added) = record {

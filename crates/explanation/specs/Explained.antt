@@ -58,6 +58,10 @@ abbrev pub AddsJudged : Layers → Option Entry → Option ℕ → Option Extern
 AddsJudged w internal greatest least o before after = (c : Candidate) × (c.offer ≡ o)
     × IsJudged w internal greatest least o (record { cost = c.cost; fate = c.fate }) × AreTracesFor w o c.fate c.traces.items × (after ≡ before ++ c ∷ [])
 
+-- what became of this offer is added
+abbrev pub AddsCandidate : Layers → List Offer → Offer → List Candidate → List Candidate → Type 0
+AddsCandidate w all o before after = (c : Candidate) × IsCandidate w all c × (c.offer ≡ o) × (after ≡ before ++ c ∷ [])
+
 -- what became of these offers is there too, beside that of others
 abbrev pub MakesMore : Layers → List Offer → List Offer → List Candidate → List Candidate → Type 0
 MakesMore w all group before after = (others : List Offer) → AreCandidates w all others before → AreCandidates w all (others ++ group) after
