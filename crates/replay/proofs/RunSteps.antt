@@ -1,11 +1,12 @@
 -- Runs of lines, and one line more.
-use Rattle.std.proofs.Common.{◌≡◌, ℕ, suc, ◌≤◌, ◌+◌, List, [], ◌∷◌, ◌++◌, All, length, take, Option, refl, sym, ap, subst, ◌∙◌, append_assoc, append-nil, arith}
+use Rattle.std.proofs.Common.{◌≡◌, ◌≢◌, ℕ, suc, ◌≤◌, ◌+◌, List, [], ◌∷◌, ◌++◌, All, length, take, Option, refl, sym, ap, subst, ◌∙◌, append_assoc, append-nil, arith}
 use Rattle.std.specs.Prelude.{Result, Ok, Err, IfOk, IfErr, OnOk, OnErr}
 use Rattle.std.proofs.lemmas.List.{length-append, take-append-le, take_all}
 use Rattle.std.proofs.lemmas.List.Elements.{All-append, All-cons, All-nil}
 use Rattle.output_format.specs.declared.Format.{Format}
 use Rattle.event_state.specs.declared.event.Event.{Event}
 use Rattle.event_state.specs.declared.refusal.Refusal.{Refusal}
+use Rattle.event_state.specs.declared.refusal.Refusal.TheVariants as refusal
 use Rattle.event_state.specs.States.{serial_of}
 use Rattle.route_table.specs.declared.table.Match.{Match}
 use Rattle.route_table.specs.Tables.{TableValue, IsMatch}
@@ -15,7 +16,7 @@ use Rattle.recording.specs.declared.line.Line.{Line}
 use Rattle.recording.specs.declared.line.Line.TheVariants as line
 use Rattle.replay.specs.Lines.{lookup_line, answer_line, roll_line}
 use Rattle.replay.specs.Runs.{OfEvent, OfRoll, Answers, RollsBy, Prints, text_of_answer}
-use Rattle.replay.specs.Pages.{Adds, AddsPart, RanLine, Ran, RanPart, HadMemory, IsRunTo}
+use Rattle.replay.specs.Pages.{Adds, AddsPart, RanLine, Ran, RanPart, HadMemory, IsRunTo, TakesEvent, TakesRoll}
 use Rattle.replay.specs.Stops.{AreWhole}
 use Rattle.replay.specs.declared.page.Stop.{Stop}
 use Rattle.replay.specs.declared.page.Stop.TheVariants as stop
@@ -73,15 +74,25 @@ lookup_ran format old table number l address before after is same (found, matche
   lines = lookup_whole format number address old.table.serial found;
 }
 
-pub event_taken : (old new : CoreValue) (l : Line) (e : Event) (answer : Result Reply Refusal) → l ≡ line.Event e → Applies old e answer new → HadMemory (OfEvent answer) → IsRunTo old (l ∷ []) new
-event_taken old new l e answer is applies memory format number =
+-- an event that was taken, and one that was refused for another reason than want of memory
+pub event_done : (old new : CoreValue) (e : Event) (answer : Result Reply Refusal) (reply : Reply) → answer ≡ Ok reply → Applies old e answer new → TakesEvent old e new
+event_done old new e answer reply is applies = (answer, applies, subst (λ (a : Result Reply Refusal). HadMemory (OfEvent a)) (sym is) tt)
+
+pub event_refused : (old new : CoreValue) (e : Event) (answer : Result Reply Refusal) (why : Refusal) → answer ≡ Err why → Applies old e answer new → why ≢ refusal.Memory → TakesEvent old e new
+event_refused old new e answer why is applies other = (answer, applies, subst (λ (a : Result Reply Refusal). HadMemory (OfEvent a)) (sym is) other)
+
+pub roll_done : (old new : CoreValue) (answer : Result ℕ Refusal) (serial : ℕ) → answer ≡ Ok serial → RollsBy old answer new → TakesRoll old new
+roll_done old new answer serial is rolls = (serial, subst (λ (a : Result ℕ Refusal). RollsBy old a new) is rolls)
+
+pub event_taken : (old new : CoreValue) (l : Line) (e : Event) → l ≡ line.Event e → TakesEvent old e new → IsRunTo old (l ∷ []) new
+event_taken old new l e is (answer, applies, memory) format number =
     subst (λ (x : Line). (answers : Answers) × (text : List ℕ) × Prints format old number (x ∷ []) answers text new × All HadMemory answers) (sym is)
     (OfEvent answer ∷ [], answer_line format number answer, event_prints format old new number e answer applies, All-cons HadMemory (OfEvent answer) [] memory (All-nil HadMemory))
 
-pub roll_taken : (old new : CoreValue) (l : Line) (answer : Result ℕ Refusal) → l ≡ line.Roll → RollsBy old answer new → HadMemory (OfRoll answer) → IsRunTo old (l ∷ []) new
-roll_taken old new l answer is rolls memory format number =
+pub roll_taken : (old new : CoreValue) (l : Line) → l ≡ line.Roll → TakesRoll old new → IsRunTo old (l ∷ []) new
+roll_taken old new l is (serial, rolls) format number =
     subst (λ (x : Line). (answers : Answers) × (text : List ℕ) × Prints format old number (x ∷ []) answers text new × All HadMemory answers) (sym is)
-    (OfRoll answer ∷ [], roll_line format number answer, roll_prints format old new number answer rolls, All-cons HadMemory (OfRoll answer) [] memory (All-nil HadMemory))
+    (OfRoll (Ok serial) ∷ [], roll_line format number (Ok serial), roll_prints format old new number (Ok serial) rolls, All-cons HadMemory (OfRoll (Ok serial)) [] tt (All-nil HadMemory))
 
 pub lookup_taken : (old : CoreValue) (table : TableValue) (l : Line) (address : ℕ) (found : Match) → l ≡ line.Lookup address → table ≡ old.table → IsMatch table.items address found
     → IsRunTo old (l ∷ []) old
@@ -201,7 +212,7 @@ pub record Taking (first number : ℕ) (old : CoreValue) (lines rest : List Line
   pub run : IsRunTo old done now
 
 pub taking_none : (first number : ℕ) (old : CoreValue) (lines rest : List Line) → number ≡ first → lines ≡ rest → Taking first number old lines rest old
-taking_none first number old lines rest counted is = record { done = []; left = is; counted = omega (arith, counted); run = λ format number. ([], [], (refl, refl)) }
+taking_none first number old lines rest counted is = record { done = []; left = is; counted = omega (arith, counted); run = λ format number. ([], [], (refl, refl), All-nil HadMemory) }
 
 pub taking_more : (first number : ℕ) (old mid new : CoreValue) (lines rest more : List Line) (l : Line) → Taking first number old lines rest mid → rest ≡ l ∷ more → IsRunTo mid (l ∷ []) new → Taking first (number + 1) old lines more new
 taking_more first number old mid new lines rest more l h next line = record {

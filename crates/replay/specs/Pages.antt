@@ -1,11 +1,14 @@
 -- The page: the end of what is printed, which is not yet written.
-use Rattle.std.specs.Prelude.{ℕ, ◌≡◌, ◌≢◌, ◌++◌, List, [], ◌∷◌, All, Option, Ok, Err, take}
+use Rattle.std.specs.Prelude.{ℕ, ◌≡◌, ◌≢◌, ◌++◌, List, [], ◌∷◌, All, Option, Result, Ok, Err, take}
 use Rattle.std.specs.Io.KnownBytes.{Appends}
 use Rattle.output_format.specs.declared.Format.{Format}
-use Rattle.event_core.specs.Cores.{CoreValue}
+use Rattle.event_state.specs.declared.event.Event.{Event}
+use Rattle.event_state.specs.declared.refusal.Refusal.{Refusal}
 use Rattle.event_state.specs.declared.refusal.Refusal.TheVariants as refusal
+use Rattle.event_core.specs.declared.reply.Reply.{Reply}
+use Rattle.event_core.specs.Cores.{CoreValue, Applies}
 use Rattle.recording.specs.declared.line.Line.{Line}
-use Rattle.replay.specs.Runs.{Answer, Answers, OfEvent, OfRoll, Prints}
+use Rattle.replay.specs.Runs.{Answer, Answers, OfEvent, OfRoll, Prints, RollsBy}
 use Rattle.replay.specs.Stops.{AreWhole, IsBeginning}
 use Rattle.replay.specs.declared.page.Stop.{Stop}
 
@@ -56,6 +59,14 @@ HadMemory (OfEvent (Ok reply)) = Unit {0}
 HadMemory (OfEvent (Err why)) = why ≢ refusal.Memory
 HadMemory (OfRoll (Ok serial)) = Unit {0}
 HadMemory (OfRoll (Err why)) = ⊥
+
+-- the event was applied, and was not refused for want of memory
+abbrev pub TakesEvent : CoreValue → Event → CoreValue → Type 0
+TakesEvent old e new = (answer : Result Reply Refusal) × Applies old e answer new × HadMemory (OfEvent answer)
+
+-- the core was rolled
+abbrev pub TakesRoll : CoreValue → CoreValue → Type 0
+TakesRoll old new = (serial : ℕ) × RollsBy old (Ok serial) new
 
 -- the lines lead from one core to the other, whatever their numbers and in whatever form they are printed, and memory ran out over none of them
 abbrev pub IsRunTo : CoreValue → List Line → CoreValue → Type 0

@@ -1,9 +1,10 @@
 //! The run of a recording's lines.
-ghost use Rattle.std.specs.Prelude.{◌≡◌, [], ◌∷◌, ◌+◌, ◌^◌, ◌<◌, ◌≤◌, length, IfOk, OnOk, IfErr, string_bytes};
+ghost use Rattle.std.specs.Prelude.{◌≡◌, ◌≢◌, [], ◌∷◌, ◌+◌, ◌^◌, ◌<◌, ◌≤◌, length, IfOk, OnOk, IfErr, string_bytes};
+ghost use Rattle.event_state.specs.declared.refusal.Refusal.TheVariants as refusal_value;
 ghost use Rattle.recording.specs.Places.{first_lines};
 ghost use Rattle.replay.specs.Advance.{ShowsProgress};
 ghost use Rattle.replay.specs.Lines.{first_number};
-ghost use Rattle.replay.specs.Pages.{Ran, RanPart, RanLine, IsRunTo};
+ghost use Rattle.replay.specs.Pages.{Ran, RanPart, RanLine, IsRunTo, TakesEvent, TakesRoll};
 ghost use Rattle.replay.specs.Runs.{RollsBy};
 ghost use Rattle.replay.specs.Stops.{AreWhole};
 
@@ -12,7 +13,7 @@ use crate::opened::OpenedRecording;
 use crate::page::{Stop, spill};
 use crate::printing::Printing;
 use crate::progress::Progress;
-use event_core::{Base, Core, Refusal};
+use event_core::{Base, Core, Event, Refusal};
 use ospf_types::memory::Memory;
 use output_format::Format;
 use recording::{Line, Version};
@@ -140,22 +141,43 @@ fn take_line(core: &mut Core, line: Line) -> Result<(), Memory>
     ensures { OnOk result (IsRunTo core.old (line ∷ []) core.new) }
 {
     match line {
-        Line::Event(event) => {
-            if let Err(Refusal::Memory) = core.apply(event) {
-                return Err(Memory);
-            }
-        }
+        Line::Event(event) => take_event(core, event),
         Line::Lookup(address) => {
             let _ = core.table().lookup(address);
+            Ok(())
         }
-        // A roll is refused where memory runs out, and where it ran out before: only then a table is behind.
-        Line::Roll => {
-            if roll(core).is_err() {
-                return Err(Memory);
-            }
-        }
+        Line::Roll => take_roll(core),
+    }
+}
+
+// Applies an event.
+fn take_event(core: &mut Core, event: Event) -> Result<(), Memory>
+    ensures { OnOk result (TakesEvent core.old event core.new) }
+{
+    match core.apply(event) {
+        Ok(_) => Ok(()),
+        Err(refusal) => unless_memory(refusal),
+    }
+}
+
+// An error where the refusal is for want of memory.
+fn unless_memory(refusal: Refusal) -> Result<(), Memory>
+    ensures { OnOk result (refusal ≢ refusal_value.Memory) }
+{
+    if refusal == Refusal::Memory {
+        return Err(Memory);
     }
     Ok(())
+}
+
+// Rolls the core. That is refused where memory runs out, and where it ran out before: only then a table is behind.
+fn take_roll(core: &mut Core) -> Result<(), Memory>
+    ensures { OnOk result (TakesRoll core.old core.new) }
+{
+    match roll(core) {
+        Ok(_) => Ok(()),
+        Err(_) => Err(Memory),
+    }
 }
 
 // Rolls the core.

@@ -14,13 +14,16 @@ returns-in_err-page-clause-err g c = err_as _ c.from_residual.result stop.Memory
 pub returns-in_err-show-clause-err : goal.returns-in_err-show-clause-err
 returns-in_err-show-clause-err g c =
     err_as _ c.from_residual-in_err-show.result c.in_err-show.field-0.0 c.from_residual-in_err-show.ensures.1
-    (journal_cut _ _ _ _ _ _ _ _ c.requires.opened c.requires.show c.in_ok-page.ensures c.run_silently-core.ensures.run c.in_err-show.field-0.0 c.in_err-show.ensures.err)
+    (journal_cut _ _ _ _ _ _ _ _ c.requires.opened c.requires.show c.in_ok-page.ensures c.in_ok-core.ensures.run c.in_err-show.field-0.0 c.in_err-show.ensures.err)
 
 pub returns-in_err-write_page-clause-err : goal.returns-in_err-write_page-clause-err
 returns-in_err-write_page-clause-err g c =
     err_as _ c.from_residual-in_err-write_page.result (stop_of c.in_err-write_page.field-0.0) c.from_residual-in_err-write_page.ensures.1 (whole_cut (stop_of c.in_err-write_page.field-0.0) _ _ _ _ _ _
-    (journal_whole _ _ _ _ _ _ _ _ c.requires.opened c.requires.show c.in_ok-page.ensures c.run_silently-core.ensures.run _ c.in_ok-show.ensures.ok) c.in_err-write_page.ensures.err)
+    (journal_whole _ _ _ _ _ _ _ _ c.requires.opened c.requires.show c.in_ok-page.ensures c.in_ok-core.ensures.run _ c.in_ok-show.ensures.ok) c.in_err-write_page.ensures.err)
 
 pub returns-clause-ok : goal.returns-clause-ok
 returns-clause-ok g c =
-    whole_written _ _ _ _ _ _ _ (journal_whole _ _ _ _ _ _ _ _ c.requires.opened c.requires.show c.in_ok-page.ensures c.run_silently-core.ensures.run _ c.in_ok-show.ensures.ok) c.in_ok-write_page.ensures.ok c.in_ok-write_page.ensures.empty
+    whole_written _ _ _ _ _ _ _ (journal_whole _ _ _ _ _ _ _ _ c.requires.opened c.requires.show c.in_ok-page.ensures c.in_ok-core.ensures.run _ c.in_ok-show.ensures.ok) c.in_ok-write_page.ensures.ok c.in_ok-write_page.ensures.empty
+
+pub returns-in_err-core-clause-err : goal.returns-in_err-core-clause-err
+returns-in_err-core-clause-err g c = err_as _ c.from_residual-in_err-core.result stop.Memory c.from_residual-in_err-core.ensures.1 (none_written _ _ _ _ _ c.requires.opened)

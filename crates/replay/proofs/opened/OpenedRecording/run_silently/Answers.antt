@@ -18,7 +18,7 @@ overflow_add-number g c =
 
 pub loop-line-preserved : goal.loop-line-preserved
 loop-line-preserved g c =
-    record { taking = taking_more _ _ _ _ _ _ _ _ _ c.loop-line.invariant.taking c.in-Some.ensures.steps.0 c.take_line.ensures; shown = advanced_more _ _ _ _ _ _ c.loop-line.invariant.shown c.show.ensures }
+    record { taking = taking_more _ _ _ _ _ _ _ _ _ c.loop-line.invariant.taking c.in-Some.ensures.steps.0 c.in_ok-take_line.ensures; shown = advanced_more _ _ _ _ _ _ c.loop-line.invariant.shown c.show.ensures }
 
 pub returns-clause-run : goal.returns-clause-run
 returns-clause-run g c =
@@ -26,3 +26,6 @@ returns-clause-run g c =
 
 pub returns-clause-progress : goal.returns-clause-progress
 returns-clause-progress g c = advanced_shows _ _ _ _ _ _ c.progress-progress.ensures c.loop-line.invariant.shown
+
+pub returns-in_err-take_line-clause-progress : goal.returns-in_err-take_line-clause-progress
+returns-in_err-take_line-clause-progress g c = advanced_shows _ _ _ _ _ _ c.progress-progress.ensures c.loop-line.invariant.shown
