@@ -1,4 +1,4 @@
-use Rattle.page_replay.proofs.Pictures.{picture_more, pictures_all, tree_of}
+use Rattle.page_replay.proofs.Shown.{picture_more, pictures_all, tree_of}
 use Rattle.page_replay.proofs.pictures.pictures_of.Goals as goal
 
 pub picture_of-requires : goal.picture_of-requires
