@@ -21,8 +21,8 @@ use ospf_types::listed::Listed;
 use ospf_types::memory::Memory;
 use std::alloc::Global;
 
-/// The picture of an area: what its tree reaches from the router with this Router ID, and the links between. Equal trees of one
-/// database give equal pictures.
+/// The picture of an area: what its tree reaches from the router with this Router ID, and the links between. The work is quadratic
+/// in these, and nobody reads a picture of many hundreds: `count_vertices` says first how many there are.
 pub fn draw_area(
     alloc: Global,
     root: u32,

@@ -25,10 +25,10 @@ use std::hash::RandomState;
 use std::io;
 
 /// Reads its input to the end as a recording, runs it on one thread, and writes the answer to the question about the table that
-/// it leaves. For a fault of the input, and where memory runs out, also over an event, nothing is written. Where a write fails, a beginning of the
-/// answer is written. A failed write is told as `Closed` where the writer's error is of the kind `BrokenPipe`, and else as
-/// `Write`. If `explaining.progress` is set, `faults` is shown how many lines are done; what cannot be written there is left
-/// out. The line that is written over is left for the caller to end.
+/// it leaves. For a fault of the input, and where memory runs out, over an event too, nothing is written. Where a write fails,
+/// a beginning of the answer is written. A failed write is told as `Closed` where the writer's error is of the kind `BrokenPipe`,
+/// and else as `Write`. If `explaining.progress` is set, `faults` is shown how many lines are done; what cannot be written there
+/// is left out. The line that is written over is left for the caller to end.
 pub fn explain_one<R: io::Read, W: io::Write, F: io::Write>(
     alloc: Global,
     hashing: RandomState,
