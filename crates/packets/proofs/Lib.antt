@@ -1,2 +1,4 @@
 pub mod Words
 pub mod OnesSums
+pub mod Covered
+pub mod PacketFaults

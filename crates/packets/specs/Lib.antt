@@ -1,2 +1,4 @@
 pub mod Checksum
 pub mod Folding
+pub mod Packets
+pub mod Text

@@ -2,6 +2,14 @@
 //! bytes are the payload of an IPv4 datagram of protocol 89, put together already. Nothing is copied.
 #![tactic(auto)]
 
+mod authentication;
 mod checksum;
+mod fault;
+mod kind;
+mod packet;
 
+pub use authentication::Authentication;
 pub use checksum::internet_checksum;
+pub use fault::{PacketFault, UpdateFault};
+pub use kind::PacketKind;
+pub use packet::{Packet, read_packet};
