@@ -7,9 +7,11 @@ mod checksum;
 mod fault;
 mod kind;
 mod packet;
+mod update;
 
 pub use authentication::Authentication;
 pub use checksum::internet_checksum;
 pub use fault::{PacketFault, UpdateFault};
 pub use kind::PacketKind;
 pub use packet::{Packet, read_packet};
+pub use update::{UpdateLsas, update_lsas};
