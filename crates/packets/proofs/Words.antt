@@ -1,5 +1,5 @@
 -- Sums of words, eight bytes at a time.
-use Rattle.std.proofs.Common.{◌≡◌, ℕ, ◌+◌, ◌*◌, ◌-◌, ◌<◌, ◌≤◌, List, [], ◌∷◌, ◌++◌, length, sum, drop, take, ap, ◌∙◌, arith}
+use Rattle.std.proofs.Common.{◌≡◌, ℕ, zero, suc, ◌+◌, ◌*◌, ◌-◌, ◌<◌, ◌≤◌, List, [], ◌∷◌, ◌++◌, length, drop, take, ap, ◌∙◌, arith}
 use Rattle.std.proofs.lemmas.List.{length-drop, take_all}
 use Rattle.std.proofs.lemmas.List.Sums.{sum_by-cons}
 use Rattle.byteorder.specs.Endian.{big_number}
@@ -55,3 +55,12 @@ last_padded (a ∷ b ∷ c ∷ d ∷ e ∷ f ∷ g ∷ h ∷ bytes) more short =
 -- the slice from a place on
 pub rest_is : (k : ℕ) (bytes : List ℕ) → take (length bytes - k) (drop k bytes) ≡ drop k bytes
 rest_is k bytes = take_all (length bytes - k) (drop k bytes) (omega (arith, length-drop k bytes))
+
+-- behind whole words
+pub word_sum-append : (n : ℕ) (front back : List ℕ) → length front ≡ 2 * n → word_sum (front ++ back) ≡ word_sum front + word_sum back
+word_sum-append zero [] back even = omega arith
+word_sum-append zero (high ∷ front) back even = absurd (omega (arith, even))
+word_sum-append (suc n) [] back even = absurd (omega (arith, even))
+word_sum-append (suc n) (high ∷ []) back even = absurd (omega (arith, even))
+word_sum-append (suc n) (high ∷ low ∷ front) back even =
+    omega (arith, word_sum-cons high low (front ++ back), word_sum-cons high low front, word_sum-append n front back (omega (arith, even)))

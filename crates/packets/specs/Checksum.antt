@@ -1,5 +1,5 @@
 -- The Internet checksum (RFC 1071).
-use Rattle.std.specs.Prelude.{ℕ, ◌+◌, ◌*◌, ◌-◌, ◌/◌, ◌%◌, ◌^◌, List, [], ◌∷◌}
+use Rattle.std.specs.Prelude.{ℕ, ◌≡◌, ◌⊎◌, ◌+◌, ◌*◌, ◌-◌, ◌/◌, ◌%◌, ◌^◌, List, [], ◌∷◌}
 
 -- the words of 16 bits that the bytes are, the high byte of each first; an odd last byte has a zero behind it
 abbrev pub words : List ℕ → List ℕ
@@ -18,3 +18,7 @@ ones_sum (word ∷ words) = ones_add word (ones_sum words)
 -- the complement of the sum
 abbrev pub checksum_of : List ℕ → ℕ
 checksum_of bytes = 65535 - ones_sum (words bytes)
+
+-- one's complement has two zeros, of zeros and of ones
+abbrev pub IsLikeWord : ℕ → ℕ → Type 0
+IsLikeWord word other = (word ≡ other) ⊎ ((word ≡ 65535) × (other ≡ 0))

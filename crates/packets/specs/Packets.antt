@@ -1,5 +1,5 @@
 -- The header of an OSPF packet (RFC 2328, A.3.1), by its bytes.
-use Rattle.std.specs.Prelude.{ℕ, ◌≡◌, ◌==◌, Bool, ◌&&◌, ◌||◌, not, nat_lt, if◌then◌else◌, List, [], ◌∷◌, ◌++◌, length, take, drop, slice_index, Option, Some, None, is_none}
+use Rattle.std.specs.Prelude.{ℕ, ◌==◌, Bool, ◌&&◌, ◌||◌, not, nat_lt, if◌then◌else◌, List, [], ◌∷◌, ◌++◌, length, take, drop, slice_index, Option, Some, None, is_none}
 use Rattle.byteorder.specs.Endian.{big_number}
 use Rattle.ospf_types.specs.FirstOf.{first_of}
 use Rattle.packets.specs.Checksum.{words, ones_sum}
@@ -28,8 +28,13 @@ router_field bytes = big_number 4 (drop 4 bytes)
 abbrev pub area_field : List ℕ → ℕ
 area_field bytes = big_number 4 (drop 8 bytes)
 
+-- AuType (D)
 abbrev pub authentication_field : List ℕ → ℕ
 authentication_field bytes = big_number 2 (drop 14 bytes)
+
+-- the 64 bits that are AuType's own
+abbrev pub authentication_data : List ℕ → List ℕ
+authentication_data bytes = take 8 (drop 16 bytes)
 
 -- what is behind the length is no part of the packet
 abbrev pub packet_in : List ℕ → List ℕ
@@ -52,9 +57,10 @@ number_of_kind LinkStateRequest = 3
 number_of_kind LinkStateUpdate = 4
 number_of_kind LinkStateAcknowledgment = 5
 
-abbrev pub authentication_of : ℕ → Authentication
-authentication_of n =
-    if n == 0 then Null else (if n == 1 then Password else (if n == 2 then Cryptographic else Other n))
+-- Cryptographic authentication has two reserved bytes, Key ID, the digest's length and a sequence number (D.3).
+abbrev pub authentication_of : List ℕ → Authentication
+authentication_of bytes =
+    if authentication_field bytes == 0 then Null else (if authentication_field bytes == 1 then Password (authentication_data bytes) else (if authentication_field bytes == 2 then Cryptographic (slice_index bytes 18) (slice_index bytes 19) (big_number 4 (drop 20 bytes)) else Other (authentication_field bytes)))
 
 -- ---- the checksum (D.4)
 

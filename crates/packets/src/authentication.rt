@@ -1,29 +1,50 @@
-ghost use Rattle.std.specs.Prelude.{◌≡◌};
-ghost use Rattle.packets.specs.Packets.{authentication_of};
+ghost use Rattle.std.specs.Prelude.{◌≡◌, ◌≤◌, length, take, drop};
+ghost use Rattle.packets.specs.Packets.{authentication_of, authentication_data};
 
-/// How a packet is authenticated, by its AuType (RFC 2328, D).
+use byteorder::{BigEndian, ByteOrder};
+
+/// How a packet is authenticated, by its AuType and the 64 bits behind it (RFC 2328, D).
 #[derive(Clone, Copy, Debug, PartialEq, Eq, Hash)]
 pub enum Authentication {
     /// Not at all (D.1).
     Null,
-    /// By a password of 64 bits, in the clear (D.2).
-    Password,
+    /// By a password in the clear (D.2).
+    Password([u8; 8]),
     /// By a message digest behind the packet, which has no checksum then (D.3).
-    Cryptographic,
+    Cryptographic {
+        /// Key ID.
+        key: u8,
+        /// The length of the digest in bytes.
+        digest_length: u8,
+        /// The cryptographic sequence number.
+        sequence: u32,
+    },
     /// By an AuType that is not 0, 1 or 2.
     Other(u16),
 }
 
-impl Authentication {
-    /// What an AuType stands for.
-    pub fn of_number(number: u16) -> Authentication
-        ensures { result ≡ authentication_of number }
-    {
-        match number {
-            0 => Authentication::Null,
-            1 => Authentication::Password,
-            2 => Authentication::Cryptographic,
-            _ => Authentication::Other(number),
-        }
+/// How a packet is authenticated.
+pub(crate) fn authentication_in(packet: &[u8]) -> Authentication
+    requires { 24 ≤ length packet.now }
+    ensures { result ≡ authentication_of packet.now }
+{
+    match BigEndian::read_u16(&packet[14..]) {
+        0 => Authentication::Null,
+        1 => Authentication::Password(password_in(packet)),
+        2 => Authentication::Cryptographic {
+            key: packet[18],
+            digest_length: packet[19],
+            sequence: BigEndian::read_u32(&packet[20..]),
+        },
+        other => Authentication::Other(other),
     }
+}
+
+fn password_in(packet: &[u8]) -> [u8; 8]
+    requires { 24 ≤ length packet.now }
+    ensures { result ≡ authentication_data packet.now }
+{
+    let mut password = [0; 8];
+    password.copy_from_slice(&packet[16..24]);
+    password
 }

@@ -1,8 +1,8 @@
 //! The Internet checksum (RFC 1071). Words of 64 bits are added in one's complement, which gives what
 //! their words of 16 bits give once the sum is folded.
 
-ghost use Rattle.std.specs.Prelude.{◌≡◌, ◌<◌, ◌+◌, ◌++◌, ℕ, length, drop};
-ghost use Rattle.packets.specs.Checksum.{checksum_of};
+ghost use Rattle.std.specs.Prelude.{◌≡◌, ◌<◌, ◌+◌, ◌*◌, ◌/◌, ◌%◌, ℕ, List, ◌∷◌, ◌++◌, length, drop};
+ghost use Rattle.packets.specs.Checksum.{words, ones_sum, checksum_of, IsLikeWord};
 ghost use Rattle.packets.specs.Folding.{folded as the_folded, word_sum, zeros};
 
 use byteorder::{BigEndian, ByteOrder};
@@ -10,7 +10,14 @@ use byteorder::{BigEndian, ByteOrder};
 /// The checksum of the bytes: the complement of the one's complement sum of their words of 16 bits, the
 /// high byte of each first. An odd last byte is the high byte of a word.
 pub fn internet_checksum(bytes: &[u8]) -> u16
-    ensures { result ≡ checksum_of bytes.now }
+    ensures value { result ≡ checksum_of bytes.now }
+    // With it in the place of two zeros, at an even place, the words add up to ones.
+    ensures right { (front back : List ℕ) → length front % 2 ≡ 0 → bytes.now ≡ front ++ 0 ∷ 0 ∷ back
+        → ones_sum (words (front ++ (result / 256) ∷ (result % 256) ∷ back)) ≡ 65535 }
+    // With no other word they do, but for ones in the place of zeros.
+    ensures only { (front back : List ℕ) (high low : ℕ) → length front % 2 ≡ 0 → bytes.now ≡ front ++ 0 ∷ 0 ∷ back
+        → high < 256 → low < 256 → ones_sum (words (front ++ high ∷ low ∷ back)) ≡ 65535
+        → IsLikeWord (256 * high + low) result }
 {
     u16::MAX - folded(added(0, bytes))
 }

@@ -1,9 +1,9 @@
 //! The header of a packet (RFC 2328, A.3.1).
 
 ghost use Rattle.std.specs.Prelude.{◌≡◌, ◌≤◌, false, IfOk, IfErr, Some, None, length};
-ghost use Rattle.packets.specs.Packets.{packet_fault_of, has_right_sum as has_right_sum_test, has_wrong_sum as has_wrong_sum_test, is_wrong_length as is_wrong_length_test, kind_of_number, kind_field, length_field, router_field, area_field, authentication_field, authentication_of, body_field};
+ghost use Rattle.packets.specs.Packets.{packet_fault_of, has_right_sum as has_right_sum_test, has_wrong_sum as has_wrong_sum_test, is_wrong_length as is_wrong_length_test, kind_of_number, kind_field, length_field, router_field, area_field, authentication_of, body_field};
 
-use crate::authentication::Authentication;
+use crate::authentication::{Authentication, authentication_in};
 use crate::checksum::{added, folded};
 use crate::fault::PacketFault;
 use crate::kind::PacketKind;
@@ -39,7 +39,7 @@ pub fn read_packet(bytes: &[u8]) -> Result<Packet<'_>, PacketFault>
     ensures kind { IfOk result (λ packet. kind_of_number (kind_field bytes.now) ≡ Some packet.kind) }
     ensures router { IfOk result (λ packet. packet.router ≡ router_field bytes.now) }
     ensures area { IfOk result (λ packet. packet.area ≡ area_field bytes.now) }
-    ensures authentication { IfOk result (λ packet. packet.authentication ≡ authentication_of (authentication_field bytes.now)) }
+    ensures authentication { IfOk result (λ packet. packet.authentication ≡ authentication_of bytes.now) }
     ensures body { IfOk result (λ packet. packet.body.now ≡ body_field bytes.now) }
 {
     if bytes.len() < HEADER {
@@ -62,7 +62,7 @@ pub fn read_packet(bytes: &[u8]) -> Result<Packet<'_>, PacketFault>
         kind,
         router: BigEndian::read_u32(&bytes[4..]),
         area: BigEndian::read_u32(&bytes[8..]),
-        authentication: Authentication::of_number(BigEndian::read_u16(&bytes[14..])),
+        authentication: authentication_in(bytes),
         body: &bytes[HEADER..length],
     })
 }

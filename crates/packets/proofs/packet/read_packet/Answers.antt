@@ -1,6 +1,6 @@
-use Rattle.std.proofs.Common.{◌≡◌, ℕ, List, true, false, length, take, ap, sym, ◌∙◌, arith}
+use Rattle.std.proofs.Common.{ℕ, length, take, ap, sym, ◌∙◌}
 use Rattle.std.specs.Prelude.{is_none}
-use Rattle.packets.specs.Packets.{has_wrong_sum, is_wrong_length, packet_in, length_field}
+use Rattle.packets.specs.Packets.{has_wrong_sum, is_wrong_length}
 use Rattle.packets.proofs.PacketFaults.{is_short, HasVersion, HasKind, HasLength, has_other_version, has_no_kind, has_wrong_length, has_fault_in_sum, has_no_fault, body_is}
 use Rattle.packets.proofs.packet.read_packet.Goals as goal
 

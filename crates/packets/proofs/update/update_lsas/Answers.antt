@@ -1,5 +1,5 @@
-use Rattle.std.proofs.Common.{◌≡◌, ℕ, List, drop, sym, ap, subst, ◌∙◌}
-use Rattle.packets.specs.Updates.{ArePieces, ArePiecesOf, pieces_from, count_field}
+use Rattle.std.proofs.Common.{ℕ, drop, sym, ap, subst, ◌∙◌}
+use Rattle.packets.specs.Updates.{ArePiecesOf, pieces_from, count_field}
 use Rattle.packets.proofs.Pieces.{are_pieces, only_pieces}
 use Rattle.packets.proofs.update.update_lsas.Goals as goal
 

@@ -1,4 +1,4 @@
-use Rattle.std.proofs.Common.{◌≡◌, ℕ, List, take, drop, length, sym, ap, ◌∙◌, arith}
+use Rattle.std.proofs.Common.{sym, ◌∙◌, arith}
 use Rattle.packets.proofs.Words.{rest_is}
 use Rattle.packets.proofs.Pieces.{takes_lsa, takes_fault, first_goes}
 use Rattle.packets.proofs.update.UpdateLsasIterator.next.Goals as goal
