@@ -1,5 +1,5 @@
 -- The LSAs of an update, one after the other, are the pieces that it says.
-use Rattle.std.proofs.Common.{◌≡◌, ℕ, zero, suc, ◌+◌, ◌-◌, ◌<◌, ◌≤◌, inl, inr, Bool, true, false, List, [], ◌∷◌, ◌++◌, length, map, take, drop, Result, Ok, Err, Some, refl, sym, ap, subst, ◌∙◌, append_assoc, arith}
+use Rattle.std.proofs.Common.{◌≡◌, ℕ, zero, suc, ◌+◌, ◌-◌, ◌<◌, ◌≤◌, ◌⊎◌, inl, inr, Bool, true, false, List, [], ◌∷◌, ◌++◌, length, map, take, drop, Result, Ok, Err, Some, refl, sym, ap, subst, ◌∙◌, append_assoc, arith}
 use Rattle.std.specs.Prelude.{nat_le, ◌&&◌}
 use Rattle.std.specs.List.{concat, AllByRecursion}
 use Rattle.std.specs.Iterator.{MakesProgress, item_count}
@@ -9,7 +9,7 @@ use Rattle.std.proofs.lemmas.Bool.{leb-true, le-leb, and_parts, and_from}
 use Rattle.byteorder.specs.Endian.{big_number}
 use Rattle.packets.specs.declared.fault.UpdateFault.{UpdateFault}
 use Rattle.packets.specs.declared.fault.UpdateFault.TheVariants.{LsaLength}
-use Rattle.packets.specs.Updates.{lsa_length, IsOneLsa, Piece, StartsWithLsa, IsEnd, ArePieces, has_lsa, pieces_from, lent}
+use Rattle.packets.specs.Updates.{lsa_length, IsOneLsa, Piece, StartsWithLsa, IsWhole, IsCut, ArePieces, has_lsa, pieces_from, lent}
 
 -- ---- an LSA in front
 
@@ -79,17 +79,21 @@ one_in_front n place lsa behind one =
 
 -- ---- they are the pieces
 
+-- the end is the same where an LSA more stands in front, and where it is taken away
+abbrev IsEnd : (found count place : ℕ) → List ℕ → List Piece → Type 0
+IsEnd found count place rest end = IsWhole found count end ⊎ IsCut found count place rest end
+
 end_more : (found count place size more : ℕ) (rest : List ℕ) (end : List Piece) → IsEnd found count (place + size + more) rest end → IsEnd (suc found) (suc count) (place + (size + more)) rest end
-end_more found count place size more rest end (inl e) = inl (omega (arith, e.0), e.1)
-end_more found count place size more rest end (inr e) =
+end_more found count place size more rest end (inl whole) = inl (record { all = omega (arith, whole.all); nothing = whole.nothing })
+end_more found count place size more rest end (inr cut) =
     let same : place + size + more ≡ place + (size + more) = omega arith in
-    inr (omega (arith, e.0), e.1, e.2 ∙ ap (λ (n : ℕ). Err (LsaLength n) ∷ []) same)
+    inr (record { fewer = omega (arith, cut.fewer); none = cut.none; fault = cut.fault ∙ ap (λ (n : ℕ). Err (LsaLength n) ∷ []) same })
 
 end_less : (found count place size more : ℕ) (rest : List ℕ) (end : List Piece) → IsEnd (suc found) (suc count) (place + (size + more)) rest end → IsEnd found count (place + size + more) rest end
-end_less found count place size more rest end (inl e) = inl (omega (arith, e.0), e.1)
-end_less found count place size more rest end (inr e) =
+end_less found count place size more rest end (inl whole) = inl (record { all = omega (arith, whole.all); nothing = whole.nothing })
+end_less found count place size more rest end (inr cut) =
     let same : place + (size + more) ≡ place + size + more = omega arith in
-    inr (omega (arith, e.0), e.1, e.2 ∙ ap (λ (n : ℕ). Err (LsaLength n) ∷ []) same)
+    inr (record { fewer = omega (arith, cut.fewer); none = cut.none; fault = cut.fault ∙ ap (λ (n : ℕ). Err (LsaLength n) ∷ []) same })
 
 with_lsa : (n place : ℕ) (bytes : List ℕ) (front : StartsWithLsa bytes) → ArePieces n (place + length front.lsa) front.behind (pieces_from n (place + length front.lsa) front.behind) → ArePieces (suc n) place bytes (pieces_from (suc n) place bytes)
 with_lsa n place bytes front others = record {
@@ -110,7 +114,7 @@ without_lsa n place bytes none = record {
   whole = refl;
   each = tt;
   all = stuck n place bytes none;
-  ends = inr (omega arith, none_starts bytes none, ap (λ (k : ℕ). Err (LsaLength k) ∷ []) (omega arith));
+  ends = inr (record { fewer = omega arith; none = none_starts bytes none; fault = ap (λ (k : ℕ). Err (LsaLength k) ∷ []) (omega arith) });
 }
 
 by_front : (n place : ℕ) (bytes : List ℕ) (b : Bool) → has_lsa bytes ≡ b → ((front : StartsWithLsa bytes) → ArePieces n (place + length front.lsa) front.behind (pieces_from n (place + length front.lsa) front.behind)) → ArePieces (suc n) place bytes (pieces_from (suc n) place bytes)
@@ -118,22 +122,22 @@ by_front n place bytes true has others = let front = starts bytes has in with_ls
 by_front n place bytes false has others = without_lsa n place bytes has
 
 pub are_pieces : (count place : ℕ) (bytes : List ℕ) → ArePieces count place bytes (pieces_from count place bytes)
-are_pieces zero place bytes = record { lsas = []; rest = bytes; end = []; whole = refl; each = tt; all = refl; ends = inl (refl, refl) }
+are_pieces zero place bytes = record { lsas = []; rest = bytes; end = []; whole = refl; each = tt; all = refl; ends = inl (record { all = refl; nothing = refl }) }
 are_pieces (suc n) place bytes = by_front n place bytes (has_lsa bytes) refl (λ front. are_pieces n (place + length front.lsa) front.behind)
 
 -- ---- and no others are
 
 only_with : (lsas : List (List ℕ)) (rest : List ℕ) (end : List Piece) (count place : ℕ) (bytes : List ℕ) (pieces : List Piece) → bytes ≡ concat lsas ++ rest → AllByRecursion IsOneLsa lsas → pieces ≡ map Ok lsas ++ end
     → IsEnd (length lsas) count (place + length (concat lsas)) rest end → pieces ≡ pieces_from count place bytes
-only_with [] rest end zero place bytes pieces whole each all (inl e) = all ∙ e.1
-only_with [] rest end zero place bytes pieces whole each all (inr e) = absurd (omega (arith, e.0))
-only_with [] rest end (suc n) place bytes pieces whole each all (inl e) = absurd (omega (arith, e.0))
+only_with [] rest end zero place bytes pieces whole each all (inl e) = all ∙ e.nothing
+only_with [] rest end zero place bytes pieces whole each all (inr e) = absurd (omega (arith, e.fewer))
+only_with [] rest end (suc n) place bytes pieces whole each all (inl e) = absurd (omega (arith, e.all))
 only_with [] rest end (suc n) place bytes pieces whole each all (inr e) =
-    let none : has_lsa bytes ≡ false = starts_not bytes (has_lsa bytes) refl (λ front. e.1 (subst StartsWithLsa whole front)) in
+    let none : has_lsa bytes ≡ false = starts_not bytes (has_lsa bytes) refl (λ front. e.none (subst StartsWithLsa whole front)) in
     let here : place + 0 ≡ place = omega arith in
-    all ∙ e.2 ∙ ap (λ (k : ℕ). Err (LsaLength k) ∷ []) here ∙ sym (stuck n place bytes none)
-only_with (lsa ∷ lsas) rest end zero place bytes pieces whole each all (inl e) = absurd (omega (arith, e.0))
-only_with (lsa ∷ lsas) rest end zero place bytes pieces whole each all (inr e) = absurd (omega (arith, e.0))
+    all ∙ e.fault ∙ ap (λ (k : ℕ). Err (LsaLength k) ∷ []) here ∙ sym (stuck n place bytes none)
+only_with (lsa ∷ lsas) rest end zero place bytes pieces whole each all (inl e) = absurd (omega (arith, e.all))
+only_with (lsa ∷ lsas) rest end zero place bytes pieces whole each all (inr e) = absurd (omega (arith, e.fewer))
 only_with (lsa ∷ lsas) rest end (suc n) place bytes pieces whole each all ends =
     let behind : List ℕ = concat lsas ++ rest in
     let parts : bytes ≡ lsa ++ behind = whole ∙ append_assoc lsa (concat lsas) rest in

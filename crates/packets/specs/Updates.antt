@@ -1,5 +1,5 @@
 -- The body of a Link State Update (RFC 2328, A.3.5): the number of LSAs in four bytes, then the LSAs, one
--- behind the other.
+-- after the other.
 use Rattle.std.specs.Prelude.{ℕ, zero, suc, ◌≡◌, ◌≤◌, ◌<◌, ◌+◌, ◌⊎◌, Bool, ◌&&◌, nat_le, if◌then◌else◌, List, [], ◌∷◌, ◌++◌, length, map, take, drop, Result, Ok, Err}
 use Rattle.std.specs.List.{concat, AllByRecursion}
 use Rattle.std.specs.Result.{result_map_both}
@@ -27,18 +27,25 @@ Piece = Result (List ℕ) UpdateFault
 
 -- ---- which pieces there are
 
+-- an LSA stands in front
 pub record StartsWithLsa (bytes : List ℕ) : Type 0 where
   pub lsa : List ℕ
   pub behind : List ℕ
   pub whole : bytes ≡ lsa ++ behind
   pub is_lsa : IsOneLsa lsa
 
--- what follows so many LSAs, where so many were to stand, up to the place: nothing behind the last; and else a fault, if none stands in front of the rest
-abbrev pub IsEnd : (found count place : ℕ) (rest : List ℕ) → List Piece → Type 0
-IsEnd found count place rest end =
-    ((found ≡ count) × (end ≡ [])) ⊎ ((found < count) × (StartsWithLsa rest → ⊥) × (end ≡ Err (LsaLength place) ∷ []))
+-- as many LSAs were found as there are to be, and nothing comes behind the last
+pub record IsWhole (found count : ℕ) (end : List Piece) : Type 0 where
+  pub all : found ≡ count
+  pub nothing : end ≡ []
 
--- of so many LSAs that are to stand in the bytes, from the place on
+-- fewer were found, since no LSA stands in front of the rest, and a fault with the place comes behind the last
+pub record IsCut (found count place : ℕ) (rest : List ℕ) (end : List Piece) : Type 0 where
+  pub fewer : found < count
+  pub none : StartsWithLsa rest → ⊥
+  pub fault : end ≡ Err (LsaLength place) ∷ []
+
+-- The bytes are LSAs and a rest, and the pieces are these LSAs and their end. So many LSAs are to be there; the place is how many bytes of the body are before.
 pub record ArePieces (count place : ℕ) (bytes : List ℕ) (pieces : List Piece) : Type 0 where
   pub lsas : List (List ℕ)
   pub rest : List ℕ
@@ -46,14 +53,14 @@ pub record ArePieces (count place : ℕ) (bytes : List ℕ) (pieces : List Piece
   pub whole : bytes ≡ concat lsas ++ rest
   pub each : AllByRecursion IsOneLsa lsas
   pub all : pieces ≡ map Ok lsas ++ end
-  pub ends : IsEnd (length lsas) count (place + length (concat lsas)) rest end
+  pub ends : IsWhole (length lsas) count end ⊎ IsCut (length lsas) count (place + length (concat lsas)) rest end
 
 abbrev pub ArePiecesOf : List ℕ → List Piece → Type 0
 ArePiecesOf body pieces = ArePieces (count_field body) 4 (drop 4 body) pieces
 
 -- ---- the pieces, one after the other
 
--- an LSA stands in front
+-- the test of StartsWithLsa
 abbrev pub has_lsa : List ℕ → Bool
 has_lsa bytes = nat_le 20 (length bytes) && (nat_le 20 (lsa_length bytes) && nat_le (lsa_length bytes) (length bytes))
 

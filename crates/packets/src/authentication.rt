@@ -10,7 +10,7 @@ pub enum Authentication {
     Null,
     /// By a password in the clear (D.2).
     Password([u8; 8]),
-    /// By a message digest behind the packet, which has no checksum then (D.3).
+    /// By a message digest behind the packet, in place of a checksum (D.3).
     Cryptographic {
         /// Key ID.
         key: u8,
@@ -23,6 +23,9 @@ pub enum Authentication {
     Other(u16),
 }
 
+/// The AuType of cryptographic authentication.
+pub(crate) const CRYPTOGRAPHIC: u16 = 2;
+
 /// How a packet is authenticated.
 pub(crate) fn authentication_in(packet: &[u8]) -> Authentication
     requires { 24 ≤ length packet.now }
@@ -31,7 +34,7 @@ pub(crate) fn authentication_in(packet: &[u8]) -> Authentication
     match BigEndian::read_u16(&packet[14..]) {
         0 => Authentication::Null,
         1 => Authentication::Password(password_in(packet)),
-        2 => Authentication::Cryptographic {
+        CRYPTOGRAPHIC => Authentication::Cryptographic {
             key: packet[18],
             digest_length: packet[19],
             sequence: BigEndian::read_u32(&packet[20..]),

@@ -11,10 +11,10 @@ use byteorder::{BigEndian, ByteOrder};
 /// high byte of each first. An odd last byte is the high byte of a word.
 pub fn internet_checksum(bytes: &[u8]) -> u16
     ensures value { result ≡ checksum_of bytes.now }
-    // With it in the place of two zeros, at an even place, the words add up to ones.
+    // With it in the place of two zero bytes, behind whole words, the sum is all ones.
     ensures right { (front back : List ℕ) → length front % 2 ≡ 0 → bytes.now ≡ front ++ 0 ∷ 0 ∷ back
         → ones_sum (words (front ++ (result / 256) ∷ (result % 256) ∷ back)) ≡ 65535 }
-    // With no other word they do, but for ones in the place of zeros.
+    // With no other word it is, but that all ones serve where the checksum is 0.
     ensures only { (front back : List ℕ) (high low : ℕ) → length front % 2 ≡ 0 → bytes.now ≡ front ++ 0 ∷ 0 ∷ back
         → high < 256 → low < 256 → ones_sum (words (front ++ high ∷ low ∷ back)) ≡ 65535
         → IsLikeWord (256 * high + low) result }

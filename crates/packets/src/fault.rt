@@ -13,9 +13,9 @@ pub enum PacketFault {
     Version,
     /// The packet's type is not 1 to 5.
     Kind,
-    /// The packet's length is below 24, or there are fewer bytes.
+    /// The packet's length is below 24, or more than the bytes that are there.
     Length,
-    /// The checksum does not fit the bytes (D.4.1, D.4.2).
+    /// The checksum does not fit the packet (D.4.1, D.4.2).
     Checksum,
 }
 

@@ -3,7 +3,7 @@
 ghost use Rattle.std.specs.Prelude.{◌≡◌, ◌≤◌, false, IfOk, IfErr, Some, None, length};
 ghost use Rattle.packets.specs.Packets.{packet_fault_of, has_right_sum as has_right_sum_test, has_wrong_sum as has_wrong_sum_test, is_wrong_length as is_wrong_length_test, kind_of_number, kind_field, length_field, router_field, area_field, authentication_of, body_field};
 
-use crate::authentication::{Authentication, authentication_in};
+use crate::authentication::{Authentication, CRYPTOGRAPHIC, authentication_in};
 use crate::checksum::{added, folded};
 use crate::fault::PacketFault;
 use crate::kind::PacketKind;
@@ -29,8 +29,8 @@ pub struct Packet<'a> {
     pub body: &'a [u8],
 }
 
-/// Reads a packet. Bytes behind its length, as a message digest (RFC 2328, D.4.3), are no part of it. The
-/// checksum has to be right, unless the packet's authentication is cryptographic.
+/// Reads a packet. Bytes behind its length, such as a message digest (RFC 2328, D.4.3), are no part of it.
+/// The checksum has to be right, whatever the AuType, unless authentication is cryptographic.
 pub fn read_packet(bytes: &[u8]) -> Result<Packet<'_>, PacketFault>
     // Refused bytes are refused for their first fault.
     ensures fault { IfErr result (λ fault. packet_fault_of bytes.now ≡ Some fault) }
@@ -88,10 +88,10 @@ fn has_wrong_sum(packet: &[u8]) -> bool
     requires { 24 ≤ length packet.now }
     ensures { result ≡ has_wrong_sum_test packet.now }
 {
-    BigEndian::read_u16(&packet[14..]) != 2 && !has_right_sum(packet)
+    BigEndian::read_u16(&packet[14..]) != CRYPTOGRAPHIC && !has_right_sum(packet)
 }
 
-/// Whether the words that the checksum covers, and the checksum, add up to ones (D.4.1).
+/// Whether the sum of the words that the checksum covers, its own among them, is all ones (D.4.1).
 fn has_right_sum(packet: &[u8]) -> bool
     requires { 24 ≤ length packet.now }
     ensures { result ≡ has_right_sum_test packet.now }
