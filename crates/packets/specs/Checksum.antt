@@ -11,6 +11,7 @@ words (high ∷ low ∷ bytes) = (256 * high + low) ∷ words bytes
 abbrev pub ones_add : ℕ → ℕ → ℕ
 ones_add x y = (x + y) % 2 ^ 16 + (x + y) / 2 ^ 16
 
+-- the one's complement sum of words
 abbrev pub ones_sum : List ℕ → ℕ
 ones_sum [] = 0
 ones_sum (word ∷ words) = ones_add word (ones_sum words)

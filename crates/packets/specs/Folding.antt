@@ -6,9 +6,10 @@ use Rattle.packets.specs.Checksum.{words}
 abbrev pub folded : ℕ → ℕ
 folded n = if n == 0 then 0 else (n - 1) % 65535 + 1
 
+-- the plain sum of the words
 abbrev pub word_sum : List ℕ → ℕ
 word_sum bytes = sum (words bytes)
 
--- eight of them
+-- eight zeros, of which some are put behind the last bytes
 abbrev pub zeros : List ℕ
 zeros = 0 ∷ 0 ∷ 0 ∷ 0 ∷ 0 ∷ 0 ∷ 0 ∷ 0 ∷ []

@@ -11,8 +11,8 @@ use std::marker::Model;
 /// The length of an LSA's header in bytes (A.4.1).
 const LSA_HEADER: usize = 20;
 
-/// The LSAs of a Link State Update, in their order: each is lent as its bytes, the header first. Where an
-/// LSA is to stand and none is, there comes a fault, and nothing behind it.
+/// The LSAs of a Link State Update, in their order. Each is lent as its bytes, the header first. If no
+/// whole LSA stands where one is due, a fault with the place comes, and nothing after it.
 #[derive(Drop)]
 pub struct UpdateLsas<'a> {
     /// How many LSAs are to come.
@@ -65,10 +65,10 @@ pub fn update_lsas(body: &[u8]) -> Result<UpdateLsas<'_>, UpdateFault>
     ensures fault { IfErr result (λ fault. (fault ≡ CountFault) × (length body.now < 4)) }
     ensures accepted { IfOk result (λ lsas. 4 ≤ length body.now) }
     ensures value { IfOk result (λ lsas. lsas ≡ pieces_of body.now) }
-    // They stand one behind the other, and each is as long as it says. There are as many as there are to
-    // be, or those before the first place at which none is.
+    // The LSAs stand one after the other, each as long as its header says: as many as the body counts,
+    // or those before the first place where no whole one stands, and then a fault with that place.
     ensures pieces { IfOk result (λ lsas. ArePiecesOf body.now lsas) }
-    // No others are so.
+    // No other pieces are so.
     ensures only { IfOk result (λ lsas. (others : List Piece) → ArePiecesOf body.now others → others ≡ lsas) }
 {
     if body.len() < 4 {
