@@ -9,7 +9,7 @@ mod progress;
 mod sink;
 mod source;
 
-use abr_cli::{Answer, CommandFault, Invocation, job, say_fault, tell};
+use abr_cli::{Answer, Invocation, job, tell};
 use progress::progress_of;
 use sink::Sink;
 use source::Source;
@@ -48,8 +48,5 @@ fn status<S: Threads + Wait + Sync>(rt: &HostRuntime, threads: &S) -> io::Result
         progress,
     };
     let status = called.run(threads, rt.alloc(), &mut input, &mut out, &mut faults);
-    match out.end(status == 0) {
-        Ok(()) => Ok(status),
-        Err(name) => Ok(say_fault(rt.alloc(), CommandFault::WriteTo(name), &mut faults)),
-    }
+    Ok(out.end(status, &mut faults))
 }

@@ -1,7 +1,8 @@
 //! A file that an answer is written to: whole, or not at all.
 
+use abr_cli::{CommandFault, say_fault};
 use std::fs::{File, OpenOptions};
-use std::io::Write;
+use std::io::{Stderr, Write};
 use std::path::PathBuf;
 use std::{fs, io};
 
@@ -43,14 +44,16 @@ impl<'a> Output<'a> {
         }
     }
 
-    /// Ends the writing. If the answer is whole, the new file takes its place, and else it is removed. The error is the name of
-    /// the file, where it has not got the whole answer.
-    pub fn end(self, is_whole: bool) -> Result<(), &'a str> {
+    /// Ends the writing. Where the status is 0, the new file takes its place, and else it is removed. Where it cannot take its
+    /// place, that is said in `faults`. What is returned is the status.
+    pub fn end(self, status: u8, faults: &mut Stderr) -> u8 {
         let Output { rt, name, opened } = self;
-        if let Some(Opened::Beside(beside)) = opened {
-            return beside.end(rt, is_whole).map_err(|_| name);
+        if let Some(Opened::Beside(beside)) = opened
+            && beside.end(rt, status == 0).is_err()
+        {
+            return say_fault(rt.alloc(), CommandFault::WriteTo(name), faults);
         }
-        Ok(())
+        status
     }
 }
 

@@ -1,7 +1,7 @@
 use crate::output::Output;
 use abr_cli::{Job, Usage};
 use std::io;
-use std::io::{IsTerminal, Stdout, Write};
+use std::io::{IsTerminal, Stderr, Stdout, Write};
 
 /// Where the answer of a command is written to.
 #[derive(Drop)]
@@ -31,12 +31,12 @@ impl<'a> Sink<'a> {
         }
     }
 
-    /// Ends the writing. A file gets what was written if that is whole, and else stays as it was. The error is the name of a
-    /// file that has not got the whole answer.
-    pub fn end(self, is_whole: bool) -> Result<(), &'a str> {
+    /// Ends the writing. A file gets what was written where the status is 0, and else stays as it was. Where it cannot get it,
+    /// that is said in `faults`. What is returned is the status.
+    pub fn end(self, status: u8, faults: &mut Stderr) -> u8 {
         match self {
-            Sink::Standard(_) => Ok(()),
-            Sink::File(output) => output.end(is_whole),
+            Sink::Standard(_) => status,
+            Sink::File(output) => output.end(status, faults),
         }
     }
 }
