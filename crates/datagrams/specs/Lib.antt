@@ -1,2 +1,5 @@
 pub mod Frames
 pub mod Links
+pub mod Layout
+pub mod Reading
+pub mod Text

@@ -1,8 +1,14 @@
 //! The IPv4 datagrams of captured frames (RFC 791), with fragments put together.
 #![tactic(auto)]
 
+mod datagram;
+mod fault;
 mod headers;
 mod link;
+mod reading;
 mod tags;
 
+pub use datagram::{Datagram, LONGEST};
+pub use fault::DatagramFault;
 pub use link::LinkType;
+pub use reading::read_datagram;

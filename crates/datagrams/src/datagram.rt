@@ -1,0 +1,32 @@
+ghost use Rattle.std.specs.Prelude.{◌≤◌, ◌+◌, length};
+
+/// The longest datagram, in bytes.
+pub const LONGEST: usize = 65_535;
+
+/// An IPv4 datagram, or a fragment of one (RFC 791, 3.1). Numbers are in host order.
+#[derive(Clone, Copy, Debug)]
+pub struct Datagram<'a> {
+    pub source: u32,
+    pub destination: u32,
+    /// Tells the fragments of one datagram from those of others between the two addresses.
+    pub identification: u16,
+    /// What the payload is: 89 for OSPF.
+    pub protocol: u8,
+    /// Where the payload begins in that of the whole datagram, in bytes.
+    pub offset: usize,
+    /// No more fragments follow.
+    pub is_last: bool,
+    pub payload: &'a [u8],
+    pub ghost fits: { offset + length payload.now ≤ 65535 },
+}
+
+impl<'a> Datagram<'a> {
+    ghost use Rattle.std.specs.Prelude.{◌≡◌, ◌==◌, ◌&&◌};
+
+    /// Whether it is a whole datagram, and no fragment of one.
+    pub fn is_whole(&self) -> bool
+        ensures { result ≡ ((self.now.offset == 0) && self.now.is_last) }
+    {
+        self.offset == 0 && self.is_last
+    }
+}
