@@ -1,3 +1,4 @@
+pub mod Cells
 pub mod Chained
 pub mod FirstFault
 pub mod TagsOff

@@ -3,3 +3,5 @@ pub mod Links
 pub mod Layout
 pub mod Reading
 pub mod Text
+pub mod Parts
+pub mod Kept

@@ -22,11 +22,20 @@ pub struct Datagram<'a> {
 
 impl<'a> Datagram<'a> {
     ghost use Rattle.std.specs.Prelude.{◌≡◌, ◌==◌, ◌&&◌};
+    ghost use Rattle.datagrams.specs.Parts.{part_of, end_of};
 
     /// Whether it is a whole datagram, and no fragment of one.
     pub fn is_whole(&self) -> bool
         ensures { result ≡ ((self.now.offset == 0) && self.now.is_last) }
     {
         self.offset == 0 && self.is_last
+    }
+
+    /// Where the payload ends in that of the whole datagram, in bytes.
+    pub fn end(&self) -> usize
+        ensures value { result ≡ end_of (part_of self.now) }
+        ensures small { result ≤ 65535 }
+    {
+        self.offset + self.payload.len()
     }
 }

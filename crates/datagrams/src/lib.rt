@@ -4,7 +4,9 @@
 mod datagram;
 mod fault;
 mod headers;
+mod key;
 mod link;
+mod partial;
 mod reading;
 mod tags;
 
