@@ -1,9 +1,8 @@
 -- Bytes, and which of them came.
-use Rattle.std.proofs.Common.{◌≡◌, ℕ, zero, suc, ◌+◌, ◌-◌, ◌≤◌, ◌<◌, Bool, true, false, ◌&&◌, List, [], ◌∷◌, ◌++◌, length, take, drop, map, replicate, refl, sym, ap, ◌∙◌, Option, Some, None, is_some, arith}
+use Rattle.std.proofs.Common.{◌≡◌, ℕ, zero, suc, ◌+◌, ◌-◌, ◌≤◌, Bool, true, false, ◌&&◌, List, [], ◌∷◌, ◌++◌, length, take, drop, map, replicate, refl, sym, ap, ◌∙◌, Option, Some, None, is_some, arith}
 use Rattle.std.specs.List.{list_all}
 use Rattle.std.specs.Option.{unwrap_or}
 use Rattle.std.proofs.lemmas.List.{length-append, length-take, length-take-le, length-drop, length-replicate, take-append-le, take-append-drop, take_all, take-take, append-nil}
-use Rattle.std.proofs.lemmas.Grind.{common_steps}
 use Rattle.datagrams.specs.Kept.{cells, grown, written}
 
 pub length-cells : (came : List Bool) (bytes : List ℕ) → length came ≤ length bytes → length (cells came bytes) ≡ length came

@@ -1,7 +1,8 @@
 -- The first fault of bytes, test by test.
-use Rattle.std.proofs.Common.{◌≡◌, ◌≤◌, ℕ, ◌+◌, Bool, true, false, ltb, ◌||◌, List, [], ◌∷◌, length, Some, None, refl, ◌∙◌, arith}
+use Rattle.std.proofs.Common.{◌≡◌, ◌≤◌, ℕ, ◌+◌, Bool, true, false, ltb, List, [], ◌∷◌, length, Some, None, refl, ◌∙◌, arith}
 use Rattle.std.proofs.lemmas.Grind.{common_steps}
 use Rattle.ospf_types.specs.FirstOf.{first_of}
+use Rattle.datagrams.proofs.Choices.{or_false}
 use Rattle.datagrams.specs.declared.fault.DatagramFault.{DatagramFault}
 use Rattle.datagrams.specs.declared.fault.DatagramFault.TheVariants.{Header, Length, Fragment}
 use Rattle.datagrams.specs.Layout.{HasRoom, fault_of, has_wrong_header, has_wrong_length, is_wrong_fragment, header_length, total_length, payload_length, offset_field}
@@ -44,10 +45,6 @@ is_none bytes e f g =
     later (is_wrong_fragment bytes) Fragment [] g ∙ later (has_wrong_length bytes) Length (third bytes) f ∙ later (has_wrong_header bytes) Header (second bytes) e
 
 -- ---- what bytes without a fault have room for
-
-or_false : (a b : Bool) → (a || b) ≡ false → (a ≡ false) × (b ≡ false)
-or_false true b e = absurd cc
-or_false false b e = (refl, e)
 
 no_more : (a b : ℕ) → ltb a b ≡ false → b ≤ a
 no_more a b e = grind (arith, common_steps)

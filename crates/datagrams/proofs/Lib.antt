@@ -1,4 +1,9 @@
+pub mod ByKey
 pub mod Cells
 pub mod Chained
+pub mod Choices
 pub mod FirstFault
+pub mod Found
+pub mod Places
+pub mod Stepping
 pub mod TagsOff

@@ -5,3 +5,4 @@ pub mod Reading
 pub mod Text
 pub mod Parts
 pub mod Kept
+pub mod Keeping

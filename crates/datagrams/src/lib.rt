@@ -3,14 +3,17 @@
 
 mod datagram;
 mod fault;
+mod fragments;
 mod headers;
 mod key;
 mod link;
 mod partial;
 mod reading;
+mod steps;
 mod tags;
 
 pub use datagram::{Datagram, LONGEST};
 pub use fault::DatagramFault;
+pub use fragments::{Fragments, MOST};
 pub use link::LinkType;
 pub use reading::read_datagram;

@@ -1,4 +1,4 @@
-use Rattle.std.proofs.Common.{◌≡◌, ◌≤◌, ◌+◌, ◌-◌, ◌++◌, ℕ, Bool, false, List, Option, Result, OnErr, Ok, Err, ap, sym, ◌∙◌, length, take, replicate, arith}
+use Rattle.std.proofs.Common.{◌≡◌, ◌≤◌, ◌-◌, ◌++◌, ℕ, Bool, false, List, Option, Result, OnErr, Ok, Err, ap, sym, ◌∙◌, length, take, replicate, arith}
 use Rattle.datagrams.specs.Kept.{Kept, cells, grown}
 use Rattle.datagrams.proofs.Cells.{longer, all_grown, none_grown}
 use Rattle.datagrams.proofs.partial.Partial.grow.Goals as goal

@@ -1,6 +1,5 @@
-use Rattle.std.proofs.Common.{◌≡◌, ◌≤◌, ap, sym, ◌∙◌, length, take, rules, arith, ◌&&◌, Bool, true, false}
-use Rattle.std.specs.List.{list_all}
-use Rattle.datagrams.specs.Kept.{Kept, is_whole, payload_of}
+use Rattle.std.proofs.Common.{◌≤◌, ap, ◌∙◌, length, take, arith}
+use Rattle.datagrams.specs.Kept.{is_whole, payload_of}
 use Rattle.datagrams.proofs.Cells.{all_bytes, whole_all}
 use Rattle.datagrams.proofs.partial.Partial.into_payload.Goals as goal
 

@@ -1,6 +1,6 @@
-use Rattle.std.proofs.Common.{◌≡◌, ◌≤◌, ap, sym, ◌∙◌, length, rules, arith, ◌&&◌, is_some}
+use Rattle.std.proofs.Common.{◌≤◌, ap, sym, ◌∙◌, length, arith, ◌&&◌, is_some}
 use Rattle.std.specs.List.{list_all}
-use Rattle.datagrams.specs.Kept.{Kept, cells, is_whole}
+use Rattle.datagrams.specs.Kept.{cells, is_whole}
 use Rattle.datagrams.proofs.Cells.{all_came}
 use Rattle.datagrams.proofs.partial.Partial.is_whole.Goals as goal
 

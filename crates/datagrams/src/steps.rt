@@ -1,0 +1,58 @@
+//! One more fragment of a datagram.
+ghost use Rattle.std.specs.Prelude.{◌≡◌, ◌≤◌, ◌<◌, ◌++◌, ◌∷◌, [], Some, None, length, option_map, OnOk, OnErr, IfOk, if◌then◌else◌, slice_get, slice_set};
+ghost use Rattle.std.specs.List.{remove};
+ghost use Rattle.datagrams.specs.Parts.{part_of};
+ghost use Rattle.datagrams.specs.Kept.{Kept, with_part, is_whole, payload_of};
+ghost use Rattle.datagrams.specs.Keeping.{is_done, whole_with, latest};
+
+use crate::datagram::Datagram;
+use crate::fragments::MOST;
+use crate::partial::Partial;
+use ospf_types::memory::Memory;
+
+/// Takes one more fragment of the datagram at the place.
+pub(crate) fn go_on(
+    partials: &mut Vec<Partial>,
+    place: usize,
+    fragment: &Datagram<'_>,
+) -> Result<Option<Vec<u8>>, Memory>
+    requires { place < length partials.old.items }
+    ensures kept { (before : Kept) → slice_get partials.old.items place ≡ Some before
+        → OnOk result (partials.new.items ≡ (if is_done (part_of fragment.now) before then remove partials.old.items place else slice_set partials.old.items place (with_part (part_of fragment.now) before))) }
+    ensures answer { (before : Kept) → slice_get partials.old.items place ≡ Some before
+        → IfOk result (λ payload. option_map (λ v. v.items) payload ≡ whole_with (part_of fragment.now) before) }
+    ensures unchanged { OnErr result (partials.new.items ≡ partials.old.items) }
+{
+    let partial = &mut partials[place];
+    if partial.is_contradicted_by(fragment) {
+        partials.remove(place);
+        return Ok(None);
+    }
+    partial.add(fragment)?;
+    if !partial.is_whole() {
+        return Ok(None);
+    }
+    Ok(Some(partials.remove(place).into_payload()))
+}
+
+/// Takes the first fragment of a datagram.
+pub(crate) fn begin(
+    partials: &mut Vec<Partial>,
+    mut partial: Partial,
+    fragment: &Datagram<'_>,
+) -> Result<Option<Vec<u8>>, Memory>
+    requires { length partials.old.items ≤ MOST }
+    ensures kept { OnOk result (partials.new.items ≡ (if is_whole (with_part (part_of fragment.now) partial) then partials.old.items else latest (partials.old.items ++ with_part (part_of fragment.now) partial ∷ []))) }
+    ensures answer { IfOk result (λ payload. option_map (λ v. v.items) payload ≡ (if is_whole (with_part (part_of fragment.now) partial) then Some (payload_of (with_part (part_of fragment.now) partial)) else None)) }
+    ensures unchanged { OnErr result (partials.new.items ≡ partials.old.items) }
+{
+    partial.add(fragment)?;
+    if partial.is_whole() {
+        return Ok(Some(partial.into_payload()));
+    }
+    partials.push(partial)?;
+    if partials.len() > MOST {
+        partials.remove(0);
+    }
+    Ok(None)
+}
