@@ -1,5 +1,5 @@
 -- What is kept of a datagram, by its place and by its key.
-use Rattle.std.proofs.Common.{◌≡◌, ℕ, ◌<◌, Bool, true, false, ◌&&◌, List, [], ◌∷◌, ◌++◌, length, get_or, set, refl, sym, ap, ◌∙◌, inl, inr, Option, Some, None, arith}
+use Rattle.std.proofs.Common.{◌≡◌, ℕ, ◌<◌, true, false, List, [], ◌∷◌, ◌++◌, length, get_or, set, refl, sym, ap, ◌∙◌, inl, inr, Option, Some, None, arith}
 use Rattle.std.specs.List.{list_any, find, position, remove, slice_get}
 use Rattle.std.specs.Option.{unwrap_or}
 use Rattle.std.proofs.lemmas.Bool.{cases_lt, eqb-true, eq-eqb}
@@ -9,11 +9,8 @@ use Rattle.std.proofs.lemmas.Option.{slice_get-get_or}
 use Rattle.datagrams.specs.declared.key.Key.{Key}
 use Rattle.datagrams.specs.Kept.{Kept, nothing_of, same_key}
 use Rattle.datagrams.specs.Keeping.{AreApart, has_key, kept_of, without, put, latest}
+use Rattle.datagrams.proofs.Choices.{and_true}
 use Rattle.datagrams.proofs.Found.{found_at, found_none, none_at, all_kept, removed, replaced}
-
-and_true : (a b : Bool) → (a && b) ≡ true → (a ≡ true) × (b ≡ true)
-and_true true b e = (refl, e)
-and_true false b e = absurd cc
 
 pub key_equal : (a b : Key) → same_key a b ≡ true → a ≡ b
 key_equal a b e =

@@ -116,10 +116,12 @@ other_key key all k d none lt e =
 pub latest_kept : (all : List Kept) → AreApart all → AreKept (latest all)
 latest_kept all apart = (omega (arith, length-drop (length all - MOST) all), apart_drop (length all - MOST) all apart)
 
+pub apart_push : (all : List Kept) (w : Kept) → list_any (has_key w.key) all ≡ false → AreApart all → AreApart (all ++ w ∷ [])
+apart_push all w none apart = all_pairs_push (λ (a : Kept) (b : Kept). a.key ≢ b.key) all w apart (λ k d lt. other_key w.key all k d none lt)
+
 begun_kept : (whole : Bool) (all : List Kept) (w : Kept) → list_any (has_key w.key) all ≡ false → AreKept all → AreKept (if whole then all else latest (all ++ w ∷ []))
 begun_kept true all w none kept = kept
-begun_kept false all w none kept =
-    latest_kept (all ++ w ∷ []) (all_pairs_push (λ (a : Kept) (b : Kept). a.key ≢ b.key) all w kept.1 (λ k d lt. other_key w.key all k d none lt))
+begun_kept false all w none kept = latest_kept (all ++ w ∷ []) (apart_push all w none kept.1)
 
 pub begun_still : {T E : Type 0} (r : Result T E) (key : Key) (p : Part) (all new : List Kept) → IsMissing key all
     → OnOk r (new ≡ begun (with_part p (nothing_of key)) all) → OnErr r (new ≡ all) → AreKept all → AreKept new

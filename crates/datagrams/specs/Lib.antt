@@ -6,3 +6,4 @@ pub mod Text
 pub mod Parts
 pub mod Kept
 pub mod Keeping
+pub mod Taking

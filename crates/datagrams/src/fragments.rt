@@ -37,12 +37,15 @@ impl Model for Fragments {
 }
 
 impl Fragments {
-    ghost use Rattle.datagrams.specs.Kept.{key_of};
+    ghost use Rattle.datagrams.specs.Kept.{key_of, IsMadeOf};
+    ghost use Rattle.datagrams.specs.Taking.{IsTaken};
+    ghost use Rattle.datagrams.specs.declared.key.Key.{Key};
     ghost use Rattle.datagrams.specs.Keeping.{has_key, kept_of, kept_after, whole_with};
 
     /// No fragment came.
     pub fn new(alloc: Global) -> Fragments
-        ensures { result ≡ [] }
+        ensures value { result ≡ [] }
+        ensures nothing { (key : Key) → IsMadeOf [] (kept_of key result) }
     {
         Fragments {
             partials: Vec::new(alloc),
@@ -67,6 +70,7 @@ impl Fragments {
         ensures kept { OnOk result (self.new ≡ kept_after (key_of fragment.now) (part_of fragment.now) self.old) }
         ensures answer { IfOk result (λ payload. option_map (λ v. v.items) payload ≡ whole_with (part_of fragment.now) (kept_of (key_of fragment.now) self.old)) }
         ensures unchanged { OnErr result (self.new ≡ self.old) }
+        ensures taken { IfOk result (λ payload. IsTaken (key_of fragment.now) (part_of fragment.now) self.old self.new (option_map (λ v. v.items) payload)) }
     {
         let key = Key::of(fragment);
         match self.place_of(&key) {

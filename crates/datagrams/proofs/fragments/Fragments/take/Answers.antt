@@ -4,7 +4,8 @@ use Rattle.std.proofs.lemmas.Result.{on_ok_weaker}
 use Rattle.datagrams.specs.declared.key.Key.{Key}
 use Rattle.datagrams.specs.Parts.{part_of}
 use Rattle.datagrams.specs.Kept.{Kept, key_of, with_part}
-use Rattle.datagrams.specs.Keeping.{has_key, kept_of, kept_after, whole_with}
+use Rattle.datagrams.specs.Keeping.{AreApart, has_key, kept_of, kept_after, whole_with}
+use Rattle.datagrams.proofs.AllTaken.{taken_from}
 use Rattle.datagrams.proofs.ByKey.{stands_at, is_missing}
 use Rattle.datagrams.proofs.Stepping.{went_on, still_kept, begun, began, begun_still, whole_at_once, whole_is, IsAnswer, same_answer}
 use Rattle.datagrams.proofs.fragments.Fragments.take.Goals as goal
@@ -60,3 +61,13 @@ returns-in-None-clause-answer c =
     (whole_is c.of-key.result p all missing
     ∙ ap (λ (k : Key). whole_with p (kept_of k all)) c.of-key.ensures ∙ ap (λ (l : List Kept). whole_with p (kept_of (key_of c.args.fragment.now) l)) c.self.view_is)
     answer
+
+pub returns-in-Some-clause-taken : goal.returns-in-Some-clause-taken
+returns-in-Some-clause-taken c =
+    taken_from c.go_on.result (key_of c.args.fragment.now) (part_of c.args.fragment.now) c.args.self.now c.go_on.new.partials.items (subst AreApart c.self.view_is c.self.invariant.1)
+    (returns-in-Some-clause-kept c) (returns-in-Some-clause-answer c)
+
+pub returns-in-None-clause-taken : goal.returns-in-None-clause-taken
+returns-in-None-clause-taken c =
+    taken_from c.begin.result (key_of c.args.fragment.now) (part_of c.args.fragment.now) c.args.self.now c.begin.new.partials.items (subst AreApart c.self.view_is c.self.invariant.1)
+    (returns-in-None-clause-kept c) (returns-in-None-clause-answer c)
