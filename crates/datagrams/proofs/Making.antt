@@ -111,7 +111,7 @@ made_at p parts cells made i =
       ]
     ]
 
-long_at : (p : Part) (cells : List (Option ℕ)) → length (written p.offset p.payload (grown (end_of p) cells)) ≡ max (end_of p) (length cells)
+pub long_at : (p : Part) (cells : List (Option ℕ)) → length (written p.offset p.payload (grown (end_of p) cells)) ≡ max (end_of p) (length cells)
 long_at p cells =
     let inside : p.offset + length p.payload ≤ length (grown (end_of p) cells) = omega (arith, length-grown (end_of p) cells) in
     length-written p.offset p.payload (grown (end_of p) cells) inside ∙ length-grown (end_of p) cells

@@ -1,7 +1,8 @@
 -- The datagrams of which parts are kept, from the one that began first to the one that began last.
-use Rattle.std.specs.Prelude.{ℕ, ◌≢◌, ◌-◌, ◌&&◌, ◌||◌, not, Bool, if◌then◌else◌, List, [], ◌∷◌, ◌++◌, length, drop, map, Option, Some, None}
-use Rattle.std.specs.List.{list_any, filter, find, AllPairs}
+use Rattle.std.specs.Prelude.{ℕ, ◌≢◌, ◌≤◌, ◌-◌, ◌&&◌, ◌||◌, not, Bool, if◌then◌else◌, List, [], ◌∷◌, ◌++◌, length, drop, map, Option, Some, None}
+use Rattle.std.specs.List.{list_any, filter, find, AllPairs, AllByRecursion}
 use Rattle.std.specs.Option.{unwrap_or}
+use Rattle.datagrams.specs.declared.datagram.TheConstants.{LONGEST}
 use Rattle.datagrams.specs.declared.key.Key.{Key}
 use Rattle.datagrams.specs.declared.fragments.TheConstants.{MOST}
 use Rattle.datagrams.specs.Parts.{Part}
@@ -17,6 +18,10 @@ kept_of key all = unwrap_or (find (has_key key) all) (nothing_of key)
 -- each has a key of its own
 abbrev pub AreApart : List Kept → Type 0
 AreApart all = AllPairs (λ a b. a.key ≢ b.key) all
+
+-- none is longer than a datagram can be
+abbrev pub AreShort : List Kept → Type 0
+AreShort all = AllByRecursion (λ kept. length kept.bytes ≤ LONGEST) all
 
 -- the datagram with the key is forgotten
 abbrev pub without : Key → List Kept → List Kept

@@ -26,21 +26,21 @@ pub struct Fragments {
 impl Model for Fragments {
     ghost use Rattle.std.specs.Prelude.{◌≤◌, List, length};
     ghost use Rattle.datagrams.specs.Kept.{Kept};
-    ghost use Rattle.datagrams.specs.Keeping.{AreApart};
+    ghost use Rattle.datagrams.specs.Keeping.{AreApart, AreShort};
     ghost use Rattle.datagrams.specs.declared.fragments.TheConstants.{MOST};
 
     ghost Value = { List Kept };
 
     ghost view = { λ f. f.partials.items };
 
-    ghost invariant = { λ f. (length f.partials.items ≤ MOST) × AreApart f.partials.items };
+    ghost invariant = { λ f. (length f.partials.items ≤ MOST) × AreApart f.partials.items × AreShort f.partials.items };
 }
 
 impl Fragments {
     ghost use Rattle.datagrams.specs.Kept.{key_of, IsMadeOf};
     ghost use Rattle.datagrams.specs.Taking.{IsTaken};
     ghost use Rattle.datagrams.specs.declared.key.Key.{Key};
-    ghost use Rattle.datagrams.specs.Keeping.{has_key, kept_of, kept_after, whole_with};
+    ghost use Rattle.datagrams.specs.Keeping.{AreApart, AreShort, has_key, kept_of, kept_after, whole_with};
 
     /// No fragment came.
     pub fn new(alloc: Global) -> Fragments
@@ -56,6 +56,8 @@ impl Fragments {
     pub fn count(&self) -> usize
         ensures value { result ≡ length self.now }
         ensures few { result ≤ MOST }
+        ensures apart { AreApart self.now }
+        ensures short { AreShort self.now }
     {
         self.partials.len()
     }

@@ -14,7 +14,7 @@ pub invariant_of-self : goal.invariant_of-self
 invariant_of-self c =
     let all = c.self.inside.partials.items in
     let stands = stands_at c.of-key.result all c.in-Some.place (ap (position (has_key c.of-key.result)) c.self.view_is ∙ sym c.place_of.ensures ∙ c.in-Some.is) c.self.invariant.1 in
-    still_kept c.go_on.result c.of-key.result (part_of c.args.fragment.now) all c.go_on.new.partials.items c.in-Some.place stands (c.go_on.ensures.kept _ stands.here) c.go_on.ensures.unchanged c.self.invariant
+    still_kept c.go_on.result c.of-key.result (part_of c.args.fragment.now) all c.go_on.new.partials.items c.in-Some.place c.args.fragment.now.fits stands (c.go_on.ensures.kept _ stands.here) c.go_on.ensures.unchanged c.self.invariant
 
 pub invariant_of-self-in-None : goal.invariant_of-self-in-None
 invariant_of-self-in-None c =
@@ -22,7 +22,7 @@ invariant_of-self-in-None c =
     let p = part_of c.args.fragment.now in
     let missing = is_missing c.of-key.result all (ap (position (has_key c.of-key.result)) c.self.view_is ∙ sym c.place_of.ensures ∙ c.in-None.is) in
     let kept = subst (λ (k : Kept). OnOk c.begin.result (c.begin.new.partials.items ≡ begun (with_part p k) all)) c.new.ensures c.begin.ensures.kept in
-    begun_still c.begin.result c.of-key.result p all c.begin.new.partials.items missing kept c.begin.ensures.unchanged c.self.invariant
+    begun_still c.begin.result c.of-key.result p all c.begin.new.partials.items c.args.fragment.now.fits missing kept c.begin.ensures.unchanged c.self.invariant
 
 pub returns-in-Some-clause-kept : goal.returns-in-Some-clause-kept
 returns-in-Some-clause-kept c =

@@ -1,8 +1,8 @@
-use Rattle.std.proofs.Common.{◌≡◌, ◌≤◌, ◌+◌, ℕ, List, Bool, Option, ap, sym, ◌∙◌, length, arith}
+use Rattle.std.proofs.Common.{◌≡◌, ◌≤◌, ◌+◌, List, Bool, ap, sym, ◌∙◌, length, arith}
 use Rattle.std.specs.Vec.{with_items}
 use Rattle.std.proofs.lemmas.List.{with_items_is}
 use Rattle.datagrams.specs.Kept.{Kept, cells, written}
-use Rattle.datagrams.proofs.Cells.{length-cells, all_written}
+use Rattle.datagrams.proofs.Cells.{seen_as, length-cells, all_written}
 use Rattle.datagrams.proofs.partial.Partial.write.Goals as goal
 
 pub put-requires : goal.put-requires
@@ -29,6 +29,6 @@ returns c =
     let bytes : (with_items v.bytes c.put.new.bytes).items ≡ c.put.new.bytes = with_items_is v.bytes c.put.new.bytes (c.put.auto.bytes ∙ ap length c.deref_mut.ensures.value ∙ sym v.bytes.ok.0) in
     let same : cells c.mark.new.came c.put.new.bytes ≡ written c.args.offset c.args.payload.now (cells v.came.items v.bytes.items) =
     rw (c.mark.ensures, c.put.ensures, c.deref_mut.ensures.value, c.deref_mut-2.ensures.value) (all_written c.args.offset c.args.payload.now v.came.items v.bytes.items inside enough) in
-    ap (λ (b : List (Option ℕ)). record { key = v.key; has_end = v.has_end; bytes = b })
-    (ap (λ (m : List Bool). cells m (with_items v.bytes c.put.new.bytes).items) came ∙ ap (cells c.mark.new.came) bytes ∙ same)
-    ∙ ap (λ (k : Kept). record k { bytes = written c.args.offset c.args.payload.now k.bytes }) c.self.view_is
+    let all : cells (with_items v.came c.mark.new.came).items (with_items v.bytes c.put.new.bytes).items ≡ written c.args.offset c.args.payload.now (cells v.came.items v.bytes.items) =
+    ap (λ (m : List Bool). cells m (with_items v.bytes c.put.new.bytes).items) came ∙ ap (cells c.mark.new.came) bytes ∙ same in
+    seen_as v.key v.has_end _ _ _ all (ap (λ (k : Kept). record k { bytes = written c.args.offset c.args.payload.now k.bytes }) c.self.view_is)
