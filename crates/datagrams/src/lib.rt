@@ -16,4 +16,5 @@ pub use datagram::{Datagram, LONGEST};
 pub use fault::DatagramFault;
 pub use fragments::{Fragments, MOST};
 pub use link::LinkType;
+pub use ospf_types::memory::Memory;
 pub use reading::read_datagram;
