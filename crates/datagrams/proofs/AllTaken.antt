@@ -8,14 +8,14 @@ use Rattle.datagrams.specs.declared.fragments.TheConstants.{MOST}
 use Rattle.datagrams.specs.declared.key.Key.{Key}
 use Rattle.datagrams.specs.Parts.{Part, AreAgreed}
 use Rattle.datagrams.specs.Kept.{Kept, nothing_of, same_key, IsMadeOf, contradicts, with_part, is_whole, payload_of}
-use Rattle.datagrams.specs.Keeping.{AreApart, has_key, kept_of, without, put, latest, is_done, kept_after, whole_with}
+use Rattle.datagrams.specs.Keeping.{AreApart, has_key, kept_of, without, put, latest, is_done, kept_after, whole_with, Answers}
 use Rattle.datagrams.specs.Taking.{IsTaken}
 use Rattle.datagrams.proofs.Choices.{not_second, both, or_left, or_right, neither_is}
 use Rattle.datagrams.proofs.ByKey.{key_equal, key_itself}
 use Rattle.datagrams.proofs.Finding.{find_out, find_put, find_latest, find_others, find_beside, find_before, find_dropped}
 use Rattle.datagrams.proofs.Making.{made, refused}
 use Rattle.datagrams.proofs.WholeParts.{whole_just}
-use Rattle.datagrams.proofs.Stepping.{IsAnswer, apart_push}
+use Rattle.datagrams.proofs.Stepping.{apart_push}
 
 -- ---- the datagram itself
 
@@ -158,7 +158,7 @@ module _ (key : Key) (p : Part) (all : List Kept) where
 -- ---- what a call answers
 
 pub taken_from : {E : Type 0} (r : Result (Option (Vec ℕ Global)) E) (key : Key) (p : Part) (all new : List Kept) → AreApart all
-    → OnOk r (new ≡ kept_after key p all) → IsAnswer r (whole_with p (kept_of key all))
+    → OnOk r (new ≡ kept_after key p all) → Answers r (whole_with p (kept_of key all))
     → IfOk r (λ payload. IsTaken key p all new (option_map (λ v. v.items) payload))
 taken_from (Ok payload) key p all new apart kept answer =
     subst (λ (n : List Kept). IsTaken key p all n (option_map (λ v. v.items) payload)) (sym kept)

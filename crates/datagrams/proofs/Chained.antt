@@ -1,11 +1,7 @@
 -- One part of a frame, and what is behind it.
-use Rattle.std.proofs.Common.{◌≡◌, ◌↔◌, ℕ, ◌-◌, ◌≤◌, List, ◌++◌, length, take, drop, ap, sym, subst, ◌∙◌, Option, Some, None, option_map, Bor, arith}
+use Rattle.std.proofs.Common.{◌≡◌, ℕ, ◌-◌, ◌≤◌, List, ◌++◌, length, take, drop, ap, sym, subst, ◌∙◌, Option, Some, None, option_map, Bor, arith}
 use Rattle.std.proofs.lemmas.List.{take-append-drop, take_all, drop_at, length-drop, length-take-le, length-append}
-use Rattle.datagrams.specs.Frames.{Then, IsPast}
-
--- what was found is just what the relation says
-abbrev pub Finds : Option (Bor (List ℕ)) → (List ℕ → Type 0) → Type 0
-Finds found P = (rest : List ℕ) → (option_map {T = Bor (List ℕ)} {U = List ℕ} (λ r. r.now) found ≡ Some rest) ↔ P rest
+use Rattle.datagrams.specs.Frames.{Finds, Then, IsPast}
 
 pub not_found : (found : Option (Bor (List ℕ))) (rest : List ℕ) → found ≡ None → option_map {T = Bor (List ℕ)} {U = List ℕ} (λ r. r.now) found ≡ Some rest → ⊥
 not_found None rest none some = cc

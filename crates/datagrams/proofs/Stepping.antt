@@ -1,5 +1,5 @@
 -- What is kept after one more fragment, of a datagram that stands at a place or of one that begins.
-use Rattle.std.proofs.Common.{◌≡◌, ◌≢◌, ℕ, zero, suc, ◌+◌, ◌-◌, ◌<◌, ◌≤◌, Bool, true, false, ◌&&◌, ◌||◌, not, ltb, List, [], ◌∷◌, ◌++◌, length, get_or, set, drop, refl, sym, ap, subst, ◌∙◌, Option, Some, None, Result, Ok, Err, OnOk, OnErr, IfOk, option_map, unwrap_or, cond, Vec, Global, arith}
+use Rattle.std.proofs.Common.{◌≡◌, ◌≢◌, ℕ, zero, suc, ◌+◌, ◌-◌, ◌<◌, ◌≤◌, Bool, true, false, ◌&&◌, ◌||◌, not, ltb, List, [], ◌∷◌, ◌++◌, length, get_or, set, drop, refl, sym, ap, subst, ◌∙◌, Option, Some, None, Result, Ok, Err, OnOk, OnErr, unwrap_or, cond, Vec, Global, arith}
 use Rattle.std.specs.Prelude.{if◌then◌else◌}
 use Rattle.std.specs.List.{list_any, find, remove}
 use Rattle.std.proofs.lemmas.List.{length-set, length-drop, get_or-drop}
@@ -13,7 +13,7 @@ use Rattle.datagrams.specs.declared.datagram.TheConstants.{LONGEST}
 use Rattle.datagrams.specs.declared.key.Key.{Key}
 use Rattle.datagrams.specs.Parts.{Part, end_of}
 use Rattle.datagrams.specs.Kept.{Kept, nothing_of, same_key, contradicts, with_part, is_whole, payload_of}
-use Rattle.datagrams.specs.Keeping.{AreApart, AreShort, has_key, kept_of, without, put, latest, is_done, kept_after, whole_with}
+use Rattle.datagrams.specs.Keeping.{AreApart, AreShort, has_key, kept_of, without, put, latest, is_done, kept_after, whole_with, changed, begun, whole_at_once, Answers}
 use Rattle.datagrams.proofs.Choices.{true_not_false}
 use Rattle.datagrams.proofs.Making.{long_at}
 use Rattle.datagrams.proofs.ByKey.{Stands, IsMissing, key_itself}
@@ -23,10 +23,6 @@ abbrev pub AreKept : List Kept → Type 0
 AreKept all = (length all ≤ MOST) × AreApart all × AreShort all
 
 -- ---- a datagram that stands at a place
-
--- what then stands there
-abbrev pub changed : Part → Kept → List Kept → ℕ → List Kept
-changed p before all place = if is_done p before then remove all place else set all place (with_part p before)
 
 pub changed_is : (key : Key) (p : Part) (all : List Kept) (place : ℕ) → Stands key all place → changed p (kept_of key all) all place ≡ kept_after key p all
 changed_is key p all place stands =
@@ -106,10 +102,6 @@ no_last false n = refl
 pub nothing_contradicts : (p : Part) (key : Key) → contradicts p (nothing_of key) ≡ false
 nothing_contradicts p key = no_last p.is_last (end_of p)
 
--- what is then kept
-abbrev pub begun : Kept → List Kept → List Kept
-begun w all = if is_whole w then all else latest (all ++ w ∷ [])
-
 -- kept_after, by what was kept of the datagram
 abbrev after_from : Key → Part → List Kept → Kept → List Kept
 after_from key p all kept = if is_done p kept then without key all else put key (with_part p kept) all
@@ -125,10 +117,6 @@ begun_is key p all missing =
 pub began : {T E : Type 0} (r : Result T E) (key : Key) (p : Part) (all new : List Kept) → IsMissing key all
     → OnOk r (new ≡ begun (with_part p (nothing_of key)) all) → OnOk r (new ≡ kept_after key p all)
 began r key p all new missing ok = on_ok_weaker r (λ e. e ∙ begun_is key p all missing) ok
-
--- the payload, where it is whole at once
-abbrev pub whole_at_once : Kept → Option (List ℕ)
-whole_at_once w = if is_whole w then Some (payload_of w) else None
 
 pub whole_is : (key : Key) (p : Part) (all : List Kept) → IsMissing key all → whole_at_once (with_part p (nothing_of key)) ≡ whole_with p (kept_of key all)
 whole_is key p all missing =
@@ -167,8 +155,5 @@ begun_still (Err e) key p all new fits missing ok err kept = subst AreKept (sym 
 
 -- ---- answers
 
-abbrev pub IsAnswer : {E : Type 0} → Result (Option (Vec ℕ Global)) E → Option (List ℕ) → Type 0
-IsAnswer r bytes = IfOk r (λ payload. option_map (λ v. v.items) payload ≡ bytes)
-
-pub same_answer : {E : Type 0} (r : Result (Option (Vec ℕ Global)) E) (a b : Option (List ℕ)) → a ≡ b → IsAnswer r a → IsAnswer r b
-same_answer r a b e answer = subst (IsAnswer r) e answer
+pub same_answer : {E : Type 0} (r : Result (Option (Vec ℕ Global)) E) (a b : Option (List ℕ)) → a ≡ b → Answers r a → Answers r b
+same_answer r a b e answer = subst (Answers r) e answer

@@ -1,5 +1,10 @@
 -- What stands where in a frame that carries an IPv4 packet, by the link type of its capture.
-use Rattle.std.specs.Prelude.{ℕ, ◌≡◌, ◌⊎◌, ◌/◌, List, [], ◌∷◌, ◌++◌, length, slice_index}
+use Rattle.std.specs.Borrow.{Bor}
+use Rattle.std.specs.Prelude.{ℕ, ◌≡◌, ◌⊎◌, ◌↔◌, Option, Some, option_map, ◌/◌, List, [], ◌∷◌, ◌++◌, length, slice_index}
+
+-- what is found, if anything is, is just what the relation says
+abbrev pub Finds : Option (Bor (List ℕ)) → (List ℕ → Type 0) → Type 0
+Finds found IsWanted = (bytes : List ℕ) → (option_map {T = Bor (List ℕ)} {U = List ℕ} (λ b. b.now) found ≡ Some bytes) ↔ IsWanted bytes
 
 -- ---- EtherTypes and tags
 

@@ -1,6 +1,7 @@
 -- The datagrams of which parts are kept, from the one that began first to the one that began last.
-use Rattle.std.specs.Prelude.{ℕ, ◌≢◌, ◌≤◌, ◌-◌, ◌&&◌, ◌||◌, not, Bool, if◌then◌else◌, List, [], ◌∷◌, ◌++◌, length, drop, map, Option, Some, None}
-use Rattle.std.specs.List.{list_any, filter, find, AllPairs, AllByRecursion}
+use Rattle.std.specs.Global.{Vec}
+use Rattle.std.specs.Prelude.{ℕ, ◌≡◌, ◌≢◌, ◌≤◌, ◌-◌, ◌&&◌, ◌||◌, not, Bool, if◌then◌else◌, List, [], ◌∷◌, ◌++◌, length, drop, map, slice_set, Option, Some, None, option_map, Result, IfOk}
+use Rattle.std.specs.List.{list_any, filter, find, remove, AllPairs, AllByRecursion}
 use Rattle.std.specs.Option.{unwrap_or}
 use Rattle.datagrams.specs.declared.datagram.TheConstants.{LONGEST}
 use Rattle.datagrams.specs.declared.key.Key.{Key}
@@ -48,3 +49,20 @@ kept_after key p all = if is_done p (kept_of key all) then without key all else 
 abbrev pub whole_with : Part → Kept → Option (List ℕ)
 whole_with p kept =
     if not (contradicts p kept) && is_whole (with_part p kept) then Some (payload_of (with_part p kept)) else None
+
+-- ---- by the steps of a call
+
+-- a datagram that stands at the place
+abbrev pub changed : Part → Kept → List Kept → ℕ → List Kept
+changed p before all place = if is_done p before then remove all place else slice_set all place (with_part p before)
+
+-- a datagram that begins
+abbrev pub begun : Kept → List Kept → List Kept
+begun new all = if is_whole new then all else latest (all ++ new ∷ [])
+
+abbrev pub whole_at_once : Kept → Option (List ℕ)
+whole_at_once new = if is_whole new then Some (payload_of new) else None
+
+-- a call answers just these bytes, unless it fails
+abbrev pub Answers : {E : Type 0} → Result (Option (Vec ℕ)) E → Option (List ℕ) → Type 0
+Answers result bytes = IfOk result (λ payload. option_map (λ v. v.items) payload ≡ bytes)

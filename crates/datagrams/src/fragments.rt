@@ -1,7 +1,6 @@
 //! Fragments put together (RFC 791, 3.2).
-ghost use Rattle.std.specs.Prelude.{◌≡◌, ◌≤◌, [], length, option_map, OnOk, OnErr, IfOk};
+ghost use Rattle.std.specs.Prelude.{◌≡◌, ◌≤◌, [], length, OnOk, OnErr};
 ghost use Rattle.std.specs.List.{position};
-ghost use Rattle.datagrams.specs.Parts.{part_of};
 
 use crate::datagram::Datagram;
 use crate::key::Key;
@@ -15,7 +14,8 @@ use std::marker::Model;
 pub const MOST: usize = 64;
 
 /// The datagrams of which fragments came, but not all. It keeps parts of at most `MOST` datagrams, of
-/// each at most `LONGEST` bytes. Where one more begins, the one that began first is forgotten.
+/// each at most `LONGEST` bytes. Where one more begins, the one that began first is forgotten. It has
+/// no clock, so parts of a datagram stay until then if the others never come.
 pub struct Fragments {
     partials: Vec<Partial>,
 }
@@ -45,10 +45,10 @@ impl Model for Fragments {
 }
 
 impl Fragments {
-    ghost use Rattle.datagrams.specs.Kept.{key_of, IsMadeOf};
-    ghost use Rattle.datagrams.specs.Taking.{IsTaken};
+    ghost use Rattle.datagrams.specs.Kept.{IsMadeOf};
+    ghost use Rattle.datagrams.specs.Taking.{Takes, kept_with, payload_with};
     ghost use Rattle.datagrams.specs.declared.key.Key.{Key};
-    ghost use Rattle.datagrams.specs.Keeping.{AreApart, AreShort, has_key, kept_of, kept_after, whole_with};
+    ghost use Rattle.datagrams.specs.Keeping.{AreApart, AreShort, Answers, has_key, kept_of};
 
     /// No fragment came.
     pub fn new(alloc: Global) -> Fragments
@@ -71,16 +71,20 @@ impl Fragments {
     }
 
     /// Takes a fragment. Answers the payload of its datagram, if that is whole with it, and forgets
-    /// the datagram.
+    /// the datagram. Fragments may come in any order, more than once, and overlap: the byte of the one
+    /// that came last counts. Where fragments contradict each other about the end of their datagram,
+    /// it is forgotten. A datagram that is no fragment is answered at once.
     pub fn take(
         &mut self,
         alloc: Global,
         fragment: &Datagram<'_>,
     ) -> Result<Option<Vec<u8>>, Memory>
-        ensures kept { OnOk result (self.new ≡ kept_after (key_of fragment.now) (part_of fragment.now) self.old) }
-        ensures answer { IfOk result (λ payload. option_map (λ v. v.items) payload ≡ whole_with (part_of fragment.now) (kept_of (key_of fragment.now) self.old)) }
+        ensures kept { OnOk result (self.new ≡ kept_with fragment.now self.old) }
+        ensures answer { Answers result (payload_with fragment.now self.old) }
+        // Where memory runs out, nothing changes.
         ensures unchanged { OnErr result (self.new ≡ self.old) }
-        ensures taken { IfOk result (λ payload. IsTaken (key_of fragment.now) (part_of fragment.now) self.old self.new (option_map (λ v. v.items) payload)) }
+        // It answers and keeps what all the fragments make that came and were not forgotten.
+        ensures taken { Takes fragment.now self.old self.new result }
     {
         let key = Key::of(fragment);
         match self.place_of(&key) {

@@ -1,6 +1,5 @@
 //! What a link puts before a packet.
-ghost use Rattle.std.specs.Prelude.{◌≡◌, ◌↔◌, ℕ, List, Some, option_map};
-ghost use Rattle.datagrams.specs.Frames.{IsEthernet, IsCookedV1, IsCookedV2, IsHighFirst, IsAnyFirst, IsVersion4, IsPast};
+ghost use Rattle.datagrams.specs.Frames.{Finds, IsEthernet, IsCookedV1, IsCookedV2, IsHighFirst, IsAnyFirst, IsVersion4, IsPast};
 
 use crate::tags::{behind_tags, behind_type};
 
@@ -15,7 +14,7 @@ const COOKED_V2_BACK: usize = 18;
 
 /// What is behind so many bytes.
 fn past(count: usize, bytes: &[u8]) -> Option<&[u8]>
-    ensures { (rest : List ℕ) → (option_map (λ r. r.now) result ≡ Some rest) ↔ IsPast count bytes.now rest }
+    ensures { Finds result (IsPast count bytes.now) }
 {
     if count > bytes.len() {
         return None;
@@ -25,28 +24,28 @@ fn past(count: usize, bytes: &[u8]) -> Option<&[u8]>
 
 /// What is behind the header of an Ethernet frame that has the EtherType of IPv4.
 pub(crate) fn behind_ethernet(frame: &[u8]) -> Option<&[u8]>
-    ensures { (packet : List ℕ) → (option_map (λ p. p.now) result ≡ Some packet) ↔ IsEthernet frame.now packet }
+    ensures { Finds result (IsEthernet frame.now) }
 {
     behind_tags(past(ADDRESSES, frame)?)
 }
 
 /// What is behind a cooked header of version 1 whose protocol is IPv4.
 pub(crate) fn behind_cooked_v1(frame: &[u8]) -> Option<&[u8]>
-    ensures { (packet : List ℕ) → (option_map (λ p. p.now) result ≡ Some packet) ↔ IsCookedV1 frame.now packet }
+    ensures { Finds result (IsCookedV1 frame.now) }
 {
     behind_type(past(COOKED_V1_FRONT, frame)?)
 }
 
 /// What is behind a cooked header of version 2 whose protocol is IPv4.
 pub(crate) fn behind_cooked_v2(frame: &[u8]) -> Option<&[u8]>
-    ensures { (packet : List ℕ) → (option_map (λ p. p.now) result ≡ Some packet) ↔ IsCookedV2 frame.now packet }
+    ensures { Finds result (IsCookedV2 frame.now) }
 {
     past(COOKED_V2_BACK, behind_type(frame)?)
 }
 
 /// What is behind the address family of IPv4, its highest byte first.
 pub(crate) fn behind_family(frame: &[u8]) -> Option<&[u8]>
-    ensures { (packet : List ℕ) → (option_map (λ p. p.now) result ≡ Some packet) ↔ IsHighFirst frame.now packet }
+    ensures { Finds result (IsHighFirst frame.now) }
 {
     match frame {
         [0, 0, 0, 2, packet @ ..] => Some(packet),
@@ -56,7 +55,7 @@ pub(crate) fn behind_family(frame: &[u8]) -> Option<&[u8]>
 
 /// What is behind the address family of IPv4, in either byte order.
 pub(crate) fn behind_any_family(frame: &[u8]) -> Option<&[u8]>
-    ensures { (packet : List ℕ) → (option_map (λ p. p.now) result ≡ Some packet) ↔ IsAnyFirst frame.now packet }
+    ensures { Finds result (IsAnyFirst frame.now) }
 {
     match frame {
         [0, 0, 0, 2, packet @ ..] | [2, 0, 0, 0, packet @ ..] => Some(packet),
@@ -66,7 +65,7 @@ pub(crate) fn behind_any_family(frame: &[u8]) -> Option<&[u8]>
 
 /// The frame, if it begins as a packet of version 4 does.
 pub(crate) fn version_4(frame: &[u8]) -> Option<&[u8]>
-    ensures { (packet : List ℕ) → (option_map (λ p. p.now) result ≡ Some packet) ↔ IsVersion4 frame.now packet }
+    ensures { Finds result (IsVersion4 frame.now) }
 {
     match frame {
         [first, ..] if first / 16 == 4 => Some(frame),

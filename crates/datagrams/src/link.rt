@@ -1,5 +1,4 @@
 //! The IPv4 packet that a frame carries, by the link type of its capture.
-ghost use Rattle.std.specs.Prelude.{◌≡◌, ◌↔◌, ℕ, List, Some, option_map};
 
 use crate::headers::{
     behind_any_family, behind_cooked_v1, behind_cooked_v2, behind_ethernet, behind_family,
@@ -24,6 +23,8 @@ pub enum LinkType {
 }
 
 impl LinkType {
+    ghost use Rattle.std.specs.Prelude.{◌≡◌};
+    ghost use Rattle.datagrams.specs.Frames.{Finds};
     ghost use Rattle.datagrams.specs.Links.{Carries, link_of_number};
 
     /// The link type with the number; none if it is not one of these.
@@ -44,7 +45,7 @@ impl LinkType {
     /// The IPv4 packet that the frame carries, and behind it what the link has put there. None if the
     /// frame carries another protocol, or is too short to tell.
     pub fn ipv4_of(self, frame: &[u8]) -> Option<&[u8]>
-        ensures { (packet : List ℕ) → (option_map (λ p. p.now) result ≡ Some packet) ↔ Carries self frame.now packet }
+        ensures { Finds result (Carries self frame.now) }
     {
         match self {
             LinkType::Null => behind_any_family(frame),

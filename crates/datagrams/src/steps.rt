@@ -1,9 +1,8 @@
 //! One more fragment of a datagram.
-ghost use Rattle.std.specs.Prelude.{◌≡◌, ◌≤◌, ◌<◌, ◌++◌, ◌∷◌, [], Some, None, length, option_map, OnOk, OnErr, IfOk, if◌then◌else◌, slice_get, slice_set};
-ghost use Rattle.std.specs.List.{remove};
+ghost use Rattle.std.specs.Prelude.{◌≡◌, ◌≤◌, ◌<◌, Some, length, OnOk, OnErr, slice_get};
 ghost use Rattle.datagrams.specs.Parts.{part_of};
-ghost use Rattle.datagrams.specs.Kept.{Kept, with_part, is_whole, payload_of};
-ghost use Rattle.datagrams.specs.Keeping.{is_done, whole_with, latest};
+ghost use Rattle.datagrams.specs.Kept.{Kept, with_part};
+ghost use Rattle.datagrams.specs.Keeping.{Answers, changed, begun, whole_with, whole_at_once};
 
 use crate::datagram::Datagram;
 use crate::fragments::MOST;
@@ -18,9 +17,10 @@ pub(crate) fn go_on(
 ) -> Result<Option<Vec<u8>>, Memory>
     requires { place < length partials.old.items }
     ensures kept { (before : Kept) → slice_get partials.old.items place ≡ Some before
-        → OnOk result (partials.new.items ≡ (if is_done (part_of fragment.now) before then remove partials.old.items place else slice_set partials.old.items place (with_part (part_of fragment.now) before))) }
+        → OnOk result (partials.new.items
+        ≡ changed (part_of fragment.now) before partials.old.items place) }
     ensures answer { (before : Kept) → slice_get partials.old.items place ≡ Some before
-        → IfOk result (λ payload. option_map (λ v. v.items) payload ≡ whole_with (part_of fragment.now) before) }
+        → Answers result (whole_with (part_of fragment.now) before) }
     ensures unchanged { OnErr result (partials.new.items ≡ partials.old.items) }
 {
     let partial = &mut partials[place];
@@ -42,8 +42,9 @@ pub(crate) fn begin(
     fragment: &Datagram<'_>,
 ) -> Result<Option<Vec<u8>>, Memory>
     requires { length partials.old.items ≤ MOST }
-    ensures kept { OnOk result (partials.new.items ≡ (if is_whole (with_part (part_of fragment.now) partial) then partials.old.items else latest (partials.old.items ++ with_part (part_of fragment.now) partial ∷ []))) }
-    ensures answer { IfOk result (λ payload. option_map (λ v. v.items) payload ≡ (if is_whole (with_part (part_of fragment.now) partial) then Some (payload_of (with_part (part_of fragment.now) partial)) else None)) }
+    ensures kept { OnOk result (partials.new.items
+        ≡ begun (with_part (part_of fragment.now) partial) partials.old.items) }
+    ensures answer { Answers result (whole_at_once (with_part (part_of fragment.now) partial)) }
     ensures unchanged { OnErr result (partials.new.items ≡ partials.old.items) }
 {
     partial.add(fragment)?;

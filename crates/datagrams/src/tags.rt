@@ -1,10 +1,9 @@
 //! The EtherType of a frame, and the VLAN tags before it (IEEE 802.1Q).
-ghost use Rattle.std.specs.Prelude.{◌≡◌, ◌↔◌, ℕ, List, Some, option_map};
-ghost use Rattle.datagrams.specs.Frames.{IsBehindTag, IsBehindTags, IsBehindType};
+ghost use Rattle.datagrams.specs.Frames.{Finds, IsBehindTag, IsBehindTags, IsBehindType};
 
 /// What is behind the tag in front, if a whole one is there.
 fn behind_tag(bytes: &[u8]) -> Option<&[u8]>
-    ensures { (rest : List ℕ) → (option_map (λ r. r.now) result ≡ Some rest) ↔ IsBehindTag bytes.now rest }
+    ensures { Finds result (IsBehindTag bytes.now) }
 {
     match bytes {
         [0x81 | 0x91, 0x00, _, _, rest @ ..] | [0x88, 0xa8, _, _, rest @ ..] => Some(rest),
@@ -14,7 +13,7 @@ fn behind_tag(bytes: &[u8]) -> Option<&[u8]>
 
 /// What is behind the EtherType of IPv4, if that is in front.
 pub(crate) fn behind_type(bytes: &[u8]) -> Option<&[u8]>
-    ensures { (packet : List ℕ) → (option_map (λ r. r.now) result ≡ Some packet) ↔ IsBehindType bytes.now packet }
+    ensures { Finds result (IsBehindType bytes.now) }
 {
     match bytes {
         [0x08, 0x00, packet @ ..] => Some(packet),
@@ -24,7 +23,7 @@ pub(crate) fn behind_type(bytes: &[u8]) -> Option<&[u8]>
 
 /// What is behind any number of tags and the EtherType of IPv4.
 pub(crate) fn behind_tags(bytes: &[u8]) -> Option<&[u8]>
-    ensures { (packet : List ℕ) → (option_map (λ r. r.now) result ≡ Some packet) ↔ IsBehindTags bytes.now packet }
+    ensures { Finds result (IsBehindTags bytes.now) }
 {
     let mut rest = bytes;
     while let Some(more) = behind_tag(rest) {

@@ -4,10 +4,10 @@ use Rattle.std.proofs.lemmas.Result.{on_ok_weaker}
 use Rattle.datagrams.specs.declared.key.Key.{Key}
 use Rattle.datagrams.specs.Parts.{part_of}
 use Rattle.datagrams.specs.Kept.{Kept, key_of, with_part}
-use Rattle.datagrams.specs.Keeping.{AreApart, has_key, kept_of, kept_after, whole_with}
+use Rattle.datagrams.specs.Keeping.{AreApart, has_key, kept_of, kept_after, whole_with, begun, whole_at_once, Answers}
 use Rattle.datagrams.proofs.AllTaken.{taken_from}
 use Rattle.datagrams.proofs.ByKey.{stands_at, is_missing}
-use Rattle.datagrams.proofs.Stepping.{went_on, still_kept, begun, began, begun_still, whole_at_once, whole_is, IsAnswer, same_answer}
+use Rattle.datagrams.proofs.Stepping.{went_on, still_kept, began, begun_still, whole_is, same_answer}
 use Rattle.datagrams.proofs.fragments.Fragments.take.Goals as goal
 
 pub invariant_of-self : goal.invariant_of-self
@@ -56,7 +56,7 @@ returns-in-None-clause-answer c =
     let all = c.self.inside.partials.items in
     let p = part_of c.args.fragment.now in
     let missing = is_missing c.of-key.result all (ap (position (has_key c.of-key.result)) c.self.view_is ∙ sym c.place_of.ensures ∙ c.in-None.is) in
-    let answer = subst (λ (k : Kept). IsAnswer c.begin.result (whole_at_once (with_part p k))) c.new.ensures c.begin.ensures.answer in
+    let answer = subst (λ (k : Kept). Answers c.begin.result (whole_at_once (with_part p k))) c.new.ensures c.begin.ensures.answer in
     same_answer c.begin.result _ _
     (whole_is c.of-key.result p all missing
     ∙ ap (λ (k : Key). whole_with p (kept_of k all)) c.of-key.ensures ∙ ap (λ (l : List Kept). whole_with p (kept_of (key_of c.args.fragment.now) l)) c.self.view_is)
