@@ -3,10 +3,12 @@ ghost use Rattle.std.specs.Prelude.{◌≤◌, ◌+◌, length};
 /// The longest datagram, in bytes.
 pub const LONGEST: usize = 65_535;
 
-/// An IPv4 datagram, or a fragment of one (RFC 791, 3.1). Numbers are in host order.
+/// An IPv4 datagram, or a fragment of one, as its header says (RFC 791, 3.1). Numbers are in host order.
 #[derive(Clone, Copy, Debug)]
 pub struct Datagram<'a> {
+    /// The address of the sender.
     pub source: u32,
+    /// The address it is sent to.
     pub destination: u32,
     /// Tells the fragments of one datagram from those of others between the two addresses.
     pub identification: u16,
@@ -16,7 +18,9 @@ pub struct Datagram<'a> {
     pub offset: usize,
     /// No more fragments follow.
     pub is_last: bool,
+    /// The bytes behind the header, up to the total length.
     pub payload: &'a [u8],
+    // It ends within the longest datagram.
     pub ghost fits: { offset + length payload.now ≤ 65535 },
 }
 
