@@ -1,0 +1,69 @@
+-- What is read of a capture, part by part.
+use Rattle.std.specs.Prelude.{ℕ, ◌≡◌, Bool, true, false, List, [], ◌∷◌, ◌++◌, take, drop, Result, Ok, Err, MatchResult}
+use Rattle.captures.specs.declared.capture.Packet.{Packet}
+use Rattle.captures.specs.declared.capture.Part.{Part}
+use Rattle.captures.specs.declared.fault.FaultKind.{FaultKind}
+use Rattle.captures.specs.declared.fault.FaultKind.TheVariants.{NoCapture}
+use Rattle.captures.specs.declared.fault.ReadError.{ReadError}
+use Rattle.captures.specs.declared.fault.ReadError.TheVariants.{Fault, Memory}
+use Rattle.captures.specs.declared.front.Format.{Format}
+use Rattle.captures.specs.declared.front.Format.TheVariants.{Unread, Pcap, Section}
+use Rattle.captures.specs.declared.front.Front.{Front}
+use Rattle.captures.specs.declared.front.Front.TheVariants.{Short, Header, Declared, Other, Captured}
+use Rattle.captures.specs.declared.front.Record.{Record}
+use Rattle.captures.specs.declared.interface.Interface.{Interface}
+use Rattle.captures.specs.Opening.{opening_front}
+use Rattle.captures.specs.Pcap.{packet_front}
+
+-- what is known of a capture: its format, and in a section of a pcapng the interfaces
+pub record State : Type 0 where
+  pub format : Format
+  pub interfaces : List Interface
+
+-- nothing was read
+abbrev pub unread : State
+unread = record { format = Unread; interfaces = [] }
+
+abbrev pub is_read : Format → Bool
+is_read Unread = false
+is_read (Pcap file) = true
+is_read (Section order) = true
+
+-- a header was read
+abbrev pub has_begun : State → Bool
+has_begun s = is_read s.format
+
+abbrev pub front_in : Format → List Interface → List ℕ → Result Front FaultKind
+front_in Unread interfaces bytes = opening_front bytes
+front_in (Pcap file) interfaces bytes = packet_front file bytes
+front_in (Section order) interfaces bytes = Err NoCapture
+
+-- what stands at the front of bytes
+abbrev pub front_of : State → List ℕ → Result Front FaultKind
+front_of s bytes = front_in s.format s.interfaces bytes
+
+-- the packet that a header tells of, with its bytes
+pub record IsPacketOf (header : Record) (all : List ℕ) (packet : Packet) : Type 0 where
+  pub time : packet.time ≡ header.time
+  pub link : packet.link ≡ header.link
+  pub wire_length : packet.wire_length ≡ header.wire_length
+  pub bytes : packet.bytes.now ≡ take header.captured (drop header.start all)
+
+abbrev pub IsPacketPart : Record → ℕ → List ℕ → Part → Type 0
+IsPacketPart header size bytes (Part.More needed) = ⊥
+IsPacketPart header size bytes (Part.Skip length) = ⊥
+IsPacketPart header size bytes (Part.Packet packet length) = (length ≡ size) × IsPacketOf header bytes packet
+
+-- what comes of a front: the answer, and what is known afterwards
+abbrev pub Answers : Result Front FaultKind → List ℕ → (old new : State) → Result Part ReadError → Type 0
+Answers (Err fault) bytes old new result = (result ≡ Err (Fault fault)) × (new ≡ old)
+Answers (Ok (Short needed)) bytes old new result = (result ≡ Ok (Part.More needed)) × (new ≡ old)
+Answers (Ok (Header format size)) bytes old new result =
+    (result ≡ Ok (Part.Skip size)) × (new ≡ (let s : State = record { format = format; interfaces = [] } in s))
+Answers (Ok (Declared interface size)) bytes old new result =
+    MatchResult result
+    (λ part. (part ≡ Part.Skip size) × (new ≡ record old { interfaces = old.interfaces ++ interface ∷ [] }))
+    (λ error. (error ≡ Memory) × (new ≡ old))
+Answers (Ok (Other size)) bytes old new result = (result ≡ Ok (Part.Skip size)) × (new ≡ old)
+Answers (Ok (Captured header size)) bytes old new result =
+    MatchResult result (IsPacketPart header size bytes) (λ error. ⊥) × (new ≡ old)

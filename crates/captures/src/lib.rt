@@ -1,0 +1,14 @@
+//! The packets of a capture, a pcap or a pcapng, read part by part as its bytes come. There is no input
+//! or output here: a caller reads a file or a pipe, and hands in what it has.
+#![tactic(auto)]
+
+mod capture;
+mod fault;
+mod front;
+mod interface;
+mod opening;
+mod order;
+mod pcap;
+
+pub use capture::{Capture, Packet, Part};
+pub use fault::{FaultKind, ReadError};
