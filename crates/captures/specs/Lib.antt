@@ -1,6 +1,13 @@
 pub mod Numbers
 pub mod Text
+pub mod Steps
+pub mod Times
+pub mod Options
+pub mod Interfaces
+pub mod Packets
+pub mod Frames
 pub mod Fronts
+pub mod Blocks
 pub mod Pcap
 pub mod Opening
 pub mod Reading

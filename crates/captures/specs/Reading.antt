@@ -3,7 +3,6 @@ use Rattle.std.specs.Prelude.{ℕ, ◌≡◌, Bool, true, false, List, [], ◌�
 use Rattle.captures.specs.declared.capture.Packet.{Packet}
 use Rattle.captures.specs.declared.capture.Part.{Part}
 use Rattle.captures.specs.declared.fault.FaultKind.{FaultKind}
-use Rattle.captures.specs.declared.fault.FaultKind.TheVariants.{NoCapture}
 use Rattle.captures.specs.declared.fault.ReadError.{ReadError}
 use Rattle.captures.specs.declared.fault.ReadError.TheVariants.{Fault, Memory}
 use Rattle.captures.specs.declared.front.Format.{Format}
@@ -12,6 +11,7 @@ use Rattle.captures.specs.declared.front.Front.{Front}
 use Rattle.captures.specs.declared.front.Front.TheVariants.{Short, Header, Declared, Other, Captured}
 use Rattle.captures.specs.declared.front.Record.{Record}
 use Rattle.captures.specs.declared.interface.Interface.{Interface}
+use Rattle.captures.specs.Blocks.{block_front}
 use Rattle.captures.specs.Opening.{opening_front}
 use Rattle.captures.specs.Pcap.{packet_front}
 
@@ -36,7 +36,7 @@ has_begun s = is_read s.format
 abbrev pub front_in : Format → List Interface → List ℕ → Result Front FaultKind
 front_in Unread interfaces bytes = opening_front bytes
 front_in (Pcap file) interfaces bytes = packet_front file bytes
-front_in (Section order) interfaces bytes = Err NoCapture
+front_in (Section order) interfaces bytes = block_front order interfaces bytes
 
 -- what stands at the front of bytes
 abbrev pub front_of : State → List ℕ → Result Front FaultKind

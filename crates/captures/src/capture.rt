@@ -4,6 +4,7 @@ ghost use Rattle.std.specs.Prelude.{◌≡◌, ◌≢◌, ◌↔◌, ◌+◌, �
 ghost use Rattle.captures.specs.Reading.{unread, front_of, Answers, IsPacketOf, has_begun};
 ghost use Rattle.captures.specs.Fronts.{IsInReach};
 
+use crate::block::block_front_in;
 use crate::fault::{FaultKind, ReadError};
 use crate::front::{Format, Front, Record};
 use crate::interface::Interface;
@@ -110,7 +111,7 @@ impl Capture {
         match self.format {
             Format::Unread => opening_front_in(bytes),
             Format::Pcap(file) => packet_front_in(file, bytes),
-            Format::Section(_order) => Err(FaultKind::NoCapture),
+            Format::Section(order) => block_front_in(order, &self.interfaces, bytes),
         }
     }
 }

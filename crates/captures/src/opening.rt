@@ -1,15 +1,20 @@
 //! The first bytes of a capture.
 
-ghost use Rattle.std.specs.Prelude.{◌≡◌, IfOk};
-ghost use Rattle.captures.specs.Opening.{opening_front};
+ghost use Rattle.std.specs.Prelude.{◌≡◌, ◌≤◌, IfOk, length};
+ghost use Rattle.captures.specs.Opening.{is_section, opening_front};
 ghost use Rattle.captures.specs.Fronts.{IsInReach};
 
+use crate::block::block_front_in;
 use crate::fault::FaultKind;
 use crate::front::Front;
+use crate::order::Order;
 use crate::pcap::{file_front_in, magic_in};
 
-/// The length of the magic number of either format.
+/// The length of the magic number of a pcap, or of the type of a block.
 const MAGIC: usize = 4;
+
+/// The type of the block that begins a section. It is the number in either byte order.
+const SECTION: u32 = 0x0A0D_0D0A;
 
 /// The first header of a capture.
 pub(crate) fn opening_front_in(bytes: &[u8]) -> Result<Front, FaultKind>
@@ -19,8 +24,19 @@ pub(crate) fn opening_front_in(bytes: &[u8]) -> Result<Front, FaultKind>
     if bytes.len() < MAGIC {
         return Ok(Front::Short(MAGIC));
     }
+    if begins_section(bytes) {
+        return block_front_in(Order::Big, &[], bytes);
+    }
     match magic_in(bytes) {
         Some(magic) => file_front_in(magic, bytes),
         None => Err(FaultKind::NoCapture),
     }
+}
+
+// Whether the first block of a pcapng is in front.
+fn begins_section(bytes: &[u8]) -> bool
+    requires { 4 ≤ length bytes.now }
+    ensures { result ≡ is_section bytes.now }
+{
+    Order::Big.u32_at(bytes, 0) == SECTION
 }
