@@ -1,2 +1,4 @@
 pub mod Units
 pub mod Walking
+pub mod Steady
+pub mod SteadyBlocks

@@ -1,10 +1,11 @@
 -- What is read of a capture, part by part.
-use Rattle.std.specs.Prelude.{ℕ, ◌≡◌, Bool, true, false, List, [], ◌∷◌, ◌++◌, take, drop, Result, Ok, Err, MatchResult}
+use Rattle.std.specs.Prelude.{ℕ, ◌≡◌, ◌<◌, ◌≤◌, Bool, true, false, List, [], ◌∷◌, ◌++◌, length, take, drop, Result, Ok, Err, MatchResult}
 use Rattle.captures.specs.declared.capture.Packet.{Packet}
 use Rattle.captures.specs.declared.capture.Part.{Part}
 use Rattle.captures.specs.declared.fault.FaultKind.{FaultKind}
 use Rattle.captures.specs.declared.fault.ReadError.{ReadError}
 use Rattle.captures.specs.declared.fault.ReadError.TheVariants.{Fault, Memory}
+use Rattle.captures.specs.declared.front.TheConstants.{MOST_CAPTURED}
 use Rattle.captures.specs.declared.front.Format.{Format}
 use Rattle.captures.specs.declared.front.Format.TheVariants.{Unread, Pcap, Section}
 use Rattle.captures.specs.declared.front.Front.{Front}
@@ -12,6 +13,7 @@ use Rattle.captures.specs.declared.front.Front.TheVariants.{Short, Header, Decla
 use Rattle.captures.specs.declared.front.Record.{Record}
 use Rattle.captures.specs.declared.interface.Interface.{Interface}
 use Rattle.captures.specs.Blocks.{block_front}
+use Rattle.captures.specs.Fronts.{IsSettledBy}
 use Rattle.captures.specs.Opening.{opening_front}
 use Rattle.captures.specs.Pcap.{packet_front}
 
@@ -53,6 +55,17 @@ abbrev pub IsPacketPart : Record → ℕ → List ℕ → Part → Type 0
 IsPacketPart header size bytes (Part.More needed) = ⊥
 IsPacketPart header size bytes (Part.Skip length) = ⊥
 IsPacketPart header size bytes (Part.Packet packet length) = (length ≡ size) × IsPacketOf header bytes packet
+
+-- a part goes on by at least a byte, a packet is whole and not too long, and no more than 1 MiB is ever asked for
+abbrev pub IsPartInReach : List ℕ → Part → Type 0
+IsPartInReach bytes (Part.More needed) = (length bytes < needed) × (needed ≤ 1048576)
+IsPartInReach bytes (Part.Skip size) = 0 < size
+IsPartInReach bytes (Part.Packet packet size) = (0 < size) × (size ≤ length bytes) × (length packet.bytes.now ≤ MOST_CAPTURED)
+
+-- bytes that come behind change nothing of what stands in front, unless it was short and they are enough
+abbrev pub IsSteady : State → List ℕ → Type 0
+IsSteady s bytes =
+    (more : List ℕ) → IsSettledBy (length (bytes ++ more)) (front_of s bytes) → front_of s (bytes ++ more) ≡ front_of s bytes
 
 -- what comes of a front: the answer, and what is known afterwards
 abbrev pub Answers : Result Front FaultKind → List ℕ → (old new : State) → Result Part ReadError → Type 0

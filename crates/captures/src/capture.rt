@@ -1,7 +1,7 @@
 //! A capture, as far as it was read.
 
 ghost use Rattle.std.specs.Prelude.{◌≡◌, ◌≢◌, ◌↔◌, ◌+◌, ◌≤◌, IsTrue, IfOk, length};
-ghost use Rattle.captures.specs.Reading.{unread, front_of, Answers, IsPacketOf, has_begun};
+ghost use Rattle.captures.specs.Reading.{unread, front_of, Answers, IsPartInReach, IsSteady, IsPacketOf, has_begun};
 ghost use Rattle.captures.specs.Fronts.{IsInReach};
 
 use crate::block::block_front_in;
@@ -74,6 +74,7 @@ impl Capture {
         !matches!(self.format, Format::Unread)
     }
 
+    #[tactic(auto, using(crate::proofs::SteadyBlocks::front_steady))]
     /// Reads the part in front of the bytes, which begin where the last part ended.
     ///
     /// The caller knows where its input ends. If it has ended and `More` comes, then no bytes are the
@@ -82,7 +83,10 @@ impl Capture {
     ///
     /// After an error the capture is as it was. Memory runs out only at an interface of a pcapng.
     pub fn read_part<'a>(&mut self, bytes: &'a [u8]) -> Result<Part<'a>, ReadError>
-        ensures { Answers (front_of self.old bytes.now) bytes.now self.old self.new result }
+        ensures answer { Answers (front_of self.old bytes.now) bytes.now self.old self.new result }
+        ensures reach { IfOk result (IsPartInReach bytes.now) }
+        // It does not matter how many bytes come at once.
+        ensures steady { IsSteady self.old bytes.now }
     {
         match self.front(bytes)? {
             Front::Short(needed) => Ok(Part::More(needed)),
