@@ -2,3 +2,8 @@ pub mod Units
 pub mod Walking
 pub mod Steady
 pub mod SteadyBlocks
+pub mod Written
+pub mod WrittenFrames
+pub mod WrittenBlocks
+pub mod WrittenSections
+pub mod AllWritten

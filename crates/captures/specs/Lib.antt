@@ -11,3 +11,4 @@ pub mod Blocks
 pub mod Pcap
 pub mod Opening
 pub mod Reading
+pub mod Writing

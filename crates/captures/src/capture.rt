@@ -3,6 +3,7 @@
 ghost use Rattle.std.specs.Prelude.{◌≡◌, ◌≢◌, ◌↔◌, ◌+◌, ◌≤◌, IsTrue, IfOk, length};
 ghost use Rattle.captures.specs.Reading.{unread, front_of, Answers, IsPartInReach, IsSteady, IsPacketOf, has_begun};
 ghost use Rattle.captures.specs.Fronts.{IsInReach};
+ghost use Rattle.captures.specs.Writing.{ReadsWritten};
 
 use crate::block::block_front_in;
 use crate::fault::{FaultKind, ReadError};
@@ -74,7 +75,6 @@ impl Capture {
         !matches!(self.format, Format::Unread)
     }
 
-    #[tactic(auto, using(crate::proofs::SteadyBlocks::front_steady))]
     /// Reads the part in front of the bytes, which begin where the last part ended.
     ///
     /// The caller knows where its input ends. If it has ended and `More` comes, then no bytes are the
@@ -87,6 +87,8 @@ impl Capture {
         ensures reach { IfOk result (IsPartInReach bytes.now) }
         // It does not matter how many bytes come at once.
         ensures steady { IsSteady self.old bytes.now }
+        // What is written by the formats, field behind field, is read as it.
+        ensures written { ReadsWritten self.old bytes.now }
     {
         match self.front(bytes)? {
             Front::Short(needed) => Ok(Part::More(needed)),
