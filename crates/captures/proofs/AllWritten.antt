@@ -1,7 +1,7 @@
 -- Whatever is written is read as it.
 use Rattle.std.proofs.Common.{ℕ, List}
 use Rattle.captures.specs.Reading.{State}
-use Rattle.captures.specs.Writing.{ReadsWritten}
+use Rattle.captures.specs.Written.{ReadsWritten}
 use Rattle.captures.proofs.Written.{header_written, packet_written}
 use Rattle.captures.proofs.WrittenBlocks.{enhanced_written, obsolete_written, simple_written}
 use Rattle.captures.proofs.WrittenSections.{section_written, interface_written, other_passed}

@@ -5,5 +5,6 @@ pub mod SteadyBlocks
 pub mod Written
 pub mod WrittenFrames
 pub mod WrittenBlocks
+pub mod WrittenOptions
 pub mod WrittenSections
 pub mod AllWritten

@@ -16,7 +16,7 @@ use Rattle.captures.specs.Fronts.{IsSettledBy}
 use Rattle.captures.specs.Numbers.{number_of, number_at}
 use Rattle.captures.specs.Pcap.{file_front, packet_front, captured_field}
 
-number_of-append : (order : Order) (size : ℕ) (bytes more : List ℕ) → size ≤ length bytes → number_of order size (bytes ++ more) ≡ number_of order size bytes
+pub number_of-append : (order : Order) (size : ℕ) (bytes more : List ℕ) → size ≤ length bytes → number_of order size (bytes ++ more) ≡ number_of order size bytes
 number_of-append Big size bytes more long = big_from-append size bytes more long
 number_of-append Little size bytes more long = little_from-append size bytes more long
 

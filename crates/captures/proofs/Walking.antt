@@ -1,5 +1,5 @@
 -- The walk over options, one at a time, as a loop does it. Of `n` options at most, `i` were met.
-use Rattle.std.proofs.Common.{◌≡◌, ℕ, suc, ◌+◌, ◌-◌, ◌<◌, ◌≤◌, true, false, List, length, take, drop, Result, Ok, Err, refl, sym, ap, ◌∙◌, arith, take_all, length-drop}
+use Rattle.std.proofs.Common.{◌≡◌, ℕ, zero, suc, ◌+◌, ◌-◌, ◌<◌, ◌≤◌, true, false, List, length, take, drop, Result, Ok, Err, refl, sym, ap, ◌∙◌, arith, take_all, length-drop}
 use Rattle.captures.specs.declared.fault.FaultKind.{FaultKind}
 use Rattle.captures.specs.declared.order.Order.{Order}
 use Rattle.captures.specs.declared.time.Timing.{Timing}
@@ -10,13 +10,19 @@ use Rattle.captures.specs.Steps.{and_then}
 pub from_place : (k : ℕ) (bytes : List ℕ) → take (length bytes - k) (drop k bytes) ≡ drop k bytes
 from_place k bytes = take_all (length bytes - k) (drop k bytes) (omega (arith, length-drop k bytes))
 
-pub walk_last : (order : Order) (n i : ℕ) (rest : List ℕ) (timing : Timing) (all : Result Timing FaultKind) → i < n → is_end order rest ≡ true
-    → with_options order (n - i) rest timing ≡ all → Ok timing ≡ all
+pub goes_on : (order : Order) (n : ℕ) (rest : List ℕ) (timing : Timing) → is_end order rest ≡ false → is_cut order rest ≡ false
+    → with_options order (suc n) rest timing ≡ and_then (with_option order rest timing) (λ t. with_options order n (drop (size_of order rest) rest) t)
 unfolding with_options
-walk_last order n i rest timing all lt last so_far =
-    let k : n - i ≡ suc (n - (i + 1)) = omega arith in
-    let step : with_options order (n - i) rest timing ≡ Ok timing = rw (k, last) refl in
-    sym step ∙ so_far
+goes_on order n rest timing more whole = rw (more, whole) refl
+
+pub stops : (order : Order) (n : ℕ) (rest : List ℕ) (timing : Timing) → is_end order rest ≡ true → with_options order n rest timing ≡ Ok timing
+unfolding with_options
+stops order zero rest timing last = refl
+stops order (suc n) rest timing last = rw last refl
+
+pub walk_last : (order : Order) (n i : ℕ) (rest : List ℕ) (timing : Timing) (all : Result Timing FaultKind) → is_end order rest ≡ true
+    → with_options order (n - i) rest timing ≡ all → Ok timing ≡ all
+walk_last order n i rest timing all last so_far = sym (stops order (n - i) rest timing last) ∙ so_far
 
 pub walk_cut : (order : Order) (n i : ℕ) (rest : List ℕ) (timing : Timing) (all : Result Timing FaultKind) → i < n → is_end order rest ≡ false → is_cut order rest ≡ true
     → with_options order (n - i) rest timing ≡ all → Err FaultKind.Options ≡ all
@@ -28,10 +34,9 @@ walk_cut order n i rest timing all lt more cut so_far =
 
 walk_goes : (order : Order) (n i : ℕ) (rest : List ℕ) (timing : Timing) → i < n → is_end order rest ≡ false → is_cut order rest ≡ false
     → with_options order (n - i) rest timing ≡ and_then (with_option order rest timing) (λ t. with_options order (n - (i + 1)) (drop (size_of order rest) rest) t)
-unfolding with_options
 walk_goes order n i rest timing lt more whole =
     let k : n - i ≡ suc (n - (i + 1)) = omega arith in
-    rw (k, more, whole) refl
+    ap (λ m. with_options order m rest timing) k ∙ goes_on order (n - (i + 1)) rest timing more whole
 
 pub walk_fails : (order : Order) (n i : ℕ) (rest : List ℕ) (timing : Timing) (all : Result Timing FaultKind) (fault : FaultKind) → i < n → is_end order rest ≡ false → is_cut order rest ≡ false
     → with_option order rest timing ≡ Err fault → with_options order (n - i) rest timing ≡ all → Err fault ≡ all

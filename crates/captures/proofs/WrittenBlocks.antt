@@ -16,7 +16,8 @@ use Rattle.captures.specs.Numbers.{number_at}
 use Rattle.captures.specs.Packets.{is_too_long, snapped, timed_at, timed_in, timed_of, units_in, simple_in, simple_of}
 use Rattle.captures.specs.Reading.{State, front_in}
 use Rattle.captures.specs.Times.{time_of}
-use Rattle.captures.specs.Writing.{number_bytes, block_bytes, TimedPacket, IsLegalTimed, timed_as, enhanced_body, obsolete_body, simple_body, ReadsEnhanced, ReadsObsolete, ReadsSimple}
+use Rattle.captures.specs.Writing.{number_bytes}
+use Rattle.captures.specs.WritingBlocks.{block_bytes, TimedPacket, IsLegalTimed, timed_as, enhanced_body, obsolete_body, simple_body, ReadsEnhanced, ReadsObsolete, ReadsSimple}
 use Rattle.captures.proofs.Written.{again}
 use Rattle.captures.proofs.WrittenFrames.{length-number_bytes, length-block_bytes, in_body, IsBlockAt, block_written, IsReadAs, block_read}
 

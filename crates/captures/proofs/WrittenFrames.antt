@@ -15,7 +15,8 @@ use Rattle.captures.specs.Blocks.{block_front, framed_front, read_front, front_b
 use Rattle.captures.specs.Frames.{frame_of, frame_by, order_of, kind_of_number, is_wrong_length, least_length, most_length}
 use Rattle.captures.specs.Numbers.{number_of, number_at}
 use Rattle.captures.specs.Steps.{and_then}
-use Rattle.captures.specs.Writing.{number_bytes, block_bytes, IsLegalBody}
+use Rattle.captures.specs.Writing.{number_bytes}
+use Rattle.captures.specs.WritingBlocks.{block_bytes, IsLegalBody}
 use Rattle.captures.proofs.Steady.{number_at-append}
 use Rattle.captures.proofs.Written.{again}
 

@@ -17,12 +17,15 @@ use Rattle.captures.specs.Frames.{section_order, is_wrong_length}
 use Rattle.captures.specs.Interfaces.{interface_front, interface_of}
 use Rattle.captures.specs.Numbers.{number_at}
 use Rattle.captures.specs.Opening.{opening_front, header_front}
-use Rattle.captures.specs.Options.{timing_of}
+use Rattle.captures.specs.Options.{timing_of, usual_timing}
 use Rattle.captures.specs.Pcap.{magic_of}
 use Rattle.captures.specs.Reading.{State, front_in}
 use Rattle.captures.specs.Steps.{and_then}
-use Rattle.captures.specs.Writing.{number_bytes, block_bytes, IsLegalBody, section_body, interface_body, MayBeginSection, ReadsSection, ReadsInterface, PassesOther}
+use Rattle.captures.specs.Writing.{number_bytes}
+use Rattle.captures.specs.WritingBlocks.{block_bytes, IsLegalBody, section_body, interface_body, MayBeginSection, ReadsSection, ReadsInterface, PassesOther}
+use Rattle.captures.specs.WritingOptions.{settings_bytes, told_by}
 use Rattle.captures.proofs.Written.{again}
+use Rattle.captures.proofs.WrittenOptions.{settings_told}
 use Rattle.captures.proofs.WrittenFrames.{length-block_bytes, in_body, IsBlockAt, block_written, IsReadAs, block_read, frame_written, fits_length}
 
 -- ---- sections
@@ -128,16 +131,18 @@ interface_with order block options link snap_length size timing e8 e12 at told l
     ap declared (ap (timing_of order) at ∙ told) ∙ there
 
 pub interface_written : (s : State) (bytes : List ℕ) → ReadsInterface s bytes
-interface_written s bytes order link reserved snap_length options rest timing format link_fits snap_fits told body text =
+interface_written s bytes order link reserved snap_length settings end rest format link_fits snap_fits legal ends body text =
+    let options = settings_bytes order settings ++ end in
     let own = interface_body order link reserved snap_length options in
     let long = length-interface_body order link reserved snap_length options in
     let kind : number_at order 4 0 bytes ≡ 1 = ap (number_at order 4 0) text ∙ interface_type order own rest in
     let at : IsBlockAt order 1 own bytes = subst (IsBlockAt order 1 own) (sym text) (block_written order 1 own rest (omega (arith, body.fits))) in
     let e8 : number_at order 2 8 (block_bytes order 1 own) ≡ link = in_body order 1 own 2 0 (omega (arith, long)) ∙ link_written order link reserved snap_length options link_fits in
     let e12 : number_at order 4 12 (block_bytes order 1 own) ≡ snap_length = in_body order 1 own 4 4 (omega (arith, long)) ∙ snap_written order link reserved snap_length options snap_fits in
+    let timing = told_by order settings usual_timing in
     ap (λ (f : Format). front_in f s.interfaces bytes) format
     ∙ block_read order order s.interfaces 1 BlockKind.Interface own bytes kind refl refl at (read_interface (12 + length own) (omega (arith, long))) body
-    ∙ interface_with order (block_bytes order 1 own) options link snap_length (12 + length own) timing e8 e12 (options_written order link reserved snap_length options) told (length-block_bytes order 1 own)
+    ∙ interface_with order (block_bytes order 1 own) options link snap_length (12 + length own) timing e8 e12 (options_written order link reserved snap_length options) (settings_told order settings end legal ends) (length-block_bytes order 1 own)
 
 -- ---- other blocks
 

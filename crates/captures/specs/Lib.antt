@@ -12,3 +12,6 @@ pub mod Pcap
 pub mod Opening
 pub mod Reading
 pub mod Writing
+pub mod WritingOptions
+pub mod WritingBlocks
+pub mod Written

@@ -10,7 +10,7 @@ use Rattle.captures.specs.declared.front.Format.{Format}
 use Rattle.captures.specs.declared.front.Format.TheVariants.{Unread, Pcap, Section}
 use Rattle.captures.specs.declared.front.Front.{Front}
 use Rattle.captures.specs.declared.front.Front.TheVariants.{Short, Header, Declared, Other, Captured}
-use Rattle.captures.specs.declared.front.Record.{Record}
+use Rattle.captures.specs.declared.front.PacketHeader.{PacketHeader}
 use Rattle.captures.specs.declared.interface.Interface.{Interface}
 use Rattle.captures.specs.Blocks.{block_front}
 use Rattle.captures.specs.Fronts.{IsSettledBy}
@@ -45,13 +45,13 @@ abbrev pub front_of : State → List ℕ → Result Front FaultKind
 front_of s bytes = front_in s.format s.interfaces bytes
 
 -- the packet that a header tells of, with its bytes
-pub record IsPacketOf (header : Record) (all : List ℕ) (packet : Packet) : Type 0 where
+pub record IsPacketOf (header : PacketHeader) (all : List ℕ) (packet : Packet) : Type 0 where
   pub time : packet.time ≡ header.time
   pub link : packet.link ≡ header.link
   pub wire_length : packet.wire_length ≡ header.wire_length
   pub bytes : packet.bytes.now ≡ take header.captured (drop header.start all)
 
-abbrev pub IsPacketPart : Record → ℕ → List ℕ → Part → Type 0
+abbrev pub IsPacketPart : PacketHeader → ℕ → List ℕ → Part → Type 0
 IsPacketPart header size bytes (Part.More needed) = ⊥
 IsPacketPart header size bytes (Part.Skip length) = ⊥
 IsPacketPart header size bytes (Part.Packet packet length) = (length ≡ size) × IsPacketOf header bytes packet
@@ -67,16 +67,34 @@ abbrev pub IsSteady : State → List ℕ → Type 0
 IsSteady s bytes =
     (more : List ℕ) → IsSettledBy (length (bytes ++ more)) (front_of s bytes) → front_of s (bytes ++ more) ≡ front_of s bytes
 
+-- what is known behind a front
+abbrev pub state_behind : Front → State → State
+state_behind (Short needed) s = s
+state_behind (Header format size) s = record { format = format; interfaces = [] }
+state_behind (Declared interface size) s = record s { interfaces = s.interfaces ++ interface ∷ [] }
+state_behind (Other size) s = s
+state_behind (Captured header size) s = s
+
+-- what is answered to a front, if memory does not run out
+abbrev pub IsPart : Front → List ℕ → Part → Type 0
+IsPart (Short needed) bytes part = part ≡ Part.More needed
+IsPart (Header format size) bytes part = part ≡ Part.Skip size
+IsPart (Declared interface size) bytes part = part ≡ Part.Skip size
+IsPart (Other size) bytes part = part ≡ Part.Skip size
+IsPart (Captured header size) bytes part = IsPacketPart header size bytes part
+
+-- whether memory may run out: only where there is one more interface to keep
+abbrev pub MayLackMemory : Front → Type 0
+MayLackMemory (Short needed) = ⊥
+MayLackMemory (Header format size) = ⊥
+MayLackMemory (Declared interface size) = Unit {0}
+MayLackMemory (Other size) = ⊥
+MayLackMemory (Captured header size) = ⊥
+
 -- what comes of a front: the answer, and what is known afterwards
 abbrev pub Answers : Result Front FaultKind → List ℕ → (old new : State) → Result Part ReadError → Type 0
 Answers (Err fault) bytes old new result = (result ≡ Err (Fault fault)) × (new ≡ old)
-Answers (Ok (Short needed)) bytes old new result = (result ≡ Ok (Part.More needed)) × (new ≡ old)
-Answers (Ok (Header format size)) bytes old new result =
-    (result ≡ Ok (Part.Skip size)) × (new ≡ (let s : State = record { format = format; interfaces = [] } in s))
-Answers (Ok (Declared interface size)) bytes old new result =
+Answers (Ok front) bytes old new result =
     MatchResult result
-    (λ part. (part ≡ Part.Skip size) × (new ≡ record old { interfaces = old.interfaces ++ interface ∷ [] }))
-    (λ error. (error ≡ Memory) × (new ≡ old))
-Answers (Ok (Other size)) bytes old new result = (result ≡ Ok (Part.Skip size)) × (new ≡ old)
-Answers (Ok (Captured header size)) bytes old new result =
-    MatchResult result (IsPacketPart header size bytes) (λ error. ⊥) × (new ≡ old)
+    (λ part. IsPart front bytes part × (new ≡ state_behind front old))
+    (λ error. (error ≡ Memory) × MayLackMemory front × (new ≡ old))

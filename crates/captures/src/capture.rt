@@ -3,11 +3,11 @@
 ghost use Rattle.std.specs.Prelude.{◌≡◌, ◌≢◌, ◌↔◌, ◌+◌, ◌≤◌, IsTrue, IfOk, length};
 ghost use Rattle.captures.specs.Reading.{unread, front_of, Answers, IsPartInReach, IsSteady, IsPacketOf, has_begun};
 ghost use Rattle.captures.specs.Fronts.{IsInReach};
-ghost use Rattle.captures.specs.Writing.{ReadsWritten};
+ghost use Rattle.captures.specs.Written.{ReadsWritten};
 
 use crate::block::block_front_in;
 use crate::fault::{FaultKind, ReadError};
-use crate::front::{Format, Front, Record};
+use crate::front::{Format, Front, PacketHeader};
 use crate::interface::Interface;
 use crate::opening::opening_front_in;
 use crate::pcap::packet_front_in;
@@ -102,8 +102,8 @@ impl Capture {
                 Ok(Part::Skip(length))
             }
             Front::Other(length) => Ok(Part::Skip(length)),
-            Front::Captured(shown, length) => Ok(Part::Packet {
-                packet: packet_in(shown, bytes),
+            Front::Captured(header, length) => Ok(Part::Packet {
+                packet: packet_in(header, bytes),
                 length,
             }),
         }
@@ -123,14 +123,14 @@ impl Capture {
 }
 
 // The packet with its bytes.
-fn packet_in(shown: Record, bytes: &[u8]) -> Packet<'_>
-    requires { shown.start + shown.captured ≤ length bytes.now }
-    ensures { IsPacketOf shown bytes.now result }
+fn packet_in(header: PacketHeader, bytes: &[u8]) -> Packet<'_>
+    requires { header.start + header.captured ≤ length bytes.now }
+    ensures { IsPacketOf header bytes.now result }
 {
     Packet {
-        time: shown.time,
-        link: shown.link,
-        wire_length: shown.wire_length,
-        bytes: &bytes[shown.start..shown.start + shown.captured],
+        time: header.time,
+        link: header.link,
+        wire_length: header.wire_length,
+        bytes: &bytes[header.start..header.start + header.captured],
     }
 }

@@ -20,7 +20,7 @@ pub(crate) enum Format {
 
 /// A packet by its header, and where its bytes are.
 #[derive(Clone, Copy)]
-pub(crate) struct Record {
+pub(crate) struct PacketHeader {
     /// Nanoseconds since 1970, if the capture has a time.
     pub(crate) time: Option<u64>,
     /// The LINKTYPE_ number.
@@ -45,5 +45,5 @@ pub(crate) enum Front {
     /// So many bytes that say nothing of packets.
     Other(usize),
     /// A packet, and so many bytes to the next part.
-    Captured(Record, usize),
+    Captured(PacketHeader, usize),
 }

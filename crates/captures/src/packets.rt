@@ -6,7 +6,7 @@ ghost use Rattle.captures.specs.Packets.{is_too_long, units_in, snapped, simple_
 ghost use Rattle.captures.specs.Fronts.{IsInReach};
 
 use crate::fault::FaultKind;
-use crate::front::{Front, MOST_CAPTURED, Record};
+use crate::front::{Front, MOST_CAPTURED, PacketHeader};
 use crate::interface::Interface;
 use crate::order::Order;
 
@@ -59,14 +59,14 @@ fn timed_packet(order: Order, interface: Interface, block: &[u8]) -> Result<Fron
     let Some(time) = interface.timing.time(time_units(order, block)) else {
         return Err(FaultKind::Resolution);
     };
-    let shown = Record {
+    let header = PacketHeader {
         time: Some(time),
         link: interface.link,
         wire_length: order.u32_at(block, 24),
         start: 28,
         captured,
     };
-    Ok(Front::Captured(shown, block.len()))
+    Ok(Front::Captured(header, block.len()))
 }
 
 // The time in units of the interface, of which the high 4 bytes come first in either byte order.
@@ -103,14 +103,14 @@ fn simple_packet(order: Order, interface: Interface, block: &[u8]) -> Result<Fro
     if is_past(captured, block.len() - EMPTY_SIMPLE) {
         return Err(FaultKind::PacketLength);
     }
-    let shown = Record {
+    let header = PacketHeader {
         time: None,
         link: interface.link,
         wire_length,
         start: 12,
         captured,
     };
-    Ok(Front::Captured(shown, block.len()))
+    Ok(Front::Captured(header, block.len()))
 }
 
 // How many bytes are captured of so many on the wire.

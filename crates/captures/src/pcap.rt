@@ -5,7 +5,7 @@ ghost use Rattle.captures.specs.Pcap.{fraction_of, link_of, magic_of, file_front
 ghost use Rattle.captures.specs.Fronts.{IsInReach};
 
 use crate::fault::FaultKind;
-use crate::front::{Format, Front, MOST_CAPTURED, Record};
+use crate::front::{Format, Front, MOST_CAPTURED, PacketHeader};
 use crate::order::Order;
 
 /// The length of the header of a pcap.
@@ -110,7 +110,7 @@ pub(crate) fn packet_front_in(file: PcapFile, bytes: &[u8]) -> Result<Front, Fau
     if bytes.len() < length {
         return Ok(Front::Short(length));
     }
-    let record = Record {
+    let header = PacketHeader {
         time: Some(nanoseconds(
             file.magic.fraction,
             order.u32_at(bytes, 0),
@@ -121,7 +121,7 @@ pub(crate) fn packet_front_in(file: PcapFile, bytes: &[u8]) -> Result<Front, Fau
         start: PACKET_HEADER,
         captured,
     };
-    Ok(Front::Captured(record, length))
+    Ok(Front::Captured(header, length))
 }
 
 // Nanoseconds of seconds and a fraction.

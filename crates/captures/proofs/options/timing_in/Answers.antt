@@ -5,7 +5,7 @@ use Rattle.captures.proofs.options.timing_in.Goals as goal
 
 pub returns-then-is_last : goal.returns-then-is_last
 returns-then-is_last c =
-    walk_last _ _ _ c.loop.rest.now _ _ c.loop-test.true (sym c.is_last.ensures ∙ c.if-is_last.true) c.loop.invariant
+    walk_last _ _ _ c.loop.rest.now _ _ (sym c.is_last.ensures ∙ c.if-is_last.true) c.loop.invariant
 
 pub returns-then-is_cut_off : goal.returns-then-is_cut_off
 returns-then-is_cut_off c =
