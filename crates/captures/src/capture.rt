@@ -67,8 +67,7 @@ impl Capture {
         }
     }
 
-    /// Whether a header was read. Where the input has ended and no bytes are left behind the last part,
-    /// that is the end of the capture if a header was read, and else the input is no capture.
+    /// Whether a header was read. If the input ends before that, it is cut off, even if it is empty.
     pub fn has_begun(&self) -> bool
         ensures { result ≡ has_begun self.now }
     {
@@ -77,9 +76,9 @@ impl Capture {
 
     /// Reads the part in front of the bytes, which begin where the last part ended.
     ///
-    /// The caller knows where its input ends. If it has ended and `More` comes, then no bytes are the
-    /// capture's end if a header was read (`has_begun`), and else it is cut off. It is also cut off if a
-    /// `Skip` goes past the end of the input.
+    /// The caller knows where its input ends, and these calls do not. If it has ended, `bytes` are empty
+    /// and a header was read (`has_begun`), this is the end of the capture. If it has ended and `More` or
+    /// a `Skip` past its end comes otherwise, the capture is cut off.
     ///
     /// After an error the capture is as it was. Memory runs out only at an interface of a pcapng.
     pub fn read_part<'a>(&mut self, bytes: &'a [u8]) -> Result<Part<'a>, ReadError>

@@ -9,6 +9,9 @@ use crate::order::Order;
 /// How many bytes of a block are needed to know its frame. No block is shorter.
 pub(crate) const FRAME: usize = 12;
 
+/// The type of the block that begins a section. It is this number in either byte order.
+pub(crate) const SECTION: u32 = 0x0A0D_0D0A;
+
 /// How many bytes a block may have that is read.
 const LONGEST_READ: usize = 1_048_576;
 
@@ -20,15 +23,15 @@ const BYTE_ORDER_MAGIC: u32 = 0x1A2B_3C4D;
 pub(crate) enum BlockKind {
     /// The header of a section.
     Section,
-    /// The declaration of an interface.
+    /// The declaration of an interface, type 1.
     Interface,
-    /// A packet, as it was written before the enhanced one.
+    /// A packet as it was written before the enhanced one, type 2.
     Obsolete,
-    /// A packet with no more than its length on the wire.
+    /// A packet with no more than its length on the wire, type 3.
     Simple,
-    /// A packet with its interface and time.
+    /// A packet with its interface and time, type 6.
     Enhanced,
-    /// A block that is not read.
+    /// A block of another type, which is not read.
     Other,
 }
 
@@ -65,7 +68,7 @@ fn block_kind(number: u32) -> BlockKind
     ensures { result ≡ kind_of_number number }
 {
     match number {
-        0x0A0D_0D0A => BlockKind::Section,
+        SECTION => BlockKind::Section,
         1 => BlockKind::Interface,
         2 => BlockKind::Obsolete,
         3 => BlockKind::Simple,

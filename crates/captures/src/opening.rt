@@ -6,15 +6,13 @@ ghost use Rattle.captures.specs.Fronts.{IsInReach};
 
 use crate::block::block_front_in;
 use crate::fault::FaultKind;
+use crate::frame::SECTION;
 use crate::front::Front;
 use crate::order::Order;
 use crate::pcap::{file_front_in, magic_in};
 
 /// The length of the magic number of a pcap, or of the type of a block.
 const MAGIC: usize = 4;
-
-/// The type of the block that begins a section. It is the number in either byte order.
-const SECTION: u32 = 0x0A0D_0D0A;
 
 /// The first header of a capture.
 pub(crate) fn opening_front_in(bytes: &[u8]) -> Result<Front, FaultKind>

@@ -36,7 +36,7 @@ pub(crate) fn timing_in(order: Order, options: &[u8]) -> Result<Timing, FaultKin
 fn is_last(order: Order, rest: &[u8]) -> bool
     ensures { result ≡ is_end order rest.now }
 {
-    rest.is_empty() || rest.len() >= 4 && order.u16_at(rest, 0) == 0
+    rest.is_empty() || (rest.len() >= 4 && order.u16_at(rest, 0) == 0)
 }
 
 // Whether the option in front goes past the end.

@@ -47,6 +47,7 @@ pub(crate) fn timed_front_in(
     }
 }
 
+// The packet of a whole enhanced or obsolete block. What stands before the time says its interface.
 fn timed_packet(order: Order, interface: Interface, block: &[u8]) -> Result<Front, FaultKind>
     requires { 32 ≤ length block.now }
     ensures front { result ≡ timed_in order interface block.now }
@@ -93,6 +94,7 @@ pub(crate) fn simple_front_in(
     }
 }
 
+// The packet of a whole simple block, cut to the snap length of its interface.
 fn simple_packet(order: Order, interface: Interface, block: &[u8]) -> Result<Front, FaultKind>
     requires { 16 ≤ length block.now }
     ensures front { result ≡ simple_in order interface block.now }
