@@ -9,6 +9,15 @@ use anyhow::{Result, ensure};
 use reading::read_all;
 use samples::*;
 use std::alloc::Global;
+use std::fs;
+
+/// Recordings of the same packets in each format, the third of them cut off within its last packet.
+const FILES: [&str; 4] = [
+    "small.pcap",
+    "small-be-nano.pcap",
+    "small-cut.pcap",
+    "small.pcapng",
+];
 
 /// How many bytes come at a time.
 const STEPS: [usize; 3] = [1, 7, 64];
@@ -40,6 +49,11 @@ fn main(rt: HostRuntime) -> Result<()> {
     for (name, bytes) in captures {
         println!(rt; "{name}")?;
         print!(rt; "{}", shown(rt.alloc(), name, bytes)?)?;
+    }
+    for name in FILES {
+        let bytes = fs::read(&rt, name)?;
+        println!(rt; "{name}")?;
+        print!(rt; "{}", shown(rt.alloc(), name, &bytes)?)?;
     }
     Ok(())
 }
