@@ -8,3 +8,5 @@ pub mod WrittenBlocks
 pub mod WrittenOptions
 pub mod WrittenSections
 pub mod AllWritten
+pub mod Told
+pub mod ToldBlocks

@@ -15,3 +15,4 @@ pub mod Writing
 pub mod WritingOptions
 pub mod WritingBlocks
 pub mod Written
+pub mod Told

@@ -4,6 +4,7 @@ ghost use Rattle.std.specs.Prelude.{◌≡◌, ◌≢◌, ◌↔◌, ◌+◌, �
 ghost use Rattle.captures.specs.Reading.{unread, front_of, Answers, IsPartInReach, IsSteady, IsPacketOf, has_begun};
 ghost use Rattle.captures.specs.Fronts.{IsInReach};
 ghost use Rattle.captures.specs.Written.{ReadsWritten};
+ghost use Rattle.captures.specs.Told.{WasWritten};
 
 use crate::block::block_front_in;
 use crate::fault::{FaultKind, ReadError};
@@ -88,6 +89,8 @@ impl Capture {
         ensures steady { IsSteady self.old bytes.now }
         // What is written by the formats, field behind field, is read as it.
         ensures written { ReadsWritten self.old bytes.now }
+        // No other bytes are read as a packet or an interface.
+        ensures only { WasWritten self.old bytes.now }
     {
         match self.front(bytes)? {
             Front::Short(needed) => Ok(Part::More(needed)),

@@ -1,5 +1,7 @@
+use Rattle.std.proofs.Common.{arith}
 use Rattle.captures.proofs.SteadyBlocks.{front_steady}
 use Rattle.captures.proofs.AllWritten.{reads_written}
+use Rattle.captures.proofs.ToldBlocks.{was_written}
 use Rattle.captures.proofs.capture.Capture.read_part.Goals as goal
 
 pub returns-in_err-needed-clause-steady : goal.returns-in_err-needed-clause-steady
@@ -43,3 +45,24 @@ returns-in-Captured-clause-steady c = front_steady c.args.self.now c.args.bytes.
 
 pub returns-in-Captured-clause-written : goal.returns-in-Captured-clause-written
 returns-in-Captured-clause-written c = reads_written c.args.self.now c.args.bytes.now
+
+pub returns-in_err-needed-clause-only : goal.returns-in_err-needed-clause-only
+returns-in_err-needed-clause-only c = was_written c.args.self.now c.args.bytes.now (λ i. omega (arith, c.type_inv.bytes i))
+
+pub returns-in_err-push-in-Declared-clause-only : goal.returns-in_err-push-in-Declared-clause-only
+returns-in_err-push-in-Declared-clause-only c = was_written c.args.self.now c.args.bytes.now (λ i. omega (arith, c.type_inv.bytes i))
+
+pub returns-in-Short-clause-only : goal.returns-in-Short-clause-only
+returns-in-Short-clause-only c = was_written c.args.self.now c.args.bytes.now (λ i. omega (arith, c.type_inv.bytes i))
+
+pub returns-in-Header-clause-only : goal.returns-in-Header-clause-only
+returns-in-Header-clause-only c = was_written c.args.self.now c.args.bytes.now (λ i. omega (arith, c.type_inv.bytes i))
+
+pub returns-in_ok-push-in-Declared-clause-only : goal.returns-in_ok-push-in-Declared-clause-only
+returns-in_ok-push-in-Declared-clause-only c = was_written c.args.self.now c.args.bytes.now (λ i. omega (arith, c.type_inv.bytes i))
+
+pub returns-in-Other-clause-only : goal.returns-in-Other-clause-only
+returns-in-Other-clause-only c = was_written c.args.self.now c.args.bytes.now (λ i. omega (arith, c.type_inv.bytes i))
+
+pub returns-in-Captured-clause-only : goal.returns-in-Captured-clause-only
+returns-in-Captured-clause-only c = was_written c.args.self.now c.args.bytes.now (λ i. omega (arith, c.type_inv.bytes i))
