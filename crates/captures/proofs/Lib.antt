@@ -9,4 +9,5 @@ pub mod WrittenOptions
 pub mod WrittenSections
 pub mod AllWritten
 pub mod Told
+pub mod ToldBodies
 pub mod ToldBlocks

@@ -20,7 +20,7 @@ use Rattle.captures.specs.Writing.{number_bytes, FilePacket, file_packet_bytes}
 abbrev pub IsBytes : List ℕ → Type 0
 IsBytes bytes = (i : ℕ) → get_or bytes i 0 < 256
 
-IsBytes-drop : (n : ℕ) (bytes : List ℕ) → IsBytes bytes → IsBytes (drop n bytes)
+pub IsBytes-drop : (n : ℕ) (bytes : List ℕ) → IsBytes bytes → IsBytes (drop n bytes)
 IsBytes-drop n bytes h i = rw get_or-drop (h (n + i))
 
 number_of-lt : (order : Order) (size : ℕ) (bytes : List ℕ) → IsBytes bytes → number_of order size bytes < 256 ^ size
@@ -52,6 +52,26 @@ back_4 Little (a ∷ b ∷ c ∷ d ∷ rest) long fits =
     let fc : c < 256 = fits 2 in
     let fd : d < 256 = fits 3 in
     cells_4 _ _ _ _ a b c d rest (omega (arith, fa, fb, fc, fd)) (omega (arith, fa, fb, fc, fd)) (omega (arith, fa, fb, fc, fd)) (omega (arith, fa, fb, fc, fd))
+
+cells_2 : (a b c d : ℕ) (rest : List ℕ) → a ≡ c → b ≡ d → a ∷ b ∷ rest ≡ c ∷ d ∷ rest
+cells_2 a b c d rest p q = cc
+
+back_2 : (order : Order) (bytes : List ℕ) → 2 ≤ length bytes → IsBytes bytes → number_bytes order 2 (number_of order 2 bytes) ++ drop 2 bytes ≡ bytes
+back_2 order [] long fits = absurd (omega (arith, long))
+back_2 order (a ∷ []) long fits = absurd (omega (arith, long))
+back_2 Big (a ∷ b ∷ rest) long fits =
+    let fa : a < 256 = fits 0 in
+    let fb : b < 256 = fits 1 in
+    cells_2 _ _ a b rest (omega (arith, fa, fb)) (omega (arith, fa, fb))
+back_2 Little (a ∷ b ∷ rest) long fits =
+    let fa : a < 256 = fits 0 in
+    let fb : b < 256 = fits 1 in
+    cells_2 _ _ a b rest (omega (arith, fa, fb)) (omega (arith, fa, fb))
+
+pub half_back_at : (order : Order) (place : ℕ) (bytes : List ℕ) → place + 2 ≤ length bytes → IsBytes bytes → number_bytes order 2 (number_at order 2 place bytes) ++ drop (place + 2) bytes ≡ drop place bytes
+half_back_at order place bytes long fits =
+    ap (λ (r : List ℕ). number_bytes order 2 (number_at order 2 place bytes) ++ r) (sym (drop-drop 2 place bytes))
+    ∙ back_2 order (drop place bytes) (omega (arith, long, length-drop place bytes)) (IsBytes-drop place bytes fits)
 
 pub back_at : (order : Order) (place : ℕ) (bytes : List ℕ) → place + 4 ≤ length bytes → IsBytes bytes → number_bytes order 4 (number_at order 4 place bytes) ++ drop (place + 4) bytes ≡ drop place bytes
 back_at order place bytes long fits =
