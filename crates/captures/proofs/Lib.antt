@@ -11,3 +11,4 @@ pub mod AllWritten
 pub mod Told
 pub mod ToldBodies
 pub mod ToldBlocks
+pub mod Runs

@@ -16,3 +16,4 @@ pub mod WritingOptions
 pub mod WritingBlocks
 pub mod Written
 pub mod Told
+pub mod Runs

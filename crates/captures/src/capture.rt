@@ -5,6 +5,7 @@ ghost use Rattle.captures.specs.Reading.{unread, front_of, Answers, IsPartInReac
 ghost use Rattle.captures.specs.Fronts.{IsInReach};
 ghost use Rattle.captures.specs.Written.{ReadsWritten};
 ghost use Rattle.captures.specs.Told.{WasWritten};
+ghost use Rattle.captures.specs.Runs.{ReadsFiles};
 
 use crate::block::block_front_in;
 use crate::fault::{FaultKind, ReadError};
@@ -60,7 +61,9 @@ impl Model for Capture {
 impl Capture {
     /// A capture of which nothing was read yet.
     pub fn new(alloc: Global) -> Capture
-        ensures { result ≡ unread }
+        ensures unread { result ≡ unread }
+        // From here, a whole pcap is read as its packets.
+        ensures files { ReadsFiles result }
     {
         Capture {
             format: Format::Unread,
