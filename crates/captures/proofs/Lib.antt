@@ -12,3 +12,4 @@ pub mod Told
 pub mod ToldBodies
 pub mod ToldBlocks
 pub mod Runs
+pub mod RunsOfBlocks

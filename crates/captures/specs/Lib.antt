@@ -17,3 +17,4 @@ pub mod WritingBlocks
 pub mod Written
 pub mod Told
 pub mod Runs
+pub mod RunsOfBlocks

@@ -6,6 +6,7 @@ ghost use Rattle.captures.specs.Fronts.{IsInReach};
 ghost use Rattle.captures.specs.Written.{ReadsWritten};
 ghost use Rattle.captures.specs.Told.{WasWritten};
 ghost use Rattle.captures.specs.Runs.{ReadsFiles};
+ghost use Rattle.captures.specs.RunsOfBlocks.{ReadsSections};
 
 use crate::block::block_front_in;
 use crate::fault::{FaultKind, ReadError};
@@ -62,8 +63,9 @@ impl Capture {
     /// A capture of which nothing was read yet.
     pub fn new(alloc: Global) -> Capture
         ensures unread { result ≡ unread }
-        // From here, a whole pcap is read as its packets.
+        // From here, a whole pcap is read as its packets, and so is a whole pcapng.
         ensures files { ReadsFiles result }
+        ensures sections { ReadsSections result }
     {
         Capture {
             format: Format::Unread,
