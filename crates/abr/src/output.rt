@@ -48,12 +48,14 @@ impl<'a> Output<'a> {
     /// place, that is said in `faults`. What is returned is the status.
     pub fn end(self, status: u8, faults: &mut Stderr) -> u8 {
         let Output { rt, name, opened } = self;
-        if let Some(Opened::Beside(beside)) = opened
-            && beside.end(rt, status == 0).is_err()
-        {
-            return say_fault(rt.alloc(), CommandFault::WriteTo(name), faults);
+        match opened {
+            None => status,
+            Some(Opened::Direct(_file)) => status,
+            Some(Opened::Beside(beside)) => match beside.end(rt, status == 0) {
+                Ok(()) => status,
+                Err(_) => say_fault(rt.alloc(), CommandFault::WriteTo(name), faults),
+            },
         }
-        status
     }
 }
 
