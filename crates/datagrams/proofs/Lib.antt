@@ -7,6 +7,7 @@ pub mod Finding
 pub mod FirstFault
 pub mod Found
 pub mod Making
+pub mod Missing
 pub mod Places
 pub mod Stepping
 pub mod TagsOff

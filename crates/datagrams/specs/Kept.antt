@@ -1,6 +1,6 @@
 -- What is kept of the fragments of one datagram.
-use Rattle.std.specs.Prelude.{ℕ, ◌≡◌, ◌+◌, ◌-◌, ◌&&◌, ◌||◌, ◌==◌, Bool, false, nat_lt, if◌then◌else◌, List, [], ◌∷◌, ◌++◌, length, take, drop, map, replicate, get_or, Option, Some, None, is_some}
-use Rattle.std.specs.List.{list_all}
+use Rattle.std.specs.Prelude.{ℕ, ◌≡◌, ◌+◌, ◌-◌, ◌&&◌, ◌||◌, ◌==◌, not, Bool, false, nat_lt, if◌then◌else◌, List, [], ◌∷◌, ◌++◌, length, take, drop, map, replicate, get_or, Option, Some, None, is_some}
+use Rattle.std.specs.List.{list_all, count_by}
 use Rattle.std.specs.Option.{unwrap_or}
 use Rattle.datagrams.specs.declared.datagram.Datagram.{Datagram}
 use Rattle.datagrams.specs.declared.key.Key.{Key}
@@ -58,3 +58,6 @@ abbrev pub cells : List Bool → List ℕ → List (Option ℕ)
 cells [] bytes = []
 cells (came ∷ others) [] = []
 cells (came ∷ others) (byte ∷ bytes) = (if came then Some byte else None) ∷ cells others bytes
+
+abbrev pub count_missing : List Bool → ℕ
+count_missing came = count_by (λ came. not came) came

@@ -1,5 +1,5 @@
 //! What came of a datagram.
-ghost use Rattle.std.specs.List.{list_all};
+ghost use Rattle.datagrams.specs.Kept.{count_missing};
 ghost use Rattle.std.specs.Prelude.{◌≡◌, ◌≤◌, ◌+◌, ◌++◌, ◌&&◌, nat_lt, OnOk, OnErr, length, take, drop, replicate, true};
 
 use crate::datagram::Datagram;
@@ -16,19 +16,21 @@ pub(crate) struct Partial {
     has_end: bool,
     /// Whether the byte at each place came.
     came: Vec<bool>,
+    /// At how many places it did not.
+    missing: usize,
     /// The bytes at these places. More bytes than places are there if memory ran out.
     bytes: Vec<u8>,
 }
 
 impl Model for Partial {
-    ghost use Rattle.std.specs.Prelude.{◌≤◌, vec_len};
-    ghost use Rattle.datagrams.specs.Kept.{Kept, cells};
+    ghost use Rattle.std.specs.Prelude.{◌≡◌, ◌≤◌, vec_len};
+    ghost use Rattle.datagrams.specs.Kept.{Kept, cells, count_missing};
 
     ghost Value = { Kept };
 
     ghost view = { λ p. record { key = p.key; has_end = p.has_end; bytes = cells p.came.items p.bytes.items } };
 
-    ghost invariant = { λ p. (vec_len p.came ≤ vec_len p.bytes) × (vec_len p.came ≤ 65535) };
+    ghost invariant = { λ p. (vec_len p.came ≤ vec_len p.bytes) × (vec_len p.came ≤ 65535) × (p.missing ≡ count_missing p.came.items) };
 }
 
 impl Partial {
@@ -43,6 +45,7 @@ impl Partial {
             key,
             has_end: false,
             came: Vec::new(alloc),
+            missing: 0,
             bytes: Vec::new(alloc),
         }
     }
@@ -101,9 +104,11 @@ impl Partial {
         ensures grown { OnOk result (self.new ≡ record self.old { bytes = grown size self.old.bytes }) }
         ensures unchanged { OnErr result (self.new ≡ self.old) }
     {
-        if self.came.len() < size {
+        let places = self.came.len();
+        if places < size {
             self.bytes.resize(size, 0)?;
             self.came.resize(size, false)?;
+            self.missing += size - places;
         }
         Ok(())
     }
@@ -114,6 +119,7 @@ impl Partial {
         ensures { self.new ≡ record self.old { bytes = written offset payload.now self.old.bytes } }
     {
         put(&mut self.bytes, offset, payload);
+        self.missing -= missing_in(&self.came, offset, payload.len());
         mark(&mut self.came, offset, payload.len());
     }
 
@@ -121,7 +127,7 @@ impl Partial {
     pub(crate) fn is_whole(&self) -> bool
         ensures { result ≡ is_whole_test self.now }
     {
-        self.has_end && are_all(&self.came)
+        self.has_end && self.missing == 0
     }
 
     /// The payload.
@@ -139,18 +145,26 @@ impl Partial {
     }
 }
 
-fn are_all(came: &[bool]) -> bool
-    ensures { result ≡ list_all (λ came. came) came.now }
-{
-    came.iter().all(|came| *came)
-}
-
 // Puts the payload at the offset.
 fn put(bytes: &mut [u8], offset: usize, payload: &[u8])
     requires { offset + length payload.now ≤ length bytes.old }
     ensures { bytes.new ≡ take offset bytes.old ++ payload.now ++ drop (offset + length payload.now) bytes.old }
 {
     bytes[offset..offset + payload.len()].copy_from_slice(payload);
+}
+
+// At how many of so many places at the offset the byte did not come.
+fn missing_in(came: &[bool], offset: usize, count: usize) -> usize
+    requires { offset + count ≤ length came.now }
+    ensures { result ≡ count_missing (take count (drop offset came.now)) }
+{
+    missing(&came[offset..offset + count])
+}
+
+fn missing(came: &[bool]) -> usize
+    ensures { result ≡ count_missing came.now }
+{
+    came.iter().filter(|came| !**came).count()
 }
 
 // Marks so many places at the offset.
