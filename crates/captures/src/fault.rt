@@ -24,7 +24,7 @@ pub enum FaultKind {
     Options,
     /// The time of a packet is before 1970, or 2^64 nanoseconds or more after it.
     Resolution,
-    /// The input ended within a part. No call here answers it: it is for callers, who know where their
+    /// The input ended within a part, or before the first header. It is for callers, who know where their
     /// input ends.
     CutOff,
 }
