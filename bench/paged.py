@@ -183,7 +183,7 @@ class Page(Run):
         told = []
         for heading, table in self.tables_of("summaries"):
             area = heading[-1][2].split(" ")[1]
-            told += [["due", area, kind, dest, metric] for kind, dest, metric in table if kind.isdigit()]
+            told += [["due", area, *map(str.strip, row)] for row in table if row[0].isdigit()]
         wanted = [it for it in self.lines("replay", self.file, "--show", "due") if it[0] == "due"]
         expect(told == wanted, [it for it in zip(told, wanted) if it[0] != it[1]][:2] or (len(told), len(wanted)))
         return len(told)

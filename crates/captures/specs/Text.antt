@@ -7,14 +7,14 @@ use Rattle.captures.specs.declared.fault.FaultKind.TheVariants.{NoCapture, Versi
 
 -- the number and the name
 abbrev pub fault_text : FaultKind → List ℕ
-fault_text NoCapture = codes "60 NoCapture"
-fault_text Version = codes "61 Version"
-fault_text BlockLength = codes "62 BlockLength"
-fault_text PacketLength = codes "63 PacketLength"
-fault_text NoInterface = codes "64 NoInterface"
-fault_text Options = codes "65 Options"
-fault_text Resolution = codes "66 Resolution"
-fault_text CutOff = codes "67 CutOff"
+fault_text NoCapture = codes "62 NoCapture"
+fault_text Version = codes "63 Version"
+fault_text BlockLength = codes "64 BlockLength"
+fault_text PacketLength = codes "65 PacketLength"
+fault_text NoInterface = codes "66 NoInterface"
+fault_text Options = codes "67 Options"
+fault_text Resolution = codes "68 Resolution"
+fault_text CutOff = codes "69 CutOff"
 
 abbrev pub error_text : ReadError → List ℕ
 error_text (Fault kind) = fault_text kind

@@ -29,20 +29,20 @@ pub enum FaultKind {
     CutOff,
 }
 
-/// The number and the name, as `60 NoCapture`.
+/// The number and the name, as `62 NoCapture`.
 impl fmt::Display for FaultKind {
     ghost output = { λ fault. Some (fault_text fault) };
 
     fn fmt<W: fmt::Write>(&self, f: &mut fmt::Formatter<W>) -> fmt::Result {
         f.write_str(match self {
-            FaultKind::NoCapture => "60 NoCapture",
-            FaultKind::Version => "61 Version",
-            FaultKind::BlockLength => "62 BlockLength",
-            FaultKind::PacketLength => "63 PacketLength",
-            FaultKind::NoInterface => "64 NoInterface",
-            FaultKind::Options => "65 Options",
-            FaultKind::Resolution => "66 Resolution",
-            FaultKind::CutOff => "67 CutOff",
+            FaultKind::NoCapture => "62 NoCapture",
+            FaultKind::Version => "63 Version",
+            FaultKind::BlockLength => "64 BlockLength",
+            FaultKind::PacketLength => "65 PacketLength",
+            FaultKind::NoInterface => "66 NoInterface",
+            FaultKind::Options => "67 Options",
+            FaultKind::Resolution => "68 Resolution",
+            FaultKind::CutOff => "69 CutOff",
         })
     }
 }
