@@ -1,0 +1,10 @@
+//! The OSPF packets that a capture has, and what their LSAs come to as events of a recording. There is no
+//! input or output here: a caller reads the capture, and prints the recording.
+#![tactic(auto)]
+
+mod heard;
+mod listener;
+
+pub use heard::{Heard, Payload};
+pub use listener::Listener;
+pub use ospf_types::memory::Memory;
