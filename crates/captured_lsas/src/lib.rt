@@ -2,6 +2,7 @@
 //! input or output here: a caller reads the capture, and prints the recording.
 #![tactic(auto)]
 
+mod given;
 mod heard;
 mod listener;
 
