@@ -2,13 +2,13 @@
 use Rattle.std.specs.Prelude.{ℕ, ◌==◌, ◌&&◌, Bool, true, false, not, if◌then◌else◌, List, [], ◌∷◌, ◌++◌, drop}
 use Rattle.std.specs.List.{list_any}
 use Rattle.std.specs.Str.{bytes_eq}
-use Rattle.byteorder.specs.Endian.{big_number}
+use Rattle.lsa_codec.specs.Faults.{age_field}
 use Rattle.ospf_types.specs.declared.key.Scope.{Scope}
 use Rattle.ospf_types.specs.declared.key.Scope.TheVariants.{Area, As}
 
--- the age of an LSA, in its first two bytes, is MaxAge (RFC 2328, A.4.1)
+-- the age of an LSA is MaxAge, in seconds (RFC 2328, A.4.1)
 abbrev pub is_max_age : List ℕ → Bool
-is_max_age lsa = big_number 2 lsa == 3600
+is_max_age lsa = age_field lsa == 3600
 
 -- an LSA in its scope, but for its age: of that, only whether it is MaxAge
 pub record Given : Type 0 where

@@ -1,3 +1,4 @@
 pub mod Payloads
 pub mod Hearing
 pub mod Given
+pub mod Reading

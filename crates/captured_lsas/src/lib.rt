@@ -5,7 +5,10 @@
 mod given;
 mod heard;
 mod listener;
+mod options;
+mod reading;
 
 pub use heard::{Heard, Payload};
 pub use listener::Listener;
+pub use options::Options;
 pub use ospf_types::memory::Memory;
