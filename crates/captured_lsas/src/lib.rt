@@ -7,8 +7,12 @@ mod heard;
 mod listener;
 mod options;
 mod reading;
+mod recorded;
+mod recorder;
 
 pub use heard::{Heard, Payload};
 pub use listener::Listener;
 pub use options::Options;
 pub use ospf_types::memory::Memory;
+pub use recorded::Recorded;
+pub use recorder::Recorder;
