@@ -1,2 +1,3 @@
 mod Carrying
 pub mod Alike
+pub mod Pieces

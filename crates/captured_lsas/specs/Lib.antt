@@ -5,3 +5,5 @@ pub mod Reading
 pub mod Progress
 pub mod Seconds
 pub mod Recording
+pub mod Updates
+pub mod Packets

@@ -1,5 +1,5 @@
 -- What bytes are read as.
-use Rattle.std.specs.Prelude.{◌≡◌, ℕ, List, Option, Some, None, Result, MatchResult}
+use Rattle.std.specs.Prelude.{◌≡◌, ℕ, List, Some, None, Result, MatchResult}
 use Rattle.ospf_types.specs.Lsa.{Lsa}
 use Rattle.lsa_codec.specs.Spelling.{Spells}
 use Rattle.lsa_codec.specs.Faults.{fault_of}

@@ -9,6 +9,7 @@ mod options;
 mod reading;
 mod recorded;
 mod recorder;
+mod taken;
 
 pub use heard::{Heard, Payload};
 pub use listener::Listener;
@@ -16,3 +17,4 @@ pub use options::Options;
 pub use ospf_types::memory::Memory;
 pub use recorded::Recorded;
 pub use recorder::Recorder;
+pub use taken::Taken;

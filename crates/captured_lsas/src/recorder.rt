@@ -5,15 +5,20 @@ ghost use Rattle.captured_lsas.specs.Seconds.{between as between_test, seconds_d
 ghost use Rattle.captured_lsas.specs.Given.{given_of};
 ghost use Rattle.captured_lsas.specs.Progress.{start};
 ghost use Rattle.captured_lsas.specs.Recording.{scope_of as scope_of_test, is_repeated as is_repeated_test, IsInstalled, IsRecorded, with_lsa, with_read_lsa, with_given_lsa};
+ghost use Rattle.packets.specs.Updates.{lent};
+ghost use Rattle.captured_lsas.specs.Updates.{pieces_in, pieces_for, with_piece, with_pieces, StopsIn, IsPieceRecorded, AreRecorded};
+ghost use Rattle.captured_lsas.specs.Packets.{IsTaken, IsOfPacket, with_packet, StopsWithin};
 
 use crate::given::{GivenLsas, is_max_age};
 use crate::options::Options;
 use crate::reading::read_lsa;
 use crate::recorded::Recorded;
+use crate::taken::Taken;
 use lsa_codec::Checked;
 use ospf_types::key::Scope;
 use ospf_types::lsa::AS_EXTERNAL_LSA;
 use ospf_types::memory::Memory;
+use packets::{Packet, PacketKind, UpdateFault, UpdateLsas, read_packet, update_lsas};
 use std::alloc::Global;
 use std::hash::RandomState;
 use std::marker::Model;
@@ -53,6 +58,106 @@ impl Recorder {
             seconds: 0,
             has_begun: false,
             given: GivenLsas::new(alloc, hashing),
+        }
+    }
+
+    /// Takes the payload of a datagram, which was captured at the time, in nanoseconds since the beginning
+    /// of 1970, UTC. Answers what is recorded of it.
+    pub fn take(
+        &mut self,
+        alloc: Global,
+        time: Option<u64>,
+        payload: &[u8],
+    ) -> Result<Taken, Memory>
+        ensures taken { IfOk result (IsTaken self.old time payload.now) }
+        ensures noted { OnOk result (self.new ≡ with_packet self.old time payload.now) }
+        // Where memory runs out, some of its LSAs were taken.
+        ensures stopped { OnErr result (StopsWithin self.old self.new time payload.now) }
+    {
+        match read_packet(payload) {
+            Ok(packet) => self.take_packet(alloc, time, &packet),
+            Err(fault) => Ok(Taken::Fault(fault)),
+        }
+    }
+
+    // Takes a packet.
+    fn take_packet(
+        &mut self,
+        alloc: Global,
+        time: Option<u64>,
+        packet: &Packet<'_>,
+    ) -> Result<Taken, Memory>
+        ensures taken { IfOk result (IsOfPacket self.old time packet.now) }
+        ensures noted { OnOk result (self.new ≡ with_pieces (with_time self.old time) packet.now.area (pieces_for packet.now.kind packet.now.body.now)) }
+        ensures stopped { OnErr result (StopsIn (with_time self.old time) self.new packet.now.area (pieces_for packet.now.kind packet.now.body.now)) }
+    {
+        let seconds = self.take_time(time);
+        let recorded = self.take_body(alloc, packet)?;
+        Ok(Taken::Packet { seconds, recorded })
+    }
+
+    // Takes the LSAs of a packet.
+    fn take_body(&mut self, alloc: Global, packet: &Packet<'_>) -> Result<Vec<Recorded>, Memory>
+        ensures recorded { IfOk result (λ all. AreRecorded self.old packet.now.area (pieces_for packet.now.kind packet.now.body.now) all.items) }
+        ensures noted { OnOk result (self.new ≡ with_pieces self.old packet.now.area (pieces_for packet.now.kind packet.now.body.now)) }
+        ensures stopped { OnErr result (StopsIn self.old self.new packet.now.area (pieces_for packet.now.kind packet.now.body.now)) }
+    {
+        match packet.kind {
+            PacketKind::LinkStateUpdate => self.take_update(alloc, packet.area, packet.body),
+            _ => Ok(Vec::new(alloc)),
+        }
+    }
+
+    // Takes the body of a Link State Update.
+    fn take_update(
+        &mut self,
+        alloc: Global,
+        area: u32,
+        body: &[u8],
+    ) -> Result<Vec<Recorded>, Memory>
+        ensures recorded { IfOk result (λ all. AreRecorded self.old area (pieces_in body.now) all.items) }
+        ensures noted { OnOk result (self.new ≡ with_pieces self.old area (pieces_in body.now)) }
+        ensures stopped { OnErr result (StopsIn self.old self.new area (pieces_in body.now)) }
+    {
+        match update_lsas(body) {
+            Ok(lsas) => self.take_pieces(alloc, area, lsas),
+            Err(fault) => Ok(vec![in alloc; Recorded::Cut(fault)]?),
+        }
+    }
+
+    // Takes the LSAs of an update.
+    fn take_pieces(
+        &mut self,
+        alloc: Global,
+        area: u32,
+        lsas: UpdateLsas<'_>,
+    ) -> Result<Vec<Recorded>, Memory>
+        ensures recorded { IfOk result (λ all. AreRecorded self.old area lsas.entry all.items) }
+        ensures noted { OnOk result (self.new ≡ with_pieces self.old area lsas.entry) }
+        ensures stopped { OnErr result (StopsIn self.old self.new area lsas.entry) }
+    {
+        let mut all = Vec::new(alloc);
+        for piece in lsas {
+            let recorded = self.take_piece(alloc, area, piece)?;
+            all.push(recorded)?;
+        }
+        Ok(all)
+    }
+
+    // Takes an LSA of an update, or the fault where one is to stand.
+    fn take_piece(
+        &mut self,
+        alloc: Global,
+        area: u32,
+        piece: Result<&[u8], UpdateFault>,
+    ) -> Result<Recorded, Memory>
+        ensures recorded { IfOk result (IsPieceRecorded self.old area (lent piece.entry)) }
+        ensures noted { OnOk result (self.new ≡ with_piece self.old area (lent piece.entry)) }
+        ensures unchanged { OnErr result (self.new ≡ self.old) }
+    {
+        match piece {
+            Ok(bytes) => self.take_lsa(alloc, area, bytes),
+            Err(fault) => Ok(Recorded::Cut(fault)),
         }
     }
 
