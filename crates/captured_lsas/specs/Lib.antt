@@ -7,3 +7,4 @@ pub mod Seconds
 pub mod Recording
 pub mod Updates
 pub mod Packets
+pub mod History

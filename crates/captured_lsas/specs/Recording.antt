@@ -26,7 +26,7 @@ abbrev pub noted : Progress → Given → List Given
 noted p lsa = if p.options.keeps_all then p.given else with_given lsa p.given
 
 abbrev pub with_given_lsa : Progress → Given → Progress
-with_given_lsa p lsa = if is_repeated p lsa then p else record p { has_begun = true; given = noted p lsa }
+with_given_lsa p lsa = record p { has_begun = true; given = noted p lsa }
 
 abbrev pub with_read_lsa : Progress → ℕ → List ℕ → Progress
 with_read_lsa p area lsa = with_given_lsa p (given_in area lsa)

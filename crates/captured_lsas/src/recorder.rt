@@ -222,11 +222,9 @@ impl Recorder {
         ensures noted { OnOk result (self.new ≡ with_given_lsa self.old (given_of scope bytes.now)) }
         ensures unchanged { OnErr result (self.new ≡ self.old) }
     {
-        if !self.options.keeps_all && !self.given.note(alloc, scope, bytes)? {
-            return Ok(true);
-        }
+        let is_repeated = !self.options.keeps_all && !self.given.note(alloc, scope, bytes)?;
         self.has_begun = true;
-        Ok(false)
+        Ok(is_repeated)
     }
 }
 
