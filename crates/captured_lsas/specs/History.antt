@@ -1,5 +1,5 @@
 -- What was recorded of all packets, said of the packets themselves.
-use Rattle.std.specs.Prelude.{ℕ, ◌≡◌, ◌↔◌, false, true, List, [], ◌∷◌, Option, Some, None, Ok}
+use Rattle.std.specs.Prelude.{ℕ, ◌≡◌, ◌↔◌, false, true, List, [], ◌∷◌, Option, None, Ok}
 use Rattle.std.specs.List.{Contains}
 use Rattle.lsa_codec.specs.Faults.{fault_of}
 use Rattle.packets.specs.Packets.{packet_fault_of, area_field}

@@ -7,6 +7,7 @@ ghost use Rattle.captured_lsas.specs.Progress.{start};
 ghost use Rattle.captured_lsas.specs.Recording.{scope_of as scope_of_test, is_repeated as is_repeated_test, IsInstalled, IsRecorded, with_lsa, with_read_lsa, with_given_lsa};
 ghost use Rattle.packets.specs.Updates.{lent};
 ghost use Rattle.captured_lsas.specs.Updates.{pieces_in, pieces_for, with_piece, with_pieces, StopsIn, IsPieceRecorded, AreRecorded};
+ghost use Rattle.captured_lsas.specs.History.{HasHistory};
 ghost use Rattle.captured_lsas.specs.Packets.{IsTaken, IsOfPacket, with_packet, StopsWithin};
 
 use crate::given::{GivenLsas, is_max_age};
@@ -50,7 +51,9 @@ impl Model for Recorder {
 impl Recorder {
     /// Nothing was recorded.
     pub fn new(alloc: Global, hashing: RandomState, options: Options) -> Recorder
-        ensures { result ≡ start options }
+        ensures start { result ≡ start options }
+        // From here, whichever packets are taken, an LSA counts as given just if one of them brought it.
+        ensures history { HasHistory options result }
     {
         Recorder {
             options,
