@@ -1,5 +1,6 @@
 -- What the LSAs of the packets come to.
 use Rattle.std.specs.Prelude.{ℕ, ◌≡◌, ◌==◌, ◌&&◌, not, Bool, true, false, if◌then◌else◌, List, Some, is_none}
+use Rattle.std.specs.List.{Contains}
 use Rattle.ospf_types.specs.declared.key.Scope.{Scope}
 use Rattle.ospf_types.specs.declared.key.Scope.TheVariants.{Area, As}
 use Rattle.ospf_types.specs.Lsa.{Lsa}
@@ -17,9 +18,13 @@ scope_of area lsa = if kind_field lsa == 5 then As else Area area
 abbrev pub given_in : ℕ → List ℕ → Given
 given_in area lsa = given_of (scope_of area lsa) lsa
 
--- it is left out
+-- it was given before, and is left out
 abbrev pub is_repeated : Progress → Given → Bool
 is_repeated p lsa = not p.options.keeps_all && has_given lsa p.given
+
+pub record IsRepeated (p : Progress) (lsa : Given) : Type 0 where
+  pub leaves_out : p.options.keeps_all ≡ false
+  pub before : Contains p.given lsa
 
 -- where all are kept, none have to be noted
 abbrev pub noted : Progress → Given → List Given
@@ -40,8 +45,8 @@ with_lsa p area lsa = if is_none (fault_of lsa) then with_read_lsa p area lsa el
 -- of one that was read
 abbrev pub IsInstalled : Progress → ℕ → List ℕ → Lsa → Recorded → Type 0
 IsInstalled p area bytes read (Install scope lsa purges) =
-    (is_repeated p (given_in area bytes) ≡ false) × (scope ≡ scope_of area bytes) × (lsa ≡ read) × (purges ≡ is_max_age bytes)
-IsInstalled p area bytes read Repeated = is_repeated p (given_in area bytes) ≡ true
+    (IsRepeated p (given_in area bytes) → ⊥) × (scope ≡ scope_of area bytes) × (lsa ≡ read) × (purges ≡ is_max_age bytes)
+IsInstalled p area bytes read Repeated = IsRepeated p (given_in area bytes)
 IsInstalled p area bytes read (Fault fault) = ⊥
 IsInstalled p area bytes read (Cut fault) = ⊥
 

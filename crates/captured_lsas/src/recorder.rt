@@ -1,10 +1,10 @@
 //! Which events come of the packets, one after the other.
 
-ghost use Rattle.std.specs.Prelude.{◌≡◌, ◌≤◌, length, IfOk, OnOk, OnErr, MatchResult};
+ghost use Rattle.std.specs.Prelude.{◌≡◌, ◌≤◌, length, IfOk, OnOk, OnErr};
 ghost use Rattle.captured_lsas.specs.Seconds.{between as between_test, seconds_due, with_time};
 ghost use Rattle.captured_lsas.specs.Given.{given_of};
 ghost use Rattle.captured_lsas.specs.Progress.{start};
-ghost use Rattle.captured_lsas.specs.Recording.{scope_of as scope_of_test, is_repeated as is_repeated_test, IsInstalled, IsRecorded, with_lsa, with_read_lsa, with_given_lsa};
+ghost use Rattle.captured_lsas.specs.Recording.{is_repeated as is_repeated_test, scope_of as scope_of_test, IsInstalled, IsRecorded, with_lsa, with_read_lsa, with_given_lsa};
 ghost use Rattle.packets.specs.Updates.{lent};
 ghost use Rattle.captured_lsas.specs.Updates.{pieces_in, pieces_for, with_piece, with_pieces, StopsIn, IsPieceRecorded, AreRecorded};
 ghost use Rattle.captured_lsas.specs.History.{HasHistory};
