@@ -6,8 +6,9 @@ use Rattle.datagrams.specs.declared.fault.DatagramFault.{DatagramFault}
 use Rattle.datagrams.specs.Links.{link_of_number, Carries}
 use Rattle.datagrams.specs.Layout.{fault_of}
 use Rattle.datagrams.specs.Reading.{IsDatagram}
-use Rattle.datagrams.specs.Kept.{Kept}
-use Rattle.datagrams.specs.Taking.{kept_with, payload_with}
+use Rattle.datagrams.specs.Kept.{Kept, key_of}
+use Rattle.datagrams.specs.Parts.{part_of}
+use Rattle.datagrams.specs.Taking.{IsTaken, kept_with, payload_with}
 use Rattle.captured_lsas.specs.declared.heard.Heard.{Heard}
 use Rattle.captured_lsas.specs.declared.heard.Heard.TheVariants.{Other, Fault, Part, Whole}
 use Rattle.captured_lsas.specs.Payloads.{bytes_of}
@@ -39,11 +40,15 @@ payload_after d kept = if is_whole d then Some d.payload.now else payload_with d
 abbrev pub kept_after : Datagram → List Kept → List Kept
 kept_after d kept = if is_whole d then kept else kept_with d kept
 
+-- of a fragment: the payload is whole just if all fragments that came make it whole
+abbrev pub IsMade : Datagram → (old new : List Kept) → Option (List ℕ) → Type 0
+IsMade d old new payload = is_whole d ≡ false → IsTaken (key_of d) (part_of d) old new payload
+
 abbrev pub IsGiven : Datagram → (old new : List Kept) → Heard → Type 0
 IsGiven d old new Other = ⊥
 IsGiven d old new (Fault fault) = ⊥
-IsGiven d old new Part = (payload_after d old ≡ None) × (new ≡ kept_after d old)
-IsGiven d old new (Whole sender payload) = (payload_after d old ≡ Some (bytes_of payload)) × (sender ≡ d.source) × (new ≡ kept_after d old)
+IsGiven d old new Part = (payload_after d old ≡ None) × (new ≡ kept_after d old) × IsMade d old new None
+IsGiven d old new (Whole sender payload) = (payload_after d old ≡ Some (bytes_of payload)) × (sender ≡ d.source) × (new ≡ kept_after d old) × IsMade d old new (Some (bytes_of payload))
 
 -- ---- what a captured packet brings
 

@@ -96,7 +96,13 @@ impl Recorder {
     {
         let seconds = self.take_time(time);
         let recorded = self.take_body(alloc, packet)?;
-        Ok(Taken::Packet { seconds, recorded })
+        Ok(Taken::Packet {
+            kind: packet.kind,
+            router: packet.router,
+            area: packet.area,
+            seconds,
+            recorded,
+        })
     }
 
     // Takes the LSAs of a packet.

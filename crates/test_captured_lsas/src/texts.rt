@@ -12,7 +12,9 @@ use std::fmt::Write;
 pub fn put_taken(alloc: Global, sender: u32, taken: Taken, text: &mut String) -> Result<()> {
     match taken {
         Taken::Fault(fault) => writeln!(text, "note: {fault} from {}", Address(sender))?,
-        Taken::Packet { seconds, recorded } => {
+        Taken::Packet {
+            seconds, recorded, ..
+        } => {
             for _ in 0..seconds {
                 writeln!(text, "second")?;
             }

@@ -1,4 +1,4 @@
-use Rattle.std.proofs.Common.{rules, ◌≡◌, ◌∙◌, ap, refl, sym, true, false}
+use Rattle.std.proofs.Common.{◌∙◌, ap, refl, sym}
 use Rattle.ospf_types.specs.declared.key.Scope.{Scope}
 use Rattle.captured_lsas.specs.Given.{given_of}
 use Rattle.captured_lsas.specs.Recording.{given_in, is_repeated}
