@@ -13,7 +13,9 @@ pub fn put_taken(alloc: Global, sender: u32, taken: Taken, text: &mut String) ->
     match taken {
         Taken::Fault(fault) => writeln!(text, "note: {fault} from {}", Address(sender))?,
         Taken::Packet {
-            seconds, recorded, ..
+            seconds,
+            recorded,
+            ..
         } => {
             for _ in 0..seconds {
                 writeln!(text, "second")?;
