@@ -40,6 +40,7 @@ pub struct Recorder {
     given: GivenLsas,
 }
 
+/// Contracts see these as they are, and of the LSAs that were given what tells them apart.
 impl Model for Recorder {
     ghost use Rattle.captured_lsas.specs.Progress.{Progress};
 
@@ -66,6 +67,10 @@ impl Recorder {
 
     /// Takes the payload of a datagram, which was captured at the time, in nanoseconds since the beginning
     /// of 1970, UTC. Answers what is recorded of it.
+    ///
+    /// Once an LSA was given, seconds come before the LSAs of a packet: as many as lie between the time of
+    /// the first packet and its own, less those that were given. Each LSA is installed, and purged too if it
+    /// is at MaxAge, unless it is at fault, or was given before but for its age.
     pub fn take(
         &mut self,
         alloc: Global,
