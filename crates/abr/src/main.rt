@@ -4,11 +4,14 @@
 #![tactic(auto)]
 
 mod counting;
+mod output;
 mod progress;
+mod sink;
 mod source;
 
 use abr_cli::{Answer, Invocation, job, tell};
 use progress::progress_of;
+use sink::Sink;
 use source::Source;
 use std::hash::RandomState;
 use std::io;
@@ -37,12 +40,13 @@ fn status<S: Threads + Wait + Sync>(rt: &HostRuntime, threads: &S) -> io::Result
     let job = job(rt.alloc(), words.as_slice());
     let hashing = RandomState::new(rt)?;
     let mut input = Source::of(rt, &job);
-    let (out, faults) = (&mut rt.stdout(), &mut rt.stderr());
-    let progress = progress_of(rt, &job);
+    let (mut out, mut faults) = (Sink::of(rt, &job), rt.stderr());
+    let progress = progress_of(rt, &job, &out);
     let called = Invocation {
         job,
         hashing,
         progress,
     };
-    Ok(called.run(threads, rt.alloc(), &mut input, out, faults))
+    let status = called.run(threads, rt.alloc(), &mut input, &mut out, &mut faults);
+    Ok(out.end(status, &mut faults))
 }

@@ -17,8 +17,12 @@ impl Source {
     pub fn of(rt: &HostRuntime, job: &Result<Job<'_>, Usage>) -> Source {
         match job {
             Ok(Job::Follow { .. }) => Source::Standard(rt.stdin()),
-            Ok(Job::Replay { file, .. } | Job::Changes { file, .. } | Job::Explain { file, .. }) =>
-                Source::named(rt, file),
+            Ok(
+                Job::Replay { file, .. }
+                | Job::Changes { file, .. }
+                | Job::Explain { file, .. }
+                | Job::Page { file, .. },
+            ) => Source::named(rt, file),
             _ => Source::Missing,
         }
     }

@@ -2,3 +2,4 @@ pub mod Ended
 pub mod Shown
 pub mod Changed
 pub mod Explained
+pub mod Paged

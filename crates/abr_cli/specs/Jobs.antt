@@ -17,6 +17,8 @@ use Rattle.abr_cli.specs.declared.replaying.Replay.{Replay}
 use Rattle.abr_cli.specs.Changing.{IsChangesTold}
 use Rattle.abr_cli.specs.declared.explaining.Explain.{Explain}
 use Rattle.abr_cli.specs.Explaining.{IsExplainTold}
+use Rattle.abr_cli.specs.declared.paging.Page.{Page}
+use Rattle.abr_cli.specs.Paging.{IsPageTold}
 use Rattle.abr_cli.specs.Replaying.{IsReplayTold}
 use Rattle.command_answers.specs.Usage.{IsUsageAnswer}
 
@@ -53,6 +55,10 @@ follow_asked file only strict format = record {
 abbrev pub explain_asked : (file address : Bor (List ℕ)) → Option (Bor (List ℕ)) → Format → Progress → Explain
 explain_asked file address due format progress = record { file = file; address = address; due = due; format = format; progress = progress.is_shown }
 
+-- what `abr page` asks for
+abbrev pub page_asked : Bor (List ℕ) → Option (Bor (List ℕ)) → Progress → Page
+page_asked file output progress = record { file = file; output = output; progress = progress.is_shown }
+
 -- The job was done. Only where a recording is run the input is read.
 abbrev pub IsDone : Progress → Job → (status : ℕ) (i i' o o' f f' : Option (List ℕ)) → Type 0
 IsDone own (job.One words) status i i' o o' f f' = (i' ≡ i) × Tells (IsOneAnswer (texts_of words)) status o o' f f'
@@ -63,6 +69,7 @@ IsDone own (job.Changes file only format progress) status i i' o o' f f' = IsCha
 IsDone own (job.Follow only strict format) status i i' o o' f f' =
     (file : Bor (List ℕ)) × (file.now ≡ codes "-") × IsChangesTold (follow_asked file only strict format) status i i' o o' f f'
 IsDone own (job.Explain file address due format progress) status i i' o o' f f' = IsExplainTold (explain_asked file address due format (shown_progress progress own)) status i i' o o' f f'
+IsDone own (job.Page file output progress) status i i' o o' f f' = IsPageTold (page_asked file output (shown_progress progress own)) status i i' o o' f f'
 IsDone own (job.Fault number) status i i' o o' f f' = (i' ≡ i) × Tells (IsNumberAnswer number.now) status o o' f f'
 
 -- the job was done, or it was said why there is none

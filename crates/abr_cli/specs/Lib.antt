@@ -2,4 +2,5 @@ pub mod Showing
 pub mod Replaying
 pub mod Changing
 pub mod Explaining
+pub mod Paging
 pub mod Jobs

@@ -4,6 +4,7 @@
 
 mod changing;
 mod explaining;
+mod paging;
 mod replaying;
 mod running;
 
@@ -15,7 +16,8 @@ pub use command_answers::{
 pub use command_line::{Job, OneWords, Usage, job};
 pub use explaining::Explain;
 pub use output_format::{Format, Show};
+pub use paging::Page;
 pub use replay::{Printing, Progress, ReplayFault, replay_one};
-pub use replaying::Replay;
+pub use replaying::{Replay, say_fault};
 pub use running::Invocation;
 pub use worker_replay::{ManyFault, ReplayOptions, replay_many};

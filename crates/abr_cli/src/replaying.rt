@@ -114,7 +114,7 @@ fn fault_from(file: &str, fault: ManyFault) -> Result<CommandFault<'_>, CannotWr
 }
 
 /// Writes the line of the fault, or of want of memory where there is none for it.
-pub(crate) fn say_fault<F: io::Write>(alloc: Global, fault: CommandFault<'_>, faults: &mut F) -> u8
+pub fn say_fault<F: io::Write>(alloc: Global, fault: CommandFault<'_>, faults: &mut F) -> u8
     ensures { IsSaid (fault_line (command_fault_text fault.entry)) (status_of fault.entry) result
         (F.contents faults.old) (F.contents faults.new)
         ⊎ IsSaid (fault_line (command_fault_text CommandFault.Memory)) 1 result (F.contents faults.old) (F.contents faults.new) }

@@ -1,10 +1,11 @@
 //! What the program does with its words.
 ghost use Rattle.std.specs.Prelude.{◌≡◌, IfOk, codes};
 ghost use Rattle.command_line.specs.Command.{AreWorkers, IsFit};
-ghost use Rattle.abr_cli.specs.Jobs.{IsDone, IsJobTold, changes_asked, explain_asked, follow_asked, replay_asked, shown_progress};
+ghost use Rattle.abr_cli.specs.Jobs.{IsDone, IsJobTold, changes_asked, explain_asked, follow_asked, page_asked, replay_asked, shown_progress};
 
 use crate::changing::Changes;
 use crate::explaining::Explain;
+use crate::paging::Page;
 use crate::replaying::Replay;
 use command_answers::{answer_usage, decode, fault, one, tell};
 use command_line::{Job, Usage};
@@ -115,6 +116,11 @@ fn do_job<S: Threads + Wait + Sync, R: io::Read, W: io::Write, F: io::Write>(
         } => explain_of(file, address, due, format, shown(progress, own)).run(
             alloc, hashing, input, out, faults,
         ),
+        Job::Page {
+            file,
+            output,
+            progress,
+        } => page_of(file, output, shown(progress, own)).run(alloc, hashing, input, out, faults),
         Job::Fault(word) => fault(alloc, word, out, faults),
     }
 }
@@ -178,6 +184,17 @@ fn explain_of<'a>(
         address,
         due,
         format,
+        progress: progress.is_shown,
+    }
+}
+
+// The command `page`. Of a recording that is read whole, it is known how many lines there are.
+fn page_of<'a>(file: &'a str, output: Option<&'a str>, progress: Progress) -> Page<'a>
+    ensures { result ≡ page_asked file.entry output.entry progress }
+{
+    Page {
+        file,
+        output,
         progress: progress.is_shown,
     }
 }

@@ -58,16 +58,26 @@ impl io::Write for Failing {
     }
 }
 
-// A full disk is told, and of a pipe whose reading end was closed nothing is said.
 fn cannot_print<S: Threads + Wait + Sync>(
     rt: &S,
     alloc: Global,
     hashing: RandomState,
     words: &[&str],
 ) -> bool {
+    cannot_write(rt, alloc, hashing, words, "abr: cannot write\n")
+}
+
+// A full disk is told by this line, and of a pipe whose reading end was closed nothing is said.
+fn cannot_write<S: Threads + Wait + Sync>(
+    rt: &S,
+    alloc: Global,
+    hashing: RandomState,
+    words: &[&str],
+    line: &str,
+) -> bool {
     let mut all = true;
     for (kind, said) in [
-        (io::ErrorKind::StorageFull, "abr: cannot write\n"),
+        (io::ErrorKind::StorageFull, line),
         (io::ErrorKind::BrokenPipe, ""),
     ] {
         let (mut out, mut faults) = (Failing { kind }, Vec::new(alloc));
@@ -99,6 +109,14 @@ fn writers_that_fail_give_status_1(rt: HostRuntime) -> Result<(), Fail> {
             rt.alloc(),
             hashing,
             &["abr", "explain", "-", "192.0.2.1"],
+        )
+        && cannot_print(&rt, rt.alloc(), hashing, &["abr", "page", "-"])
+        && cannot_write(
+            &rt,
+            rt.alloc(),
+            hashing,
+            &["abr", "page", "-", "-o", "network.html"],
+            "abr: cannot write network.html\n",
         )
         && cannot_print(
             &rt,

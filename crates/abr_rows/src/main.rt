@@ -27,7 +27,7 @@ use std::{fs, io};
 use trial::is_as_wanted;
 
 // The files of rows.
-const FILES: [&str; 17] = [
+const FILES: [&str; 18] = [
     "commands.rows",
     "recordings.rows",
     "versions.rows",
@@ -45,6 +45,7 @@ const FILES: [&str; 17] = [
     "progress.rows",
     "explain.rows",
     "explain_due.rows",
+    "page.rows",
 ];
 
 /// How many rows ran, and how many of them differ.

@@ -27,6 +27,7 @@ fault_widens words g (fault.Read file) say h = absurd h
 fault_widens words g (fault.Line f) say h = absurd h
 fault_widens words g fault.Memory say h = tt
 fault_widens words g fault.Write say h = absurd h
+fault_widens words g (fault.WriteTo file) say h = absurd h
 fault_widens words g fault.Spawn say h = absurd h
 fault_widens words g fault.Place say h = (g, say, h)
 fault_widens words g fault.NoEntry say h = (g, say, h)

@@ -20,6 +20,7 @@ command_fault_text (fault.Read file) = codes "cannot read " ++ file.now
 command_fault_text (fault.Line f) = line_fault_text f
 command_fault_text fault.Memory = memory_text
 command_fault_text fault.Write = codes "cannot write"
+command_fault_text (fault.WriteTo file) = codes "cannot write " ++ file.now
 command_fault_text fault.Spawn = codes "31 Spawn"
 command_fault_text fault.Place = codes "46 Place"
 command_fault_text fault.NoEntry = codes "no entry"

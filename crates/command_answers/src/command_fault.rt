@@ -29,6 +29,8 @@ pub enum CommandFault<'a> {
     Memory,
     /// What there is to print could not be written.
     Write,
+    /// The file of this name, which there is something to write to, could not be written.
+    WriteTo(&'a str),
     /// A worker's thread could not be started.
     Spawn,
     /// There was no place for a reader of the published table.
@@ -63,6 +65,7 @@ impl fmt::Display for CommandFault<'_> {
             CommandFault::Line(fault) => fault.fmt(f),
             CommandFault::Memory => Memory.fmt(f),
             CommandFault::Write => f.write_str("cannot write"),
+            CommandFault::WriteTo(file) => write!(f, "cannot write {file}"),
             CommandFault::Spawn => f.write_str("31 Spawn"),
             CommandFault::Place => f.write_str("46 Place"),
             CommandFault::NoEntry => f.write_str("no entry"),

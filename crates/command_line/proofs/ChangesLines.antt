@@ -1,5 +1,5 @@
 -- What the parse makes of the command line `abr changes` with a file, and with `--only`, `--format` or `--progress` behind it.
-use Rattle.std.proofs.Common.{◌≡◌, refl, true, false, List, [], ◌∷◌, Some, codes}
+use Rattle.std.proofs.Common.{◌≡◌, inl, refl, true, false, List, [], ◌∷◌, Some, codes}
 use Rattle.clap.specs.Walk.{Row, Text, nothing_held, rows_after, walked}
 use Rattle.clap.specs.Simple.{Shape, built_leaf, inherited, subcommand_of}
 use Rattle.clap.specs.Faults.{fault_of, level_fault, turn_fault, walk_fault}
@@ -72,7 +72,7 @@ only_ends file prefix = refl
 pub only_faultless : (name file prefix : Text) → IsFileWord file → IsPlainWord prefix → fault_of program (only_line name file prefix) ≡ []
 only_faultless name file prefix p q =
     line_passes name (file ∷ codes "--only" ∷ prefix ∷ [])
-    (given_faultless changes_sub (codes "only") (codes "--only") file prefix (only_waits_is file) (prefix_step file prefix q) refl p q (only_waits_fault file)
+    (given_faultless changes_sub (codes "only") (codes "--only") file prefix (only_waits_is file) (prefix_step file prefix q) refl p (inl q) (only_waits_fault file)
     (only_ends file prefix))
 
 -- ---- with a name of the form

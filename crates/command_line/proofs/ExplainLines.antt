@@ -1,5 +1,5 @@
 -- What the parse makes of the command line `abr explain` with a file and an address, and with `--due`, `--format` or `--progress` behind them.
-use Rattle.std.proofs.Common.{◌≡◌, ◌∙◌, ap, refl, true, false, List, [], ◌∷◌, Some, codes}
+use Rattle.std.proofs.Common.{◌≡◌, ◌∙◌, ap, inl, refl, true, false, List, [], ◌∷◌, Some, codes}
 use Rattle.std.specs.Prelude.{fold}
 use Rattle.clap.specs.Walk.{Row, Text, Walk, finished, rows_after, walked}
 use Rattle.clap.specs.Simple.{Shape, built_leaf, inherited, subcommand_of}
@@ -116,7 +116,7 @@ pub due_faultless : (name file address area : Text) → IsFileWord file → IsPl
     → fault_of program (due_line name file address area) ≡ []
 due_faultless name file address area p q r =
     line_passes name file address (codes "--due" ∷ area ∷ []) p q
-    (given_walks explain_sub (codes "due") (codes "--due") (address_walk file address) area (due_waits_is file address) (area_step file address area r) r
+    (given_walks explain_sub (codes "due") (codes "--due") (address_walk file address) area (due_waits_is file address) (area_step file address area r) (inl r)
     (due_waits_fault file address))
     (ap (end_fault explain_sub) (area_walk_is file address area r) ∙ due_ends file address area)
 

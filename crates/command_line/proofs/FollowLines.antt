@@ -1,5 +1,5 @@
 -- What the parse makes of the command line `abr follow`, and with `--strict`, `--only` or `--format` behind it.
-use Rattle.std.proofs.Common.{◌≡◌, refl, true, false, List, [], ◌∷◌, Some, codes}
+use Rattle.std.proofs.Common.{◌≡◌, inl, refl, true, false, List, [], ◌∷◌, Some, codes}
 use Rattle.clap.specs.Walk.{Row, Text, nothing_held, rows_after, walk, walked}
 use Rattle.clap.specs.Simple.{Shape, built_leaf, inherited, subcommand_of}
 use Rattle.clap.specs.Faults.{fault_of, level_fault, turn_fault}
@@ -120,4 +120,4 @@ pub follow_only_faultless : (name prefix : Text) → IsPlainWord prefix → faul
 follow_only_faultless name prefix p =
     line_passes name (codes "--only" ∷ prefix ∷ [])
     (level_faultless follow_sub (codes "--only" ∷ prefix ∷ []) _ (follow_given_is prefix p)
-    (given_walks follow_sub (codes "only") (codes "--only") start prefix follow_waits_is (follow_step prefix p) p follow_waits_fault) (follow_only_ends prefix))
+    (given_walks follow_sub (codes "only") (codes "--only") start prefix follow_waits_is (follow_step prefix p) (inl p) follow_waits_fault) (follow_only_ends prefix))

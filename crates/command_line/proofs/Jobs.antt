@@ -10,9 +10,9 @@ use Rattle.output_format.specs.declared.Format.{Format}
 use Rattle.output_format.specs.declared.Format.TheVariants as form
 use Rattle.output_format.specs.declared.Show.{Show}
 use Rattle.output_format.specs.declared.Show.TheVariants.{Routes, Due, Lsdb, Journal}
-use Rattle.command_line.specs.Command.{ReplayTexts, ChangesTexts, FollowTexts, ExplainTexts, HasFormat, HasChangesWords, HasDecodeWords, HasExplainWords, HasFlag, HasFollowWords, HasJob, HasJobWords, HasReplayWords, HasTexts, HasWords, IsFit, IsJob, IsMistake, JobTexts, OfOne, OfDecode, OfReplay, OfChanges, OfFollow, OfExplain, OfFault, OneTexts, WritesWorkers, command_name, job_texts, program, show_name, format_name}
+use Rattle.command_line.specs.Command.{ReplayTexts, ChangesTexts, FollowTexts, ExplainTexts, PageTexts, HasFormat, HasChangesWords, HasDecodeWords, HasExplainWords, HasFlag, HasFollowWords, HasJob, HasJobWords, HasPageWords, HasReplayWords, HasTexts, HasWords, IsFit, IsJob, IsMistake, JobTexts, OfOne, OfDecode, OfReplay, OfChanges, OfFollow, OfExplain, OfPage, OfFault, OneTexts, WritesWorkers, command_name, job_texts, program, show_name, format_name}
 use Rattle.command_line.specs.declared.command.Job.{Job}
-use Rattle.command_line.specs.declared.command.Job.TheVariants.{One, Decode, Replay, Changes, Follow, Explain, Fault}
+use Rattle.command_line.specs.declared.command.Job.TheVariants.{One, Decode, Replay, Changes, Follow, Explain, Page, Fault}
 use Rattle.command_line.specs.declared.command.Usage.{Usage}
 use Rattle.command_line.specs.declared.command.Usage.TheVariants.{Told, Memory}
 use Rattle.command_line.proofs.Matches.{apart, one_given}
@@ -109,6 +109,16 @@ explain_unique rows t u h k =
     (one_given _ t.file u.file h.0 k.0) (one_given _ t.address u.address h.1 k.1) (sym h.2 ∙ k.2)
     (form_unique rows t.format u.format h.3 k.3) (flag_unique rows (codes "progress") t.progress u.progress h.4 k.4)
 
+pages_same : (a b : Text) (x y : Option Text) (p q : Bool) → a ≡ b → x ≡ y → p ≡ q
+    → (let t : PageTexts = record { file = a; output = x; progress = p } in
+    let u : PageTexts = record { file = b; output = y; progress = q } in t ≡ u)
+pages_same a b x y p q e f g = rw (e, f, g) refl
+
+page_unique : (rows : List Row) (t u : PageTexts) → HasPageWords rows t → HasPageWords rows u → t ≡ u
+page_unique rows t u h k =
+    pages_same t.file u.file t.output u.output t.progress u.progress
+    (one_given _ t.file u.file h.0 k.0) (sym h.1 ∙ k.1) (flag_unique rows (codes "progress") t.progress u.progress h.2 k.2)
+
 -- the words of one command were given for one job
 same_texts : (rows : List Row) (a b : JobTexts) → command_name a ≡ command_name b → HasJobWords rows a → HasJobWords rows b → a ≡ b
 same_texts rows (OfOne t) (OfOne u) e h k = ap OfOne (words_unique rows t u h k)
@@ -123,6 +133,8 @@ same_texts rows (OfFollow t) (OfFollow u) e h k = ap OfFollow (follow_unique row
 same_texts rows (OfFollow t) other e h k = absurd (apart (codes "follow") (command_name other) refl e)
 same_texts rows (OfExplain t) (OfExplain u) e h k = ap OfExplain (explain_unique rows t u h k)
 same_texts rows (OfExplain t) other e h k = absurd (apart (codes "explain") (command_name other) refl e)
+same_texts rows (OfPage t) (OfPage u) e h k = ap OfPage (page_unique rows t u h k)
+same_texts rows (OfPage t) other e h k = absurd (apart (codes "page") (command_name other) refl e)
 same_texts rows (OfFault a) (OfFault b) e h k = ap OfFault (one_given _ a b h k)
 same_texts rows (OfFault a) other e h k = absurd (apart (codes "fault") (command_name other) refl e)
 
@@ -139,6 +151,7 @@ job_is_fit s (Replay file workers show format progress) h = h.2.1.2.within
 job_is_fit s (Changes file only format progress) h = tt
 job_is_fit s (Follow only strict format) h = tt
 job_is_fit s (Explain file address due format progress) h = tt
+job_is_fit s (Page file output progress) h = tt
 job_is_fit s (Fault number) h = tt
 
 -- ---- a known line

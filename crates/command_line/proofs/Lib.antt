@@ -8,4 +8,5 @@ pub mod ReplayLines
 pub mod ChangesLines
 pub mod ExplainLines
 pub mod FollowLines
+pub mod PageLines
 pub mod Jobs

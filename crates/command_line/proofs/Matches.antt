@@ -10,7 +10,7 @@ use Rattle.clap.specs.declared.parser.matches.Found.{Found}
 use Rattle.clap.specs.declared.parser.matches.SubCommand.{SubCommand}
 use Rattle.clap.specs.declared.parser.matches.ArgMatches.TheViews.{out-SubCommand}
 use Rattle.clap.proofs.WalkLemmas.{first_value-rows}
-use Rattle.command_line.specs.Command.{OneTexts, ReplayTexts, ChangesTexts, FollowTexts, ExplainTexts, HasChangesWords, HasDecodeWords, HasExplainWords, HasFollowWords, HasJob, HasJobWords, HasReplayWords, HasWords, IsJob, IsJobOf, JobTexts, OfOne, OfDecode, OfReplay, OfChanges, OfFollow, OfExplain, OfFault, command_name}
+use Rattle.command_line.specs.Command.{OneTexts, ReplayTexts, ChangesTexts, FollowTexts, ExplainTexts, PageTexts, HasChangesWords, HasDecodeWords, HasExplainWords, HasFollowWords, HasJob, HasJobWords, HasPageWords, HasReplayWords, HasWords, IsJob, IsJobOf, JobTexts, OfOne, OfDecode, OfReplay, OfChanges, OfFollow, OfExplain, OfPage, OfFault, command_name}
 use Rattle.command_line.specs.declared.command.Job.{Job}
 
 pub same_text : (xs ys : List ℕ) → bytes_eq xs ys ≡ true → xs ≡ ys
@@ -82,6 +82,10 @@ no_follow name rows is none other e h = apart (command_name other) (codes "follo
 pub no_explain : (name : Text) (rows : List Row) → name ≡ codes "explain" → ((t : ExplainTexts) → HasExplainWords rows t → ⊥) → NoJobOf name rows
 no_explain name rows is none (OfExplain t) e h = none t h
 no_explain name rows is none other e h = apart (command_name other) (codes "explain") refl (e ∙ is)
+
+pub no_page : (name : Text) (rows : List Row) → name ≡ codes "page" → ((t : PageTexts) → HasPageWords rows t → ⊥) → NoJobOf name rows
+no_page name rows is none (OfPage t) e h = none t h
+no_page name rows is none other e h = apart (command_name other) (codes "page") refl (e ∙ is)
 
 pub no_fault : (name : Text) (rows : List Row) → name ≡ codes "fault" → ((number : Text) → first_of (codes "NUMBER") rows ≡ Some number → ⊥) → NoJobOf name rows
 no_fault name rows is none (OfFault number) e h = none number h

@@ -1,5 +1,5 @@
 -- What the parse makes of the command line `abr replay` with a file, and with `--show`, `--workers`, `--format` or `--progress` behind it.
-use Rattle.std.proofs.Common.{ℕ, ◌≡◌, ◌==◌, ap, subst, refl, arith, eqb-true, lit<, Bool, true, false, List, [], ◌∷◌, None, codes}
+use Rattle.std.proofs.Common.{ℕ, ◌≡◌, ◌==◌, ap, inl, subst, refl, arith, eqb-true, lit<, Bool, true, false, List, [], ◌∷◌, None, codes}
 use Rattle.std.specs.Str.Parse.{IsNumeral, without_leading_plus}
 use Rattle.clap.specs.Lexer.{strip_byte}
 use Rattle.clap.specs.Walk.{Row, Text, nothing_held, rows_after, walked}
@@ -194,5 +194,5 @@ pub workers_faultless : (name file number : Text) (count : ℕ) → IsFileWord f
 workers_faultless name file number count p writes =
     let q = plain_number number writes.numeral in
     line_passes name (file ∷ codes "--workers" ∷ number ∷ [])
-    (given_faultless replay_sub (codes "workers") (codes "--workers") file number (waits_is file) (number_step file number q) refl p q (waits_fault file)
+    (given_faultless replay_sub (codes "workers") (codes "--workers") file number (waits_is file) (number_step file number q) refl p (inl q) (waits_fault file)
     (workers_ends file number (accepted number count writes)))

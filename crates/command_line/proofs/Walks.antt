@@ -75,6 +75,13 @@ option_step c h position id (x ∷ xs) p = go (x == 45) refl
     go true e = let bad : strip_byte 45 (x ∷ xs) ≡ Some xs = rw e refl in cc
     go false e = let none : short_of (x ∷ xs) ≡ None = rw e refl in rw (e, none) refl
 
+-- a value that may be a file
+pub option_file_step : (c : List Rule) (h : Held) (position : ℕ) (id word : Text) → IsFileWord word
+    → walked c [] (waiting_at h position id) word ≡ after_step c word (waiting_at h position id) (to_option c id word h).0 (to_option c id word h).1
+unfolding walked
+option_file_step c h position id word (inl p) = option_step c h position id word p
+option_file_step c h position id word (inr e) = rw e refl
+
 option_fault : (s : Shape) (h : Held) (position : ℕ) (id word : Text) → IsPlainWord word → turn_fault s [] (waiting_at h position id) word ≡ []
 option_fault s h position id [] p = refl
 option_fault s h position id (x ∷ xs) p = go (x == 45) refl
@@ -82,6 +89,10 @@ option_fault s h position id (x ∷ xs) p = go (x == 45) refl
     go : (b : Bool) → (x == 45) ≡ b → turn_fault s [] (waiting_at h position id) (x ∷ xs) ≡ []
     go true e = let bad : strip_byte 45 (x ∷ xs) ≡ Some xs = rw e refl in cc
     go false e = let none : short_of (x ∷ xs) ≡ None = rw e refl in rw (e, none) refl
+
+option_file_fault : (s : Shape) (h : Held) (position : ℕ) (id word : Text) → IsFileWord word → turn_fault s [] (waiting_at h position id) word ≡ []
+option_file_fault s h position id word (inl p) = option_fault s h position id word p
+option_file_fault s h position id word (inr e) = rw e refl
 
 module _ (s : Shape) where
   abbrev pub first_walk : Text → Walk
@@ -138,11 +149,11 @@ module _ (s : Shape) where
     pub walk_given_is : fold (walked s.rules []) before (flag ∷ given ∷ []) ≡ walk_given id before given
     walk_given_is = ap (λ (w : Walk). walked s.rules [] w given) waits ∙ step
 
-    pub given_walks : IsPlainWord given → turn_fault s [] before flag ≡ [] → walk_fault s [] before (flag ∷ given ∷ []) ≡ []
+    pub given_walks : IsFileWord given → turn_fault s [] before flag ≡ [] → walk_fault s [] before (flag ∷ given ∷ []) ≡ []
     unfolding walk_fault
     given_walks p none =
         faultless_cons s [] _ _ flag (given ∷ []) none waits
-        (faultless_cons s [] _ _ given [] (option_fault s (held_waiting id before) before.position id given p) step refl)
+        (faultless_cons s [] _ _ given [] (option_file_fault s (held_waiting id before) before.position id given p) step refl)
 
   -- an option behind the first word
   module _ (id flag word given : Text) (waits : walked s.rules [] (first_walk word) flag ≡ walk_waiting id (first_walk word))
@@ -152,7 +163,7 @@ module _ (s : Shape) where
         rows_at (word ∷ flag ∷ given ∷ []) (walk_given id (first_walk word) given)
         (walk_on_is word (flag ∷ given ∷ []) p ∙ walk_given_is id flag (first_walk word) given waits step)
 
-    pub given_faultless : step_fault s 1 nothing_held value ≡ [] → IsFileWord word → IsPlainWord given → turn_fault s [] (first_walk word) flag ≡ []
+    pub given_faultless : step_fault s 1 nothing_held value ≡ [] → IsFileWord word → IsFileWord given → turn_fault s [] (first_walk word) flag ≡ []
         → end_fault (walk_given id (first_walk word) given) ≡ [] → level_fault s [] nothing_held (word ∷ flag ∷ given ∷ []) false [] ≡ []
     given_faultless takes file p none ends =
         words_faultless word (flag ∷ given ∷ []) takes file (given_walks id flag (first_walk word) given waits step p none)

@@ -1,4 +1,4 @@
--- The command line: `abr one ROUTER AREA ADDRESS HEX LOOKUP`, `abr decode HEX [--long]`, `abr replay FILE [--workers N] [--show NAME] [--format NAME] [--progress]`, `abr changes FILE [--only PREFIX] [--format NAME] [--progress]`, `abr follow [--only PREFIX] [--strict] [--format NAME]`, `abr explain FILE ADDRESS [--due AREA] [--format NAME] [--progress]` and `abr fault NUMBER`.
+-- The command line: `abr one ROUTER AREA ADDRESS HEX LOOKUP`, `abr decode HEX [--long]`, `abr replay FILE [--workers N] [--show NAME] [--format NAME] [--progress]`, `abr changes FILE [--only PREFIX] [--format NAME] [--progress]`, `abr follow [--only PREFIX] [--strict] [--format NAME]`, `abr explain FILE ADDRESS [--due AREA] [--format NAME] [--progress]`, `abr page FILE [-o OUT] [--progress]` and `abr fault NUMBER`.
 use Rattle.std.specs.Prelude.{ℕ, ◌≡◌, ◌⊎◌, ◌≤◌, Bool, true, false, List, [], ◌∷◌, Option, Some, None, Result, MatchResult, codes, map, option_map}
 use Rattle.std.specs.Borrow.{Bor}
 use Rattle.std.specs.Str.{bytes_eq}
@@ -14,7 +14,7 @@ use Rattle.output_format.specs.declared.Show.{Show}
 use Rattle.output_format.specs.declared.Show.TheVariants.{Routes, Due, Lsdb, Journal}
 use Rattle.command_line.specs.declared.command.OneWords.{OneWords}
 use Rattle.command_line.specs.declared.command.Job.{Job}
-use Rattle.command_line.specs.declared.command.Job.TheVariants.{One, Decode, Replay, Changes, Follow, Explain, Fault}
+use Rattle.command_line.specs.declared.command.Job.TheVariants.{One, Decode, Replay, Changes, Follow, Explain, Page, Fault}
 use Rattle.command_line.specs.declared.command.Usage.{Usage}
 use Rattle.command_line.specs.declared.command.Usage.TheVariants.{Told, Memory}
 
@@ -40,6 +40,10 @@ only_option = record (new_rule (codes "only")) { long = Some (codes "only"); val
 -- `--due AREA`
 abbrev pub due_option : Rule
 due_option = record (new_rule (codes "due")) { long = Some (codes "due"); value_names = 1 }
+
+-- `-o OUT` or `--output OUT`
+abbrev pub output_option : Rule
+output_option = record (new_rule (codes "output")) { short = Some 111; long = Some (codes "output"); value_names = 1 }
 
 -- the flag `--progress`
 abbrev pub progress_flag : Rule
@@ -130,6 +134,9 @@ abbrev pub explain_command : References → App
 explain_command formats =
     with_rule (with_rule (with_rule (with_rule (file_command (codes "explain")) (required_word (codes "ADDRESS"))) due_option) (format_option formats)) progress_flag
 
+abbrev pub page_command : App
+page_command = with_rule (with_rule (file_command (codes "page")) output_option) progress_flag
+
 -- the command `abr replay`, wherever its references point
 abbrev pub IsReplayCommand : App → Type 0
 IsReplayCommand a = (shows formats : References) × AreShowNames shows × AreFormatNames formats × (a ≡ replay_command shows formats)
@@ -178,7 +185,7 @@ program_with p =
     let first = with_subcommand (with_subcommand top one_command.top) decode_command.top in
     let second = with_subcommand (with_subcommand first (replay_command p.shows p.of_replay).top) (changes_command p.of_changes).top in
     let third = with_subcommand (with_subcommand second (follow_command p.of_follow).top) (explain_command p.of_explain).top in
-    with_subcommand third fault_command.top
+    with_subcommand (with_subcommand third page_command.top) fault_command.top
 
 -- the program, wherever its references point
 abbrev pub IsProgram : App → Type 0
@@ -274,6 +281,12 @@ pub record ExplainTexts : Type 0 where
   pub format : Format
   pub progress : Bool
 
+-- what the words of `abr page` say
+pub record PageTexts : Type 0 where
+  pub file : Text
+  pub output : Option Text
+  pub progress : Bool
+
 -- the name of the form was given; if none was, the matches have `text`
 abbrev pub HasFormat : List Row → Format → Type 0
 HasFormat rows format = first_of (codes "format") rows ≡ Some (format_name format)
@@ -305,6 +318,10 @@ HasExplainWords rows t = (first_of (codes "FILE") rows ≡ Some t.file)
     × HasFormat rows t.format
     × HasFlag rows (codes "progress") t.progress
 
+-- this file was given, this file for the page or none, and `--progress` or not; if not, the matches have `false`
+abbrev pub HasPageWords : List Row → PageTexts → Type 0
+HasPageWords rows t = (first_of (codes "FILE") rows ≡ Some t.file) × (first_of (codes "output") rows ≡ t.output) × HasFlag rows (codes "progress") t.progress
+
 -- a job, with the texts of its words
 pub data JobTexts : Type 0 where
   OfOne : (texts : OneTexts) → JobTexts
@@ -313,6 +330,7 @@ pub data JobTexts : Type 0 where
   OfChanges : (texts : ChangesTexts) → JobTexts
   OfFollow : (texts : FollowTexts) → JobTexts
   OfExplain : (texts : ExplainTexts) → JobTexts
+  OfPage : (texts : PageTexts) → JobTexts
   OfFault : (number : Text) → JobTexts
 
 -- the text of the word, where there is one
@@ -328,6 +346,7 @@ job_texts (Changes file only format progress) = OfChanges (record { file = file.
 job_texts (Follow only strict format) = OfFollow (record { only = word_text only; strict = strict; format = format })
 job_texts (Explain file address due format progress) =
     OfExplain (record { file = file.now; address = address.now; due = word_text due; format = format; progress = progress })
+job_texts (Page file output progress) = OfPage (record { file = file.now; output = word_text output; progress = progress })
 job_texts (Fault number) = OfFault number.now
 
 -- the name of its command
@@ -338,6 +357,7 @@ command_name (OfReplay t) = codes "replay"
 command_name (OfChanges t) = codes "changes"
 command_name (OfFollow t) = codes "follow"
 command_name (OfExplain t) = codes "explain"
+command_name (OfPage t) = codes "page"
 command_name (OfFault number) = codes "fault"
 
 -- its words were given
@@ -348,6 +368,7 @@ HasJobWords rows (OfReplay t) = HasReplayWords rows t
 HasJobWords rows (OfChanges t) = HasChangesWords rows t
 HasJobWords rows (OfFollow t) = HasFollowWords rows t
 HasJobWords rows (OfExplain t) = HasExplainWords rows t
+HasJobWords rows (OfPage t) = HasPageWords rows t
 HasJobWords rows (OfFault number) = first_of (codes "NUMBER") rows ≡ Some number
 
 -- the job is one of the command with this name, and its words were given
@@ -374,6 +395,7 @@ IsFit (Replay file workers show format progress) = AreWorkers workers
 IsFit (Changes file only format progress) = Unit {0}
 IsFit (Follow only strict format) = Unit {0}
 IsFit (Explain file address due format progress) = Unit {0}
+IsFit (Page file output progress) = Unit {0}
 IsFit (Fault number) = Unit {0}
 
 -- A mistake is one that the command line has. If no mistake is found and there is no job, a word is missing.
@@ -477,6 +499,22 @@ explain_format_line name file address format = name ∷ codes "explain" ∷ file
 abbrev pub explain_progress_line : Text → Text → Text → List Text
 explain_progress_line name file address = name ∷ codes "explain" ∷ file ∷ address ∷ codes "--progress" ∷ []
 
+-- the command line `abr page` with this file, whatever the program is called
+abbrev pub page_line : Text → Text → List Text
+page_line name file = name ∷ codes "page" ∷ file ∷ []
+
+-- a word that names the file for the page
+abbrev pub IsOutputFlag : Text → Type 0
+IsOutputFlag flag = (flag ≡ codes "-o") ⊎ (flag ≡ codes "--output")
+
+-- the command line `abr page` with this file, `-o` or `--output`, and the file for the page
+abbrev pub output_line : Text → Text → Text → Text → List Text
+output_line name file flag output = name ∷ codes "page" ∷ file ∷ flag ∷ output ∷ []
+
+-- the command line `abr page` with this file and `--progress`
+abbrev pub page_progress_line : Text → Text → List Text
+page_progress_line name file = name ∷ codes "page" ∷ file ∷ codes "--progress" ∷ []
+
 -- the command line `abr fault` with this word, whatever the program is called
 abbrev pub fault_line : Text → Text → List Text
 fault_line name number = name ∷ codes "fault" ∷ number ∷ []
@@ -498,6 +536,10 @@ plain_follow = record { only = None; strict = false; format = form.Text }
 -- `abr explain` with this file and this address only: by the routing table, as text, without progress
 abbrev pub plain_explain : Text → Text → ExplainTexts
 plain_explain file address = record { file = file; address = address; due = None; format = form.Text; progress = false }
+
+-- `abr page` with this file only: the page to standard output, without progress
+abbrev pub plain_page : Text → PageTexts
+plain_page file = record { file = file; output = None; progress = false }
 
 -- the command line that the words are
 abbrev pub command_words : List (Bor Text) → List Text
@@ -569,6 +611,16 @@ GivesDue line result =
     (name file address area : Text) → line ≡ due_line name file address area
     → IsFileWord file → IsPlainWord address → IsPlainWord area → GivesJob result (OfExplain (record (plain_explain file address) { due = Some area }))
 
+-- if the line is `abr page` with a file, the job writes the page of it to standard output, without progress
+abbrev pub GivesPage : List Text → Result Job Usage → Type 0
+GivesPage line result = (name file : Text) → line ≡ page_line name file → IsFileWord file → GivesJob result (OfPage (plain_page file))
+
+-- if the line is `abr page` with a file, `-o` or `--output`, and another, the job writes the page of the first to the second
+abbrev pub GivesOutput : List Text → Result Job Usage → Type 0
+GivesOutput line result =
+    (name file flag output : Text) → line ≡ output_line name file flag output → IsOutputFlag flag
+    → IsFileWord file → IsFileWord output → GivesJob result (OfPage (record (plain_page file) { output = Some output }))
+
 -- if the line is `abr replay` with a file and `--format`, the job is `replay` of it, in that form
 abbrev pub GivesReplayFormat : List Text → Result Job Usage → Type 0
 GivesReplayFormat line result =
@@ -615,9 +667,16 @@ GivesExplainProgress line result =
     (name file address : Text) → line ≡ explain_progress_line name file address
     → IsFileWord file → IsPlainWord address → GivesJob result (OfExplain (record (plain_explain file address) { progress = true }))
 
+-- if the line is `abr page` with a file and `--progress`, the job writes the page of it, with progress
+abbrev pub GivesPageProgress : List Text → Result Job Usage → Type 0
+GivesPageProgress line result =
+    (name file : Text) → line ≡ page_progress_line name file
+    → IsFileWord file → GivesJob result (OfPage (record (plain_page file) { progress = true }))
+
 -- `--progress` asks for progress, in each command that takes it
 abbrev pub GivesProgress : List Text → Result Job Usage → Type 0
-GivesProgress line result = GivesReplayProgress line result × GivesChangesProgress line result × GivesExplainProgress line result
+GivesProgress line result =
+    GivesReplayProgress line result × GivesChangesProgress line result × GivesExplainProgress line result × GivesPageProgress line result
 
 -- if the line is `abr fault` with a plain word, the job is `fault` with it
 abbrev pub GivesFault : List Text → Result Job Usage → Type 0

@@ -63,6 +63,13 @@ pub enum Job<'a> {
         format: Format,
         progress: bool,
     },
+    /// `abr page`, with its file (`-` is standard input), the file that the page is written to (if there is
+    /// none, and for `-`, it is standard output), and whether it was asked to show how many lines are done.
+    Page {
+        file: &'a str,
+        output: Option<&'a str>,
+        progress: bool,
+    },
     /// `abr fault`, with the word that is to be a number.
     Fault(&'a str),
 }

@@ -4,7 +4,7 @@ ghost use Rattle.clap.specs.Words.{Text, app_of, rows_of, found_of, rule_of, sub
 ghost use Rattle.clap.specs.declared.builder.command.Command.TheViews.{out-Command};
 ghost use Rattle.output_format.specs.declared.Format.{Format};
 ghost use Rattle.output_format.specs.declared.Show.{Show};
-ghost use Rattle.command_line.specs.Command.{one_command, decode_command, fault_command, program, required_word, show_name, format_name, References, AreShowNames, AreFormatNames, OneTexts, ReplayTexts, ChangesTexts, FollowTexts, ExplainTexts, texts_of, HasWords, HasJob, IsJob, IsJobOf, IsMistake, IsProgram, IsReplayCommand, IsChangesCommand, IsFollowCommand, IsExplainCommand, IsShowOption, IsFormatOption, HasDecodeWords, HasFlag, HasReplayWords, HasChangesWords, HasFollowWords, HasExplainWords, IsFit, WritesWorkers, workers_option, long_flag, only_option, due_option, strict_flag, progress_flag, command_words, GivesChanges, GivesDecode, GivesDue, GivesExplain, GivesFault, GivesFollow, GivesFollowOnly, GivesFormat, GivesLong, GivesOne, GivesOnly, GivesProgress, GivesReplay, GivesShow, GivesStrict, GivesWorkers};
+ghost use Rattle.command_line.specs.Command.{one_command, decode_command, page_command, fault_command, program, required_word, show_name, format_name, References, AreShowNames, AreFormatNames, OneTexts, ReplayTexts, ChangesTexts, FollowTexts, ExplainTexts, PageTexts, texts_of, HasWords, HasJob, IsJob, IsJobOf, IsMistake, IsProgram, IsReplayCommand, IsChangesCommand, IsFollowCommand, IsExplainCommand, IsShowOption, IsFormatOption, HasDecodeWords, HasFlag, HasReplayWords, HasChangesWords, HasFollowWords, HasExplainWords, HasPageWords, IsFit, WritesWorkers, workers_option, long_flag, only_option, due_option, output_option, strict_flag, progress_flag, command_words, GivesChanges, GivesDecode, GivesDue, GivesExplain, GivesFault, GivesFollow, GivesFollowOnly, GivesFormat, GivesLong, GivesOne, GivesOnly, GivesOutput, GivesPage, GivesProgress, GivesReplay, GivesShow, GivesStrict, GivesWorkers};
 
 use crate::command::{Job, OneWords, Usage};
 use clap::builder::ValueParser;
@@ -56,6 +56,8 @@ pub fn job<'a>(alloc: Global, words: &'a [&'a str]) -> Result<Job<'a>, Usage>
     ensures follow_only { GivesFollowOnly (command_words words.entry.now) result }
     ensures explain { GivesExplain (command_words words.entry.now) result }
     ensures due { GivesDue (command_words words.entry.now) result }
+    ensures page { GivesPage (command_words words.entry.now) result }
+    ensures output { GivesOutput (command_words words.entry.now) result }
     ensures format { GivesFormat (command_words words.entry.now) result }
     ensures progress { GivesProgress (command_words words.entry.now) result }
     ensures fault { GivesFault (command_words words.entry.now) result }
@@ -106,6 +108,8 @@ fn job_in<'a>(matches: &ArgMatches<'a>) -> Option<Job<'a>>
         follow_job(words)
     } else if name == "explain" {
         explain_job(words)
+    } else if name == "page" {
+        page_job(words)
     } else if name == "fault" {
         Some(Job::Fault(words.get_str("NUMBER")?))
     } else {
@@ -159,6 +163,18 @@ fn explain_job<'a>(words: &ArgMatches<'a>) -> Option<Job<'a>>
         address: words.get_str("ADDRESS")?,
         due: words.get_str("due"),
         format: format_of(words.get_str("format")?)?,
+        progress: progress_of(words)?,
+    })
+}
+
+fn page_job<'a>(words: &ArgMatches<'a>) -> Option<Job<'a>>
+    ensures some { IfSome result (IsJobOf (codes "page") (rows_of (found_of words.now))) }
+    ensures none { IsNone result → (t : PageTexts)
+        → ¬ HasPageWords (rows_of (found_of words.now)) t }
+{
+    Some(Job::Page {
+        file: words.get_str("FILE")?,
+        output: words.get_str("output"),
         progress: progress_of(words)?,
     })
 }
@@ -254,6 +270,7 @@ fn program_command<'a>(alloc: Global) -> Result<Command<'a>, AllocError>
         .subcommand(changes(alloc)?)?
         .subcommand(follow(alloc)?)?
         .subcommand(explain(alloc)?)?
+        .subcommand(page(alloc)?)?
         .subcommand(fault(alloc)?)
 }
 
@@ -337,6 +354,18 @@ fn explain<'a>(alloc: Global) -> Result<Command<'a>, AllocError>
         .arg(progress_flag(alloc))
 }
 
+fn page<'a>(alloc: Global) -> Result<Command<'a>, AllocError>
+    ensures app { IfOk result (λ c. app_of c ≡ page_command) }
+    ensures local { IfOk result (λ c. (out-Command c).has_globals ≡ false) }
+{
+    Command::new(alloc, "page")
+        .about("Writes a page that shows the networks, the routing table and the due summaries")
+        .after_help("Example: abr page examples/border_router.rec -o network.html")
+        .arg(word(alloc, "FILE", FILE_HELP))?
+        .arg(output_option(alloc))?
+        .arg(progress_flag(alloc))
+}
+
 fn fault<'a>(alloc: Global) -> Result<Command<'a>, AllocError>
     ensures app { IfOk result (λ c. app_of c ≡ fault_command) }
     ensures local { IfOk result (λ c. (out-Command c).has_globals ≡ false) }
@@ -394,6 +423,17 @@ fn due_option<'a>(alloc: Global) -> Arg<'a>
     Arg::new(alloc, "due").long("due").value_name("AREA").help(
         "Explains why a summary for ADDRESS is due in this area, or is not",
     )
+}
+
+fn output_option<'a>(alloc: Global) -> Arg<'a>
+    ensures rule { rule_of result ≡ output_option }
+    ensures local { result.global ≡ false }
+{
+    Arg::new(alloc, "output")
+        .short('o')
+        .long("output")
+        .value_name("OUT")
+        .help("The file that the page is written to; without it, standard output")
 }
 
 fn workers_option<'a>(alloc: Global) -> Arg<'a>

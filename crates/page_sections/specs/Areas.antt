@@ -9,8 +9,8 @@ use Rattle.ospf_types.specs.declared.config.Stub.{Stub}
 abbrev pub legend_text : List ℕ
 legend_text = concat (
     codes "<p class=\"legend\">\n"
-    ∷ codes "<svg width=\"30\" height=\"20\"><path class=\"tree\" d=\"M2 10H28\"/></svg> shortest-path tree,\n"
-    ∷ codes "<svg width=\"30\" height=\"20\"><path class=\"link\" d=\"M2 10H28\"/></svg> other link, each with its cost;\n"
+    ∷ codes "<svg width=\"30\" height=\"20\"><path class=\"tree\" d=\"M2 10H28\"/></svg> shortest-path tree with its costs,\n"
+    ∷ codes "<svg width=\"30\" height=\"20\"><path class=\"link\" d=\"M2 10H28\"/></svg> other link (point at a link for its cost);\n"
     ∷ codes "<svg width=\"20\" height=\"20\"><circle class=\"root\" cx=\"10\" cy=\"10\" r=\"8\"/></svg> this router,\n"
     ∷ codes "<svg width=\"20\" height=\"20\"><circle class=\"r\" cx=\"10\" cy=\"10\" r=\"8\"/></svg> another router\n"
     ∷ codes "(B: area border router, E: AS boundary router),\n"

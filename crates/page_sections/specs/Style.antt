@@ -32,6 +32,8 @@ style_text = concat (
     ∷ codes "pre{padding:.75rem;overflow-x:auto;background:var(--head);font:13px/1.5 ui-monospace,monospace}\n"
     ∷ codes ".picture{overflow-x:auto;margin:.5rem 0 1rem;border:1px solid var(--rule);border-radius:4px}\n"
     ∷ codes ".picture svg{display:block}\n"
+    ∷ codes "svg{background:var(--page)}\n"
+    ∷ codes ".t,.s{paint-order:stroke;stroke:var(--page);stroke-width:3px}\n"
     ∷ codes ".t{font:12px sans-serif;fill:var(--text)}\n"
     ∷ codes ".s{font:10px sans-serif;fill:var(--quiet)}\n"
     ∷ codes ".c{font:bold 10px sans-serif;fill:var(--scale)}\n"

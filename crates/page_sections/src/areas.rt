@@ -8,8 +8,8 @@ use ospf_types::memory::Memory;
 
 // What the marks of a picture mean, each beside its mark.
 const LEGEND: &str = "<p class=\"legend\">
-<svg width=\"30\" height=\"20\"><path class=\"tree\" d=\"M2 10H28\"/></svg> shortest-path tree,
-<svg width=\"30\" height=\"20\"><path class=\"link\" d=\"M2 10H28\"/></svg> other link, each with its cost;
+<svg width=\"30\" height=\"20\"><path class=\"tree\" d=\"M2 10H28\"/></svg> shortest-path tree with its costs,
+<svg width=\"30\" height=\"20\"><path class=\"link\" d=\"M2 10H28\"/></svg> other link (point at a link for its cost);
 <svg width=\"20\" height=\"20\"><circle class=\"root\" cx=\"10\" cy=\"10\" r=\"8\"/></svg> this router,
 <svg width=\"20\" height=\"20\"><circle class=\"r\" cx=\"10\" cy=\"10\" r=\"8\"/></svg> another router
 (B: area border router, E: AS boundary router),

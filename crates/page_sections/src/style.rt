@@ -30,6 +30,8 @@ input{width:min(26rem,80vw);padding:.35rem .6rem;border:1px solid var(--edge);bo
 pre{padding:.75rem;overflow-x:auto;background:var(--head);font:13px/1.5 ui-monospace,monospace}
 .picture{overflow-x:auto;margin:.5rem 0 1rem;border:1px solid var(--rule);border-radius:4px}
 .picture svg{display:block}
+svg{background:var(--page)}
+.t,.s{paint-order:stroke;stroke:var(--page);stroke-width:3px}
 .t{font:12px sans-serif;fill:var(--text)}
 .s{font:10px sans-serif;fill:var(--quiet)}
 .c{font:bold 10px sans-serif;fill:var(--scale)}

@@ -1,11 +1,12 @@
 use Rattle.std.proofs.Common.{Some, true, false, sym, map, subst, inr, refl}
-use Rattle.command_line.specs.Command.{HasJob, IsJob, OfOne, OfDecode, OfReplay, OfChanges, OfFollow, OfExplain, OfFault, one_line, decode_line, long_line, replay_line, workers_line, show_line, changes_line, only_line, follow_line, strict_line, follow_only_line, explain_line, due_line, fault_line, plain_replay, plain_changes, plain_follow, plain_explain, replay_format_line, changes_format_line, follow_format_line, explain_format_line, replay_progress_line, changes_progress_line, explain_progress_line}
+use Rattle.command_line.specs.Command.{HasJob, IsJob, OfOne, OfDecode, OfReplay, OfChanges, OfFollow, OfExplain, OfPage, OfFault, one_line, decode_line, long_line, replay_line, workers_line, show_line, changes_line, only_line, follow_line, strict_line, follow_only_line, explain_line, due_line, page_line, output_line, fault_line, plain_replay, plain_changes, plain_follow, plain_explain, plain_page, replay_format_line, changes_format_line, follow_format_line, explain_format_line, replay_progress_line, changes_progress_line, explain_progress_line, page_progress_line}
 use Rattle.command_line.proofs.Jobs.{gives, has_job, job_is_fit, mistake_is, only_memory}
 use Rattle.command_line.proofs.Line.{one_has, one_faultless, decode_has, decode_faultless, long_has, long_faultless, fault_has, fault_faultless}
 use Rattle.command_line.proofs.ReplayLines.{replay_has, replay_faultless, workers_has, workers_faultless, show_has, show_faultless, replay_format_has, replay_format_faultless, replay_progress_has, replay_progress_faultless}
 use Rattle.command_line.proofs.ChangesLines.{changes_has, changes_faultless, only_has, only_faultless, changes_format_has, changes_format_faultless, changes_progress_has, changes_progress_faultless}
 use Rattle.command_line.proofs.ExplainLines.{explain_has, explain_faultless, due_has, due_faultless, explain_format_has, explain_format_faultless, explain_progress_has, explain_progress_faultless}
 use Rattle.command_line.proofs.FollowLines.{follow_has, follow_faultless, strict_has, strict_faultless, follow_only_has, follow_only_faultless, follow_format_has, follow_format_faultless}
+use Rattle.command_line.proofs.PageLines.{page_has, page_faultless, output_has, output_faultless, page_progress_has, page_progress_faultless}
 use Rattle.command_line.proofs.Names.{met_as_given, fails_as_given}
 use Rattle.command_line.proofs.command_line.job.Goals as goal
 
@@ -82,6 +83,16 @@ returns-in-Some-clause-due c name file address area is plain plain_address plain
     let given = met_as_given _ c.in-Ok.matches _ c.in_ok-command.ensures c.in-Ok.ensures.matches in
     gives _ _ (due_line name file address area) c.in-Some.job (OfExplain (record (plain_explain file address) { due = Some area })) given c.in-Some.ensures.some is (due_has name file address area plain plain_address plain_area)
 
+pub returns-in-Some-clause-page : goal.returns-in-Some-clause-page
+returns-in-Some-clause-page c name file is plain =
+    let given = met_as_given _ c.in-Ok.matches _ c.in_ok-command.ensures c.in-Ok.ensures.matches in
+    gives _ _ (page_line name file) c.in-Some.job (OfPage (plain_page file)) given c.in-Some.ensures.some is (page_has name file plain)
+
+pub returns-in-Some-clause-output : goal.returns-in-Some-clause-output
+returns-in-Some-clause-output c name file flag output is flagged plain plain_output =
+    let given = met_as_given _ c.in-Ok.matches _ c.in_ok-command.ensures c.in-Ok.ensures.matches in
+    gives _ _ (output_line name file flag output) c.in-Some.job (OfPage (record (plain_page file) { output = Some output })) given c.in-Some.ensures.some is (output_has name file flag output flagged plain plain_output)
+
 pub returns-in-Some-clause-format : goal.returns-in-Some-clause-format
 returns-in-Some-clause-format c =
     let given = met_as_given _ c.in-Ok.matches _ c.in_ok-command.ensures c.in-Ok.ensures.matches in (
@@ -97,6 +108,7 @@ returns-in-Some-clause-progress c =
       λ name file is plain. gives _ _ (replay_progress_line name file) c.in-Some.job (OfReplay (record (plain_replay file) { progress = true })) given c.in-Some.ensures.some is (replay_progress_has name file plain),
       λ name file is plain. gives _ _ (changes_progress_line name file) c.in-Some.job (OfChanges (record (plain_changes file) { progress = true })) given c.in-Some.ensures.some is (changes_progress_has name file plain),
       λ name file address is plain plain_address. gives _ _ (explain_progress_line name file address) c.in-Some.job (OfExplain (record (plain_explain file address) { progress = true })) given c.in-Some.ensures.some is (explain_progress_has name file address plain plain_address),
+      λ name file is plain. gives _ _ (page_progress_line name file) c.in-Some.job (OfPage (record (plain_page file) { progress = true })) given c.in-Some.ensures.some is (page_progress_has name file plain),
     )
 
 pub returns-in-Some-clause-fault : goal.returns-in-Some-clause-fault
@@ -174,6 +186,16 @@ returns-in-Ok-clause-due c name file address area is plain plain_address plain_a
     let given = met_as_given _ c.in-Ok.matches _ c.in_ok-command.ensures c.in-Ok.ensures.matches in
     absurd (c.in-None.ensures.none refl (has_job _ _ (due_line name file address area) (OfExplain (record (plain_explain file address) { due = Some area })) given is (due_has name file address area plain plain_address plain_area)))
 
+pub returns-in-Ok-clause-page : goal.returns-in-Ok-clause-page
+returns-in-Ok-clause-page c name file is plain =
+    let given = met_as_given _ c.in-Ok.matches _ c.in_ok-command.ensures c.in-Ok.ensures.matches in
+    absurd (c.in-None.ensures.none refl (has_job _ _ (page_line name file) (OfPage (plain_page file)) given is (page_has name file plain)))
+
+pub returns-in-Ok-clause-output : goal.returns-in-Ok-clause-output
+returns-in-Ok-clause-output c name file flag output is flagged plain plain_output =
+    let given = met_as_given _ c.in-Ok.matches _ c.in_ok-command.ensures c.in-Ok.ensures.matches in
+    absurd (c.in-None.ensures.none refl (has_job _ _ (output_line name file flag output) (OfPage (record (plain_page file) { output = Some output })) given is (output_has name file flag output flagged plain plain_output)))
+
 pub returns-in-Ok-clause-format : goal.returns-in-Ok-clause-format
 returns-in-Ok-clause-format c =
     let given = met_as_given _ c.in-Ok.matches _ c.in_ok-command.ensures c.in-Ok.ensures.matches in (
@@ -189,6 +211,7 @@ returns-in-Ok-clause-progress c =
       λ name file is plain. absurd (c.in-None.ensures.none refl (has_job _ _ (replay_progress_line name file) (OfReplay (record (plain_replay file) { progress = true })) given is (replay_progress_has name file plain))),
       λ name file is plain. absurd (c.in-None.ensures.none refl (has_job _ _ (changes_progress_line name file) (OfChanges (record (plain_changes file) { progress = true })) given is (changes_progress_has name file plain))),
       λ name file address is plain plain_address. absurd (c.in-None.ensures.none refl (has_job _ _ (explain_progress_line name file address) (OfExplain (record (plain_explain file address) { progress = true })) given is (explain_progress_has name file address plain plain_address))),
+      λ name file is plain. absurd (c.in-None.ensures.none refl (has_job _ _ (page_progress_line name file) (OfPage (record (plain_page file) { progress = true })) given is (page_progress_has name file plain))),
     )
 
 pub returns-in-Ok-clause-fault : goal.returns-in-Ok-clause-fault
@@ -266,6 +289,16 @@ returns-clause-due c name file address area is plain plain_address plain_area =
     let fails = fails_as_given _ _ c.in-Err.error c.in_ok-command.ensures c.in-Err.ensures.kinds in
     only_memory _ _ c.in-Err.error _ fails c.usage_of.ensures is (due_faultless name file address area plain plain_address plain_area)
 
+pub returns-clause-page : goal.returns-clause-page
+returns-clause-page c name file is plain =
+    let fails = fails_as_given _ _ c.in-Err.error c.in_ok-command.ensures c.in-Err.ensures.kinds in
+    only_memory _ _ c.in-Err.error _ fails c.usage_of.ensures is (page_faultless name file plain)
+
+pub returns-clause-output : goal.returns-clause-output
+returns-clause-output c name file flag output is flagged plain plain_output =
+    let fails = fails_as_given _ _ c.in-Err.error c.in_ok-command.ensures c.in-Err.ensures.kinds in
+    only_memory _ _ c.in-Err.error _ fails c.usage_of.ensures is (output_faultless name file flag output flagged plain plain_output)
+
 pub returns-clause-format : goal.returns-clause-format
 returns-clause-format c =
     let fails = fails_as_given _ _ c.in-Err.error c.in_ok-command.ensures c.in-Err.ensures.kinds in (
@@ -281,6 +314,7 @@ returns-clause-progress c =
       λ name file is plain. only_memory _ _ c.in-Err.error _ fails c.usage_of.ensures is (replay_progress_faultless name file plain),
       λ name file is plain. only_memory _ _ c.in-Err.error _ fails c.usage_of.ensures is (changes_progress_faultless name file plain),
       λ name file address is plain plain_address. only_memory _ _ c.in-Err.error _ fails c.usage_of.ensures is (explain_progress_faultless name file address plain plain_address),
+      λ name file is plain. only_memory _ _ c.in-Err.error _ fails c.usage_of.ensures is (page_progress_faultless name file plain),
     )
 
 pub returns-clause-fault : goal.returns-clause-fault

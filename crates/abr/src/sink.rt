@@ -1,0 +1,63 @@
+use crate::output::Output;
+use abr_cli::{Job, Usage};
+use std::io;
+use std::io::{IsTerminal, Stderr, Stdout, Write};
+
+/// Where the answer of a command is written to.
+#[derive(Drop)]
+pub enum Sink<'a> {
+    Standard(Stdout),
+    File(Output<'a>),
+}
+
+impl<'a> Sink<'a> {
+    /// The file that the job names for a page, and standard output for `-` and for each other job.
+    pub fn of(rt: &'a HostRuntime, job: &Result<Job<'a>, Usage>) -> Sink<'a> {
+        match job {
+            Ok(
+                Job::Page {
+                    output: Some(name),
+                    ..
+                },
+            ) if !is_standard(name) => Sink::File(Output::new(rt, name)),
+            _ => Sink::Standard(rt.stdout()),
+        }
+    }
+
+    pub fn is_terminal(&self) -> bool {
+        match self {
+            Sink::Standard(out) => out.is_terminal(),
+            Sink::File(_) => false,
+        }
+    }
+
+    /// Ends the writing. A file gets what was written where the status is 0, and else stays as it was. Where it cannot get it,
+    /// that is said in `faults`. What is returned is the status.
+    pub fn end(self, status: u8, faults: &mut Stderr) -> u8 {
+        match self {
+            Sink::Standard(_) => status,
+            Sink::File(output) => output.end(status, faults),
+        }
+    }
+}
+
+// Whether the name is one of standard output.
+fn is_standard(name: &str) -> bool {
+    name == "-" || name == "/dev/stdout" || name == "/dev/fd/1" || name == "/proc/self/fd/1"
+}
+
+impl Write for Sink<'_> {
+    fn write(&mut self, bytes: &[u8]) -> io::Result<usize> {
+        match self {
+            Sink::Standard(out) => out.write(bytes),
+            Sink::File(output) => output.write(bytes),
+        }
+    }
+
+    fn flush(&mut self) -> io::Result<()> {
+        match self {
+            Sink::Standard(out) => out.flush(),
+            Sink::File(output) => output.flush(),
+        }
+    }
+}

@@ -1,0 +1,79 @@
+//! The command `page`.
+ghost use Rattle.std.specs.Prelude.{◌≡◌};
+ghost use Rattle.abr_cli.specs.Paging.{unwritten as unwritten_file, IsPageEndSaid, IsPageTold};
+
+use crate::replaying::{say_end, say_fault};
+use command_answers::CommandFault;
+use page_replay::page_one;
+use replay::{Progress, ReplayFault};
+use std::alloc::Global;
+use std::hash::RandomState;
+use std::io;
+use worker_replay::ManyFault;
+
+/// The command `page`, as it was given.
+#[derive(Clone, Copy)]
+pub struct Page<'a> {
+    /// The recording's name.
+    pub file: &'a str,
+    /// The name of the file that the page is written to, where it is not standard output.
+    pub output: Option<&'a str>,
+    /// Whether it is shown how much of the recording is done.
+    pub progress: bool,
+}
+
+impl Page<'_> {
+    /// Runs the recording that comes from `input`, and writes its page to `out`. How much is done, and why there is no page, is
+    /// written to `faults`, where a file that cannot be written is named; what is returned is the status, 0 or 1.
+    pub fn run<R: io::Read, W: io::Write, F: io::Write>(
+        self,
+        alloc: Global,
+        hashing: RandomState,
+        input: &mut R,
+        out: &mut W,
+        faults: &mut F,
+    ) -> u8
+        ensures { IsPageTold self.entry result (R.remaining input.old) (R.remaining input.new)
+            (W.contents out.old) (W.contents out.new) (F.contents faults.old)
+            (F.contents faults.new) }
+    {
+        let progress = Progress {
+            is_shown: self.progress,
+            all: None,
+        };
+        progress.show(alloc, 0, faults);
+        let ended = page_one(alloc, hashing, self.progress, input, out, faults);
+        progress.end(faults);
+        match ended {
+            Ok(()) => 0,
+            Err(fault) => say_page_end(alloc, self.file, self.output, fault, faults),
+        }
+    }
+}
+
+// Says why there is no page.
+fn say_page_end<F: io::Write>(
+    alloc: Global,
+    file: &str,
+    output: Option<&str>,
+    fault: ReplayFault,
+    faults: &mut F,
+) -> u8
+    ensures { IsPageEndSaid file.entry output.entry fault result (F.contents faults.old)
+        (F.contents faults.new) }
+{
+    match unwritten(output, fault) {
+        Some(name) => say_fault(alloc, CommandFault::WriteTo(name), faults),
+        None => say_end(alloc, file, ManyFault::Replay(fault), faults),
+    }
+}
+
+// The file that could not be written, if this is why there is no page.
+fn unwritten(output: Option<&str>, fault: ReplayFault) -> Option<&str>
+    ensures { result ≡ unwritten_file output.entry fault }
+{
+    match fault {
+        ReplayFault::Write => output,
+        _ => None,
+    }
+}

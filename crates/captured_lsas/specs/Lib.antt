@@ -1,0 +1,10 @@
+pub mod Payloads
+pub mod Hearing
+pub mod Given
+pub mod Reading
+pub mod Progress
+pub mod Seconds
+pub mod Recording
+pub mod Updates
+pub mod Packets
+pub mod History

@@ -1,0 +1,20 @@
+//! The OSPF packets that a capture has, and what their LSAs come to as events of a recording. There is no
+//! input or output here: a caller reads the capture, and prints the recording.
+#![tactic(auto)]
+
+mod given;
+mod heard;
+mod listener;
+mod options;
+mod reading;
+mod recorded;
+mod recorder;
+mod taken;
+
+pub use heard::{Heard, Payload};
+pub use listener::Listener;
+pub use options::Options;
+pub use ospf_types::memory::Memory;
+pub use recorded::Recorded;
+pub use recorder::Recorder;
+pub use taken::Taken;

@@ -1,0 +1,20 @@
+ghost use Rattle.std.specs.Prelude.{◌≡◌, ◌≤◌, length, IfOk, IfErr, Some, None};
+ghost use Rattle.lsa_codec.specs.Faults.{fault_of};
+ghost use Rattle.captured_lsas.specs.Reading.{IsReading};
+
+use lsa_codec::{Checked, WireFault, read};
+use ospf_types::memory::Memory;
+use std::alloc::Global;
+
+/// Bytes as an LSA, or why they are none.
+pub(crate) type Reading = Result<Checked, WireFault>;
+
+/// Reads an LSA.
+pub(crate) fn read_lsa(alloc: Global, bytes: &[u8]) -> Result<Reading, Memory>
+    ensures { IfOk result (IsReading bytes.now) }
+{
+    match read(alloc, bytes) {
+        Err(WireFault::Memory) => Err(Memory),
+        reading => Ok(reading),
+    }
+}

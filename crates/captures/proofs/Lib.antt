@@ -1,0 +1,15 @@
+pub mod Units
+pub mod Walking
+pub mod Steady
+pub mod SteadyBlocks
+pub mod Written
+pub mod WrittenFrames
+pub mod WrittenBlocks
+pub mod WrittenOptions
+pub mod WrittenSections
+pub mod AllWritten
+pub mod Told
+pub mod ToldBodies
+pub mod ToldBlocks
+pub mod Runs
+pub mod RunsOfBlocks

@@ -1,0 +1,67 @@
+-- What is read was written: no other bytes are taken for a packet or an interface.
+use Rattle.std.specs.Prelude.{ℕ, ◌≡◌, ◌+◌, ◌^◌, ◌<◌, ◌≤◌, List, ◌++◌, length, drop, Result, Ok, Err}
+use Rattle.captures.specs.declared.fault.FaultKind.{FaultKind}
+use Rattle.captures.specs.declared.frame.BlockKind.{BlockKind}
+use Rattle.captures.specs.declared.front.Format.TheVariants as Format
+use Rattle.captures.specs.declared.front.Front.{Front}
+use Rattle.captures.specs.declared.front.Front.TheVariants.{Short, Header, Declared, Other, Captured}
+use Rattle.captures.specs.declared.front.TheConstants.{MOST_CAPTURED}
+use Rattle.captures.specs.declared.order.Order.{Order}
+use Rattle.captures.specs.declared.pcap.PcapFile.{PcapFile}
+use Rattle.captures.specs.Reading.{State, front_of}
+use Rattle.captures.specs.Writing.{FilePacket, IsLegalFilePacket, file_packet_bytes}
+use Rattle.captures.specs.WritingBlocks.{block_bytes, IsLegalBody, TimedPacket, IsLegalTimed, interface_body, enhanced_body, obsolete_body, simple_body}
+
+-- an interface or a packet stands in front
+abbrev pub IsTold : Result Front FaultKind → Type 0
+IsTold (Err fault) = ⊥
+IsTold (Ok (Short needed)) = ⊥
+IsTold (Ok (Header format size)) = ⊥
+IsTold (Ok (Declared interface size)) = Unit {0}
+IsTold (Ok (Other size)) = ⊥
+IsTold (Ok (Captured header size)) = Unit {0}
+
+-- what is read as a packet of a pcap was written as one
+abbrev pub WasFilePacket : State → List ℕ → Type 0
+WasFilePacket s bytes =
+    (file : PcapFile) → s.format ≡ Format.Pcap file → IsTold (front_of s bytes)
+    → (p : FilePacket) × IsLegalFilePacket p × (bytes ≡ file_packet_bytes file.magic.order p ++ drop (16 + length p.bytes) bytes)
+
+-- ---- a pcapng: the body of a block, by the type
+
+abbrev pub IsInterfaceBody : Order → List ℕ → Type 0
+IsInterfaceBody order body =
+    (link reserved snap_length : ℕ) × (options : List ℕ) × (link < 2 ^ 16) × (snap_length < 2 ^ 32)
+    × (body ≡ interface_body order link reserved snap_length options)
+
+abbrev pub IsEnhancedBody : Order → List ℕ → Type 0
+IsEnhancedBody order body = (p : TimedPacket) × IsLegalTimed p × (p.number < 2 ^ 32) × (body ≡ enhanced_body order p)
+
+abbrev pub IsObsoleteBody : Order → List ℕ → Type 0
+IsObsoleteBody order body =
+    (drops : ℕ) × (p : TimedPacket) × IsLegalTimed p × (p.number < 2 ^ 16) × (body ≡ obsolete_body order drops p)
+
+abbrev pub IsSimpleBody : Order → List ℕ → Type 0
+IsSimpleBody order body =
+    (wire_length : ℕ) × (packet behind : List ℕ) × (wire_length < 2 ^ 32) × (length packet ≤ MOST_CAPTURED)
+    × (body ≡ simple_body order wire_length packet behind)
+
+abbrev pub IsBodyOf : BlockKind → Order → ℕ → List ℕ → Type 0
+IsBodyOf BlockKind.Section order type body = ⊥
+IsBodyOf BlockKind.Interface order type body = (type ≡ 1) × IsInterfaceBody order body
+IsBodyOf BlockKind.Obsolete order type body = (type ≡ 2) × IsObsoleteBody order body
+IsBodyOf BlockKind.Simple order type body = (type ≡ 3) × IsSimpleBody order body
+IsBodyOf BlockKind.Enhanced order type body = (type ≡ 6) × IsEnhancedBody order body
+IsBodyOf BlockKind.Other order type body = ⊥
+
+-- what is read as an interface or a packet of a pcapng was written as the block of one, in the byte order of the section
+abbrev pub WasBlock : State → List ℕ → Type 0
+WasBlock s bytes =
+    (order : Order) → s.format ≡ Format.Section order → IsTold (front_of s bytes)
+    → (kind : BlockKind) × (type : ℕ) × (body : List ℕ) × IsBodyOf kind order type body × IsLegalBody body
+    × (bytes ≡ block_bytes order type body ++ drop (12 + length body) bytes)
+
+-- what is read was written
+pub record WasWritten (s : State) (bytes : List ℕ) : Type 0 where
+  pub file_packet : WasFilePacket s bytes
+  pub block : WasBlock s bytes

@@ -1,0 +1,117 @@
+//! The times of packets.
+
+ghost use Rattle.std.specs.Prelude.{◌≡◌, ◌*◌, ◌/◌, ◌^◌, ◌<◌};
+ghost use Rattle.std.specs.Option.{SomeIff};
+ghost use Rattle.captures.specs.Times.{units_of, moved_by, held, time_of, resolution_of, offset_of};
+
+/// How many nanoseconds a second has.
+const SECOND: u128 = 1_000_000_000;
+
+/// How many units a second has by which an interface counts the time.
+#[derive(Clone, Copy)]
+pub(crate) enum Resolution {
+    /// 10 to this power.
+    Decimal(u8),
+    /// 2 to this power.
+    Binary(u8),
+}
+
+/// What is to be added to the times of an interface.
+#[derive(Clone, Copy)]
+pub(crate) enum Offset {
+    /// So many seconds.
+    Later(u64),
+    /// So many seconds are to be taken away.
+    Earlier(u64),
+}
+
+/// How an interface tells times.
+#[derive(Clone, Copy)]
+pub(crate) struct Timing {
+    pub(crate) resolution: Resolution,
+    pub(crate) offset: Offset,
+}
+
+/// How an interface tells times if it says nothing of it: in microseconds since 1970.
+pub(crate) const USUAL_TIMING: Timing = Timing {
+    resolution: Resolution::Decimal(6),
+    offset: Offset::Later(0),
+};
+
+/// The resolution by the byte of its option: the highest bit tells the base.
+pub(crate) fn resolution_in(byte: u8) -> Resolution
+    ensures { result ≡ resolution_of byte }
+{
+    if byte < 128 {
+        Resolution::Decimal(byte)
+    } else {
+        Resolution::Binary(byte - 128)
+    }
+}
+
+/// The offset by the number of its option, which is in two's complement.
+pub(crate) fn offset_in(number: u64) -> Offset
+    ensures { result ≡ offset_of number }
+{
+    if number < 1 << 63 {
+        Offset::Later(number)
+    } else {
+        Offset::Earlier(u64::MAX - number + 1)
+    }
+}
+
+impl Resolution {
+    // How many units a second has, if that fits.
+    fn units(self) -> Option<u128>
+        ensures { SomeIff result (units_of self < 2 ^ 128) (units_of self) }
+    {
+        match self {
+            Resolution::Decimal(power) => 10_u128.checked_pow(u32::from(power)),
+            Resolution::Binary(power) => 2_u128.checked_pow(u32::from(power)),
+        }
+    }
+
+    // So many units in whole nanoseconds.
+    fn nanoseconds(self, units: u64) -> u128
+        ensures value { result ≡ units * 1000000000 / units_of self }
+        ensures bound { result < 2 ^ 94 }
+    {
+        match self.units() {
+            Some(second) => u128::from(units) * SECOND / second,
+            // There are more units in a second than that.
+            None => 0,
+        }
+    }
+}
+
+impl Offset {
+    // The time with what is to be added; `None` if it is before 1970.
+    fn moved(self, nanoseconds: u128) -> Option<u128>
+        requires { nanoseconds < 2 ^ 94 }
+        ensures { result ≡ moved_by self nanoseconds }
+    {
+        match self {
+            Offset::Later(seconds) => Some(nanoseconds + u128::from(seconds) * SECOND),
+            Offset::Earlier(seconds) => nanoseconds.checked_sub(u128::from(seconds) * SECOND),
+        }
+    }
+}
+
+impl Timing {
+    /// A time of so many units, in nanoseconds since 1970; `None` if that is less than 0, or 2^64 or more.
+    pub(crate) fn time(self, units: u64) -> Option<u64>
+        ensures { result ≡ time_of self units }
+    {
+        match self.offset.moved(self.resolution.nanoseconds(units)) {
+            Some(nanoseconds) => held_in(nanoseconds),
+            None => None,
+        }
+    }
+}
+
+// The number, if it fits into 64 bits.
+fn held_in(number: u128) -> Option<u64>
+    ensures { result ≡ held number }
+{
+    u64::try_from(number).ok()
+}

@@ -1,0 +1,121 @@
+//! The header of an IPv4 datagram (RFC 791, 3.1), read.
+ghost use Rattle.std.specs.Prelude.{◌≡◌, ◌≤◌, length, false, None, Some, MatchResult};
+ghost use Rattle.datagrams.specs.Layout.{has_wrong_header as has_wrong_header_test, has_wrong_length as has_wrong_length_test, is_wrong_fragment as is_wrong_fragment_test, header_length as header_length_of, total_length as total_length_of, fault_of, HasRoom, has_more as has_more_test, offset_field};
+ghost use Rattle.datagrams.specs.Reading.{IsDatagram};
+
+use crate::datagram::{Datagram, LONGEST};
+use crate::fault::DatagramFault;
+use byteorder::{BigEndian, ByteOrder};
+
+/// The length of a header without options, in bytes.
+const SHORTEST_HEADER: usize = 20;
+
+/// The bit above the fragment offset: more fragments follow.
+const MORE: u16 = 0x2000;
+
+/// The length of the header in bytes.
+fn header_length(bytes: &[u8]) -> usize
+    requires { 20 ≤ length bytes.now }
+    ensures { result ≡ header_length_of bytes.now }
+{
+    4 * usize::from(bytes[0] % 16)
+}
+
+/// The length of header and payload in bytes.
+fn total_length(bytes: &[u8]) -> usize
+    requires { 20 ≤ length bytes.now }
+    ensures value { result ≡ total_length_of bytes.now }
+    ensures bound { result ≤ 65535 }
+{
+    usize::from(BigEndian::read_u16(&bytes[2..]))
+}
+
+/// Where the payload begins in that of the whole datagram, in bytes.
+fn offset(bytes: &[u8]) -> usize
+    requires { 20 ≤ length bytes.now }
+    ensures value { result ≡ offset_field bytes.now }
+    ensures bound { result ≤ 65535 }
+{
+    8 * usize::from(BigEndian::read_u16(&bytes[6..]) % MORE)
+}
+
+/// Whether more fragments follow.
+fn has_more(bytes: &[u8]) -> bool
+    requires { 20 ≤ length bytes.now }
+    ensures { result ≡ has_more_test bytes.now }
+{
+    BigEndian::read_u16(&bytes[6..]) / MORE % 2 == 1
+}
+
+fn has_wrong_header(bytes: &[u8]) -> bool
+    ensures value { result ≡ has_wrong_header_test bytes.now }
+    ensures whole { result ≡ false → 20 ≤ length bytes.now }
+{
+    if bytes.len() < SHORTEST_HEADER {
+        return true;
+    }
+    let length = header_length(bytes);
+    bytes[0] / 16 != 4 || length < SHORTEST_HEADER || length > bytes.len()
+}
+
+fn has_wrong_length(bytes: &[u8]) -> bool
+    requires { 20 ≤ length bytes.now }
+    ensures value { result ≡ has_wrong_length_test bytes.now }
+    ensures whole { result ≡ false → header_length_of bytes.now ≤ total_length_of bytes.now }
+{
+    let total = total_length(bytes);
+    total < header_length(bytes) || total > bytes.len()
+}
+
+fn is_wrong_fragment(bytes: &[u8]) -> bool
+    requires header { 20 ≤ length bytes.now }
+    requires whole { header_length_of bytes.now ≤ total_length_of bytes.now }
+    ensures { result ≡ is_wrong_fragment_test bytes.now }
+{
+    let length = total_length(bytes) - header_length(bytes);
+    has_more(bytes) && length % 8 != 0 || offset(bytes) + length > LONGEST
+}
+
+/// The first fault of the bytes.
+fn fault(bytes: &[u8]) -> Option<DatagramFault>
+    ensures { result ≡ fault_of bytes.now }
+{
+    if has_wrong_header(bytes) {
+        return Some(DatagramFault::Header);
+    }
+    if has_wrong_length(bytes) {
+        return Some(DatagramFault::Length);
+    }
+    if is_wrong_fragment(bytes) {
+        return Some(DatagramFault::Fragment);
+    }
+    None
+}
+
+/// What the header says.
+fn datagram_in(bytes: &[u8]) -> Datagram<'_>
+    requires { HasRoom bytes.now }
+    ensures { IsDatagram bytes.now result }
+{
+    Datagram {
+        source: BigEndian::read_u32(&bytes[12..]),
+        destination: BigEndian::read_u32(&bytes[16..]),
+        identification: BigEndian::read_u16(&bytes[4..]),
+        protocol: bytes[9],
+        offset: offset(bytes),
+        is_last: !has_more(bytes),
+        payload: &bytes[header_length(bytes)..total_length(bytes)],
+    }
+}
+
+/// Reads the datagram in front. What is behind its total length, such as the padding of a short
+/// Ethernet frame, is no part of it. The header's checksum is not compared: many captures of what
+/// their own machine sent have none.
+pub fn read_datagram(bytes: &[u8]) -> Result<Datagram<'_>, DatagramFault>
+    ensures { MatchResult result (λ d. (fault_of bytes.now ≡ None) × IsDatagram bytes.now d) (λ f. fault_of bytes.now ≡ Some f) }
+{
+    match fault(bytes) {
+        Some(fault) => Err(fault),
+        None => Ok(datagram_in(bytes)),
+    }
+}

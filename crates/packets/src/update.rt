@@ -1,0 +1,103 @@
+//! The LSAs of a Link State Update (RFC 2328, A.3.5).
+
+ghost use Rattle.std.specs.Prelude.{◌≡◌, ◌≤◌, ◌<◌, List, IfOk, IfErr, length, true};
+ghost use Rattle.packets.specs.declared.fault.UpdateFault.TheVariants.{Count as CountFault};
+ghost use Rattle.packets.specs.Updates.{Piece, ArePiecesOf, pieces_of, has_lsa as has_lsa_test, lsa_length as length_of_lsa};
+
+use crate::fault::UpdateFault;
+use byteorder::{BigEndian, ByteOrder};
+use std::marker::Model;
+
+/// The length of an LSA's header in bytes (A.4.1).
+const LSA_HEADER: usize = 20;
+
+/// The LSAs of a Link State Update, in their order. Each is lent as its bytes, the header first. If no
+/// whole LSA stands where one is due, a fault with the place comes, and nothing after it.
+#[derive(Drop)]
+pub struct UpdateLsas<'a> {
+    /// How many LSAs are to come.
+    left: u32,
+    body: &'a [u8],
+    /// How many bytes of the body are before the next LSA.
+    place: usize,
+}
+
+impl<'a> Model for UpdateLsas<'a> {
+    ghost use Rattle.std.specs.Prelude.{List, drop, ◌≤◌, length};
+    ghost use Rattle.packets.specs.Updates.{Piece, pieces_from};
+
+    ghost Value = { List Piece };
+
+    ghost view = { λ u. pieces_from u.left u.place (drop u.place u.body.now) };
+
+    ghost invariant = { λ u. u.place ≤ length u.body.now };
+}
+
+impl<'a> Iterator for UpdateLsas<'a> {
+    ghost use Rattle.std.specs.Iterator.{YieldsFirstBy, item_count};
+    ghost use Rattle.packets.specs.Updates.{lent};
+
+    type Item = Result<&'a [u8], UpdateFault>;
+
+    ghost next_gives = { YieldsFirstBy lent (λ s. s) };
+
+    ghost remaining = { item_count (λ s. s) };
+
+    fn next(&mut self) -> Option<Result<&'a [u8], UpdateFault>> {
+        if self.left == 0 {
+            return None;
+        }
+        let rest = &self.body[self.place..];
+        if !has_lsa(rest) {
+            self.left = 0;
+            return Some(Err(UpdateFault::LsaLength { place: self.place }));
+        }
+        let length = lsa_length(rest);
+        self.left -= 1;
+        self.place += length;
+        Some(Ok(&rest[..length]))
+    }
+}
+
+/// The LSAs in the body of a Link State Update. Bytes behind the last of them are not looked at, and of an
+/// LSA only the length in its header (A.4.1).
+pub fn update_lsas(body: &[u8]) -> Result<UpdateLsas<'_>, UpdateFault>
+    ensures fault { IfErr result (λ fault. (fault ≡ CountFault) × (length body.now < 4)) }
+    ensures accepted { IfOk result (λ lsas. 4 ≤ length body.now) }
+    ensures value { IfOk result (λ lsas. lsas ≡ pieces_of body.now) }
+    // The LSAs stand one after the other, each as long as its header says: as many as the body counts,
+    // or those before the first place where no whole one stands, and then a fault with that place.
+    ensures pieces { IfOk result (λ lsas. ArePiecesOf body.now lsas) }
+    // No other pieces are so.
+    ensures only { IfOk result (λ lsas. (others : List Piece) → ArePiecesOf body.now others → others ≡ lsas) }
+{
+    if body.len() < 4 {
+        return Err(UpdateFault::Count);
+    }
+    Ok(UpdateLsas {
+        left: BigEndian::read_u32(body),
+        body,
+        place: 4,
+    })
+}
+
+/// Whether an LSA stands in front, whole.
+fn has_lsa(bytes: &[u8]) -> bool
+    ensures value { result ≡ has_lsa_test bytes.now }
+    ensures header { result ≡ true → 20 ≤ length bytes.now }
+    ensures whole { result ≡ true → length_of_lsa bytes.now ≤ length bytes.now }
+{
+    if bytes.len() < LSA_HEADER {
+        return false;
+    }
+    let length = lsa_length(bytes);
+    length >= LSA_HEADER && length <= bytes.len()
+}
+
+/// The length in an LSA's header, in bytes.
+fn lsa_length(bytes: &[u8]) -> usize
+    requires { 20 ≤ length bytes.now }
+    ensures { result ≡ length_of_lsa bytes.now }
+{
+    usize::from(BigEndian::read_u16(&bytes[18..]))
+}

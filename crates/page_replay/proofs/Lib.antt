@@ -1,0 +1,4 @@
+pub mod Ended
+pub mod Pages
+pub mod Shown
+pub mod Texts

@@ -1,0 +1,4 @@
+pub mod Ending
+pub mod Pictures
+pub mod Sections
+pub mod Outputs

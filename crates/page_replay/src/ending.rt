@@ -1,0 +1,94 @@
+//! The run of a recording, of whose last lines it is told what they changed.
+ghost use Rattle.std.specs.Prelude.{◌≡◌, ◌<◌, ◌+◌, ◌^◌, [], IfOk, length};
+ghost use Rattle.event_core.specs.Cores.{IsCore, IsCurrent};
+ghost use Rattle.replay.specs.Advance.{ShowsProgress};
+ghost use Rattle.replay.specs.Lines.{first_number};
+ghost use Rattle.page_replay.specs.Ending.{IsEnded, IsToldLast, earlier_lines, last_lines};
+
+use changes::{Place, Wanted, tell_lines};
+use event_core::Core;
+use ospf_types::memory::Memory;
+use output_format::Format;
+use recording::Line;
+use replay::{OpenedRecording, empty_page, number_of_first, write_page};
+use std::alloc::Global;
+use std::io;
+
+// Of so many of the last lines it is told what they changed.
+const LAST_LINES: usize = 10;
+
+/// A core behind the last line of a recording, and what the last lines changed, as the command `changes` tells it.
+#[derive(Drop)]
+pub(crate) struct Ended {
+    pub(crate) core: Core,
+    pub(crate) told: Vec<u8>,
+}
+
+/// Runs the recording. It ends where memory runs out over a line.
+pub(crate) fn run_to_end<F: io::Write>(
+    alloc: Global,
+    opened: OpenedRecording,
+    is_shown: bool,
+    faults: &mut F,
+) -> Result<Ended, Memory>
+    ensures ended { IfOk result (λ ended. IsEnded opened.version opened.core opened.lines.items
+        ended.core ended.told.items) }
+    ensures progress { ShowsProgress is_shown (F.contents faults.old) (F.contents faults.new) }
+{
+    let first = number_of_first(opened.version, opened.core.base());
+    let parts = split_last(opened);
+    let (earlier, last) = parts?;
+    let number = first + earlier.lines.len();
+    let core = earlier.run_silently(alloc, is_shown, faults)?;
+    tell_last(alloc, core, number, last)
+}
+
+// The recording without its last lines, and these.
+fn split_last(opened: OpenedRecording) -> Result<(OpenedRecording, Vec<Line>), Memory>
+    ensures version { IfOk result (λ parts. parts.0.version ≡ opened.version) }
+    ensures core { IfOk result (λ parts. parts.0.core ≡ opened.core) }
+    ensures earlier { IfOk result (λ parts.
+        parts.0.lines.items ≡ earlier_lines opened.lines.items) }
+    ensures last { IfOk result (λ parts. parts.1.items ≡ last_lines opened.lines.items) }
+{
+    let OpenedRecording {
+        version,
+        core,
+        mut lines,
+    } = opened;
+    let last = lines.split_off(lines.len().saturating_sub(LAST_LINES))?;
+    let earlier = OpenedRecording {
+        version,
+        core,
+        lines,
+    };
+    Ok((earlier, last))
+}
+
+// Runs the last lines, the first of which has this number, and tells what they changed.
+fn tell_last(alloc: Global, core: Core, number: usize, last: Vec<Line>) -> Result<Ended, Memory>
+    requires { number + length last.items < 2 ^ 64 }
+    ensures { IfOk result (λ ended. IsToldLast core number last.items ended.core ended.told.items) }
+{
+    let mut core = core;
+    if !core.is_current() {
+        return Err(Memory);
+    }
+    let at = Place {
+        number,
+        wanted: Wanted {
+            only: None,
+            format: Format::Text,
+        },
+        answers: false,
+    };
+    let mut told = Vec::new(alloc);
+    let mut page = empty_page(alloc)?;
+    let Ok(()) = tell_lines(&mut core, at, last, &mut told, &mut page) else {
+        return Err(Memory);
+    };
+    let Ok(()) = write_page(&mut told, &mut page) else {
+        return Err(Memory);
+    };
+    Ok(Ended { core, told })
+}

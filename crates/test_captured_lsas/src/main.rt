@@ -1,0 +1,63 @@
+//! Prints what recordings come of captures.
+#![tactic(auto)]
+
+mod reading;
+mod samples;
+mod session;
+mod texts;
+
+use anyhow::Result;
+use captured_lsas::Options;
+use captures::Capture;
+use reading::put_capture;
+use samples::{PACKETS, captured};
+use session::Session;
+use std::fs;
+use std::hash::RandomState;
+
+/// Captures of the same packets in each format, the third of them cut off within its last packet.
+const FILES: [&str; 4] = [
+    "small.pcap",
+    "small-be-nano.pcap",
+    "small-cut.pcap",
+    "small.pcapng",
+];
+
+fn main(rt: HostRuntime) -> Result<()> {
+    for name in FILES {
+        println!(rt; "{name}")?;
+        put_file(&rt, name, false)?;
+    }
+    println!(rt; "all LSAs and no seconds")?;
+    put_file(&rt, "small.pcap", true)?;
+    println!(rt; "fragments")?;
+    put_packets(&rt)
+}
+
+// What is recorded of a file, with nothing left out if it is bare.
+fn put_file(rt: &HostRuntime, name: &str, is_bare: bool) -> Result<()> {
+    let options = Options {
+        keeps_all: is_bare,
+        without_seconds: is_bare,
+    };
+    let bytes = fs::read(rt, name)?;
+    let mut capture = Capture::new(rt.alloc());
+    let mut session = Session::new(rt.alloc(), RandomState::new(rt)?, options);
+    put_capture(rt.alloc(), &mut capture, &mut session, &bytes)?;
+    print!(rt; "{}", session.text())?;
+    Ok(())
+}
+
+// What is recorded of the packets that were written by hand.
+fn put_packets(rt: &HostRuntime) -> Result<()> {
+    let options = Options {
+        keeps_all: true,
+        without_seconds: false,
+    };
+    let mut session = Session::new(rt.alloc(), RandomState::new(rt)?, options);
+    for bytes in PACKETS {
+        session.put(rt.alloc(), &captured(bytes))?;
+    }
+    print!(rt; "{}", session.text())?;
+    Ok(())
+}

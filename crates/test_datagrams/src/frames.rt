@@ -1,0 +1,124 @@
+//! Frames, and whether they carry an IPv4 packet.
+
+use anyhow::{Result, bail, ensure};
+use datagrams::LinkType;
+use std::alloc::Global;
+
+/// A packet of version 4 as far as its first bytes tell.
+const PACKET: &[u8] = &[0x45, 0xc0, 0, 24, 7];
+
+/// A packet of version 6.
+const OTHER: &[u8] = &[0x60, 0, 0, 0, 7];
+
+/// What stands before a packet in a frame, and whether that packet is to be found.
+#[derive(Clone, Copy)]
+pub struct FrameTrial<'a> {
+    pub name: &'a str,
+    number: u16,
+    before: &'a [u8],
+    packet: &'a [u8],
+    is_found: bool,
+}
+
+fn carries<'a>(name: &'a str, number: u16, before: &'a [u8]) -> FrameTrial<'a> {
+    FrameTrial {
+        name,
+        number,
+        before,
+        packet: PACKET,
+        is_found: true,
+    }
+}
+
+fn carries_none<'a>(
+    name: &'a str,
+    number: u16,
+    before: &'a [u8],
+    packet: &'a [u8],
+) -> FrameTrial<'a> {
+    FrameTrial {
+        name,
+        number,
+        before,
+        packet,
+        is_found: false,
+    }
+}
+
+/// The frames that are tried.
+pub fn frames() -> [FrameTrial<'static>; 16] {
+    [
+        carries(
+            "Ethernet",
+            1,
+            &[1, 0, 0x5e, 0, 0, 5, 2, 0, 0, 0, 0, 1, 8, 0],
+        ),
+        carries(
+            "Ethernet with three tags",
+            1,
+            &[
+                1, 0, 0x5e, 0, 0, 5, 2, 0, 0, 0, 0, 1, 0x91, 0, 0, 1, 0x88, 0xa8, 0, 100, 0x81, 0,
+                0, 10, 8, 0,
+            ],
+        ),
+        carries_none(
+            "Ethernet with IPv6",
+            1,
+            &[1, 0, 0x5e, 0, 0, 5, 2, 0, 0, 0, 0, 1, 0x86, 0xdd],
+            OTHER,
+        ),
+        carries_none(
+            "Ethernet with a tag that is cut off",
+            1,
+            &[1, 0, 0x5e, 0, 0, 5, 2, 0, 0, 0, 0, 1, 0x81, 0, 8],
+            &[],
+        ),
+        carries_none("Ethernet that is cut off", 1, &[1, 0, 0x5e, 0, 0, 5], &[]),
+        carries("raw IP by 12", 12, &[]),
+        carries("raw IP by 101", 101, &[]),
+        carries("raw IP by 228", 228, &[]),
+        carries_none("raw IPv6", 101, &[], OTHER),
+        carries(
+            "cooked, version 1",
+            113,
+            &[0, 0, 0, 1, 0, 6, 2, 0, 0, 0, 0, 1, 0, 0, 8, 0],
+        ),
+        carries_none(
+            "cooked, version 1, with ARP",
+            113,
+            &[0, 0, 0, 1, 0, 6, 2, 0, 0, 0, 0, 1, 0, 0, 8, 6],
+            PACKET,
+        ),
+        carries(
+            "cooked, version 2",
+            276,
+            &[8, 0, 0, 0, 0, 0, 0, 2, 0, 1, 0, 6, 2, 0, 0, 0, 0, 1, 0, 0],
+        ),
+        carries("the family in one byte order", 0, &[2, 0, 0, 0]),
+        carries("the family in the other", 0, &[0, 0, 0, 2]),
+        carries("the family, highest byte first", 108, &[0, 0, 0, 2]),
+        carries_none("the family, lowest byte first", 108, &[2, 0, 0, 0], PACKET),
+    ]
+}
+
+impl FrameTrial<'_> {
+    pub fn run(&self, alloc: Global) -> Result<()> {
+        let name = self.name;
+        let Some(link) = LinkType::of_number(self.number) else {
+            bail!("{name}: the link type is not known");
+        };
+        let mut frame = Vec::from_slice(alloc, self.before)?;
+        frame.extend_from_slice(self.packet)?;
+        let is_right = match link.ipv4_of(&frame) {
+            Some(packet) => self.is_found && packet == self.packet,
+            None => !self.is_found,
+        };
+        ensure!(is_right, "{name}: something else is found");
+        Ok(())
+    }
+}
+
+/// Whether the numbers of PPP, and one past the last of Linux's cooked headers, are not known.
+pub fn are_unknown() -> bool {
+    LinkType::of_number(9).is_none() && LinkType::of_number(277).is_none()
+}
