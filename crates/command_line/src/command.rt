@@ -70,6 +70,17 @@ pub enum Job<'a> {
         output: Option<&'a str>,
         progress: bool,
     },
+    /// `abr capture`, with its file, a capture of a network (`-` is standard input), the word of the Router ID
+    /// whose recording it is to become, or none, the file with the beginning of the recording, or none, whether
+    /// it keeps all that the capture has, and whether it leaves out the seconds that pass. The words may
+    /// give both the Router ID and the beginning, or neither: who does the job has to tell that mistake.
+    Capture {
+        file: &'a str,
+        router: Option<&'a str>,
+        begin: Option<&'a str>,
+        keeps_all: bool,
+        without_seconds: bool,
+    },
     /// `abr fault`, with the word that is to be a number.
     Fault(&'a str),
 }
