@@ -6,6 +6,8 @@
 #![tactic(auto)]
 
 mod fault;
+mod reader;
 mod window;
 
 pub use fault::CaptureError;
+pub use reader::{PacketHead, PacketReader};

@@ -3,6 +3,7 @@ ghost use Rattle.std.specs.Prelude.{◌≡◌, ◌≢◌, ◌≤◌, ◌<◌, �
 ghost use Rattle.std.specs.IoError.{error_kind};
 ghost use Rattle.std.specs.declared.io.ErrorKind.TheVariants as ErrorKind;
 ghost use Rattle.std.specs.Io.KnownBytes.{Consumes, IsAtEnd, Keeps};
+ghost use Rattle.capture_reader.specs.Faults.{IsOfInput};
 ghost use Rattle.capture_reader.specs.declared.window.TheConstants.{LARGEST};
 
 use crate::fault::CaptureError;
@@ -68,6 +69,7 @@ impl Window {
         ensures end { IfOk result (λ n. n ≡ 0 → IsAtEnd (R.remaining input.new)) }
         ensures kept { OnErr result ((pending self.new ≡ pending self.old)
             × Keeps (R.remaining input.old) (R.remaining input.new)) }
+        ensures of_input { IfErr result IsOfInput }
     {
         self.move_to_front();
         self.make_room()?;
