@@ -43,7 +43,3 @@ pub network_told : (c : Changes) (only : Option Prefix) (t : Telling) (status : 
 network_told c only t status i i' o o' f start shown mid f' asks is begun progress ended told =
     let shows : IsProgress c.progress start shown = subst (λ (x : Telling). IsProgress x.progress start shown) is progress in
     inr (only, asks, (mid, advance_told c.progress f start shown mid begun shows ended, subst (λ (x : Telling). IsTellingEnded c.file x status i i' o o' mid f') is told))
-
--- what was told of the command that is asked for
-pub told_as : (c asked : Changes) (status : ℕ) (i i' o o' f f' : Option (List ℕ)) → c ≡ asked → IsChangesTold c status i i' o o' f f' → IsChangesTold asked status i i' o o' f f'
-told_as c asked status i i' o o' f f' same told = subst (λ (x : Changes). IsChangesTold x status i i' o o' f f') same told

@@ -18,8 +18,7 @@ use Rattle.command_answers.specs.declared.command_fault.CommandFault.TheVariants
 use Rattle.command_answers.specs.Faults.{command_fault_text, fault_line, status_of}
 use Rattle.command_answers.specs.Answers.{IsSaid, IsSaidOf, IsUnwrittenSaid}
 use Rattle.command_answers.proofs.Said.{said_of}
-use Rattle.abr_cli.specs.Replaying.{fault_from, EndsBy, EndsEarly, IsEndSaid, IsReplayEnded, IsReplayTold, IsReplayedPart}
-use Rattle.abr_cli.specs.declared.replaying.Replay.{Replay as ReplayCommand}
+use Rattle.abr_cli.specs.Replaying.{fault_from, EndsBy, EndsEarly, IsEndSaid, IsReplayEnded, IsReplayedPart}
 
 -- a replay may end for want of memory wherever it may end but with a failed write
 pub ended_early : (file : Bor (List ℕ)) (workers : ℕ) (e : ManyFault) (p : Printing) (status : ℕ) (i i' o o' f f' : Option (List ℕ)) → EndsEarly workers e p i i' o o' → IsEndSaid file e status f f'
@@ -104,8 +103,3 @@ fault_said file e c status f f' is said =
 pub unwritten_said : (file : Bor (List ℕ)) (e : ManyFault) (why : CannotWrite) (status : ℕ) (f f' : Option (List ℕ)) → fault_from file e ≡ Err why → IsUnwrittenSaid why status f f' → IsEndSaid file e status f f'
 unwritten_said file e why status f f' is said =
     subst (λ r. MatchResult r (λ k. IsSaidOf k status f f' ⊎ IsSaidOf fault.Memory status f f') (λ w. IsUnwrittenSaid w status f f')) (sym is) said
-
--- what was told of the command that is asked for
-pub replay_told_as : (r asked : ReplayCommand) (status : ℕ) (i i' o o' f f' : Option (List ℕ)) → r ≡ asked
-    → IsReplayTold r.file r.options.workers r.options.printing status i i' o o' f f' → IsReplayTold asked.file asked.options.workers asked.options.printing status i i' o o' f f'
-replay_told_as r asked status i i' o o' f f' same told = subst (λ (x : ReplayCommand). IsReplayTold x.file x.options.workers x.options.printing status i i' o o' f f') same told

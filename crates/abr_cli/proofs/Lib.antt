@@ -1,5 +1,6 @@
 pub mod Ended
 pub mod Shown
+pub mod Asked
 pub mod Changed
 pub mod Explained
 pub mod Paged

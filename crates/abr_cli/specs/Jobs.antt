@@ -4,7 +4,9 @@ use Rattle.std.specs.Prelude.{ℕ, ◌≡◌, ◌||◌, Bool, true, false, not, 
 use Rattle.command_line.specs.declared.command.Job.{Job}
 use Rattle.command_line.specs.declared.command.Job.TheVariants as job
 use Rattle.command_line.specs.declared.command.Usage.{Usage}
-use Rattle.command_line.specs.Command.{texts_of}
+use Rattle.abr_cli.specs.declared.running.Asked.{Asked}
+use Rattle.abr_cli.specs.declared.running.Asked.TheVariants as asked
+use Rattle.command_line.specs.Command.{AreWorkers, texts_of}
 use Rattle.command_answers.specs.Answers.{Tells}
 use Rattle.command_answers.specs.One.{IsOneAnswer}
 use Rattle.command_answers.specs.Decode.{IsDecodeAnswer}
@@ -58,6 +60,37 @@ explain_asked file address due format progress = record { file = file; address =
 -- what `abr page` asks for
 abbrev pub page_asked : Bor (List ℕ) → Option (Bor (List ℕ)) → Progress → Page
 page_asked file output progress = record { file = file; output = output; progress = progress.is_shown }
+
+-- the command, with all that it was given, is the one that the job asks for
+abbrev pub IsAsked : Progress → Job → Asked → Type 0
+IsAsked own (job.One words) a = a ≡ asked.One words
+IsAsked own (job.Decode word long) a = a ≡ asked.Decode word long
+IsAsked own (job.Replay file workers show format progress) a = a ≡ asked.Replay (replay_asked file workers show format (shown_progress progress own).is_shown)
+IsAsked own (job.Changes file only format progress) a = a ≡ asked.Changes (changes_asked file only format (shown_progress progress own))
+IsAsked own (job.Follow only strict format) a = (file : Bor (List ℕ)) × (file.now ≡ codes "-") × (a ≡ asked.Changes (follow_asked file only strict format))
+IsAsked own (job.Explain file address due format progress) a = a ≡ asked.Explain (explain_asked file address due format (shown_progress progress own))
+IsAsked own (job.Page file output progress) a = a ≡ asked.Page (page_asked file output (shown_progress progress own))
+IsAsked own (job.Fault number) a = a ≡ asked.Fault number
+
+-- a replay has as many workers as there may be
+abbrev pub HasFitWorkers : Asked → Type 0
+HasFitWorkers (asked.One words) = Unit {0}
+HasFitWorkers (asked.Decode word long) = Unit {0}
+HasFitWorkers (asked.Replay r) = AreWorkers r.options.workers
+HasFitWorkers (asked.Changes c) = Unit {0}
+HasFitWorkers (asked.Explain e) = Unit {0}
+HasFitWorkers (asked.Page p) = Unit {0}
+HasFitWorkers (asked.Fault number) = Unit {0}
+
+-- The command was carried out. Only where a recording is run the input is read.
+abbrev pub IsTold : Asked → (status : ℕ) (i i' o o' f f' : Option (List ℕ)) → Type 0
+IsTold (asked.One words) status i i' o o' f f' = (i' ≡ i) × Tells (IsOneAnswer (texts_of words)) status o o' f f'
+IsTold (asked.Decode hex long) status i i' o o' f f' = (i' ≡ i) × Tells (IsDecodeAnswer long hex.now) status o o' f f'
+IsTold (asked.Replay r) status i i' o o' f f' = IsReplayTold r.file r.options.workers r.options.printing status i i' o o' f f'
+IsTold (asked.Changes c) status i i' o o' f f' = IsChangesTold c status i i' o o' f f'
+IsTold (asked.Explain e) status i i' o o' f f' = IsExplainTold e status i i' o o' f f'
+IsTold (asked.Page p) status i i' o o' f f' = IsPageTold p status i i' o o' f f'
+IsTold (asked.Fault number) status i i' o o' f f' = (i' ≡ i) × Tells (IsNumberAnswer number.now) status o o' f f'
 
 -- The job was done. Only where a recording is run the input is read.
 abbrev pub IsDone : Progress → Job → (status : ℕ) (i i' o o' f f' : Option (List ℕ)) → Type 0

@@ -1,14 +1,14 @@
 //! What the program does with its words.
 ghost use Rattle.std.specs.Prelude.{◌≡◌, IfOk, codes};
 ghost use Rattle.command_line.specs.Command.{AreWorkers, IsFit};
-ghost use Rattle.abr_cli.specs.Jobs.{IsDone, IsJobTold, changes_asked, explain_asked, follow_asked, page_asked, replay_asked, shown_progress};
+ghost use Rattle.abr_cli.specs.Jobs.{HasFitWorkers, IsAsked, IsJobTold, IsTold, changes_asked, explain_asked, follow_asked, page_asked, replay_asked, shown_progress};
 
 use crate::changing::Changes;
 use crate::explaining::Explain;
 use crate::paging::Page;
 use crate::replaying::Replay;
 use command_answers::{answer_usage, decode, fault, one, tell};
-use command_line::{Job, Usage};
+use command_line::{Job, OneWords, Usage};
 use output_format::{Format, Show};
 use replay::{Printing, Progress};
 use std::alloc::Global;
@@ -50,22 +50,79 @@ impl Invocation<'_> {
             progress: own,
         } = self;
         match job {
-            Ok(job) => do_job(rt, alloc, Doing { job, hashing, own }, input, out, faults),
+            Ok(job) => {
+                let asked = asked_of(job, own);
+                do_asked(rt, alloc, Doing { asked, hashing }, input, out, faults)
+            }
             Err(usage) => tell(&answer_usage(alloc, usage), out, faults),
         }
     }
 }
 
-// A job that is to be done.
+// A command, with all that it was given.
 #[derive(Clone, Copy)]
-struct Doing<'a> {
-    job: Job<'a>,
-    hashing: RandomState,
-    own: Progress,
+pub(crate) enum Asked<'a> {
+    One(OneWords<'a>),
+    Decode { word: &'a str, long: bool },
+    Replay(Replay<'a>),
+    Changes(Changes<'a>),
+    Explain(Explain<'a>),
+    Page(Page<'a>),
+    Fault(&'a str),
 }
 
-// Does the job.
-fn do_job<S: Threads + Wait + Sync, R: io::Read, W: io::Write, F: io::Write>(
+// The command that the job asks for.
+fn asked_of(job: Job<'_>, own: Progress) -> Asked<'_>
+    requires { IsFit job }
+    ensures asked { IsAsked own job.entry result }
+    ensures workers { HasFitWorkers result }
+{
+    match job {
+        Job::One(words) => Asked::One(words),
+        Job::Decode { word, long } => Asked::Decode { word, long },
+        Job::Replay {
+            file,
+            workers,
+            show,
+            format,
+            progress,
+        } => Asked::Replay(replay_of(file, workers, show, format, shown(progress, own))),
+        Job::Changes {
+            file,
+            only,
+            format,
+            progress,
+        } => Asked::Changes(changes_of(file, only, format, shown(progress, own))),
+        Job::Follow {
+            only,
+            strict,
+            format,
+        } => Asked::Changes(follow_of(only, strict, format)),
+        Job::Explain {
+            file,
+            address,
+            due,
+            format,
+            progress,
+        } => Asked::Explain(explain_of(file, address, due, format, shown(progress, own))),
+        Job::Page {
+            file,
+            output,
+            progress,
+        } => Asked::Page(page_of(file, output, shown(progress, own))),
+        Job::Fault(word) => Asked::Fault(word),
+    }
+}
+
+// A command that is to be carried out.
+#[derive(Clone, Copy)]
+struct Doing<'a> {
+    asked: Asked<'a>,
+    hashing: RandomState,
+}
+
+// Carries out the command.
+fn do_asked<S: Threads + Wait + Sync, R: io::Read, W: io::Write, F: io::Write>(
     rt: &S,
     alloc: Global,
     doing: Doing<'_>,
@@ -73,68 +130,39 @@ fn do_job<S: Threads + Wait + Sync, R: io::Read, W: io::Write, F: io::Write>(
     out: &mut W,
     faults: &mut F,
 ) -> u8
-    requires { IsFit doing.job }
-    ensures { IsDone doing.entry.own doing.entry.job result (R.remaining input.old)
-        (R.remaining input.new) (W.contents out.old) (W.contents out.new)
-        (F.contents faults.old) (F.contents faults.new) }
+    requires { HasFitWorkers doing.asked }
+    ensures { IsTold doing.entry.asked result (R.remaining input.old) (R.remaining input.new)
+        (W.contents out.old) (W.contents out.new) (F.contents faults.old)
+        (F.contents faults.new) }
 {
-    let Doing { job, hashing, own } = doing;
-    match job {
-        Job::One(words) => one(rt, alloc, hashing, &words, out, faults),
-        Job::Decode { word, long } => decode(alloc, word, long, out, faults),
-        Job::Replay {
-            file,
-            workers,
-            show,
-            format,
-            progress,
-        } => {
-            let progress = shown(progress, own).is_shown;
-            replay_of(file, workers, show, format, progress).run(
-                rt, alloc, hashing, input, out, faults,
-            )
-        }
-        Job::Changes {
-            file,
-            only,
-            format,
-            progress,
-        } => changes_of(file, only, format, shown(progress, own)).run(
-            alloc, hashing, input, out, faults,
-        ),
-        Job::Follow {
-            only,
-            strict,
-            format,
-        } => follow_of(only, strict, format).run(alloc, hashing, input, out, faults),
-        Job::Explain {
-            file,
-            address,
-            due,
-            format,
-            progress,
-        } => explain_of(file, address, due, format, shown(progress, own)).run(
-            alloc, hashing, input, out, faults,
-        ),
-        Job::Page {
-            file,
-            output,
-            progress,
-        } => page_of(file, output, shown(progress, own)).run(alloc, hashing, input, out, faults),
-        Job::Fault(word) => fault(alloc, word, out, faults),
+    let Doing { asked, hashing } = doing;
+    match asked {
+        Asked::One(words) => one(rt, alloc, hashing, &words, out, faults),
+        Asked::Decode { word, long } => decode(alloc, word, long, out, faults),
+        Asked::Replay(replay) => replay.run(rt, alloc, hashing, input, out, faults),
+        Asked::Changes(changes) => changes.run(alloc, hashing, input, out, faults),
+        Asked::Explain(explain) => explain.run(alloc, hashing, input, out, faults),
+        Asked::Page(page) => page.run(alloc, hashing, input, out, faults),
+        Asked::Fault(word) => fault(alloc, word, out, faults),
     }
 }
 
 // The command `replay`.
-fn replay_of(file: &str, workers: usize, show: Show, format: Format, progress: bool) -> Replay<'_>
+fn replay_of(
+    file: &str,
+    workers: usize,
+    show: Show,
+    format: Format,
+    progress: Progress,
+) -> Replay<'_>
     requires { AreWorkers workers }
-    ensures asked { result ≡ replay_asked file.entry workers show format progress }
+    ensures asked { result ≡ replay_asked file.entry workers show format progress.is_shown }
     ensures workers { AreWorkers result.options.workers }
 {
     let printing = Printing {
         show,
         format,
-        progress,
+        progress: progress.is_shown,
     };
     let options = ReplayOptions { workers, printing };
     Replay { file, options }
