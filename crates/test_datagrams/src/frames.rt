@@ -45,8 +45,8 @@ fn carries_none<'a>(
     }
 }
 
-/// The frames that are tried.
-pub fn frames() -> [FrameTrial<'static>; 16] {
+/// The frames of Ethernet that are tried.
+pub fn ethernet_frames() -> [FrameTrial<'static>; 5] {
     [
         carries(
             "Ethernet",
@@ -74,6 +74,12 @@ pub fn frames() -> [FrameTrial<'static>; 16] {
             &[],
         ),
         carries_none("Ethernet that is cut off", 1, &[1, 0, 0x5e, 0, 0, 5], &[]),
+    ]
+}
+
+/// The frames of other links that are tried.
+pub fn other_frames() -> [FrameTrial<'static>; 11] {
+    [
         carries("raw IP by 12", 12, &[]),
         carries("raw IP by 101", 101, &[]),
         carries("raw IP by 228", 228, &[]),

@@ -8,13 +8,17 @@ mod parts;
 
 use anyhow::{Result, ensure};
 use datagrams::DatagramFault;
-use frames::{are_unknown, frames};
+use frames::{are_unknown, ethernet_frames, other_frames};
 use headers::{HEADERS, is_read, is_read_behind_options};
 use parts::{PARTS, first_is_forgotten};
 
 fn main(rt: HostRuntime) -> Result<()> {
     let alloc = rt.alloc();
-    for frame in frames() {
+    for frame in ethernet_frames() {
+        frame.run(alloc)?;
+        println!(rt; "{}", frame.name)?;
+    }
+    for frame in other_frames() {
         frame.run(alloc)?;
         println!(rt; "{}", frame.name)?;
     }
