@@ -3,6 +3,7 @@
 //! the system.
 #![tactic(auto)]
 
+mod beginning;
 mod counting;
 mod output;
 mod progress;
@@ -10,6 +11,7 @@ mod sink;
 mod source;
 
 use abr_cli::{Answer, Invocation, job, tell};
+use beginning::beginning_of;
 use progress::progress_of;
 use sink::Sink;
 use source::Source;
@@ -32,9 +34,9 @@ fn main(rt: HostRuntime) -> io::Result<ExitCode> {
 
 // Does what the words ask for, with threads from `threads`. What is returned is the status.
 fn status<S: Threads + Wait + Sync>(rt: &HostRuntime, threads: &S) -> io::Result<u8> {
-    let given: Vec<String> = std::env::args(rt)?.collect(rt.alloc())?;
+    let all: Vec<String> = std::env::args(rt)?.collect(rt.alloc())?;
     let mut words = Vec::new(rt.alloc());
-    for word in given.as_slice() {
+    for word in all.as_slice() {
         words.push(word.as_str())?;
     }
     let job = job(rt.alloc(), words.as_slice());
@@ -42,10 +44,16 @@ fn status<S: Threads + Wait + Sync>(rt: &HostRuntime, threads: &S) -> io::Result
     let mut input = Source::of(rt, &job);
     let (mut out, mut faults) = (Sink::of(rt, &job), rt.stderr());
     let progress = progress_of(rt, &job, &out);
+    let given = beginning_of(rt, &job);
+    let beginning = match &given {
+        Some(bytes) => Some(bytes.as_slice()),
+        None => None,
+    };
     let called = Invocation {
         job,
         hashing,
         progress,
+        beginning,
     };
     let status = called.run(threads, rt.alloc(), &mut input, &mut out, &mut faults);
     Ok(out.end(status, &mut faults))

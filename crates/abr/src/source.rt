@@ -3,7 +3,7 @@ use std::fs::File;
 use std::io;
 use std::io::{Read, Stdin};
 
-/// Where a recording is read from.
+/// Where a recording or a capture is read from.
 #[derive(Drop)]
 pub enum Source {
     File(File),
@@ -23,6 +23,7 @@ impl Source {
                 | Job::Explain { file, .. }
                 | Job::Page { file, .. },
             ) => Source::named(rt, file),
+            Ok(Job::Capture(words)) => Source::named(rt, words.file),
             _ => Source::Missing,
         }
     }

@@ -1,6 +1,7 @@
 -- What the program wrote, whatever its words were.
 use Rattle.std.specs.Borrow.{Bor}
 use Rattle.std.specs.Prelude.{ℕ, ◌≡◌, ◌||◌, Bool, true, false, not, List, Option, None, Result, Ok, Err, codes}
+use Rattle.command_line.specs.declared.command.CaptureWords.{CaptureWords}
 use Rattle.command_line.specs.declared.command.Job.{Job}
 use Rattle.command_line.specs.declared.command.Job.TheVariants as job
 use Rattle.command_line.specs.declared.command.Usage.{Usage}
@@ -21,6 +22,8 @@ use Rattle.abr_cli.specs.declared.explaining.Explain.{Explain}
 use Rattle.abr_cli.specs.Explaining.{IsExplainTold}
 use Rattle.abr_cli.specs.declared.paging.Page.{Page}
 use Rattle.abr_cli.specs.Paging.{IsPageTold}
+use Rattle.abr_cli.specs.declared.capturing.Capture.{Capture}
+use Rattle.abr_cli.specs.Capturing.{IsCaptureTold}
 use Rattle.abr_cli.specs.Replaying.{IsReplayTold}
 use Rattle.command_answers.specs.Usage.{IsUsageAnswer}
 
@@ -61,16 +64,27 @@ explain_asked file address due format progress = record { file = file; address =
 abbrev pub page_asked : Bor (List ℕ) → Option (Bor (List ℕ)) → Progress → Page
 page_asked file output progress = record { file = file; output = output; progress = progress.is_shown }
 
+-- what `abr capture` asks for, where the file with the beginning has these bytes
+abbrev pub capture_asked : CaptureWords → (beginning : Option (Bor (List ℕ))) → Capture
+capture_asked w beginning = record {
+  file = w.file;
+  router = w.router;
+  begin = w.begin;
+  beginning = beginning;
+  options = record { keeps_all = w.keeps_all; without_seconds = w.without_seconds };
+}
+
 -- the command, with all that it was given, is the one that the job asks for
-abbrev pub IsAsked : Progress → Job → Asked → Type 0
-IsAsked own (job.One words) a = a ≡ asked.One words
-IsAsked own (job.Decode word long) a = a ≡ asked.Decode word long
-IsAsked own (job.Replay file workers show format progress) a = a ≡ asked.Replay (replay_asked file workers show format (shown_progress progress own).is_shown)
-IsAsked own (job.Changes file only format progress) a = a ≡ asked.Changes (changes_asked file only format (shown_progress progress own))
-IsAsked own (job.Follow only strict format) a = (file : Bor (List ℕ)) × (file.now ≡ codes "-") × (a ≡ asked.Changes (follow_asked file only strict format))
-IsAsked own (job.Explain file address due format progress) a = a ≡ asked.Explain (explain_asked file address due format (shown_progress progress own))
-IsAsked own (job.Page file output progress) a = a ≡ asked.Page (page_asked file output (shown_progress progress own))
-IsAsked own (job.Fault number) a = a ≡ asked.Fault number
+abbrev pub IsAsked : Progress → (beginning : Option (Bor (List ℕ))) → Job → Asked → Type 0
+IsAsked own beginning (job.One words) a = a ≡ asked.One words
+IsAsked own beginning (job.Decode word long) a = a ≡ asked.Decode word long
+IsAsked own beginning (job.Replay file workers show format progress) a = a ≡ asked.Replay (replay_asked file workers show format (shown_progress progress own).is_shown)
+IsAsked own beginning (job.Changes file only format progress) a = a ≡ asked.Changes (changes_asked file only format (shown_progress progress own))
+IsAsked own beginning (job.Follow only strict format) a = (file : Bor (List ℕ)) × (file.now ≡ codes "-") × (a ≡ asked.Changes (follow_asked file only strict format))
+IsAsked own beginning (job.Explain file address due format progress) a = a ≡ asked.Explain (explain_asked file address due format (shown_progress progress own))
+IsAsked own beginning (job.Page file output progress) a = a ≡ asked.Page (page_asked file output (shown_progress progress own))
+IsAsked own beginning (job.Capture words) a = a ≡ asked.Capture (capture_asked words beginning)
+IsAsked own beginning (job.Fault number) a = a ≡ asked.Fault number
 
 -- a replay has as many workers as there may be
 abbrev pub HasFitWorkers : Asked → Type 0
@@ -80,9 +94,10 @@ HasFitWorkers (asked.Replay r) = AreWorkers r.options.workers
 HasFitWorkers (asked.Changes c) = Unit {0}
 HasFitWorkers (asked.Explain e) = Unit {0}
 HasFitWorkers (asked.Page p) = Unit {0}
+HasFitWorkers (asked.Capture c) = Unit {0}
 HasFitWorkers (asked.Fault number) = Unit {0}
 
--- The command was carried out. Only where a recording is run the input is read.
+-- The command was carried out. Only where a recording is run, or a capture recorded, the input is read.
 abbrev pub IsTold : Asked → (status : ℕ) (i i' o o' f f' : Option (List ℕ)) → Type 0
 IsTold (asked.One words) status i i' o o' f f' = (i' ≡ i) × Tells (IsOneAnswer (texts_of words)) status o o' f f'
 IsTold (asked.Decode hex long) status i i' o o' f f' = (i' ≡ i) × Tells (IsDecodeAnswer long hex.now) status o o' f f'
@@ -90,22 +105,16 @@ IsTold (asked.Replay r) status i i' o o' f f' = IsReplayTold r.file r.options.wo
 IsTold (asked.Changes c) status i i' o o' f f' = IsChangesTold c status i i' o o' f f'
 IsTold (asked.Explain e) status i i' o o' f f' = IsExplainTold e status i i' o o' f f'
 IsTold (asked.Page p) status i i' o o' f f' = IsPageTold p status i i' o o' f f'
+IsTold (asked.Capture c) status i i' o o' f f' = IsCaptureTold c status i i' o o' f f'
 IsTold (asked.Fault number) status i i' o o' f f' = (i' ≡ i) × Tells (IsNumberAnswer number.now) status o o' f f'
 
--- The job was done. Only where a recording is run the input is read.
-abbrev pub IsDone : Progress → Job → (status : ℕ) (i i' o o' f f' : Option (List ℕ)) → Type 0
-IsDone own (job.One words) status i i' o o' f f' = (i' ≡ i) × Tells (IsOneAnswer (texts_of words)) status o o' f f'
-IsDone own (job.Decode hex long) status i i' o o' f f' = (i' ≡ i) × Tells (IsDecodeAnswer long hex.now) status o o' f f'
-IsDone own (job.Replay file workers show format progress) status i i' o o' f f' =
-    IsReplayTold file workers (record { show = show; format = format; progress = (shown_progress progress own).is_shown }) status i i' o o' f f'
-IsDone own (job.Changes file only format progress) status i i' o o' f f' = IsChangesTold (changes_asked file only format (shown_progress progress own)) status i i' o o' f f'
-IsDone own (job.Follow only strict format) status i i' o o' f f' =
-    (file : Bor (List ℕ)) × (file.now ≡ codes "-") × IsChangesTold (follow_asked file only strict format) status i i' o o' f f'
-IsDone own (job.Explain file address due format progress) status i i' o o' f f' = IsExplainTold (explain_asked file address due format (shown_progress progress own)) status i i' o o' f f'
-IsDone own (job.Page file output progress) status i i' o o' f f' = IsPageTold (page_asked file output (shown_progress progress own)) status i i' o o' f f'
-IsDone own (job.Fault number) status i i' o o' f f' = (i' ≡ i) × Tells (IsNumberAnswer number.now) status o o' f f'
+-- the command was carried out that the job asks for
+pub record IsDone (own : Progress) (beginning : Option (Bor (List ℕ))) (j : Job) (status : ℕ) (i i' o o' f f' : Option (List ℕ)) : Type 0 where
+  pub command : Asked
+  pub is_asked : IsAsked own beginning j command
+  pub is_told : IsTold command status i i' o o' f f'
 
 -- the job was done, or it was said why there is none
-abbrev pub IsJobTold : Progress → Result Job Usage → (status : ℕ) (i i' o o' f f' : Option (List ℕ)) → Type 0
-IsJobTold own (Ok job) status i i' o o' f f' = IsDone own job status i i' o o' f f'
-IsJobTold own (Err usage) status i i' o o' f f' = (i' ≡ i) × Tells (IsUsageAnswer usage) status o o' f f'
+abbrev pub IsJobTold : Progress → (beginning : Option (Bor (List ℕ))) → Result Job Usage → (status : ℕ) (i i' o o' f f' : Option (List ℕ)) → Type 0
+IsJobTold own beginning (Ok job) status i i' o o' f f' = IsDone own beginning job status i i' o o' f f'
+IsJobTold own beginning (Err usage) status i i' o o' f f' = (i' ≡ i) × Tells (IsUsageAnswer usage) status o o' f f'

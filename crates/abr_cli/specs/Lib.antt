@@ -3,4 +3,5 @@ pub mod Replaying
 pub mod Changing
 pub mod Explaining
 pub mod Paging
+pub mod Capturing
 pub mod Jobs

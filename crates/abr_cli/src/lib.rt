@@ -2,18 +2,20 @@
 //! (RFC 2328). A recording is run and told of as it goes; what the other commands answer, `command_answers` says.
 #![tactic(auto)]
 
+mod capturing;
 mod changing;
 mod explaining;
 mod paging;
 mod replaying;
 mod running;
 
+pub use capturing::Capture;
 pub use changing::Changes;
 pub use command_answers::{
     Answer, CommandFault, answer_decode, answer_number, answer_one, answer_usage, decode, fault,
     one, tell,
 };
-pub use command_line::{Job, OneWords, Usage, job};
+pub use command_line::{CaptureWords, Job, OneWords, Usage, job};
 pub use explaining::Explain;
 pub use output_format::{Format, Show};
 pub use paging::Page;

@@ -1,14 +1,16 @@
 //! What the program does with its words.
 ghost use Rattle.std.specs.Prelude.{◌≡◌, IfOk, codes};
 ghost use Rattle.command_line.specs.Command.{AreWorkers, IsFit};
-ghost use Rattle.abr_cli.specs.Jobs.{HasFitWorkers, IsAsked, IsJobTold, IsTold, changes_asked, explain_asked, follow_asked, page_asked, replay_asked, shown_progress};
+ghost use Rattle.abr_cli.specs.Jobs.{HasFitWorkers, IsAsked, IsJobTold, IsTold, capture_asked, changes_asked, explain_asked, follow_asked, page_asked, replay_asked, shown_progress};
 
+use crate::capturing::Capture;
 use crate::changing::Changes;
 use crate::explaining::Explain;
 use crate::paging::Page;
 use crate::replaying::Replay;
+use capture_recording::Options;
 use command_answers::{answer_usage, decode, fault, one, tell};
-use command_line::{Job, OneWords, Usage};
+use command_line::{CaptureWords, Job, OneWords, Usage};
 use output_format::{Format, Show};
 use replay::{Printing, Progress};
 use std::alloc::Global;
@@ -25,10 +27,12 @@ pub struct Invocation<'a> {
     /// Whether it is shown how much of a file is done where the words do not ask for it, and how many lines the file has, where
     /// that is known.
     pub progress: Progress,
+    /// What the file has whose name stands behind `--begin`, where there is one and it could be read.
+    pub beginning: Option<&'a [u8]>,
 }
 
 impl Invocation<'_> {
-    /// Does the job, or says why there is none. A recording is read from `input`, and the workers of a replay are
+    /// Does the job, or says why there is none. A recording or a capture is read from `input`, and the workers of a replay are
     /// from 1 to 16; answers are written to `out`, and progress, faults and mistakes to `faults`. What is returned is the
     /// status of the program.
     pub fn run<S: Threads + Wait + Sync, R: io::Read, W: io::Write, F: io::Write>(
@@ -40,18 +44,19 @@ impl Invocation<'_> {
         faults: &mut F,
     ) -> u8
         requires { IfOk self.job IsFit }
-        ensures { IsJobTold self.entry.progress self.entry.job result (R.remaining input.old)
-            (R.remaining input.new) (W.contents out.old) (W.contents out.new)
-            (F.contents faults.old) (F.contents faults.new) }
+        ensures { IsJobTold self.entry.progress self.entry.beginning self.entry.job result
+            (R.remaining input.old) (R.remaining input.new) (W.contents out.old)
+            (W.contents out.new) (F.contents faults.old) (F.contents faults.new) }
     {
         let Invocation {
             job,
             hashing,
             progress: own,
+            beginning,
         } = self;
         match job {
             Ok(job) => {
-                let asked = asked_of(job, own);
+                let asked = asked_of(job, own, beginning);
                 do_asked(rt, alloc, Doing { asked, hashing }, input, out, faults)
             }
             Err(usage) => tell(&answer_usage(alloc, usage), out, faults),
@@ -68,13 +73,14 @@ pub(crate) enum Asked<'a> {
     Changes(Changes<'a>),
     Explain(Explain<'a>),
     Page(Page<'a>),
+    Capture(Capture<'a>),
     Fault(&'a str),
 }
 
 // The command that the job asks for.
-fn asked_of(job: Job<'_>, own: Progress) -> Asked<'_>
+fn asked_of<'a>(job: Job<'a>, own: Progress, beginning: Option<&'a [u8]>) -> Asked<'a>
     requires { IsFit job }
-    ensures asked { IsAsked own job.entry result }
+    ensures asked { IsAsked own beginning.entry job.entry result }
     ensures workers { HasFitWorkers result }
 {
     match job {
@@ -110,6 +116,7 @@ fn asked_of(job: Job<'_>, own: Progress) -> Asked<'_>
             output,
             progress,
         } => Asked::Page(page_of(file, output, shown(progress, own))),
+        Job::Capture(words) => Asked::Capture(capture_of(words, beginning)),
         Job::Fault(word) => Asked::Fault(word),
     }
 }
@@ -143,6 +150,7 @@ fn do_asked<S: Threads + Wait + Sync, R: io::Read, W: io::Write, F: io::Write>(
         Asked::Changes(changes) => changes.run(alloc, hashing, input, out, faults),
         Asked::Explain(explain) => explain.run(alloc, hashing, input, out, faults),
         Asked::Page(page) => page.run(alloc, hashing, input, out, faults),
+        Asked::Capture(capture) => capture.run(alloc, hashing, input, out, faults),
         Asked::Fault(word) => fault(alloc, word, out, faults),
     }
 }
@@ -224,6 +232,23 @@ fn page_of<'a>(file: &'a str, output: Option<&'a str>, progress: Progress) -> Pa
         file,
         output,
         progress: progress.is_shown,
+    }
+}
+
+// The command `capture`.
+fn capture_of<'a>(words: CaptureWords<'a>, beginning: Option<&'a [u8]>) -> Capture<'a>
+    ensures { result ≡ capture_asked words.entry beginning.entry }
+{
+    let options = Options {
+        keeps_all: words.keeps_all,
+        without_seconds: words.without_seconds,
+    };
+    Capture {
+        file: words.file,
+        router: words.router,
+        begin: words.begin,
+        beginning,
+        options,
     }
 }
 

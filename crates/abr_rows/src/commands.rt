@@ -38,6 +38,7 @@ fn status<S: Threads + Wait + Sync, W: io::Write, F: io::Write>(
         job,
         hashing,
         progress: UNSHOWN,
+        beginning: None,
     };
     called.run(rt, alloc, &mut input, out, faults)
 }

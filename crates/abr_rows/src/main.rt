@@ -27,7 +27,7 @@ use std::{fs, io};
 use trial::is_as_wanted;
 
 // The files of rows.
-const FILES: [&str; 18] = [
+const FILES: [&str; 19] = [
     "commands.rows",
     "recordings.rows",
     "versions.rows",
@@ -46,6 +46,7 @@ const FILES: [&str; 18] = [
     "explain.rows",
     "explain_due.rows",
     "page.rows",
+    "capture.rows",
 ];
 
 /// How many rows ran, and how many of them differ.

@@ -7,9 +7,12 @@
 //! | `<+` | such a line, so many times: the number, and the line |
 //! | `\|` | a part of the input, or its end, which has none |
 //! | `<*` | a part of the input, so many times: the number, and the part |
+//! | `<x` | a part of the input, in hexadecimal |
 //! | `^` | the input of the row before |
 //! | `x` | the input cannot be read |
+//! | `b` | a line of the file of `--begin`; where there is none, it cannot be read |
 //! | `>` | a line of the output that is wanted |
+//! | `>+` | such a line, so many times |
 //! | `>*` | a part of that output, so many times |
 //! | `!` | a line that is wanted on standard error |
 //! | `!~` | such a line, with `~` for each carriage return |
@@ -28,6 +31,9 @@ pub struct Row<'a> {
     pub words: Vec<&'a str>,
     pub input: Vec<u8>,
     pub is_readable: bool,
+    /// The file of `--begin`, and whether it can be read.
+    pub beginning: Vec<u8>,
+    pub has_beginning: bool,
     pub output: Vec<u8>,
     pub faults: Vec<u8>,
     pub is_any_text: bool,
@@ -100,6 +106,8 @@ fn begin_row<'a>(alloc: Global, number: usize, line: &'a str) -> Result<Option<R
         words: words_of(alloc, rest)?,
         input: Vec::new(alloc),
         is_readable: true,
+        beginning: Vec::new(alloc),
+        has_beginning: false,
         output: Vec::new(alloc),
         faults: Vec::new(alloc),
         is_any_text: false,
@@ -135,22 +143,12 @@ fn go_on<'a>(
         row.status = status.parse().map_err(|_| RowFault::Line(number))?;
         return Ok(Step::Ended(row));
     }
-    if let Some(text) = line.strip_prefix("< ") {
-        add_line(&mut row.input, text)?;
-    } else if let Some(text) = line.strip_prefix("<+ ") {
-        add_often(&mut row.input, number, text, "\n")?;
-    } else if let Some(text) = line.strip_prefix("<* ") {
-        add_often(&mut row.input, number, text, "")?;
-    } else if let Some(text) = line.strip_prefix(">* ") {
-        add_often(&mut row.output, number, text, "")?;
-    } else if let Some(text) = line.strip_prefix("| ") {
-        row.input.extend_from_slice(text.as_bytes())?;
-    } else if let Some(text) = line.strip_prefix("> ") {
-        add_line(&mut row.output, text)?;
-    } else if let Some(text) = line.strip_prefix("! ") {
-        add_line(&mut row.faults, text)?;
-    } else if let Some(text) = line.strip_prefix("!~ ") {
-        add_over(&mut row.faults, text)?;
+    if add_input(&mut row.input, number, line)? || add_wanted(&mut row, number, line)? {
+        return Ok(Step::Open(row));
+    }
+    if let Some(text) = line.strip_prefix("b ") {
+        add_line(&mut row.beginning, text)?;
+        row.has_beginning = true;
     } else if line == "^" {
         let before = before.ok_or(RowFault::Line(number))?;
         row.input.extend_from_slice(&before.input)?;
@@ -162,6 +160,42 @@ fn go_on<'a>(
         return Err(RowFault::Line(number));
     }
     Ok(Step::Open(row))
+}
+
+// Adds the part of the input that the line has. Answers whether it has one.
+fn add_input(input: &mut Vec<u8>, number: usize, line: &str) -> Result<bool, RowFault> {
+    if let Some(text) = line.strip_prefix("< ") {
+        add_line(input, text)?;
+    } else if let Some(text) = line.strip_prefix("<+ ") {
+        add_often(input, number, text, "\n")?;
+    } else if let Some(text) = line.strip_prefix("<* ") {
+        add_often(input, number, text, "")?;
+    } else if let Some(text) = line.strip_prefix("<x ") {
+        add_bytes(input, number, text)?;
+    } else if let Some(text) = line.strip_prefix("| ") {
+        input.extend_from_slice(text.as_bytes())?;
+    } else {
+        return Ok(false);
+    }
+    Ok(true)
+}
+
+// Adds what the line says is wanted. Answers whether it says that.
+fn add_wanted(row: &mut Row<'_>, number: usize, line: &str) -> Result<bool, RowFault> {
+    if let Some(text) = line.strip_prefix(">* ") {
+        add_often(&mut row.output, number, text, "")?;
+    } else if let Some(text) = line.strip_prefix(">+ ") {
+        add_often(&mut row.output, number, text, "\n")?;
+    } else if let Some(text) = line.strip_prefix("> ") {
+        add_line(&mut row.output, text)?;
+    } else if let Some(text) = line.strip_prefix("! ") {
+        add_line(&mut row.faults, text)?;
+    } else if let Some(text) = line.strip_prefix("!~ ") {
+        add_over(&mut row.faults, text)?;
+    } else {
+        return Ok(false);
+    }
+    Ok(true)
 }
 
 // Adds the text and a line feed.
@@ -188,5 +222,12 @@ fn add_often(to: &mut Vec<u8>, number: usize, text: &str, end: &str) -> Result<(
         to.extend_from_slice(part.as_bytes())?;
         to.extend_from_slice(end.as_bytes())?;
     }
+    Ok(())
+}
+
+// Adds the bytes that the text has in hexadecimal.
+fn add_bytes(to: &mut Vec<u8>, number: usize, text: &str) -> Result<(), RowFault> {
+    let bytes = hex::decode(*to.allocator(), text).map_err(|_| RowFault::Line(number))?;
+    to.extend_from_slice(&bytes)?;
     Ok(())
 }

@@ -28,10 +28,16 @@ pub fn is_as_wanted<S: Threads + Wait + Sync>(
     };
     let (mut out, mut faults) = (Vec::new(alloc), Vec::new(alloc));
     let job = job(alloc, row.words.as_slice());
+    let beginning = if row.has_beginning {
+        Some(row.beginning.as_slice())
+    } else {
+        None
+    };
     let called = Invocation {
         job,
         hashing,
         progress: UNSHOWN,
+        beginning,
     };
     let status = called.run(rt, alloc, &mut input, &mut out, &mut faults);
     let is_text = row.is_any_text

@@ -1,141 +1,168 @@
--- The LSAs that count as given are those that the packets brought.
-use Rattle.std.proofs.Common.{◌≡◌, ◌∙◌, ℕ, Bool, true, false, cond, List, [], ◌∷◌, Option, Some, None, Ok, Err, refl, sym, subst, ◌⊎◌, inl, inr}
-use Rattle.std.specs.Prelude.{◌↔◌, if◌then◌else◌, is_none}
+-- The LSAs that count as given are those that the packets brought, and that were not on the other side of MaxAge since.
+use Rattle.std.proofs.Common.{◌≡◌, ◌∙◌, ℕ, Bool, true, false, cond, List, [], ◌∷◌, ◌++◌, Option, Some, None, Ok, Err, refl, ap, ap₂, sym, subst, ◌⊎◌, inl, inr}
+use Rattle.std.specs.Prelude.{◌↔◌, is_none}
 use Rattle.std.specs.List.{Contains}
-use Rattle.ospf_types.proofs.Elements.{no_element, first_element, later_element, first_or_later}
+use Rattle.std.proofs.lemmas.List.{append_assoc, append-nil}
+use Rattle.std.proofs.lemmas.List.Elements.{All-nil, All-push, All-pop}
+use Rattle.ospf_types.proofs.Elements.{no_element, first_element}
 use Rattle.lsa_codec.specs.Faults.{fault_of}
 use Rattle.lsa_codec.specs.declared.fault.WireFault.{WireFault}
 use Rattle.packets.specs.declared.fault.PacketFault.{PacketFault}
 use Rattle.packets.specs.Packets.{packet_fault_of, area_field}
 use Rattle.packets.specs.Updates.{Piece}
 use Rattle.captured_lsas.specs.declared.options.Options.{Options}
-use Rattle.captured_lsas.specs.Given.{Given, with_given}
+use Rattle.captured_lsas.specs.Given.{Given, Lives, with_given, WasGiven}
 use Rattle.captured_lsas.specs.Progress.{Progress, start}
 use Rattle.captured_lsas.specs.Seconds.{with_time}
-use Rattle.captured_lsas.specs.Recording.{given_in, with_given_lsa, with_read_lsa, with_lsa}
+use Rattle.captured_lsas.specs.Recording.{given_in, with_read_lsa}
 use Rattle.captured_lsas.specs.Updates.{with_piece, with_pieces}
 use Rattle.captured_lsas.specs.Packets.{pieces_of_packet, with_read_packet, unless_faulty, with_packet}
-use Rattle.captured_lsas.specs.History.{Captured, after_all, IsLsa, StandsIn, Brings, IsBrought, HasHistory}
-use Rattle.captured_lsas.proofs.SameGiven.{with_one}
+use Rattle.captured_lsas.specs.History.{Captured, after_all, lsa_of_piece, lsas_of_pieces, lsas_of_payload, lsas_of, StillCounts, HasHistory}
+use Rattle.captured_lsas.proofs.Repeating.{StaysBehind, given_one}
 
--- from one progress to a later one, these LSAs are given
-record Adds (p q : Progress) (W : Given → Type 0) : Type 0 where
+-- ---- of a list of LSAs
+
+no_middle : (earlier later : List Given) (g : Given) → [] ≡ earlier ++ g ∷ later → ⊥
+no_middle [] later g is = cc
+no_middle (e ∷ es) later g is = cc
+
+none_counts : (g : Given) → StillCounts [] g → ⊥
+none_counts g c = no_middle c.earlier c.later g c.whole
+
+-- an element of a list with one more stands last, or among the others
+record IsAmong (lsas : List Given) (x g : Given) (earlier later : List Given) : Type 0 where
+  pub front : List Given
+  pub behind : later ≡ front ++ x ∷ []
+  pub whole : lsas ≡ earlier ++ g ∷ front
+
+last_or_among : (lsas : List Given) (x g : Given) (earlier later : List Given) → lsas ++ x ∷ [] ≡ earlier ++ g ∷ later → (x ≡ g) ⊎ IsAmong lsas x g earlier later
+last_or_among [] x g [] later is = inl cc
+last_or_among [] x g (e ∷ es) later is = absurd (no_middle es later g cc)
+last_or_among (y ∷ ys) x g [] later is = inr (record { front = ys; behind = cc; whole = cc })
+last_or_among (y ∷ ys) x g (e ∷ es) later is =
+    let first : y ≡ e = cc in
+    elim (last_or_among ys x g es later cc) [
+      | inl same ↦ inl same
+      | inr a ↦ inr (record { front = a.front; behind = a.behind; whole = ap₂ (λ (z : Given) (zs : List Given). z ∷ zs) first a.whole })
+    ]
+
+counts_one : (lsas : List Given) (x g : Given) → StillCounts (lsas ++ x ∷ []) g ↔ ((x ≡ g) ⊎ (StillCounts lsas g × StaysBehind g x))
+counts_one lsas x g = (
+  λ c. elim (last_or_among lsas x g c.earlier c.later c.whole) [
+    | inl same ↦ inl same
+    | inr a ↦
+        let stays = All-pop (StaysBehind g) c.later a.front (Some x) a.behind c.stays in
+        inr (record { earlier = c.earlier; later = a.front; whole = a.whole; stays = stays.0 }, stays.1)
+  ],
+  λ either. elim either [
+    | inl same ↦ record { earlier = lsas; later = []; whole = ap (λ (y : Given). lsas ++ y ∷ []) same; stays = All-nil (StaysBehind g) }
+    | inr w ↦ record {
+      earlier = w.0.earlier;
+      later = w.0.later ++ x ∷ [];
+      whole = ap (λ (ys : List Given). ys ++ x ∷ []) w.0.whole ∙ append_assoc w.0.earlier (g ∷ w.0.later) (x ∷ []);
+      stays = All-push (StaysBehind g) w.0.later x w.0.stays w.1;
+    }
+  ],
+)
+
+-- the lives after these LSAs
+abbrev all_given : Lives → List Given → Lives
+all_given lives [] = lives
+all_given lives (x ∷ xs) = all_given (with_given x lives) xs
+
+abbrev Tells : Lives → List Given → Type 0
+Tells lives lsas = (g : Given) → WasGiven lives g ↔ StillCounts lsas g
+
+tells_one : (lives : Lives) (lsas : List Given) (x : Given) → Tells lives lsas → Tells (with_given x lives) (lsas ++ x ∷ [])
+tells_one lives lsas x tells g =
+    let given = given_one x g lives in
+    let counts = counts_one lsas x g in (
+      λ w. counts.1 (elim (given.0 w) [ inl same ↦ inl same | inr was ↦ inr ((tells g).0 was.0, was.1) ]),
+      λ c. given.1 (elim (counts.0 c) [ inl same ↦ inl same | inr was ↦ inr ((tells g).1 was.0, was.1) ]),
+    )
+
+tells_all : (lives : Lives) (lsas more : List Given) → Tells lives lsas → Tells (all_given lives more) (lsas ++ more)
+tells_all lives lsas [] tells = subst (Tells lives) (sym (append-nil lsas)) tells
+tells_all lives lsas (x ∷ xs) tells =
+    subst (Tells (all_given (with_given x lives) xs)) (append_assoc lsas (x ∷ []) xs) (tells_all (with_given x lives) (lsas ++ x ∷ []) xs (tells_one lives lsas x tells))
+
+all_then : (lives : Lives) (xs ys : List Given) → all_given (all_given lives xs) ys ≡ all_given lives (xs ++ ys)
+all_then lives [] ys = refl
+all_then lives (x ∷ xs) ys = all_then (with_given x lives) xs ys
+
+-- whether there was an LSA
+abbrev begun_by : Bool → List Given → Bool
+begun_by was [] = was
+begun_by was (x ∷ xs) = true
+
+begun_then : (was : Bool) (xs ys : List Given) → begun_by (begun_by was xs) ys ≡ begun_by was (xs ++ ys)
+begun_then was [] ys = refl
+begun_then was (x ∷ xs) [] = refl
+begun_then was (x ∷ xs) (y ∷ ys) = refl
+
+begun_is : (lsas : List Given) → (begun_by false lsas ≡ true) ↔ ((g : Given) × Contains lsas g)
+begun_is [] = (λ b. absurd cc, λ c. absurd (no_element c.0 c.1))
+begun_is (x ∷ xs) = (λ b. (x, first_element x xs), λ c. refl)
+
+-- ---- of packets
+
+-- from one progress to a later one, these LSAs came
+record Adds (p q : Progress) (lsas : List Given) : Type 0 where
   pub options_stay : q.options ≡ p.options
-  pub given : p.options.keeps_all ≡ false → (g : Given) → Contains q.given g ↔ (Contains p.given g ⊎ W g)
-  pub begun : (q.has_begun ≡ true) ↔ ((p.has_begun ≡ true) ⊎ ((g : Given) × W g))
+  pub given : p.options.keeps_all ≡ false → q.given ≡ all_given p.given lsas
+  pub begun : q.has_begun ≡ begun_by p.has_begun lsas
 
-adds_none : (p : Progress) (W : Given → Type 0) → ((g : Given) → W g → ⊥) → Adds p p W
-adds_none p W none = record {
-  options_stay = refl;
-  given = λ keep g. (λ c. inl c, λ either. elim either [ inl c ↦ c | inr w ↦ absurd (none g w) ]);
-  begun = (λ b. inl b, λ either. elim either [ inl b ↦ b | inr w ↦ absurd (none w.0 w.1) ]);
-}
+adds_none : (p : Progress) → Adds p p []
+adds_none p = record { options_stay = refl; given = λ keep. refl; begun = refl }
 
-adds_as : (p q : Progress) (V W : Given → Type 0) → ((g : Given) → V g ↔ W g) → Adds p q V → Adds p q W
-adds_as p q V W same a = record {
-  options_stay = a.options_stay;
-  given = λ keep g. (
-    λ c. elim ((a.given keep g).0 c) [ inl was ↦ inl was | inr v ↦ inr ((same g).0 v) ],
-    λ either. (a.given keep g).1 (elim either [ inl was ↦ inl was | inr w ↦ inr ((same g).1 w) ]),
-  );
-  begun = (
-    λ b. elim (a.begun.0 b) [ inl was ↦ inl was | inr v ↦ inr (v.0, (same v.0).0 v.1) ],
-    λ either. a.begun.1 (elim either [ inl was ↦ inl was | inr w ↦ inr (w.0, (same w.0).1 w.1) ]),
-  );
-}
-
-adds_then : (p q r : Progress) (V W : Given → Type 0) → Adds p q V → Adds q r W → Adds p r (λ g. V g ⊎ W g)
-adds_then p q r V W a b = record {
+adds_then : (p q r : Progress) (xs ys : List Given) → Adds p q xs → Adds q r ys → Adds p r (xs ++ ys)
+adds_then p q r xs ys a b = record {
   options_stay = b.options_stay ∙ a.options_stay;
-  given = λ keep g.
-      let later = b.given (subst (λ (o : Options). o.keeps_all ≡ false) (sym a.options_stay) keep) g in (
-        λ c. elim (later.0 c) [ inl was ↦ elim ((a.given keep g).0 was) [ inl first ↦ inl first | inr v ↦ inr (inl v) ] | inr w ↦ inr (inr w) ],
-        λ either. later.1 (elim either [ inl first ↦ inl ((a.given keep g).1 (inl first)) | inr new ↦ elim new [ inl v ↦ inl ((a.given keep g).1 (inr v)) | inr w ↦ inr w ] ]),
-      );
-  begun = (
-    λ c. elim (b.begun.0 c) [ inl was ↦ elim (a.begun.0 was) [ inl first ↦ inl first | inr v ↦ inr (v.0, inl v.1) ] | inr w ↦ inr (w.0, inr w.1) ],
-    λ either. b.begun.1 (elim either [ inl first ↦ inl (a.begun.1 (inl first)) | inr new ↦ elim new.1 [ inl v ↦ inl (a.begun.1 (inr (new.0, v))) | inr w ↦ inr (new.0, w) ] ]),
-  );
+  given = λ keep.
+      b.given (ap (λ (o : Options). o.keeps_all) a.options_stay ∙ keep) ∙ ap (λ (lives : Lives). all_given lives ys) (a.given keep) ∙ all_then p.given xs ys;
+  begun = b.begun ∙ ap (λ (was : Bool). begun_by was ys) a.begun ∙ begun_then p.has_begun xs ys;
 }
 
-given_adds : (p : Progress) (x : Given) → Adds p (with_given_lsa p x) (λ g. x ≡ g)
-given_adds p x = record {
+lsa_by : (p : Progress) (area : ℕ) (bytes : List ℕ) (o : Option WireFault) → Adds p (cond (is_none o) (with_read_lsa p area bytes) p) (cond (is_none o) (given_in area bytes ∷ []) [])
+lsa_by p area bytes None = record {
   options_stay = refl;
-  given = λ keep g. subst (λ (b : Bool). Contains (cond b p.given (with_given x p.given)) g ↔ (Contains p.given g ⊎ (x ≡ g))) (sym keep) (with_one x p.given g);
-  begun = (λ b. inr (x, refl), λ either. refl);
+  given = λ keep. ap (λ (b : Bool). cond b p.given (with_given (given_in area bytes) p.given)) keep;
+  begun = refl;
 }
+lsa_by p area bytes (Some fault) = adds_none p
 
-lsa_by : (p : Progress) (area : ℕ) (bytes : List ℕ) (o : Option WireFault) → fault_of bytes ≡ o → Adds p (if is_none o then with_read_lsa p area bytes else p) (IsLsa area bytes)
-lsa_by p area bytes None is =
-    adds_as p (with_read_lsa p area bytes) (λ g. given_in area bytes ≡ g) (IsLsa area bytes) (λ g. (λ e. record { without_fault = is; value = e }, λ l. l.value)) (given_adds p (given_in area bytes))
-lsa_by p area bytes (Some fault) is = adds_none p (IsLsa area bytes) (λ g l. let none = l.without_fault in cc)
+piece_adds : (p : Progress) (area : ℕ) (piece : Piece) → Adds p (with_piece p area piece) (lsa_of_piece area piece)
+piece_adds p area (Ok bytes) = lsa_by p area bytes (fault_of bytes)
+piece_adds p area (Err fault) = adds_none p
 
-lsa_adds : (p : Progress) (area : ℕ) (bytes : List ℕ) → Adds p (with_lsa p area bytes) (IsLsa area bytes)
-lsa_adds p area bytes = lsa_by p area bytes (fault_of bytes) refl
-
-abbrev IsPiece : ℕ → Piece → Given → Type 0
-IsPiece area piece g = (bytes : List ℕ) × (piece ≡ Ok bytes) × IsLsa area bytes g
-
-same_bytes : (a b : List ℕ) (piece : Piece) → piece ≡ Ok a → piece ≡ Ok b → b ≡ a
-same_bytes a b piece is was = cc
-
-piece_adds : (p : Progress) (area : ℕ) (piece : Piece) → Adds p (with_piece p area piece) (IsPiece area piece)
-piece_adds p area (Ok bytes) =
-    adds_as p (with_lsa p area bytes) (IsLsa area bytes) (IsPiece area (Ok bytes))
-    (λ g. (λ l. (bytes, refl, l), λ w. subst (λ (xs : List ℕ). IsLsa area xs g) (same_bytes bytes w.0 (Ok bytes) refl w.1) w.2)) (lsa_adds p area bytes)
-piece_adds p area (Err fault) = adds_none p (IsPiece area (Err fault)) (λ g w. let is = w.1 in cc)
-
-pieces_add : (p : Progress) (area : ℕ) (pieces : List Piece) → Adds p (with_pieces p area pieces) (StandsIn area pieces)
+pieces_add : (p : Progress) (area : ℕ) (pieces : List Piece) → Adds p (with_pieces p area pieces) (lsas_of_pieces area pieces)
 unfolding with_pieces
-pieces_add p area [] = adds_none p (StandsIn area []) (λ g s. no_element _ s.stands)
+pieces_add p area [] = adds_none p
 pieces_add p area (x ∷ xs) =
     let q = with_piece p area x in
-    adds_as p (with_pieces q area xs) (λ g. IsPiece area x g ⊎ StandsIn area xs g) (StandsIn area (x ∷ xs)) (λ g. (
-      λ either. elim either [
-        | inl w ↦ record { bytes = w.0; stands = subst (λ (y : Piece). Contains (x ∷ xs) y) w.1 (first_element x xs); is_lsa = w.2 }
-        | inr s ↦ record { bytes = s.bytes; stands = later_element x (Ok s.bytes) xs s.stands; is_lsa = s.is_lsa }
-      ],
-      λ s. elim (first_or_later x (Ok s.bytes) xs s.stands) [
-        | inl first ↦ inl (s.bytes, sym first, s.is_lsa)
-        | inr later ↦ inr (record { bytes = s.bytes; stands = later; is_lsa = s.is_lsa })
-      ],
-    )) (adds_then p q (with_pieces q area xs) (IsPiece area x) (StandsIn area xs) (piece_adds p area x) (pieces_add q area xs))
+    adds_then p q (with_pieces q area xs) (lsa_of_piece area x) (lsas_of_pieces area xs) (piece_adds p area x) (pieces_add q area xs)
 
-packet_by : (p : Progress) (time : Option ℕ) (payload : List ℕ) (o : Option PacketFault) → packet_fault_of payload ≡ o
-    → Adds p (unless_faulty o p (with_read_packet p time payload)) (Brings payload)
-packet_by p time payload None is =
+packet_by : (p : Progress) (time : Option ℕ) (payload : List ℕ) (o : Option PacketFault)
+    → Adds p (unless_faulty o p (with_read_packet p time payload)) (cond (is_none o) (lsas_of_pieces (area_field payload) (pieces_of_packet payload)) [])
+packet_by p time payload None =
     let a = pieces_add (with_time p time) (area_field payload) (pieces_of_packet payload) in
-    adds_as p (with_read_packet p time payload) (StandsIn (area_field payload) (pieces_of_packet payload)) (Brings payload)
-    (λ g. (λ s. record { without_fault = is; stands = s }, λ b. b.stands)) (record { options_stay = a.options_stay; given = a.given; begun = a.begun })
-packet_by p time payload (Some fault) is = adds_none p (Brings payload) (λ g b. let none = b.without_fault in cc)
+    record { options_stay = a.options_stay; given = a.given; begun = a.begun }
+packet_by p time payload (Some fault) = adds_none p
 
-all_add : (p : Progress) (packets : List Captured) → Adds p (after_all p packets) (IsBrought packets)
+all_add : (p : Progress) (packets : List Captured) → Adds p (after_all p packets) (lsas_of packets)
 unfolding after_all
-all_add p [] = adds_none p (IsBrought []) (λ g b. no_element _ b.among)
+all_add p [] = adds_none p
 all_add p (x ∷ xs) =
     let q = with_packet p x.time x.payload in
-    adds_as p (after_all q xs) (λ g. Brings x.payload g ⊎ IsBrought xs g) (IsBrought (x ∷ xs)) (λ g. (
-      λ either. elim either [
-        | inl brings ↦ record { packet = x; among = first_element x xs; brings = brings }
-        | inr b ↦ record { packet = b.packet; among = later_element x b.packet xs b.among; brings = b.brings }
-      ],
-      λ b. elim (first_or_later x b.packet xs b.among) [
-        | inl first ↦ inl (subst (λ (c : Captured). Brings c.payload g) first b.brings)
-        | inr later ↦ inr (record { packet = b.packet; among = later; brings = b.brings })
-      ],
-    )) (adds_then p q (after_all q xs) (Brings x.payload) (IsBrought xs) (packet_by p x.time x.payload (packet_fault_of x.payload) refl) (all_add q xs))
+    adds_then p q (after_all q xs) (lsas_of_payload x.payload) (lsas_of xs) (packet_by p x.time x.payload (packet_fault_of x.payload)) (all_add q xs)
 
 pub history_of : (options : Options) → HasHistory options (start options)
 history_of options packets =
     let a = all_add (start options) packets in
+    let tells = tells_all [] [] (lsas_of packets) (λ g. (λ w. absurd w, λ c. absurd (none_counts g c))) in
+    let begun = begun_is (lsas_of packets) in
     record {
       options_stay = a.options_stay;
-      given = λ keep lsa. (
-        λ c. elim ((a.given keep lsa).0 c) [ inl empty ↦ absurd (no_element lsa empty) | inr b ↦ b ],
-        λ b. (a.given keep lsa).1 (inr b),
-      );
-      begun = (
-        λ c. elim (a.begun.0 c) [ inl never ↦ absurd cc | inr b ↦ b ],
-        λ b. a.begun.1 (inr b),
-      );
+      given = λ keep lsa. subst (λ (lives : Lives). WasGiven lives lsa ↔ StillCounts (lsas_of packets) lsa) (sym (a.given keep)) (tells lsa);
+      begun = (λ b. begun.0 (sym a.begun ∙ b), λ c. a.begun ∙ begun.1 c);
     }

@@ -1,5 +1,8 @@
 mod Carrying
-pub mod Alike
+pub mod Names
+pub mod Instances
+pub mod Lives
 pub mod Pieces
-pub mod SameGiven
+pub mod Repeating
 pub mod Histories
+pub mod ReadLsas

@@ -1,11 +1,11 @@
 -- What was recorded of all packets, said of the packets themselves.
-use Rattle.std.specs.Prelude.{ℕ, ◌≡◌, ◌↔◌, false, true, List, [], ◌∷◌, Option, None, Ok}
-use Rattle.std.specs.List.{Contains}
+use Rattle.std.specs.Prelude.{ℕ, ◌≡◌, ◌↔◌, false, true, if◌then◌else◌, List, [], ◌∷◌, ◌++◌, Option, Ok, Err, is_none}
+use Rattle.std.specs.List.{All, Contains, flat_map}
 use Rattle.lsa_codec.specs.Faults.{fault_of}
 use Rattle.packets.specs.Packets.{packet_fault_of, area_field}
 use Rattle.packets.specs.Updates.{Piece}
 use Rattle.captured_lsas.specs.declared.options.Options.{Options}
-use Rattle.captured_lsas.specs.Given.{Given}
+use Rattle.captured_lsas.specs.Given.{Given, WasGiven}
 use Rattle.captured_lsas.specs.Progress.{Progress}
 use Rattle.captured_lsas.specs.Recording.{given_in}
 use Rattle.captured_lsas.specs.Packets.{pieces_of_packet, with_packet}
@@ -20,32 +20,41 @@ unfoldable pub after_all : Progress → List Captured → Progress
 after_all p [] = p
 after_all p (one ∷ more) = after_all (with_packet p one.time one.payload) more
 
--- bytes without a fault are this LSA, in a packet of the area
-pub record IsLsa (area : ℕ) (bytes : List ℕ) (lsa : Given) : Type 0 where
-  pub without_fault : fault_of bytes ≡ None
-  pub value : given_in area bytes ≡ lsa
+-- ---- the LSAs that packets bring
 
--- the LSA is one of the pieces
-pub record StandsIn (area : ℕ) (pieces : List Piece) (lsa : Given) : Type 0 where
-  pub bytes : List ℕ
-  pub stands : Contains pieces (Ok bytes)
-  pub is_lsa : IsLsa area bytes lsa
+-- one, if the bytes are without a fault
+abbrev pub lsa_of_bytes : ℕ → List ℕ → List Given
+lsa_of_bytes area bytes = if is_none (fault_of bytes) then given_in area bytes ∷ [] else []
 
--- a packet without a fault brings the LSA
-pub record Brings (payload : List ℕ) (lsa : Given) : Type 0 where
-  pub without_fault : packet_fault_of payload ≡ None
-  pub stands : StandsIn (area_field payload) (pieces_of_packet payload) lsa
+abbrev pub lsa_of_piece : ℕ → Piece → List Given
+lsa_of_piece area (Ok bytes) = lsa_of_bytes area bytes
+lsa_of_piece area (Err fault) = []
 
-pub record IsBrought (packets : List Captured) (lsa : Given) : Type 0 where
-  pub packet : Captured
-  pub among : Contains packets packet
-  pub brings : Brings packet.payload lsa
+abbrev pub lsas_of_pieces : ℕ → List Piece → List Given
+lsas_of_pieces area pieces = flat_map (lsa_of_piece area) pieces
 
--- after the packets: unless all are kept, the LSAs that count as given are just those that one of the packets brought
+-- a packet at fault brings none
+abbrev pub lsas_of_payload : List ℕ → List Given
+lsas_of_payload payload =
+    if is_none (packet_fault_of payload) then lsas_of_pieces (area_field payload) (pieces_of_packet payload) else []
+
+-- of all packets, in their order
+abbrev pub lsas_of : List Captured → List Given
+lsas_of packets = flat_map (λ packet. lsas_of_payload packet.payload) packets
+
+-- the LSA is one of these, and behind it the same one does not come to MaxAge, or below it
+pub record StillCounts (lsas : List Given) (lsa : Given) : Type 0 where
+  pub earlier : List Given
+  pub later : List Given
+  pub whole : lsas ≡ earlier ++ lsa ∷ later
+  pub stays : All (λ g. g.name ≡ lsa.name → g.is_max_age ≡ lsa.is_max_age) later
+
+-- After the packets: unless all are kept, an LSA counts as given just if one of them brought it, and what they
+-- brought of it since then was all at MaxAge, as it is, or all below. A second may be given just if there was an LSA.
 pub record IsHistory (options : Options) (packets : List Captured) (p : Progress) : Type 0 where
   pub options_stay : p.options ≡ options
-  pub given : options.keeps_all ≡ false → (lsa : Given) → Contains p.given lsa ↔ IsBrought packets lsa
-  pub begun : (p.has_begun ≡ true) ↔ ((lsa : Given) × IsBrought packets lsa)
+  pub given : options.keeps_all ≡ false → (lsa : Given) → WasGiven p.given lsa ↔ StillCounts (lsas_of packets) lsa
+  pub begun : (p.has_begun ≡ true) ↔ ((lsa : Given) × Contains (lsas_of packets) lsa)
 
 -- whichever the packets are
 abbrev pub HasHistory : Options → Progress → Type 0

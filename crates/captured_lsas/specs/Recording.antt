@@ -1,13 +1,14 @@
 -- What the LSAs of the packets come to.
 use Rattle.std.specs.Prelude.{ℕ, ◌≡◌, ◌==◌, ◌&&◌, not, Bool, true, false, if◌then◌else◌, List, Some, is_none}
-use Rattle.std.specs.List.{Contains}
+use Rattle.ospf_types.specs.declared.key.Key.{Key}
 use Rattle.ospf_types.specs.declared.key.Scope.{Scope}
 use Rattle.ospf_types.specs.declared.key.Scope.TheVariants.{Area, As}
 use Rattle.ospf_types.specs.Lsa.{Lsa}
-use Rattle.lsa_codec.specs.Faults.{fault_of, kind_field}
+use Rattle.lsa_codec.specs.Faults.{fault_of, kind_field, id_field, router_field}
+use Rattle.captured_lsas.specs.declared.name.LsaName.{LsaName}
 use Rattle.captured_lsas.specs.declared.recorded.Recorded.{Recorded}
 use Rattle.captured_lsas.specs.declared.recorded.Recorded.TheVariants.{Install, Repeated, Fault, Cut}
-use Rattle.captured_lsas.specs.Given.{Given, given_of, has_given, with_given, is_max_age}
+use Rattle.captured_lsas.specs.Given.{Given, Lives, given_of, has_given, with_given, is_max_age, WasGiven}
 use Rattle.captured_lsas.specs.Progress.{Progress}
 use Rattle.captured_lsas.specs.Reading.{IsRead}
 
@@ -15,19 +16,26 @@ use Rattle.captured_lsas.specs.Reading.{IsRead}
 abbrev pub scope_of : ℕ → List ℕ → Scope
 scope_of area lsa = if kind_field lsa == 5 then As else Area area
 
-abbrev pub given_in : ℕ → List ℕ → Given
-given_in area lsa = given_of (scope_of area lsa) lsa
+-- LS type, Link State ID and Advertising Router (RFC 2328, 12.1)
+abbrev pub key_in : List ℕ → Key
+key_in lsa = record { kind = kind_field lsa; id = id_field lsa; router = router_field lsa }
 
--- it was given before, and is left out
+abbrev pub name_in : ℕ → List ℕ → LsaName
+name_in area lsa = record { scope = scope_of area lsa; key = key_in lsa }
+
+abbrev pub given_in : ℕ → List ℕ → Given
+given_in area lsa = given_of (name_in area lsa) lsa
+
+-- it was given before in its current life, and is left out
 abbrev pub is_repeated : Progress → Given → Bool
 is_repeated p lsa = not p.options.keeps_all && has_given lsa p.given
 
 pub record IsRepeated (p : Progress) (lsa : Given) : Type 0 where
   pub leaves_out : p.options.keeps_all ≡ false
-  pub before : Contains p.given lsa
+  pub before : WasGiven p.given lsa
 
 -- where all are kept, none have to be noted
-abbrev pub noted : Progress → Given → List Given
+abbrev pub noted : Progress → Given → Lives
 noted p lsa = if p.options.keeps_all then p.given else with_given lsa p.given
 
 abbrev pub with_given_lsa : Progress → Given → Progress

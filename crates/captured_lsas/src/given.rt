@@ -1,40 +1,32 @@
-//! Which LSAs were given.
+//! What was given of each LSA.
 
 ghost use Rattle.std.specs.Prelude.{◌≡◌, ◌≤◌, [], not, length, IfOk, OnOk, OnErr};
 ghost use Rattle.captured_lsas.specs.Given.{given_of, has_given, with_given, is_max_age as is_max_age_test};
 
+use crate::life::Life;
+use crate::name::LsaName;
 use byteorder::{BigEndian, ByteOrder};
-use indexmap::IndexSet;
-use ospf_types::key::Scope;
+use indexmap::IndexMap;
 use ospf_types::lsa::MAX_AGE;
 use ospf_types::memory::Memory;
 use std::alloc::Global;
 use std::hash::RandomState;
 use std::marker::Model;
 
-/// What makes an LSA another than those before it: all but its age.
-#[derive(PartialEq, Eq, Hash, Drop)]
-struct GivenLsa {
-    scope: Scope,
-    is_max_age: bool,
-    /// The bytes behind the age.
-    rest: Vec<u8>,
-}
-
-/// The LSAs that were given.
+/// What was given of each LSA.
 #[derive(Drop)]
 pub(crate) struct GivenLsas {
-    lsas: IndexSet<GivenLsa, RandomState>,
+    lives: IndexMap<LsaName, Life, RandomState>,
+    hashing: RandomState,
 }
 
-/// Contracts see them in their order, each once.
+/// Contracts see the current life of each, in the order in which they first came.
 impl Model for GivenLsas {
-    ghost use Rattle.std.specs.Prelude.{List, map};
-    ghost use Rattle.captured_lsas.specs.Given.{Given};
+    ghost use Rattle.captured_lsas.specs.Given.{Lives};
 
-    ghost Value = { List Given };
+    ghost Value = { Lives };
 
-    ghost view = { λ g. map (λ l. record { scope = l.scope; is_max_age = l.is_max_age; rest = l.rest.items }) g.lsas.keys };
+    ghost view = { λ g. g.lives.entries };
 }
 
 impl GivenLsas {
@@ -42,24 +34,29 @@ impl GivenLsas {
         ensures { result ≡ [] }
     {
         GivenLsas {
-            lsas: IndexSet::with_hasher(alloc, hashing),
+            lives: IndexMap::with_hasher(alloc, hashing),
+            hashing,
         }
     }
 
-    /// Notes the LSA. Answers whether it was not given before.
-    pub(crate) fn note(&mut self, alloc: Global, scope: Scope, lsa: &[u8]) -> Result<bool, Memory>
+    /// Notes the LSA. Answers whether it is new in its current life.
+    pub(crate) fn note(&mut self, alloc: Global, name: LsaName, lsa: &[u8]) -> Result<bool, Memory>
         requires { 2 ≤ length lsa.now }
-        ensures answer { IfOk result (λ is_new. is_new ≡ not (has_given (given_of scope lsa.now) self.old)) }
-        ensures noted { OnOk result (self.new ≡ with_given (given_of scope lsa.now) self.old) }
+        ensures answer { IfOk result (λ b. b ≡ not (has_given (given_of name lsa.now) self.old)) }
+        ensures noted { OnOk result (self.new ≡ with_given (given_of name lsa.now) self.old) }
         ensures unchanged { OnErr result (self.new ≡ self.old) }
     {
-        let given = GivenLsa {
-            scope,
-            is_max_age: is_max_age(lsa),
-            rest: Vec::from_slice(alloc, &lsa[2..])?,
-        };
-        let (_, is_new) = self.lsas.insert_full(given)?;
-        Ok(is_new)
+        let is_max_age = is_max_age(lsa);
+        let instance = Vec::from_slice(alloc, &lsa[2..])?;
+        let hashing = self.hashing;
+        match self.lives.get_mut(&name) {
+            Some(life) => life.note(alloc, hashing, is_max_age, instance),
+            None => {
+                let life = Life::begin(alloc, hashing, is_max_age, instance)?;
+                self.lives.insert(name, life)?;
+                Ok(true)
+            }
+        }
     }
 }
 

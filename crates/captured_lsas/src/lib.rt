@@ -4,7 +4,9 @@
 
 mod given;
 mod heard;
+mod life;
 mod listener;
+mod name;
 mod options;
 mod reading;
 mod recorded;

@@ -12,7 +12,8 @@ pub enum Recorded {
         /// It is at MaxAge, and is purged right behind that.
         purges: bool,
     },
-    /// The LSA was given before, and is left out.
+    /// The LSA was given before but for its age, and is left out. Since then it did not come to MaxAge, or
+    /// below it again.
     Repeated,
     /// The bytes are no LSA, and are left out.
     Fault(WireFault),

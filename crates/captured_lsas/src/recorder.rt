@@ -4,13 +4,15 @@ ghost use Rattle.std.specs.Prelude.{◌≡◌, ◌≤◌, length, IfOk, OnOk, On
 ghost use Rattle.captured_lsas.specs.Seconds.{between as between_test, seconds_due, with_time};
 ghost use Rattle.captured_lsas.specs.Given.{given_of};
 ghost use Rattle.captured_lsas.specs.Progress.{start};
-ghost use Rattle.captured_lsas.specs.Recording.{is_repeated as is_repeated_test, scope_of as scope_of_test, IsInstalled, IsRecorded, with_lsa, with_read_lsa, with_given_lsa};
+ghost use Rattle.captured_lsas.specs.Reading.{IsRead};
+ghost use Rattle.captured_lsas.specs.Recording.{is_repeated, scope_of as scope_of_test, IsInstalled, IsRecorded, with_lsa, with_read_lsa, with_given_lsa};
 ghost use Rattle.packets.specs.Updates.{lent};
 ghost use Rattle.captured_lsas.specs.Updates.{pieces_in, pieces_for, with_piece, with_pieces, StopsIn, IsPieceRecorded, AreRecorded};
 ghost use Rattle.captured_lsas.specs.History.{HasHistory};
 ghost use Rattle.captured_lsas.specs.Packets.{IsTaken, IsOfPacket, with_packet, StopsWithin};
 
 use crate::given::{GivenLsas, is_max_age};
+use crate::name::LsaName;
 use crate::options::Options;
 use crate::reading::read_lsa;
 use crate::recorded::Recorded;
@@ -53,7 +55,8 @@ impl Recorder {
     /// Nothing was recorded.
     pub fn new(alloc: Global, hashing: RandomState, options: Options) -> Recorder
         ensures start { result ≡ start options }
-        // From here, whichever packets are taken, an LSA counts as given just if one of them brought it.
+        // From here, whichever packets are taken, an LSA counts as given just if one of them brought it, and since
+        // then it did not come to MaxAge, or below it again.
         ensures history { HasHistory options result }
     {
         Recorder {
@@ -70,7 +73,11 @@ impl Recorder {
     ///
     /// Once an LSA was given, seconds come before the LSAs of a packet: as many as lie between the time of
     /// the first packet and its own, less those that were given. Each LSA is installed, and purged too if it
-    /// is at MaxAge, unless it is at fault, or was given before but for its age.
+    /// is at MaxAge, unless it is at fault, or repeated.
+    ///
+    /// An LSA is repeated if all of its bytes but the age were given before in its scope, and since then it
+    /// did not come to MaxAge, or below it again. Who flushes an LSA and originates it anew begins at the
+    /// initial sequence number (RFC 2328, 12.1.6), so its bytes may be those from before, and are given again.
     pub fn take(
         &mut self,
         alloc: Global,
@@ -208,7 +215,7 @@ impl Recorder {
         }
     }
 
-    // Takes an LSA that was read.
+    // Takes an LSA that was read from the bytes.
     fn take_read(
         &mut self,
         alloc: Global,
@@ -216,27 +223,28 @@ impl Recorder {
         bytes: &[u8],
         lsa: Checked,
     ) -> Result<Recorded, Memory>
-        requires { 20 ≤ length bytes.now }
+        requires { IsRead bytes.now lsa }
         ensures recorded { IfOk result (IsInstalled self.old area bytes.now lsa) }
         ensures noted { OnOk result (self.new ≡ with_read_lsa self.old area bytes.now) }
         ensures unchanged { OnErr result (self.new ≡ self.old) }
     {
         let scope = scope_of(area, bytes);
-        if self.note(alloc, scope, bytes)? {
+        let key = lsa.key();
+        if self.note(alloc, LsaName { scope, key }, bytes)? {
             return Ok(Recorded::Repeated);
         }
         let purges = is_max_age(bytes);
         Ok(Recorded::Install { scope, lsa, purges })
     }
 
-    // Notes that an LSA is given. Answers whether it is left out, as it was given before.
-    fn note(&mut self, alloc: Global, scope: Scope, bytes: &[u8]) -> Result<bool, Memory>
+    // Notes that an LSA is given. Answers whether it is left out, as it is repeated.
+    fn note(&mut self, alloc: Global, name: LsaName, bytes: &[u8]) -> Result<bool, Memory>
         requires { 20 ≤ length bytes.now }
-        ensures answer { IfOk result (λ is_repeated. is_repeated ≡ is_repeated_test self.old (given_of scope bytes.now)) }
-        ensures noted { OnOk result (self.new ≡ with_given_lsa self.old (given_of scope bytes.now)) }
+        ensures answer { IfOk result (λ b. b ≡ is_repeated self.old (given_of name bytes.now)) }
+        ensures noted { OnOk result (self.new ≡ with_given_lsa self.old (given_of name bytes.now)) }
         ensures unchanged { OnErr result (self.new ≡ self.old) }
     {
-        let is_repeated = !self.options.keeps_all && !self.given.note(alloc, scope, bytes)?;
+        let is_repeated = !self.options.keeps_all && !self.given.note(alloc, name, bytes)?;
         self.has_begun = true;
         Ok(is_repeated)
     }

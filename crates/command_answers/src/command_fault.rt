@@ -1,7 +1,8 @@
 ghost use Rattle.std.specs.Prelude.{◌≡◌, Some};
-ghost use Rattle.command_answers.specs.Faults.{command_fault_text, status_of};
+ghost use Rattle.command_answers.specs.Faults.{command_fault_text, place_words, status_of};
 
 use crate::words::WordFault;
+use captures::FaultKind;
 use engine::{ConfigFault, Refusal};
 use lsa_codec::WireFault;
 use ospf_types::memory::Memory;
@@ -9,6 +10,8 @@ use recording::LineFault;
 use std::alloc::AllocError;
 use std::fmt;
 use thiserror::Error;
+
+const BEGINNING: &str = "capture takes --router ADDRESS or --begin HEAD";
 
 /// What went wrong with a command.
 #[derive(Clone, Copy, Debug, PartialEq, Eq, Error)]
@@ -25,6 +28,14 @@ pub enum CommandFault<'a> {
     Read(&'a str),
     /// The file is no recording.
     Line(LineFault),
+    /// The capture of this name is at fault at this place, in bytes from its first one, which is 0.
+    Capture {
+        file: &'a str,
+        place: u64,
+        kind: FaultKind,
+    },
+    /// `capture` got neither a Router ID nor a file with a beginning.
+    Beginning,
     /// Memory ran out.
     Memory,
     /// What there is to print could not be written.
@@ -40,13 +51,13 @@ pub enum CommandFault<'a> {
 }
 
 impl CommandFault<'_> {
-    /// The status of the program: 2 for a word that cannot be read, and else 1.
+    /// The status of the program: 2 for a word that cannot be read and where there is no beginning, and else 1.
     pub fn status(self) -> u8
         ensures { result ≡ status_of self.entry }
     {
         match self {
             CommandFault::Word(WordFault::Memory) => 1,
-            CommandFault::Word(_) => 2,
+            CommandFault::Word(_) | CommandFault::Beginning => 2,
             _ => 1,
         }
     }
@@ -63,6 +74,10 @@ impl fmt::Display for CommandFault<'_> {
             CommandFault::Refused(fault) => fault.fmt(f),
             CommandFault::Read(file) => write!(f, "cannot read {file}"),
             CommandFault::Line(fault) => fault.fmt(f),
+            CommandFault::Capture { file, place, kind } => {
+                write!(f, "{file} {} {place}: {kind}", place_words(*kind))
+            }
+            CommandFault::Beginning => f.write_str(BEGINNING),
             CommandFault::Memory => Memory.fmt(f),
             CommandFault::Write => f.write_str("cannot write"),
             CommandFault::WriteTo(file) => write!(f, "cannot write {file}"),
@@ -70,6 +85,16 @@ impl fmt::Display for CommandFault<'_> {
             CommandFault::Place => f.write_str("46 Place"),
             CommandFault::NoEntry => f.write_str("no entry"),
         }
+    }
+}
+
+// What is said between a capture's name and the place of its fault.
+fn place_words(kind: FaultKind) -> &'static str
+    ensures { result.now ≡ place_words kind }
+{
+    match kind {
+        FaultKind::CutOff => "is cut off at byte",
+        _ => "is at fault at byte",
     }
 }
 

@@ -10,9 +10,9 @@ use Rattle.output_format.specs.declared.Format.{Format}
 use Rattle.output_format.specs.declared.Format.TheVariants as form
 use Rattle.output_format.specs.declared.Show.{Show}
 use Rattle.output_format.specs.declared.Show.TheVariants.{Routes, Due, Lsdb, Journal}
-use Rattle.command_line.specs.Command.{ReplayTexts, ChangesTexts, FollowTexts, ExplainTexts, PageTexts, HasFormat, HasChangesWords, HasDecodeWords, HasExplainWords, HasFlag, HasFollowWords, HasJob, HasJobWords, HasPageWords, HasReplayWords, HasTexts, HasWords, IsFit, IsJob, IsMistake, JobTexts, OfOne, OfDecode, OfReplay, OfChanges, OfFollow, OfExplain, OfPage, OfFault, OneTexts, WritesWorkers, command_name, job_texts, program, show_name, format_name}
+use Rattle.command_line.specs.Command.{ReplayTexts, ChangesTexts, FollowTexts, ExplainTexts, PageTexts, CaptureTexts, HasFormat, HasCaptureWords, HasChangesWords, HasDecodeWords, HasExplainWords, HasFlag, HasFollowWords, HasJob, HasJobWords, HasPageWords, HasReplayWords, HasTexts, HasWords, IsFit, IsJob, IsMistake, JobTexts, OfOne, OfDecode, OfReplay, OfChanges, OfFollow, OfExplain, OfPage, OfCapture, OfFault, OneTexts, WritesWorkers, command_name, job_texts, program, show_name, format_name}
 use Rattle.command_line.specs.declared.command.Job.{Job}
-use Rattle.command_line.specs.declared.command.Job.TheVariants.{One, Decode, Replay, Changes, Follow, Explain, Page, Fault}
+use Rattle.command_line.specs.declared.command.Job.TheVariants.{One, Decode, Replay, Changes, Follow, Explain, Page, Capture, Fault}
 use Rattle.command_line.specs.declared.command.Usage.{Usage}
 use Rattle.command_line.specs.declared.command.Usage.TheVariants.{Told, Memory}
 use Rattle.command_line.proofs.Matches.{apart, one_given}
@@ -119,6 +119,18 @@ page_unique rows t u h k =
     pages_same t.file u.file t.output u.output t.progress u.progress
     (one_given _ t.file u.file h.0 k.0) (sym h.1 ∙ k.1) (flag_unique rows (codes "progress") t.progress u.progress h.2 k.2)
 
+captures_same : (a b : Text) (v w x y : Option Text) (p q m n : Bool) → a ≡ b → v ≡ w → x ≡ y → p ≡ q → m ≡ n
+    → (let t : CaptureTexts = record { file = a; router = v; begin = x; keeps_all = p; without_seconds = m } in
+    let u : CaptureTexts = record { file = b; router = w; begin = y; keeps_all = q; without_seconds = n } in t ≡ u)
+captures_same a b v w x y p q m n e f g h k = rw (e, f, g, h, k) refl
+
+capture_unique : (rows : List Row) (t u : CaptureTexts) → HasCaptureWords rows t → HasCaptureWords rows u → t ≡ u
+capture_unique rows t u h k =
+    captures_same t.file u.file t.router u.router t.begin u.begin t.keeps_all u.keeps_all t.without_seconds u.without_seconds
+    (one_given _ t.file u.file h.0 k.0) (sym h.1 ∙ k.1) (sym h.2 ∙ k.2)
+    (flag_unique rows (codes "all") t.keeps_all u.keeps_all h.3 k.3)
+    (flag_unique rows (codes "no-seconds") t.without_seconds u.without_seconds h.4 k.4)
+
 -- the words of one command were given for one job
 same_texts : (rows : List Row) (a b : JobTexts) → command_name a ≡ command_name b → HasJobWords rows a → HasJobWords rows b → a ≡ b
 same_texts rows (OfOne t) (OfOne u) e h k = ap OfOne (words_unique rows t u h k)
@@ -135,6 +147,8 @@ same_texts rows (OfExplain t) (OfExplain u) e h k = ap OfExplain (explain_unique
 same_texts rows (OfExplain t) other e h k = absurd (apart (codes "explain") (command_name other) refl e)
 same_texts rows (OfPage t) (OfPage u) e h k = ap OfPage (page_unique rows t u h k)
 same_texts rows (OfPage t) other e h k = absurd (apart (codes "page") (command_name other) refl e)
+same_texts rows (OfCapture t) (OfCapture u) e h k = ap OfCapture (capture_unique rows t u h k)
+same_texts rows (OfCapture t) other e h k = absurd (apart (codes "capture") (command_name other) refl e)
 same_texts rows (OfFault a) (OfFault b) e h k = ap OfFault (one_given _ a b h k)
 same_texts rows (OfFault a) other e h k = absurd (apart (codes "fault") (command_name other) refl e)
 
@@ -152,6 +166,7 @@ job_is_fit s (Changes file only format progress) h = tt
 job_is_fit s (Follow only strict format) h = tt
 job_is_fit s (Explain file address due format progress) h = tt
 job_is_fit s (Page file output progress) h = tt
+job_is_fit s (Capture words) h = tt
 job_is_fit s (Fault number) h = tt
 
 -- ---- a known line

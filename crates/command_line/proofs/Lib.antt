@@ -9,4 +9,5 @@ pub mod ChangesLines
 pub mod ExplainLines
 pub mod FollowLines
 pub mod PageLines
+pub mod CaptureLines
 pub mod Jobs

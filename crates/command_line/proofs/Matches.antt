@@ -10,7 +10,7 @@ use Rattle.clap.specs.declared.parser.matches.Found.{Found}
 use Rattle.clap.specs.declared.parser.matches.SubCommand.{SubCommand}
 use Rattle.clap.specs.declared.parser.matches.ArgMatches.TheViews.{out-SubCommand}
 use Rattle.clap.proofs.WalkLemmas.{first_value-rows}
-use Rattle.command_line.specs.Command.{OneTexts, ReplayTexts, ChangesTexts, FollowTexts, ExplainTexts, PageTexts, HasChangesWords, HasDecodeWords, HasExplainWords, HasFollowWords, HasJob, HasJobWords, HasPageWords, HasReplayWords, HasWords, IsJob, IsJobOf, JobTexts, OfOne, OfDecode, OfReplay, OfChanges, OfFollow, OfExplain, OfPage, OfFault, command_name}
+use Rattle.command_line.specs.Command.{OneTexts, ReplayTexts, ChangesTexts, FollowTexts, ExplainTexts, PageTexts, CaptureTexts, HasCaptureWords, HasChangesWords, HasDecodeWords, HasExplainWords, HasFollowWords, HasJob, HasJobWords, HasPageWords, HasReplayWords, HasWords, IsJob, IsJobOf, JobTexts, OfOne, OfDecode, OfReplay, OfChanges, OfFollow, OfExplain, OfPage, OfCapture, OfFault, command_name}
 use Rattle.command_line.specs.declared.command.Job.{Job}
 
 pub same_text : (xs ys : List ℕ) → bytes_eq xs ys ≡ true → xs ≡ ys
@@ -86,6 +86,10 @@ no_explain name rows is none other e h = apart (command_name other) (codes "expl
 pub no_page : (name : Text) (rows : List Row) → name ≡ codes "page" → ((t : PageTexts) → HasPageWords rows t → ⊥) → NoJobOf name rows
 no_page name rows is none (OfPage t) e h = none t h
 no_page name rows is none other e h = apart (command_name other) (codes "page") refl (e ∙ is)
+
+pub no_capture : (name : Text) (rows : List Row) → name ≡ codes "capture" → ((t : CaptureTexts) → HasCaptureWords rows t → ⊥) → NoJobOf name rows
+no_capture name rows is none (OfCapture t) e h = none t h
+no_capture name rows is none other e h = apart (command_name other) (codes "capture") refl (e ∙ is)
 
 pub no_fault : (name : Text) (rows : List Row) → name ≡ codes "fault" → ((number : Text) → first_of (codes "NUMBER") rows ≡ Some number → ⊥) → NoJobOf name rows
 no_fault name rows is none (OfFault number) e h = none number h

@@ -90,7 +90,7 @@ option_fault s h position id (x ∷ xs) p = go (x == 45) refl
     go true e = let bad : strip_byte 45 (x ∷ xs) ≡ Some xs = rw e refl in cc
     go false e = let none : short_of (x ∷ xs) ≡ None = rw e refl in rw (e, none) refl
 
-option_file_fault : (s : Shape) (h : Held) (position : ℕ) (id word : Text) → IsFileWord word → turn_fault s [] (waiting_at h position id) word ≡ []
+pub option_file_fault : (s : Shape) (h : Held) (position : ℕ) (id word : Text) → IsFileWord word → turn_fault s [] (waiting_at h position id) word ≡ []
 option_file_fault s h position id word (inl p) = option_fault s h position id word p
 option_file_fault s h position id word (inr e) = rw e refl
 
@@ -101,7 +101,7 @@ module _ (s : Shape) where
   abbrev pub walk_on : Text → List Text → Walk
   walk_on word rest = fold (walked s.rules []) (first_walk word) rest
 
-  walk_on_is : (word : Text) (rest : List Text) → IsFileWord word → walk s.rules [] nothing_held (word ∷ rest) ≡ walk_on word rest
+  pub walk_on_is : (word : Text) (rest : List Text) → IsFileWord word → walk s.rules [] nothing_held (word ∷ rest) ≡ walk_on word rest
   walk_on_is word rest p = ap (λ (w : Walk). fold (walked s.rules []) w rest) (file_step s.rules nothing_held 1 word p)
 
   pub rows_at : (words : List Text) (after : Walk) → walk s.rules [] nothing_held words ≡ after → rows_after s.rules [] words ≡ finished s.rules after.held

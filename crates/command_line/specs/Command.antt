@@ -1,5 +1,5 @@
--- The command line: `abr one ROUTER AREA ADDRESS HEX LOOKUP`, `abr decode HEX [--long]`, `abr replay FILE [--workers N] [--show NAME] [--format NAME] [--progress]`, `abr changes FILE [--only PREFIX] [--format NAME] [--progress]`, `abr follow [--only PREFIX] [--strict] [--format NAME]`, `abr explain FILE ADDRESS [--due AREA] [--format NAME] [--progress]`, `abr page FILE [-o OUT] [--progress]` and `abr fault NUMBER`.
-use Rattle.std.specs.Prelude.{ℕ, ◌≡◌, ◌⊎◌, ◌≤◌, Bool, true, false, List, [], ◌∷◌, Option, Some, None, Result, MatchResult, codes, map, option_map}
+-- The command line: `abr one ROUTER AREA ADDRESS HEX LOOKUP`, `abr decode HEX [--long]`, `abr replay FILE [--workers N] [--show NAME] [--format NAME] [--progress]`, `abr changes FILE [--only PREFIX] [--format NAME] [--progress]`, `abr follow [--only PREFIX] [--strict] [--format NAME]`, `abr explain FILE ADDRESS [--due AREA] [--format NAME] [--progress]`, `abr page FILE [-o OUT] [--progress]`, `abr capture FILE [--router ADDRESS] [--begin HEAD] [--all] [--no-seconds]` and `abr fault NUMBER`.
+use Rattle.std.specs.Prelude.{ℕ, ◌≡◌, ◌⊎◌, ◌≤◌, Bool, true, false, List, [], ◌∷◌, ◌++◌, Option, Some, None, Result, MatchResult, codes, map, option_map}
 use Rattle.std.specs.Borrow.{Bor}
 use Rattle.std.specs.Str.{bytes_eq}
 use Rattle.std.specs.Str.Parse.{IsNumeral, digits_value, without_leading_plus}
@@ -14,7 +14,7 @@ use Rattle.output_format.specs.declared.Show.{Show}
 use Rattle.output_format.specs.declared.Show.TheVariants.{Routes, Due, Lsdb, Journal}
 use Rattle.command_line.specs.declared.command.OneWords.{OneWords}
 use Rattle.command_line.specs.declared.command.Job.{Job}
-use Rattle.command_line.specs.declared.command.Job.TheVariants.{One, Decode, Replay, Changes, Follow, Explain, Page, Fault}
+use Rattle.command_line.specs.declared.command.Job.TheVariants.{One, Decode, Replay, Changes, Follow, Explain, Page, Capture, Fault}
 use Rattle.command_line.specs.declared.command.Usage.{Usage}
 use Rattle.command_line.specs.declared.command.Usage.TheVariants.{Told, Memory}
 
@@ -44,6 +44,22 @@ due_option = record (new_rule (codes "due")) { long = Some (codes "due"); value_
 -- `-o OUT` or `--output OUT`
 abbrev pub output_option : Rule
 output_option = record (new_rule (codes "output")) { short = Some 111; long = Some (codes "output"); value_names = 1 }
+
+-- `--router ADDRESS`
+abbrev pub router_option : Rule
+router_option = record (new_rule (codes "router")) { long = Some (codes "router"); value_names = 1 }
+
+-- `--begin HEAD`
+abbrev pub begin_option : Rule
+begin_option = record (new_rule (codes "begin")) { long = Some (codes "begin"); value_names = 1 }
+
+-- the flag `--all`
+abbrev pub all_flag : Rule
+all_flag = record (new_rule (codes "all")) { long = Some (codes "all"); action = Some SetTrue }
+
+-- the flag `--no-seconds`
+abbrev pub no_seconds_flag : Rule
+no_seconds_flag = record (new_rule (codes "no-seconds")) { long = Some (codes "no-seconds"); action = Some SetTrue }
 
 -- the flag `--progress`
 abbrev pub progress_flag : Rule
@@ -137,6 +153,10 @@ explain_command formats =
 abbrev pub page_command : App
 page_command = with_rule (with_rule (file_command (codes "page")) output_option) progress_flag
 
+abbrev pub capture_command : App
+capture_command =
+    with_rule (with_rule (with_rule (with_rule (file_command (codes "capture")) router_option) begin_option) all_flag) no_seconds_flag
+
 -- the command `abr replay`, wherever its references point
 abbrev pub IsReplayCommand : App → Type 0
 IsReplayCommand a = (shows formats : References) × AreShowNames shows × AreFormatNames formats × (a ≡ replay_command shows formats)
@@ -185,7 +205,8 @@ program_with p =
     let first = with_subcommand (with_subcommand top one_command.top) decode_command.top in
     let second = with_subcommand (with_subcommand first (replay_command p.shows p.of_replay).top) (changes_command p.of_changes).top in
     let third = with_subcommand (with_subcommand second (follow_command p.of_follow).top) (explain_command p.of_explain).top in
-    with_subcommand (with_subcommand third page_command.top) fault_command.top
+    let fourth = with_subcommand (with_subcommand third page_command.top) capture_command.top in
+    with_subcommand fourth fault_command.top
 
 -- the program, wherever its references point
 abbrev pub IsProgram : App → Type 0
@@ -287,6 +308,14 @@ pub record PageTexts : Type 0 where
   pub output : Option Text
   pub progress : Bool
 
+-- what the words of `abr capture` say
+pub record CaptureTexts : Type 0 where
+  pub file : Text
+  pub router : Option Text
+  pub begin : Option Text
+  pub keeps_all : Bool
+  pub without_seconds : Bool
+
 -- the name of the form was given; if none was, the matches have `text`
 abbrev pub HasFormat : List Row → Format → Type 0
 HasFormat rows format = first_of (codes "format") rows ≡ Some (format_name format)
@@ -322,6 +351,14 @@ HasExplainWords rows t = (first_of (codes "FILE") rows ≡ Some t.file)
 abbrev pub HasPageWords : List Row → PageTexts → Type 0
 HasPageWords rows t = (first_of (codes "FILE") rows ≡ Some t.file) × (first_of (codes "output") rows ≡ t.output) × HasFlag rows (codes "progress") t.progress
 
+-- this file was given, this router or none, this file with a beginning or none, and `--all` and `--no-seconds` or not; where one is not, the matches have `false`
+abbrev pub HasCaptureWords : List Row → CaptureTexts → Type 0
+HasCaptureWords rows t = (first_of (codes "FILE") rows ≡ Some t.file)
+    × (first_of (codes "router") rows ≡ t.router)
+    × (first_of (codes "begin") rows ≡ t.begin)
+    × HasFlag rows (codes "all") t.keeps_all
+    × HasFlag rows (codes "no-seconds") t.without_seconds
+
 -- a job, with the texts of its words
 pub data JobTexts : Type 0 where
   OfOne : (texts : OneTexts) → JobTexts
@@ -331,6 +368,7 @@ pub data JobTexts : Type 0 where
   OfFollow : (texts : FollowTexts) → JobTexts
   OfExplain : (texts : ExplainTexts) → JobTexts
   OfPage : (texts : PageTexts) → JobTexts
+  OfCapture : (texts : CaptureTexts) → JobTexts
   OfFault : (number : Text) → JobTexts
 
 -- the text of the word, where there is one
@@ -347,6 +385,8 @@ job_texts (Follow only strict format) = OfFollow (record { only = word_text only
 job_texts (Explain file address due format progress) =
     OfExplain (record { file = file.now; address = address.now; due = word_text due; format = format; progress = progress })
 job_texts (Page file output progress) = OfPage (record { file = file.now; output = word_text output; progress = progress })
+job_texts (Capture w) =
+    OfCapture (record { file = w.file.now; router = word_text w.router; begin = word_text w.begin; keeps_all = w.keeps_all; without_seconds = w.without_seconds })
 job_texts (Fault number) = OfFault number.now
 
 -- the name of its command
@@ -358,6 +398,7 @@ command_name (OfChanges t) = codes "changes"
 command_name (OfFollow t) = codes "follow"
 command_name (OfExplain t) = codes "explain"
 command_name (OfPage t) = codes "page"
+command_name (OfCapture t) = codes "capture"
 command_name (OfFault number) = codes "fault"
 
 -- its words were given
@@ -369,6 +410,7 @@ HasJobWords rows (OfChanges t) = HasChangesWords rows t
 HasJobWords rows (OfFollow t) = HasFollowWords rows t
 HasJobWords rows (OfExplain t) = HasExplainWords rows t
 HasJobWords rows (OfPage t) = HasPageWords rows t
+HasJobWords rows (OfCapture t) = HasCaptureWords rows t
 HasJobWords rows (OfFault number) = first_of (codes "NUMBER") rows ≡ Some number
 
 -- the job is one of the command with this name, and its words were given
@@ -396,6 +438,7 @@ IsFit (Changes file only format progress) = Unit {0}
 IsFit (Follow only strict format) = Unit {0}
 IsFit (Explain file address due format progress) = Unit {0}
 IsFit (Page file output progress) = Unit {0}
+IsFit (Capture words) = Unit {0}
 IsFit (Fault number) = Unit {0}
 
 -- A mistake is one that the command line has. If no mistake is found and there is no job, a word is missing.
@@ -515,6 +558,42 @@ output_line name file flag output = name ∷ codes "page" ∷ file ∷ flag ∷ 
 abbrev pub page_progress_line : Text → Text → List Text
 page_progress_line name file = name ∷ codes "page" ∷ file ∷ codes "--progress" ∷ []
 
+-- the words of an option, if it has a value
+abbrev pub option_words : Text → Option Text → List Text
+option_words option None = []
+option_words option (Some value) = option ∷ value ∷ []
+
+-- the word of a flag, if it is set
+abbrev pub flag_words : Text → Bool → List Text
+flag_words flag false = []
+flag_words flag true = flag ∷ []
+
+-- the words of `abr capture` behind its file that say this
+abbrev pub capture_words : CaptureTexts → List Text
+capture_words t =
+    option_words (codes "--router") t.router
+    ++ (option_words (codes "--begin") t.begin ++ (flag_words (codes "--all") t.keeps_all ++ flag_words (codes "--no-seconds") t.without_seconds))
+
+-- the command line `abr capture` that says this, with its words in the order of the help, whatever the program is called
+abbrev pub capture_line : Text → CaptureTexts → List Text
+capture_line name t = name ∷ codes "capture" ∷ t.file ∷ capture_words t
+
+-- the word does not begin with a hyphen, if there is one
+abbrev pub IsPlainIfGiven : Option Text → Type 0
+IsPlainIfGiven None = Unit {0}
+IsPlainIfGiven (Some word) = IsPlainWord word
+
+-- the word does not begin with a hyphen, or is one, if there is one
+abbrev pub IsFileIfGiven : Option Text → Type 0
+IsFileIfGiven None = Unit {0}
+IsFileIfGiven (Some word) = IsFileWord word
+
+-- what it says can be read from its words
+pub record AreReadable (t : CaptureTexts) : Type 0 where
+  pub file : IsFileWord t.file
+  pub router : IsPlainIfGiven t.router
+  pub begin : IsFileIfGiven t.begin
+
 -- the command line `abr fault` with this word, whatever the program is called
 abbrev pub fault_line : Text → Text → List Text
 fault_line name number = name ∷ codes "fault" ∷ number ∷ []
@@ -620,6 +699,10 @@ abbrev pub GivesOutput : List Text → Result Job Usage → Type 0
 GivesOutput line result =
     (name file flag output : Text) → line ≡ output_line name file flag output → IsOutputFlag flag
     → IsFileWord file → IsFileWord output → GivesJob result (OfPage (record (plain_page file) { output = Some output }))
+
+-- if the line is `abr capture` with a file and any of its options and flags, in the order of the help, the job is `capture` with these, and has none of the others
+abbrev pub GivesCapture : List Text → Result Job Usage → Type 0
+GivesCapture line result = (name : Text) (t : CaptureTexts) → line ≡ capture_line name t → AreReadable t → GivesJob result (OfCapture t)
 
 -- if the line is `abr replay` with a file and `--format`, the job is `replay` of it, in that form
 abbrev pub GivesReplayFormat : List Text → Result Job Usage → Type 0

@@ -16,6 +16,22 @@ pub struct OneWords<'a> {
     pub lookup: &'a str,
 }
 
+/// The words of `abr capture`, as they were given. They may have neither a Router ID nor a beginning: who does
+/// the job has to tell that mistake.
+#[derive(Clone, Copy, Debug, PartialEq, Eq)]
+pub struct CaptureWords<'a> {
+    /// The capture (`-` is standard input).
+    pub file: &'a str,
+    /// The word of the Router ID of the router whose recording it is to become. A beginning has one of its own.
+    pub router: Option<&'a str>,
+    /// The file with the beginning of the recording.
+    pub begin: Option<&'a str>,
+    /// LSAs that were given before are given again.
+    pub keeps_all: bool,
+    /// No seconds are given.
+    pub without_seconds: bool,
+}
+
 /// A command.
 #[derive(Clone, Copy, Debug, PartialEq, Eq)]
 pub enum Job<'a> {
@@ -70,6 +86,7 @@ pub enum Job<'a> {
         output: Option<&'a str>,
         progress: bool,
     },
+    Capture(CaptureWords<'a>),
     /// `abr fault`, with the word that is to be a number.
     Fault(&'a str),
 }

@@ -4,9 +4,9 @@ ghost use Rattle.clap.specs.Words.{Text, app_of, rows_of, found_of, rule_of, sub
 ghost use Rattle.clap.specs.declared.builder.command.Command.TheViews.{out-Command};
 ghost use Rattle.output_format.specs.declared.Format.{Format};
 ghost use Rattle.output_format.specs.declared.Show.{Show};
-ghost use Rattle.command_line.specs.Command.{one_command, decode_command, page_command, fault_command, program, required_word, show_name, format_name, References, AreShowNames, AreFormatNames, OneTexts, ReplayTexts, ChangesTexts, FollowTexts, ExplainTexts, PageTexts, texts_of, HasWords, HasJob, IsJob, IsJobOf, IsMistake, IsProgram, IsReplayCommand, IsChangesCommand, IsFollowCommand, IsExplainCommand, IsShowOption, IsFormatOption, HasDecodeWords, HasFlag, HasReplayWords, HasChangesWords, HasFollowWords, HasExplainWords, HasPageWords, IsFit, WritesWorkers, workers_option, long_flag, only_option, due_option, output_option, strict_flag, progress_flag, command_words, GivesChanges, GivesDecode, GivesDue, GivesExplain, GivesFault, GivesFollow, GivesFollowOnly, GivesFormat, GivesLong, GivesOne, GivesOnly, GivesOutput, GivesPage, GivesProgress, GivesReplay, GivesShow, GivesStrict, GivesWorkers};
+ghost use Rattle.command_line.specs.Command.{one_command, decode_command, page_command, capture_command, fault_command, program, required_word, show_name, format_name, References, AreShowNames, AreFormatNames, OneTexts, ReplayTexts, ChangesTexts, FollowTexts, ExplainTexts, PageTexts, CaptureTexts, texts_of, HasWords, HasJob, IsJob, IsJobOf, IsMistake, IsProgram, IsReplayCommand, IsChangesCommand, IsFollowCommand, IsExplainCommand, IsShowOption, IsFormatOption, HasDecodeWords, HasFlag, HasReplayWords, HasChangesWords, HasFollowWords, HasExplainWords, HasPageWords, HasCaptureWords, IsFit, WritesWorkers, workers_option, long_flag, only_option, due_option, output_option, router_option, begin_option, all_flag, no_seconds_flag, strict_flag, progress_flag, command_words, GivesCapture, GivesChanges, GivesDecode, GivesDue, GivesExplain, GivesFault, GivesFollow, GivesFollowOnly, GivesFormat, GivesLong, GivesOne, GivesOnly, GivesOutput, GivesPage, GivesProgress, GivesReplay, GivesShow, GivesStrict, GivesWorkers};
 
-use crate::command::{Job, OneWords, Usage};
+use crate::command::{CaptureWords, Job, OneWords, Usage};
 use clap::builder::ValueParser;
 use clap::error::ErrorKind;
 use clap::{Arg, ArgAction, ArgMatches, Command, Error};
@@ -23,6 +23,9 @@ const MOST_WORKERS: usize = 16;
 
 // What is said of the word FILE.
 const FILE_HELP: &str = "The recording, or - for standard input";
+
+// What is said of the word FILE of `capture`.
+const CAPTURE_HELP: &str = "The capture, a pcap or a pcapng, or - for standard input";
 
 // What is said of the word ADDRESS of `explain`.
 const ADDRESS_HELP: &str =
@@ -58,6 +61,7 @@ pub fn job<'a>(alloc: Global, words: &'a [&'a str]) -> Result<Job<'a>, Usage>
     ensures due { GivesDue (command_words words.entry.now) result }
     ensures page { GivesPage (command_words words.entry.now) result }
     ensures output { GivesOutput (command_words words.entry.now) result }
+    ensures capture { GivesCapture (command_words words.entry.now) result }
     ensures format { GivesFormat (command_words words.entry.now) result }
     ensures progress { GivesProgress (command_words words.entry.now) result }
     ensures fault { GivesFault (command_words words.entry.now) result }
@@ -110,6 +114,8 @@ fn job_in<'a>(matches: &ArgMatches<'a>) -> Option<Job<'a>>
         explain_job(words)
     } else if name == "page" {
         page_job(words)
+    } else if name == "capture" {
+        capture_job(words)
     } else if name == "fault" {
         Some(Job::Fault(words.get_str("NUMBER")?))
     } else {
@@ -177,6 +183,20 @@ fn page_job<'a>(words: &ArgMatches<'a>) -> Option<Job<'a>>
         output: words.get_str("output"),
         progress: progress_of(words)?,
     })
+}
+
+fn capture_job<'a>(words: &ArgMatches<'a>) -> Option<Job<'a>>
+    ensures some { IfSome result (IsJobOf (codes "capture") (rows_of (found_of words.now))) }
+    ensures none { IsNone result → (t : CaptureTexts)
+        → ¬ HasCaptureWords (rows_of (found_of words.now)) t }
+{
+    Some(Job::Capture(CaptureWords {
+        file: words.get_str("FILE")?,
+        router: words.get_str("router"),
+        begin: words.get_str("begin"),
+        keeps_all: words.get_str("all")? == "true",
+        without_seconds: words.get_str("no-seconds")? == "true",
+    }))
 }
 
 fn replay_job<'a>(words: &ArgMatches<'a>) -> Option<Job<'a>>
@@ -271,6 +291,7 @@ fn program_command<'a>(alloc: Global) -> Result<Command<'a>, AllocError>
         .subcommand(follow(alloc)?)?
         .subcommand(explain(alloc)?)?
         .subcommand(page(alloc)?)?
+        .subcommand(capture(alloc)?)?
         .subcommand(fault(alloc)?)
 }
 
@@ -366,6 +387,20 @@ fn page<'a>(alloc: Global) -> Result<Command<'a>, AllocError>
         .arg(progress_flag(alloc))
 }
 
+fn capture<'a>(alloc: Global) -> Result<Command<'a>, AllocError>
+    ensures app { IfOk result (λ c. app_of c ≡ capture_command) }
+    ensures local { IfOk result (λ c. (out-Command c).has_globals ≡ false) }
+{
+    Command::new(alloc, "capture")
+        .about("Turns a capture of a network into a recording")
+        .after_help("Example: abr capture network.pcapng --router 10.0.0.1")
+        .arg(word(alloc, "FILE", CAPTURE_HELP))?
+        .arg(router_option(alloc))?
+        .arg(begin_option(alloc))?
+        .arg(all_flag(alloc))?
+        .arg(no_seconds_flag(alloc))
+}
+
 fn fault<'a>(alloc: Global) -> Result<Command<'a>, AllocError>
     ensures app { IfOk result (λ c. app_of c ≡ fault_command) }
     ensures local { IfOk result (λ c. (out-Command c).has_globals ≡ false) }
@@ -434,6 +469,46 @@ fn output_option<'a>(alloc: Global) -> Arg<'a>
         .long("output")
         .value_name("OUT")
         .help("The file that the page is written to; without it, standard output")
+}
+
+fn router_option<'a>(alloc: Global) -> Arg<'a>
+    ensures rule { rule_of result ≡ router_option }
+    ensures local { result.global ≡ false }
+{
+    Arg::new(alloc, "router")
+        .long("router")
+        .value_name("ADDRESS")
+        .help("The Router ID of the router whose recording it is to become")
+}
+
+fn begin_option<'a>(alloc: Global) -> Arg<'a>
+    ensures rule { rule_of result ≡ begin_option }
+    ensures local { result.global ≡ false }
+{
+    Arg::new(alloc, "begin")
+        .long("begin")
+        .value_name("HEAD")
+        .help("A file with the beginning of the recording, in place of one made from the capture")
+}
+
+fn all_flag<'a>(alloc: Global) -> Arg<'a>
+    ensures rule { rule_of result ≡ all_flag }
+    ensures local { result.global ≡ false }
+{
+    Arg::new(alloc, "all")
+        .long("all")
+        .action(ArgAction::SetTrue)
+        .help("Gives an LSA again each time that it was captured")
+}
+
+fn no_seconds_flag<'a>(alloc: Global) -> Arg<'a>
+    ensures rule { rule_of result ≡ no_seconds_flag }
+    ensures local { result.global ≡ false }
+{
+    Arg::new(alloc, "no-seconds")
+        .long("no-seconds")
+        .action(ArgAction::SetTrue)
+        .help("Leaves out the seconds that pass")
 }
 
 fn workers_option<'a>(alloc: Global) -> Arg<'a>

@@ -4,5 +4,5 @@
 mod command;
 mod command_line;
 
-pub use command::{Job, OneWords, Usage};
+pub use command::{CaptureWords, Job, OneWords, Usage};
 pub use command_line::job;

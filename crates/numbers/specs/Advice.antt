@@ -81,12 +81,45 @@ call_faults =
     ∷ (61, codes "61 NoPrefix: The length is above 32, or a bit behind it is 1. Give a length of 0 to 32, and an address whose bits behind it are 0.\n")
     ∷ []
 
+-- of a capture of a network, a pcap or a pcapng
+abbrev pub capture_faults : List Advice
+capture_faults =
+    (62, codes "62 NoCapture: The first bytes are the magic number of neither a pcap nor a pcapng, or a section of a pcapng has no byte-order magic. See whether the file is a capture, and unpack it if it is compressed.\n")
+    ∷ (63, codes "63 Version: The major version is not 2 in a pcap, or not 1 in a section of a pcapng. Convert the capture to one of these, with a program that reads it.\n")
+    ∷ (64, codes "64 BlockLength: The length of a block is no multiple of 4, below the least of its type, not repeated at its end, or above 1 MiB in a block that is read. The file is damaged: copy it again, or look at the program that wrote it.\n")
+    ∷ (65, codes "65 PacketLength: A packet has more captured bytes than its block, or more than 262144. The file is damaged, or its snapshot length is too large: copy it again, or capture with one of at most 262144.\n")
+    ∷ (66, codes "66 NoInterface: A packet is of an interface that the section has not declared. The file is damaged, or blocks were left out: copy it again, or look at the program that wrote it.\n")
+    ∷ (67, codes "67 Options: An option of an interface goes past the end of its block, or is of a wrong length. The file is damaged: copy it again, or look at the program that wrote it.\n")
+    ∷ (68, codes "68 Resolution: The time of a packet is before 1970, or 2^64 nanoseconds or more after it. Look at the clock of the machine that captured it, and at the resolution and the offset of the interface.\n")
+    ∷ (69, codes "69 CutOff: The capture ends within a header, a block or a packet, or before the first header. The file was cut off: copy it again, or wait until it is written to its end.\n")
+    ∷ []
+
+-- of an OSPF packet, and of the LSAs of a Link State Update
+abbrev pub packet_faults : List Advice
+packet_faults =
+    (70, codes "70 Short: There are fewer than 24 bytes, which is a packet's header (RFC 2328, A.3.1). Drop the packet, and look at how its bytes were cut.\n")
+    ∷ (71, codes "71 Version: The version of the packet is not 2 (RFC 2328, A.3.1). Drop the packet; version 3 (RFC 5340) is a protocol of its own.\n")
+    ∷ (72, codes "72 Kind: The packet's type is not 1 to 5 (RFC 2328, A.3.1). Drop the packet, and look at the router that sent it.\n")
+    ∷ (73, codes "73 Length: The packet's length is below 24, or more than the bytes that are there (RFC 2328, A.3.1). Drop the packet, and look at how its bytes were cut.\n")
+    ∷ (74, codes "74 Checksum: The checksum does not fit the packet (RFC 2328, D.4.1, D.4.2). Drop the packet; its bytes were changed after they were sent, or its router is at fault.\n")
+    ∷ (75, codes "75 Count: The body of a Link State Update has fewer than 4 bytes, which is the number of its LSAs (RFC 2328, A.3.5). Drop the packet, and look at the router that sent it.\n")
+    ∷ (76, codes "76 LsaLength: Where an LSA of a Link State Update is to stand, the length in its header is below 20, or the body ends before the LSA (RFC 2328, A.3.5). Keep the LSAs before it, and look at the router that sent the packet.\n")
+    ∷ []
+
+-- of an IPv4 datagram
+abbrev pub datagram_faults : List Advice
+datagram_faults =
+    (80, codes "80 Header: There are fewer than 20 bytes, the version is not 4, or the header's length is below 20 bytes or goes past the bytes (RFC 791, 3.1). Drop the datagram, and look at how its bytes were cut.\n")
+    ∷ (81, codes "81 Length: The total length is below the header's, or goes past the bytes (RFC 791, 3.1). Drop the datagram; if the capture cut it, capture with a larger snapshot length.\n")
+    ∷ (82, codes "82 Fragment: A fragment that is not the last has a payload of no whole blocks of 8 bytes, or a fragment ends past 65535 (RFC 791, 3.1). Drop the fragment, and look at the host that sent it.\n")
+    ∷ []
+
 -- the advice that the table has for the number
 abbrev pub advice_in : List Advice → ℕ → Option (List ℕ)
 advice_in table number = option_map (λ a. a.1) (find (λ a. number == a.0) table)
 
 abbrev pub all_advice : List Advice
-all_advice = lsa_faults ++ refusals ++ later_refusals ++ config_faults ++ line_faults ++ call_faults
+all_advice = lsa_faults ++ refusals ++ later_refusals ++ config_faults ++ line_faults ++ call_faults ++ capture_faults ++ packet_faults ++ datagram_faults
 
 -- the advice for the number, where it is one of a fault or a refusal
 abbrev pub advice_of : ℕ → Option (List ℕ)

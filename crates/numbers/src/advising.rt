@@ -1,6 +1,6 @@
 //! The advice for each number, a function for each table of them.
 ghost use Rattle.std.specs.Prelude.{◌≡◌, option_map};
-ghost use Rattle.numbers.specs.Advice.{advice_of, advice_in, lsa_faults, refusals, later_refusals, config_faults, line_faults, call_faults};
+ghost use Rattle.numbers.specs.Advice.{advice_of, advice_in, lsa_faults, refusals, later_refusals, config_faults, line_faults, call_faults, capture_faults, packet_faults, datagram_faults};
 
 /// What the number of a fault or a refusal means, and what to do about it: one line, with number and
 /// name, a sentence that says what holds, and one that says what to do. Another number has no advice.
@@ -14,6 +14,9 @@ pub fn advice(number: u32) -> Option<&'static str>
         .or(config_fault(number))
         .or(line_fault(number))
         .or(call_fault(number))
+        .or(capture_fault(number))
+        .or(packet_fault(number))
+        .or(datagram_fault(number))
 }
 
 // Of the bytes of an LSA.
@@ -161,6 +164,85 @@ fn call_fault(number: u32) -> Option<&'static str>
         60 => "60 NoCore: No core is open there. Open one with abr_open or abr_open_base.\n",
         61 => "61 NoPrefix: The length is above 32, or a bit behind it is 1. Give a length of 0 \
                to 32, and an address whose bits behind it are 0.\n",
+        _ => return None,
+    };
+    Some(text)
+}
+
+// Of a capture of a network, a pcap or a pcapng.
+fn capture_fault(number: u32) -> Option<&'static str>
+    ensures { option_map (λ t. t.now) result ≡ advice_in capture_faults number }
+{
+    let text = match number {
+        62 => "62 NoCapture: The first bytes are the magic number of neither a pcap nor a pcapng, \
+               or a section of a pcapng has no byte-order magic. See whether the file is a \
+               capture, and unpack it if it is compressed.\n",
+        63 => "63 Version: The major version is not 2 in a pcap, or not 1 in a section of a \
+               pcapng. Convert the capture to one of these, with a program that reads it.\n",
+        64 => "64 BlockLength: The length of a block is no multiple of 4, below the least of its \
+               type, not repeated at its end, or above 1 MiB in a block that is read. The file is \
+               damaged: copy it again, or look at the program that wrote it.\n",
+        65 => "65 PacketLength: A packet has more captured bytes than its block, or more than \
+               262144. The file is damaged, or its snapshot length is too large: copy it again, \
+               or capture with one of at most 262144.\n",
+        66 => "66 NoInterface: A packet is of an interface that the section has not declared. The \
+               file is damaged, or blocks were left out: copy it again, or look at the program \
+               that wrote it.\n",
+        67 => "67 Options: An option of an interface goes past the end of its block, or is of a \
+               wrong length. The file is damaged: copy it again, or look at the program that \
+               wrote it.\n",
+        68 => "68 Resolution: The time of a packet is before 1970, or 2^64 nanoseconds or more \
+               after it. Look at the clock of the machine that captured it, and at the resolution \
+               and the offset of the interface.\n",
+        69 => "69 CutOff: The capture ends within a header, a block or a packet, or before the \
+               first header. The file was cut off: copy it again, or wait until it is written to \
+               its end.\n",
+        _ => return None,
+    };
+    Some(text)
+}
+
+// Of an OSPF packet, and of the LSAs of a Link State Update.
+fn packet_fault(number: u32) -> Option<&'static str>
+    ensures { option_map (λ t. t.now) result ≡ advice_in packet_faults number }
+{
+    let text = match number {
+        70 => "70 Short: There are fewer than 24 bytes, which is a packet's header (RFC 2328, \
+               A.3.1). Drop the packet, and look at how its bytes were cut.\n",
+        71 => "71 Version: The version of the packet is not 2 (RFC 2328, A.3.1). Drop the packet; \
+               version 3 (RFC 5340) is a protocol of its own.\n",
+        72 => "72 Kind: The packet's type is not 1 to 5 (RFC 2328, A.3.1). Drop the packet, and \
+               look at the router that sent it.\n",
+        73 => "73 Length: The packet's length is below 24, or more than the bytes that are there \
+               (RFC 2328, A.3.1). Drop the packet, and look at how its bytes were cut.\n",
+        74 => "74 Checksum: The checksum does not fit the packet (RFC 2328, D.4.1, D.4.2). Drop \
+               the packet; its bytes were changed after they were sent, or its router is at \
+               fault.\n",
+        75 => "75 Count: The body of a Link State Update has fewer than 4 bytes, which is the \
+               number of its LSAs (RFC 2328, A.3.5). Drop the packet, and look at the router that \
+               sent it.\n",
+        76 => "76 LsaLength: Where an LSA of a Link State Update is to stand, the length in its \
+               header is below 20, or the body ends before the LSA (RFC 2328, A.3.5). Keep the \
+               LSAs before it, and look at the router that sent the packet.\n",
+        _ => return None,
+    };
+    Some(text)
+}
+
+// Of an IPv4 datagram.
+fn datagram_fault(number: u32) -> Option<&'static str>
+    ensures { option_map (λ t. t.now) result ≡ advice_in datagram_faults number }
+{
+    let text = match number {
+        80 => "80 Header: There are fewer than 20 bytes, the version is not 4, or the header's \
+               length is below 20 bytes or goes past the bytes (RFC 791, 3.1). Drop the datagram, \
+               and look at how its bytes were cut.\n",
+        81 => "81 Length: The total length is below the header's, or goes past the bytes (RFC \
+               791, 3.1). Drop the datagram; if the capture cut it, capture with a larger \
+               snapshot length.\n",
+        82 => "82 Fragment: A fragment that is not the last has a payload of no whole blocks of 8 \
+               bytes, or a fragment ends past 65535 (RFC 791, 3.1). Drop the fragment, and look \
+               at the host that sent it.\n",
         _ => return None,
     };
     Some(text)

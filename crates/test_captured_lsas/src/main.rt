@@ -10,7 +10,7 @@ use anyhow::Result;
 use captured_lsas::Options;
 use captures::Capture;
 use reading::put_capture;
-use samples::{PACKETS, captured};
+use samples::{FLUSHED_TWICE, PACKETS, captured};
 use session::Session;
 use std::fs;
 use std::hash::RandomState;
@@ -31,7 +31,9 @@ fn main(rt: HostRuntime) -> Result<()> {
     println!(rt; "all LSAs and no seconds")?;
     put_file(&rt, "small.pcap", true)?;
     println!(rt; "fragments")?;
-    put_packets(&rt)
+    put_packets(&rt, &PACKETS, true)?;
+    println!(rt; "flushed twice")?;
+    put_packets(&rt, &FLUSHED_TWICE, false)
 }
 
 // What is recorded of a file, with nothing left out if it is bare.
@@ -48,14 +50,14 @@ fn put_file(rt: &HostRuntime, name: &str, is_bare: bool) -> Result<()> {
     Ok(())
 }
 
-// What is recorded of the packets that were written by hand.
-fn put_packets(rt: &HostRuntime) -> Result<()> {
+// What is recorded of packets that were written by hand.
+fn put_packets(rt: &HostRuntime, packets: &[&[u8]], keeps_all: bool) -> Result<()> {
     let options = Options {
-        keeps_all: true,
+        keeps_all,
         without_seconds: false,
     };
     let mut session = Session::new(rt.alloc(), RandomState::new(rt)?, options);
-    for bytes in PACKETS {
+    for bytes in packets {
         session.put(rt.alloc(), &captured(bytes))?;
     }
     print!(rt; "{}", session.text())?;

@@ -1,5 +1,5 @@
 use Rattle.std.proofs.Common.{Some, true, false, sym, map, subst, inr, refl}
-use Rattle.command_line.specs.Command.{HasJob, IsJob, OfOne, OfDecode, OfReplay, OfChanges, OfFollow, OfExplain, OfPage, OfFault, one_line, decode_line, long_line, replay_line, workers_line, show_line, changes_line, only_line, follow_line, strict_line, follow_only_line, explain_line, due_line, page_line, output_line, fault_line, plain_replay, plain_changes, plain_follow, plain_explain, plain_page, replay_format_line, changes_format_line, follow_format_line, explain_format_line, replay_progress_line, changes_progress_line, explain_progress_line, page_progress_line}
+use Rattle.command_line.specs.Command.{HasJob, IsJob, OfOne, OfDecode, OfReplay, OfChanges, OfFollow, OfExplain, OfPage, OfCapture, OfFault, one_line, decode_line, long_line, replay_line, workers_line, show_line, changes_line, only_line, follow_line, strict_line, follow_only_line, explain_line, due_line, page_line, output_line, capture_line, fault_line, plain_replay, plain_changes, plain_follow, plain_explain, plain_page, replay_format_line, changes_format_line, follow_format_line, explain_format_line, replay_progress_line, changes_progress_line, explain_progress_line, page_progress_line}
 use Rattle.command_line.proofs.Jobs.{gives, has_job, job_is_fit, mistake_is, only_memory}
 use Rattle.command_line.proofs.Line.{one_has, one_faultless, decode_has, decode_faultless, long_has, long_faultless, fault_has, fault_faultless}
 use Rattle.command_line.proofs.ReplayLines.{replay_has, replay_faultless, workers_has, workers_faultless, show_has, show_faultless, replay_format_has, replay_format_faultless, replay_progress_has, replay_progress_faultless}
@@ -7,6 +7,7 @@ use Rattle.command_line.proofs.ChangesLines.{changes_has, changes_faultless, onl
 use Rattle.command_line.proofs.ExplainLines.{explain_has, explain_faultless, due_has, due_faultless, explain_format_has, explain_format_faultless, explain_progress_has, explain_progress_faultless}
 use Rattle.command_line.proofs.FollowLines.{follow_has, follow_faultless, strict_has, strict_faultless, follow_only_has, follow_only_faultless, follow_format_has, follow_format_faultless}
 use Rattle.command_line.proofs.PageLines.{page_has, page_faultless, output_has, output_faultless, page_progress_has, page_progress_faultless}
+use Rattle.command_line.proofs.CaptureLines.{capture_has, capture_faultless}
 use Rattle.command_line.proofs.Names.{met_as_given, fails_as_given}
 use Rattle.command_line.proofs.command_line.job.Goals as goal
 
@@ -92,6 +93,11 @@ pub returns-in-Some-clause-output : goal.returns-in-Some-clause-output
 returns-in-Some-clause-output c name file flag output is flagged plain plain_output =
     let given = met_as_given _ c.in-Ok.matches _ c.in_ok-command.ensures c.in-Ok.ensures.matches in
     gives _ _ (output_line name file flag output) c.in-Some.job (OfPage (record (plain_page file) { output = Some output })) given c.in-Some.ensures.some is (output_has name file flag output flagged plain plain_output)
+
+pub returns-in-Some-clause-capture : goal.returns-in-Some-clause-capture
+returns-in-Some-clause-capture c name t is readable =
+    let given = met_as_given _ c.in-Ok.matches _ c.in_ok-command.ensures c.in-Ok.ensures.matches in
+    gives _ _ (capture_line name t) c.in-Some.job (OfCapture t) given c.in-Some.ensures.some is (capture_has name t readable)
 
 pub returns-in-Some-clause-format : goal.returns-in-Some-clause-format
 returns-in-Some-clause-format c =
@@ -196,6 +202,11 @@ returns-in-Ok-clause-output c name file flag output is flagged plain plain_outpu
     let given = met_as_given _ c.in-Ok.matches _ c.in_ok-command.ensures c.in-Ok.ensures.matches in
     absurd (c.in-None.ensures.none refl (has_job _ _ (output_line name file flag output) (OfPage (record (plain_page file) { output = Some output })) given is (output_has name file flag output flagged plain plain_output)))
 
+pub returns-in-Ok-clause-capture : goal.returns-in-Ok-clause-capture
+returns-in-Ok-clause-capture c name t is readable =
+    let given = met_as_given _ c.in-Ok.matches _ c.in_ok-command.ensures c.in-Ok.ensures.matches in
+    absurd (c.in-None.ensures.none refl (has_job _ _ (capture_line name t) (OfCapture t) given is (capture_has name t readable)))
+
 pub returns-in-Ok-clause-format : goal.returns-in-Ok-clause-format
 returns-in-Ok-clause-format c =
     let given = met_as_given _ c.in-Ok.matches _ c.in_ok-command.ensures c.in-Ok.ensures.matches in (
@@ -298,6 +309,11 @@ pub returns-clause-output : goal.returns-clause-output
 returns-clause-output c name file flag output is flagged plain plain_output =
     let fails = fails_as_given _ _ c.in-Err.error c.in_ok-command.ensures c.in-Err.ensures.kinds in
     only_memory _ _ c.in-Err.error _ fails c.usage_of.ensures is (output_faultless name file flag output flagged plain plain_output)
+
+pub returns-clause-capture : goal.returns-clause-capture
+returns-clause-capture c name t is readable =
+    let fails = fails_as_given _ _ c.in-Err.error c.in_ok-command.ensures c.in-Err.ensures.kinds in
+    only_memory _ _ c.in-Err.error _ fails c.usage_of.ensures is (capture_faultless name t readable)
 
 pub returns-clause-format : goal.returns-clause-format
 returns-clause-format c =

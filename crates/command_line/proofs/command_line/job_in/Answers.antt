@@ -1,7 +1,7 @@
 use Rattle.std.proofs.Common.{◌≡◌, ◌∙◌, Some, codes, sym, ap, refl}
 use Rattle.std.proofs.lemmas.Option.{IfSome_then}
 use Rattle.clap.specs.Words.{found_of, rows_of, subcommand_rows_of}
-use Rattle.command_line.proofs.Matches.{job_met, met_is, name_in_rows, no_job, no_one, no_decode, no_replay, no_changes, no_follow, no_explain, no_page, no_fault, no_word, same_text, word_given}
+use Rattle.command_line.proofs.Matches.{job_met, met_is, name_in_rows, no_job, no_one, no_decode, no_replay, no_changes, no_follow, no_explain, no_page, no_capture, no_fault, no_word, same_text, word_given}
 use Rattle.command_line.proofs.command_line.job_in.Goals as goal
 
 pub returns-in_err-one_words-clause-none : goal.returns-in_err-one_words-clause-none
@@ -82,15 +82,27 @@ returns-then-eq-7-clause-some c =
     let met = met_is _ (codes "page") _ (ap Some (sym named) ∙ (c.in_ok-name.ensures.name ∙ name_in_rows _)) c.in_ok-name.ensures.rows in
     IfSome_then c.page_job.result c.page_job.ensures.some (λ j h. job_met _ (codes "page") (rows_of (found_of c.in_ok-name.words.now)) j met h)
 
+pub returns-then-eq-8-clause-none : goal.returns-then-eq-8-clause-none
+returns-then-eq-8-clause-none c none =
+    let named : c.in_ok-name.name.now ≡ codes "capture" = same_text _ _ (sym c.eq-else-eq-7.ensures ∙ c.if-eq-8.true) in
+    let met = met_is _ c.in_ok-name.name.now _ (c.in_ok-name.ensures.name ∙ name_in_rows _) c.in_ok-name.ensures.rows in
+    no_job (subcommand_rows_of c.args.matches.now) _ _ met (no_capture c.in_ok-name.name.now (rows_of (found_of c.in_ok-name.words.now)) named (c.capture_job.ensures.none none))
+
+pub returns-then-eq-8-clause-some : goal.returns-then-eq-8-clause-some
+returns-then-eq-8-clause-some c =
+    let named : c.in_ok-name.name.now ≡ codes "capture" = same_text _ _ (sym c.eq-else-eq-7.ensures ∙ c.if-eq-8.true) in
+    let met = met_is _ (codes "capture") _ (ap Some (sym named) ∙ (c.in_ok-name.ensures.name ∙ name_in_rows _)) c.in_ok-name.ensures.rows in
+    IfSome_then c.capture_job.result c.capture_job.ensures.some (λ j h. job_met _ (codes "capture") (rows_of (found_of c.in_ok-name.words.now)) j met h)
+
 pub returns-in_err-get_str-clause-none : goal.returns-in_err-get_str-clause-none
 returns-in_err-get_str-clause-none c none =
-    let named : c.in_ok-name.name.now ≡ codes "fault" = same_text _ _ (sym c.eq-else-eq-7.ensures ∙ c.if-eq-8.true) in
+    let named : c.in_ok-name.name.now ≡ codes "fault" = same_text _ _ (sym c.eq-else-eq-8.ensures ∙ c.if-eq-9.true) in
     let met = met_is _ c.in_ok-name.name.now _ (c.in_ok-name.ensures.name ∙ name_in_rows _) c.in_ok-name.ensures.rows in
     no_job (subcommand_rows_of c.args.matches.now) _ _ met (no_fault c.in_ok-name.name.now (rows_of (found_of c.in_ok-name.words.now)) named (λ number given. no_word (found_of c.in_ok-name.words.now) (codes "NUMBER") c.get_str.result number c.get_str.ensures c.in_err-get_str.was given))
 
 pub returns-in_ok-get_str-clause-some : goal.returns-in_ok-get_str-clause-some
 returns-in_ok-get_str-clause-some c =
-    let named : c.in_ok-name.name.now ≡ codes "fault" = same_text _ _ (sym c.eq-else-eq-7.ensures ∙ c.if-eq-8.true) in
+    let named : c.in_ok-name.name.now ≡ codes "fault" = same_text _ _ (sym c.eq-else-eq-8.ensures ∙ c.if-eq-9.true) in
     let met = met_is _ (codes "fault") _ (ap Some (sym named) ∙ (c.in_ok-name.ensures.name ∙ name_in_rows _)) c.in_ok-name.ensures.rows in (
       rows_of (found_of c.in_ok-name.words.now),
       met,

@@ -21,8 +21,9 @@ returns c =
     let explain_at = c.in_ok-explain.ensures.app in
     let explain = c.in_ok-subcommand-6.ensures.shape c.in_ok-explain.ensures.local ∙ ap₂ with_subcommand follow (ap (λ (a : App). a.top) explain_at.2) in
     let page = c.in_ok-subcommand-7.ensures.shape c.in_ok-page.ensures.local ∙ ap₂ with_subcommand explain (ap (λ (a : App). a.top) c.in_ok-page.ensures.app) in
-    IfOk-weaker c.subcommand-8.result _ _ (λ r h. (
+    let capture = c.in_ok-subcommand-8.ensures.shape c.in_ok-capture.ensures.local ∙ ap₂ with_subcommand page (ap (λ (a : App). a.top) c.in_ok-capture.ensures.app) in
+    IfOk-weaker c.subcommand-9.result _ _ (λ r h. (
       record { shows = replay_at.0; of_replay = replay_at.1; of_changes = changes_at.0; of_follow = follow_at.0; of_explain = explain_at.0 },
       record { shows = replay_at.2; of_replay = replay_at.3; of_changes = changes_at.1; of_follow = follow_at.1; of_explain = explain_at.1 },
-      h.shape c.in_ok-fault.ensures.local ∙ ap₂ with_subcommand page (ap (λ (a : App). a.top) c.in_ok-fault.ensures.app),
-    )) c.subcommand-8.ensures
+      h.shape c.in_ok-fault.ensures.local ∙ ap₂ with_subcommand capture (ap (λ (a : App). a.top) c.in_ok-fault.ensures.app),
+    )) c.subcommand-9.ensures

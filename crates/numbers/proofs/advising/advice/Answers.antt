@@ -1,5 +1,5 @@
 use Rattle.std.proofs.Common.{◌++◌}
-use Rattle.numbers.specs.Advice.{lsa_faults, refusals, later_refusals, config_faults, line_faults, call_faults}
+use Rattle.numbers.specs.Advice.{lsa_faults, refusals, later_refusals, config_faults, line_faults, call_faults, capture_faults, packet_faults, datagram_faults}
 use Rattle.numbers.proofs.Tables.{joined}
 use Rattle.numbers.proofs.advising.advice.Goals as goal
 
@@ -10,4 +10,7 @@ returns c =
     let three = joined (lsa_faults ++ refusals) later_refusals number _ _ _ two c.later_refusal.ensures c.or-2.ensures in
     let four = joined (lsa_faults ++ refusals ++ later_refusals) config_faults number _ _ _ three c.config_fault.ensures c.or-3.ensures in
     let five = joined (lsa_faults ++ refusals ++ later_refusals ++ config_faults) line_faults number _ _ _ four c.line_fault.ensures c.or-4.ensures in
-    joined (lsa_faults ++ refusals ++ later_refusals ++ config_faults ++ line_faults) call_faults number _ _ _ five c.call_fault.ensures c.or-5.ensures
+    let six = joined (lsa_faults ++ refusals ++ later_refusals ++ config_faults ++ line_faults) call_faults number _ _ _ five c.call_fault.ensures c.or-5.ensures in
+    let seven = joined (lsa_faults ++ refusals ++ later_refusals ++ config_faults ++ line_faults ++ call_faults) capture_faults number _ _ _ six c.capture_fault.ensures c.or-6.ensures in
+    let eight = joined (lsa_faults ++ refusals ++ later_refusals ++ config_faults ++ line_faults ++ call_faults ++ capture_faults) packet_faults number _ _ _ seven c.packet_fault.ensures c.or-7.ensures in
+    joined (lsa_faults ++ refusals ++ later_refusals ++ config_faults ++ line_faults ++ call_faults ++ capture_faults ++ packet_faults) datagram_faults number _ _ _ eight c.datagram_fault.ensures c.or-8.ensures

@@ -1,0 +1,4 @@
+mod Digits
+mod Counted
+pub mod Gained
+mod LsTypes

@@ -1,0 +1,4 @@
+pub mod Seconds
+pub mod Notes
+pub mod Counts
+pub mod Events

@@ -1,0 +1,7 @@
+-- How many of the seconds between two packets are recorded.
+use Rattle.std.specs.Prelude.{ℕ, min}
+use Rattle.ospf_types.specs.Lsa.{MaxAge}
+
+-- no more than make each LSA old (RFC 2328, 14)
+abbrev pub recorded_of : ℕ → ℕ
+recorded_of seconds = min seconds MaxAge

@@ -1,0 +1,97 @@
+//! The lines of a recording.
+ghost use Rattle.std.specs.Prelude.{OnOk};
+ghost use Rattle.std.specs.List.{flat_map};
+ghost use Rattle.recording.specs.Forms.{IsKind};
+ghost use Rattle.capture_lines.specs.Events.{GainsEvents, install_events, installed, purged, recorded_events, second_events, taken_events};
+
+use crate::seconds::recorded_seconds;
+use captured_lsas::{Recorded, Taken};
+use event_state::Event;
+use lsa_codec::Checked;
+use ospf_types::key::{Key, Scope};
+use ospf_types::memory::Memory;
+use recording::append_event;
+
+/// Appends the lines of a recording for the payload of a datagram: its seconds, and then an `install` line for each LSA
+/// that is not left out, with a `purge` line behind one that is at MaxAge. The seconds are `recorded_seconds`. If memory
+/// runs out, the text may have a part of the lines.
+pub fn put_taken(taken: Taken, text: &mut String) -> Result<(), Memory>
+    ensures { OnOk result (GainsEvents text.old text.new (taken_events taken)) }
+{
+    match taken {
+        Taken::Packet {
+            seconds,
+            recorded,
+            ..
+        } => {
+            put_seconds(recorded_seconds(seconds), text)?;
+            put_each(recorded, text)
+        }
+        Taken::Fault(_) => Ok(()),
+    }
+}
+
+fn put_seconds(seconds: u64, text: &mut String) -> Result<(), Memory>
+    ensures { OnOk result (GainsEvents text.old text.new (second_events seconds)) }
+{
+    for _ in 0..seconds {
+        put_second(text)?;
+    }
+    Ok(())
+}
+
+fn put_second(text: &mut String) -> Result<(), Memory>
+    ensures { OnOk result (GainsEvents text.old text.new (second_events 1)) }
+{
+    append_event(*text.allocator(), &Event::Second, text)?;
+    Ok(())
+}
+
+fn put_each(recorded: Vec<Recorded>, text: &mut String) -> Result<(), Memory>
+    ensures { OnOk result (GainsEvents text.old text.new
+        (flat_map recorded_events recorded.items)) }
+{
+    for one in recorded {
+        put_recorded(one, text)?;
+    }
+    Ok(())
+}
+
+// What a place in a Link State Update comes to.
+fn put_recorded(recorded: Recorded, text: &mut String) -> Result<(), Memory>
+    ensures { OnOk result (GainsEvents text.old text.new (recorded_events recorded)) }
+{
+    match recorded {
+        Recorded::Install { scope, lsa, purges } => put_install(scope, lsa, purges, text),
+        Recorded::Repeated => Ok(()),
+        Recorded::Fault(_) => Ok(()),
+        Recorded::Cut(_) => Ok(()),
+    }
+}
+
+// An LSA is installed, and may be purged right behind that.
+fn put_install(scope: Scope, lsa: Checked, purges: bool, text: &mut String) -> Result<(), Memory>
+    ensures { OnOk result (GainsEvents text.old text.new (install_events scope lsa purges)) }
+{
+    let key = lsa.key();
+    put_installed(scope, lsa, text)?;
+    if !purges {
+        return Ok(());
+    }
+    put_purged(scope, key, text)?;
+    Ok(())
+}
+
+fn put_installed(scope: Scope, lsa: Checked, text: &mut String) -> Result<(), Memory>
+    ensures { OnOk result (GainsEvents text.old text.new (installed scope lsa)) }
+{
+    append_event(*text.allocator(), &Event::Install { scope, lsa }, text)?;
+    Ok(())
+}
+
+fn put_purged(scope: Scope, key: Key, text: &mut String) -> Result<(), Memory>
+    ensures { OnOk result (IsKind key.kind → GainsEvents text.old text.new (purged scope key)) }
+{
+    append_event(*text.allocator(), &Event::Purge { scope, key }, text)?;
+    Ok(())
+}

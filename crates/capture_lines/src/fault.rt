@@ -1,0 +1,34 @@
+ghost use Rattle.std.specs.Prelude.{Some};
+ghost use Rattle.capture_lines.specs.Notes.{capture_fault_text};
+
+use datagrams::DatagramFault;
+use lsa_codec::WireFault;
+use packets::{PacketFault, UpdateFault};
+use std::fmt;
+
+/// A fault in a capture, by where it is.
+#[derive(Clone, Copy)]
+pub(crate) enum CaptureFault {
+    /// An IPv4 packet of OSPF is no datagram.
+    Datagram(DatagramFault),
+    /// A payload is no OSPF packet.
+    Packet(PacketFault),
+    /// A Link State Update has no whole LSA where one is to stand.
+    Update(UpdateFault),
+    /// The bytes in a Link State Update are no LSA.
+    Lsa(WireFault),
+}
+
+/// The number and the name, as `2 Checksum`.
+impl fmt::Display for CaptureFault {
+    ghost output = { λ fault. Some (capture_fault_text fault) };
+
+    fn fmt<W: fmt::Write>(&self, f: &mut fmt::Formatter<W>) -> fmt::Result {
+        match self {
+            CaptureFault::Datagram(fault) => fault.fmt(f),
+            CaptureFault::Packet(fault) => fault.fmt(f),
+            CaptureFault::Update(fault) => fault.fmt(f),
+            CaptureFault::Lsa(fault) => fault.fmt(f),
+        }
+    }
+}

@@ -1,0 +1,4 @@
+pub mod Faults
+pub mod Window
+pub mod Positions
+pub mod Steps

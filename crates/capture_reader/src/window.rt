@@ -1,0 +1,141 @@
+//! What was read of an input and is not read past.
+ghost use Rattle.std.specs.Prelude.{◌≡◌, ◌≢◌, ◌≤◌, ◌<◌, ◌+◌, ◌++◌, ℕ, List, [], OnErr, OnOk, IfOk, IfErr, length, drop, take, vec_len};
+ghost use Rattle.std.specs.IoError.{error_kind};
+ghost use Rattle.std.specs.declared.io.ErrorKind.TheVariants as ErrorKind;
+ghost use Rattle.std.specs.Io.KnownBytes.{Consumes, IsAtEnd, Keeps};
+ghost use Rattle.capture_reader.specs.Faults.{IsOfInput};
+ghost use Rattle.capture_reader.specs.declared.window.TheConstants.{LARGEST};
+
+use crate::fault::CaptureError;
+use std::alloc::{AllocError, Global};
+use std::io;
+
+/// How many bytes a window has at first.
+const FIRST: usize = 65_536;
+
+/// How many bytes a window has at most: the longest part of a capture.
+pub(crate) const LARGEST: usize = 1_048_576;
+
+/// Bytes of an input that were read and not read past, from `start` to `end`, and room behind them.
+#[derive(Drop)]
+pub(crate) struct Window {
+    bytes: Vec<u8>,
+    start: usize,
+    end: usize,
+    ghost ordered: { start ≤ end },
+    ghost within: { end ≤ vec_len bytes },
+    ghost some: { 0 < vec_len bytes },
+    ghost bounded: { vec_len bytes ≤ LARGEST },
+}
+
+impl Window {
+    ghost use Rattle.capture_reader.specs.Window.{pending, room};
+
+    /// A window of which nothing was read.
+    pub(crate) fn new(alloc: Global) -> Result<Window, AllocError>
+        ensures { IfOk result (λ window. pending window ≡ []) }
+    {
+        let mut bytes = Vec::with_capacity(alloc, FIRST)?;
+        bytes.resize(FIRST, 0)?;
+        Ok(Window {
+            bytes,
+            start: 0,
+            end: 0,
+        })
+    }
+
+    /// What was read and not read past.
+    pub(crate) fn as_slice(&self) -> &[u8]
+        ensures { result.now ≡ pending self.now }
+    {
+        &self.bytes[self.start..self.end]
+    }
+
+    /// Goes past so many of the pending bytes.
+    pub(crate) fn pass(&mut self, count: usize)
+        requires { count ≤ length (pending self.old) }
+        ensures { pending self.new ≡ drop count (pending self.old) }
+    {
+        self.start += count;
+    }
+
+    /// Reads once, behind what is pending. Answers how many bytes came, none only at the end of the input.
+    /// An error loses none.
+    pub(crate) fn fill<R: io::Read>(&mut self, input: &mut R) -> Result<usize, CaptureError>
+        requires { length (pending self.old) < LARGEST }
+        ensures bytes { IfOk result (λ n. (more : List ℕ) × (length more ≡ n)
+            × (pending self.new ≡ pending self.old ++ more)
+            × Consumes (R.remaining input.old) (R.remaining input.new) more) }
+        ensures end { IfOk result (λ n. n ≡ 0 → IsAtEnd (R.remaining input.new)) }
+        ensures kept { OnErr result ((pending self.new ≡ pending self.old)
+            × Keeps (R.remaining input.old) (R.remaining input.new)) }
+        ensures of_input { IfErr result IsOfInput }
+    {
+        self.move_to_front();
+        self.make_room()?;
+        Ok(self.read_behind(input)?)
+    }
+
+    // Moves the pending bytes to the front of the window.
+    fn move_to_front(&mut self)
+        ensures same { pending self.new ≡ pending self.old }
+        ensures front { self.new.end ≡ length (pending self.old) }
+    {
+        let (start, end) = (self.start, self.end);
+        if start == 0 {
+            return;
+        }
+        self.bytes.copy_within(start..end, 0);
+        self.start = 0;
+        self.end = end - start;
+    }
+
+    // Grows the window if there is no room behind what is pending.
+    fn make_room(&mut self) -> Result<(), AllocError>
+        requires { self.old.end < LARGEST }
+        ensures same { pending self.new ≡ pending self.old }
+        ensures some { OnOk result (0 < room self.new) }
+    {
+        let size = self.bytes.len();
+        if self.end == size {
+            self.bytes.resize(LARGEST.min(2 * size), 0)?;
+        }
+        Ok(())
+    }
+
+    // Reads once, behind what is pending.
+    fn read_behind<R: io::Read>(&mut self, input: &mut R) -> io::Result<usize>
+        requires { 0 < room self.old }
+        ensures bytes { IfOk result (λ n. (more : List ℕ) × (length more ≡ n)
+            × (pending self.new ≡ pending self.old ++ more)
+            × Consumes (R.remaining input.old) (R.remaining input.new) more) }
+        ensures end { IfOk result (λ n. n ≡ 0 → IsAtEnd (R.remaining input.new)) }
+        ensures kept { OnErr result ((pending self.new ≡ pending self.old)
+            × Keeps (R.remaining input.old) (R.remaining input.new)) }
+    {
+        let end = self.end;
+        let count = read_once(input, &mut self.bytes[end..])?;
+        self.end = end + count;
+        Ok(count)
+    }
+}
+
+// One read, which is tried again if it is interrupted.
+fn read_once<R: io::Read>(input: &mut R, buffer: &mut [u8]) -> io::Result<usize>
+    ensures bound { IfOk result (λ n. n ≤ length buffer.new) }
+    ensures bytes { IfOk result (λ n.
+        Consumes (R.remaining input.old) (R.remaining input.new) (take n buffer.new)) }
+    ensures end { IfOk result (λ n.
+        n ≡ 0 → 0 < length buffer.old → IsAtEnd (R.remaining input.new)) }
+    ensures kept { OnErr result (Keeps (R.remaining input.old) (R.remaining input.new)) }
+    ensures retried { IfErr result (λ e. error_kind e ≢ ErrorKind.Interrupted) }
+{
+    for _ in 0..usize::MAX {
+        match input.read(buffer) {
+            Ok(count) => return Ok(count),
+            Err(error) if error.kind() == io::ErrorKind::Interrupted => {}
+            Err(error) => return Err(error),
+        }
+    }
+    Err(io::Error::from(io::ErrorKind::TimedOut))
+}

@@ -1,0 +1,171 @@
+-- What a capture that was gone through is finished with.
+use Rattle.std.proofs.Common.{◌≡◌, ◌∙◌, ◌++◌, List, [], ℕ, Option, Some, ◌⊎◌, inl, inr, Result, Err, Bool, refl, ap, sym, subst, append_assoc, append-nil}
+use Rattle.std.specs.Prelude.{length, string_bytes}
+use Rattle.std.specs.Io.KnownBytes.{Appends}
+use Rattle.config_faults.specs.Configs.{config_fault_of}
+use Rattle.config_faults.specs.declared.fault.ConfigFault.{ConfigFault}
+use Rattle.captured_config.specs.Configs.{config_of as config_by}
+use Rattle.captured_config.specs.Fronts.{captured_recording}
+use Rattle.capture_lines.specs.Counts.{counts_line}
+use Rattle.captured_lsas.specs.declared.options.Options.{Options}
+use Rattle.recording.specs.Recordings.{IsText}
+use Rattle.replay.specs.Writing.{AppendsPart}
+use Rattle.replay.proofs.Written.{appends_none, appends_more}
+use Rattle.capture_recording.specs.declared.capturing.Beginning.{Beginning}
+use Rattle.capture_recording.specs.declared.capturing.Beginning.TheVariants.{Given, Router}
+use Rattle.capture_recording.specs.declared.fault.CapturingFault.{CapturingFault}
+use Rattle.capture_recording.specs.declared.fault.CapturingFault.TheVariants.{Write, Closed}
+use Rattle.capture_recording.specs.declared.gathered.Gathered.{Gathered}
+use Rattle.capture_recording.specs.declared.going.Ended.{Ended}
+use Rattle.capture_recording.specs.Ending.{fault_lacking, result_of, unless_silent}
+use Rattle.capture_recording.specs.Finishing.{IsBegun, IsBehind, IsLacking, IsWhollyWritten, router_of, unknown_if, unknown_in}
+use Rattle.capture_recording.specs.Folds.{areas_of, captured_of, counts_of}
+use Rattle.capture_recording.specs.Gathering.{AreGathered, config_of}
+use Rattle.capture_recording.specs.Going.{GoesThrough}
+use Rattle.capture_recording.specs.Outputs.{FaultOutcome, IsFront, Outcome, IsRecordedUpTo, counts_text, unknown_of}
+use Rattle.capture_recording.specs.Said.{HasSaid}
+use Rattle.capture_recording.specs.Steps.{Step}
+use Rattle.capture_recording.specs.Texts.{notes_of}
+use Rattle.capture_recording.proofs.Outcomes.{of_none, of_taken, outcome_part, outcome_recorded, outcome_lacking}
+use Rattle.capture_recording.proofs.Said.{up_to_all, part_behind, part_more}
+
+-- ---- what is said at the end
+
+unknown_is : (beginning : Beginning) (steps : List Step) → unknown_if (config_of (router_of beginning) steps) (areas_of steps) ≡ unknown_of beginning steps
+unknown_is (Given bytes) steps = refl
+unknown_is (Router router) steps = refl
+
+module _ (options : Options) (router : Option ℕ) (steps : List Step) (g : Gathered) (are : AreGathered options router steps g) where
+  counts_are : counts_line g.counts (length g.areas) ≡ counts_text steps
+  counts_are = ap (λ c. counts_line c (length g.areas)) are.counts ∙ ap (λ a. counts_line (counts_of steps) (length a)) are.areas
+
+  unknown_are : unknown_in g ≡ unknown_if (config_of router steps) (areas_of steps)
+  unknown_are = ap (λ c. unknown_if c g.areas) are.config ∙ ap (unknown_if (config_of router steps)) are.areas
+
+ends_are : (options : Options) (beginning : Beginning) (steps : List Step) (g : Gathered) → AreGathered options (router_of beginning) steps g
+    → unknown_in g ++ counts_line g.counts (length g.areas) ≡ unknown_of beginning steps ++ counts_text steps
+ends_are options beginning steps g are =
+    ap (λ l. l ++ counts_line g.counts (length g.areas)) (unknown_are options (router_of beginning) steps g are ∙ unknown_is beginning steps)
+    ∙ ap (λ l. unknown_of beginning steps ++ l) (counts_are options (router_of beginning) steps g are)
+
+-- ---- a front was written
+
+module _ (options : Options) (beginning : Beginning) (before after old now told_before told : Option (List ℕ)) (ended : Ended) (is : IsBegun options beginning before after old now told_before told ended) where
+  -- the lines that are left could not be written
+  pub lines_unwritten : (new : Option (List ℕ)) (fault : CapturingFault) → (fault ≡ Write) ⊎ (fault ≡ Closed) → AppendsPart now new (string_bytes ended.session.lines)
+      → FaultOutcome options beginning before after old new told_before told fault
+  lines_unwritten new fault kind part =
+      let all = subst (AppendsPart old new) (append_assoc is.front is.written (string_bytes ended.session.lines)) (part_behind old now new (is.front ++ is.written) (string_bytes ended.session.lines) is.begun part) in
+      outcome_part options beginning before after old new told_before told fault kind
+      (of_taken options (router_of beginning) before told_before is.through.to after told ended.session is.written is.through.recorded _
+      (record { front = is.front; is = is.is; written = all }, is.through.recorded.said.begun))
+
+  pub lines_written : (new : Option (List ℕ)) → Appends now new (string_bytes ended.session.lines) → IsWhollyWritten options beginning before after old new told_before told ended
+  lines_written new written = record {
+    written = is.written;
+    through = is.through;
+    all = record {
+      front = is.front;
+      is = is.is;
+      written = subst (Appends old new) (append_assoc is.front is.written (string_bytes ended.session.lines)) (appends_more old now new (is.front ++ is.written) (string_bytes ended.session.lines) is.begun written);
+    };
+  }
+
+-- ---- all was written
+
+module _ (options : Options) (beginning : Beginning) (before after old new told_before told : Option (List ℕ)) (ended : Ended) (is : IsWhollyWritten options beginning before after old new told_before told ended) where
+  -- memory ran out
+  pub end_unsaid : IsRecordedUpTo options beginning before old new told_before told
+  end_unsaid = (
+    after,
+    of_taken options (router_of beginning) before told_before is.through.to after told ended.session is.written is.through.recorded _
+        (inr (record { front = is.all.front; is = is.all.is; written = up_to_all old new _ is.all.written }), is.through.recorded.said.begun),
+  )
+
+  pub end_said : (now : Option (List ℕ)) (is_silent : Bool) (text : List ℕ)
+      → HasSaid told_before now is_silent (notes_of is.through.recorded.steps ++ text) → text ≡ unknown_in ended.session.gathered ++ counts_line ended.session.gathered.counts (length ended.session.gathered.areas)
+      → (answer all : Result (Unit {0}) CapturingFault) → answer ≡ unless_silent is_silent all → all ≡ result_of ended.ending → Outcome options beginning before after old new told_before now answer
+  end_said now is_silent text said same answer all answers all_is =
+      let steps = is.through.recorded.steps in
+      let notes = subst (λ (l : List ℕ). HasSaid told_before now is_silent (notes_of steps ++ l)) (same ∙ ends_are options beginning steps ended.session.gathered is.through.recorded.gathered) said in
+      subst (Outcome options beginning before after old new told_before now) (sym (answers ∙ ap (unless_silent is_silent) all_is))
+      (outcome_recorded options beginning before after old new told_before now ended.ending is_silent
+      (of_taken options (router_of beginning) before told_before is.through.to after told ended.session is.written is.through.recorded _
+      (is.through.ending, is.all, notes)))
+
+-- ---- the front is not written yet
+
+pub front_begun : (options : Options) (beginning : Beginning) (before after told_before told old now : Option (List ℕ)) (ended : Ended) (front : List ℕ) → IsBehind options beginning before after told_before told ended front
+    → Appends old now front → IsBegun options beginning before after old now told_before told ended
+front_begun options beginning before after told_before told old now ended front is written = record {
+  written = [];
+  through = is.through;
+  front = front;
+  is = is.is;
+  begun = subst (Appends old now) (sym (append-nil front)) written;
+}
+
+pub front_unwritten : (options : Options) (beginning : Beginning) (before after told_before told old new : Option (List ℕ)) (ended : Ended) (front : List ℕ) → IsBehind options beginning before after told_before told ended front
+    → (fault : CapturingFault) → (fault ≡ Write) ⊎ (fault ≡ Closed) → AppendsPart old new front → FaultOutcome options beginning before after old new told_before told fault
+front_unwritten options beginning before after told_before told old new ended front is fault kind part =
+    outcome_part options beginning before after old new told_before told fault kind
+    (of_taken options (router_of beginning) before told_before is.through.to after told ended.session [] is.through.recorded _
+    (record { front = front; is = is.is; written = part_more old new front (string_bytes ended.session.lines) part }, is.through.recorded.said.begun))
+
+-- memory ran out before anything was written
+pub nothing_written : (options : Options) (router : Option ℕ) (beginning : Beginning) (before after told_before told old : Option (List ℕ)) (ended : Ended) → GoesThrough options router before told_before after told ended []
+    → IsRecordedUpTo options beginning before old old told_before told
+nothing_written options router beginning before after told_before told old ended through =
+    (after, of_taken options router before told_before through.to after told ended.session [] through.recorded _ (inl (appends_none old), through.recorded.said.begun))
+
+pub lacking_said : (options : Options) (router : ℕ) (before after told_before told now old : Option (List ℕ)) (ended : Ended) (fault : ConfigFault) (is : IsLacking options router before after told_before told ended fault)
+    (is_silent : Bool) (text : List ℕ) → HasSaid told_before now is_silent (notes_of is.through.recorded.steps ++ text)
+    → text ≡ counts_line ended.session.gathered.counts (length ended.session.gathered.areas)
+    → (answer : Result (Unit {0}) CapturingFault) (found : CapturingFault) → answer ≡ unless_silent is_silent (Err found) → found ≡ fault_lacking ended.ending fault → Outcome options (Router router) before after old old told_before now answer
+lacking_said options router before after told_before told now old ended fault is is_silent text said same answer found answers found_is =
+    let steps = is.through.recorded.steps in
+    let notes = subst (λ (l : List ℕ). HasSaid told_before now is_silent (notes_of steps ++ l)) (same ∙ counts_are options (Some router) steps ended.session.gathered is.through.recorded.gathered) said in
+    subst (Outcome options (Router router) before after old old told_before now) (sym (answers ∙ ap (λ f. unless_silent is_silent (Err f)) found_is))
+    (outcome_lacking options (Router router) before after old old told_before now ended.ending fault is_silent
+    (of_taken options (Some router) before told_before is.through.to after told ended.session [] is.through.recorded _
+    (is.through.ending, is.has, appends_none old, notes)))
+
+-- ---- what is known of the router
+
+module _ (options : Options) (router : ℕ) (before after told_before told : Option (List ℕ)) (ended : Ended) (through : GoesThrough options (Some router) before told_before after told ended []) where
+  its_areas : ended.session.gathered.areas ≡ areas_of through.recorded.steps
+  its_areas = through.recorded.gathered.areas
+
+  pub is_known : ended.session.gathered.config ≡ Some (captured_of router through.recorded.steps)
+  is_known = through.recorded.gathered.config
+
+  pub is_behind : (front : List ℕ) → IsText front (captured_recording (captured_of router through.recorded.steps) ended.session.gathered.areas) → IsBehind options (Router router) before after told_before told ended front
+  is_behind front text = record {
+    through = through;
+    is = subst (λ (areas : List ℕ). IsText front (captured_recording (captured_of router through.recorded.steps) areas)) its_areas text;
+  }
+
+  pub is_lacking : (fault : ConfigFault) → config_fault_of (config_by (captured_of router through.recorded.steps) ended.session.gathered.areas) ≡ Some fault → IsLacking options router before after told_before told ended fault
+  is_lacking fault has = record {
+    through = through;
+    has = subst (λ (areas : List ℕ). config_fault_of (config_by (captured_of router through.recorded.steps) areas) ≡ Some fault) its_areas has;
+  }
+
+-- ---- a front that is given
+
+module _ (options : Options) (beginning : Beginning) (front : List ℕ) (is : (steps : List Step) → IsFront beginning steps front) where
+  -- the front could not be written
+  pub given_unwritten : (before old new told : Option (List ℕ)) (fault : CapturingFault) → (fault ≡ Write) ⊎ (fault ≡ Closed) → AppendsPart old new front → FaultOutcome options beginning before before old new told told fault
+  given_unwritten before old new told fault kind part =
+      outcome_part options beginning before before old new told told fault kind
+      (of_none options before _ (record { front = front; is = is []; written = part_more old new front [] part }, up_to_all told told [] (appends_none told)))
+
+  pub given_begun : (before after old mid now told_before told : Option (List ℕ)) (ended : Ended) (written : List ℕ) → Appends old mid front → Appends mid now written
+      → GoesThrough options (router_of beginning) before told_before after told ended written → IsBegun options beginning before after old now told_before told ended
+  given_begun before after old mid now told_before told ended written first more through = record {
+    written = written;
+    through = through;
+    front = front;
+    is = is through.recorded.steps;
+    begun = appends_more old mid now front written first more;
+  }

@@ -1,0 +1,105 @@
+-- How far a capture is recorded, packet by packet.
+use Rattle.std.proofs.Common.{◌≡◌, ◌∙◌, ◌++◌, List, [], ◌∷◌, ℕ, Option, None, Some, refl, ap, sym, subst, append_assoc, append-nil, lit<}
+use Rattle.std.specs.Prelude.{string_bytes, String}
+use Rattle.std.specs.Io.KnownBytes.{Keeps}
+use Rattle.std.proofs.lemmas.List.{map-append}
+use Rattle.captures.specs.Reading.{unread}
+use Rattle.capture_reader.specs.Positions.{Position, GoesOn}
+use Rattle.capture_reader.proofs.Going.{both_ways, reads_none}
+use Rattle.captured_lsas.specs.declared.options.Options.{Options}
+use Rattle.capture_lines.proofs.Gained.{appended_more}
+use Rattle.capture_recording.proofs.Gaining.{appended_none}
+use Rattle.capture_lines.specs.Events.{AreAppended}
+use Rattle.capture_recording.specs.declared.ending.Ending.{Ending}
+use Rattle.capture_recording.specs.declared.session.Session.{Session}
+use Rattle.capture_recording.specs.Ending.{first_position}
+use Rattle.capture_recording.specs.Gathering.{IsFirstSession}
+use Rattle.capture_recording.specs.Going.{IsRecordedTo, GoesThrough, HandsNext, TakesNext, EndsNow}
+use Rattle.capture_recording.specs.Said.{HasSaid}
+use Rattle.capture_recording.specs.Steps.{Step, packets_of}
+use Rattle.capture_recording.specs.Texts.{AreLines, events_of, notes_of, step_events, step_notes}
+use Rattle.capture_recording.proofs.Stepping.{gathered_first, gathered_more, flat_map_more}
+use Rattle.capture_recording.proofs.Said.{said_nothing}
+
+keeps_all : (left : Option (List ℕ)) → Keeps left left
+keeps_all None = tt
+keeps_all (Some xs) = refl
+
+pub stays : (left : Option (List ℕ)) → GoesOn first_position left first_position left []
+stays left = reads_none unread 0 [] [] 0 left left (keeps_all left) refl (lit< tt)
+
+-- ---- no packet came
+
+pub recorded_first : (options : Options) (router : Option ℕ) (before told : Option (List ℕ)) (at : Position) (session : Session) → IsFirstSession options router session → at ≡ first_position
+    → IsRecordedTo options router before told at before told session []
+recorded_first options router before told at session first begins = record {
+  steps = [];
+  goes = subst (λ p. GoesOn first_position before p before []) (sym begins) (stays before);
+  gathered = gathered_first options router session.gathered first.gathered;
+  lines = subst (AreLines []) (sym first.lines) (appended_none []);
+  none = first.notes;
+  said = said_nothing told session.notes.is_silent first.speaks;
+}
+
+-- ---- one more packet
+
+-- the lines of one more packet
+lines_more : (written old new : List ℕ) (steps : List Step) (step : Step) → AreLines steps (written ++ old) → AreAppended old new (step_events step) → AreLines (steps ++ step ∷ []) (written ++ new)
+lines_more written old new steps step are more =
+    let behind : AreAppended (written ++ old) (written ++ new) (step_events step) =
+    record { text = ap (λ l. written ++ l) more.text ∙ sym (append_assoc written old _); each = more.each } in
+    subst (AreAppended [] (written ++ new)) (sym (flat_map_more step_events steps step))
+    (appended_more [] (written ++ old) (written ++ new) (events_of steps) (step_events step) are behind)
+
+packets_more : (steps : List Step) (step : Step) → packets_of (steps ++ step ∷ []) ≡ packets_of steps ++ step.packet ∷ []
+packets_more steps step = map-append (λ s. s.packet) steps (step ∷ [])
+
+module _ (options : Options) (router : Option ℕ) (before told_before : Option (List ℕ)) (at to : Position) (left after told_at told : Option (List ℕ)) (old new : Session) (written : List ℕ)
+    (is : IsRecordedTo options router before told_before at left told_at old written) where
+  pub recorded_more : TakesNext at left to after old new told_at told → IsRecordedTo options router before told_before to after told new written
+  recorded_more takes = record {
+    steps = is.steps ++ takes.step ∷ [];
+    goes = subst (GoesOn first_position before to after) (sym (packets_more is.steps takes.step)) (both_ways first_position at to before left after (packets_of is.steps) (takes.step.packet ∷ []) is.goes takes.goes);
+    gathered = gathered_more options router is.steps takes.step old.gathered new.gathered is.gathered takes.gathers;
+    lines = lines_more written (string_bytes old.lines) (string_bytes new.lines) is.steps takes.step is.lines takes.lines;
+    none = takes.none;
+    said = subst (HasSaid told_before told new.notes.is_silent) (sym (flat_map_more step_notes is.steps takes.step)) (takes.said is.none told_before (notes_of is.steps) is.said);
+  }
+
+  -- no more comes
+  recorded_ended : (ending : Ending) → EndsNow at left to after old new told_at told ending → IsRecordedTo options router before told_before to after told new written
+  recorded_ended ending ends =
+      subst (λ (s : Session). IsRecordedTo options router before told_before to after told s written) (sym ends.session)
+      (subst (λ (t : Option (List ℕ)). IsRecordedTo options router before told_before to after t old written) (sym ends.unsaid) (record {
+        steps = is.steps;
+        goes = subst (GoesOn first_position before to after) (append-nil (packets_of is.steps)) (both_ways first_position at to before left after (packets_of is.steps) [] is.goes ends.goes);
+        gathered = is.gathered;
+        lines = is.lines;
+        none = is.none;
+        said = is.said;
+      }))
+
+  pub gone_through : (ending : Ending) → EndsNow at left to after old new told_at told ending → GoesThrough options router before told_before after told (record { session = new; ending = ending }) written
+  gone_through ending ends = record { to = to; recorded = recorded_ended ending ends; ending = ends.ended }
+
+-- lines are written
+pub recorded_written : (options : Options) (router : Option ℕ) (before told_before : Option (List ℕ)) (at : Position) (left told : Option (List ℕ)) (session : Session) (written front : List ℕ) (kept : String _)
+    → IsRecordedTo options router before told_before at left told session written → string_bytes session.lines ≡ front ++ string_bytes kept
+    → IsRecordedTo options router before told_before at left told (record session { lines = kept }) (written ++ front)
+recorded_written options router before told_before at left told session written front kept is parts = record {
+  steps = is.steps;
+  goes = is.goes;
+  gathered = is.gathered;
+  lines = subst (AreLines is.steps) (ap (λ l. written ++ l) parts ∙ sym (append_assoc written front (string_bytes kept))) is.lines;
+  none = is.none;
+  said = is.said;
+}
+
+-- ---- what the next step came to
+
+module _ (from to : Position) (before after told_before told : Option (List ℕ)) (old new : Session) (found : Option Ending) (hands : HandsNext from before to after old new told_before told found) where
+  pub took : found ≡ None → TakesNext from before to after old new told_before told
+  took none = subst (HandsNext from before to after old new told_before told) none hands
+
+  pub ended : (ending : Ending) → found ≡ Some ending → EndsNow from before to after old new told_before told ending
+  ended ending some = subst (HandsNext from before to after old new told_before told) some hands

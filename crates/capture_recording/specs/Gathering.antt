@@ -1,0 +1,86 @@
+-- What one packet changes of what is kept.
+use Rattle.std.specs.Prelude.{ℕ, ◌≡◌, ◌++◌, false, List, [], Option, Some, option_map, string_bytes}
+use Rattle.captures.specs.Runs.{Shown}
+use Rattle.captured_config.specs.Lsas.{Captured}
+use Rattle.captured_lsas.specs.declared.options.Options.{Options}
+use Rattle.captured_lsas.specs.declared.taken.Taken.{Taken}
+use Rattle.captured_lsas.specs.Packets.{IsTaken, with_packet}
+use Rattle.captured_lsas.specs.Progress.{start}
+use Rattle.capture_lines.specs.Counts.{with_taken}
+use Rattle.capture_lines.specs.Events.{GainsEvents, taken_events}
+use Rattle.capture_lines.specs.Notes.{taken_text}
+use Rattle.capture_recording.specs.declared.gathered.Gathered.{Gathered}
+use Rattle.capture_recording.specs.declared.session.Session.{Session}
+use Rattle.capture_recording.specs.Steps.{Step, Past, IsStep, AreStepsTo, begun}
+use Rattle.capture_recording.specs.Texts.{step_events, step_notes}
+use Rattle.capture_recording.specs.Folds.{none_counted, with_step_counted, with_taken_area, with_step_area, with_taken_lsas, with_step_lsas, counts_of, areas_of, captured_of}
+
+-- ---- at first
+
+-- what is known of the router, if it is to be known
+abbrev pub config_of : Option ℕ → List Step → Option Captured
+config_of router steps = option_map (λ r. captured_of r steps) router
+
+abbrev pub first_gathered : Options → (router : Option ℕ) → Gathered
+first_gathered options router = record { listener = []; recorder = start options; counts = none_counted; areas = []; config = config_of router [] }
+
+pub record IsFirstSession (options : Options) (router : Option ℕ) (session : Session) : Type 0 where
+  pub gathered : session.gathered ≡ first_gathered options router
+  pub lines : string_bytes session.lines ≡ []
+  pub notes : string_bytes session.notes.text ≡ []
+  pub speaks : session.notes.is_silent ≡ false
+
+-- ---- a packet
+
+abbrev pub past_of : Gathered → Past
+past_of g = record { parts = g.listener; progress = g.recorder }
+
+-- only the listener and the counts may be others
+pub record HearsOnly (old new : Gathered) : Type 0 where
+  pub recorder : new.recorder ≡ old.recorder
+  pub areas : new.areas ≡ old.areas
+  pub config : new.config ≡ old.config
+
+-- only the areas and what is known of the router may be others
+pub record NotesOnly (old new : Gathered) : Type 0 where
+  pub listener : new.listener ≡ old.listener
+  pub recorder : new.recorder ≡ old.recorder
+  pub counts : new.counts ≡ old.counts
+
+-- a payload is taken
+pub record TakesPayload (old new : Session) (time : Option ℕ) (sender : ℕ) (payload : List ℕ) : Type 0 where
+  pub taken : Taken
+  pub is : IsTaken old.gathered.recorder time payload taken
+  pub recorder : new.gathered.recorder ≡ with_packet old.gathered.recorder time payload
+  pub listener : new.gathered.listener ≡ old.gathered.listener
+  pub counts : new.gathered.counts ≡ with_taken old.gathered.counts taken
+  pub areas : new.gathered.areas ≡ with_taken_area old.gathered.areas taken
+  pub config : new.gathered.config ≡ option_map (λ c. with_taken_lsas c taken) old.gathered.config
+  pub lines : GainsEvents old.lines new.lines (taken_events taken)
+  pub notes : string_bytes new.notes.text ≡ string_bytes old.notes.text ++ taken_text time (Some sender) taken
+  pub silent : new.notes.is_silent ≡ old.notes.is_silent
+
+-- what a packet comes to is kept
+pub record Gathers (old : Gathered) (step : Step) (new : Gathered) : Type 0 where
+  pub is : IsStep (past_of old) step (past_of new)
+  pub counts : new.counts ≡ with_step_counted old.counts step
+  pub areas : new.areas ≡ with_step_area old.areas step
+  pub config : new.config ≡ option_map (λ c. with_step_lsas c step) old.config
+
+-- a packet is taken
+pub record TakesPacket (old new : Session) (packet : Shown) : Type 0 where
+  pub step : Step
+  pub of : step.packet ≡ packet
+  pub gathers : Gathers old.gathered step new.gathered
+  pub lines : GainsEvents old.lines new.lines (step_events step)
+  pub notes : string_bytes new.notes.text ≡ string_bytes old.notes.text ++ step_notes step
+  pub silent : new.notes.is_silent ≡ old.notes.is_silent
+
+-- ---- the first packets
+
+-- what they come to is kept
+pub record AreGathered (options : Options) (router : Option ℕ) (steps : List Step) (g : Gathered) : Type 0 where
+  pub are : AreStepsTo (begun options) steps (past_of g)
+  pub counts : g.counts ≡ counts_of steps
+  pub areas : g.areas ≡ areas_of steps
+  pub config : g.config ≡ config_of router steps

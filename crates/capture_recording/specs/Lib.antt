@@ -1,0 +1,11 @@
+pub mod Steps
+pub mod Texts
+pub mod Folds
+pub mod Said
+pub mod Gathering
+pub mod Ending
+pub mod Going
+pub mod FirstPackets
+pub mod Streaming
+pub mod Outputs
+pub mod Finishing

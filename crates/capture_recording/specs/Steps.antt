@@ -1,0 +1,56 @@
+-- The packets of a capture, one after the other: what each brings, and what is taken of it.
+use Rattle.std.specs.Prelude.{ℕ, ◌≡◌, List, [], ◌∷◌, map, Option, None, Some}
+use Rattle.captures.specs.Runs.{Shown}
+use Rattle.datagrams.specs.Kept.{Kept}
+use Rattle.captured_lsas.specs.declared.heard.Heard.{Heard}
+use Rattle.captured_lsas.specs.declared.heard.Heard.TheVariants.{Other, Fault, Part, Whole}
+use Rattle.captured_lsas.specs.declared.options.Options.{Options}
+use Rattle.captured_lsas.specs.declared.taken.Taken.{Taken}
+use Rattle.captured_lsas.specs.Hearing.{IsHeard}
+use Rattle.captured_lsas.specs.Packets.{IsTaken, with_packet}
+use Rattle.captured_lsas.specs.Payloads.{bytes_of}
+use Rattle.captured_lsas.specs.Progress.{Progress, start}
+
+-- a captured packet, what it brings, and what is taken of the payload that is whole with it
+pub record Step : Type 0 where
+  pub packet : Shown
+  pub heard : Heard
+  pub taken : Option Taken
+
+abbrev pub packets_of : List Step → List Shown
+packets_of steps = map (λ step. step.packet) steps
+
+-- the datagrams that are not whole, and what was recorded so far
+pub record Past : Type 0 where
+  pub parts : List Kept
+  pub progress : Progress
+
+-- this is taken of a payload
+abbrev pub IsSomeTaken : Progress → Option ℕ → List ℕ → Option Taken → Type 0
+IsSomeTaken p time payload None = ⊥
+IsSomeTaken p time payload (Some taken) = IsTaken p time payload taken
+
+-- only a payload that is whole is taken
+abbrev pub IsTakenOf : (old new : Progress) → Option ℕ → Heard → Option Taken → Type 0
+IsTakenOf old new time Other taken = (taken ≡ None) × (new ≡ old)
+IsTakenOf old new time (Fault fault) taken = (taken ≡ None) × (new ≡ old)
+IsTakenOf old new time Part taken = (taken ≡ None) × (new ≡ old)
+IsTakenOf old new time (Whole sender payload) taken = IsSomeTaken old time (bytes_of payload) taken × (new ≡ with_packet old time (bytes_of payload))
+
+-- the packet comes to this
+pub record IsStep (old : Past) (step : Step) (new : Past) : Type 0 where
+  pub hears : IsHeard step.packet.link step.packet.bytes old.parts new.parts step.heard
+  pub takes : IsTakenOf old.progress new.progress step.packet.time step.heard step.taken
+
+-- each packet comes to this, after those before it
+unfoldable pub AreStepsTo : (old : Past) → List Step → (new : Past) → Type 0
+AreStepsTo old [] new = new ≡ old
+AreStepsTo old (step ∷ steps) new = (next : Past) × IsStep old step next × AreStepsTo next steps new
+
+-- nothing was heard
+abbrev pub begun : Options → Past
+begun options = record { parts = []; progress = start options }
+
+-- the first packets of a capture come to this
+abbrev pub AreSteps : Options → List Step → Type 0
+AreSteps options steps = (past : Past) × AreStepsTo (begun options) steps past

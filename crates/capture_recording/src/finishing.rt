@@ -1,0 +1,169 @@
+//! What is written and said once a capture was gone through.
+ghost use Rattle.std.specs.Prelude.{◌≡◌, ◌++◌, ℕ, List, [], Option, Some, OnOk, IfOk, IfErr, length, string_bytes};
+ghost use Rattle.captured_config.specs.Fronts.{captured_recording};
+ghost use Rattle.captured_config.specs.Lsas.{Captured};
+ghost use Rattle.captured_lsas.specs.declared.options.Options.{Options as OptionsValue};
+ghost use Rattle.capture_lines.specs.Counts.{counts_line};
+ghost use Rattle.recording.specs.Recordings.{IsText};
+ghost use Rattle.capture_recording.specs.declared.capturing.Beginning.{Beginning};
+ghost use Rattle.capture_recording.specs.declared.capturing.Beginning.TheVariants.{Router};
+ghost use Rattle.capture_recording.specs.Going.{GoesThrough};
+ghost use Rattle.capture_recording.specs.Finishing.{IsBegun, IsBehind, IsLacking, IsNoFront, IsWhollyWritten, unknown_in};
+ghost use Rattle.capture_recording.specs.Outputs.{Outcome};
+
+use crate::fault::CapturingFault;
+use crate::gathered::Gathered;
+use crate::going::Ended;
+use crate::writing::write_out;
+use capture_lines::put_counts;
+use captured_config::FrontFault;
+use config_faults::ConfigFault;
+use ospf_types::memory::Memory;
+use std::alloc::Global;
+use std::io;
+
+impl Ended {
+    /// Writes what the capture tells of the router, and behind it the lines.
+    pub(crate) fn finish_router<W: io::Write, F: io::Write>(
+        self,
+        alloc: Global,
+        out: &mut W,
+        faults: &mut F,
+    ) -> Result<(), CapturingFault>
+        ensures { (options : OptionsValue) (router : ℕ) (before after told : Option (List ℕ))
+            → GoesThrough options (Some router) before told after (F.contents faults.old) self []
+            → Outcome options (Router router) before after
+            (W.contents out.old) (W.contents out.new) told (F.contents faults.new) result }
+    {
+        match front_of(alloc, &self.session.gathered) {
+            Ok(front) => self.finish_behind(&front, out, faults),
+            Err(FrontFault::Config(fault)) => self.finish_without(fault, faults),
+            Err(FrontFault::Memory) => Err(CapturingFault::Memory),
+        }
+    }
+
+    // Writes the front, and behind it the lines.
+    fn finish_behind<W: io::Write, F: io::Write>(
+        self,
+        front: &str,
+        out: &mut W,
+        faults: &mut F,
+    ) -> Result<(), CapturingFault>
+        ensures { (options : OptionsValue) (beginning : Beginning)
+            (before after told : Option (List ℕ))
+            → IsBehind options beginning before after told (F.contents faults.old) self front.now
+            → Outcome options beginning before after
+            (W.contents out.old) (W.contents out.new) told (F.contents faults.new) result }
+    {
+        match write_out(front.as_bytes(), out) {
+            Ok(()) => self.finish(out, faults),
+            Err(fault) => Err(fault),
+        }
+    }
+
+    /// Writes the lines that are left, and says what there is to say at the end.
+    pub(crate) fn finish<W: io::Write, F: io::Write>(
+        self,
+        out: &mut W,
+        faults: &mut F,
+    ) -> Result<(), CapturingFault>
+        ensures { (options : OptionsValue) (beginning : Beginning)
+            (before after first told : Option (List ℕ))
+            → IsBegun options beginning before after first (W.contents out.old)
+            told (F.contents faults.old) self
+            → Outcome options beginning before after first (W.contents out.new)
+            told (F.contents faults.new) result }
+    {
+        match write_out(self.session.lines.as_bytes(), out) {
+            Ok(()) => self.say_end(faults),
+            Err(fault) => Err(fault),
+        }
+    }
+
+    // Says what the capture does not tell of the router, and how much was found.
+    fn say_end<F: io::Write>(mut self, faults: &mut F) -> Result<(), CapturingFault>
+        ensures { (options : OptionsValue) (beginning : Beginning)
+            (before after first new told : Option (List ℕ))
+            → IsWhollyWritten options beginning before after first new
+            told (F.contents faults.old) self
+            → Outcome options beginning before after first new
+            told (F.contents faults.new) result }
+    {
+        match put_end(&self.session.gathered, &mut self.session.notes.text) {
+            Ok(()) => {
+                self.session.notes.say(faults);
+                let answer = self.ending.result();
+                self.session.notes.unless_silent(answer)
+            }
+            Err(_) => Err(CapturingFault::Memory),
+        }
+    }
+
+    // Says how much was found, where the configuration is at fault.
+    fn finish_without<F: io::Write>(
+        mut self,
+        fault: ConfigFault,
+        faults: &mut F,
+    ) -> Result<(), CapturingFault>
+        ensures { (options : OptionsValue) (router : ℕ)
+            (before after old told : Option (List ℕ))
+            → IsLacking options router before after told (F.contents faults.old) self fault
+            → Outcome options (Router router) before after old old
+            told (F.contents faults.new) result }
+    {
+        match put_counted(&self.session.gathered, &mut self.session.notes.text) {
+            Ok(()) => {
+                self.session.notes.say(faults);
+                let answer = Err(self.ending.fault_lacking(fault));
+                self.session.notes.unless_silent(answer)
+            }
+            Err(_) => Err(CapturingFault::Memory),
+        }
+    }
+}
+
+// What a recording begins with, by what is known of the router.
+fn front_of(alloc: Global, gathered: &Gathered) -> Result<String, FrontFault>
+    ensures ok { (known : Captured) → gathered.now.config ≡ Some known → IfOk result (λ front.
+        IsText (string_bytes front) (captured_recording known gathered.now.areas)) }
+    ensures fault { (known : Captured) → gathered.now.config ≡ Some known
+        → IfErr result (IsNoFront known gathered.now.areas) }
+{
+    let mut front = String::new(alloc);
+    let Some(config) = &gathered.config else {
+        return Ok(front);
+    };
+    match config.put_front(alloc, &gathered.areas, &mut front) {
+        Ok(()) => Ok(front),
+        Err(fault) => Err(fault),
+    }
+}
+
+// Appends what is said at the end.
+fn put_end(gathered: &Gathered, text: &mut String) -> Result<(), Memory>
+    ensures { OnOk result (string_bytes text.new ≡ string_bytes text.old
+        ++ (unknown_in gathered.now
+        ++ counts_line gathered.now.counts (length gathered.now.areas))) }
+{
+    put_unknown_of(gathered, text)?;
+    put_counted(gathered, text)
+}
+
+// Appends what the capture does not tell of the router, if the recording begins with that.
+fn put_unknown_of(gathered: &Gathered, text: &mut String) -> Result<(), Memory>
+    ensures { OnOk result (string_bytes text.new ≡ string_bytes text.old ++ unknown_in
+        gathered.now) }
+{
+    match &gathered.config {
+        Some(config) => config.put_unknown(&gathered.areas, text),
+        None => Ok(()),
+    }
+}
+
+// Appends how much was found.
+fn put_counted(gathered: &Gathered, text: &mut String) -> Result<(), Memory>
+    ensures { OnOk result (string_bytes text.new ≡ string_bytes text.old
+        ++ counts_line gathered.now.counts (length gathered.now.areas)) }
+{
+    put_counts(gathered.counts, gathered.areas.count(), text)
+}

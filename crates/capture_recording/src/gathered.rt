@@ -1,0 +1,125 @@
+//! What is kept of the packets of a capture.
+ghost use Rattle.std.specs.Prelude.{◌≡◌, ℕ, OnOk, IfOk, option_map};
+ghost use Rattle.std.specs.List.{fold};
+ghost use Rattle.captured_lsas.specs.Hearing.{IsHeard};
+ghost use Rattle.capture_lines.specs.Counts.{with_heard};
+ghost use Rattle.capture_recording.specs.Folds.{with_installed, with_taken_area, with_taken_lsas};
+ghost use Rattle.capture_recording.specs.Gathering.{HearsOnly, NotesOnly, first_gathered};
+
+use capture_lines::Counts;
+use captured_config::{CapturedConfig, SeenAreas};
+use captured_lsas::{Heard, Listener, Options, Recorded, Recorder, Taken};
+use captures::Packet;
+use ospf_types::memory::Memory;
+use std::alloc::Global;
+use std::hash::RandomState;
+
+/// What is kept of the packets so far.
+#[derive(Drop)]
+pub(crate) struct Gathered {
+    pub(crate) listener: Listener,
+    pub(crate) recorder: Recorder,
+    pub(crate) counts: Counts,
+    pub(crate) areas: SeenAreas,
+    /// What is known of the router, if the recording is to begin with that.
+    pub(crate) config: Option<CapturedConfig>,
+}
+
+impl Gathered {
+    /// No packet came.
+    pub(crate) fn new(
+        alloc: Global,
+        hashing: RandomState,
+        options: Options,
+        router: Option<u32>,
+    ) -> Gathered
+        ensures { result ≡ first_gathered options router }
+    {
+        Gathered {
+            listener: Listener::new(alloc),
+            recorder: Recorder::new(alloc, hashing, options),
+            counts: Counts::default(),
+            areas: SeenAreas::new(alloc, hashing),
+            config: router.map(|router| CapturedConfig::new(alloc, router)),
+        }
+    }
+
+    /// Hears a captured packet, and counts what it brings.
+    pub(crate) fn hear<'a>(
+        &mut self,
+        alloc: Global,
+        packet: &Packet<'a>,
+    ) -> Result<Heard<'a>, Memory>
+        ensures heard { IfOk result (IsHeard packet.now.link packet.now.bytes.now
+            self.old.listener self.new.listener) }
+        ensures counted { IfOk result (λ heard.
+            self.new.counts ≡ with_heard self.old.counts heard) }
+        ensures others { HearsOnly self.old self.new }
+    {
+        let heard = self.listener.hear(alloc, packet)?;
+        self.counts.count_heard(&heard);
+        Ok(heard)
+    }
+
+    /// Notes the area of a packet without a fault, and its LSAs.
+    pub(crate) fn note(&mut self, alloc: Global, taken: &Taken) -> Result<(), Memory>
+        ensures areas { OnOk result (self.new.areas ≡ with_taken_area self.old.areas taken.now) }
+        ensures config { OnOk result
+            (self.new.config ≡ option_map (λ c. with_taken_lsas c taken.now) self.old.config) }
+        ensures others { NotesOnly self.old self.new }
+    {
+        match taken {
+            Taken::Packet { area, recorded, .. } => {
+                self.areas.note(*area)?;
+                note_lsas(&mut self.config, alloc, *area, recorded.as_slice())
+            }
+            Taken::Fault(_) => Ok(()),
+        }
+    }
+}
+
+// Notes LSAs that are installed in the area, if a router is to be known.
+fn note_lsas(
+    config: &mut Option<CapturedConfig>,
+    alloc: Global,
+    area: u32,
+    recorded: &[Recorded],
+) -> Result<(), Memory>
+    ensures { OnOk result
+        (config.new ≡ option_map (λ c. fold (with_installed area) c recorded.now) config.old) }
+{
+    match config {
+        Some(config) => note_each(config, alloc, area, recorded),
+        None => Ok(()),
+    }
+}
+
+fn note_each(
+    config: &mut CapturedConfig,
+    alloc: Global,
+    area: u32,
+    recorded: &[Recorded],
+) -> Result<(), Memory>
+    ensures { OnOk result (config.new ≡ fold (with_installed area) config.old recorded.now) }
+{
+    for one in recorded {
+        note_one(config, alloc, area, one)?;
+    }
+    Ok(())
+}
+
+fn note_one(
+    config: &mut CapturedConfig,
+    alloc: Global,
+    area: u32,
+    recorded: &Recorded,
+) -> Result<(), Memory>
+    ensures { OnOk result (config.new ≡ with_installed area config.old recorded.now) }
+{
+    match recorded {
+        Recorded::Install { lsa, .. } => config.note(alloc, area, lsa),
+        Recorded::Repeated => Ok(()),
+        Recorded::Fault(_) => Ok(()),
+        Recorded::Cut(_) => Ok(()),
+    }
+}

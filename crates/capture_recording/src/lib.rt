@@ -1,0 +1,18 @@
+//! A capture of a network becomes the recording of its OSPF LSAs.
+#![tactic(auto)]
+
+mod capturing;
+mod ending;
+mod fault;
+mod finishing;
+mod gathered;
+mod going;
+mod notes;
+mod session;
+mod source;
+mod writing;
+
+pub use captured_lsas::Options;
+pub use captures::FaultKind;
+pub use capturing::{Beginning, Capturing, record_capture};
+pub use fault::CapturingFault;

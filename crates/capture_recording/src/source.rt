@@ -1,0 +1,65 @@
+//! Where the packets come from.
+ghost use Rattle.std.specs.Prelude.{◌≡◌, IfOk, OnErr};
+ghost use Rattle.capture_recording.specs.Ending.{first_position};
+ghost use Rattle.capture_recording.specs.Going.{HandsNext};
+
+use crate::ending::Ending;
+use crate::session::Session;
+use capture_reader::{CaptureError, PacketReader};
+use captures::Packet;
+use ospf_types::memory::Memory;
+use std::alloc::Global;
+use std::io;
+
+/// A capture that is read.
+#[derive(Drop)]
+pub(crate) struct Source {
+    pub(crate) reader: PacketReader,
+    /// The bytes of the last packet.
+    pub(crate) bytes: Vec<u8>,
+}
+
+impl Source {
+    /// Nothing was read.
+    pub(crate) fn new(alloc: Global) -> Result<Source, Memory>
+        ensures { IfOk result (λ source. source.reader ≡ first_position) }
+    {
+        Ok(Source {
+            reader: PacketReader::new(alloc)?,
+            bytes: Vec::new(alloc),
+        })
+    }
+
+    /// Reads the next packet, has it taken, and says what there is to say of it. Answers how the capture has ended, if
+    /// no packet comes.
+    pub(crate) fn hand_next<R: io::Read, F: io::Write>(
+        &mut self,
+        alloc: Global,
+        input: &mut R,
+        session: &mut Session,
+        faults: &mut F,
+    ) -> Result<Option<Ending>, Memory>
+        ensures ok { IfOk result (HandsNext self.old.reader (R.remaining input.old)
+            self.new.reader (R.remaining input.new)
+            session.old session.new (F.contents faults.old) (F.contents faults.new)) }
+        ensures err { OnErr result (F.contents faults.new ≡ F.contents faults.old) }
+    {
+        match self.reader.next(input, &mut self.bytes) {
+            Ok(Some(head)) => {
+                let packet = Packet {
+                    time: head.time,
+                    link: head.link,
+                    wire_length: head.wire_length,
+                    bytes: self.bytes.as_slice(),
+                };
+                session.take(alloc, &packet)?;
+                session.notes.say(faults);
+                Ok(None)
+            }
+            Ok(None) => Ok(Some(Ending::Whole)),
+            Err(CaptureError::Fault { kind, place }) => Ok(Some(Ending::Fault { kind, place })),
+            Err(CaptureError::Read) => Ok(Some(Ending::Unread)),
+            Err(CaptureError::Memory) => Err(Memory),
+        }
+    }
+}

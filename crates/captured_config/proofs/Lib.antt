@@ -1,0 +1,3 @@
+mod Ascending
+mod Written
+mod Fronts

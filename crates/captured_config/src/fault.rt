@@ -1,0 +1,39 @@
+ghost use Rattle.std.specs.Prelude.{Some};
+ghost use Rattle.captured_config.specs.Faults.{front_fault_text};
+
+use config_faults::ConfigFault;
+use ospf_types::memory::Memory;
+use std::fmt;
+use thiserror::Error;
+
+/// Why there is no beginning of a recording.
+#[derive(Clone, Copy, Debug, PartialEq, Eq, Error)]
+pub enum FrontFault {
+    /// The areas are none, or too many.
+    Config(ConfigFault),
+    /// Memory ran out.
+    Memory,
+}
+
+/// The number and the name, as `40 Areas`.
+impl fmt::Display for FrontFault {
+    ghost output = { λ fault. Some (front_fault_text fault) };
+
+    fn fmt<W: fmt::Write>(&self, f: &mut fmt::Formatter<W>) -> fmt::Result {
+        match self {
+            FrontFault::Config(fault) => fault.fmt(f),
+            FrontFault::Memory => Memory.fmt(f),
+        }
+    }
+}
+
+impl From<Memory> for FrontFault {
+    ghost use Rattle.std.specs.Prelude.{◌≡◌};
+    ghost use Rattle.captured_config.specs.declared.fault.FrontFault.TheVariants as front_fault;
+
+    ghost from_gives = { λ _ given. given ≡ front_fault.Memory };
+
+    fn from(_e: Memory) -> FrontFault {
+        FrontFault::Memory
+    }
+}

@@ -1,0 +1,64 @@
+//! An input and outputs that fail.
+
+use std::alloc::Global;
+use std::io;
+
+/// Gives its bytes, and then the end, or an error.
+#[derive(Drop)]
+pub struct Input<'a> {
+    left: &'a [u8],
+    fails: bool,
+}
+
+impl<'a> Input<'a> {
+    pub fn new(bytes: &'a [u8], fails: bool) -> Input<'a> {
+        Input { left: bytes, fails }
+    }
+}
+
+impl io::Read for Input<'_> {
+    fn read(&mut self, buf: &mut [u8]) -> io::Result<usize> {
+        if self.left.is_empty() && self.fails {
+            return Err(io::Error::from(io::ErrorKind::ConnectionReset));
+        }
+        self.left.read(buf)
+    }
+}
+
+/// Takes so many bytes. Then a write fails.
+#[derive(Drop)]
+pub struct Output {
+    taken: Vec<u8>,
+    room: usize,
+    failure: io::ErrorKind,
+}
+
+impl Output {
+    pub fn new(alloc: Global, room: usize, failure: io::ErrorKind) -> Output {
+        Output {
+            taken: Vec::new(alloc),
+            room,
+            failure,
+        }
+    }
+
+    /// What it took.
+    pub fn taken(&self) -> &[u8] {
+        self.taken.as_slice()
+    }
+}
+
+impl io::Write for Output {
+    fn write(&mut self, buf: &[u8]) -> io::Result<usize> {
+        if self.room == 0 {
+            return Err(io::Error::from(self.failure));
+        }
+        let count = self.taken.write(&buf[..buf.len().min(self.room)])?;
+        self.room = self.room.saturating_sub(count);
+        Ok(count)
+    }
+
+    fn flush(&mut self) -> io::Result<()> {
+        Ok(())
+    }
+}
