@@ -1,5 +1,5 @@
 -- What a step answers.
-use Rattle.std.proofs.Common.{inl, Bool, true, false, ◌∷◌, drop, ℕ, ◌≡◌, ◌<◌, ◌^◌, ◌++◌, length, append-nil, arith, IfOk, OnErr, List, [], Option, Result, Ok, Err, IsErrAnd, IfErr, refl, sym, ap, subst, ◌∙◌}
+use Rattle.std.proofs.Common.{inl, Bool, true, false, ◌∷◌, drop, ℕ, ◌≡◌, ◌<◌, ◌^◌, ◌++◌, length, append-nil, arith, IfOk, OnErr, List, [], Option, Result, Ok, Err, IsErrAnd, refl, sym, ap, subst, ◌∙◌}
 use Rattle.std.specs.Prelude.{MatchResult, ◌&&◌, ◌==◌}
 use Rattle.std.proofs.lemmas.Bool.{eqb-true}
 use Rattle.std.proofs.KnownBytes.{Keeps-refl}
@@ -7,7 +7,9 @@ use Rattle.std.proofs.lemmas.Result.{err_from_is_err_and}
 use Rattle.capture_reader.specs.declared.fault.CaptureError.{CaptureError}
 use Rattle.capture_reader.specs.declared.fault.CaptureError.TheVariants.{Fault, Read, Memory}
 use Rattle.capture_reader.specs.declared.reader.Step.{Step}
-use Rattle.capture_reader.specs.Faults.{IsOfInput}
+use Rattle.input_reading.specs.declared.fault.ReadFault.{ReadFault}
+use Rattle.input_reading.specs.declared.fault.ReadFault.TheVariants as fault
+use Rattle.capture_reader.specs.Faults.{error_of}
 use Rattle.capture_reader.specs.Positions.{Position, GoesOn, IsCutOff, IsFaulty, IsWhole, Stops, further, run_behind, shown_packet}
 use Rattle.capture_reader.specs.Steps.{Fills, IsShort, Steps}
 use Rattle.std.specs.Io.KnownBytes.{Consumes, IsAtEnd, Keeps}
@@ -20,17 +22,16 @@ use Rattle.captures.specs.Reading.{State, Answers, MayLackMemory, IsPart, IsPart
 use Rattle.capture_reader.proofs.Parts.{skipped, handed, at_fault, whole, cut, cut_ahead, packet_state, short_state}
 use Rattle.capture_reader.proofs.Going.{reads_more, reads_none}
 
-stops : (e : CaptureError) (p : Position) (left : Option (List ℕ)) → IsOfInput e → Stops e p left
-stops (Fault kind place) p left of_input = grind arith
-stops Read p left of_input = tt
-stops Memory p left of_input = tt
+stops : (f : ReadFault) (p : Position) (left : Option (List ℕ)) → Stops (error_of f) p left
+stops fault.Read p left = tt
+stops fault.Memory p left = tt
 
 -- a step that fails for want of memory or by the input
-pub failed : (old : Position) (before : Option (List ℕ)) (new : Position) (after : Option (List ℕ)) (bytes : List ℕ) (r : Result Step CaptureError) (e : CaptureError)
-    → IsErrAnd r (λ f. f ≡ e) → IsOfInput e → GoesOn old before new after [] → Steps old before new after bytes r
-failed old before new after bytes r e err of_input goes =
+pub failed : (old : Position) (before : Option (List ℕ)) (new : Position) (after : Option (List ℕ)) (bytes : List ℕ) (r : Result Step CaptureError) (f : ReadFault)
+    → IsErrAnd r (λ e. e ≡ error_of f) → GoesOn old before new after [] → Steps old before new after bytes r
+failed old before new after bytes r f err goes =
     let found = err_from_is_err_and r err in
-    subst (Steps old before new after bytes) (sym (found.1 ∙ ap Err found.2)) (goes, stops e new after of_input)
+    subst (Steps old before new after bytes) (sym (found.1 ∙ ap Err found.2)) (goes, stops f new after)
 
 abbrev pub at : State → ℕ → List ℕ → ℕ → Position
 at s ahead pending place = record { state = s; ahead = ahead; pending = pending; place = place }
@@ -39,20 +40,20 @@ pub from_pair : {p q s : Position} {before after : Option (List ℕ)} {P : Type 
 from_pair {p} {q} {s} {before} {after} {P} same both = (subst (λ o. GoesOn o before s after []) same both.0, both.1)
 
 -- the input is read once
-pub filled : (s : State) (ahead : ℕ) (old new : List ℕ) (place : ℕ) (before after : Option (List ℕ)) (r : Result ℕ CaptureError) → place < 2 ^ 64
+pub filled : (s : State) (ahead : ℕ) (old new : List ℕ) (place : ℕ) (before after : Option (List ℕ)) (r : Result ℕ ReadFault) → place < 2 ^ 64
     → IfOk r (λ n. (more : List ℕ) × (length more ≡ n) × (new ≡ old ++ more) × Consumes before after more) → IfOk r (λ n. n ≡ 0 → IsAtEnd after)
-    → OnErr r ((new ≡ old) × Keeps before after) → IfErr r IsOfInput → Fills (at s ahead old place) before (at s ahead new place) after r
-filled s ahead old new place before after (Ok n) small bytes end kept of_input = (
+    → OnErr r ((new ≡ old) × Keeps before after) → Fills (at s ahead old place) before (at s ahead new place) after r
+filled s ahead old new place before after (Ok n) small bytes end kept = (
   reads_more s ahead old new place before after bytes.0 bytes.3 bytes.2 small,
   λ none. (
     ap (λ l. at s ahead l place) (bytes.2 ∙ ap (λ l. old ++ l) (nil_from_length bytes.0 (bytes.1 ∙ none)) ∙ append-nil old),
     end none,
   ),
 )
-filled s ahead old new place before after (Err e) small bytes end kept of_input =
-    (reads_none s ahead old new place before after kept.1 kept.0 small, of_input)
+filled s ahead old new place before after (Err e) small bytes end kept =
+    reads_none s ahead old new place before after kept.1 kept.0 small
 
-pub from_fills : (p q s : Position) (before after : Option (List ℕ)) (r : Result ℕ CaptureError) → p ≡ q → Fills p before s after r → Fills q before s after r
+pub from_fills : (p q s : Position) (before after : Option (List ℕ)) (r : Result ℕ ReadFault) → p ≡ q → Fills p before s after r → Fills q before s after r
 from_fills p q s before after r same fills = subst (λ o. Fills o before s after r) same fills
 
 -- the input ends before the bytes that are ahead

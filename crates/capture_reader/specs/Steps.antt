@@ -1,7 +1,7 @@
 -- What one step to the next packet does.
 use Rattle.std.specs.Prelude.{ℕ, ◌≡◌, ◌<◌, List, [], ◌∷◌, Option, Result, MatchResult}
 use Rattle.std.specs.Io.KnownBytes.{IsAtEnd}
-use Rattle.capture_reader.specs.Faults.{IsOfInput}
+use Rattle.input_reading.specs.declared.fault.ReadFault.{ReadFault}
 use Rattle.captures.specs.declared.capture.Part.{Part}
 use Rattle.captures.specs.Reading.{front_of, IsPart}
 use Rattle.capture_reader.specs.declared.fault.CaptureError.{CaptureError}
@@ -31,8 +31,8 @@ pub record Passes (old new : Position) : Type 0 where
   pub all : 0 < new.ahead → new.pending ≡ []
 
 -- bytes are read of the input, none only if it has ended
-abbrev pub Fills : (old : Position) (before : Option (List ℕ)) (new : Position) (after : Option (List ℕ)) → Result ℕ CaptureError → Type 0
+abbrev pub Fills : (old : Position) (before : Option (List ℕ)) (new : Position) (after : Option (List ℕ)) → Result ℕ ReadFault → Type 0
 Fills old before new after result =
     MatchResult result
     (λ n. GoesOn old before new after [] × (n ≡ 0 → (new ≡ old) × IsAtEnd after))
-    (λ error. GoesOn old before new after [] × IsOfInput error)
+    (λ _. GoesOn old before new after [])

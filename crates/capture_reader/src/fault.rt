@@ -2,8 +2,8 @@
 ghost use Rattle.std.specs.Prelude.{◌≡◌};
 
 use captures::FaultKind;
+use input_reading::ReadFault;
 use std::alloc::AllocError;
-use std::io;
 
 /// Why `PacketReader::next` read no packet.
 #[derive(Clone, Copy, Debug, PartialEq, Eq)]
@@ -27,16 +27,15 @@ impl From<AllocError> for CaptureError {
     }
 }
 
-/// `Memory` for an error of the kind `OutOfMemory`, and else `Read`.
-impl From<io::Error> for CaptureError {
-    ghost use Rattle.capture_reader.specs.Faults.{IsFaultOf};
+impl From<ReadFault> for CaptureError {
+    ghost use Rattle.capture_reader.specs.Faults.{error_of};
 
-    ghost from_gives = { IsFaultOf };
+    ghost from_gives = { λ fault given. given ≡ error_of fault };
 
-    fn from(error: io::Error) -> CaptureError {
-        match error.kind() {
-            io::ErrorKind::OutOfMemory => CaptureError::Memory,
-            _ => CaptureError::Read,
+    fn from(fault: ReadFault) -> CaptureError {
+        match fault {
+            ReadFault::Read => CaptureError::Read,
+            ReadFault::Memory => CaptureError::Memory,
         }
     }
 }

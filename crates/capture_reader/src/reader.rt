@@ -10,6 +10,7 @@ ghost use Rattle.capture_reader.specs.declared.window.TheConstants.{LARGEST};
 use crate::fault::CaptureError;
 use crate::window::Window;
 use captures::{Capture, FaultKind, Packet, Part, ReadError};
+use input_reading::ReadFault;
 use std::alloc::{AllocError, Global};
 use std::io;
 use std::marker::Model;
@@ -199,7 +200,7 @@ impl PacketReader {
     }
 
     // Reads once, and answers how many bytes came.
-    fn read_more<R: io::Read>(&mut self, input: &mut R) -> Result<usize, CaptureError>
+    fn read_more<R: io::Read>(&mut self, input: &mut R) -> Result<usize, ReadFault>
         requires { length self.old.pending < LARGEST }
         ensures { Fills self.old (R.remaining input.old) self.new (R.remaining input.new) result }
     {

@@ -1,12 +1,9 @@
 //! What was read of an input and is not read past.
-ghost use Rattle.std.specs.Prelude.{◌≡◌, ◌≢◌, ◌≤◌, ◌<◌, ◌+◌, ◌++◌, ℕ, List, [], OnErr, OnOk, IfOk, IfErr, length, drop, take, vec_len};
-ghost use Rattle.std.specs.IoError.{error_kind};
-ghost use Rattle.std.specs.declared.io.ErrorKind.TheVariants as ErrorKind;
+ghost use Rattle.std.specs.Prelude.{◌≡◌, ◌≤◌, ◌<◌, ◌+◌, ◌++◌, ℕ, List, [], OnErr, OnOk, IfOk, length, drop, vec_len};
 ghost use Rattle.std.specs.Io.KnownBytes.{Consumes, IsAtEnd, Keeps};
-ghost use Rattle.capture_reader.specs.Faults.{IsOfInput};
 ghost use Rattle.capture_reader.specs.declared.window.TheConstants.{LARGEST};
 
-use crate::fault::CaptureError;
+use input_reading::{ReadFault, read_once};
 use std::alloc::{AllocError, Global};
 use std::io;
 
@@ -61,7 +58,7 @@ impl Window {
 
     /// Reads once, behind what is pending. Answers how many bytes came, none only at the end of the input.
     /// An error loses none.
-    pub(crate) fn fill<R: io::Read>(&mut self, input: &mut R) -> Result<usize, CaptureError>
+    pub(crate) fn fill<R: io::Read>(&mut self, input: &mut R) -> Result<usize, ReadFault>
         requires { length (pending self.old) < LARGEST }
         ensures bytes { IfOk result (λ n. (more : List ℕ) × (length more ≡ n)
             × (pending self.new ≡ pending self.old ++ more)
@@ -69,7 +66,6 @@ impl Window {
         ensures end { IfOk result (λ n. n ≡ 0 → IsAtEnd (R.remaining input.new)) }
         ensures kept { OnErr result ((pending self.new ≡ pending self.old)
             × Keeps (R.remaining input.old) (R.remaining input.new)) }
-        ensures of_input { IfErr result IsOfInput }
     {
         self.move_to_front();
         self.make_room()?;
@@ -118,24 +114,4 @@ impl Window {
         self.end = end + count;
         Ok(count)
     }
-}
-
-// One read, which is tried again if it is interrupted.
-fn read_once<R: io::Read>(input: &mut R, buffer: &mut [u8]) -> io::Result<usize>
-    ensures bound { IfOk result (λ n. n ≤ length buffer.new) }
-    ensures bytes { IfOk result (λ n.
-        Consumes (R.remaining input.old) (R.remaining input.new) (take n buffer.new)) }
-    ensures end { IfOk result (λ n.
-        n ≡ 0 → 0 < length buffer.old → IsAtEnd (R.remaining input.new)) }
-    ensures kept { OnErr result (Keeps (R.remaining input.old) (R.remaining input.new)) }
-    ensures retried { IfErr result (λ e. error_kind e ≢ ErrorKind.Interrupted) }
-{
-    for _ in 0..usize::MAX {
-        match input.read(buffer) {
-            Ok(count) => return Ok(count),
-            Err(error) if error.kind() == io::ErrorKind::Interrupted => {}
-            Err(error) => return Err(error),
-        }
-    }
-    Err(io::Error::from(io::ErrorKind::TimedOut))
 }

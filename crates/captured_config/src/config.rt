@@ -11,16 +11,13 @@ use crate::area_lsas::AreaLsas;
 use crate::fault::FrontFault;
 use crate::finding::find_interfaces;
 use crate::found::Found;
-use config_faults::{ConfigFault, fault_in};
+use config_faults::{ConfigFault, MOST_AREAS, fault_in};
 use lsa_codec::Checked;
 use ospf_types::config::{AreaConfig, Areas, Config, Ranges};
 use ospf_types::listed::Listed;
 use ospf_types::memory::Memory;
 use std::alloc::Global;
 use std::marker::Model;
-
-/// A router has so many areas at most.
-const MOST_AREAS: usize = 16;
 
 /// What the LSAs of a capture tell of the configuration of one router.
 #[derive(Drop)]

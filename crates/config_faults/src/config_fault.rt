@@ -8,9 +8,10 @@ use ospf_types::config::{AreaConfig, Config, Range, Stub};
 use ospf_types::lsa::LS_INFINITY;
 use ospf_types::prefix::Prefix;
 
-// A router has at most so many areas, and an area so many ranges.
-const MOST_AREAS: usize = 16;
+/// How many areas a router has at most.
+pub const MOST_AREAS: usize = 16;
 
+// How many ranges an area has at most.
 const MOST_RANGES: usize = 32;
 
 const BACKBONE: u32 = 0;

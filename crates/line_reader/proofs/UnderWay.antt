@@ -10,7 +10,7 @@ use Rattle.line_reader.specs.Tails.{GathersUpTo, HasNoLineFeed, IsCut, IsGathere
 use Rattle.line_reader.specs.Taking.{Takes, TakesLine, TakesNext, TakesWhole, Loses, EndsAs, EndsLine}
 use Rattle.line_reader.specs.declared.reader.Next.{Next}
 use Rattle.line_reader.specs.declared.reader.Next.TheVariants.{Line, Cut, End}
-use Rattle.line_reader.specs.declared.reader.ReadFault.{ReadFault}
+use Rattle.input_reading.specs.declared.fault.ReadFault.{ReadFault}
 use Rattle.line_reader.specs.declared.tail.Tail.{Tail}
 
 -- the bytes that are taken have no line feed, and are gathered

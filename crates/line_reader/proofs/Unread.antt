@@ -4,8 +4,8 @@ use Rattle.std.proofs.lemmas.List.Elements.{All-contains}
 use Rattle.std.proofs.lemmas.Result.{err_from_is_err_and}
 use Rattle.line_reader.specs.Tails.{GathersUpTo, HasLineFeed, HasNoLineFeed}
 use Rattle.line_reader.specs.declared.reader.Next.{Next}
-use Rattle.line_reader.specs.declared.reader.ReadFault.{ReadFault}
-use Rattle.line_reader.specs.declared.reader.ReadFault.TheVariants.{Read, Memory}
+use Rattle.input_reading.specs.declared.fault.ReadFault.{ReadFault}
+use Rattle.input_reading.specs.declared.fault.ReadFault.TheVariants.{Read, Memory}
 use Rattle.line_reader.specs.declared.tail.Tail.{Tail}
 
 pub impossible : {P : Type 0} (bytes : List ℕ) → HasNoLineFeed bytes → HasLineFeed bytes → P

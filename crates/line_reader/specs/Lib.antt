@@ -1,4 +1,3 @@
-pub mod Faults
 pub mod Shortened
 pub mod Tails
 pub mod Taking

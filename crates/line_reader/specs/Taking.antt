@@ -4,7 +4,7 @@ use Rattle.std.specs.Io.KnownBytes.{Consumes, IsAtEnd, prepend_known}
 use Rattle.line_reader.specs.Shortened.{shortened}
 use Rattle.line_reader.specs.declared.reader.Next.{Next}
 use Rattle.line_reader.specs.declared.reader.Next.TheVariants.{Line, Cut, End}
-use Rattle.line_reader.specs.declared.reader.ReadFault.{ReadFault}
+use Rattle.input_reading.specs.declared.fault.ReadFault.{ReadFault}
 use Rattle.line_reader.specs.declared.tail.Tail.{Tail}
 use Rattle.line_reader.specs.Tails.{HasNoLineFeed, IsGathered}
 

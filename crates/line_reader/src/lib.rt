@@ -5,5 +5,6 @@ mod line;
 mod reader;
 mod tail;
 
+pub use input_reading::ReadFault;
 pub use line::LONGEST;
-pub use reader::{LineReader, Next, ReadFault};
+pub use reader::{LineReader, Next};

@@ -1,13 +1,12 @@
 //! Lines of an input.
-ghost use Rattle.std.specs.Prelude.{◌≡◌, ◌≢◌, ◌≤◌, ◌<◌, [], OnErr, IfOk, IfErr, length, drop, take};
-ghost use Rattle.std.specs.IoError.{error_kind};
-ghost use Rattle.std.specs.declared.io.ErrorKind.TheVariants as ErrorKind;
-ghost use Rattle.std.specs.Io.KnownBytes.{Consumes, IsAtEnd, Keeps, prepend_known};
+ghost use Rattle.std.specs.Prelude.{◌≡◌, ◌≢◌, ◌≤◌, [], OnErr, IfOk, length, drop};
+ghost use Rattle.std.specs.Io.KnownBytes.{IsAtEnd, Keeps, prepend_known};
 ghost use Rattle.line_reader.specs.Taking.{EndsLine, TakesLine};
 ghost use Rattle.line_reader.specs.Tails.{HasLineFeed};
 
 use crate::line::{finish, gather_line};
 use crate::tail::Tail;
+use input_reading::{ReadFault, read_once};
 use std::alloc::{AllocError, Global};
 use std::io;
 use std::marker::Model;
@@ -32,39 +31,6 @@ pub enum Next {
     Cut,
     /// Nothing: the input has ended.
     End,
-}
-
-/// Why `LineReader::next` took no line.
-#[derive(Clone, Copy, Debug, PartialEq, Eq)]
-pub enum ReadFault {
-    /// The input could not be read.
-    Read,
-    /// Memory ran out.
-    Memory,
-}
-
-impl From<AllocError> for ReadFault {
-    ghost use Rattle.line_reader.specs.declared.reader.ReadFault.TheVariants.{Memory as OutOfMemory};
-
-    ghost from_gives = { λ _ given. given ≡ OutOfMemory };
-
-    fn from(_error: AllocError) -> ReadFault {
-        ReadFault::Memory
-    }
-}
-
-/// `Memory` for an error of the kind `OutOfMemory`, and else `Read`.
-impl From<io::Error> for ReadFault {
-    ghost use Rattle.line_reader.specs.Faults.{IsFaultOf};
-
-    ghost from_gives = { IsFaultOf };
-
-    fn from(error: io::Error) -> ReadFault {
-        match error.kind() {
-            io::ErrorKind::OutOfMemory => ReadFault::Memory,
-            _ => ReadFault::Read,
-        }
-    }
 }
 
 /// Contracts see the bytes that were read and not yet taken.
@@ -164,22 +130,4 @@ fn end_line(line: &mut Vec<u8>, tail: Tail) -> Result<Next, ReadFault>
     }
     finish(line, tail)?;
     Ok(Next::Cut)
-}
-
-// One read, which is tried again if it is interrupted.
-fn read_once<R: io::Read>(input: &mut R, buffer: &mut [u8]) -> io::Result<usize>
-    ensures bound { IfOk result (λ n. n ≤ length buffer.new) }
-    ensures bytes { IfOk result (λ n. Consumes (R.remaining input.old) (R.remaining input.new) (take n buffer.new)) }
-    ensures end { IfOk result (λ n. n ≡ 0 → 0 < length buffer.old → IsAtEnd (R.remaining input.new)) }
-    ensures kept { OnErr result (Keeps (R.remaining input.old) (R.remaining input.new)) }
-    ensures retried { IfErr result (λ e. error_kind e ≢ ErrorKind.Interrupted) }
-{
-    for _ in 0..usize::MAX {
-        match input.read(buffer) {
-            Ok(count) => return Ok(count),
-            Err(error) if error.kind() == io::ErrorKind::Interrupted => {}
-            Err(error) => return Err(error),
-        }
-    }
-    Err(io::Error::from(io::ErrorKind::TimedOut))
 }

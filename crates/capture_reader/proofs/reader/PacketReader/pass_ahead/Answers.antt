@@ -6,8 +6,8 @@ use Rattle.capture_reader.proofs.reader.PacketReader.pass_ahead.Goals as goal
 
 pub returns-in_err-read_more : goal.returns-in_err-read_more
 returns-in_err-read_more g c = λ bytes.
-    failed _ _ _ _ bytes c.from_residual.result c.in_err-read_more.field-0.0 c.from_residual.ensures.1 c.in_err-read_more.ensures.1
-    (both_ways _ _ _ _ _ _ [] [] (c.pass_pending.ensures.goes (g.R.Read.remaining c.args.input.now)) c.in_err-read_more.ensures.0)
+    failed _ _ _ _ bytes c.from_residual.result c.in_err-read_more.field-0.0 c.from_residual.ensures.1
+    (both_ways _ _ _ _ _ _ [] [] (c.pass_pending.ensures.goes (g.R.Read.remaining c.args.input.now)) c.in_err-read_more.ensures)
 
 pub returns-then-branch-eq0 : goal.returns-then-branch-eq0
 returns-then-branch-eq0 g c = λ bytes.

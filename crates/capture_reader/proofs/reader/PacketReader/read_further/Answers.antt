@@ -5,7 +5,7 @@ use Rattle.capture_reader.proofs.reader.PacketReader.read_further.Goals as goal
 
 pub returns-in_err-read_more : goal.returns-in_err-read_more
 returns-in_err-read_more g c = λ bytes.
-    failed _ _ _ _ bytes c.from_residual.result c.in_err-read_more.field-0.0 c.from_residual.ensures.1 c.in_err-read_more.ensures.1 c.in_err-read_more.ensures.0
+    failed _ _ _ _ bytes c.from_residual.result c.in_err-read_more.field-0.0 c.from_residual.ensures.1 c.in_err-read_more.ensures
 
 pub returns-then-branch-gt0 : goal.returns-then-branch-gt0
 returns-then-branch-gt0 g c = λ bytes. c.in_ok-read_more.ensures.0

@@ -1,5 +1,5 @@
-use Rattle.std.proofs.Common.{◌≡◌, ◌∷◌, ◌∙◌, [], None, Ok, Err, inl, refl, ap, subst, sym, arith, rules}
-use Rattle.capture_reader.specs.declared.fault.CaptureError.TheVariants.{Memory}
+use Rattle.std.proofs.Common.{◌≡◌, ◌∷◌, ◌∙◌, [], None, Ok, Err, ap, subst, sym, arith, rules}
+use Rattle.input_reading.specs.declared.fault.ReadFault.TheVariants.{Memory}
 use Rattle.capture_reader.specs.Steps.{Steps}
 use Rattle.capture_reader.specs.Window.{pending}
 use Rattle.capture_reader.proofs.Going.{both_ways, from, shown_as}
@@ -14,7 +14,7 @@ returns-in-Ok-Skip g c =
 pub returns-in_err-extend_from_slice-in-Ok-Packet : goal.returns-in_err-extend_from_slice-in-Ok-Packet
 returns-in_err-extend_from_slice-in-Ok-Packet g c =
     let near : c.self.inside.ahead ≡ 0 = omega (arith, c.if-self-gt0.false) in
-    failed _ _ _ _ _ c.from_residual.result Memory c.from_residual.ensures.1 (inl refl)
+    failed _ _ _ _ _ c.from_residual.result Memory c.from_residual.ensures.1
     (from c.self.view_is (packet_lost _ _ _ _ _ _ _ _ near c.self.invariant c.as_slice.ensures c.read_part.ensures.answer c.read_part.ensures.reach c.read_part.ensures.steady c.in-Ok-Packet.packet c.in-Ok-Packet.length (c.in-Ok-Packet.is ∙ ap Ok c.in-Ok-Packet.field-0-is)))
 
 pub returns-in_ok-extend_from_slice-in-Ok-Packet : goal.returns-in_ok-extend_from_slice-in-Ok-Packet

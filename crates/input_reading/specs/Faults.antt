@@ -3,8 +3,8 @@ use Rattle.std.specs.Prelude.{◌≡◌, ◌≢◌, ◌⊎◌}
 use Rattle.std.specs.IoError.{error_kind}
 use Rattle.std.specs.declared.io.Error.{Error}
 use Rattle.std.specs.declared.io.ErrorKind.TheVariants.{OutOfMemory}
-use Rattle.line_reader.specs.declared.reader.ReadFault.{ReadFault}
-use Rattle.line_reader.specs.declared.reader.ReadFault.TheVariants.{Read, Memory}
+use Rattle.input_reading.specs.declared.fault.ReadFault.{ReadFault}
+use Rattle.input_reading.specs.declared.fault.ReadFault.TheVariants.{Read, Memory}
 
 -- only an error of the kind `OutOfMemory` is one of memory
 abbrev pub IsFaultOf : Error → ReadFault → Type 0

@@ -1,0 +1,38 @@
+//! Why nothing was read.
+ghost use Rattle.std.specs.Prelude.{◌≡◌};
+
+use std::alloc::AllocError;
+use std::io;
+
+/// Why nothing was read of an input.
+#[derive(Clone, Copy, Debug, PartialEq, Eq)]
+pub enum ReadFault {
+    /// The input could not be read.
+    Read,
+    /// Memory ran out.
+    Memory,
+}
+
+impl From<AllocError> for ReadFault {
+    ghost use Rattle.input_reading.specs.declared.fault.ReadFault.TheVariants.{Memory as OutOfMemory};
+
+    ghost from_gives = { λ _ given. given ≡ OutOfMemory };
+
+    fn from(_error: AllocError) -> ReadFault {
+        ReadFault::Memory
+    }
+}
+
+/// `Memory` for an error of the kind `OutOfMemory`, and else `Read`.
+impl From<io::Error> for ReadFault {
+    ghost use Rattle.input_reading.specs.Faults.{IsFaultOf};
+
+    ghost from_gives = { IsFaultOf };
+
+    fn from(error: io::Error) -> ReadFault {
+        match error.kind() {
+            io::ErrorKind::OutOfMemory => ReadFault::Memory,
+            _ => ReadFault::Read,
+        }
+    }
+}
