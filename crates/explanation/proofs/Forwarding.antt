@@ -3,7 +3,7 @@ use Rattle.std.proofs.Common.{◌≡◌, ◌<◌, ◌≤◌, ◌+◌, ℕ, List,
 use Rattle.std.specs.Prelude.{Contains}
 use Rattle.std.proofs.lemmas.List.{append-nil, append_assoc, take_all}
 use Rattle.std.proofs.lemmas.List.Elements.{Contains-append_cases, Contains-append_right}
-use Rattle.ospf_types.proofs.Elements.{contains_more, no_element}
+use Rattle.ospf_types.proofs.Elements.{contains_more}
 use Rattle.ospf_types.specs.declared.entry.Entry.{Entry}
 use Rattle.ospf_types.specs.declared.hop.Path.{Path}
 use Rattle.ospf_types.specs.declared.key.Scope.{Scope}
@@ -43,14 +43,6 @@ module _ (w : Layers) (address : ℕ) (o : Offer) (paths : List Path) where
       pub whole : after ≡ before ++ added
       pub sound : (t : Trace) → Contains added t → Contains paths t.path × IsToward w address o by t
       pub complete : (inner : Trace) → Contains inners inner → Contains paths (external_path o (toward address inner.path.hop)) → HasTrace added (external_path o (toward address inner.path.hop))
-
-    pub none_added : (inners before : List Trace) → IsAdded (take 0 inners) before before
-    none_added inners before = record {
-      added = [];
-      whole = sym (append-nil before);
-      sound = λ t among. absurd (no_element t among);
-      complete = λ inner among. absurd (no_element inner among);
-    }
 
     -- none goes on from here
     pub none_toward : (before : List Trace) → ((area : ℕ) (e : Entry) → IsInRoute w by area e → ⊥) → AddsToward w address o paths by before before
@@ -101,12 +93,6 @@ module _ (w : Layers) (address : ℕ) (o : Offer) (paths : List Path) where
   pub record IsUpTo (offers : List Offer) (traces : List Trace) : Type 0 where
     pub sound : (t : Trace) → Contains traces t → Contains paths t.path × IsForwarded w address o t
     pub complete : (by : Offer) → Contains offers by → IsTakenAmong w (all_offers w by.network.address) by → (path : Path) → Contains paths path → LeadsToward w address o by path → HasTrace traces path
-
-  pub none_up_to : (offers : List Offer) → IsUpTo (take 0 offers) []
-  none_up_to offers = record {
-    sound = λ t among. absurd (no_element t among);
-    complete = λ by among. absurd (no_element by among);
-  }
 
   module _ (offers : List Offer) (i : ℕ) (by : Offer) (lt : i < length offers) (here : by ≡ get_or offers i by) where
     pub more_up_to : (before after : List Trace) → IsMatching w address by → AddsToward w address o paths by before after → IsUpTo (take i offers) before → IsUpTo (take (i + 1) offers) after

@@ -1,7 +1,6 @@
 -- The least key of the offers, and the Link State ID of a transit network among them, one offer after the other.
 use Rattle.std.proofs.Common.{◌≡◌, ◌⊎◌, ◌<◌, ◌≤◌, ◌+◌, ℕ, List, Option, Some, None, take, length, get_or, refl, sym, ap, subst, ◌∙◌, inl, inr, arith}
 use Rattle.std.specs.Prelude.{unwrap_or}
-use Rattle.std.proofs.lemmas.List.{take_all}
 use Rattle.ospf_types.proofs.Elements.{contains_more, no_element}
 use Rattle.ospf_types.specs.declared.entry.Entry.{Entry}
 use Rattle.explanation.specs.declared.layers.Layers.{Layers}
@@ -62,9 +61,6 @@ module _ (w : Layers) where
     one = λ k e. let was = are.one k e in (was.0, (contains_more offers i o was.0 lt is).1 (inl was.1), was.2);
   }
 
-  pub all_keys : (offers : List Offer) (i : ℕ) (least : Option ExternalKey) → length offers ≤ i → IsLeastKey w (take i offers) least → IsLeastKey w offers least
-  all_keys offers i least past are = subst (λ (os : List Offer). IsLeastKey w os least) (take_all i offers past) are
-
   module _ (e : Entry) where
     pub no_id : (offers : List Offer) → IsGreatestId w e (take 0 offers) None
     no_id offers = record {
@@ -110,6 +106,3 @@ module _ (w : Layers) where
       ];
       one = λ id eq. let was = are.one id eq in (was.0, (contains_more offers i o was.0 lt is).1 (inl was.1), was.2, was.3);
     }
-
-    pub all_ids : (offers : List Offer) (i : ℕ) (greatest : Option ℕ) → length offers ≤ i → IsGreatestId w e (take i offers) greatest → IsGreatestId w e offers greatest
-    all_ids offers i greatest past are = subst (λ (os : List Offer). IsGreatestId w e os greatest) (take_all i offers past) are

@@ -3,7 +3,7 @@ use Rattle.std.proofs.Common.{◌≡◌, ◌<◌, ◌≤◌, ◌+◌, ℕ, List,
 use Rattle.std.specs.Prelude.{Contains, IfNone}
 use Rattle.std.specs.FinMap.{get}
 use Rattle.std.proofs.lemmas.List.{take_all}
-use Rattle.ospf_types.proofs.Elements.{contains_more, no_element}
+use Rattle.ospf_types.proofs.Elements.{contains_more}
 use Rattle.ospf_types.specs.declared.entry.Entry.{Entry}
 use Rattle.ospf_types.specs.declared.hop.Path.{Path}
 use Rattle.ospf_types.specs.declared.key.Dest.TheVariants as dest
@@ -59,12 +59,6 @@ module _ (w : Layers) (o : Offer) (paths : List Path) where
       }
 
   module _ (area : ℕ) where
-    pub none_told : (withins : List Path) → AreToldOver w area o paths (take 0 withins) []
-    none_told withins = record {
-      sound = λ t among. absurd (no_element t among);
-      complete = λ within among. absurd (no_element within among);
-    }
-
     pub more_told : (withins : List Path) (i : ℕ) (within : Path) (before after : List Trace) → i < length withins → within ≡ get_or withins i within
         → AreToldOver w area o paths (take i withins) before → MayAddTold w area o paths within before after → AreToldOver w area o paths (take (i + 1) withins) after
     more_told withins i within before after lt here are (inl added) = record {
