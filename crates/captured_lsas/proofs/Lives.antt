@@ -1,10 +1,20 @@
 -- What is put among the lives, and what is found there.
-use Rattle.std.proofs.Common.{◌≡◌, ◌∙◌, Bool, true, false, not, cond, [], ◌∷◌, Option, Some, None, Result, Ok, Err, IfOk, OnOk, OnErr, refl, ap, ap₂, sym, subst}
+use Rattle.std.proofs.Common.{◌≡◌, ◌∙◌, Bool, true, false, not, cond, [], ◌∷◌, Option, Some, None, Result, Ok, Err, IfOk, OnOk, OnErr, refl, ap, ap₂, sym, subst, ℕ, List, length, take, drop, ◌-◌, arith}
 use Rattle.std.specs.Map.{lookup, set_value}
+use Rattle.std.proofs.lemmas.List.{take_all, length-drop}
 use Rattle.indexmap.specs.IndexMap.{insert_entry}
 use Rattle.captured_lsas.specs.declared.name.LsaName.{LsaName}
-use Rattle.captured_lsas.specs.Given.{Given, Life, Lives, same_name, is_among, life_with, life_of, is_in, has_given, life_after, with_given}
+use Rattle.captured_lsas.specs.Given.{Given, given_of, is_max_age, Life, Lives, same_name, is_among, life_with, life_of, is_in, has_given, life_after, with_given}
 use Rattle.captured_lsas.proofs.Names.{alike, names}
+
+-- an LSA as it is noted: the instance is all that is behind the age
+abbrev pub taken_of : LsaName → Bool → List ℕ → Given
+taken_of name at_max_age lsa = record { name = name; is_max_age = at_max_age; rest = take (length lsa - 2) (drop 2 lsa) }
+
+pub taken_is : (name : LsaName) (at_max_age : Bool) (lsa : List ℕ) → at_max_age ≡ is_max_age lsa → taken_of name at_max_age lsa ≡ given_of name lsa
+taken_is name at_max_age lsa age =
+    let rest = take_all (length lsa - 2) (drop 2 lsa) (omega (arith, length-drop 2 lsa)) in
+    λ i. record { name = name; is_max_age = age i; rest = rest i }
 
 -- an entry that is there takes the value
 put_there : (es : Lives) (k : LsaName) (v w : Life) → lookup (same_name k) es ≡ Some v → set_value (same_name k) es w ≡ insert_entry same_name es k w

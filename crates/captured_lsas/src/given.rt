@@ -47,12 +47,12 @@ impl GivenLsas {
         ensures unchanged { OnErr result (self.new ≡ self.old) }
     {
         let is_max_age = is_max_age(lsa);
-        let instance = Vec::from_slice(alloc, &lsa[2..])?;
+        let instance = &lsa[2..];
         let hashing = self.hashing;
         match self.lives.get_mut(&name) {
             Some(life) => life.note(alloc, hashing, is_max_age, instance),
             None => {
-                let life = Life::begin(alloc, hashing, is_max_age, instance)?;
+                let life = Life::begin(alloc, is_max_age, instance)?;
                 self.lives.insert(name, life)?;
                 Ok(true)
             }

@@ -8,6 +8,7 @@ mod life;
 mod listener;
 mod name;
 mod options;
+mod others;
 mod reading;
 mod recorded;
 mod recorder;

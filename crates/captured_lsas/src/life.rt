@@ -3,7 +3,7 @@
 ghost use Rattle.std.specs.Prelude.{◌≡◌, not, IfOk, OnOk, OnErr};
 ghost use Rattle.captured_lsas.specs.Given.{is_among, life_with, new_life};
 
-use indexmap::IndexSet;
+use crate::others::Others;
 use ospf_types::memory::Memory;
 use std::alloc::Global;
 use std::hash::RandomState;
@@ -13,35 +13,31 @@ use std::marker::Model;
 #[derive(Drop)]
 pub(crate) struct Life {
     is_max_age: bool,
-    /// Of each instance the bytes behind the age.
-    instances: IndexSet<Vec<u8>, RandomState>,
+    /// Of the first instance the bytes behind the age. Most LSAs have no other.
+    first: Vec<u8>,
+    others: Others,
 }
 
 /// Contracts see the instances in their order, each once.
 impl Model for Life {
-    ghost use Rattle.std.specs.Prelude.{map};
+    ghost use Rattle.std.specs.Prelude.{◌∷◌};
     ghost use Rattle.captured_lsas.specs.Given.{Life as LifeValue};
 
     ghost Value = { LifeValue };
 
-    ghost view = { λ l. record { is_max_age = l.is_max_age; instances = map (λ bytes. bytes.items) l.instances.keys } };
+    ghost view = { λ l. record { is_max_age = l.is_max_age; instances = l.first.items ∷ l.others } };
 }
 
 impl Life {
     /// A life begins with the instance.
-    pub(crate) fn begin(
-        alloc: Global,
-        hashing: RandomState,
-        is_max_age: bool,
-        instance: Vec<u8>,
-    ) -> Result<Life, Memory>
-        ensures { IfOk result (λ life. life ≡ new_life is_max_age instance.items) }
+    pub(crate) fn begin(alloc: Global, is_max_age: bool, instance: &[u8]) -> Result<Life, Memory>
+        ensures { IfOk result (λ life. life ≡ new_life is_max_age instance.now) }
     {
-        let mut instances = IndexSet::with_hasher(alloc, hashing);
-        instances.insert_full(instance)?;
+        let first = Vec::from_slice(alloc, instance)?;
         Ok(Life {
             is_max_age,
-            instances,
+            first,
+            others: Others::none(),
         })
     }
 
@@ -51,17 +47,19 @@ impl Life {
         alloc: Global,
         hashing: RandomState,
         is_max_age: bool,
-        instance: Vec<u8>,
+        instance: &[u8],
     ) -> Result<bool, Memory>
-        ensures answer { IfOk result (λ b. b ≡ not (is_among is_max_age instance.items self.old)) }
-        ensures noted { OnOk result (self.new ≡ life_with is_max_age instance.items self.old) }
+        ensures answer { IfOk result (λ b. b ≡ not (is_among is_max_age instance.now self.old)) }
+        ensures noted { OnOk result (self.new ≡ life_with is_max_age instance.now self.old) }
         ensures unchanged { OnErr result (self.new ≡ self.old) }
     {
-        if self.is_max_age == is_max_age {
-            let (_, is_new) = self.instances.insert_full(instance)?;
-            return Ok(is_new);
+        if self.is_max_age != is_max_age {
+            *self = Life::begin(alloc, is_max_age, instance)?;
+            return Ok(true);
         }
-        *self = Life::begin(alloc, hashing, is_max_age, instance)?;
-        Ok(true)
+        if instance == self.first.as_slice() {
+            return Ok(false);
+        }
+        self.others.note(alloc, hashing, instance)
     }
 }
