@@ -81,6 +81,8 @@ CAPTURES = [
     Capture("ethernet", BORDER, "segment", "EN10MB", {"0.0.0.0", "as"}),
     Capture("bridge", "hub", "any", "LINUX_SLL2", {"0.0.0.0", "as"}),
 ]
+# How much the kernel keeps of packets that tcpdump has not written yet: a busy machine lets it wait.
+KILOBYTES = "16384"
 # How many bytes a link type has before the IPv4 header.
 LINK_HEADERS = {"LINUX_SLL2": 20, "LINUX_SLL": 16, "EN10MB": 14}
 # The type of a Link State Update (RFC 2328, A.3.1).
@@ -335,13 +337,19 @@ class Lab:
 
     def start_capture(self, it):
         path = os.path.join(self.folder, f"{it.name}.pcap")
-        words = ["-Z", "root", "-U", "--immediate-mode", "-n", "-i", it.interface, "-y", it.link, "-w", path, "proto", "89"]
+        words = ["-Z", "root", "-U", "--immediate-mode", "-B", KILOBYTES, "-n", "-i", it.interface, "-y", it.link, "-w", path, "proto", "89"]
         self.captures.append(self.start(it.place, f"{it.name}.log", "tcpdump", *words))
         wait_until(lambda: os.path.exists(path) and os.path.getsize(path) >= 24, 10, f"the capture {it.name} does not begin")
 
     def end_captures(self):
+        """Ends them, and says where one lacks packets: LSAs that were in these may differ."""
         for process in self.captures:
             end(process)
+        for it in CAPTURES:
+            with open(os.path.join(self.folder, f"{it.name}.log"), encoding="utf-8") as log:
+                dropped = re.search(r"^([1-9]\d*) packets? dropped by kernel", log.read(), re.MULTILINE)
+            if dropped:
+                print(f"{it.name}: the kernel dropped {dropped[1]} packets, so the capture lacks them", flush=True)
 
     # -- daemons
 
