@@ -88,6 +88,8 @@ finish() {
 prefix=$given
 if [ $# = 0 ]; then
     prefix=$room/usr
+    # (where it fails, what follows takes longer)
+    examples/c/library.py > "$room/out" 2>&1 || cat "$room/out"
     runs "./abr install" 0 ./abr install "$prefix" || finish
 fi
 flags=("-I$prefix/include") libs=("-L$prefix/lib" -labr)
