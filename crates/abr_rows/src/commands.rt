@@ -2,11 +2,12 @@
 
 use crate::trial::UNSHOWN;
 use abr_cli::{Invocation, job};
+use anyhow::{Result, ensure};
 use std::alloc::Global;
 use std::hash::RandomState;
 use std::io;
+use std::random::RandomSource;
 use std::sync::Wait;
-use std::test::Fail;
 use std::thread::Threads;
 
 // The router-LSA of 10.0.0.1 with one stub link, 192.0.2.0/24 at metric 10.
@@ -99,41 +100,45 @@ fn cannot_tell_the_fault<S: Threads + Wait + Sync>(
     status(rt, alloc, hashing, words, &mut out, &mut faults) == 1 && out.is_empty()
 }
 
-#[test]
-fn writers_that_fail_give_status_1(rt: HostRuntime) -> Result<(), Fail> {
-    let hashing = RandomState::new(&rt)?;
-    let fail = cannot_print(&rt, rt.alloc(), hashing, &ONE)
-        && cannot_print(&rt, rt.alloc(), hashing, &["abr", "decode", STUB])
-        && cannot_print(&rt, rt.alloc(), hashing, &["abr", "replay", "-"])
-        && cannot_print(
-            &rt,
-            rt.alloc(),
-            hashing,
-            &["abr", "explain", "-", "192.0.2.1"],
-        )
-        && cannot_print(&rt, rt.alloc(), hashing, &["abr", "page", "-"])
-        && cannot_write(
-            &rt,
-            rt.alloc(),
-            hashing,
-            &["abr", "page", "-", "-o", "network.html"],
-            "abr: cannot write network.html\n",
-        )
-        && cannot_print(
-            &rt,
-            rt.alloc(),
-            hashing,
-            &["abr", "replay", "-", "--workers", "2"],
-        )
-        && cannot_print(&rt, rt.alloc(), hashing, &["abr", "--help"])
-        && cannot_tell_the_fault(
-            &rt,
-            rt.alloc(),
-            hashing,
-            &["abr", "one", "", "", "", "", ""],
-        )
-        && cannot_tell_the_fault(&rt, rt.alloc(), hashing, &["abr", "decode", "0"])
-        && cannot_tell_the_fault(&rt, rt.alloc(), hashing, &["abr", "two"]);
-    assert!(rt; fail);
+// The words of commands that print.
+const PRINTING: [&[&str]; 7] = [
+    &ONE,
+    &["abr", "decode", STUB],
+    &["abr", "replay", "-"],
+    &["abr", "explain", "-", "192.0.2.1"],
+    &["abr", "page", "-"],
+    &["abr", "replay", "-", "--workers", "2"],
+    &["abr", "--help"],
+];
+
+// The words of a command that writes to a file, and what it says where it cannot.
+const WRITING: [&str; 5] = ["abr", "page", "-", "-o", "network.html"];
+
+const UNWRITTEN: &str = "abr: cannot write network.html\n";
+
+// Words that are at fault.
+const FAULTY: [&[&str]; 3] = [
+    &["abr", "one", "", "", "", "", ""],
+    &["abr", "decode", "0"],
+    &["abr", "two"],
+];
+
+// The status is 1 where nothing can be written.
+pub fn run<R: AllocGlobal + RandomSource + Threads + Wait + Sync>(rt: &R) -> Result<()> {
+    let (alloc, hashing) = (rt.alloc(), RandomState::new(rt)?);
+    for words in PRINTING {
+        ensure!(
+            cannot_print(rt, alloc, hashing, words),
+            "another end: {words:?}"
+        );
+    }
+    let is_told = cannot_write(rt, alloc, hashing, &WRITING, UNWRITTEN);
+    ensure!(is_told, "another end: {WRITING:?}");
+    for words in FAULTY {
+        ensure!(
+            cannot_tell_the_fault(rt, alloc, hashing, words),
+            "another end: {words:?}"
+        );
+    }
     Ok(())
 }

@@ -1,21 +1,18 @@
-//! Runs the commands of `abr` on the rows of `data/`, and prints which differ from what is wanted. Its tests have what no row
-//! can say: recordings read and printed, and replays and commands over readers and writers that fail.
+//! Runs the commands of `abr` on the rows of `data/`, and prints which differ from what is wanted. Behind them it tries what no row
+//! can say: recordings read and printed, and replays and commands over readers and writers that fail. It ends with an error where
+//! something else comes.
 #![tactic(auto)]
 
-#[cfg(test)]
 mod commands;
 mod input;
-#[cfg(test)]
 mod recordings;
-#[cfg(test)]
 mod replays;
 mod row;
-#[cfg(test)]
 mod told_changes;
 mod trial;
-#[cfg(test)]
 mod workers;
 
+use anyhow::Result;
 use row::read_rows;
 use std::alloc::{AllocError, Global};
 use std::hash::RandomState;
@@ -56,13 +53,29 @@ struct Count {
     differ: u64,
 }
 
-fn main(rt: HostRuntime) -> io::Result<()> {
+fn main(rt: HostRuntime) -> Result<()> {
     let mut count = Count { ran: 0, differ: 0 };
     for file in FILES {
         count = run_file(&rt, file, count)?;
     }
     let Count { ran, differ } = count;
-    println!(rt; "{ran} rows, {differ} differ")
+    println!(rt; "{ran} rows, {differ} differ")?;
+    run_others(&rt)
+}
+
+// Tries what no row can say, and prints what was tried.
+fn run_others<R: AllocGlobal + RandomSource + Print + Threads + Wait + Sync>(rt: &R) -> Result<()> {
+    recordings::run(rt)?;
+    println!(rt; "recordings that are read and printed")?;
+    replays::run(rt)?;
+    println!(rt; "replays over inputs and outputs that fail")?;
+    workers::run(rt)?;
+    println!(rt; "a replay over two workers")?;
+    told_changes::run(rt)?;
+    println!(rt; "changes over inputs and outputs that fail")?;
+    commands::run(rt)?;
+    println!(rt; "commands over outputs that fail")?;
+    Ok(())
 }
 
 // Runs the rows of a file, and prints those that differ.

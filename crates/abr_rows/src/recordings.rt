@@ -1,7 +1,7 @@
 //! Recordings are read, and printed as they were.
 
+use anyhow::{Result, bail, ensure};
 use recording::{Recording, Version, parse, print};
-use std::test::Fail;
 
 // Each form of a line that every version has, and each LS type.
 const TEXT: &str = "abr 1
@@ -41,32 +41,36 @@ roll
 ";
 
 // What is printed of the recording behind what is there already.
-fn printed(rt: &HostRuntime, recording: &Recording, text: &str) -> Result<bool, Fail> {
+fn printed(rt: &impl AllocGlobal, recording: &Recording, text: &str) -> Result<bool> {
     let mut out = Vec::from_slice(rt.alloc(), b"> ")?;
     print(rt.alloc(), recording, &mut out)?;
     Ok(out.as_slice().strip_prefix(b"> ".as_slice()) == Some(text.as_bytes()))
 }
 
-#[test]
-fn a_text_is_read_and_printed(rt: HostRuntime) -> Result<(), Fail> {
-    let read = parse(rt.alloc(), TEXT.as_bytes())?;
-    let same = printed(&rt, &read, TEXT)?
-        && read.lines().len() == 11
-        && read.config().router == 0x0a00_0001;
-    let (version, base, lines) = read.into_parts();
-    let again = Recording::of(version, base, lines).ok_or("a recording")?;
-    assert!(rt; same && printed(&rt, &again, TEXT)?);
+pub fn run(rt: &impl AllocGlobal) -> Result<()> {
+    ensure!(is_text_printed(rt)?, "a text is read and printed otherwise");
+    ensure!(is_base_printed(rt)?, "a base is read and printed otherwise");
     Ok(())
 }
 
-#[test]
-fn a_base_is_read_and_printed(rt: HostRuntime) -> Result<(), Fail> {
+fn is_text_printed(rt: &impl AllocGlobal) -> Result<bool> {
+    let read = parse(rt.alloc(), TEXT.as_bytes())?;
+    let same = printed(rt, &read, TEXT)?
+        && read.lines().len() == 11
+        && read.config().router == 0x0a00_0001;
+    let (version, base, lines) = read.into_parts();
+    match Recording::of(version, base, lines) {
+        Some(again) => Ok(same && printed(rt, &again, TEXT)?),
+        None => bail!("what is read makes no recording"),
+    }
+}
+
+fn is_base_printed(rt: &impl AllocGlobal) -> Result<bool> {
     let read = parse(rt.alloc(), BASED.as_bytes())?;
-    let same = printed(&rt, &read, BASED)?
+    let same = printed(rt, &read, BASED)?
         && read.lines().len() == 4
         && read.base().serial == u64::MAX
         && read.base().lsas.len() == 2;
     let (_, base, lines) = read.into_parts();
-    assert!(rt; same && Recording::of(Version::Two, base, lines).is_none());
-    Ok(())
+    Ok(same && Recording::of(Version::Two, base, lines).is_none())
 }

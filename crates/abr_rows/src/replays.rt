@@ -1,12 +1,13 @@
 //! Replays over readers and writers that fail.
 
 use abr_cli::Format;
+use anyhow::{Result, ensure};
 use recording::{Fault, LineFault};
 use replay::{Printing, ReplayFault, Show, replay_one};
 use std::alloc::Global;
 use std::hash::RandomState;
 use std::io;
-use std::test::Fail;
+use std::random::RandomSource;
 
 /// A router with one network.
 pub const RECORDING: &str = "abr 1
@@ -110,23 +111,35 @@ fn replays(
     (answer, begins, written.len() == ROUTES.len())
 }
 
-// The recording is read in fifteen calls, the last of which gives nothing.
-#[test]
-fn a_reader_that_fails(rt: HostRuntime) -> Result<(), Fail> {
-    let hashing = RandomState::new(&rt)?;
-    let mut all = true;
-    for calls in 0..15 {
-        let (answer, begins, _) = replays(rt.alloc(), hashing, RECORDING, (calls, 255), None);
-        all &= answer == Err(ReplayFault::Read) && begins;
-    }
-    let whole = replays(rt.alloc(), hashing, RECORDING, (255, 255), None);
-    assert!(rt; all && whole == (Ok(()), true, true));
+pub fn run<R: AllocGlobal + RandomSource>(rt: &R) -> Result<()> {
+    let (alloc, hashing) = (rt.alloc(), RandomState::new(rt)?);
+    ensure!(
+        fails_by_its_reader(alloc, hashing),
+        "another end by reads that fail"
+    );
+    ensure!(
+        fails_by_its_writer(alloc, hashing),
+        "another end by writes that fail"
+    );
+    ensure!(
+        fails_by_its_input(alloc, hashing),
+        "another end by a fault of the input"
+    );
     Ok(())
 }
 
-#[test]
-fn a_writer_that_fails_or_takes_nothing(rt: HostRuntime) -> Result<(), Fail> {
-    let hashing = RandomState::new(&rt)?;
+// The recording is read in fifteen calls, the last of which gives nothing.
+fn fails_by_its_reader(alloc: Global, hashing: RandomState) -> bool {
+    let mut all = true;
+    for calls in 0..15 {
+        let (answer, begins, _) = replays(alloc, hashing, RECORDING, (calls, 255), None);
+        all &= answer == Err(ReplayFault::Read) && begins;
+    }
+    let whole = replays(alloc, hashing, RECORDING, (255, 255), None);
+    all && whole == (Ok(()), true, true)
+}
+
+fn fails_by_its_writer(alloc: Global, hashing: RandomState) -> bool {
     let (full, closed) = (io::ErrorKind::StorageFull, io::ErrorKind::BrokenPipe);
     let mut all = true;
     for calls in 0..10 {
@@ -135,20 +148,17 @@ fn a_writer_that_fails_or_takes_nothing(rt: HostRuntime) -> Result<(), Fail> {
             (Some(closed), ReplayFault::Closed),
             (None, ReplayFault::Write),
         ] {
-            let found = replays(rt.alloc(), hashing, RECORDING, (255, calls), failure);
+            let found = replays(alloc, hashing, RECORDING, (255, calls), failure);
             all &= found == (Err(fault), true, false);
         }
     }
-    assert!(rt; all);
-    Ok(())
+    all
 }
 
-#[test]
-fn a_fault_of_the_input_writes_nothing(rt: HostRuntime) -> Result<(), Fail> {
-    let hashing = RandomState::new(&rt)?;
+// A fault of the input writes nothing.
+fn fails_by_its_input(alloc: Global, hashing: RandomState) -> bool {
     let (line, fault) = (2, Fault::Truncated);
     let line_fault = ReplayFault::Line(LineFault { line, fault });
-    let found = replays(rt.alloc(), hashing, "abr 1\n", (255, 0), None);
-    assert!(rt; found.0 == Err(line_fault));
-    Ok(())
+    let found = replays(alloc, hashing, "abr 1\n", (255, 0), None);
+    found.0 == Err(line_fault)
 }

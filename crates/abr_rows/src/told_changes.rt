@@ -3,13 +3,14 @@
 use crate::replays::{RECORDING, some_device};
 use crate::trial::UNSHOWN;
 use abr_cli::Format;
+use anyhow::{Result, ensure};
 use changes::{Telling, Wanted, tell_changes};
 use recording::{Fault, LineFault};
 use replay::ReplayFault;
 use std::alloc::Global;
 use std::hash::RandomState;
 use std::io;
-use std::test::Fail;
+use std::random::RandomSource;
 
 const CHANGES: &str = "5 set 192.0.2.0/24 intra 0.0.0.0 10 0 direct:1
 ";
@@ -54,47 +55,61 @@ fn tells(
     (answer, begins, written.len() == CHANGES.len())
 }
 
+pub fn run<R: AllocGlobal + RandomSource>(rt: &R) -> Result<()> {
+    let (alloc, hashing) = (rt.alloc(), RandomState::new(rt)?);
+    ensure!(
+        fails_by_its_reader(alloc, hashing),
+        "another end by reads that fail"
+    );
+    ensure!(
+        fails_by_its_writer(alloc, hashing),
+        "another end by writes that fail"
+    );
+    ensure!(
+        fails_by_its_input(alloc, hashing),
+        "another end by a fault of the input"
+    );
+    ensure!(
+        reads_line_by_line(alloc, hashing),
+        "a line is answered too late"
+    );
+    Ok(())
+}
+
 // The recording is read in fifteen calls, the last of which gives nothing.
-#[test]
-fn a_reader_that_fails(rt: HostRuntime) -> Result<(), Fail> {
-    let hashing = RandomState::new(&rt)?;
+fn fails_by_its_reader(alloc: Global, hashing: RandomState) -> bool {
     let mut all = true;
     for calls in 0..15 {
-        let (answer, begins, _) = tells(rt.alloc(), hashing, RECORDING, (calls, 255), None);
+        let (answer, begins, _) = tells(alloc, hashing, RECORDING, (calls, 255), None);
         all &= answer == Err(ReplayFault::Read) && begins;
     }
-    let whole = tells(rt.alloc(), hashing, RECORDING, (255, 255), None);
-    assert!(rt; all && whole == (Ok(()), true, true));
-    Ok(())
+    let whole = tells(alloc, hashing, RECORDING, (255, 255), None);
+    all && whole == (Ok(()), true, true)
 }
 
 // The line is written in three calls.
-#[test]
-fn a_writer_that_fails_or_takes_nothing(rt: HostRuntime) -> Result<(), Fail> {
-    let hashing = RandomState::new(&rt)?;
+fn fails_by_its_writer(alloc: Global, hashing: RandomState) -> bool {
+    let (full, closed) = (io::ErrorKind::StorageFull, io::ErrorKind::BrokenPipe);
     let mut all = true;
     for calls in 0..3 {
-        let full = Some(io::ErrorKind::StorageFull);
-        for failure in [full, None] {
-            let found = tells(rt.alloc(), hashing, RECORDING, (255, calls), failure);
-            all &= found == (Err(ReplayFault::Write), true, false);
+        for (failure, fault) in [
+            (Some(full), ReplayFault::Write),
+            (Some(closed), ReplayFault::Closed),
+            (None, ReplayFault::Write),
+        ] {
+            let found = tells(alloc, hashing, RECORDING, (255, calls), failure);
+            all &= found == (Err(fault), true, false);
         }
-        let closed = Some(io::ErrorKind::BrokenPipe);
-        let found = tells(rt.alloc(), hashing, RECORDING, (255, calls), closed);
-        all &= found == (Err(ReplayFault::Closed), true, false);
     }
-    assert!(rt; all);
-    Ok(())
+    all
 }
 
-#[test]
-fn a_fault_of_the_input_writes_nothing(rt: HostRuntime) -> Result<(), Fail> {
-    let hashing = RandomState::new(&rt)?;
+// A fault of the input writes nothing.
+fn fails_by_its_input(alloc: Global, hashing: RandomState) -> bool {
     let (line, fault) = (2, Fault::Truncated);
     let line_fault = ReplayFault::Line(LineFault { line, fault });
-    let found = tells(rt.alloc(), hashing, "abr 1\n", (255, 0), None);
-    assert!(rt; found == (Err(line_fault), true, false));
-    Ok(())
+    let found = tells(alloc, hashing, "abr 1\n", (255, 0), None);
+    found == (Err(line_fault), true, false)
 }
 
 /// Gives a line at each call, and counts them.
@@ -114,24 +129,14 @@ impl io::Read for LineByLine<'_> {
 }
 
 // Nothing can be written: it ends with the first line of which something is told, before the next is read.
-#[test]
-fn a_line_is_answered_before_the_next_is_read(rt: HostRuntime) -> Result<(), Fail> {
-    let hashing = RandomState::new(&rt)?;
+fn reads_line_by_line(alloc: Global, hashing: RandomState) -> bool {
     let mut input = LineByLine {
         left: RECORDING.as_bytes(),
         calls: 0,
     };
     let closed = Some(io::ErrorKind::BrokenPipe);
-    let mut out = some_device(rt.alloc(), "", 0, closed);
-    let mut faults = Vec::new(rt.alloc());
-    let answer = tell_changes(
-        rt.alloc(),
-        hashing,
-        ANSWERS,
-        &mut input,
-        &mut out,
-        &mut faults,
-    );
-    assert!(rt; answer == Err(ReplayFault::Closed) && input.calls == 5);
-    Ok(())
+    let mut out = some_device(alloc, "", 0, closed);
+    let mut faults = Vec::new(alloc);
+    let answer = tell_changes(alloc, hashing, ANSWERS, &mut input, &mut out, &mut faults);
+    answer == Err(ReplayFault::Closed) && input.calls == 5
 }

@@ -1,8 +1,11 @@
 //! A replay over two workers.
 
 use crate::replays::PRINTING;
+use anyhow::{Result, ensure};
 use std::hash::RandomState;
-use std::test::Fail;
+use std::random::RandomSource;
+use std::sync::Wait;
+use std::thread::Threads;
 use worker_replay::{ReplayOptions, replay_many};
 
 // The events that are taken are so in any order, and the flush is refused in any.
@@ -25,16 +28,19 @@ serial 4 built 4
 route 10.1.0.0/16 inter 0.0.0.0 20 0 peer:1@10.0.0.2
 ";
 
-#[test]
-fn look_ups_see_all_events_that_were_taken(rt: HostRuntime) -> Result<(), Fail> {
-    let hashing = RandomState::new(&rt)?;
+// Look-ups see all events that were taken.
+pub fn run<R: AllocGlobal + RandomSource + Threads + Wait + Sync>(rt: &R) -> Result<()> {
+    let hashing = RandomState::new(rt)?;
     let mut input = RECORDING.as_bytes();
     let mut out = Vec::new(rt.alloc());
     let options = ReplayOptions {
         workers: 2,
         printing: PRINTING,
     };
-    replay_many(&rt, rt.alloc(), hashing, options, &mut input, &mut out)?;
-    assert!(rt; out.as_slice() == ROUTES.as_bytes());
+    replay_many(rt, rt.alloc(), hashing, options, &mut input, &mut out)?;
+    ensure!(
+        out.as_slice() == ROUTES.as_bytes(),
+        "other answers than those of all events"
+    );
     Ok(())
 }

@@ -30,21 +30,45 @@ const COLLIDING: [(&str, Set); 2] = [
 
 fn main(rt: HostRuntime) -> Result<()> {
     let words: Vec<String> = env::args(&rt)?.collect(rt.alloc())?;
-    let (name, threads, has_writer) = match words.as_slice() {
-        [_, name] => (name.as_str(), "1", false),
-        [_, name, threads] => (name.as_str(), threads.as_str(), false),
-        [_, name, threads, word] if word.as_str() == "writer" => {
-            (name.as_str(), threads.as_str(), true)
-        }
-        [] | [_] => return try_index(&rt),
-        _ => ("", "", false),
-    };
-    match (Set::named(name), threads.parse()) {
-        (Some(set), Ok(threads)) if threads > 0 && has_writer => {
+    let asked = asked_by(words.as_slice());
+    drop(words);
+    match asked {
+        Asked::Answers => try_index(&rt),
+        Asked::Times(set, threads) if threads > 0 => measure(&rt, set, threads),
+        Asked::TimesBesideWriter(set, threads) if threads > 0 => {
             measure_beside_writer(&rt, set, threads)
         }
-        (Some(set), Ok(threads)) if threads > 0 => measure(&rt, set, threads),
         _ => Ok(println!(rt; "usage: lookup_speed [SET [THREADS [writer]]]")?),
+    }
+}
+
+// What the words ask for.
+#[derive(Drop)]
+enum Asked {
+    Answers,
+    // By so many threads.
+    Times(Set, u32),
+    TimesBesideWriter(Set, u32),
+    Usage,
+}
+
+fn asked_by(words: &[String]) -> Asked {
+    match words {
+        [] | [_] => Asked::Answers,
+        [_, name] => times(name.as_str(), "1", false),
+        [_, name, threads] => times(name.as_str(), threads.as_str(), false),
+        [_, name, threads, word] if word.as_str() == "writer" => {
+            times(name.as_str(), threads.as_str(), true)
+        }
+        _ => Asked::Usage,
+    }
+}
+
+fn times(name: &str, threads: &str, has_writer: bool) -> Asked {
+    match (Set::named(name), threads.parse()) {
+        (Some(set), Ok(threads)) if has_writer => Asked::TimesBesideWriter(set, threads),
+        (Some(set), Ok(threads)) => Asked::Times(set, threads),
+        _ => Asked::Usage,
     }
 }
 
@@ -52,10 +76,15 @@ fn main(rt: HostRuntime) -> Result<()> {
 fn try_index<R: AllocGlobal + RandomSource + Print>(rt: &R) -> Result<()> {
     Trial::run(new_index(rt)?, rt.alloc())?.print(rt)?;
     for (name, set) in COLLIDING {
-        let networks = set.networks(rt.alloc())?;
-        find_all(rt, new_index(rt)?, name, networks.as_slice())?;
+        find_set(rt, name, set)?;
     }
     Ok(())
+}
+
+fn find_set<R: AllocGlobal + RandomSource + Print>(rt: &R, name: &str, set: Set) -> Result<()> {
+    let networks = set.networks(rt.alloc())?;
+    let mut index = new_index(rt)?;
+    find_all(rt, &mut index, name, networks.as_slice())
 }
 
 // An index with no values.

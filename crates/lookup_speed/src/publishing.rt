@@ -70,14 +70,19 @@ pub fn measure_beside_writer<R: AllocGlobal + RandomSource + Clock + Print + Thr
         addresses: addresses.as_slice(),
         threads,
     };
-    run(
-        rt,
-        "ordered",
-        OrderedMap::new(alloc),
-        OrderedMap::new(alloc),
-        &load,
-    )?;
-    run(rt, "index", new_index(rt)?, new_index(rt)?, &load)
+    measure_tables(rt, &load)
+}
+
+fn measure_tables<R: AllocGlobal + RandomSource + Clock + Print + Threads + Wait + Sync>(
+    rt: &R,
+    load: &Load<'_>,
+) -> Result<()>
+    requires { 0 < load.now.threads }
+{
+    let alloc = rt.alloc();
+    let (first, second) = (OrderedMap::new(alloc), OrderedMap::new(alloc));
+    run(rt, "ordered", first, second, load)?;
+    run(rt, "index", new_index(rt)?, new_index(rt)?, load)
 }
 
 /// What is looked up and changed.
@@ -100,9 +105,20 @@ fn run<R: AllocGlobal + Clock + Print + Threads + Wait + Sync, T: Table + Drop +
     let first = with_networks(first, load.networks)?;
     let second = with_networks(second, load.networks)?;
     let writer = WriteHandle::new(rt.alloc(), rt, first, second, load.threads as usize)?;
-    let (lookup, publication, sum) = read_and_publish(rt, writer, load)?;
+    let Times {
+        lookup,
+        publication,
+        sum,
+    } = read_and_publish(rt, writer, load)?;
     println!(rt; "{name} lookup={lookup} publication={publication} sum={sum}")?;
     Ok(())
+}
+
+/// The times of a look-up and of a publication, and the sum of what was found.
+struct Times {
+    lookup: Each,
+    publication: Each,
+    sum: u64,
 }
 
 // The table with the networks.
@@ -112,18 +128,27 @@ fn with_networks<T: Table + Drop>(table: T, networks: &[Prefix]) -> Result<Shown
     Ok(Shown { table })
 }
 
-// Returns the times of a look-up and of a publication, and the sum of what was found.
+// A reader for each thread.
+fn readers_of<R: AllocGlobal + Wait, T: Table + Drop + Send + Sync>(
+    rt: &R,
+    writer: &WriteHandle<Shown<T>, Change, &R>,
+    threads: u32,
+) -> Result<Vec<ReadHandle<Shown<T>>>> {
+    let mut readers = Vec::new(rt.alloc());
+    for _ in 0..threads {
+        readers.push(writer.handle()?)?;
+    }
+    Ok(readers)
+}
+
 fn read_and_publish<R: AllocGlobal + Clock + Threads + Wait + Sync, T: Table + Drop + Send + Sync>(
     rt: &R,
     writer: WriteHandle<Shown<T>, Change, &R>,
     load: &Load<'_>,
-) -> Result<(Each, Each, u64)>
+) -> Result<Times>
     requires { 0 < load.now.threads }
 {
-    let mut readers = Vec::new(rt.alloc());
-    for _ in 0..load.threads {
-        readers.push(writer.handle()?)?;
-    }
+    let readers = readers_of(rt, &writer, load.threads)?;
     let left = AtomicU64::new(u64::from(load.threads));
     let (times, publication) = join(
         rt,
@@ -135,7 +160,11 @@ fn read_and_publish<R: AllocGlobal + Clock + Threads + Wait + Sync, T: Table + D
         || publish(rt, writer, load.networks, &left),
     );
     let (lookup, sum) = added(times?.as_slice(), load.addresses.len());
-    Ok((lookup, publication?, sum))
+    Ok(Times {
+        lookup,
+        publication: publication?,
+        sum,
+    })
 }
 
 // The time of a look-up by one reader, and the sum of what all found.
@@ -198,9 +227,19 @@ fn publish<R: Clock + Wait, T: Table + Drop>(
     left: &AtomicU64,
 ) -> Result<Each> {
     let mut writer = writer;
+    let start = Instant::now(rt)?;
+    let made = publish_all(&mut writer, networks, left)?;
+    Ok(Each(nanoseconds_since(rt, start)?, made))
+}
+
+// How many publications there were.
+fn publish_all<R: Wait, T: Table + Drop>(
+    writer: &mut WriteHandle<Shown<T>, Change, &R>,
+    networks: &[Prefix],
+    left: &AtomicU64,
+) -> Result<usize> {
     let mut random = Random::new(4);
     let mut made: usize = 0;
-    let start = Instant::now(rt)?;
     for _ in 0..PUBLICATIONS {
         let Some(network) = random.pick(networks) else {
             break;
@@ -215,5 +254,5 @@ fn publish<R: Clock + Wait, T: Table + Drop>(
         writer.publish()?;
         made = made.saturating_add(1);
     }
-    Ok(Each(nanoseconds_since(rt, start)?, made))
+    Ok(made)
 }

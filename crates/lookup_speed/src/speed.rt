@@ -50,8 +50,16 @@ fn measure_index<R: Files + AllocGlobal + RandomSource + Clock + Print + Threads
     load: &Load<'_>,
 ) -> Result<()> {
     let mut index = Measured::build(rt, new_index(rt)?, load.networks)?;
-    run_passes(rt, ordered, &mut index, load)?;
-    print_both(rt, ordered, &index, load)?;
+    measure_both(rt, ordered, &mut index, load)
+}
+
+fn measure_both<
+    R: AllocGlobal + Clock + Print + Threads + Sync,
+    A: Table + Drop + Sync,
+    B: Table + Drop + Sync,
+>(rt: &R, ordered: &mut Measured<A>, index: &mut Measured<B>, load: &Load<'_>) -> Result<()> {
+    run_passes(rt, ordered, index, load)?;
+    print_both(rt, ordered, index, load)?;
     Ok(())
 }
 

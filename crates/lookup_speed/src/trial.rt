@@ -200,22 +200,31 @@ impl Trial {
 /// their addresses, before and after.
 pub fn find_all(
     rt: &impl Print,
-    mut index: PrefixIndex<u64>,
+    index: &mut PrefixIndex<u64>,
     name: &str,
     networks: &[Prefix],
 ) -> anyhow::Result<()> {
-    for network in networks {
-        index.insert(*network, network_word(*network))?;
-    }
-    let (asked, before) = (networks.len(), found(&index, networks));
-    for network in networks.iter().step_by(2) {
-        index.remove(*network);
-    }
-    let after = found(&index, networks);
+    insert_all(index, networks)?;
+    let (asked, before) = (networks.len(), found(index, networks));
+    remove_every_second(index, networks);
+    let after = found(index, networks);
     println!(rt;
         "{name}: {asked} networks, {before} found, {after} found without every second one"
     )?;
     Ok(())
+}
+
+fn insert_all(index: &mut PrefixIndex<u64>, networks: &[Prefix]) -> Result<(), Memory> {
+    for network in networks {
+        index.insert(*network, network_word(*network))?;
+    }
+    Ok(())
+}
+
+fn remove_every_second(index: &mut PrefixIndex<u64>, networks: &[Prefix]) {
+    for network in networks.iter().step_by(2) {
+        index.remove(*network);
+    }
 }
 
 // How many of the networks are the longest match of their addresses, with their values.

@@ -1,114 +1,14 @@
-//! Records a capture where the input, the output or what is said fails, and prints what came of it.
+//! Prints the lines and the beginnings of recordings that come of captures, and what comes where an input or an output fails.
 #![tactic(auto)]
 
-mod device;
-mod samples;
+mod beginnings;
+mod failures;
+mod texts;
 
 use anyhow::Result;
-use capture_recording::{Beginning, Capturing, Options, record_capture};
-use device::{Input, Output};
-use samples::{CAPTURE, FIRST, FRONT, HEADER};
-use std::hash::RandomState;
-use std::io;
-
-/// Options that leave nothing out of the ordinary.
-const OPTIONS: Options = Options {
-    keeps_all: false,
-    without_seconds: false,
-};
-
-/// More bytes than are written.
-const AMPLE: usize = 1_000;
-
-/// A capture, and the devices that it is recorded with.
-#[derive(Clone, Copy)]
-struct Trial<'a> {
-    name: &'a str,
-    beginning: Beginning<'a>,
-    /// How many bytes of the capture come.
-    length: usize,
-    /// Behind them a read fails.
-    fails: bool,
-    /// How many bytes of the recording are taken, and how a write fails then.
-    room: usize,
-    failure: io::ErrorKind,
-    /// How many bytes are taken of what is said.
-    told: usize,
-}
-
-/// All is recorded.
-const WHOLE: Trial<'static> = Trial {
-    name: "nothing fails",
-    beginning: Beginning::Given(FRONT),
-    length: CAPTURE.len(),
-    fails: false,
-    room: AMPLE,
-    failure: io::ErrorKind::StorageFull,
-    told: AMPLE,
-};
 
 fn main(rt: HostRuntime) -> Result<()> {
-    let hashing = RandomState::new(&rt)?;
-    for trial in trials() {
-        trial.run(&rt, hashing)?;
-    }
-    Ok(())
-}
-
-fn trials() -> [Trial<'static>; 7] {
-    [
-        WHOLE,
-        Trial {
-            name: "a read fails behind the first packet",
-            length: FIRST,
-            fails: true,
-            ..WHOLE
-        },
-        Trial {
-            name: "10 bytes can be written",
-            room: 10,
-            ..WHOLE
-        },
-        Trial {
-            name: "the output is closed behind 46 bytes",
-            room: 46,
-            failure: io::ErrorKind::BrokenPipe,
-            ..WHOLE
-        },
-        Trial {
-            name: "5 bytes can be said",
-            told: 5,
-            ..WHOLE
-        },
-        Trial {
-            name: "the beginning is no recording",
-            beginning: Beginning::Given(b"abr 1\n"),
-            ..WHOLE
-        },
-        Trial {
-            name: "the capture has no packet",
-            beginning: Beginning::Router(0x0a00_0001),
-            length: HEADER,
-            ..WHOLE
-        },
-    ]
-}
-
-impl Trial<'_> {
-    fn run(self, rt: &HostRuntime, hashing: RandomState) -> Result<()> {
-        let alloc = rt.alloc();
-        let bytes = CAPTURE.get(..self.length).unwrap_or(&CAPTURE);
-        let mut input = Input::new(bytes, self.fails);
-        let mut out = Output::new(alloc, self.room, self.failure);
-        let mut faults = Output::new(alloc, self.told, self.failure);
-        let capturing = Capturing {
-            options: OPTIONS,
-            beginning: self.beginning,
-        };
-        let answer = record_capture(alloc, hashing, capturing, &mut input, &mut out, &mut faults);
-        println!(rt; "{}: {answer:?}", self.name)?;
-        println!(rt; "{}", std::str::from_utf8(out.taken())?)?;
-        println!(rt; "{}", std::str::from_utf8(faults.taken())?)?;
-        Ok(())
-    }
+    texts::run(&rt)?;
+    beginnings::run(&rt)?;
+    failures::run(&rt)
 }

@@ -1,0 +1,56 @@
+//! Prints what recordings come of captures.
+mod reading;
+mod samples;
+mod session;
+mod texts;
+
+use crate::FILES;
+use anyhow::Result;
+use captured_lsas::Options;
+use captures::Capture;
+use reading::put_capture;
+use samples::{FLUSHED_TWICE, PACKETS, captured};
+use session::Session;
+use std::fs;
+use std::hash::RandomState;
+
+pub fn run(rt: &HostRuntime) -> Result<()> {
+    for name in FILES {
+        println!(rt; "{name}")?;
+        put_file(rt, name, false)?;
+    }
+    println!(rt; "all LSAs and no seconds")?;
+    put_file(rt, "small.pcap", true)?;
+    println!(rt; "fragments")?;
+    put_packets(rt, &PACKETS, true)?;
+    println!(rt; "flushed twice")?;
+    put_packets(rt, &FLUSHED_TWICE, false)
+}
+
+// What is recorded of a file, with nothing left out if it is bare.
+fn put_file(rt: &HostRuntime, name: &str, is_bare: bool) -> Result<()> {
+    let options = Options {
+        keeps_all: is_bare,
+        without_seconds: is_bare,
+    };
+    let bytes = fs::read(rt, name)?;
+    let mut capture = Capture::new(rt.alloc());
+    let mut session = Session::new(rt.alloc(), RandomState::new(rt)?, options);
+    put_capture(rt.alloc(), &mut capture, &mut session, &bytes)?;
+    print!(rt; "{}", session.text())?;
+    Ok(())
+}
+
+// What is recorded of packets that were written by hand.
+fn put_packets(rt: &HostRuntime, packets: &[&[u8]], keeps_all: bool) -> Result<()> {
+    let options = Options {
+        keeps_all,
+        without_seconds: false,
+    };
+    let mut session = Session::new(rt.alloc(), RandomState::new(rt)?, options);
+    for bytes in packets {
+        session.put(rt.alloc(), &captured(bytes))?;
+    }
+    print!(rt; "{}", session.text())?;
+    Ok(())
+}

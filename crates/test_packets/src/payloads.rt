@@ -1,0 +1,46 @@
+//! Takes frames, headers and fragments that were written by hand, and compares what comes of them with what is to come. It prints
+//! the name of what it has tried, and ends with an error where something else comes.
+mod frames;
+mod headers;
+mod parts;
+
+use anyhow::{Result, ensure};
+use datagrams::DatagramFault;
+use frames::{are_unknown, ethernet_frames, other_frames};
+use headers::{HEADERS, is_read, is_read_behind_options};
+use parts::{PARTS, first_is_forgotten};
+
+pub fn run(rt: &HostRuntime) -> Result<()> {
+    let alloc = rt.alloc();
+    for frame in ethernet_frames() {
+        frame.run(alloc)?;
+        println!(rt; "{}", frame.name)?;
+    }
+    for frame in other_frames() {
+        frame.run(alloc)?;
+        println!(rt; "{}", frame.name)?;
+    }
+    ensure!(are_unknown(), "9 or 277 is a known link type");
+    println!(rt; "link types that are not known")?;
+    ensure!(is_read(), "the datagram is read otherwise");
+    println!(rt; "a datagram, and padding behind it")?;
+    ensure!(is_read_behind_options(), "the fragment is read otherwise");
+    println!(rt; "a fragment with options")?;
+    for header in HEADERS {
+        header.run(alloc)?;
+        println!(rt; "{}", header.name)?;
+    }
+    println!(rt;
+        "{}, {}, {}",
+        DatagramFault::Header,
+        DatagramFault::Length,
+        DatagramFault::Fragment
+    )?;
+    for parts in PARTS {
+        parts.run(alloc)?;
+        println!(rt; "{}", parts.name)?;
+    }
+    ensure!(first_is_forgotten(alloc)?, "others are forgotten, or kept");
+    println!(rt; "parts of 65 datagrams")?;
+    Ok(())
+}

@@ -1,0 +1,12 @@
+//! Prints a JSON object of each kind, and an LSA of each kind in words.
+#![tactic(auto)]
+
+mod lsas;
+mod objects;
+
+use anyhow::Result;
+
+fn main(rt: HostRuntime) -> Result<()> {
+    objects::run(&rt)?;
+    lsas::run(&rt)
+}

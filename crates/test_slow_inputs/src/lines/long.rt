@@ -1,0 +1,105 @@
+//! Lines about as long as the longest that is handed on as it is, and far longer ones.
+
+use crate::lines::trial::{STEPS, Trial, Wanted};
+use anyhow::Result;
+use line_reader::LONGEST;
+use std::alloc::{AllocError, Global};
+
+const DIGITS: [u8; 16] = *b"0123456789abcdef";
+
+/// Lines longer than this are read by fewer of the steps.
+const MEGABYTE: usize = 1_000_000;
+
+/// A line of so many hexadecimal digits.
+#[derive(Clone, Copy)]
+pub struct LongLine {
+    pub name: &'static str,
+    length: usize,
+    /// A byte that stands in place of a digit.
+    other: Option<(usize, u8)>,
+    /// What stands for the bytes that are left out.
+    mark: &'static [u8],
+}
+
+/// The lines that are tried.
+pub fn long_lines() -> [LongLine; 11] {
+    [
+        of_digits("one digit less than the longest", LONGEST - 1, b""),
+        of_digits("the longest", LONGEST, b""),
+        of_digits("one digit more", LONGEST + 1, b"0"),
+        of_digits("two digits more", LONGEST + 2, b""),
+        with_other("another byte last", LONGEST + 2, (LONGEST + 1, b'g'), b"?"),
+        with_other("a capital digit", LONGEST + 2, (LONGEST, b'A'), b"?"),
+        with_other("another byte early", LONGEST + 3, (LONGEST - 1, b' '), b"0"),
+        of_digits("10,000,000 digits", 10_000_000, b""),
+        of_digits("10,000,001 digits", 10_000_001, b"0"),
+        with_other(
+            "another byte far behind",
+            10_000_000,
+            (9_999_999, b'\r'),
+            b"?",
+        ),
+        with_other(
+            "another byte in the middle",
+            10_000_001,
+            (5_000_000, b'/'),
+            b"?",
+        ),
+    ]
+}
+
+fn of_digits(name: &'static str, length: usize, mark: &'static [u8]) -> LongLine {
+    LongLine {
+        name,
+        length,
+        other: None,
+        mark,
+    }
+}
+
+fn with_other(
+    name: &'static str,
+    length: usize,
+    other: (usize, u8),
+    mark: &'static [u8],
+) -> LongLine {
+    LongLine {
+        name,
+        length,
+        other: Some(other),
+        mark,
+    }
+}
+
+impl LongLine {
+    /// Takes the line out of an input that ends with it, and out of one in which another line is behind it.
+    pub fn run(&self, alloc: Global) -> Result<()> {
+        let mut text = self.bytes(alloc)?;
+        let mut line = Vec::from_slice(alloc, &text[..LONGEST.min(text.len())])?;
+        line.extend_from_slice(self.mark)?;
+        let last = Trial {
+            name: self.name,
+            text: &text,
+            wanted: &[Wanted::Cut(&line), Wanted::End],
+        };
+        last.run(alloc, &STEPS[4..])?;
+        text.extend_from_slice(b"\n2 up\n")?;
+        let inside = Trial {
+            name: self.name,
+            text: &text,
+            wanted: &[Wanted::Line(&line), Wanted::Line(b"2 up"), Wanted::End],
+        };
+        let first = if self.length > MEGABYTE { 3 } else { 0 };
+        inside.run(alloc, &STEPS[first..])
+    }
+
+    fn bytes(&self, alloc: Global) -> Result<Vec<u8>, AllocError> {
+        let mut bytes: Vec<u8> = (0..self.length).map(|at| DIGITS[at % 16]).collect(alloc)?;
+        if let Some((place, byte)) = self.other {
+            if let Some(at) = bytes.get_mut(place) {
+                *at = byte;
+            }
+        }
+        Ok(bytes)
+    }
+}
