@@ -1,8 +1,11 @@
 mod Carrying
 pub mod Names
-pub mod Instances
-pub mod Lives
 pub mod Pieces
 pub mod Repeating
 pub mod Histories
 pub mod ReadLsas
+pub mod Linking
+pub mod Logging
+pub mod Searching
+pub mod Widening
+pub mod Keeping

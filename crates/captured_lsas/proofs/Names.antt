@@ -55,7 +55,7 @@ scope_itself : (s : Scope) → same_scope s s ≡ true
 scope_itself (Area a) = eq-eqb a a refl
 scope_itself As = refl
 
-key_itself : (k : Key) → same_key k k ≡ true
+pub key_itself : (k : Key) → same_key k k ≡ true
 key_itself k = rw (eq-eqb k.kind k.kind refl) (rw (eq-eqb k.id k.id refl) (eq-eqb k.router k.router refl))
 
 pub name_itself : (n : LsaName) → same_name n n ≡ true

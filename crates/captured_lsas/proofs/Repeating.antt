@@ -29,7 +29,7 @@ bool_itself : (p : Bool) → same_bool p p ≡ true
 bool_itself true = refl
 bool_itself false = refl
 
-bools_are : (p q : Bool) → p ≡ q → same_bool p q ≡ true
+pub bools_are : (p q : Bool) → p ≡ q → same_bool p q ≡ true
 bools_are p q is = subst (λ (b : Bool). same_bool p b ≡ true) is (bool_itself p)
 
 bytes_same : (x y : List ℕ) → bytes_eq x y ≡ true → x ≡ y
@@ -71,7 +71,7 @@ untrue true is was = cc
 untrue false is was = cc
 
 -- what is found after a value was put under a name
-found_put : (q k : LsaName) (v : Life) (es : Lives) → lookup (same_name q) (insert_entry same_name es k v) ≡ cond (same_name q k) (Some v) (lookup (same_name q) es)
+pub found_put : {V : Type 0} (q k : LsaName) (v : V) (es : List (LsaName × V)) → lookup (same_name q) (insert_entry same_name es k v) ≡ cond (same_name q k) (Some v) (lookup (same_name q) es)
 found_put q k v [] = refl
 found_put q k v (e ∷ es) =
     elim (same_name k e.0) as (λ b. same_name k e.0 ≡ b → lookup (same_name q) (cond b ((e.0, v) ∷ es) (e ∷ insert_entry same_name es k v)) ≡ cond (same_name q k) (Some v) (cond (same_name q e.0) (Some e.1) (lookup (same_name q) es))) [

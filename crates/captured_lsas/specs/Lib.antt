@@ -8,3 +8,7 @@ pub mod Recording
 pub mod Updates
 pub mod Packets
 pub mod History
+pub mod Chains
+pub mod LsaLog
+pub mod GivenLog
+pub mod Kept

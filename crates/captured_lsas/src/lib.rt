@@ -2,13 +2,14 @@
 //! input or output here: a caller reads the capture, and prints the recording.
 #![tactic(auto)]
 
+mod chains;
 mod given;
+mod given_log;
 mod heard;
-mod life;
 mod listener;
+mod lsa_log;
 mod name;
 mod options;
-mod others;
 mod reading;
 mod recorded;
 mod recorder;

@@ -2,10 +2,9 @@
 
 ghost use Rattle.std.specs.Prelude.{◌≡◌, ◌≤◌, length, IfOk, OnOk, OnErr};
 ghost use Rattle.captured_lsas.specs.Seconds.{between as between_test, seconds_due, with_time};
-ghost use Rattle.captured_lsas.specs.Given.{given_of};
 ghost use Rattle.captured_lsas.specs.Progress.{start};
 ghost use Rattle.captured_lsas.specs.Reading.{IsRead};
-ghost use Rattle.captured_lsas.specs.Recording.{is_repeated, scope_of as scope_of_test, IsInstalled, IsRecorded, with_lsa, with_read_lsa, with_given_lsa};
+ghost use Rattle.captured_lsas.specs.Recording.{is_repeated, scope_of as scope_of_test, given_in, name_in, IsInstalled, IsRecorded, with_lsa, with_read_lsa};
 ghost use Rattle.packets.specs.Updates.{lent};
 ghost use Rattle.captured_lsas.specs.Updates.{pieces_in, pieces_for, with_piece, with_pieces, StopsIn, IsPieceRecorded, AreRecorded};
 ghost use Rattle.captured_lsas.specs.History.{HasHistory};
@@ -210,19 +209,13 @@ impl Recorder {
         ensures unchanged { OnErr result (self.new ≡ self.old) }
     {
         match read_lsa(alloc, bytes)? {
-            Ok(lsa) => self.take_read(alloc, area, bytes, lsa),
+            Ok(lsa) => self.take_read(area, bytes, lsa),
             Err(fault) => Ok(Recorded::Fault(fault)),
         }
     }
 
     // Takes an LSA that was read from the bytes.
-    fn take_read(
-        &mut self,
-        alloc: Global,
-        area: u32,
-        bytes: &[u8],
-        lsa: Checked,
-    ) -> Result<Recorded, Memory>
+    fn take_read(&mut self, area: u32, bytes: &[u8], lsa: Checked) -> Result<Recorded, Memory>
         requires { IsRead bytes.now lsa }
         ensures recorded { IfOk result (IsInstalled self.old area bytes.now lsa) }
         ensures noted { OnOk result (self.new ≡ with_read_lsa self.old area bytes.now) }
@@ -230,7 +223,7 @@ impl Recorder {
     {
         let scope = scope_of(area, bytes);
         let key = lsa.key();
-        if self.note(alloc, LsaName { scope, key }, bytes)? {
+        if self.note(LsaName { scope, key }, area, bytes)? {
             return Ok(Recorded::Repeated);
         }
         let purges = is_max_age(bytes);
@@ -238,13 +231,14 @@ impl Recorder {
     }
 
     // Notes that an LSA is given. Answers whether it is left out, as it is repeated.
-    fn note(&mut self, alloc: Global, name: LsaName, bytes: &[u8]) -> Result<bool, Memory>
-        requires { 20 ≤ length bytes.now }
-        ensures answer { IfOk result (λ b. b ≡ is_repeated self.old (given_of name bytes.now)) }
-        ensures noted { OnOk result (self.new ≡ with_given_lsa self.old (given_of name bytes.now)) }
+    fn note(&mut self, name: LsaName, area: u32, bytes: &[u8]) -> Result<bool, Memory>
+        requires named { name ≡ name_in area bytes.now }
+        requires long { 20 ≤ length bytes.now }
+        ensures answer { IfOk result (λ b. b ≡ is_repeated self.old (given_in area bytes.now)) }
+        ensures noted { OnOk result (self.new ≡ with_read_lsa self.old area bytes.now) }
         ensures unchanged { OnErr result (self.new ≡ self.old) }
     {
-        let is_repeated = !self.options.keeps_all && !self.given.note(alloc, name, bytes)?;
+        let is_repeated = !self.options.keeps_all && !self.given.note(name, area, bytes)?;
         self.has_begun = true;
         Ok(is_repeated)
     }

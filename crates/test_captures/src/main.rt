@@ -1,5 +1,5 @@
 //! Prints what captures are read as, each whole and by few bytes at a time, and what recordings come of them. It ends with an
-//! error where the first two differ.
+//! error where the first two differ, or where an LSA that was heard is not known again.
 #![tactic(auto)]
 
 mod decoding;

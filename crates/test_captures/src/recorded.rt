@@ -1,4 +1,5 @@
 //! Prints what recordings come of captures.
+mod many;
 mod reading;
 mod samples;
 mod session;
@@ -8,6 +9,7 @@ use crate::FILES;
 use anyhow::Result;
 use captured_lsas::Options;
 use captures::Capture;
+use many::ensure_known_again;
 use reading::put_capture;
 use samples::{FLUSHED_TWICE, PACKETS, captured};
 use session::Session;
@@ -24,7 +26,8 @@ pub fn run(rt: &HostRuntime) -> Result<()> {
     println!(rt; "fragments")?;
     put_packets(rt, &PACKETS, true)?;
     println!(rt; "flushed twice")?;
-    put_packets(rt, &FLUSHED_TWICE, false)
+    put_packets(rt, &FLUSHED_TWICE, false)?;
+    ensure_known_again(rt.alloc(), RandomState::new(rt)?)
 }
 
 // What is recorded of a file, with nothing left out if it is bare.

@@ -1,36 +1,53 @@
-use Rattle.std.proofs.Common.{◌≡◌, IfOk, OnOk, None, not, subst, rules}
-use Rattle.captured_lsas.specs.Given.{Given, has_given, with_given}
-use Rattle.captured_lsas.proofs.Lives.{taken_of, taken_is, answered, noted, unchanged, put_new}
+use Rattle.std.proofs.Common.{◌≡◌, ◌∙◌, Bool, true, false, not, List, length, sym, ap, subst, rules}
+use Rattle.indexmap.specs.IndexMap.{insert_entry}
+use Rattle.captured_lsas.specs.declared.name.LsaName.{LsaName}
+use Rattle.captured_lsas.specs.declared.given.LifeStart.{LifeStart}
+use Rattle.captured_lsas.specs.Given.{same_bool, same_name}
+use Rattle.captured_lsas.specs.Recording.{given_in}
+use Rattle.captured_lsas.proofs.Keeping.{given_again, tells, in_life, noted, not_before, in_another}
 use Rattle.captured_lsas.proofs.given.GivenLsas.note.Goals as goal
 
-pub returns-in-Some-clause-answer : goal.returns-in-Some-clause-answer
-returns-in-Some-clause-answer c =
-    let g = taken_of c.args.name c.is_max_age-is_max_age.result c.args.lsa.now in
-    let one = taken_is c.args.name c.is_max_age-is_max_age.result c.args.lsa.now c.is_max_age-is_max_age.ensures in
-    let after = c.note.new.self in
-    subst (λ (x : Given). IfOk c.note.result (λ is_new. is_new ≡ not (has_given x c.args.self.now))) one
-    (answered c.self.inside.lives.entries c.args.self.now c.self.view_is g c.in-Some.life.now after c.in-Some.ensures.value _ (c.get_mut.follows.holds after).0 c.note.result c.note.ensures.answer)
+pub returns-then-has_since-clause-answer : goal.returns-then-has_since-clause-answer
+returns-then-has_since-clause-answer c =
+    let g = c.self.inside in
+    ap not (sym (tells g.log g.starts.entries c.self.invariant c.args.self.now c.self.view_is c.args.area c.args.lsa.now c.args.name c.requires.named c.kept_area-area.result c.kept_area-area.ensures
+    c.is_max_age-is_max_age.result c.is_max_age-is_max_age.ensures c.start_in-start.result c.start_in-start.ensures (search rules) true (sym c.if-has_since.true ∙ c.has_since.ensures)))
 
-pub returns-in-Some-clause-noted : goal.returns-in-Some-clause-noted
-returns-in-Some-clause-noted c =
-    let g = taken_of c.args.name c.is_max_age-is_max_age.result c.args.lsa.now in
-    let one = taken_is c.args.name c.is_max_age-is_max_age.result c.args.lsa.now c.is_max_age-is_max_age.ensures in
-    let after = c.note.new.self in
-    subst (λ (x : Given). OnOk c.note.result ((c.get_mut.follows.lender after).entries ≡ with_given x c.args.self.now)) one
-    (noted c.self.inside.lives.entries c.args.self.now c.self.view_is g c.in-Some.life.now after c.in-Some.ensures.value _ (c.get_mut.follows.holds after).0 c.note.result c.note.ensures.noted)
+pub returns-then-has_since-clause-noted : goal.returns-then-has_since-clause-noted
+returns-then-has_since-clause-noted c =
+    let g = c.self.inside in
+    given_again (given_in c.args.area c.args.lsa.now) c.args.self.now
+    (tells g.log g.starts.entries c.self.invariant c.args.self.now c.self.view_is c.args.area c.args.lsa.now c.args.name c.requires.named c.kept_area-area.result c.kept_area-area.ensures
+    c.is_max_age-is_max_age.result c.is_max_age-is_max_age.ensures c.start_in-start.result c.start_in-start.ensures (search rules) true (sym c.if-has_since.true ∙ c.has_since.ensures))
 
--- where memory runs out, the life is as it was
-pub returns-in-Some-clause-unchanged : goal.returns-in-Some-clause-unchanged
-returns-in-Some-clause-unchanged c =
-    let g = taken_of c.args.name c.is_max_age-is_max_age.result c.args.lsa.now in
-    let after = c.note.new.self in
-    unchanged c.self.inside.lives.entries c.args.self.now c.self.view_is g c.in-Some.life.now after c.in-Some.ensures.value _ (c.get_mut.follows.holds after).0 c.note.result c.note.ensures.unchanged
+pub invariant_of-self-then-start-is_max_age : goal.invariant_of-self-then-start-is_max_age
+invariant_of-self-then-start-is_max_age c =
+    let g = c.self.inside in
+    let new = tells g.log g.starts.entries c.self.invariant c.args.self.now c.self.view_is c.args.area c.args.lsa.now c.args.name c.requires.named c.kept_area-area.result c.kept_area-area.ensures
+    c.is_max_age-is_max_age.result c.is_max_age-is_max_age.ensures c.start_in-start.result c.start_in-start.ensures (search rules) false (sym c.if-has_since.false ∙ c.has_since.ensures) in
+    in_life g.log g.starts.entries c.self.invariant c.args.self.now c.self.view_is c.args.area c.args.lsa.now c.args.name c.requires.named c.kept_area-area.result c.kept_area-area.ensures
+    c.is_max_age-is_max_age.result c.is_max_age-is_max_age.ensures c.start_in-start.result c.start_in-start.ensures (search rules) new c.push.new.self c.in_ok-push.ensures.pushed
 
--- the LSA's first life
-pub returns-in_ok-insert-in-None-clause-noted : goal.returns-in_ok-insert-in-None-clause-noted
-returns-in_ok-insert-in-None-clause-noted c =
-    let g = taken_of c.args.name c.is_max_age-is_max_age.result c.args.lsa.now in
-    let one = taken_is c.args.name c.is_max_age-is_max_age.result c.args.lsa.now c.is_max_age-is_max_age.ensures in
-    let life = c.in_ok-life-in-None.life in
-    subst (λ (x : Given). c.insert.new.self.entries ≡ with_given x c.args.self.now) one
-    (put_new c.self.inside.lives.entries c.args.self.now c.self.view_is g None c.in-None.ensures.value c.insert.new.self.entries life (search rules) c.in_ok-life-in-None.ensures)
+pub returns-then-start-is_max_age-clause-answer : goal.returns-then-start-is_max_age-clause-answer
+returns-then-start-is_max_age-clause-answer c =
+    let g = c.self.inside in
+    ap not (sym (tells g.log g.starts.entries c.self.invariant c.args.self.now c.self.view_is c.args.area c.args.lsa.now c.args.name c.requires.named c.kept_area-area.result c.kept_area-area.ensures
+    c.is_max_age-is_max_age.result c.is_max_age-is_max_age.ensures c.start_in-start.result c.start_in-start.ensures (search rules) false (sym c.if-has_since.false ∙ c.has_since.ensures)))
+
+pub returns-then-start-is_max_age-clause-noted : goal.returns-then-start-is_max_age-clause-noted
+returns-then-start-is_max_age-clause-noted c =
+    let g = c.self.inside in
+    noted g.log g.starts.entries c.self.invariant c.args.self.now c.self.view_is c.args.area c.args.lsa.now c.args.name c.requires.named c.kept_area-area.result c.kept_area-area.ensures
+    c.is_max_age-is_max_age.result c.is_max_age-is_max_age.ensures c.start_in-start.result c.start_in-start.ensures c.push.new.self c.in_ok-push.ensures.pushed
+
+pub invariant_of-self-2 : goal.invariant_of-self-2
+invariant_of-self-2 c =
+    let g = c.self.inside in
+    in_another g.log g.starts.entries c.self.invariant c.args.self.now c.self.view_is c.args.area c.args.lsa.now c.args.name c.requires.named c.kept_area-area.result c.kept_area-area.ensures
+    c.is_max_age-is_max_age.result c.is_max_age-is_max_age.ensures c.start_in-start.result c.start_in-start.ensures (search rules) c.push-2.new.self c.in_ok-push-2.ensures.pushed c.put.new.starts.entries (search rules)
+
+pub returns-clause-noted : goal.returns-clause-noted
+returns-clause-noted c =
+    let g = c.self.inside in
+    noted g.log g.starts.entries c.self.invariant c.args.self.now c.self.view_is c.args.area c.args.lsa.now c.args.name c.requires.named c.kept_area-area.result c.kept_area-area.ensures
+    c.is_max_age-is_max_age.result c.is_max_age-is_max_age.ensures c.start_in-start.result c.start_in-start.ensures c.push-2.new.self c.in_ok-push-2.ensures.pushed
