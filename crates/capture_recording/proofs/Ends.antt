@@ -1,5 +1,5 @@
 -- What a capture that was gone through is finished with.
-use Rattle.std.proofs.Common.{◌≡◌, ◌∙◌, ◌++◌, List, [], ℕ, Option, Some, ◌⊎◌, inl, inr, Result, Err, Bool, refl, ap, sym, subst, append_assoc, append-nil}
+use Rattle.std.proofs.Common.{◌≡◌, ◌∙◌, ◌++◌, List, [], ℕ, Option, Some, ◌⊎◌, inl, inr, Result, Err, Bool, refl, ap, sym, subst, append_assoc}
 use Rattle.std.specs.Prelude.{length, string_bytes}
 use Rattle.std.specs.Io.KnownBytes.{Appends}
 use Rattle.config_faults.specs.Configs.{config_fault_of}
@@ -14,20 +14,21 @@ use Rattle.replay.proofs.Written.{appends_none, appends_more}
 use Rattle.capture_recording.specs.declared.capturing.Beginning.{Beginning}
 use Rattle.capture_recording.specs.declared.capturing.Beginning.TheVariants.{Given, Router}
 use Rattle.capture_recording.specs.declared.fault.CapturingFault.{CapturingFault}
-use Rattle.capture_recording.specs.declared.fault.CapturingFault.TheVariants.{Write, Closed}
+use Rattle.capture_recording.specs.declared.fault.CapturingFault.TheVariants.{Capture, Read, Line, Config, Unsaid, Write, Closed, Memory}
 use Rattle.capture_recording.specs.declared.gathered.Gathered.{Gathered}
 use Rattle.capture_recording.specs.declared.going.Ended.{Ended}
+use Rattle.capture_recording.specs.declared.going.Kept.{Kept}
 use Rattle.capture_recording.specs.Ending.{fault_lacking, result_of, unless_silent}
 use Rattle.capture_recording.specs.Finishing.{IsBegun, IsBehind, IsLacking, IsWhollyWritten, router_of, unknown_if, unknown_in}
 use Rattle.capture_recording.specs.Folds.{areas_of, captured_of, counts_of}
 use Rattle.capture_recording.specs.Gathering.{AreGathered, config_of}
 use Rattle.capture_recording.specs.Going.{GoesThrough}
 use Rattle.capture_recording.specs.Outputs.{FaultOutcome, IsFront, Outcome, IsRecordedUpTo, counts_text, unknown_of}
-use Rattle.capture_recording.specs.Said.{HasSaid}
+use Rattle.capture_recording.specs.Said.{AppendsUpTo, HasSaid, WritesPart}
 use Rattle.capture_recording.specs.Steps.{Step}
 use Rattle.capture_recording.specs.Texts.{notes_of}
 use Rattle.capture_recording.proofs.Outcomes.{of_none, of_taken, outcome_part, outcome_recorded, outcome_lacking}
-use Rattle.capture_recording.proofs.Said.{up_to_all, part_behind, part_more}
+use Rattle.capture_recording.proofs.Said.{up_to_all, up_to_behind, up_to_more, part_behind, part_more}
 
 -- ---- what is said at the end
 
@@ -95,57 +96,96 @@ module _ (options : Options) (beginning : Beginning) (before after old new told_
 
 -- ---- the front is not written yet
 
-pub front_begun : (options : Options) (beginning : Beginning) (before after told_before told old now : Option (List ℕ)) (ended : Ended) (front : List ℕ) → IsBehind options beginning before after told_before told ended front
-    → Appends old now front → IsBegun options beginning before after old now told_before told ended
-front_begun options beginning before after told_before told old now ended front is written = record {
-  written = [];
-  through = is.through;
-  front = front;
-  is = is.is;
-  begun = subst (Appends old now) (sym (append-nil front)) written;
-}
-
-pub front_unwritten : (options : Options) (beginning : Beginning) (before after told_before told old new : Option (List ℕ)) (ended : Ended) (front : List ℕ) → IsBehind options beginning before after told_before told ended front
+pub front_unwritten : (options : Options) (beginning : Beginning) (before after told_before told old new : Option (List ℕ)) (kept : Kept) (front : List ℕ) → IsBehind options beginning before after told_before told kept front
     → (fault : CapturingFault) → (fault ≡ Write) ⊎ (fault ≡ Closed) → AppendsPart old new front → FaultOutcome options beginning before after old new told_before told fault
-front_unwritten options beginning before after told_before told old new ended front is fault kind part =
+front_unwritten options beginning before after told_before told old new kept front is fault kind part =
     outcome_part options beginning before after old new told_before told fault kind
-    (of_taken options (router_of beginning) before told_before is.through.to after told ended.session [] is.through.recorded _
-    (record { front = front; is = is.is; written = part_more old new front (string_bytes ended.session.lines) part }, is.through.recorded.said.begun))
+    (of_taken options (router_of beginning) before told_before is.through.to after told kept.ended.session kept.packed is.through.recorded _
+    (record { front = front; is = is.is; written = part_more old new front (kept.packed ++ string_bytes kept.ended.session.lines) part }, is.through.recorded.said.begun))
+
+-- ---- the front was written, and the lines are not yet
+
+module _ (options : Options) (beginning : Beginning) (before after told_before told old mid : Option (List ℕ)) (kept : Kept) (front : List ℕ)
+    (is : IsBehind options beginning before after told_before told kept front) (begun : Appends old mid front) where
+  pub packed_begun : (now : Option (List ℕ)) → Appends mid now kept.packed → IsBegun options beginning before after old now told_before told kept.ended
+  packed_begun now written = record {
+    written = kept.packed;
+    through = is.through;
+    front = front;
+    is = is.is;
+    begun = appends_more old mid now front kept.packed begun written;
+  }
+
+  -- some of them were written
+  packed_part : (new : Option (List ℕ)) (fault : CapturingFault) → (fault ≡ Write) ⊎ (fault ≡ Closed) → AppendsPart mid new kept.packed → FaultOutcome options beginning before after old new told_before told fault
+  packed_part new fault kind part =
+      outcome_part options beginning before after old new told_before told fault kind
+      (of_taken options (router_of beginning) before told_before is.through.to after told kept.ended.session kept.packed is.through.recorded _ (
+        record {
+          front = front;
+          is = is.is;
+          written = part_behind old mid new front (kept.packed ++ string_bytes kept.ended.session.lines) begun (part_more mid new kept.packed (string_bytes kept.ended.session.lines) part);
+        },
+        is.through.recorded.said.begun,
+      ))
+
+  packed_up_to : (new : Option (List ℕ)) → AppendsUpTo mid new kept.packed → IsRecordedUpTo options beginning before old new told_before told
+  packed_up_to new part = (
+    after,
+    of_taken options (router_of beginning) before told_before is.through.to after told kept.ended.session kept.packed is.through.recorded _ (
+      inr (record {
+        front = front;
+        is = is.is;
+        written = up_to_behind old mid new front (kept.packed ++ string_bytes kept.ended.session.lines) begun (up_to_more mid new kept.packed (string_bytes kept.ended.session.lines) part);
+      }),
+      is.through.recorded.said.begun,
+    ),
+  )
+
+  pub packed_unwritten : (new : Option (List ℕ)) (fault : CapturingFault) → WritesPart mid new kept.packed fault → FaultOutcome options beginning before after old new told_before told fault
+  packed_unwritten new (Capture kind place) part = absurd part
+  packed_unwritten new Read part = absurd part
+  packed_unwritten new (Line fault) part = absurd part
+  packed_unwritten new (Config fault) part = absurd part
+  packed_unwritten new Unsaid part = absurd part
+  packed_unwritten new Write part = packed_part new Write (inl refl) part
+  packed_unwritten new Closed part = packed_part new Closed (inr refl) part
+  packed_unwritten new Memory part = packed_up_to new part
 
 -- memory ran out before anything was written
-pub nothing_written : (options : Options) (router : Option ℕ) (beginning : Beginning) (before after told_before told old : Option (List ℕ)) (ended : Ended) → GoesThrough options router before told_before after told ended []
+pub nothing_written : (options : Options) (router : Option ℕ) (beginning : Beginning) (before after told_before told old : Option (List ℕ)) (ended : Ended) (packed : List ℕ) → GoesThrough options router before told_before after told ended packed
     → IsRecordedUpTo options beginning before old old told_before told
-nothing_written options router beginning before after told_before told old ended through =
-    (after, of_taken options router before told_before through.to after told ended.session [] through.recorded _ (inl (appends_none old), through.recorded.said.begun))
+nothing_written options router beginning before after told_before told old ended packed through =
+    (after, of_taken options router before told_before through.to after told ended.session packed through.recorded _ (inl (appends_none old), through.recorded.said.begun))
 
-pub lacking_said : (options : Options) (router : ℕ) (before after told_before told now old : Option (List ℕ)) (ended : Ended) (fault : ConfigFault) (is : IsLacking options router before after told_before told ended fault)
+pub lacking_said : (options : Options) (router : ℕ) (before after told_before told now old : Option (List ℕ)) (ended : Ended) (packed : List ℕ) (fault : ConfigFault) (is : IsLacking options router before after told_before told ended packed fault)
     (is_silent : Bool) (text : List ℕ) → HasSaid told_before now is_silent (notes_of is.through.recorded.steps ++ text)
     → text ≡ counts_line ended.session.gathered.counts (length ended.session.gathered.areas)
     → (answer : Result (Unit {0}) CapturingFault) (found : CapturingFault) → answer ≡ unless_silent is_silent (Err found) → found ≡ fault_lacking ended.ending fault → Outcome options (Router router) before after old old told_before now answer
-lacking_said options router before after told_before told now old ended fault is is_silent text said same answer found answers found_is =
+lacking_said options router before after told_before told now old ended packed fault is is_silent text said same answer found answers found_is =
     let steps = is.through.recorded.steps in
     let notes = subst (λ (l : List ℕ). HasSaid told_before now is_silent (notes_of steps ++ l)) (same ∙ counts_are options (Some router) steps ended.session.gathered is.through.recorded.gathered) said in
     subst (Outcome options (Router router) before after old old told_before now) (sym (answers ∙ ap (λ f. unless_silent is_silent (Err f)) found_is))
     (outcome_lacking options (Router router) before after old old told_before now ended.ending fault is_silent
-    (of_taken options (Some router) before told_before is.through.to after told ended.session [] is.through.recorded _
+    (of_taken options (Some router) before told_before is.through.to after told ended.session packed is.through.recorded _
     (is.through.ending, is.has, appends_none old, notes)))
 
 -- ---- what is known of the router
 
-module _ (options : Options) (router : ℕ) (before after told_before told : Option (List ℕ)) (ended : Ended) (through : GoesThrough options (Some router) before told_before after told ended []) where
-  its_areas : ended.session.gathered.areas ≡ areas_of through.recorded.steps
+module _ (options : Options) (router : ℕ) (before after told_before told : Option (List ℕ)) (kept : Kept) (through : GoesThrough options (Some router) before told_before after told kept.ended kept.packed) where
+  its_areas : kept.ended.session.gathered.areas ≡ areas_of through.recorded.steps
   its_areas = through.recorded.gathered.areas
 
-  pub is_known : ended.session.gathered.config ≡ Some (captured_of router through.recorded.steps)
+  pub is_known : kept.ended.session.gathered.config ≡ Some (captured_of router through.recorded.steps)
   is_known = through.recorded.gathered.config
 
-  pub is_behind : (front : List ℕ) → IsText front (captured_recording (captured_of router through.recorded.steps) ended.session.gathered.areas) → IsBehind options (Router router) before after told_before told ended front
+  pub is_behind : (front : List ℕ) → IsText front (captured_recording (captured_of router through.recorded.steps) kept.ended.session.gathered.areas) → IsBehind options (Router router) before after told_before told kept front
   is_behind front text = record {
     through = through;
     is = subst (λ (areas : List ℕ). IsText front (captured_recording (captured_of router through.recorded.steps) areas)) its_areas text;
   }
 
-  pub is_lacking : (fault : ConfigFault) → config_fault_of (config_by (captured_of router through.recorded.steps) ended.session.gathered.areas) ≡ Some fault → IsLacking options router before after told_before told ended fault
+  pub is_lacking : (fault : ConfigFault) → config_fault_of (config_by (captured_of router through.recorded.steps) kept.ended.session.gathered.areas) ≡ Some fault → IsLacking options router before after told_before told kept.ended kept.packed fault
   is_lacking fault has = record {
     through = through;
     has = subst (λ (areas : List ℕ). config_fault_of (config_by (captured_of router through.recorded.steps) areas) ≡ Some fault) its_areas has;

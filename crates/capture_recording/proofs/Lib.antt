@@ -5,3 +5,6 @@ pub mod Taking
 pub mod Recorded
 pub mod Outcomes
 pub mod Ends
+pub mod Digits
+pub mod Pushing
+pub mod Unpacked

@@ -13,6 +13,7 @@ use Rattle.capture_recording.specs.declared.capturing.Beginning.{Beginning}
 use Rattle.capture_recording.specs.declared.capturing.Beginning.TheVariants.{Given, Router}
 use Rattle.capture_recording.specs.declared.gathered.Gathered.{Gathered}
 use Rattle.capture_recording.specs.declared.going.Ended.{Ended}
+use Rattle.capture_recording.specs.declared.going.Kept.{Kept}
 use Rattle.capture_recording.specs.Going.{GoesThrough}
 use Rattle.capture_recording.specs.Outputs.{HasConfigFault, IsFront, IsWritten}
 
@@ -30,13 +31,13 @@ pub record IsBegun (options : Options) (beginning : Beginning) (before after old
   pub begun : Appends old now (front ++ written)
 
 -- a capture was gone through, and this is to stand before its lines
-pub record IsBehind (options : Options) (beginning : Beginning) (before after told_before told : Option (List ℕ)) (ended : Ended) (front : List ℕ) : Type 0 where
-  pub through : GoesThrough options (router_of beginning) before told_before after told ended []
+pub record IsBehind (options : Options) (beginning : Beginning) (before after told_before told : Option (List ℕ)) (kept : Kept) (front : List ℕ) : Type 0 where
+  pub through : GoesThrough options (router_of beginning) before told_before after told kept.ended kept.packed
   pub is : IsFront beginning through.recorded.steps front
 
 -- a capture was gone through, and what it tells of the router has this fault
-pub record IsLacking (options : Options) (router : ℕ) (before after told_before told : Option (List ℕ)) (ended : Ended) (fault : ConfigFault) : Type 0 where
-  pub through : GoesThrough options (Some router) before told_before after told ended []
+pub record IsLacking (options : Options) (router : ℕ) (before after told_before told : Option (List ℕ)) (ended : Ended) (packed : List ℕ) (fault : ConfigFault) : Type 0 where
+  pub through : GoesThrough options (Some router) before told_before after told ended packed
   pub has : HasConfigFault (Router router) through.recorded.steps fault
 
 -- all of it was written

@@ -9,3 +9,5 @@ pub mod FirstPackets
 pub mod Streaming
 pub mod Outputs
 pub mod Finishing
+pub mod Digits
+pub mod Packed

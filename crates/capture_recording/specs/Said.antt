@@ -2,6 +2,8 @@
 use Rattle.std.specs.Prelude.{ℕ, ◌≡◌, ◌++◌, Bool, true, false, List, Option}
 use Rattle.std.specs.Io.KnownBytes.{Appends}
 use Rattle.replay.specs.Writing.{AppendsPart}
+use Rattle.capture_recording.specs.declared.fault.CapturingFault.{CapturingFault}
+use Rattle.capture_recording.specs.declared.fault.CapturingFault.TheVariants.{Capture, Read, Line, Config, Unsaid, Write, Closed, Memory}
 
 -- a writer's known bytes grew by a beginning of these, or by all of them
 pub record AppendsUpTo (old new : Option (List ℕ)) (bytes : List ℕ) : Type 0 where
@@ -21,3 +23,20 @@ pub record WritesSome (old new : Option (List ℕ)) (lines left : List ℕ) : Ty
   pub front : List ℕ
   pub joined : lines ≡ front ++ left
   pub written : Appends old new front
+
+-- a front of the lines was packed, and the others are left
+pub record Packs (old new : List ℕ) (lines left : List ℕ) : Type 0 where
+  pub front : List ℕ
+  pub joined : lines ≡ front ++ left
+  pub packed : new ≡ old ++ front
+
+-- why not all of the text was written, and how much of it
+abbrev pub WritesPart : (old new : Option (List ℕ)) → (text : List ℕ) → CapturingFault → Type 0
+WritesPart old new text (Capture kind place) = ⊥
+WritesPart old new text Read = ⊥
+WritesPart old new text (Line fault) = ⊥
+WritesPart old new text (Config fault) = ⊥
+WritesPart old new text Unsaid = ⊥
+WritesPart old new text Write = AppendsPart old new text
+WritesPart old new text Closed = AppendsPart old new text
+WritesPart old new text Memory = AppendsUpTo old new text

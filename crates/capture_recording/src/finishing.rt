@@ -1,5 +1,6 @@
 //! What is written and said once a capture was gone through.
-ghost use Rattle.std.specs.Prelude.{◌≡◌, ◌++◌, ℕ, List, [], Option, Some, OnOk, IfOk, IfErr, length, string_bytes};
+ghost use Rattle.std.specs.Prelude.{◌≡◌, ◌++◌, ℕ, List, Option, Some, OnOk, IfOk, IfErr, length, string_bytes};
+ghost use Rattle.std.specs.Io.KnownBytes.{Appends};
 ghost use Rattle.captured_config.specs.Fronts.{captured_recording};
 ghost use Rattle.captured_config.specs.Lsas.{Captured};
 ghost use Rattle.captured_lsas.specs.declared.options.Options.{Options as OptionsValue};
@@ -13,7 +14,7 @@ ghost use Rattle.capture_recording.specs.Outputs.{Outcome};
 
 use crate::fault::CapturingFault;
 use crate::gathered::Gathered;
-use crate::going::Ended;
+use crate::going::{Ended, Kept};
 use crate::writing::write_out;
 use capture_lines::put_counts;
 use captured_config::FrontFault;
@@ -22,7 +23,7 @@ use ospf_types::memory::Memory;
 use std::alloc::Global;
 use std::io;
 
-impl Ended {
+impl Kept {
     /// Writes what the capture tells of the router, and behind it the lines.
     pub(crate) fn finish_router<W: io::Write, F: io::Write>(
         self,
@@ -31,13 +32,14 @@ impl Ended {
         faults: &mut F,
     ) -> Result<(), CapturingFault>
         ensures { (options : OptionsValue) (router : ℕ) (before after told : Option (List ℕ))
-            → GoesThrough options (Some router) before told after (F.contents faults.old) self []
+            → GoesThrough options (Some router) before told after (F.contents faults.old)
+            self.ended self.packed
             → Outcome options (Router router) before after
             (W.contents out.old) (W.contents out.new) told (F.contents faults.new) result }
     {
-        match front_of(alloc, &self.session.gathered) {
+        match front_of(alloc, &self.ended.session.gathered) {
             Ok(front) => self.finish_behind(&front, out, faults),
-            Err(FrontFault::Config(fault)) => self.finish_without(fault, faults),
+            Err(FrontFault::Config(fault)) => self.ended.finish_without(fault, faults),
             Err(FrontFault::Memory) => Err(CapturingFault::Memory),
         }
     }
@@ -56,11 +58,32 @@ impl Ended {
             (W.contents out.old) (W.contents out.new) told (F.contents faults.new) result }
     {
         match write_out(front.as_bytes(), out) {
-            Ok(()) => self.finish(out, faults),
+            Ok(()) => self.finish_packed(out, faults),
             Err(fault) => Err(fault),
         }
     }
 
+    // Writes the lines.
+    fn finish_packed<W: io::Write, F: io::Write>(
+        self,
+        out: &mut W,
+        faults: &mut F,
+    ) -> Result<(), CapturingFault>
+        ensures { (options : OptionsValue) (beginning : Beginning)
+            (before after first told : Option (List ℕ)) (front : List ℕ)
+            → IsBehind options beginning before after told (F.contents faults.old) self front
+            → Appends first (W.contents out.old) front
+            → Outcome options beginning before after first (W.contents out.new)
+            told (F.contents faults.new) result }
+    {
+        match self.packed.write_to(out) {
+            Ok(()) => self.ended.finish(out, faults),
+            Err(fault) => Err(fault),
+        }
+    }
+}
+
+impl Ended {
     /// Writes the lines that are left, and says what there is to say at the end.
     pub(crate) fn finish<W: io::Write, F: io::Write>(
         self,
@@ -106,8 +129,8 @@ impl Ended {
         faults: &mut F,
     ) -> Result<(), CapturingFault>
         ensures { (options : OptionsValue) (router : ℕ)
-            (before after old told : Option (List ℕ))
-            → IsLacking options router before after told (F.contents faults.old) self fault
+            (before after old told : Option (List ℕ)) (packed : List ℕ)
+            → IsLacking options router before after told (F.contents faults.old) self packed fault
             → Outcome options (Router router) before after old old
             told (F.contents faults.new) result }
     {

@@ -6,9 +6,10 @@ ghost use Rattle.capture_recording.specs.Streaming.{IsGatheredUpTo, StreamsPart}
 
 use crate::ending::Ending;
 use crate::fault::CapturingFault;
+use crate::packed_text::PackedText;
 use crate::session::Session;
 use crate::source::Source;
-use crate::writing::write_due;
+use crate::writing::{pack_many, write_due};
 use captured_lsas::Options;
 use ospf_types::memory::Memory;
 use std::alloc::Global;
@@ -30,6 +31,13 @@ pub(crate) struct Ended {
     pub(crate) ending: Ending,
 }
 
+/// A capture that was gone through, with the lines that were packed. Those of the session come behind them.
+#[derive(Drop)]
+pub(crate) struct Kept {
+    pub(crate) ended: Ended,
+    pub(crate) packed: PackedText,
+}
+
 /// Goes through a capture, and keeps the lines of its packets.
 pub(crate) fn gather<R: io::Read, F: io::Write>(
     alloc: Global,
@@ -37,23 +45,28 @@ pub(crate) fn gather<R: io::Read, F: io::Write>(
     router: u32,
     input: &mut R,
     faults: &mut F,
-) -> Result<Ended, Memory>
-    ensures ok { IfOk result (λ ended. GoesThrough start.options (Some router)
+) -> Result<Kept, Memory>
+    ensures ok { IfOk result (λ kept. GoesThrough start.options (Some router)
         (R.remaining input.old) (F.contents faults.old)
-        (R.remaining input.new) (F.contents faults.new) ended []) }
+        (R.remaining input.new) (F.contents faults.new) kept.ended kept.packed) }
     ensures err { OnErr result (IsGatheredUpTo start.options (R.remaining input.old)
         (F.contents faults.old) (F.contents faults.new)) }
 {
     let mut session = Session::new(alloc, start.hashing, start.options, Some(router));
     let mut source = Source::new(alloc)?;
+    let mut packed = PackedText::new(alloc);
     for _ in 0..u64::MAX {
         match source.hand_next(alloc, input, &mut session, faults)? {
-            None => {}
-            Some(ending) => return Ok(Ended { session, ending }),
+            None => pack_many(&mut session.lines, &mut packed)?,
+            Some(ending) => {
+                let ended = Ended { session, ending };
+                return Ok(Kept { ended, packed });
+            }
         }
     }
     let ending = Ending::Unread;
-    Ok(Ended { session, ending })
+    let ended = Ended { session, ending };
+    Ok(Kept { ended, packed })
 }
 
 /// Goes through a capture, and writes the lines of its packets: behind each packet, and in large pieces where the

@@ -8,8 +8,13 @@ mod finishing;
 mod gathered;
 mod going;
 mod notes;
+mod packed_text;
+mod piece;
+mod pieces;
+mod runs;
 mod session;
 mod source;
+mod unpacking;
 mod writing;
 
 pub use captured_lsas::Options;

@@ -1,15 +1,14 @@
 -- What was given, as it is kept, tells what was given.
-use Rattle.std.proofs.Common.{◌≡◌, ◌≢◌, ◌∙◌, ℕ, ◌+◌, ◌≤◌, ◌==◌, Bool, true, false, not, cond, List, [], ◌∷◌, ◌++◌, map, drop, length, get_or, Option, Some, None, refl, sym, ap, ap₂, subst, arith}
+use Rattle.std.proofs.Common.{◌≡◌, ◌∙◌, ℕ, ◌+◌, ◌≤◌, ◌==◌, Bool, true, false, cond, List, [], ◌∷◌, ◌++◌, map, drop, length, Option, Some, None, refl, sym, ap, ap₂, subst, arith}
 use Rattle.std.specs.Prelude.{◌&&◌, ◌||◌, slice_index}
 use Rattle.std.specs.List.{All, filter, list_any}
 use Rattle.std.specs.Str.{bytes_eq}
 use Rattle.std.specs.Map.{lookup}
 use Rattle.indexmap.specs.IndexMap.{insert_entry}
 use Rattle.std.proofs.lemmas.List.{get_or-drop, drop-drop, drop-map, drop-append-le, drop_all, append-nil, length-append, length-map, map-append}
-use Rattle.std.proofs.Math.Seq.{drop-append_seam}
 use Rattle.std.proofs.lemmas.List.Elements.{All-rest, filter-append, All-push, All-drop}
 use Rattle.std.proofs.lemmas.Slice.Eq.{bytes_eq-Decides}
-use Rattle.lsa_codec.specs.Faults.{kind_field, id_field, router_field}
+use Rattle.lsa_codec.specs.Faults.{kind_field}
 use Rattle.byteorder.specs.Endian.{big_number}
 use Rattle.captured_lsas.specs.declared.name.LsaName.{LsaName}
 use Rattle.captured_lsas.specs.declared.given.LifeStart.{LifeStart}
@@ -22,7 +21,6 @@ use Rattle.captured_lsas.proofs.Names.{both, key_itself, names_same}
 use Rattle.captured_lsas.proofs.Repeating.{bools_are, found_put}
 use Rattle.std.proofs.lemmas.Bool.{eq-eqb}
 use Rattle.ospf_types.specs.declared.key.Key.{Key}
-use Rattle.ospf_types.specs.declared.key.Scope.{Scope}
 use Rattle.ospf_types.specs.declared.key.Scope.TheVariants.{Area, As}
 
 -- ---- an LSA is alike just if it has the name and the bytes

@@ -1,6 +1,6 @@
 //! Records a capture where the input, the output or what is said fails, and prints what came of it.
 mod device;
-mod samples;
+pub mod samples;
 
 use anyhow::Result;
 use capture_recording::{Beginning, Capturing, Options, record_capture};

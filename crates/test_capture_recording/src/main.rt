@@ -1,8 +1,10 @@
-//! Prints the lines and the beginnings of recordings that come of captures, and what comes where an input or an output fails.
+//! Prints the lines and the beginnings of recordings that come of captures, and what comes where an input or an output fails. It ends
+//! with an error where lines that were packed are others.
 #![tactic(auto)]
 
 mod beginnings;
 mod failures;
+mod packed;
 mod texts;
 
 use anyhow::Result;
@@ -10,5 +12,6 @@ use anyhow::Result;
 fn main(rt: HostRuntime) -> Result<()> {
     texts::run(&rt)?;
     beginnings::run(&rt)?;
-    failures::run(&rt)
+    failures::run(&rt)?;
+    packed::run(&rt)
 }

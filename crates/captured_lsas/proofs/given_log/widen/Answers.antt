@@ -1,4 +1,4 @@
-use Rattle.std.proofs.Common.{◌≡◌, ◌∙◌, ◌<◌, ℕ, List, [], length, sym, ap₂, rules, arith}
+use Rattle.std.proofs.Common.{◌∙◌, ◌<◌, ℕ, List, [], length, sym, ap₂, rules, arith}
 use Rattle.std.proofs.lemmas.List.{get_or-map, length-map}
 use Rattle.captured_lsas.specs.GivenLog.{hash_in, hashes_of}
 use Rattle.captured_lsas.proofs.Widening.{one_more}

@@ -1,4 +1,3 @@
-use Rattle.std.proofs.Common.{length, take}
 use Rattle.captured_lsas.specs.GivenLog.{hashes_of}
 use Rattle.captured_lsas.proofs.Widening.{AreLinked}
 use Rattle.captured_lsas.proofs.given_log.widen.Given as goal

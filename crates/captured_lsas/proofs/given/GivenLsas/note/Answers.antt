@@ -1,10 +1,6 @@
-use Rattle.std.proofs.Common.{◌≡◌, ◌∙◌, Bool, true, false, not, List, length, sym, ap, subst, rules}
-use Rattle.indexmap.specs.IndexMap.{insert_entry}
-use Rattle.captured_lsas.specs.declared.name.LsaName.{LsaName}
-use Rattle.captured_lsas.specs.declared.given.LifeStart.{LifeStart}
-use Rattle.captured_lsas.specs.Given.{same_bool, same_name}
+use Rattle.std.proofs.Common.{◌∙◌, true, false, not, sym, ap, rules}
 use Rattle.captured_lsas.specs.Recording.{given_in}
-use Rattle.captured_lsas.proofs.Keeping.{given_again, tells, in_life, noted, not_before, in_another}
+use Rattle.captured_lsas.proofs.Keeping.{given_again, tells, in_life, noted, in_another}
 use Rattle.captured_lsas.proofs.given.GivenLsas.note.Goals as goal
 
 pub returns-then-has_since-clause-answer : goal.returns-then-has_since-clause-answer

@@ -1,4 +1,4 @@
-use Rattle.std.proofs.Common.{◌≡◌, ◌∙◌, ◌<◌, ◌≤◌, ◌-◌, Bool, true, false, List, ℕ, drop, length, sym, ap, subst, rules, arith}
+use Rattle.std.proofs.Common.{◌≡◌, ◌<◌, true, false, List, ℕ, drop, length, subst, rules, arith}
 use Rattle.std.specs.List.{list_any}
 use Rattle.captured_lsas.specs.Chains.{IsReached}
 use Rattle.captured_lsas.specs.LsaLog.{Logged}

@@ -1,4 +1,3 @@
-use Rattle.std.proofs.Common.{◌-◌}
 use Rattle.captured_lsas.proofs.Searching.{IsSought}
 use Rattle.captured_lsas.proofs.given_log.GivenLog.has_since.Given as goal
 

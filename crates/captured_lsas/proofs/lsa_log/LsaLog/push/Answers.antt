@@ -1,4 +1,4 @@
-use Rattle.std.proofs.Common.{◌≡◌, ◌∙◌, ℕ, List, [], ◌∷◌, ◌++◌, sym, ap, ap₂, rules}
+use Rattle.std.proofs.Common.{◌∙◌, ℕ, List, [], ◌∷◌, ◌++◌, ap, ap₂, rules}
 use Rattle.captured_lsas.specs.declared.lsa_log.Entry.{Entry}
 use Rattle.captured_lsas.specs.LsaLog.{Logged, logged}
 use Rattle.captured_lsas.proofs.Logging.{logged_more}

@@ -1,13 +1,13 @@
 use Rattle.std.proofs.Common.{subst}
 use Rattle.std.specs.Io.KnownBytes.{Appends}
 use Rattle.replay.specs.Writing.{AppendsPart}
-use Rattle.capture_recording.proofs.Ends.{front_begun, front_unwritten}
-use Rattle.capture_recording.proofs.going.Ended.finish_behind.Goals as goal
+use Rattle.capture_recording.proofs.Ends.{front_unwritten}
+use Rattle.capture_recording.proofs.going.Kept.finish_behind.Goals as goal
 
 pub returns-in-Ok : goal.returns-in-Ok
 returns-in-Ok g c options beginning before after told is =
-    c.finish.ensures options beginning before after _ told
-    (front_begun options beginning before after told _ _ _ c.args.self c.args.front.now is (subst (λ l. Appends (g.W.Write.contents c.args.out.now) (g.W.Write.contents c.write_out.new.out) l) c.as_bytes.ensures.value c.in-Ok.ensures.ok))
+    c.finish_packed.ensures options beginning before after _ told c.args.front.now is
+    (subst (λ l. Appends (g.W.Write.contents c.args.out.now) (g.W.Write.contents c.write_out.new.out) l) c.as_bytes.ensures.value c.in-Ok.ensures.ok)
 
 pub returns-in-Err : goal.returns-in-Err
 returns-in-Err g c options beginning before after told is =

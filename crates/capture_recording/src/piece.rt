@@ -1,0 +1,10 @@
+/// Where the characters and the digits of a piece stand.
+#[derive(Clone, Copy)]
+pub(crate) struct Piece {
+    pub(crate) plain_start: u32,
+    pub(crate) digits_start: u32,
+    /// How many characters.
+    pub(crate) plain: u16,
+    /// How many pairs of digits.
+    pub(crate) pairs: u16,
+}
