@@ -1,6 +1,7 @@
 pub mod ChosenAnew
 pub mod DestOrder
 pub mod Adding
+pub mod Left
 pub mod Among
 pub mod KeyedMaps
 pub mod KeyLaws

@@ -1,10 +1,11 @@
 //! Results by key.
-ghost use Rattle.std.specs.Prelude.{◌≡◌, ◌≢◌, [], IfOk, OnOk, OnErr, option_copied};
+ghost use Rattle.std.specs.Prelude.{◌≡◌, ◌≢◌, ◌++◌, [], IfOk, IfSome, IsSome, OnOk, OnErr, option_copied};
 ghost use Rattle.std.specs.List.{AllPairs};
 ghost use Rattle.std.specs.List.Sorted.{IsStrictlySortedBy};
 ghost use Rattle.result_map.specs.Lists.{HasJust};
 ghost use Rattle.std.specs.Map.{keys_of};
-ghost use Rattle.result_map.specs.Results.{AreKeysOf, AreResults, OthersStay, TellsDifference, TellsSame, result_at};
+ghost use Rattle.std.specs.Option.{option_to_list};
+ghost use Rattle.result_map.specs.Results.{AreKeysOf, AreResults, OthersStay, TellsDifference, TellsSame, result_at, result_in};
 ghost use Rattle.result_map.specs.Chosen.{AreChosen, AreChosenAnew, AreChosenBut, HasOther, IsChosenAnew};
 
 use crate::choose::Choose;
@@ -23,7 +24,8 @@ use word_hash::WordHash;
 /// Results by key, each of which is chosen anew where something that it rests on may differ.
 pub struct ResultMap<K: Eq + Hash, V> {
     entries: IndexMap<K, V, WordHash>,
-    // Where the last change left the results that it told, one after another. No answer depends on it.
+    // Where the last change left the results that it told, one after another: no more than there are results. No answer
+    // depends on it.
     left: Vec<usize>,
 }
 
@@ -39,12 +41,15 @@ impl<K: Eq + Hash + Drop, V: Drop> Drop for ResultMap<K, V> {
 
 impl<K: Eq + Hash, V> Model for ResultMap<K, V> {
     ghost use Rattle.result_map.specs.Results.{Results, results_code};
+    ghost use Rattle.std.specs.Prelude.{◌≤◌, length};
 
     ghost Value = { Results K V };
 
     ghost coded = { results_code K.code V.code };
 
     ghost view = { λ r. record { entries = r.entries.entries } };
+
+    ghost invariant = { λ r. length r.left.items ≤ length r.entries.entries };
 }
 
 impl<K: ResultKey, V: Same + Drop> ResultMap<K, V> {
@@ -133,6 +138,7 @@ impl<K: ResultKey, V: Same + Drop> ResultMap<K, V> {
             (result_at K.order self.new) key) }
         ensures err { OnErr result (self.new.entries ≡ self.old.entries) }
     {
+        self.left.clear();
         let place = place_of(&self.entries, key);
         exchange(&mut self.entries, place, key, fresh)
     }
@@ -173,9 +179,10 @@ impl<K: ResultKey, V: Same + Drop> ResultMap<K, V> {
         ensures { OnOk result (AreChosenAnew K.order (R.IsChosen by.now) N.told_as
             (result_at K.order self.old) (result_at K.order self.new) keys.now told.new.items) }
     {
-        self.left.clear();
+        self.left.truncate(0);
         for key in keys {
-            self.choose_one(alloc, *key, by, told)?;
+            let place = choose_one(&mut self.entries, alloc, *key, by, told)?;
+            leave(&mut self.left, place)?;
         }
         Ok(())
     }
@@ -184,31 +191,8 @@ impl<K: ResultKey, V: Same + Drop> ResultMap<K, V> {
     pub fn clear(&mut self)
         ensures { self.new.entries ≡ [] }
     {
+        self.left.clear();
         self.entries.clear();
-    }
-
-    // Chooses the result at the key anew, and tells the key where another stands now.
-    fn choose_one<R: Choose<K, V>, N: Told<K> + Drop>(
-        &mut self,
-        alloc: Global,
-        key: K,
-        by: &R,
-        told: &mut Vec<N>,
-    ) -> Result<(), Memory>
-        ensures { OnOk result (IsChosenAnew (R.IsChosen by.now) N.told_as
-            (result_at K.order self.old) (result_at K.order self.new)
-            key told.old.items told.new.items) }
-    {
-        let place = place_of(&self.entries, key);
-        let at = place.unwrap_or(self.entries.len());
-        let fresh = by.choose(alloc, key, standing(&self.entries, at))?;
-        let stands = fresh.is_some();
-        if !exchange(&mut self.entries, place, key, fresh)? {
-            return Ok(());
-        }
-        leave(&mut self.left, stands.then_some(at))?;
-        told.push(N::told(key))?;
-        Ok(())
     }
 
     // Where the last change left the next result that it told.
@@ -217,8 +201,39 @@ impl<K: ResultKey, V: Same + Drop> ResultMap<K, V> {
     }
 }
 
+// Chooses the result at the key anew, and tells the key where another stands now: the answer is the place of that one, if
+// there is one. If memory runs out, the results at all other keys are as before.
+fn choose_one<K: ResultKey, V: Same + Drop, R: Choose<K, V>, N: Told<K> + Drop>(
+    entries: &mut IndexMap<K, V, WordHash>,
+    alloc: Global,
+    key: K,
+    by: &R,
+    told: &mut Vec<N>,
+) -> Result<Option<usize>, Memory>
+    ensures chosen { OnOk result (IsChosenAnew (R.IsChosen by.now) N.told_as
+        (result_in K.order entries.old.entries) (result_in K.order entries.new.entries)
+        key told.old.items told.new.items) }
+    ensures stands { IfOk result (λ place.
+        IfSome place (λ _. IsSome (result_in K.order entries.new.entries key))) }
+    ensures others { OthersStay (result_in K.order entries.old.entries)
+        (result_in K.order entries.new.entries) key }
+{
+    let place = place_of(entries, key);
+    let at = place.unwrap_or(entries.len());
+    let fresh = by.choose(alloc, key, standing(entries, at))?;
+    let stands = fresh.is_some();
+    if !exchange(entries, place, key, fresh)? {
+        return Ok(None);
+    }
+    told.push(N::told(key))?;
+    Ok(stands.then_some(at))
+}
+
 // What is told next stands at the place, where it has a result.
-fn leave(left: &mut Vec<usize>, place: Option<usize>) -> Result<(), Memory> {
+fn leave(left: &mut Vec<usize>, place: Option<usize>) -> Result<(), Memory>
+    ensures ok { OnOk result (left.new.items ≡ left.old.items ++ option_to_list place) }
+    ensures err { OnErr result (left.new.items ≡ left.old.items) }
+{
     if let Some(place) = place {
         left.push(place)?;
     }
