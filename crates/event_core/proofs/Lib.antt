@@ -11,3 +11,4 @@ pub mod NoWork
 pub mod SmallWorks
 pub mod Uncut
 pub mod OtherItems
+pub mod Quiet

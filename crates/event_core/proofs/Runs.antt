@@ -1,6 +1,6 @@
 -- Runs of events, and one event more.
 use Rattle.std.proofs.Common.{◌≡◌, ℕ, ◌≤◌, take, List, [], ◌∷◌, ◌++◌, length, None, refl, sym, ap, subst, ◌∙◌, arith}
-use Rattle.std.specs.Prelude.{false, ◌↔◌, ◌<◌, Result, Ok, Err, IfOk, OnOk, OnErr}
+use Rattle.std.specs.Prelude.{Bool, false, ◌↔◌, ◌<◌, Result, Ok, Err, IfOk, OnOk, OnErr}
 use Rattle.std.proofs.lemmas.List.{length-append, take-append-le, take_all}
 use Rattle.event_state.specs.declared.base.Base.{Base}
 use Rattle.event_state.specs.declared.event.Event.{Event}
@@ -23,7 +23,7 @@ use Rattle.config_faults.specs.Configs.{config_fault_of}
 use Rattle.ospf_types.specs.declared.memory.Memory.{Memory}
 use Rattle.calculation.specs.Totals.{IsBuildWork}
 use Rattle.calculation.specs.Works.{IsEventWork}
-use Rattle.event_core.specs.Following.{RoutesValue, AreRoutesOf, TellsChanges, no_work}
+use Rattle.event_core.specs.Following.{RoutesValue, AreRoutesOf, IsStill, TellsChanges, no_work}
 use Rattle.event_core.specs.Sums.{IsFollowingWork, IsBuildingWork}
 use Rattle.event_state.specs.Held.{AreFit}
 use Rattle.event_state.proofs.KeptConfigs.{sound_since}
@@ -168,6 +168,7 @@ pub record IsSettled (s u : State) (r : RoutesValue) (built : ℕ) (result : Res
   pub work : OnErr result (new.work ≡ no_work)
   pub changes : OnErr result (new.changes ≡ [])
   pub due_changes : OnErr result (new.due_changes ≡ [])
+  pub still : built ≡ length s.journal → LooksAlike s u → IsStill result new
 
 module _ (s u : State) (r new : RoutesValue) (built : ℕ) (e : Event) (kept : IsCoherent s r built) (is : u ≡ step s e) (accepted : refusal_of s e ≡ None) where
   settled_ok : (now : ℕ) → now ≡ length u.journal → AreRoutesOf u new → IsCoherent u new now
@@ -225,9 +226,10 @@ module _ (s u : State) (r new : RoutesValue) (built : ℕ) (e : Event) (kept : I
   named_err (Err x) m err h = (h.changes, h.due_changes)
 
 -- what a core is made of then
-pub record IsOutcome (s u : State) (r : RoutesValue) (built : ℕ) (result : Result (Unit {0}) Memory) (state : State) (new : RoutesValue) (still : ℕ) : Type 0 where
+pub record IsOutcome (s u : State) (r : RoutesValue) (built : ℕ) (was : Bool) (result : Result (Unit {0}) Memory) (state : State) (new : RoutesValue) (still : ℕ) (rolled : Bool) : Type 0 where
   pub state_is : state ≡ u
   pub still_is : still ≡ built
+  pub rolled_is : rolled ≡ was
   pub settled : IsSettled s u r built result new
 
 -- ---- a run of several events

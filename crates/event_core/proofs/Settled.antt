@@ -1,5 +1,5 @@
 -- Routes after an event: what is kept, the items of the table and what is due have followed, or nothing that is calculated from differs.
-use Rattle.std.proofs.Common.{◌≡◌, ℕ, Bool, false, List, [], refl, sym, subst, arith}
+use Rattle.std.proofs.Common.{◌≡◌, ℕ, Bool, true, false, true≢false, List, [], refl, sym, subst, ◌∙◌, arith}
 use Rattle.ospf_types.specs.declared.key.Key.{Key}
 use Rattle.ospf_types.specs.declared.key.Scope.{Scope}
 use Rattle.route_table.specs.Tables.{TableValue}
@@ -36,6 +36,7 @@ pub record HasFollowed (t : State) (keys : List (Scope × Key)) (ids : List ℕ)
   pub summaries : AreSummariesFor t new.calculation new.summaries
   pub exact : TellsChanges old new
   pub bounded : (before : State) → GoesOn keys ids ranged changed before t → AreRoutesOf before old → IsEventWork before t new.work
+  pub still : changed ≡ false → (new.work ≡ no_work) × (new.changes ≡ []) × (new.due_changes ≡ [])
 
 forgotten_routes : (s : State) (r : RoutesValue) → AreRoutesOf s r → AreRoutesOf s (forgotten r)
 forgotten_routes s r are = record { calculation = are.calculation; table = are.table; serial = are.serial; summaries = are.summaries }
@@ -48,9 +49,9 @@ pub still_routes : (s : State) (old mid : RoutesValue) → mid ≡ forgotten old
 still_routes s old mid is are = subst (AreRoutesOf s) (sym is) (forgotten_routes s old are)
 
 module _ (t : State) (keys : List (Scope × Key)) (ids : List ℕ) (ranged changed : Bool) (old mid : RoutesValue) (is : mid ≡ forgotten old) where
-  pub followed : (new : RoutesValue) → IsCalculationOf t new.calculation → IsTableOf new.calculation new.table.items → AreSummariesFor t new.calculation new.summaries → TellsChanges mid new
+  pub followed : changed ≡ true → (new : RoutesValue) → IsCalculationOf t new.calculation → IsTableOf new.calculation new.table.items → AreSummariesFor t new.calculation new.summaries → TellsChanges mid new
       → ((before : State) → AreRoutesOf before mid → StatesDifferAmong keys ids ranged before t → IsEventWork before t new.work) → HasFollowed t keys ids ranged changed old new
-  followed new calculation items summaries exact bounded = record {
+  followed differs new calculation items summaries exact bounded = record {
     calculation = calculation;
     items = items;
     summaries = summaries;
@@ -58,6 +59,7 @@ module _ (t : State) (keys : List (Scope × Key)) (ids : List ℕ) (ranged chang
         let told = subst (λ (r : RoutesValue). TellsChanges r new) is exact in
         record { networks = told.networks; due = told.due };
     bounded = λ before goes are. bounded before (still_routes before old mid is are) goes.differ;
+    still = λ same. absurd (true≢false (sym differs ∙ same));
   }
 
   pub stayed : changed ≡ false → AreFit t.config.areas t.databases → (before : State) → GoesOn keys ids ranged changed before t → AreRoutesOf before old → HasFollowed t keys ids ranged changed old mid
@@ -69,6 +71,7 @@ module _ (t : State) (keys : List (Scope × Key)) (ids : List ℕ) (ranged chang
         summaries = due_alike before t old.calculation old.summaries (goes.alike same) are.summaries;
         exact = record { networks = nothing_changes old.table.items; due = refl };
         bounded = λ other on others. no_event_work other t old.calculation on.fit fit others.calculation alike;
+        still = λ _. (refl, refl, refl);
       })
 
 -- with the serial of the state, the routes are those of the state

@@ -1,8 +1,10 @@
 -- The core as its callers see it: the base, the events that were taken since, and a table and due summaries that are right for the first of them.
-use Rattle.std.specs.Prelude.{ℕ, ◌≡◌, ◌≤◌, ◌<◌, ◌↔◌, ◌⊎◌, false, List, [], ◌∷◌, ◌++◌, take, length, Some, None, Result, Ok, Err}
+use Rattle.std.specs.Prelude.{All, ℕ, ◌≡◌, ◌≤◌, ◌<◌, ◌↔◌, ◌⊎◌, false, List, [], ◌∷◌, ◌++◌, take, length, Some, None, Result, Ok, Err}
 use Rattle.ospf_types.specs.declared.config.Config.{Config}
 use Rattle.event_state.specs.declared.base.Base.{Base}
 use Rattle.event_state.specs.declared.event.Event.{Event}
+use Rattle.event_state.specs.declared.event.Event.TheVariants as event
+use Rattle.lsdb.specs.Contents.{NoneComes}
 use Rattle.event_core.specs.declared.reply.Reply.{Reply}
 use Rattle.event_core.specs.declared.reply.Status.{Status}
 use Rattle.event_core.specs.declared.reply.Status.TheVariants.{Current, Behind}
@@ -101,6 +103,20 @@ NamesChanges old Behind new = NamesNothing new
 abbrev pub HasBoundedWork : CoreValue → Status → CoreValue → Type 0
 HasBoundedWork old Current new = (IsCurrent old → IsFollowingWork (state_of old) (state_of new) new.work) × ((IsCurrent old → ⊥) → IsBuildingWork (state_of new) new.work)
 HasBoundedWork old Behind new = new.work ≡ no_work
+
+-- the event is a second in which no LSA comes to MaxAge, and it finds the table current
+pub record IsQuietSecond (old : CoreValue) (e : Event) : Type 0 where
+  pub second : e ≡ event.Second
+  pub none : All NoneComes (state_of old).databases
+  pub current : IsCurrent old
+
+-- Nothing usable differs, and the table is current: no vertex was taken from a queue, no set of next hops was written, no item of the table and nothing that is due changed.
+pub record DoesNothing (r : Reply) (new : CoreValue) : Type 0 where
+  pub changed : r.changed ≡ false
+  pub state : r.state ≡ Current
+  pub work : new.work ≡ no_work
+  pub changes : new.changes ≡ []
+  pub due_changes : new.due_changes ≡ []
 
 -- what `changes`, `due_changes` and `work` tell after an event: of one that was taken its own, after a refusal what they told before
 abbrev pub Tells : CoreValue → Result Reply Refusal → CoreValue → Type 0

@@ -1,10 +1,11 @@
 -- The routes and due summaries that a core keeps, and what an event changes of them.
-use Rattle.std.specs.Prelude.{ℕ, ◌≡◌, ◌≢◌, ◌⊎◌, ◌↔◌, ◌++◌, List, [], ◌∷◌, Contains, Option}
+use Rattle.std.specs.Prelude.{ℕ, ◌≡◌, ◌≢◌, ◌⊎◌, ◌↔◌, ◌++◌, List, [], ◌∷◌, Contains, Option, Result, Ok}
 use Rattle.std.specs.FinMap as map
 use Rattle.std.specs.List.Sorted.{IsStrictlySortedBy}
 use Rattle.std.specs.Map.{keys_of}
 use Rattle.ospf_types.specs.declared.prefix.Prefix.{Prefix}
 use Rattle.ospf_types.specs.Network.{network_cmp}
+use Rattle.ospf_types.specs.declared.memory.Memory.{Memory}
 use Rattle.spf.specs.Touched.{Touched}
 use Rattle.route_table.specs.declared.table.Item.{Item}
 use Rattle.route_table.specs.Tables.{TableValue}
@@ -54,3 +55,10 @@ IsOneMore c table p before after =
 -- no work
 abbrev pub no_work : Touched
 no_work = record { taken = 0; hop_sets = 0 }
+
+-- nothing was refused, and nothing is told of the event
+pub record IsStill (result : Result (Unit {0}) Memory) (r : RoutesValue) : Type 0 where
+  pub settled : result ≡ Ok tt
+  pub work : r.work ≡ no_work
+  pub changes : r.changes ≡ []
+  pub due_changes : r.due_changes ≡ []

@@ -1,9 +1,10 @@
 -- What a core keeps of its parts.
-use Rattle.std.specs.Prelude.{ℕ, ◌≡◌, ◌≤◌, length}
+use Rattle.std.specs.Prelude.{ℕ, ◌≡◌, ◌≤◌, Bool, true, length}
 use Rattle.vertex_graph.specs.Graphs.{most_routers}
 use Rattle.summaries.specs.DueSummaries.{lists_of}
 use Rattle.event_state.specs.States.{State}
-use Rattle.event_state.specs.Steps.{run_of}
+use Rattle.event_state.specs.Rolls.{IsBaseOf}
+use Rattle.event_state.specs.Steps.{opening, run_of}
 use Rattle.event_core.specs.Cores.{CoreValue, IsCore}
 use Rattle.event_core.specs.Following.{RoutesValue, AreRoutesOf}
 
@@ -16,3 +17,7 @@ pub record IsCoherent (s : State) (r : RoutesValue) (built : ℕ) : Type 0 where
   pub core : IsCore (core_of s r built)
   pub fresh : built ≡ length s.journal → AreRoutesOf s r
   pub few : s.limits.area_lsas ≤ most_routers
+
+-- a base from a roll is the state that it opens: ranges, serial, interfaces, and each LSA in the order in which they are listed
+abbrev pub IsBaseItself : Bool → State → Type 0
+IsBaseItself rolled s = rolled ≡ true → IsBaseOf (opening s.base s.limits) s.base

@@ -1,11 +1,12 @@
-ghost use Rattle.std.specs.Prelude.{◌≡◌, ◌≤◌, ◌<◌, ◌+◌, length, None, IfErr, IfNone, IfOk, IfSome, MatchBool, OnOk, OnErr, option_map};
+ghost use Rattle.std.specs.Prelude.{◌≡◌, ◌≤◌, ◌<◌, ◌+◌, [], length, true, None, IfErr, IfNone, IfOk, IfSome, MatchBool, OnOk, OnErr, option_map};
 ghost use Rattle.vertex_graph.specs.Graphs.{most_routers};
 ghost use Rattle.event_state.specs.BaseFaults.{base_fault_of};
 ghost use Rattle.calculation.specs.Calculations.{IsCalculationOf};
 ghost use Rattle.summaries.specs.DueSummaries.{lists_of};
 ghost use Rattle.event_core.specs.Right.{IsDueIn, list_under};
-ghost use Rattle.event_core.specs.Cores.{IsBaseFaultOf, IsCore, IsCurrent, IsOpening, IsFaultOf, IsRollRefusal, Rolls, Applies, NamesChanges, HasBoundedWork, Stands, Runs, built_state, state_of};
+ghost use Rattle.event_core.specs.Cores.{IsBaseFaultOf, IsCore, IsCurrent, IsOpening, IsQuietSecond, DoesNothing, IsFaultOf, IsRollRefusal, Rolls, Applies, NamesChanges, HasBoundedWork, Stands, Runs, built_state, state_of};
 ghost use Rattle.event_state.specs.Bases.{bare};
+ghost use Rattle.event_state.specs.Rolls.{IsBaseOf};
 ghost use Rattle.event_state.specs.States.{serial_of};
 ghost use Rattle.event_state.specs.Steps.{standard_limits};
 ghost use Rattle.event_state.specs.Listings.{AreLsas};
@@ -37,6 +38,8 @@ pub struct Core {
     state: State,
     routes: Routes,
     built: u64,
+    // Whether the base is from a roll, and so is the state as it was then.
+    rolled: bool,
 }
 
 impl Model for Core {
@@ -48,11 +51,11 @@ impl Model for Core {
 
     ghost coded = { let table : Coded TableValue = table_code in Prim.hlevel (codes, table) };
 
-    ghost use Rattle.event_core.specs.Kept.{core_of, IsCoherent};
+    ghost use Rattle.event_core.specs.Kept.{core_of, IsCoherent, IsBaseItself};
 
     ghost view = { λ c. core_of c.state c.routes c.built };
 
-    ghost invariant = { λ c. IsCoherent c.state c.routes c.built };
+    ghost invariant = { λ c. IsCoherent c.state c.routes c.built × IsBaseItself c.rolled c.state };
 }
 
 // All that a core keeps is dropped here, and not in each function that has one.
@@ -64,6 +67,7 @@ impl Drop for Core {
             state: _state,
             routes: _routes,
             built: _,
+            rolled: _,
         } = self;
     }
 }
@@ -137,16 +141,19 @@ impl Core {
             state,
             routes,
             built: 0,
+            rolled: false,
         })
     }
 
     /// Takes the event, and brings table and due summaries up to the state then; or refuses it, and leaves everything as it
-    /// was. The work follows what the event touches; where they were behind, all is built anew. Where memory is refused,
-    /// both stay as they were.
+    /// was. The work follows what the event touches: a second in which no LSA reaches MaxAge does none. Where they were
+    /// behind, all is built anew. Where memory is refused, both stay as they were.
     pub fn apply(&mut self, event: Event) -> Result<Reply, Refusal>
         ensures applied { Applies self.old event result self.new }
         ensures changes { IfOk result (λ reply. NamesChanges self.old reply.state self.new) }
         ensures work { IfOk result (λ reply. HasBoundedWork self.old reply.state self.new) }
+        ensures quiet { IfOk result (λ reply. IsQuietSecond self.old event →
+            DoesNothing reply self.new) }
     {
         let is_current = self.built == self.state.journal().len() as u64;
         let named = named_by(self.alloc, &self.state, &event)?;
@@ -213,8 +220,8 @@ impl Core {
     }
 
     /// Makes the state as it is the base, and empties the journal; what is due, the table and what is told of the last event
-    /// stay. The answer is the serial, which goes on. Refused are a table that is behind, with 37, and want of memory; then
-    /// everything is as it was.
+    /// stay. The answer is the serial, which goes on. Right after another roll nothing is copied. Refused are a table that is
+    /// behind, with 37, and want of memory; then everything is as it was.
     pub fn roll(&mut self) -> Result<u64, Refusal>
         ensures rolled { OnOk result (Rolls self.old self.new) }
         ensures serial { IfOk result (λ serial. serial ≡ serial_of (state_of self.old)) }
@@ -225,6 +232,9 @@ impl Core {
         if self.built != self.state.journal().len() as u64 {
             return Err(Refusal::NotCurrent);
         }
+        if self.is_base_itself() {
+            return Ok(self.state.serial());
+        }
         // proof: a base that is the state as it is has no fault.
         let _ = self.state.base();
         let Ok(base) = base_of(self.alloc, &self.state) else {
@@ -232,7 +242,15 @@ impl Core {
         };
         self.state.rebase(base);
         self.built = 0;
+        self.rolled = true;
         Ok(self.state.serial())
+    }
+
+    // Returns true if the base came from a roll, and no event was taken since.
+    fn is_base_itself(&self) -> bool
+        ensures { result ≡ true → (self.now.journal ≡ []) × IsBaseOf (state_of self.now) self.now.base }
+    {
+        self.state.journal().is_empty() & self.rolled
     }
 
     pub fn table(&self) -> &Table

@@ -12,7 +12,7 @@ pub enum Status {
 pub struct Reply {
     /// The number of the event; events are numbered from 1 on.
     pub serial: u64,
-    /// Whether the usable LSAs (key, Options, body) or the interfaces differ from before.
+    /// True if the usable LSAs (key, Options, body), the interfaces or the address ranges differ from before.
     pub changed: bool,
     pub state: Status,
 }

@@ -13,7 +13,7 @@ ghost use Rattle.calculation.specs.Trees.{StatesDifferAmong};
 ghost use Rattle.calculation.specs.Summaries.{AreSummariesFor};
 ghost use Rattle.calculation.specs.Totals.{IsBuildWork};
 ghost use Rattle.calculation.specs.Works.{IsEventWork};
-ghost use Rattle.event_core.specs.Following.{AreRoutesOf, AreOtherItems, IsOneMore, TellsChanges, no_work};
+ghost use Rattle.event_core.specs.Following.{AreRoutesOf, AreOtherItems, IsOneMore, IsStill, TellsChanges, no_work};
 ghost use Rattle.event_core.specs.Named.{IsNamedBetween, IsRangeNamedBetween};
 
 use crate::named::Named;
@@ -172,6 +172,7 @@ impl Routes {
         ensures work { OnErr result (self.new.work ≡ no_work) }
         ensures changes { OnErr result (self.new.changes ≡ []) }
         ensures due_changes { OnErr result (self.new.due_changes ≡ []) }
+        ensures still { changed ≡ false → IsStill result self.new }
     {
         self.forget();
         if changed {

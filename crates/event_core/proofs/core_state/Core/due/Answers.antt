@@ -21,6 +21,6 @@ pub returns-clause-right : goal.returns-clause-right
 returns-clause-right c =
     let core : CoreValue = core_of c.self.inside.state c.self.inside.routes c.self.inside.built in
     let s = inputs_of (built_state core) in
-    let first = due_found s s.areas core.summaries c.args.area c.self.invariant.core.due in
+    let first = due_found s s.areas core.summaries c.args.area c.self.invariant.0.core.due in
     let now = subst (λ (v : CoreValue). IsDueIn (built_state v) c.args.area (list_under v.summaries c.args.area)) c.self.view_is first in
     subst (IsDueIn (built_state c.args.self.now) c.args.area) (sym (found c)) now

@@ -7,4 +7,4 @@ use Rattle.event_core.proofs.core_state.Core.lsas.Goals as goal
 
 pub returns : goal.returns
 returns c =
-    subst (λ (s : State). IfOk c.lsas.result (λ found. AreLsas s found.items)) (c.self.invariant.run ∙ ap state_of c.self.view_is) c.lsas.ensures
+    subst (λ (s : State). IfOk c.lsas.result (λ found. AreLsas s found.items)) (c.self.invariant.0.run ∙ ap state_of c.self.view_is) c.lsas.ensures

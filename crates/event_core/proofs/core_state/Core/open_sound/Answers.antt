@@ -1,4 +1,4 @@
-use Rattle.std.proofs.Common.{sym, subst}
+use Rattle.std.proofs.Common.{sym, subst, true≢false}
 use Rattle.event_state.specs.States.{State, AreApart}
 use Rattle.event_core.specs.Kept.{IsCoherent}
 use Rattle.event_state.proofs.Configs.{sound_apart}
@@ -14,7 +14,7 @@ kept c =
     kept_open c.args.base c.args.limits c.in_ok-state.state c.in_ok-routes.routes c.in_ok-state.ensures c.requires.sound c.requires.few c.in_ok-routes.ensures.right
 
 pub invariant_of-result : goal.invariant_of-result
-invariant_of-result c = kept c
+invariant_of-result c = (kept c, λ from_roll. absurd (true≢false (sym from_roll)))
 
 pub returns-clause-kept : goal.returns-clause-kept
 returns-clause-kept c = (kept c).core

@@ -1,4 +1,4 @@
-use Rattle.std.proofs.Common.{ℕ, sym, subst, ap, ◌∙◌}
+use Rattle.std.proofs.Common.{ℕ, refl, sym, subst, ap, ◌∙◌}
 use Rattle.std.specs.Prelude.{is_some}
 use Rattle.route_table.specs.Tables.{TableValue}
 use Rattle.event_core.specs.Following.{AreChanges}
@@ -24,7 +24,7 @@ all c =
     let mid = c.forget.new.self in
     elim c.if-changed.branch [
       | then-changed+in_ok-follow w ↦
-          subst (HasFollowed t keys ids ranged changed old) (sym w.self-is) (followed t keys ids ranged changed old mid c.forget.ensures w.follow.new.self w.in_ok-follow.ensures.calculation w.in_ok-follow.ensures.items w.in_ok-follow.ensures.summaries w.in_ok-follow.ensures.exact w.in_ok-follow.ensures.bounded)
+          subst (HasFollowed t keys ids ranged changed old) (sym w.self-is) (followed t keys ids ranged changed old mid c.forget.ensures w.if-changed.true w.follow.new.self w.in_ok-follow.ensures.calculation w.in_ok-follow.ensures.items w.in_ok-follow.ensures.summaries w.in_ok-follow.ensures.exact w.in_ok-follow.ensures.bounded)
       | else-changed w ↦
           subst (HasFollowed t keys ids ranged changed old) (sym w.self-is) (stayed t keys ids ranged changed old mid c.forget.ensures w.if-changed.false (c.config.ensures.fit (still_apart before.0 t keys ids ranged before.1 before.3)) before.0 (record { fit = before.1; differ = before.3; alike = before.4 }) before.2)
     ]
@@ -52,3 +52,8 @@ returns-clause-exact c = record {
 
 pub returns-clause-bounded : goal.returns-clause-bounded
 returns-clause-bounded c = λ before fit are differ alike. (inside c).bounded before (record { fit = fit; differ = differ; alike = alike }) are
+
+pub returns-clause-still : goal.returns-clause-still
+returns-clause-still c = λ same.
+    let still = (inside c).still same in
+    record { settled = refl; work = still.0; changes = still.1; due_changes = still.2 }
