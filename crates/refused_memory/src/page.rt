@@ -1,0 +1,43 @@
+//! A device that takes no memory.
+
+use std::io;
+
+/// A page of 1,024 bytes that is written from its beginning on.
+#[derive(Drop)]
+pub struct Page {
+    bytes: [u8; 1024],
+    count: usize,
+}
+
+impl Page {
+    pub fn empty() -> Page {
+        Page {
+            bytes: [0; 1024],
+            count: 0,
+        }
+    }
+
+    /// The bytes that were written.
+    pub fn written(&self) -> &[u8] {
+        self.bytes.get(..self.count).unwrap_or(&[])
+    }
+}
+
+impl io::Write for Page {
+    fn write(&mut self, buf: &[u8]) -> io::Result<usize> {
+        let Some(left) = self.bytes.get_mut(self.count..) else {
+            return Ok(0);
+        };
+        let mut count: usize = 0;
+        for (place, byte) in left.iter_mut().zip(buf) {
+            *place = *byte;
+            count = count.saturating_add(1);
+        }
+        self.count = self.count.saturating_add(count);
+        Ok(count)
+    }
+
+    fn flush(&mut self) -> io::Result<()> {
+        Ok(())
+    }
+}
