@@ -29,6 +29,9 @@ fn newer_ones(rt: HostRuntime) {
             (3600, 0x8000_0001, 7),
             Newer::Second,
         ),
+        // the only one at MaxAge is the newer, although the other is the younger
+        ((3600, 0x8000_0001, 7), (0, 0x8000_0001, 7), Newer::First),
+        ((3600, 0x8000_0001, 7), (3600, 0x8000_0001, 7), Newer::Same),
         ((1000, 0x8000_0001, 8), (0, 0x8000_0001, 7), Newer::First),
         ((0, 0x7fff_ffff, 1), (3600, 0x8000_0001, 2), Newer::First),
     ] {
