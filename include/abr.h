@@ -271,8 +271,8 @@ bool abr_base_interface_at(abr *core, size_t n, abr_base_interface *out);
 /* How many LSAs the base has. */
 size_t abr_base_lsas(abr *core);
 
-/* LSA number `n` of the base, with its scope: its length in bytes, or 0 if there is none or memory ran out. If `room`
- * is at least that, the bytes are written to `lsa`. 65535 is always room enough. */
+/* LSA number `n` of the base, with its scope: its length in bytes, or 0 if there is none. If `room` is at least that, the
+ * bytes are written to `lsa`. 65535 is always room enough. */
 static inline size_t abr_base_lsa_at(abr *core, size_t n, abr_scope *scope, uint8_t *lsa, size_t room);
 
 /* The base as text, which abr_open_base reads. Answers the length in bytes, or 0 if no core is open or memory ran out.

@@ -1,5 +1,9 @@
 -- How a core is opened from text.
-use Rattle.std.specs.Prelude.{ℕ, ◌≡◌, ◌≤◌, ◌<◌, ◌⊎◌, List, [], length, Option, Some, None}
+use Rattle.std.specs.Prelude.{ℕ, ◌≡◌, ◌≤◌, ◌<◌, ◌⊎◌, List, [], length, drop, Option, Some, None}
+use Rattle.std.specs.RandomState.{initial_hasher}
+use Rattle.std.specs.declared.hash.RandomState.{RandomState}
+use Rattle.core.specs.Hash.DefaultHasher.{finish, with_keys}
+use Rattle.byteorder.specs.Endian.{little_number}
 use Rattle.event_state.specs.declared.base.Base.{Base}
 use Rattle.event_state.specs.Steps.{standard_limits}
 use Rattle.event_core.specs.Cores.{CoreValue, IsCore, IsOpening}
@@ -30,6 +34,10 @@ IsConfigRefusal text number = IsBaseRefusal text number ⊎ ((base : Base) × Sa
 -- the seed is too short, or memory ran out
 abbrev pub IsSeedRefusal : (seed : List ℕ) → ℕ → Type 0
 IsSeedRefusal seed number = ((length seed < 16) × (number ≡ short_seed)) ⊎ (number ≡ out_of_memory)
+
+-- The empty text has the hash that SipHash gives it under the two keys that the first 16 bytes of the seed are, eight bytes each, the lowest first.
+abbrev pub HasKeysOf : (seed : List ℕ) → RandomState → Type 0
+HasKeysOf seed state = finish (initial_hasher state) ≡ finish (with_keys (little_number 8 seed) (little_number 8 (drop 8 seed)))
 
 -- the seed is long enough, and the core has this base, and no event was taken; or there is none, and the number is why
 abbrev pub OpensBase : Base → (seed : List ℕ) (number : ℕ) → Option CoreValue → Type 0

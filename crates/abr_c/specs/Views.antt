@@ -119,12 +119,10 @@ lsa_at c n = slice_get (lsas_in c) n
 abbrev pub IsNothing : (count : ℕ) → (scope scope' : CScope) → (before after : List ℕ) → Type 0
 IsNothing count scope scope' before after = (count ≡ 0) × (scope' ≡ scope) × (after ≡ before)
 
--- the LSA's scope and bytes are written, the bytes where there is room; else, with 0, nothing is
+-- the LSA's scope and bytes are written, the bytes where there is room; where there is none, with 0, nothing is
 abbrev pub GivesLsa : Option (Scope × Lsa) → (count : ℕ) → (scope scope' : CScope) → (before after : List ℕ) → Type 0
 GivesLsa None count scope scope' before after = IsNothing count scope scope' before after
-GivesLsa (Some x) count scope scope' before after =
-    ((count ≡ length (spelling x.1)) × (scope' ≡ c_scope_of x.0) × (after ≡ written (spelling x.1) before))
-    ⊎ IsNothing count scope scope' before after
+GivesLsa (Some x) count scope scope' before after = (count ≡ length (spelling x.1)) × (scope' ≡ c_scope_of x.0) × (after ≡ written (spelling x.1) before)
 
 -- the base in version 3 of the format
 abbrev pub base_text : Base → List ℕ

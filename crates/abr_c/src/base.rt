@@ -7,9 +7,10 @@ ghost use Rattle.abr_c.specs.Views.{GivesLsa, GivesText, GivesTextOf, base_seria
 
 use crate::c_types::{CInterface, CScope};
 use crate::given::{give, write_bytes};
+use crate::lsas::write_lsa;
 use crate::slot::Slot;
 use event_state::Base;
-use lsa_codec::{Checked, write};
+use lsa_codec::Checked;
 use ospf_types::config::Interface;
 use ospf_types::key::Scope;
 use recording::{Version, append_front};
@@ -76,7 +77,7 @@ pub extern "C" fn abr_base_lsas(alloc: Global, slot: &mut Slot) -> usize
     count
 }
 
-/// One of its LSAs: its length, or 0 if there is none or memory ran out. Its bytes are written where there is room.
+/// One of its LSAs: its length, or 0 if there is none. Its bytes are written where there is room.
 #[unsafe(no_mangle)]
 pub extern "C" fn abr_base_lsa_bytes(
     alloc: Global,
@@ -93,7 +94,7 @@ pub extern "C" fn abr_base_lsa_bytes(
         return 0;
     };
     let length = match core.base().lsas.as_slice().get(n) {
-        Some(found) => give_lsa(alloc, found, scope, lsa),
+        Some(found) => give_lsa(found, scope, lsa),
         None => 0,
     };
     slot.put(core);
@@ -114,18 +115,11 @@ pub extern "C" fn abr_base_text_bytes(alloc: Global, slot: &mut Slot, text: &mut
     length
 }
 
-fn give_lsa(alloc: Global, found: &(Scope, Checked), scope: &mut CScope, out: &mut [u8]) -> usize
+fn give_lsa(found: &(Scope, Checked), scope: &mut CScope, out: &mut [u8]) -> usize
     ensures { GivesLsa (Some found.now) result scope.old scope.new out.old out.new }
 {
-    let mut bytes = Vec::new(alloc);
-    match write(&found.1, &mut bytes) {
-        Ok(()) => {
-            *scope = CScope::of(found.0);
-            write_bytes(out, &bytes);
-            bytes.len()
-        }
-        Err(_) => 0,
-    }
+    *scope = CScope::of(found.0);
+    write_lsa(&found.1, out)
 }
 
 fn give_text(alloc: Global, base: &Base, out: &mut [u8]) -> usize

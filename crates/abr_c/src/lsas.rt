@@ -1,12 +1,14 @@
 //! LSAs by themselves.
-ghost use Rattle.std.specs.Prelude.{◌≡◌};
+ghost use Rattle.std.specs.Prelude.{◌≡◌, ◌≤◌, ◌++◌, length, drop};
 ghost use Rattle.lsa_codec.specs.Checksum.{checksum_of};
-ghost use Rattle.abr_c.specs.Given.{IsGiven};
+ghost use Rattle.lsa_codec.specs.Spelling.{header_bytes, spelling};
+ghost use Rattle.abr_c.specs.Given.{IsGiven, written};
 ghost use Rattle.abr_c.specs.Told.{IsLsaNumber};
 
 use crate::given::give;
 use crate::numbers::wire_number;
-use lsa_codec::{read, sum_of};
+use byteorder::{BigEndian, ByteOrder};
+use lsa_codec::{Checked, Header, read, sum_of};
 use std::alloc::Global;
 
 /// The number of the first fault of the bytes; 0 if they are an LSA.
@@ -26,4 +28,33 @@ pub extern "C" fn abr_lsa_sum_bytes(lsa: &[u8], out: &mut u16) -> bool
     ensures { IsGiven (checksum_of lsa.now) result out.old out.new }
 {
     give(out, sum_of(lsa))
+}
+
+/// Writes the LSA to the beginning of `out` if there is room for all of it, and returns its length. It takes no memory.
+#[tactic(auto, unfolding(lsa_codec::specs::Spelling::spelling))]
+pub(crate) fn write_lsa(lsa: &Checked, out: &mut [u8]) -> usize
+    ensures length { result ≡ length (spelling lsa.now) }
+    ensures written { out.new ≡ written (spelling lsa.now) out.old }
+{
+    let (header, body) = (lsa.header(), lsa.body());
+    let length = 20 + body.len();
+    if length <= out.len() {
+        write_header(header, out);
+        out[20..length].copy_from_slice(body);
+    }
+    length
+}
+
+fn write_header(header: Header, out: &mut [u8])
+    requires { 20 ≤ length out.old }
+    ensures { out.new ≡ header_bytes header ++ drop 20 out.old }
+{
+    BigEndian::write_u16(out, header.age);
+    out[2] = header.options;
+    out[3] = header.kind;
+    BigEndian::write_u32(&mut out[4..], header.id);
+    BigEndian::write_u32(&mut out[8..], header.router);
+    BigEndian::write_u32(&mut out[12..], header.seq);
+    BigEndian::write_u16(&mut out[16..], header.sum);
+    BigEndian::write_u16(&mut out[18..], header.length);
 }

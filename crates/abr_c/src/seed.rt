@@ -1,9 +1,11 @@
 //! The keys of the hash tables, from a seed.
-ghost use Rattle.std.specs.Prelude.{◌≤◌, OnOk, IfErr, length};
-ghost use Rattle.abr_c.specs.Opening.{IsSeedRefusal};
+ghost use Rattle.std.specs.Prelude.{◌≤◌, IsTrue, OnOk, IfOk, IfErr, length};
+ghost use Rattle.abr_c.specs.Opening.{HasKeysOf, IsSeedRefusal};
 
 use crate::numbers::{LENGTH, MEMORY};
-use std::hash::RandomState;
+use byteorder::{ByteOrder, LittleEndian};
+use core::hash::keyed_hasher;
+use std::hash::{BuildHasher, Hasher, RandomState};
 use std::io;
 use std::random::RandomSource;
 
@@ -25,13 +27,27 @@ impl RandomSource for Seed<'_> {
 /// The keys that the first 16 bytes of a seed give.
 pub(crate) fn hashing_of(seed: &[u8]) -> Result<RandomState, u32>
     ensures long { OnOk result (16 ≤ length seed.now) }
+    ensures keys { IfOk result (HasKeysOf seed.now) }
     ensures refused { IfErr result (IsSeedRefusal seed.now) }
 {
     if seed.len() < 16 {
         return Err(LENGTH);
     }
     match RandomState::new(&Seed { bytes: seed }) {
-        Ok(hashing) => Ok(hashing),
-        Err(_) => Err(MEMORY),
+        Ok(hashing) if has_keys_of(seed, &hashing) => Ok(hashing),
+        _ => Err(MEMORY),
     }
+}
+
+// Returns true if the empty text has the same hash under these keys as under those of the seed. No clause of `RandomState` says
+// which keys it takes of its source; a hash does.
+fn has_keys_of(seed: &[u8], hashing: &RandomState) -> bool
+    requires { 16 ≤ length seed.now }
+    ensures { IsTrue result → HasKeysOf seed.now hashing.now }
+{
+    let (low, high) = (
+        LittleEndian::read_u64(seed),
+        LittleEndian::read_u64(&seed[8..]),
+    );
+    hashing.build_hasher().finish() == keyed_hasher(low, high).finish()
 }
