@@ -140,8 +140,54 @@ fn join_all<'s, R: Threads>(rt: &R, children: Vec<Child<'s>>, all: Vec<Answers>)
     all
 }
 
-// Runs each job on a thread of its own, and joins all that were started.
+/// Room for the threads of several jobs, and for the answers of each.
+#[derive(Drop)]
+struct Room<'s> {
+    children: Vec<Child<'s>>,
+    all: Vec<Answers>,
+}
+
+// Makes room for the threads of so many jobs.
+fn room_for<'s>(alloc: Global, count: usize) -> Result<Room<'s>, AllocError>
+    ensures empty { IfOk result (λ room. (room.children.items ≡ []) × (room.all.items ≡ [])) }
+    ensures room { IfOk result (λ room. (count ≤ vec_capacity room.children)
+        × (count ≤ vec_capacity room.all)) }
+{
+    let all = Vec::with_capacity(alloc, count)?;
+    let children = Vec::with_capacity(alloc, count)?;
+    Ok(Room { children, all })
+}
+
+// Runs each job on a thread of its own, and joins all that were started. Once a thread may have started, the one refusal is
+// that another one could not: want of memory comes before.
 fn run_all<'s, E, R: Threads + Wait + Sync, G: Gate>(
+    scope: &'s Scope<'s, E>,
+    rt: &'s R,
+    engine: &'s Engine,
+    gate: &'s G,
+    jobs: Vec<Job>,
+    room: Room<'s>,
+) -> Result<Vec<Answers>, Refusal>
+    requires empty { (room.children.items ≡ []) × (room.all.items ≡ []) }
+    requires room { (vec_len jobs ≤ vec_capacity room.children)
+        × (vec_len jobs ≤ vec_capacity room.all) }
+    ensures answers { IfOk result (λ all. AllZip
+        (λ job answers. AreAnswered engine.now job.events.items answers.items)
+        jobs.items all.items) }
+    ensures cause { IfErr result (λ e. e ≡ Spawn) }
+{
+    let Room { mut children, all } = room;
+    let started = start_all(scope, rt, engine, gate, jobs, &mut children);
+    let all = join_all(rt, children, all);
+    if started {
+        Ok(all)
+    } else {
+        Err(Refusal::Spawn)
+    }
+}
+
+// Makes room for the threads, before any of them starts, and then runs each job on one.
+fn run_with_room<'s, E, R: Threads + Wait + Sync, G: Gate>(
     scope: &'s Scope<'s, E>,
     rt: &'s R,
     alloc: Global,
@@ -154,19 +200,9 @@ fn run_all<'s, E, R: Threads + Wait + Sync, G: Gate>(
         jobs.items all.items) }
     ensures causes { IfErr result (λ e. (e ≡ Spawn) ⊎ (e ≡ Memory)) }
 {
-    let count = jobs.len();
-    let Ok(all) = Vec::with_capacity(alloc, count) else {
-        return Err(Refusal::Memory);
-    };
-    let Ok(mut children) = Vec::with_capacity(alloc, count) else {
-        return Err(Refusal::Memory);
-    };
-    let started = start_all(scope, rt, engine, gate, jobs, &mut children);
-    let all = join_all(rt, children, all);
-    if started {
-        Ok(all)
-    } else {
-        Err(Refusal::Spawn)
+    match room_for(alloc, jobs.len()) {
+        Ok(room) => run_all(scope, rt, engine, gate, jobs, room),
+        Err(_) => Err(Refusal::Memory),
     }
 }
 
@@ -203,12 +239,17 @@ fn run<R: Threads + Wait + Sync, G: Gate>(
                 (λ job answers. AreAnswered engine.entry.now job.events.items answers.items)
                 jobs.items all.items)
                 × IfErr result (λ e. (e ≡ Spawn) ⊎ (e ≡ Memory)) }
-        { run_all(scope, rt, alloc, engine, gate, jobs) },
+        { run_with_room(scope, rt, alloc, engine, gate, jobs) },
     )
 }
 
 impl Engine {
-    /// Submits each list on a thread of its own, and answers each event of each. Refused are more than 16 lists, with no event taken; want of memory, before any thread starts; and that a thread could not be started, where the journal tells what was taken.
+    /// Submits each list on a thread of its own, and answers each event of each.
+    ///
+    /// # Errors
+    ///
+    /// 32 Workers if there are more than 16 lists, and 30 Memory if there is no room for the answers. Both come before any
+    /// thread starts: no event is taken. 31 Spawn if a thread cannot be started; the journal tells what was taken.
     pub fn submit_all<R: Threads + Wait + Sync, G: Gate>(
         &self,
         rt: &R,
