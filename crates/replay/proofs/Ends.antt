@@ -18,7 +18,7 @@ use Rattle.replay.specs.declared.page.Stop.{Stop}
 use Rattle.replay.specs.declared.page.Stop.TheVariants as stop
 use Rattle.replay.specs.declared.printing.Printing.{Printing}
 use Rattle.replay.specs.Stops.{AreWhole, fault_of}
-use Rattle.replay.specs.Outputs.{IsRun, IsShown, IsOutput, Replays, ReplaysPart, journal_of}
+use Rattle.replay.specs.Outputs.{IsRun, IsShown, IsOutput, LosesNoEvent, Replays, ReplaysPart, journal_of}
 use Rattle.replay.specs.Pages.{Adds, AddsPart, Ran, RanPart, IsRunTo}
 use Rattle.replay.specs.Parts.{IsRead, PrintsRun, WritesOutput, WritesPart}
 use Rattle.replay.proofs.Written.{appends_none}
@@ -56,6 +56,7 @@ run_cut why v old lines p s a b before opening is prints none h =
 -- an output was printed, and its end is on the page
 pub record Whole (r : RecordingValue) (p : Printing) (a b : Option (List ℕ)) (page : List ℕ) : Type 0 where
   pub answers : Answers
+  pub memory : LosesNoEvent p.show answers
   pub whole : List ℕ
   pub is : IsOutput r p answers whole
   pub printed : Adds a b [] page whole
@@ -71,9 +72,16 @@ pub whole_written : (r : RecordingValue) (p : Printing) (a b c : Option (List �
 whole_written r p a b c page last h moved none =
     let all = adds_moved a b c [] page last h.whole h.printed moved in
     let same : all.written ≡ h.whole = sym (append-nil all.written) ∙ ap (λ l. all.written ++ l) (sym none) ∙ sym all.joined in
-    record { answers = h.answers; output = h.whole; is = h.is; written = subst (Appends a c) same all.appended }
+    record { answers = h.answers; memory = h.memory; output = h.whole; is = h.is; written = subst (Appends a c) same all.appended }
 
 -- ---- a run whose lines are printed, and behind it what is shown
+
+-- a refused event is told of among these lines
+told_of_lines : (s : Show) (answers : Answers) → PrintsRun s → LosesNoEvent s answers
+told_of_lines show.Routes answers prints = tt
+told_of_lines show.Due answers prints = tt
+told_of_lines show.Lsdb answers prints = tt
+told_of_lines show.Journal answers prints = absurd prints
 
 -- what stands on a page that was empty
 pub ran_page : (format : Format) (old new : CoreValue) (first : ℕ) (lines : List Line) (a b : Option (List ℕ)) (before page put : List ℕ) → before ≡ [] → Ran format old first lines new a b before page
@@ -81,7 +89,7 @@ pub ran_page : (format : Format) (old new : CoreValue) (first : ℕ) (lines : Li
 ran_page format old new first lines a b before page put none ran serial =
     subst AreWhole (sym serial) (append_whole page (serial_line format new) (page_whole a b before page ran.text ran.printed (inl none)) (serial_whole format new))
 
-module _ (v : Version) (old new : CoreValue) (lines : List Line) (p : Printing) (s : Show) (a b c : Option (List ℕ)) (before page put tail : List ℕ) (opening : IsOpened old.base old) (is : p.show ≡ s)
+module _ (v : Version) (old new : CoreValue) (lines : List Line) (p : Printing) (s : Show) (a b c : Option (List ℕ)) (before page put tail : List ℕ) (opening : IsOpened old.base old) (is : p.show ≡ s) (prints : PrintsRun s)
     (none : before ≡ []) (ran : Ran p.format old (first_number v old.base) lines new a b before page) (serial : put ≡ page ++ serial_line p.format new)
     (shown : (printed : List ℕ) → IsShown v s p.format printed new ((printed ++ serial_line p.format new) ++ tail)) where
   output : IsOutput (record { version = v; base = old.base; lines = lines }) p ran.answers ((ran.text ++ serial_line p.format new) ++ tail)
@@ -98,6 +106,7 @@ module _ (v : Version) (old new : CoreValue) (lines : List Line) (p : Printing) 
   pub shown_whole : (moved : List ℕ) → Adds b c put moved tail → Whole (record { version = v; base = old.base; lines = lines }) p a c moved
   shown_whole moved more = record {
     answers = ran.answers;
+    memory = subst (λ (q : Show). LosesNoEvent q ran.answers) (sym is) (told_of_lines s ran.answers prints);
     whole = (ran.text ++ serial_line p.format new) ++ tail;
     is = output;
     printed = adds_more a b c [] put moved (ran.text ++ serial_line p.format new) tail printed more;
@@ -128,6 +137,7 @@ module _ (v : Version) (old new : CoreValue) (lines : List Line) (p : Printing) 
   pub journal_whole : (moved : List ℕ) → Adds a b before moved journal → Whole (record { version = v; base = old.base; lines = lines }) p a b moved
   journal_whole moved more = record {
     answers = (taken p.format (first_number v old.base)).0;
+    memory = subst (λ (q : Show). LosesNoEvent q (taken p.format (first_number v old.base)).0) (sym is) (taken p.format (first_number v old.base)).3;
     whole = journal;
     is = journal_output;
     printed = subst (λ w. Adds a b w moved journal) none more;
@@ -154,7 +164,7 @@ part_of why p old new r v base lines same_version same_base same_lines h =
 
 pub replays : (p : Printing) (before after old new : Option (List ℕ)) (r : RecordingValue) → IsRead before after r → WritesOutput r p old new → Replays p before after old new
 replays p before after old new r read h =
-    record { bytes = read.bytes; read = read.read; recording = r; text = read.text; answers = h.answers; output = h.output; is = h.is; written = h.written }
+    record { bytes = read.bytes; read = read.read; recording = r; text = read.text; answers = h.answers; memory = h.memory; output = h.output; is = h.is; written = h.written }
 
 pub replays_part : (why : Stop) (p : Printing) (before after old new : Option (List ℕ)) (r : RecordingValue) → IsRead before after r → WritesPart why r p old new → ReplaysPart why p before after old new
 replays_part why p before after old new r read h =

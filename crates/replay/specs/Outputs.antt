@@ -1,5 +1,5 @@
 -- What a replay prints.
-use Rattle.std.specs.Prelude.{ℕ, ◌≡◌, ◌++◌, List, Option, map}
+use Rattle.std.specs.Prelude.{ℕ, ◌≡◌, ◌++◌, List, All, Option, map}
 use Rattle.std.specs.List.{flat_map}
 use Rattle.std.specs.FinMap.{entries}
 use Rattle.std.specs.Io.KnownBytes.{Appends}
@@ -18,6 +18,7 @@ use Rattle.output_format.specs.declared.Show.TheVariants as show
 use Rattle.replay.specs.Lines.{first_number, serial_line, item_line, area_lines, lsa_line, recorded_text}
 use Rattle.replay.specs.Runs.{Answers, Prints, IsOpened}
 use Rattle.replay.specs.Inputs.{ReadsAll}
+use Rattle.replay.specs.Pages.{HadMemory}
 use Rattle.replay.specs.Stops.{IsBeginning}
 use Rattle.replay.specs.declared.page.Stop.{Stop}
 use Rattle.replay.specs.declared.printing.Printing.{Printing}
@@ -60,6 +61,14 @@ pub record IsCutOutput (why : Stop) (r : RecordingValue) (p : Printing) (text : 
   pub output : IsOutput r p answers whole
   pub part : IsBeginning why text whole
 
+-- A journal that is shown lacks no event for want of memory: memory ran out over none of the lines. The other shows print at its line why an event was
+-- refused; the journal is shown alone, and nothing else would tell.
+abbrev pub LosesNoEvent : Show → Answers → Type 0
+LosesNoEvent show.Routes answers = Unit {0}
+LosesNoEvent show.Due answers = Unit {0}
+LosesNoEvent show.Lsdb answers = Unit {0}
+LosesNoEvent show.Journal answers = All HadMemory answers
+
 -- all the bytes that a reader had were a recording, and a writer's known bytes grew by its output
 pub record Replays (p : Printing) (before after : Option (List ℕ)) (old new : Option (List ℕ)) : Type 0 where
   pub bytes : List ℕ
@@ -67,6 +76,7 @@ pub record Replays (p : Printing) (before after : Option (List ℕ)) (old new : 
   pub recording : RecordingValue
   pub text : IsText bytes recording
   pub answers : Answers
+  pub memory : LosesNoEvent p.show answers
   pub output : List ℕ
   pub is : IsOutput recording p answers output
   pub written : Appends old new output

@@ -15,7 +15,7 @@ use Rattle.replay.specs.Lines.{first_number}
 use Rattle.replay.specs.Runs.{Answers, IsOpened}
 use Rattle.replay.specs.Inputs.{ReadsAll}
 use Rattle.replay.specs.Stops.{IsBeginning}
-use Rattle.replay.specs.Outputs.{IsRun, IsOutput, IsCutOutput}
+use Rattle.replay.specs.Outputs.{IsRun, IsOutput, IsCutOutput, LosesNoEvent}
 
 -- all the bytes that a reader had were the recording's text; its lines are few enough to be numbered
 pub record IsRead (before after : Option (List ℕ)) (r : RecordingValue) : Type 0 where
@@ -40,6 +40,7 @@ IsReadFault before after (fault.Line f) = (bytes : List ℕ) × ReadsAll before 
 -- a writer's known bytes grew by an output of the recording
 pub record WritesOutput (r : RecordingValue) (p : Printing) (old new : Option (List ℕ)) : Type 0 where
   pub answers : Answers
+  pub memory : LosesNoEvent p.show answers
   pub output : List ℕ
   pub is : IsOutput r p answers output
   pub written : Appends old new output

@@ -24,6 +24,8 @@ use std::io;
 /// write is told as `Closed` where the writer's error is of the kind `BrokenPipe`, and else as `Write`. If
 /// `printing.progress` is set, `faults` is shown how many lines are done; what cannot be written there is left
 /// out. The line that is written over is left for the caller to end.
+///
+/// A journal is shown whole or not at all: if memory runs out over an event or a roll, the replay ends with `Memory`.
 pub fn replay_one<R: io::Read, W: io::Write, F: io::Write>(
     alloc: Global,
     hashing: RandomState,

@@ -32,17 +32,17 @@ returns-in_err-put_serial-clause-err g c =
 pub returns-in_err-show_lsas-clause-err : goal.returns-in_err-show_lsas-clause-err
 returns-in_err-show_lsas-clause-err g c =
     err_as _ c.from_residual-in_err-show_lsas.result c.in_err-show_lsas.field-0.0 c.from_residual-in_err-show_lsas.ensures.1
-    (shown_cut _ _ _ _ _ show.Lsdb _ _ _ _ _ _ _ c.requires.opened c.requires.show c.in_ok-page.ensures c.in_ok-core.ensures.ok c.in_ok-put_serial.ensures (λ printed. (c.in_ok-lsas.lsas.items, c.in_ok-lsas.ensures, refl))
+    (shown_cut _ _ _ _ _ show.Lsdb _ _ _ _ _ _ _ c.requires.opened c.requires.show tt c.in_ok-page.ensures c.in_ok-core.ensures.ok c.in_ok-put_serial.ensures (λ printed. (c.in_ok-lsas.lsas.items, c.in_ok-lsas.ensures, refl))
     c.in_err-show_lsas.field-0.0 c.in_err-show_lsas.ensures.err)
 
 pub returns-in_err-write_page-clause-err : goal.returns-in_err-write_page-clause-err
 returns-in_err-write_page-clause-err g c =
     err_as _ c.from_residual-in_err-write_page.result (stop_of c.in_err-write_page.field-0.0) c.from_residual-in_err-write_page.ensures.1 (whole_cut (stop_of c.in_err-write_page.field-0.0) _ _ _ _ _ _
-    (shown_whole _ _ _ _ _ show.Lsdb _ _ _ _ _ _ _ c.requires.opened c.requires.show c.in_ok-page.ensures c.in_ok-core.ensures.ok c.in_ok-put_serial.ensures (λ printed. (c.in_ok-lsas.lsas.items, c.in_ok-lsas.ensures, refl)) _
+    (shown_whole _ _ _ _ _ show.Lsdb _ _ _ _ _ _ _ c.requires.opened c.requires.show tt c.in_ok-page.ensures c.in_ok-core.ensures.ok c.in_ok-put_serial.ensures (λ printed. (c.in_ok-lsas.lsas.items, c.in_ok-lsas.ensures, refl)) _
     c.in_ok-show_lsas.ensures.ok) c.in_err-write_page.ensures.err)
 
 pub returns-clause-ok : goal.returns-clause-ok
 returns-clause-ok g c =
     whole_written _ _ _ _ _ _ _
-    (shown_whole _ _ _ _ _ show.Lsdb _ _ _ _ _ _ _ c.requires.opened c.requires.show c.in_ok-page.ensures c.in_ok-core.ensures.ok c.in_ok-put_serial.ensures (λ printed. (c.in_ok-lsas.lsas.items, c.in_ok-lsas.ensures, refl)) _
+    (shown_whole _ _ _ _ _ show.Lsdb _ _ _ _ _ _ _ c.requires.opened c.requires.show tt c.in_ok-page.ensures c.in_ok-core.ensures.ok c.in_ok-put_serial.ensures (λ printed. (c.in_ok-lsas.lsas.items, c.in_ok-lsas.ensures, refl)) _
     c.in_ok-show_lsas.ensures.ok) c.in_ok-write_page.ensures.ok c.in_ok-write_page.ensures.empty

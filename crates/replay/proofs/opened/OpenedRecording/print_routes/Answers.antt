@@ -31,17 +31,17 @@ returns-in_err-put_serial-clause-err g c =
 pub returns-in_err-show_items-clause-err : goal.returns-in_err-show_items-clause-err
 returns-in_err-show_items-clause-err g c =
     err_as _ c.from_residual-in_err-show_items.result c.in_err-show_items.field-0.0 c.from_residual-in_err-show_items.ensures.1
-    (shown_cut _ _ _ _ _ show.Routes _ _ _ _ _ _ _ c.requires.opened c.requires.show c.in_ok-page.ensures c.in_ok-core.ensures.ok c.in_ok-put_serial.ensures
+    (shown_cut _ _ _ _ _ show.Routes _ _ _ _ _ _ _ c.requires.opened c.requires.show tt c.in_ok-page.ensures c.in_ok-core.ensures.ok c.in_ok-put_serial.ensures
     (λ printed. ap (λ (t : TableValue). (printed ++ serial_line c.args.printing.format c.in_ok-core.core) ++ flat_map (item_line c.args.printing.format) (entries t.items)) c.table.ensures.value) c.in_err-show_items.field-0.0 c.in_err-show_items.ensures.err)
 
 pub returns-in_err-write_page-clause-err : goal.returns-in_err-write_page-clause-err
 returns-in_err-write_page-clause-err g c =
     err_as _ c.from_residual-in_err-write_page.result (stop_of c.in_err-write_page.field-0.0) c.from_residual-in_err-write_page.ensures.1 (whole_cut (stop_of c.in_err-write_page.field-0.0) _ _ _ _ _ _
-    (shown_whole _ _ _ _ _ show.Routes _ _ _ _ _ _ _ c.requires.opened c.requires.show c.in_ok-page.ensures c.in_ok-core.ensures.ok c.in_ok-put_serial.ensures
+    (shown_whole _ _ _ _ _ show.Routes _ _ _ _ _ _ _ c.requires.opened c.requires.show tt c.in_ok-page.ensures c.in_ok-core.ensures.ok c.in_ok-put_serial.ensures
     (λ printed. ap (λ (t : TableValue). (printed ++ serial_line c.args.printing.format c.in_ok-core.core) ++ flat_map (item_line c.args.printing.format) (entries t.items)) c.table.ensures.value) _ c.in_ok-show_items.ensures.ok) c.in_err-write_page.ensures.err)
 
 pub returns-clause-ok : goal.returns-clause-ok
 returns-clause-ok g c =
     whole_written _ _ _ _ _ _ _
-    (shown_whole _ _ _ _ _ show.Routes _ _ _ _ _ _ _ c.requires.opened c.requires.show c.in_ok-page.ensures c.in_ok-core.ensures.ok c.in_ok-put_serial.ensures
+    (shown_whole _ _ _ _ _ show.Routes _ _ _ _ _ _ _ c.requires.opened c.requires.show tt c.in_ok-page.ensures c.in_ok-core.ensures.ok c.in_ok-put_serial.ensures
     (λ printed. ap (λ (t : TableValue). (printed ++ serial_line c.args.printing.format c.in_ok-core.core) ++ flat_map (item_line c.args.printing.format) (entries t.items)) c.table.ensures.value) _ c.in_ok-show_items.ensures.ok) c.in_ok-write_page.ensures.ok c.in_ok-write_page.ensures.empty
