@@ -28,7 +28,7 @@ use Rattle.recording.specs.declared.line.Line.TheVariants as line
 use Rattle.replay.specs.Runs.{RollsBy}
 use Rattle.changes.specs.Lines.{AtFault, Change, Found, Refused}
 use Rattle.changes.specs.Changes.{Give}
-use Rattle.changes.specs.Runs.{Fails, IsFoundIn, IsToldOf, MayRoll, Says, Taken, TellsLine, TellsTaken, answered, told_of_roll}
+use Rattle.changes.specs.Runs.{Comes, Fails, IsFoundIn, IsToldOf, KeepsShort, Says, Taken, TellsLine, TellsTaken, answered, told_of_roll}
 use Rattle.changes.proofs.DueChanges.{AreDistinct, AreSound, IsSound, Lists, ids_of}
 use Rattle.changes.proofs.Giving.{give_answered, give_more, give_still, give_unchanged}
 
@@ -124,12 +124,14 @@ give_line answers before told old new (line.Lookup address) core given (found, s
     subst (λ (c : CoreValue). Give (before ++ told) c) (sym same) (found_gives answers before told old address given found)
 give_line answers before told old new line.Roll core given (answer, rolls, is) = rolled_gives answers before told new answer (roll_gives before old new answer given rolls) is
 
-may_give : (before : List Change) (old new : CoreValue) → Give before old → MayRoll old new → Give before new
-may_give before old new given (inl same) = subst (Give before) (sym same) given
-may_give before old new given (inr (answer, rolls)) = roll_gives before old new answer given rolls
+short_gives : (before : List Change) (old new : CoreValue) → Give before old → KeepsShort old new → Give before new
+short_gives before old new given (inl (short, same)) = subst (Give before) (sym same) given
+short_gives before old new given (inr (inl (long, roll))) = roll_gives before old new (Ok roll.0) given roll.1
+short_gives before old new given (inr (inr (long, room, same))) = subst (Give before) (sym same) given
 
 pub give_taken : (answers : Bool) (before told : List Change) (old new : CoreValue) (t : Taken) → Give before old → TellsTaken answers old t new told → Give (before ++ told) new
-give_taken answers before told old new (Says l) given (ready, core, may, tells) = give_line answers before told ready new l core (may_give before old ready given may) tells
+give_taken answers before told old new (Says l) given (core, tells) = give_line answers before told old new l core given tells
+give_taken answers before told old new (Comes l) given (ready, core, short, tells) = give_line answers before told ready new l core (short_gives before old ready given short) tells
 give_taken answers before told old new (Fails f) given (is, same) =
     subst (λ (changes : List Change). Give (before ++ changes) new) (sym is) (give_unchanged before (AtFault f) new (subst (Give before) (sym same) given) (λ items. refl) (λ id m. refl))
 
@@ -146,10 +148,12 @@ current_line answers told old new (line.Event e) current (answer, applies, is) =
 current_line answers told old new (line.Lookup address) current (found, same) = subst IsCurrent (sym same) current
 current_line answers told old new line.Roll current (answer, rolls, is) = roll_current old new answer current rolls
 
-pub may_current : (old new : CoreValue) → IsCurrent old → MayRoll old new → IsCurrent new
-may_current old new current (inl same) = subst IsCurrent (sym same) current
-may_current old new current (inr (answer, rolls)) = roll_current old new answer current rolls
+pub short_current : (old new : CoreValue) → IsCurrent old → KeepsShort old new → IsCurrent new
+short_current old new current (inl (short, same)) = subst IsCurrent (sym same) current
+short_current old new current (inr (inl (long, roll))) = roll_current old new (Ok roll.0) current roll.1
+short_current old new current (inr (inr (long, room, same))) = subst IsCurrent (sym same) current
 
 pub current_taken : (answers : Bool) (told : List Change) (old new : CoreValue) (t : Taken) → IsCurrent old → TellsTaken answers old t new told → IsCurrent new
-current_taken answers told old new (Says l) current (ready, core, may, tells) = current_line answers told ready new l (may_current old ready current may) tells
+current_taken answers told old new (Says l) current (core, tells) = current_line answers told old new l current tells
+current_taken answers told old new (Comes l) current (ready, core, short, tells) = current_line answers told ready new l (short_current old ready current short) tells
 current_taken answers told old new (Fails f) current (is, same) = subst IsCurrent (sym same) current

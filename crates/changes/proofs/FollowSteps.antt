@@ -21,7 +21,7 @@ use Rattle.replay.proofs.Paging.{adds_more, adds_moved, adds_none, page_whole, p
 use Rattle.changes.specs.Changes.{Give}
 use Rattle.changes.specs.Following.{Ends, IsAtFault, IsFirst, IsFollowed, IsLeft, IsTaken, StopsIn, StopsTaking, Takes, Tells}
 use Rattle.changes.specs.Lines.{AtFault, Change, lines_of}
-use Rattle.changes.specs.Runs.{Fails, Says, StopsAtTaken, Taken, TellsLines, TellsTaken, ToldPart, ToldTaken}
+use Rattle.changes.specs.Runs.{Comes, Fails, Says, StopsAtTaken, Taken, TellsLines, TellsTaken, ToldPart, ToldTaken}
 use Rattle.changes.specs.Streams.{AllSay, AreTaken, ComesFrom, IsReadAs}
 use Rattle.changes.specs.declared.following.End.{End}
 use Rattle.changes.specs.declared.following.End.TheVariants as end
@@ -49,6 +49,7 @@ taken_all v bytes others (x ∷ taken) more (first, rest, has, says, is, left) l
 say_more : (taken more : List Taken) → AllSay taken → AllSay more → AllSay (taken ++ more)
 say_more [] more all behind = behind
 say_more (Says l ∷ taken) more all behind = say_more taken more all behind
+say_more (Comes l ∷ taken) more all behind = say_more taken more all behind
 say_more (Fails f ∷ taken) more all behind = absurd all
 
 -- ---- one line

@@ -1,5 +1,5 @@
 -- The front of a recording, and what comes behind it, from beginning to end.
-use Rattle.std.proofs.Common.{◌≡◌, ◌⊎◌, ℕ, length, OnOk, Result, Err, List, [], ◌∷◌, ◌++◌, Option, refl, sym, ap, subst, ◌∙◌, append-nil, inl, inr}
+use Rattle.std.proofs.Common.{◌≡◌, ◌+◌, ◌⊎◌, ℕ, length, OnOk, Result, Err, List, [], ◌∷◌, ◌++◌, Option, refl, sym, ap, subst, ◌∙◌, append-nil, inl, inr}
 use Rattle.std.proofs.KnownBytes.{Consumes-trans}
 use Rattle.std.proofs.lemmas.Bool.Decides.{leb_tells}
 use Rattle.std.specs.Prelude.{IfErr, IsErrAnd}
@@ -20,7 +20,7 @@ use Rattle.replay.proofs.Written.{err_as}
 use Rattle.changes.specs.Begun.{Closes, IsBegun}
 use Rattle.changes.specs.Changes.{Give}
 use Rattle.changes.specs.Following.{EndsBehind, StopsBehind}
-use Rattle.changes.specs.Openings.{HasFault, IsFrontFault, IsWhole, Opens}
+use Rattle.changes.specs.Openings.{HasFault, IsFormless, IsFrontFault, IsWhole, Opens, last_line, line_feeds}
 use Rattle.changes.specs.Outputs.{FailsAtFront, FailsBehind, TellsAll, TellsPart, TellsThese}
 use Rattle.changes.specs.Streams.{ComesFrom}
 use Rattle.changes.specs.declared.following.End.{End}
@@ -30,6 +30,7 @@ use Rattle.changes.specs.declared.opening.FrontEnd.TheVariants as front_end
 use Rattle.changes.specs.declared.opening.Opening.{Opening}
 use Rattle.changes.specs.declared.telling.Telling.{Telling}
 use Rattle.changes.proofs.Comes.{comes_held, comes_less, held_none}
+use Rattle.changes.proofs.Feeds.{long_last}
 use Rattle.changes.proofs.OpeningSteps.{no_mark}
 use Rattle.changes.proofs.Reached.{ended_closed, ended_line, ended_memory, ended_ok, ended_read, ended_write, given_begun, lines_part}
 
@@ -84,9 +85,15 @@ module _ (held kept front : List ℕ) (before left : Option (List ℕ)) (none : 
     is = inr (record { before = x.before; raw = x.raw; after = x.after; joined = refl; line = x.line; long = x.long; is = cut_fault has });
   }
     where
-      cut_fault : IsFaultOf front f ⊎ (f.fault ≡ fault.Line) → IsFaultOf (x.before ++ (shortened x.raw ++ x.after)) f ⊎ (f.fault ≡ fault.Line)
+      cut : List ℕ
+      cut = x.before ++ (shortened x.raw ++ x.after)
+
+      number : last_line front ≡ line_feeds x.before + 1
+      number = ap last_line x.joined ∙ long_last x.before x.raw x.after x.line x.long x.feed
+
+      cut_fault : IsFaultOf front f ⊎ IsFormless front (last_line front) f → IsFaultOf cut f ⊎ IsFormless cut (line_feeds x.before + 1) f
       cut_fault (inl own) = inl (subst (λ l. IsFaultOf l f) x.joined own)
-      cut_fault (inr no_form) = inr no_form
+      cut_fault (inr (r, text, is)) = inr (r, subst (λ l. IsText l r) x.joined text, is ∙ ap (λ n. record { line = n; fault = fault.Line }) number)
   front_fails line (front_end.AtFault g) f opens is = plain front f (came opens.0) (subst (IsFaultOf front) (sym is) opens.1)
 
 abbrev line_in : LineFault → ReplayFault → LineFault

@@ -11,5 +11,6 @@ pub mod Comes
 pub mod FollowSteps
 pub mod Behind
 pub mod Reached
+pub mod Feeds
 pub mod Fronts
 pub mod OpeningSteps

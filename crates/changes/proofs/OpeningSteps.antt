@@ -127,6 +127,7 @@ module _ (front held kept next : List ℕ) (known left further : Option (List �
       before = front;
       raw = w.raw;
       after = 10 ∷ [];
+      feed = inl refl;
       joined = is ∙ ap (λ l. front ++ (l ++ 10 ∷ [])) w.handed_on;
       line = w.one;
       long = long_raw w.raw line front_end.Line w.handed_on (sym ends) (λ e. differ e);
@@ -157,6 +158,7 @@ module _ (front held kept next : List ℕ) (known left further : Option (List �
       before = front;
       raw = w.raw;
       after = [];
+      feed = inr refl;
       joined = is ∙ ap (λ l. front ++ (l ++ [])) w.handed_on;
       line = w.one;
       long = long_raw w.raw line front_end.Cut w.handed_on (sym ends) (λ e. differ e);

@@ -31,7 +31,7 @@ use Rattle.changes.specs.Following.{Ends, IsAtFault, IsFollowed, StopsIn}
 use Rattle.changes.specs.Lines.{Change}
 use Rattle.changes.specs.Changes.{Give, all_of}
 use Rattle.changes.specs.Outputs.{AreBytes, FailsBehind, IsTelling, TellsAll, TellsPart, TellsThese, base_lines}
-use Rattle.changes.specs.Runs.{Fails, Says, Taken, TellsLines}
+use Rattle.changes.specs.Runs.{Comes, Fails, Says, Taken, TellsLines}
 use Rattle.line_reader.proofs.Short.{shortened_short}
 use Rattle.recording.specs.Progress.{IsLineOf}
 use Rattle.recording.proofs.Growing.{text_grows}
@@ -51,7 +51,8 @@ with_none r bytes text =
 -- the text of a recording, and behind it lines that say something, are the text of one
 text_and_lines : (r : RecordingValue) (front behind : List ℕ) (taken : List Taken) → IsText front r → AreTaken r.version behind taken → AllSay taken → IsText (front ++ behind) (record r { lines = r.lines ++ lines_in taken })
 text_and_lines r front behind [] text none all = subst (λ (l : List ℕ). IsText (front ++ l) (record r { lines = r.lines ++ [] })) (sym none) (with_none r front text)
-text_and_lines r front behind (Says l ∷ taken) text (raw, rest, one, (short, says), is, more) all =
+text_and_lines r front behind (Says l ∷ taken) text (raw, rest, one, none, is, more) all = absurd none
+text_and_lines r front behind (Comes l ∷ taken) text (raw, rest, one, (short, says), is, more) all =
     let same : shortened raw ≡ raw = shortened_short raw short in
     let longer : IsText (front ++ (raw ++ 10 ∷ [])) (record r { lines = r.lines ++ l ∷ [] }) = text_grows text (subst (λ (x : List ℕ). IsLineOf r.version x l) same says) in
     let all_lines = text_and_lines (record r { lines = r.lines ++ l ∷ [] }) (front ++ (raw ++ 10 ∷ [])) rest taken longer more all in

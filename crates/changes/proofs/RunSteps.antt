@@ -25,7 +25,7 @@ use Rattle.changes.proofs.Texts.{change_whole, found_line}
 use Rattle.replay.specs.Runs.{RollsBy}
 use Rattle.changes.specs.Lines.{Change, Found, Refused, change_line, lines_of}
 use Rattle.changes.specs.Changes.{Give, all_of, area_changes, network_change}
-use Rattle.changes.specs.Runs.{IsFoundIn, IsToldOf, MayPass, MayRoll, Says, StopsAtLine, StopsAtTaken, Taken, TellsLine, TellsLines, TellsTaken, Told, ToldLine, ToldPart, ToldTaken, answered, told_of_roll}
+use Rattle.changes.specs.Runs.{IsFoundIn, IsToldOf, MayPass, Comes, KeepsShort, Says, StopsAtLine, StopsAtTaken, Taken, TellsLine, TellsLines, TellsTaken, Told, ToldLine, ToldPart, ToldTaken, answered, told_of_roll}
 use Rattle.changes.proofs.Cores.{current_taken, distinct_lists, give_taken, sound_lists}
 use Rattle.changes.proofs.Giving.{give_all}
 use Rattle.changes.proofs.Shown.{line_cut, line_shown}
@@ -71,9 +71,9 @@ pub record Telling (wanted : Wanted) (answers : Bool) (old : CoreValue) (first :
   pub core : IsCore now
   pub current : IsCurrent now
 
--- the line is run by a core whose journal is not rolled for it
+-- a line of a recording is run by the core as it is
 taken_line : (answers : Bool) (old new : CoreValue) (l : Line) (told : List Change) → IsCore old → TellsLine answers old l new told → TellsTaken answers old (Says l) new told
-taken_line answers old new l told core tells = (old, core, inl refl, tells)
+taken_line answers old new l told core tells = (core, tells)
 
 module _ (wanted : Wanted) (answers : Bool) (old : CoreValue) (first : ℕ) (lines : List Line) (from : Option (List ℕ)) (page : List ℕ) where
   pub telling_none : (number : ℕ) (rest : List Line) → IsCore old → IsCurrent old → number ≡ first → lines ≡ rest → Telling wanted answers old first lines rest number old from from page page
@@ -298,14 +298,14 @@ asked_stop why now wanted answer answers old number l new from to page is asks h
 
 -- the journal may be rolled before the line
 
-pub taken_told : (wanted : Wanted) (answers : Bool) (old ready new : CoreValue) (number : ℕ) (l : Line) (from to : Option (List ℕ)) (page put : List ℕ) → IsCore ready → MayRoll old ready → ToldLine wanted answers ready number l new from to page put
-    → ToldTaken wanted answers old number (Says l) new from to page put
-taken_told wanted answers old ready new number l from to page put core may h = record { told = h.told; tells = (ready, core, may, h.tells); printed = h.printed }
+pub taken_told : (wanted : Wanted) (answers : Bool) (old ready new : CoreValue) (number : ℕ) (l : Line) (from to : Option (List ℕ)) (page put : List ℕ) → IsCore ready → KeepsShort old ready → ToldLine wanted answers ready number l new from to page put
+    → ToldTaken wanted answers old number (Comes l) new from to page put
+taken_told wanted answers old ready new number l from to page put core short h = record { told = h.told; tells = (ready, core, short, h.tells); printed = h.printed }
 
-pub taken_stops : (why : Stop) (wanted : Wanted) (answers : Bool) (old ready new : CoreValue) (number : ℕ) (l : Line) (from to : Option (List ℕ)) (page : List ℕ) → IsCore ready → MayRoll old ready → StopsAtLine why wanted answers ready number l new from to page
-    → StopsAtTaken why wanted answers old number (Says l) new from to page
-taken_stops why wanted answers old ready new number l from to page core may (inl (told, tells, part)) = inl (told, (ready, core, may, tells), part)
-taken_stops why wanted answers old ready new number l from to page core may (inr before) = inr before
+pub taken_stops : (why : Stop) (wanted : Wanted) (answers : Bool) (old ready new : CoreValue) (number : ℕ) (l : Line) (from to : Option (List ℕ)) (page : List ℕ) → IsCore ready → KeepsShort old ready → StopsAtLine why wanted answers ready number l new from to page
+    → StopsAtTaken why wanted answers old number (Comes l) new from to page
+taken_stops why wanted answers old ready new number l from to page core short (inl (told, tells, part)) = inl (told, (ready, core, short, tells), part)
+taken_stops why wanted answers old ready new number l from to page core short (inr before) = inr before
 
 -- it was refused, and this was put on the page
 pub refusal_told : (wanted : Wanted) (answers : Bool) (number : ℕ) (from to : Option (List ℕ)) (page put moved : List ℕ) (refusal : Refusal) → answers ≡ true → put ≡ page ++ change_line wanted.format number (Refused refusal) → Adds from to put moved []

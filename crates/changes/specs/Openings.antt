@@ -1,5 +1,6 @@
 -- The front of a recording, as it comes.
-use Rattle.std.specs.Prelude.{ℕ, ◌≡◌, ◌≤◌, ◌⊎◌, ◌++◌, List, [], ◌∷◌, nat_lt, length, Option, if◌then◌else◌}
+use Rattle.std.specs.Prelude.{ℕ, ◌≡◌, ◌≤◌, ◌+◌, ◌-◌, ◌==◌, ◌⊎◌, ◌++◌, List, [], ◌∷◌, nat_lt, length, take, Option, if◌then◌else◌}
+use Rattle.std.specs.List.{count_by}
 use Rattle.line_reader.specs.Shortened.{shortened}
 use Rattle.line_reader.specs.Tails.{HasNoLineFeed}
 use Rattle.line_reader.specs.Taking.{HasEnded, Takes, TakesLast, TakesWhole}
@@ -7,6 +8,7 @@ use Rattle.line_reader.specs.declared.line.TheConstants.{LONGEST}
 use Rattle.recording.specs.Faults.{IsFaultOf}
 use Rattle.recording.specs.Places.{is_front_word}
 use Rattle.recording.specs.Reading.{cut, first_word}
+use Rattle.recording.specs.Recordings.{RecordingValue, IsText}
 use Rattle.recording.specs.declared.fault.Fault.TheVariants as fault
 use Rattle.recording.specs.declared.fault.LineFault.{LineFault}
 use Rattle.replay.specs.declared.fault.ReplayFault.{ReplayFault}
@@ -37,11 +39,20 @@ pub record IsAdded (end : FrontEnd) (feed : List ℕ) (old new : Opening) : Type
 abbrev pub IsLooked : (front : List ℕ) → (old new : FrontEnd) → Type 0
 IsLooked front old new = (new ≡ old) ⊎ ((f : LineFault) × (new ≡ front_end.AtFault f) × IsFaultOf front f)
 
+-- how many line feeds the bytes have
+abbrev pub line_feeds : List ℕ → ℕ
+line_feeds bytes = count_by (λ byte. byte == 10) bytes
+
+-- the number of the last line of a text, counted from 1, which may have its line feed or not
+abbrev pub last_line : List ℕ → ℕ
+last_line text = line_feeds (take (length text - 1) text) + 1
+
 -- The lines of the front came, and the last of them is too long to be read whole. It stands there cut short.
 pub record IsLongFront (front held : List ℕ) (known : Option (List ℕ)) (kept : List ℕ) (left : Option (List ℕ)) : Type 0 where
   pub before : List ℕ
   pub raw : List ℕ
   pub after : List ℕ
+  pub feed : (after ≡ 10 ∷ []) ⊎ (after ≡ [])
   pub joined : front ≡ before ++ (shortened raw ++ after)
   pub line : HasNoLineFeed raw
   pub long : LONGEST ≤ length raw
@@ -71,12 +82,16 @@ IsFaultUpTo more front f = IsFaultOf front f ⊎ IsFaultOf (front ++ more) f
 abbrev pub IsFaultWith : (more front : List ℕ) → ReplayFault → Type 0
 IsFaultWith more front e = (e ≡ replay_fault.Memory) ⊎ ((f : LineFault) × (e ≡ replay_fault.Line f) × IsFaultUpTo more front f)
 
--- why there is no recording
+-- the text is that of a recording, and the fault is that its last line has no form
+abbrev pub IsFormless : (text : List ℕ) → (number : ℕ) → LineFault → Type 0
+IsFormless text number f = (r : RecordingValue) × IsText text r × (f ≡ record { line = number; fault = fault.Line })
+
+-- Why there is no recording. Where a line that is too long was cut short, and nothing is wrong with the front then, the fault is that this line has no form.
 abbrev pub HasFault : FrontEnd → (front line : List ℕ) → LineFault → Type 0
 HasFault front_end.Over front line f = IsFaultOf front f
 HasFault front_end.Line front line f = IsFaultUpTo (line ++ 10 ∷ []) front f
 HasFault front_end.Cut front line f = IsFaultUpTo (line ++ []) front f
-HasFault front_end.LongLine front line f = IsFaultOf front f ⊎ (f.fault ≡ fault.Line)
+HasFault front_end.LongLine front line f = IsFaultOf front f ⊎ IsFormless front (last_line front) f
 HasFault (front_end.AtFault g) front line f = f ≡ g
 
 abbrev pub IsFrontFault : Opening → ReplayFault → Type 0

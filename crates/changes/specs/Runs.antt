@@ -1,8 +1,9 @@
 -- A run of a recording's lines, and what is told of it.
-use Rattle.std.specs.Prelude.{ℕ, ◌≡◌, ◌≢◌, ◌+◌, ◌⊎◌, ◌++◌, Bool, true, false, List, [], ◌∷◌, Option, Result, Ok, Err}
+use Rattle.std.specs.Prelude.{ℕ, ◌≡◌, ◌≢◌, ◌≤◌, ◌<◌, ◌+◌, ◌⊎◌, ◌++◌, Bool, true, false, List, [], ◌∷◌, length, Option, Result, Ok, Err}
 use Rattle.changes.specs.declared.telling.Wanted.{Wanted}
 use Rattle.event_state.specs.declared.refusal.Refusal.{Refusal}
 use Rattle.event_state.specs.declared.refusal.Refusal.TheVariants as refusal
+use Rattle.event_state.specs.Steps.{standard_limits}
 use Rattle.event_core.specs.declared.reply.Reply.{Reply}
 use Rattle.event_core.specs.Cores.{CoreValue, Applies, IsCore, IsCurrent}
 use Rattle.recording.specs.declared.fault.Fault.{Fault}
@@ -10,7 +11,7 @@ use Rattle.recording.specs.declared.line.Line.{Line}
 use Rattle.recording.specs.declared.line.Line.TheVariants as line
 use Rattle.route_table.specs.declared.table.Match.{Match}
 use Rattle.route_table.specs.Tables.{IsMatch}
-use Rattle.replay.specs.Pages.{Adds, AddsPart}
+use Rattle.replay.specs.Pages.{Adds, AddsPart, TakesRoll}
 use Rattle.replay.specs.Runs.{RollsBy}
 use Rattle.replay.specs.declared.page.Stop.{Stop}
 use Rattle.replay.specs.declared.page.Stop.TheVariants as stop
@@ -51,18 +52,28 @@ TellsLine answers old line.Roll new told = (answer : Result ℕ Refusal) × Roll
 
 -- ---- lines, one after the other
 
--- a line as it was taken: what it says, or why it is at fault
+-- a line as it was taken: what a line of a recording says, or one that comes behind it, or why the latter is at fault
 pub data Taken : Type 0 where
   Says : (line : Line) → Taken
+  Comes : (line : Line) → Taken
   Fails : (fault : Fault) → Taken
 
--- a roll where the journal has become long; nothing that is told changes
-abbrev pub MayRoll : CoreValue → CoreValue → Type 0
-MayRoll old new = (new ≡ old) ⊎ ((answer : Result ℕ Refusal) × RollsBy old answer new)
+-- so many events are a long journal
+abbrev pub long_journal : ℕ
+long_journal = 65536
 
--- A line at fault is told of, and changes nothing.
+-- Before a line that comes, a long journal is rolled, and no other. Where memory runs out for the roll, a journal that is long stays so, but a full one does
+-- not: there is room for an event. Nothing that is told changes.
+abbrev pub KeepsShort : CoreValue → CoreValue → Type 0
+KeepsShort old new =
+    ((length old.journal < long_journal) × (new ≡ old))
+    ⊎ (((long_journal ≤ length old.journal) × TakesRoll old new)
+    ⊎ ((long_journal ≤ length old.journal) × (length old.journal < standard_limits.events) × (new ≡ old)))
+
+-- A line of a recording is run by the core as it is. A line at fault is told of, and changes nothing.
 abbrev pub TellsTaken : Bool → CoreValue → Taken → CoreValue → List Change → Type 0
-TellsTaken answers old (Says l) new told = (ready : CoreValue) × IsCore ready × MayRoll old ready × TellsLine answers ready l new told
+TellsTaken answers old (Says l) new told = IsCore old × TellsLine answers old l new told
+TellsTaken answers old (Comes l) new told = (ready : CoreValue) × IsCore ready × KeepsShort old ready × TellsLine answers ready l new told
 TellsTaken answers old (Fails f) new told = (told ≡ AtFault f ∷ []) × (new ≡ old)
 
 -- From one core to the other, over lines that are numbered from here on: what came of each of them is printed. Behind each, all the changes that were told

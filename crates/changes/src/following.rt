@@ -6,7 +6,7 @@ ghost use Rattle.replay.specs.Stops.{AreWhole, stop_of};
 ghost use Rattle.changes.specs.Changes.{Give};
 ghost use Rattle.changes.specs.Lines as told;
 ghost use Rattle.changes.specs.Lines.{Change, lines_of};
-ghost use Rattle.changes.specs.Runs.{Fails, MayRoll, Says, StopsAtTaken, ToldTaken};
+ghost use Rattle.changes.specs.Runs.{Comes, Fails, KeepsShort, StopsAtTaken, ToldTaken};
 ghost use Rattle.changes.specs.Streams.{IsReadAs};
 ghost use Rattle.changes.specs.Begun.{Closes};
 ghost use Rattle.changes.specs.Following.{Ends, EndsBehind, StopsBehind, StopsIn, StopsTaking, Takes, Tells};
@@ -15,15 +15,16 @@ ghost use Rattle.replay.specs.Advance.{IsProgress};
 use crate::lines::{Place, put_fault};
 use crate::opening::FrontEnd;
 use crate::running::tell_line;
-use event_core::Core;
+use event_core::{Core, Limits};
 use line_reader::{LONGEST, LineReader, Next, ReadFault};
+use ospf_types::memory::Memory;
 use recording::{Fault, Line, LineFault, Version, read_line};
 use replay::{CannotWrite, Progress, ReplayFault, Stop, fault_of, spill, write_page};
 use std::alloc::Global;
 use std::io;
 
-// How many events a journal has where it is rolled.
-const LONG_JOURNAL: usize = 65_536;
+// So many events are a long journal.
+const LONG_JOURNAL: u64 = 65_536;
 
 /// A recording whose front was read. Its lines are taken as they come.
 #[derive(Drop)]
@@ -213,7 +214,7 @@ fn take_line(
     line: &[u8],
     room: &mut Vec<u8>,
 ) -> Result<Line, Fault>
-    ensures says { IfOk result (λ l. IsReadAs version line.now (Says l)) }
+    ensures says { IfOk result (λ l. IsReadAs version line.now (Comes l)) }
     ensures fails { IfErr result (λ f. IsReadAs version line.now (Fails f)) }
 {
     let read = read_line(alloc, version, line, room);
@@ -226,7 +227,7 @@ fn take_line(
     }
 }
 
-// Rolls the journal where it has become long, and then runs the line and prints what is told of it.
+// Rolls a long journal, and then runs the line and prints what is told of it.
 fn tell_next<W: io::Write>(
     core: &mut Core,
     at: &Place,
@@ -235,30 +236,37 @@ fn tell_next<W: io::Write>(
     page: &mut String,
 ) -> Result<(), Stop>
     requires current { IsCurrent core.old }
-    ensures ok { OnOk result (ToldTaken at.now.wanted at.now.answers core.old at.now.number (Says line)
+    ensures ok { OnOk result (ToldTaken at.now.wanted at.now.answers core.old at.now.number (Comes line)
         core.new (W.contents out.old) (W.contents out.new) (string_bytes page.old)
         (string_bytes page.new)) }
     ensures kept { OnOk result (IsCore core.new) }
     ensures err { AreWhole (string_bytes page.old) → IfErr result (λ why.
-        StopsAtTaken why at.now.wanted at.now.answers core.old at.now.number (Says line) core.new
+        StopsAtTaken why at.now.wanted at.now.answers core.old at.now.number (Comes line) core.new
         (W.contents out.old) (W.contents out.new) (string_bytes page.old)) }
 {
-    shorten_journal(core);
+    shorten_journal(core)?;
     tell_line(core, at, line, out, page)
 }
 
-// Rolls the journal where it has become long.
-fn shorten_journal(core: &mut Core)
+// Rolls a long journal. If memory runs out for that, a journal that has room for an event stays long.
+fn shorten_journal(core: &mut Core) -> Result<(), Memory>
     requires current { IsCurrent core.old }
-    ensures rolled { MayRoll core.old core.new }
+    ensures short { OnOk result (KeepsShort core.old core.new) }
     ensures kept { IsCore core.new }
     ensures current { IsCurrent core.new }
 {
-    if core.journal().len() >= LONG_JOURNAL {
-        let _ = core.roll();
+    let count = core.journal().len() as u64;
+    if count < LONG_JOURNAL {
+        return Ok(());
     }
+    let rolled = core.roll();
     // proof: what holds of every core.
     let _ = core.table();
+    match rolled {
+        Ok(_) => Ok(()),
+        Err(_) if count < Limits::STANDARD.events => Ok(()),
+        Err(_) => Err(Memory),
+    }
 }
 
 // Prints that the line is at fault.

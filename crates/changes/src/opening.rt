@@ -1,7 +1,7 @@
 //! The front of a recording, as it comes: its lines up to the first that is none of the front.
 ghost use Rattle.std.specs.Prelude.{◌≡◌, ◌↔◌, ◌++◌, ◌∷◌, [], IfErr, IfOk, IsTrue, OnOk};
 ghost use Rattle.replay.specs.Parts.{IsParsed};
-ghost use Rattle.changes.specs.Openings.{HasFault, IsAdded, IsFaultWith, IsFrontFault, IsLooked, IsWhole, Opens, ends_after};
+ghost use Rattle.changes.specs.Openings.{HasFault, IsAdded, IsFaultWith, IsFrontFault, IsLooked, IsWhole, Opens, ends_after, last_line};
 ghost use Rattle.changes.specs.declared.opening.FrontEnd.TheVariants as front_end;
 
 use line_reader::{LONGEST, LineReader, Next, ReadFault};
@@ -189,12 +189,20 @@ impl Opening {
     {
         match parse(alloc, self.front.as_slice()) {
             Ok(_) => LineFault {
-                line: self.lines,
+                line: number_of_last(self.front.as_slice()),
                 fault: Fault::Line,
             },
             Err(fault) => fault,
         }
     }
+}
+
+// The number of the last line, counted from 1.
+fn number_of_last(text: &[u8]) -> usize
+    ensures { result ≡ last_line text.now }
+{
+    let end = text.len().saturating_sub(1);
+    text[..end].iter().filter(|byte| **byte == b'\n').count() + 1
 }
 
 // What comes of the line for the front: `other` where it is none of it.

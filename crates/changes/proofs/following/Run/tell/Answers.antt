@@ -1,7 +1,7 @@
 use Rattle.std.proofs.Common.{refl}
 use Rattle.std.proofs.lemmas.Result.{IfOk-from_err}
 use Rattle.replay.proofs.Written.{err_as}
-use Rattle.changes.specs.Runs.{Fails, Says}
+use Rattle.changes.specs.Runs.{Comes, Fails}
 use Rattle.changes.proofs.Cores.{current_taken}
 use Rattle.changes.proofs.FollowSteps.{fault_stops, fault_tells, read_as, skipped, stops_at, stops_before}
 use Rattle.changes.proofs.following.Run.tell.Goals as goal
@@ -11,20 +11,20 @@ returns-in-Err-Memory-clause-err g c = λ whole. stops_before c.args.self.now _ 
 
 pub returns-in_err-tell_next-clause-err : goal.returns-in_err-tell_next-clause-err
 returns-in_err-tell_next-clause-err g c =
-    let reads = read_as _ _ _ (Says c.in-Ok.line) c.as_slice.ensures.value c.in-Ok.ensures.says in
+    let reads = read_as _ _ _ (Comes c.in-Ok.line) c.as_slice.ensures.value c.in-Ok.ensures.says in
     λ whole. err_as _ c.from_residual-in_err-tell_next.result c.in_err-tell_next.field-0.0 c.from_residual-in_err-tell_next.ensures.1
-    (stops_at _ c.args.self.now (Says c.in-Ok.line) _ _ _ reads (λ no. tt) whole (c.in_err-tell_next.ensures.err whole))
+    (stops_at _ c.args.self.now (Comes c.in-Ok.line) _ _ _ reads (λ no. tt) whole (c.in_err-tell_next.ensures.err whole))
 
 pub returns-clause-ok : goal.returns-clause-ok
 returns-clause-ok g c = (
   record {
     same = record { version = refl; skips = refl; progress = refl; wanted = refl; answers = refl };
-    taken = Says c.in-Ok.line;
-    reads = read_as _ _ _ (Says c.in-Ok.line) c.as_slice.ensures.value c.in-Ok.ensures.says;
+    taken = Comes c.in-Ok.line;
+    reads = read_as _ _ _ (Comes c.in-Ok.line) c.as_slice.ensures.value c.in-Ok.ensures.says;
     said = λ no. tt;
     told = c.in_ok-tell_next.ensures.ok;
     core = c.in_ok-tell_next.ensures.kept;
-    current = current_taken c.args.self.now.at.answers c.in_ok-tell_next.ensures.ok.told c.args.self.now.core c.tell_next.new.core (Says c.in-Ok.line) c.requires.current c.in_ok-tell_next.ensures.ok.tells;
+    current = current_taken c.args.self.now.at.answers c.in_ok-tell_next.ensures.ok.told c.args.self.now.core c.tell_next.new.core (Comes c.in-Ok.line) c.requires.current c.in_ok-tell_next.ensures.ok.tells;
   },
   refl,
 )
